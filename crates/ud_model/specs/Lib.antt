@@ -1,0 +1,17 @@
+pub mod Bytes
+pub mod Lines
+pub mod Scans
+pub mod Directives
+pub mod Table
+pub mod Conditions
+pub mod Tree
+pub mod Pruning
+pub mod SoFar
+pub mod Height
+pub mod Items
+pub mod Faults
+pub mod Printing
+pub mod Arguments
+pub mod Messages
+pub mod Runs
+pub mod Answer

@@ -1,0 +1,96 @@
+-- Lines: the cut of a text into its lines.
+-- POSIX XBD 3.206 (a line ends with its line feed); a carriage return before it belongs to the ending.
+--
+--   AreLines text ls     ls are the lines of the text, with their endings; `texts_of` gives them, and there are no others
+--   whole_lines text     the lines of a text that hasn't ended: those that have their line feed
+--   open_rest text       what stands behind the last line feed
+--   lines_of text        the lines of a text that has ended, each with body, ending and number
+--
+-- Example: "a\r\nb" has the lines "a" with the ending "\r\n" and number 1, and "b" without an ending and number 2.
+use Rattle.std.specs.Prelude.{◌≡◌, ◌≢◌, ℕ, suc, ◌-◌, ◌==◌, nat_eq, List, [], ◌∷◌, ◌++◌, length, take, if◌then◌else◌, ◌⊎◌}
+use Rattle.std.specs.List.{concat, ends_with}
+
+-- no byte of these is a line feed
+abbrev pub NoFeed : List ℕ → Type 0
+NoFeed [] = Unit {0}
+NoFeed (b ∷ bs) = (b ≢ 10) × NoFeed bs
+
+-- a whole line: it has a line feed as its last byte, and nowhere else
+abbrev pub IsWhole : List ℕ → Type 0
+IsWhole line = (front : List ℕ) × NoFeed front × (line ≡ front ++ 10 ∷ [])
+
+-- a last line without a line feed, of a byte at least
+abbrev pub IsUnended : List ℕ → Type 0
+IsUnended line = (line ≢ []) × NoFeed line
+
+-- each line is whole, but perhaps the last
+abbrev pub AreFormed : List (List ℕ) → Type 0
+AreFormed [] = Unit {0}
+AreFormed (l ∷ []) = IsWhole l ⊎ IsUnended l
+AreFormed (l ∷ m ∷ ls) = IsWhole l × AreFormed (m ∷ ls)
+
+-- these are the lines of the text
+pub record AreLines (text : List ℕ) (ls : List (List ℕ)) : Type 0 where
+  pub joined : text ≡ concat ls
+  pub formed : AreFormed ls
+
+-- the whole lines of a text, and the rest behind its last line feed
+pub record Parts : Type 0 where
+  pub whole : List (List ℕ)
+  pub rest : List ℕ
+
+-- a byte in front of these parts that isn't a line feed
+abbrev pub put_on : ℕ → List (List ℕ) → List ℕ → Parts
+put_on b [] rest = record { whole = []; rest = b ∷ rest }
+put_on b (l ∷ ls) rest = record { whole = (b ∷ l) ∷ ls; rest = rest }
+
+-- a byte in front of these parts
+abbrev pub put : ℕ → Parts → Parts
+put b parts = if b == 10 then record { whole = (10 ∷ []) ∷ parts.whole; rest = parts.rest } else put_on b parts.whole parts.rest
+
+-- the parts of a text
+unfoldable pub parts_of : List ℕ → Parts
+parts_of [] = record { whole = []; rest = [] }
+parts_of (b ∷ bs) = put b (parts_of bs)
+
+abbrev pub whole_lines : List ℕ → List (List ℕ)
+whole_lines text = (parts_of text).whole
+
+abbrev pub open_rest : List ℕ → List ℕ
+open_rest text = (parts_of text).rest
+
+-- the rest as a line of its own, where there is one
+abbrev pub last_line : List ℕ → List (List ℕ)
+last_line [] = []
+last_line (b ∷ bs) = (b ∷ bs) ∷ []
+
+-- the lines of a text, with their endings
+abbrev pub texts_of : List ℕ → List (List ℕ)
+texts_of text = whole_lines text ++ last_line (open_rest text)
+
+-- the ending of a line: `\r\n` where it ends so, else `\n` where it ends so, else nothing
+abbrev pub ending_of : List ℕ → List ℕ
+ending_of line = if ends_with nat_eq line (13 ∷ 10 ∷ []) then 13 ∷ 10 ∷ [] else if ends_with nat_eq line (10 ∷ []) then 10 ∷ [] else []
+
+-- a line of a text: its body, its ending and its number from 1
+pub record Line : Type 0 where
+  pub body : List ℕ
+  pub ending : List ℕ
+  pub number : ℕ
+
+-- a line with its ending
+abbrev pub text_of : Line → List ℕ
+text_of line = line.body ++ line.ending
+
+-- the line of this number and this text: the body is what is left without the ending
+abbrev pub line_at : ℕ → List ℕ → Line
+line_at number text = record { body = take (length text - length (ending_of text)) text; ending = ending_of text; number = number }
+
+-- these lines, numbered from here on
+abbrev pub numbered_from : ℕ → List (List ℕ) → List Line
+numbered_from n [] = []
+numbered_from n (l ∷ ls) = line_at n l ∷ numbered_from (suc n) ls
+
+-- the lines of a text that has ended
+abbrev pub lines_of : List ℕ → List Line
+lines_of text = numbered_from 1 (texts_of text)

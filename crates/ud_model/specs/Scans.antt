@@ -1,0 +1,49 @@
+-- Scans: what is seen of a line when it is read.
+-- C11 5.1.1.2, phases 2 and 3, and 6.4.9; unifdef(1), `-t`.
+--
+--   Scan               the masked line, and how the line is joined to its neighbours
+--   Reading            a line, the mode in which it is read, and its scan
+--   plain_scan line    the scan of a line in plain mode
+--   scan_after before mode line    the scan of a line that is read in this mode behind these
+--
+-- In plain mode strings, comments and continuations are ignored, and each line is seen as it stands.
+use Rattle.std.specs.Prelude.{ℕ, List, Bool, true, false, ◌||◌}
+use Rattle.ud_model.specs.Lines.{Line}
+use Rattle.ud_model.specs.declared.kind.Mode.{Mode}
+use Rattle.ud_model.specs.declared.kind.Mode.TheVariants.{C, Plain}
+use Rattle.ud_model.specs.declared.kind.CommentAt.{CommentAt}
+use Rattle.ud_model.specs.declared.kind.CommentAt.TheVariants.{Outside}
+
+pub record Scan : Type 0 where
+  -- the line's body without a splice's backslash, each byte of a comment replaced by a space
+  pub masked : List ℕ
+  -- all masked bytes of this logical line that lie on earlier lines are white space
+  pub fresh : Bool
+  -- the line before joins this one; this one joins the next, by a splice or a comment
+  pub joins_before : Bool
+  pub joins_after : Bool
+  -- the line ends in a backslash that deletes its ending
+  pub spliced : Bool
+  -- what is unclosed at the line's end
+  pub comment : CommentAt
+
+pub record Reading : Type 0 where
+  pub line : Line
+  pub mode : Mode
+  pub scan : Scan
+
+-- the masked line is the body; it is fresh and joins nothing
+abbrev pub plain_scan : Line → Scan
+plain_scan line = record { masked = line.body; fresh = true; joins_before = false; joins_after = false; spliced = false; comment = Outside }
+
+-- Interim: no words are accepted that read a line in C mode, and splices, comments and literals have no definition yet.
+abbrev pub c_scan_after : List Reading → Line → Scan
+c_scan_after before line = plain_scan line
+
+abbrev pub scan_after : List Reading → Mode → Line → Scan
+scan_after before C line = c_scan_after before line
+scan_after before Plain line = plain_scan line
+
+-- the line joins a neighbour: a directive on it spans several lines
+abbrev pub is_spanning : Scan → Bool
+is_spanning scan = scan.joins_before || scan.joins_after

@@ -1,0 +1,110 @@
+-- Trees: a text as nested sections.
+-- C11 6.10, the grammar of group-part and if-section.
+--
+--   Item L       a line among the sections: a text line or a directive, L being what is kept of a line
+--   Nodes L      what stands in a place, in order: text lines and whole sections
+--   Groups L     the groups of a section: an opener and the nodes behind it, group for group
+--   Tree L       a text: nodes, and at its end perhaps a section that lacks its `#endif`, in which the text goes on
+--   lines t      the lines of a text, in order; a list of lines has the tree t where `lines t` is that list
+--   depth t      how many sections are open at the end of the text
+--
+-- Each type is written from left to right, so a longer text adds to the end: nodes and then a line, groups and then a group.
+use Rattle.std.specs.Prelude.{◌≡◌, ℕ, suc, List, [], ◌∷◌, ◌++◌, Bool, false, ◌||◌, Option, Some, None}
+use Rattle.ud_model.specs.declared.cond.Cond.{Cond}
+
+-- a directive with a condition, and whether its section is plain text
+pub record Opener (L : Type 0) : Type 0 where
+  pub line : L
+  pub cond : Cond
+  pub ignoring : Bool
+
+pub data Item (L : Type 0) : Type 0 where
+  text_line : L → Item L
+  -- `#if`, `#ifdef` or `#ifndef`
+  if_line : Opener L → Item L
+  elif_line : Opener L → Item L
+  else_line : L → Item L
+  endif_line : L → Item L
+
+mutual
+  pub data Nodes (L : Type 0) : Type 0 where
+    nothing : Nodes L
+    text : Nodes L → L → Nodes L
+    -- nodes, then a section: its groups and its `#endif`
+    section : Nodes L → Groups L → L → Nodes L
+
+  pub data Groups (L : Type 0) : Type 0 where
+    conditional : Elifs L → Groups L
+    -- the last group is opened by an `#else`
+    otherwise : Elifs L → L → Nodes L → Groups L
+
+  -- the groups with a condition
+  pub data Elifs (L : Type 0) : Type 0 where
+    first : Opener L → Nodes L → Elifs L
+    elif : Elifs L → Opener L → Nodes L → Elifs L
+
+-- a section up to the opener of its last group: the groups before it, and the opener
+pub data Head (L : Type 0) : Type 0 where
+  if_head : Opener L → Head L
+  elif_head : Elifs L → Opener L → Head L
+  else_head : Elifs L → L → Head L
+
+pub data Tree (L : Type 0) : Type 0 where
+  closed : Nodes L → Tree L
+  -- nodes, then a section without its `#endif`, whose last group goes on to the end of the text
+  open_section : Nodes L → Head L → Tree L → Tree L
+
+module _ {L : Type 0} where
+  abbrev mutual
+    pub lines_of_nodes : Nodes L → List (Item L)
+    lines_of_nodes nothing = []
+    lines_of_nodes (text ns l) = lines_of_nodes ns ++ text_line l ∷ []
+    lines_of_nodes (section ns gs e) = (lines_of_nodes ns ++ lines_of_groups gs) ++ endif_line e ∷ []
+
+    pub lines_of_groups : Groups L → List (Item L)
+    lines_of_groups (conditional es) = lines_of_elifs es
+    lines_of_groups (otherwise es l ns) = (lines_of_elifs es ++ else_line l ∷ []) ++ lines_of_nodes ns
+
+    pub lines_of_elifs : Elifs L → List (Item L)
+    lines_of_elifs (first o ns) = (if_line o ∷ []) ++ lines_of_nodes ns
+    lines_of_elifs (elif es o ns) = (lines_of_elifs es ++ elif_line o ∷ []) ++ lines_of_nodes ns
+
+  abbrev pub lines_of_head : Head L → List (Item L)
+  lines_of_head (if_head o) = if_line o ∷ []
+  lines_of_head (elif_head es o) = lines_of_elifs es ++ elif_line o ∷ []
+  lines_of_head (else_head es l) = lines_of_elifs es ++ else_line l ∷ []
+
+  -- the lines of a text, in order
+  abbrev pub lines : Tree L → List (Item L)
+  lines (closed ns) = lines_of_nodes ns
+  lines (open_section ns h t) = (lines_of_nodes ns ++ lines_of_head h) ++ lines t
+
+  -- a list of lines has a tree
+  abbrev pub HasTree : List (Item L) → Type 0
+  HasTree xs = (t : Tree L) × (lines t ≡ xs)
+
+  -- the number of open sections
+  abbrev pub depth : Tree L → ℕ
+  depth (closed ns) = 0
+  depth (open_section ns h t) = suc (depth t)
+
+  abbrev pub opener_of_elifs : Elifs L → Opener L
+  opener_of_elifs (first o ns) = o
+  opener_of_elifs (elif es o ns) = opener_of_elifs es
+
+  -- the first directive of a section
+  abbrev pub opener_of_head : Head L → Opener L
+  opener_of_head (if_head o) = o
+  opener_of_head (elif_head es o) = opener_of_elifs es
+  opener_of_head (else_head es l) = opener_of_elifs es
+
+  -- an ignoring section is open: one whose first directive is
+  abbrev pub is_ignoring : Tree L → Bool
+  is_ignoring (closed ns) = false
+  is_ignoring (open_section ns h t) = (opener_of_head h).ignoring || is_ignoring t
+
+  -- the first directive of the innermost open section
+  abbrev pub innermost : Tree L → Option (Opener L)
+  innermost (closed ns) = None
+  innermost (open_section ns h (closed b)) = Some (opener_of_head h)
+  innermost (open_section ns h (open_section ms k t)) = innermost (open_section ms k t)

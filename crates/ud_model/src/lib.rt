@@ -1,0 +1,19 @@
+//! The definition of unifdef: what a text is, which of its lines are kept, and what is printed.
+//!
+//! The definitions stand in `specs/`, one file a subject; `specs/Answer.antt` puts them together.
+//! This crate has the plain types that they and the other crates speak of, the limits, and laws
+//! over the definitions: functions without a body whose contracts are theorems.
+#![tactic(auto)]
+
+pub mod cond;
+pub mod kind;
+pub mod laws;
+pub mod limits;
+pub mod settings;
+pub mod verdict;
+
+pub use cond::Cond;
+pub use kind::{CommentAt, Kind, Mode};
+pub use limits::{LINE_BYTES, OPEN_SECTIONS, TEXT_LINES};
+pub use settings::{ExitMode, Listing, Settings};
+pub use verdict::Verdict;

@@ -1,0 +1,16 @@
+//! What becomes of a line.
+
+/// What becomes of a line (unifdef(1)).
+#[derive(Clone, Copy, Debug, PartialEq, Eq)]
+pub enum Verdict {
+    /// It is printed as it is.
+    Keep,
+    /// It is deleted.
+    Remove,
+    /// It is an `#elif` that becomes an `#if`, since no group before it is left.
+    ToIf,
+    /// It is an `#elif` that becomes an `#else`, since its condition is true.
+    ToElse,
+    /// It is the opener behind such an `#else`, and becomes the `#endif`.
+    ToEndif,
+}
