@@ -1,0 +1,11 @@
+pub mod LinesLemmas
+pub mod Pushes
+pub mod Growth
+pub mod Unique
+pub mod Stays
+pub mod Heights
+pub mod Soundness
+pub mod PlainSound
+pub mod FaultStays
+pub mod Counts
+pub mod Examples

@@ -1,0 +1,6 @@
+-- The lines before the fault are the first lines of every longer text.
+use Rattle.ud_model.proofs.FaultStays.{fault_stays}
+use Rattle.ud_model.proofs.laws.law_fault_stays.Goals as goal
+
+pub returns : goal.returns
+returns c = fault_stays
