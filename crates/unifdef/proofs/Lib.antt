@@ -1,0 +1,10 @@
+pub mod ByteLemmas
+pub mod WatchingLemmas
+pub mod MessageLemmas
+pub mod WordLemmas
+pub mod GroupsLemmas
+pub mod ShapesLemmas
+pub mod Behind
+pub mod Moves
+pub mod Sections
+pub mod Stops

@@ -1,0 +1,8 @@
+-- What the contracts of this crate speak of, beside the definitions of ud_model.
+pub mod Watching
+pub mod Told
+pub mod Reading
+pub mod Parts
+pub mod Groups
+pub mod Shapes
+pub mod Walking

@@ -1,0 +1,157 @@
+//! The walk over the lines of a text: a recursion over nodes, sections and groups that gives each line its verdict.
+//!
+//! It reads as the grammar of a text does (C11 6.10): nodes are text lines and sections, a section is a group behind
+//! an `#if`, groups behind `#elif`, perhaps one behind `#else`, and an `#endif`.
+
+ghost use Rattle.std.specs.Prelude.{◌≡◌, ◌<◌, ◌≤◌, ℕ, suc, List, [], length, true, false, IsTrue, IfErr, OnOk, ◌∷◌, ◌++◌, Some, None, slice_get};
+ghost use Rattle.ud_model.specs.Scans.{Reading};
+ghost use Rattle.ud_model.specs.Tree.{Item};
+ghost use Rattle.ud_model.specs.Pruning.{marked};
+ghost use Rattle.ud_model.specs.declared.cond.Cond.{Cond};
+ghost use Rattle.unifdef.specs.Parts.{part_of};
+ghost use Rattle.unifdef.specs.Shapes.{starts_handled, starts_with_closer};
+ghost use Rattle.unifdef.specs.Groups.{groups_of};
+ghost use Rattle.unifdef.specs.Walking.{Left, ReadsNodes, ReadsSection, ReadsGroup, StopsWell, GroupStops};
+
+use crate::groups::{Groups, Part};
+use crate::shape::Shape;
+use ud_model::{Cond, OPEN_SECTIONS, Verdict};
+
+/// The lines that are left of a text, and the verdicts of those that were read.
+#[derive(Drop)]
+pub struct Walk<'a> {
+    /// What the lines that are left are.
+    pub rest: &'a [Shape],
+    /// The verdicts of the lines before them, in order.
+    pub verdicts: Vec<Verdict>,
+}
+
+/// Why a walk stops before the end of the text, or at it with a section open.
+#[derive(Clone, Copy, Debug, PartialEq, Eq)]
+pub enum Stop {
+    /// The next line is a directive that isn't handled yet.
+    Unhandled,
+    /// The next line is a directive out of its place.
+    OutOfPlace,
+    /// The next line opens one section too many.
+    TooDeep,
+    /// The text ends in a section; so many lines stand before the section's first directive.
+    Unclosed { opener: usize },
+    /// Memory is refused.
+    OutOfMemory,
+}
+
+impl Walk<'_> {
+    ghost use Rattle.unifdef.specs.Walking.{ReadsLine};
+
+    /// The next line.
+    fn next(&self) -> Option<Shape>
+        ensures { result ≡ slice_get self.now.rest.now 0 }
+    {
+        self.rest.first().copied()
+    }
+
+    /// Reads the next line, which has this verdict.
+    fn read(&mut self, verdict: Verdict) -> Result<(), Stop>
+        requires { starts_handled self.old.rest.now ≡ true }
+        ensures ok { (xs : List (Item Reading)) → Left self.old xs → OnOk result (ReadsLine self.old self.new xs verdict) }
+        ensures err { IfErr result (λ stop. stop ≡ Stop.OutOfMemory) }
+        ensures forth { OnOk result (length self.new.rest.now < length self.old.rest.now) }
+    {
+        let Some((_, rest)) = self.rest.split_first() else {
+            return Err(Stop::OutOfMemory);
+        };
+        let Ok(()) = self.verdicts.push(verdict) else {
+            return Err(Stop::OutOfMemory);
+        };
+        self.rest = rest;
+        Ok(())
+    }
+}
+
+/// A verdict in a kept place; elsewhere every line is removed.
+fn marked(kept: bool, verdict: Verdict) -> Verdict
+    ensures { result ≡ (marked kept verdict).verdict }
+{
+    if kept { verdict } else { Verdict::Remove }
+}
+
+/// Reads the nodes of a place, up to a line that ends a group or to the end of the text.
+///
+/// `kept` tells that the place is a kept one, `level` how many sections are open around it.
+#[cycle(walk)]
+fn nodes(walk: &mut Walk<'_>, kept: bool, level: usize) -> Result<(), Stop>
+    requires { level ≤ 64 }
+    ensures ok { (xs : List (Item Reading)) → Left walk.old xs → OnOk result (ReadsNodes walk.old walk.new xs kept level) }
+    ensures err { (xs : List (Item Reading)) → Left walk.old xs → IfErr result (StopsWell walk.old walk.new xs kept level) }
+    ensures closer { OnOk result (starts_with_closer walk.new.rest.now ≡ true) }
+    ensures forth { OnOk result (length walk.new.rest.now ≤ length walk.old.rest.now) }
+{
+    while let Some(shape) = walk.next() {
+        match shape {
+            Shape::Text => walk.read(marked(kept, Verdict::Keep))?,
+            Shape::If(cond) => section(walk, kept, level, cond)?,
+            Shape::Unhandled => return Err(Stop::Unhandled),
+            Shape::Elif(_) | Shape::Else | Shape::Endif => return Ok(()),
+        }
+    }
+    Ok(())
+}
+
+/// Reads a section, whose first directive comes next and has this condition.
+#[cycle(walk)]
+fn section(walk: &mut Walk<'_>, kept: bool, level: usize, cond: Cond) -> Result<(), Stop>
+    requires low { level ≤ 64 }
+    requires first { slice_get walk.old.rest.now 0 ≡ Some (Shape.If cond) }
+    ensures ok { (xs : List (Item Reading)) → Left walk.old xs → OnOk result (ReadsSection walk.old walk.new xs kept level) }
+    ensures err { (xs : List (Item Reading)) → Left walk.old xs → IfErr result (StopsWell walk.old walk.new xs kept level) }
+    ensures forth { OnOk result (length walk.new.rest.now < length walk.old.rest.now) }
+{
+    if level == OPEN_SECTIONS {
+        return Err(Stop::TooDeep);
+    }
+    let opener = walk.verdicts.len();
+    let mut groups = Groups::none();
+    let mut else_seen = false;
+    group(walk, kept, level + 1, &mut groups, Part::AnIf, cond)?;
+    loop {
+        match walk.next() {
+            None => return Err(Stop::Unclosed { opener }),
+            Some(Shape::Endif) => return walk.read(marked(kept, groups.endif_verdict())),
+            Some(Shape::Elif(cond)) if !else_seen => {
+                group(walk, kept, level + 1, &mut groups, Part::AnElif, cond)?;
+            }
+            Some(Shape::Else) if !else_seen => {
+                else_seen = true;
+                group(walk, kept, level + 1, &mut groups, Part::AnElse, Cond::Yes)?;
+            }
+            _ => return Err(Stop::OutOfPlace),
+        }
+    }
+}
+
+/// Reads an opener and the nodes of its group; `groups` are those of the section before it, and with it afterwards.
+#[cycle(walk)]
+fn group(
+    walk: &mut Walk<'_>,
+    kept: bool,
+    level: usize,
+    groups: &mut Groups,
+    part: Part,
+    cond: Cond,
+) -> Result<(), Stop>
+    requires low { level ≤ 64 }
+    requires some { starts_handled walk.old.rest.now ≡ true }
+    ensures ok { (xs : List (Item Reading)) → Left walk.old xs → (before : List Cond) → groups.old ≡ groups_of before →
+        OnOk result (ReadsGroup walk.old walk.new xs kept level before (part_of part) cond) }
+    ensures err { (xs : List (Item Reading)) → Left walk.old xs → (before : List Cond) → groups.old ≡ groups_of before →
+        IfErr result (GroupStops walk.old walk.new xs kept level before (part_of part) cond) }
+    ensures groups { (before : List Cond) → groups.old ≡ groups_of before → OnOk result (groups.new ≡ groups_of (before ++ cond ∷ [])) }
+    ensures closer { OnOk result (starts_with_closer walk.new.rest.now ≡ true) }
+    ensures forth { OnOk result (length walk.new.rest.now < length walk.old.rest.now) }
+{
+    let inside = groups.keeps_in(kept, cond);
+    walk.read(marked(kept, groups.opener_verdict(part, cond)))?;
+    *groups = groups.and(cond);
+    nodes(walk, inside, level)
+}
