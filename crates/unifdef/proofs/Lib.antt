@@ -8,3 +8,4 @@ pub mod Behind
 pub mod Moves
 pub mod Sections
 pub mod Stops
+pub mod WholeWalk

@@ -7,6 +7,8 @@ use Rattle.ud_model.specs.declared.cond.Cond.{Cond}
 use Rattle.unifdef.specs.Shapes.{shape_by, shape_of, is_unhandled_item, AreShapes, AllHandled, starts_handled}
 use Rattle.unifdef.specs.declared.shape.Shape.{Shape}
 use Rattle.unifdef.specs.declared.shape.Shape.TheVariants.{Text, If, Elif, Else, Endif, Unhandled}
+use Rattle.unifdef.specs.declared.walk.Walk.{Walk}
+use Rattle.unifdef.specs.Walking.{Left}
 
 -- a shape that is handled
 abbrev pub is_handled : Shape → Bool
@@ -165,3 +167,7 @@ first_at n (t ∷ ss) xs s e h =
 pub none_at : (n : ℕ) (ss : List Shape) (xs : List (Item Reading)) → slice_get ss 0 ≡ None → AreShapes n ss xs → xs ≡ []
 none_at n [] xs e h = no_items n xs h
 none_at n (t ∷ ss) xs e h = cc
+
+-- a walk that has read nothing is at the first line
+pub left_at_start : (w : Walk) (xs : List (Item Reading)) → w.verdicts.items ≡ [] → AreShapes 0 w.rest.now xs → Left w xs
+left_at_start w xs e h = subst (λ n. AreShapes n w.rest.now xs) (sym (ap length e)) h

@@ -1,10 +1,10 @@
--- Words from the first to the last.
+-- Words from the first to the last, and what they say of the symbols.
 use Rattle.std.proofs.Common.{◌≡◌, ◌∙◌, ◌+◌, ℕ, List, [], ◌∷◌, take, Bool, true, false, not, cond, Option, Some, None, is_some, bytes_eq, refl, ap, one-add, if◌then◌else◌}
-use Rattle.std.proofs.Common.{◌==◌}
-use Rattle.std.specs.List.{cons_option, position_or_len}
+use Rattle.std.proofs.Common.{◌==◌, nat_eq, codes, drop, subst}
+use Rattle.std.specs.List.{cons_option, position_or_len, starts_with}
 use Rattle.std.specs.Option.{option_map}
-use Rattle.ud_model.specs.Table.{Argument, Entry, entry_from}
-use Rattle.ud_model.specs.Arguments.{name_in, word_of, argument_in}
+use Rattle.ud_model.specs.Table.{Argument, Entry, entry_from, entry_in}
+use Rattle.ud_model.specs.Arguments.{Word, plain_flag, symbol, bad_symbol, unsupported_word, name_in, is_name, symbol_word, defining, undefining, with_argument, word_of, argument_in}
 use Rattle.unifdef.specs.Reading.{table_of, is_defined_in}
 
 -- the position of the first `=`
@@ -53,3 +53,55 @@ defines-entry_from (w ∷ ws) e name = by_one (argument_in (word_of w)) (table_o
 -- the last word that names it counts
 pub is_defined-said_from : (words : List (List ℕ)) (name : List ℕ) → is_defined_in (table_of words) name ≡ said_from None words name
 is_defined-said_from words name = defines-entry_from words None name
+
+-- a symbol's argument isn't ignoring
+abbrev pub IsPlainWord : Word → Type 0
+IsPlainWord plain_flag = Unit {0}
+IsPlainWord (symbol a) = a.entry.ignoring ≡ false
+IsPlainWord bad_symbol = Unit {0}
+IsPlainWord unsupported_word = Unit {0}
+
+plain_if : (b : Bool) (v w : Word) → IsPlainWord v → IsPlainWord w → IsPlainWord (if b then v else w)
+plain_if true v w h k = h
+plain_if false v w h k = k
+
+plain_symbol : (b : Bool) (a : Argument) → a.entry.ignoring ≡ false → IsPlainWord (symbol_word b a)
+plain_symbol true a h = h
+plain_symbol false a h = tt
+
+plain_with : (f : List ℕ → Word) → ((argument : List ℕ) → IsPlainWord (f argument)) → (argument : List ℕ) → IsPlainWord (with_argument f argument)
+plain_with f all [] = tt
+plain_with f all (b ∷ bs) = all (b ∷ bs)
+
+plain_word : (w : List ℕ) → IsPlainWord (word_of w)
+plain_word w =
+    plain_if (bytes_eq w (codes "-t")) plain_flag _ tt
+    (plain_if (starts_with nat_eq w (codes "-D")) (with_argument defining (drop 2 w)) _
+    (plain_with defining (λ argument. plain_symbol (is_name (name_in argument)) _ refl) (drop 2 w))
+    (plain_if (starts_with nat_eq w (codes "-U")) (with_argument undefining (drop 2 w)) unsupported_word
+    (plain_with undefining (λ argument. plain_symbol (is_name argument) _ refl) (drop 2 w)) tt))
+
+-- an argument that was said before these words, if there was one, isn't ignoring
+abbrev pub IsPlainEntry : Option Entry → Type 0
+IsPlainEntry None = Unit {0}
+IsPlainEntry (Some e) = e.ignoring ≡ false
+
+plain_said : (b : Bool) (a : Entry) (e : Option Entry) → a.ignoring ≡ false → IsPlainEntry e → IsPlainEntry (if b then Some a else e)
+plain_said true a e h k = h
+plain_said false a e h k = k
+
+plain_one : (v : Word) → IsPlainWord v → (ws : List (List ℕ)) (e : Option Entry) (name : List ℕ)
+    → ((x : Option Entry) → IsPlainEntry x → IsPlainEntry (entry_from x (table_of ws) name)) → IsPlainEntry e
+    → IsPlainEntry (entry_from e (cons_option (argument_in v) (table_of ws)) name)
+plain_one plain_flag p ws e name all h = all e h
+plain_one (symbol a) p ws e name all h = all (if bytes_eq a.name name then Some a.entry else e) (plain_said (bytes_eq a.name name) a.entry e p h)
+plain_one bad_symbol p ws e name all h = all e h
+plain_one unsupported_word p ws e name all h = all e h
+
+plain_entries : (words : List (List ℕ)) (e : Option Entry) (name : List ℕ) → IsPlainEntry e → IsPlainEntry (entry_from e (table_of words) name)
+plain_entries [] e name h = h
+plain_entries (w ∷ ws) e name h = plain_one (word_of w) (plain_word w) ws e name (λ x. plain_entries ws x name) h
+
+-- the words make no section plain: what they say of a name isn't ignoring
+pub entry_in-ignoring : (words : List (List ℕ)) (name : List ℕ) (e : Entry) → entry_in (table_of words) name ≡ Some e → e.ignoring ≡ false
+entry_in-ignoring words name e h = subst IsPlainEntry h (plain_entries words None name tt)

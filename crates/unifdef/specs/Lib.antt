@@ -6,3 +6,4 @@ pub mod Parts
 pub mod Groups
 pub mod Shapes
 pub mod Walking
+pub mod Outcomes

@@ -135,3 +135,42 @@ GroupStops old new xs kept level before part c OutOfPlace = StuckInGroup old new
 GroupStops old new xs kept level before part c TooDeep = StuckInGroup old new xs kept level before part c TooDeep
 GroupStops old new xs kept level before part c (Unclosed opener) = StuckInGroup old new xs kept level before part c (Unclosed opener)
 GroupStops old new xs kept level before part c OutOfMemory = Unit {0}
+
+-- why a walk over a whole text stops behind this tree, where these lines are left
+abbrev pub HaltsFor : Stop → Tree Reading → List (Item Reading) → Type 0
+HaltsFor Unhandled t ys = (x : Item Reading) × (after : List (Item Reading)) × (ys ≡ x ∷ after) × (is_unhandled_item x ≡ true)
+HaltsFor OutOfPlace t ys =
+    (x : Item Reading) × (after : List (Item Reading)) × (ys ≡ x ∷ after) × (is_unhandled_item x ≡ false)
+    × ((u : Tree Reading) → lines u ≡ lines t ++ x ∷ [] → ⊥)
+HaltsFor TooDeep t ys =
+    (x : Item Reading) × (after : List (Item Reading)) × (ys ≡ x ∷ after) × (is_unhandled_item x ≡ false)
+    × ((u : Tree Reading) × (lines u ≡ lines t ++ x ∷ []) × (64 < depth u))
+HaltsFor (Unclosed opener) t ys = (ys ≡ []) × ((o : Opener Reading) × (innermost t ≡ Some o) × (o.line.line.number ≡ suc opener))
+HaltsFor OutOfMemory t ys = Unit {0}
+
+-- a walk over these lines read a text with this tree, and gave its lines their verdicts; these are left
+pub record Walked (w : Walk) (xs : List (Item Reading)) (t : Tree Reading) (ys : List (Item Reading)) : Type 0 where
+  pub split : xs ≡ lines t ++ ys
+  pub left : Left w ys
+  pub verdicts : w.verdicts.items ≡ map verdict_of (marks_so_far true t)
+  pub handled : AllHandled (lines t)
+  pub low : height t ≤ 64
+
+-- the whole text was read, and no section is open at its end
+pub record WalksThrough (w : Walk) (xs : List (Item Reading)) : Type 0 where
+  pub nodes : Nodes Reading
+  pub walked : Walked w xs (closed nodes) []
+
+pub record Halts (w : Walk) (xs : List (Item Reading)) (stop : Stop) : Type 0 where
+  pub tree : Tree Reading
+  pub after : List (Item Reading)
+  pub walked : Walked w xs tree after
+  pub why : HaltsFor stop tree after
+
+-- where memory is refused nothing is said
+abbrev pub HaltsWell : Walk → List (Item Reading) → Stop → Type 0
+HaltsWell w xs Unhandled = Halts w xs Unhandled
+HaltsWell w xs OutOfPlace = Halts w xs OutOfPlace
+HaltsWell w xs TooDeep = Halts w xs TooDeep
+HaltsWell w xs (Unclosed opener) = Halts w xs (Unclosed opener)
+HaltsWell w xs OutOfMemory = Unit {0}

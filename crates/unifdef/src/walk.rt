@@ -9,9 +9,9 @@ ghost use Rattle.ud_model.specs.Tree.{Item};
 ghost use Rattle.ud_model.specs.Pruning.{marked};
 ghost use Rattle.ud_model.specs.declared.cond.Cond.{Cond};
 ghost use Rattle.unifdef.specs.Parts.{part_of};
-ghost use Rattle.unifdef.specs.Shapes.{starts_handled, starts_with_closer};
+ghost use Rattle.unifdef.specs.Shapes.{AreShapes, starts_handled, starts_with_closer};
 ghost use Rattle.unifdef.specs.Groups.{groups_of};
-ghost use Rattle.unifdef.specs.Walking.{Left, ReadsNodes, ReadsSection, ReadsGroup, StopsWell, GroupStops};
+ghost use Rattle.unifdef.specs.Walking.{Left, ReadsNodes, ReadsSection, ReadsGroup, StopsWell, GroupStops, WalksThrough, HaltsWell};
 
 use crate::groups::{Groups, Part};
 use crate::shape::Shape;
@@ -154,4 +154,21 @@ fn group(
     walk.read(marked(kept, groups.opener_verdict(part, cond)))?;
     *groups = groups.and(cond);
     nodes(walk, inside, level)
+}
+
+/// Reads a whole text, and gives each line its verdict.
+///
+/// # Errors
+/// Why the walk stops: `rest` then begins with the line at fault, and the lines before it have their verdicts. Where
+/// the text ends in a section, all lines have theirs.
+pub(crate) fn walk_text(walk: &mut Walk<'_>) -> Result<(), Stop>
+    requires { walk.old.verdicts.items ≡ [] }
+    ensures ok { (xs : List (Item Reading)) → AreShapes 0 walk.old.rest.now xs → OnOk result (WalksThrough walk.new xs) }
+    ensures err { (xs : List (Item Reading)) → AreShapes 0 walk.old.rest.now xs → IfErr result (HaltsWell walk.new xs) }
+{
+    nodes(walk, true, 0)?;
+    if walk.next().is_some() {
+        return Err(Stop::OutOfPlace);
+    }
+    Ok(())
 }
