@@ -136,6 +136,14 @@ GroupStops old new xs kept level before part c TooDeep = StuckInGroup old new xs
 GroupStops old new xs kept level before part c (Unclosed opener) = StuckInGroup old new xs kept level before part c (Unclosed opener)
 GroupStops old new xs kept level before part c OutOfMemory = Unit {0}
 
+-- a section that isn't closed began before so many lines
+abbrev pub BeginsBefore : ℕ → Stop → Type 0
+BeginsBefore n Unhandled = Unit {0}
+BeginsBefore n OutOfPlace = Unit {0}
+BeginsBefore n TooDeep = Unit {0}
+BeginsBefore n (Unclosed opener) = opener < n
+BeginsBefore n OutOfMemory = Unit {0}
+
 -- why a walk over a whole text stops behind this tree, where these lines are left
 abbrev pub HaltsFor : Stop → Tree Reading → List (Item Reading) → Type 0
 HaltsFor Unhandled t ys = (x : Item Reading) × (after : List (Item Reading)) × (ys ≡ x ∷ after) × (is_unhandled_item x ≡ true)

@@ -3,7 +3,7 @@
 //! It reads as the grammar of a text does (C11 6.10): nodes are text lines and sections, a section is a group behind
 //! an `#if`, groups behind `#elif`, perhaps one behind `#else`, and an `#endif`.
 
-ghost use Rattle.std.specs.Prelude.{◌≡◌, ◌<◌, ◌≤◌, ℕ, suc, List, [], length, true, false, IsTrue, IfErr, OnOk, ◌∷◌, ◌++◌, Some, None, slice_get};
+ghost use Rattle.std.specs.Prelude.{◌≡◌, ◌+◌, ◌<◌, ◌≤◌, ℕ, suc, List, [], length, true, false, IsTrue, IfErr, OnOk, ◌∷◌, ◌++◌, Some, None, slice_get};
 ghost use Rattle.ud_model.specs.Scans.{Reading};
 ghost use Rattle.ud_model.specs.Tree.{Item};
 ghost use Rattle.ud_model.specs.Pruning.{marked};
@@ -11,7 +11,7 @@ ghost use Rattle.ud_model.specs.declared.cond.Cond.{Cond};
 ghost use Rattle.unifdef.specs.Parts.{part_of};
 ghost use Rattle.unifdef.specs.Shapes.{AreShapes, starts_handled, starts_with_closer};
 ghost use Rattle.unifdef.specs.Groups.{groups_of};
-ghost use Rattle.unifdef.specs.Walking.{Left, ReadsNodes, ReadsSection, ReadsGroup, StopsWell, GroupStops, WalksThrough, HaltsWell};
+ghost use Rattle.unifdef.specs.Walking.{Left, ReadsNodes, ReadsSection, ReadsGroup, StopsWell, GroupStops, WalksThrough, HaltsWell, BeginsBefore};
 
 use crate::groups::{Groups, Part};
 use crate::shape::Shape;
@@ -57,6 +57,7 @@ impl Walk<'_> {
         ensures ok { (xs : List (Item Reading)) → Left self.old xs → OnOk result (ReadsLine self.old self.new xs verdict) }
         ensures err { IfErr result (λ stop. stop ≡ Stop.OutOfMemory) }
         ensures forth { OnOk result (length self.new.rest.now < length self.old.rest.now) }
+        ensures count { length self.new.verdicts.items + length self.new.rest.now ≡ length self.old.verdicts.items + length self.old.rest.now }
     {
         let Some((_, rest)) = self.rest.split_first() else {
             return Err(Stop::OutOfMemory);
@@ -86,6 +87,8 @@ fn nodes(walk: &mut Walk<'_>, kept: bool, level: usize) -> Result<(), Stop>
     ensures err { (xs : List (Item Reading)) → Left walk.old xs → IfErr result (StopsWell walk.old walk.new xs kept level) }
     ensures closer { OnOk result (starts_with_closer walk.new.rest.now ≡ true) }
     ensures forth { OnOk result (length walk.new.rest.now ≤ length walk.old.rest.now) }
+    ensures count { length walk.new.verdicts.items + length walk.new.rest.now ≡ length walk.old.verdicts.items + length walk.old.rest.now }
+    ensures opener { IfErr result (BeginsBefore (length walk.new.verdicts.items)) }
 {
     while let Some(shape) = walk.next() {
         match shape {
@@ -106,6 +109,8 @@ fn section(walk: &mut Walk<'_>, kept: bool, level: usize, cond: Cond) -> Result<
     ensures ok { (xs : List (Item Reading)) → Left walk.old xs → OnOk result (ReadsSection walk.old walk.new xs kept level) }
     ensures err { (xs : List (Item Reading)) → Left walk.old xs → IfErr result (StopsWell walk.old walk.new xs kept level) }
     ensures forth { OnOk result (length walk.new.rest.now < length walk.old.rest.now) }
+    ensures count { length walk.new.verdicts.items + length walk.new.rest.now ≡ length walk.old.verdicts.items + length walk.old.rest.now }
+    ensures opener { IfErr result (BeginsBefore (length walk.new.verdicts.items)) }
 {
     if level == OPEN_SECTIONS {
         return Err(Stop::TooDeep);
@@ -149,6 +154,8 @@ fn group(
     ensures groups { (before : List Cond) → groups.old ≡ groups_of before → OnOk result (groups.new ≡ groups_of (before ++ cond ∷ [])) }
     ensures closer { OnOk result (starts_with_closer walk.new.rest.now ≡ true) }
     ensures forth { OnOk result (length walk.new.rest.now < length walk.old.rest.now) }
+    ensures count { length walk.new.verdicts.items + length walk.new.rest.now ≡ length walk.old.verdicts.items + length walk.old.rest.now }
+    ensures opener { IfErr result (BeginsBefore (length walk.new.verdicts.items)) }
 {
     let inside = groups.keeps_in(kept, cond);
     walk.read(marked(kept, groups.opener_verdict(part, cond)))?;
@@ -165,6 +172,8 @@ pub(crate) fn walk_text(walk: &mut Walk<'_>) -> Result<(), Stop>
     requires { walk.old.verdicts.items ≡ [] }
     ensures ok { (xs : List (Item Reading)) → AreShapes 0 walk.old.rest.now xs → OnOk result (WalksThrough walk.new xs) }
     ensures err { (xs : List (Item Reading)) → AreShapes 0 walk.old.rest.now xs → IfErr result (HaltsWell walk.new xs) }
+    ensures count { length walk.new.verdicts.items + length walk.new.rest.now ≡ length walk.old.verdicts.items + length walk.old.rest.now }
+    ensures opener { IfErr result (BeginsBefore (length walk.new.verdicts.items)) }
 {
     nodes(walk, true, 0)?;
     if walk.next().is_some() {

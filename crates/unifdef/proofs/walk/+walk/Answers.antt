@@ -25,12 +25,14 @@ group-returns-clause-err t c = λ xs left before e.
 pub nodes-loop-shape-init : goal.nodes-loop-shape-init
 nodes-loop-shape-init t c = record {
   forth = omega arith;
+  count = refl;
   reads = λ xs left. nodes_none c.args.walk.now xs c.args.kept c.args.level c.requires left;
 }
 
 pub nodes-loop-shape-preserved-in-Continue-1 : goal.nodes-loop-shape-preserved-in-Continue-1
 nodes-loop-shape-preserved-in-Continue-1 t c = record {
   forth = let h = c.loop-shape.invariant.forth in let k = c.in_ok-read-in-Text.ensures.forth in omega (arith, h, k);
+  count = c.in_ok-read-in-Text.ensures.count ∙ c.loop-shape.invariant.count;
   reads = λ xs left.
       let r : ReadsNodes c.args.walk.now c.loop-shape.walk xs c.args.kept c.args.level = c.loop-shape.invariant.reads xs left in
       nodes_text c.args.walk.now c.loop-shape.walk c.read.new.self xs c.args.kept c.args.level c.marked.result c.marked.ensures
@@ -40,6 +42,7 @@ nodes-loop-shape-preserved-in-Continue-1 t c = record {
 pub nodes-loop-shape-preserved : goal.nodes-loop-shape-preserved
 nodes-loop-shape-preserved t c = record {
   forth = let h = c.loop-shape.invariant.forth in let k = c.in_ok-section-in-If.ensures.forth in omega (arith, h, k);
+  count = c.in_ok-section-in-If.ensures.count ∙ c.loop-shape.invariant.count;
   reads = λ xs left.
       let r : ReadsNodes c.args.walk.now c.loop-shape.walk xs c.args.kept c.args.level = c.loop-shape.invariant.reads xs left in
       nodes_section c.args.walk.now c.loop-shape.walk c.section.new.walk xs c.args.kept c.args.level r
@@ -75,6 +78,7 @@ section-loop-walk-init t c = record {
   room = omega arith;
   forth = c.in_ok-group.ensures.forth;
   closer = c.in_ok-group.ensures.closer;
+  count = c.in_ok-group.ensures.count;
   reads = λ xs left. section_first c.args.walk.now c.group.new.walk xs c.args.kept c.args.level c.args.cond c.group.new.groups c.len-opener.result c.requires.first
       (c.in_ok-group.ensures.groups [] c.none-groups.ensures.value)
       (c.len-opener.ensures ∙ c.args.walk.now.verdicts.ok.0) (c.in_ok-group.ensures.ok xs left [] c.none-groups.ensures.value);
@@ -111,6 +115,7 @@ section-loop-walk-preserved-then-not-else_seen t c = record {
   room = c.loop-walk.invariant.room;
   forth = let h = c.loop-walk.invariant.forth in let k = c.in_ok-group-in-Some-Elif.ensures.forth in omega (arith, h, k);
   closer = c.in_ok-group-in-Some-Elif.ensures.closer;
+  count = c.in_ok-group-in-Some-Elif.ensures.count ∙ c.loop-walk.invariant.count;
   reads = λ xs left.
       let i : InSection c.args.walk.now c.loop-walk.walk xs c.args.kept c.args.level c.loop-walk.groups c.loop-walk.else_seen c.len-opener.result =
       c.loop-walk.invariant.reads xs left in
@@ -135,6 +140,7 @@ section-loop-walk-preserved t c = record {
   room = c.loop-walk.invariant.room;
   forth = let h = c.loop-walk.invariant.forth in let k = c.in_ok-group-in-Some-Else.ensures.forth in omega (arith, h, k);
   closer = c.in_ok-group-in-Some-Else.ensures.closer;
+  count = c.in_ok-group-in-Some-Else.ensures.count ∙ c.loop-walk.invariant.count;
   reads = λ xs left.
       let i : InSection c.args.walk.now c.loop-walk.walk xs c.args.kept c.args.level c.loop-walk.groups c.loop-walk.else_seen c.len-opener.result =
       c.loop-walk.invariant.reads xs left in
