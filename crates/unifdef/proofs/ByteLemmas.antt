@@ -3,7 +3,7 @@ use Rattle.std.proofs.Common.{◌≡◌, ◌∙◌, ◌≤◌, nat_lt, Some, Non
 use Rattle.std.specs.List.{list_all, position, position_or_len}
 use Rattle.std.proofs.lemmas.List.Sums.{prefix_len-le-length}
 use Rattle.std.proofs.lemmas.Bool.Decides.{nat_tests}
-use Rattle.ud_model.specs.Bytes.{is_white, is_word_byte, are_white, are_word_bytes, is_digit, is_identifier, word_in_front, past_word}
+use Rattle.ud_model.specs.Bytes.{is_white, is_word_byte, are_white, are_word_bytes, is_digit, is_identifier, word_in_front, past_word, past_white}
 use Rattle.std.proofs.Common.{◌&&◌, one-add}
 
 -- `all` at `is_white` tests each byte for white space
@@ -52,3 +52,12 @@ is_identifier-first (b ∷ bs) first e h =
     let same : b ≡ first = cc in
     let other : is_digit b ≡ false = ap is_digit same ∙ h in
     ap (λ d. not d && are_word_bytes (b ∷ bs)) other
+
+one_off : (w : Bool) (b : ℕ) (bs rest : List ℕ) → length rest ≤ length bs → length (if w then rest else b ∷ bs) ≤ length (b ∷ bs)
+one_off true b bs rest h = let s : length (b ∷ bs) ≡ length bs + 1 = omega arith in omega arith
+one_off false b bs rest h = omega arith
+
+-- white space in front is no more than there is
+pub length-past_white : (bytes : List ℕ) → length (past_white bytes) ≤ length bytes
+length-past_white [] = omega arith
+length-past_white (b ∷ bs) = one_off (is_white b) b bs (past_white bs) (length-past_white bs)

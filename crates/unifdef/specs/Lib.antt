@@ -2,8 +2,13 @@
 pub mod Watching
 pub mod Told
 pub mod Reading
+pub mod Found
 pub mod Parts
 pub mod Groups
 pub mod Shapes
 pub mod Walking
 pub mod Outcomes
+pub mod Held
+pub mod Intake
+pub mod Ending
+pub mod Gave

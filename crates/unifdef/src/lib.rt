@@ -1,14 +1,26 @@
-//! The tool as a library.
+//! The tool as a library: unifdef(1) over a reader and two writers.
+//!
+//! `tool` is the whole of it. Its words are read by `words`; the text comes through `intake` into `held`, each line
+//! with what it is (`reading`, `directive`); `walk` gives each line its verdict; `printing` prints what is left, and
+//! `messages` tells what is wrong.
 #![tactic(auto)]
 
 mod bytes;
+mod directive;
 mod emit;
 mod faults;
 mod groups;
+mod held;
+mod intake;
 mod messages;
+mod outcome;
+mod printing;
+mod reading;
 mod shape;
+pub mod running;
 mod walk;
 pub mod watched;
 mod words;
 
+pub use running::tool;
 pub use watched::Watched;

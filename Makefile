@@ -1,0 +1,46 @@
+# make            proves the crates, builds the program and copies it to ./unifdef
+# make check      the merge gate: every proof from nothing, the edits that must be refused, the tests, the stored run
+# make install    installs ./unifdef and its manual under DESTDIR and PREFIX
+# make bench      measures ./unifdef on a large text (bench/README.md)
+# make clean      removes what was built
+
+PREFIX ?= /usr/local
+BINDIR ?= $(PREFIX)/bin
+MANDIR ?= $(PREFIX)/share/man
+INSTALL ?= install
+
+# Rattle's command: the one on PATH, else the kit's usual place.
+ifeq ($(origin RT),undefined)
+RT := $(or $(shell command -v rt 2>/dev/null),$(wildcard /opt/rattle/bin/rt),rt)
+endif
+
+CRATE := crates/unifdef_cli
+SOURCES := crates.txt HANDLES \
+	$(shell find crates -name out -prune -o \( -name '*.rt' -o -name '*.antt' \) -print)
+
+.DELETE_ON_ERROR:
+.PHONY: all build check install bench clean
+
+all: build
+
+build: unifdef
+
+# `rt run` proves and builds before it runs. Under -t an empty input is printed as it is, with status 0.
+unifdef: $(SOURCES)
+	cd $(CRATE) && $(RT) run -- -t < /dev/null
+	cp $(CRATE)/out/unifdef_cli $@
+
+check:
+	@$(RT) ci
+
+install: unifdef
+	$(INSTALL) -d $(DESTDIR)$(BINDIR) $(DESTDIR)$(MANDIR)/man1
+	$(INSTALL) -m 755 unifdef $(DESTDIR)$(BINDIR)/unifdef
+	$(INSTALL) -m 644 docs/unifdef.1 $(DESTDIR)$(MANDIR)/man1/unifdef.1
+
+bench: unifdef
+	bench/run.sh
+
+clean:
+	rm -f unifdef
+	rm -rf crates/*/out

@@ -1,0 +1,3 @@
+pub mod FeedLemmas
+pub mod HoldingLemmas
+mod MarkLemmas

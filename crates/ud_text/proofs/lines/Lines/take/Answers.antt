@@ -1,0 +1,12 @@
+use Rattle.std.proofs.Common.{rules, ◌≡◌, false, ◌++◌, take, sym, ◌∙◌, ap, subst}
+use Rattle.ud_text.specs.Holding.{Holding, Took}
+use Rattle.ud_text.specs.contracts.lines.Lines.{the_view}
+use Rattle.ud_text.proofs.HoldingLemmas.{took_take}
+use Rattle.ud_text.proofs.lines.Lines.take.Goals as goal
+
+pub returns-clause-stands : goal.returns-clause-stands
+returns-clause-stands c = λ text took.
+    let added : c.try_extend_from_slice.new.self.items ≡ c.self.inside.held_bytes.items ++ take c.front-taken.result.used c.args.piece.now = search rules in
+    let part : (the_view c.self.inside).whole ≡ false = ap (λ (l : Holding). l.whole) c.self.view_is ∙ c.requires.part in
+    let before : Took (the_view c.self.inside) text = subst (λ (l : Holding). Took l text) (sym c.self.view_is) took in
+    rw added (took_take (the_view c.self.inside) text c.args.piece.now c.front-taken.result.used c.front-taken.result.whole part c.front-taken.ensures before)

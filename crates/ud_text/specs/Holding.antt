@@ -1,0 +1,61 @@
+-- Holding: what is held of a text whose bytes come in pieces.
+-- POSIX XBD 3.206: a line ends with its line feed. The lines are those of ud_model, specs/Lines.antt.
+--
+--   Took lines text               these bytes were taken so far: they are the lines given up, and what is held
+--   UpToFeed piece used whole     so many bytes stand in front of the piece up to its first line feed
+--   Refuses lines piece fault     the piece passes this limit
+--   IsComplete lines              a line can be read
+--   IsLastLine text line          the line is the last one of the text
+--
+-- Example: behind "a\nb" with the first line given up, "b" is held and 1 line stands before it.
+use Rattle.std.specs.Prelude.{◌≡◌, ℕ, ◌+◌, ◌<◌, ◌≤◌, List, [], ◌∷◌, ◌++◌, length, take, Bool, true, false, Option, Some, if◌then◌else◌, ◌⊎◌}
+use Rattle.ud_model.specs.Lines.{NoFeed, parts_of, Line, lines_of}
+use Rattle.ud_model.specs.declared.limits.TheConstants.{LINE_BYTES}
+use Rattle.ud_text.specs.declared.fault.TextFault.{TextFault}
+use Rattle.ud_text.specs.declared.fault.TextFault.TheVariants.{TooManyLines, LineTooLong}
+
+-- the bytes of the line so far, whether it has its line feed, how many lines were given up before it, whether the text
+-- has ended, what was refused for good, and the number of the last line that the text may have
+pub record Holding : Type 0 where
+  pub held : List ℕ
+  pub whole : Bool
+  pub before : ℕ
+  pub closed : Bool
+  pub refusal : Option TextFault
+  pub last_line : ℕ
+
+-- these bytes were taken so far: they are the lines given up, and what is held
+pub record Took (lines : Holding) (text : List ℕ) : Type 0 where
+  pub given : List (List ℕ)
+  pub cut : parts_of text ≡ (if lines.whole then record { whole = given ++ lines.held ∷ []; rest = [] } else record { whole = given; rest = lines.held })
+  pub count : lines.before ≡ length given
+
+-- the bytes up to the first line feed, which is the last of them, or all where there is none
+pub record UpToFeed (piece : List ℕ) (used : ℕ) (whole : Bool) : Type 0 where
+  pub within : used ≤ length piece
+  pub all : whole ≡ false → (used ≡ length piece) × NoFeed piece
+  pub line : whole ≡ true → (front : List ℕ) × NoFeed front × (take used piece ≡ front ++ 10 ∷ [])
+
+-- a refusal keeps what is held, and is answered for good
+abbrev pub refused_with : Holding → TextFault → Holding
+refused_with lines fault = record lines { refusal = Some fault }
+
+-- the piece passes a limit: it has a byte for a line behind the last one, or else more bytes of the line than fit
+abbrev pub Refuses : Holding → List ℕ → TextFault → Type 0
+Refuses lines piece (TooManyLines line) =
+    (line ≡ lines.before + 1) × (lines.last_line ≤ lines.before) × ((used : ℕ) × (whole : Bool) × UpToFeed piece used whole × (0 < used))
+Refuses lines piece (LineTooLong line) =
+    (line ≡ lines.before + 1) × (lines.before < lines.last_line)
+    × ((used : ℕ) × (whole : Bool) × UpToFeed piece used whole × (LINE_BYTES < length lines.held + used))
+
+-- a line can be read: it has its line feed, or the text has ended and has bytes behind its last line feed
+abbrev pub IsComplete : Holding → Type 0
+IsComplete lines = (lines.whole ≡ true) ⊎ ((lines.closed ≡ true) × (0 < length lines.held))
+
+-- a body, an ending and a number are those of this line
+abbrev pub IsLineOf : List ℕ → List ℕ → ℕ → Line → Type 0
+IsLineOf body ending number line = record { body = body; ending = ending; number = number } ≡ line
+
+-- this line is the last one of the text
+abbrev pub IsLastLine : List ℕ → Line → Type 0
+IsLastLine text line = (earlier : List Line) × (lines_of text ≡ earlier ++ line ∷ [])

@@ -1,0 +1,14 @@
+//! A line of a text.
+
+/// A line of a text (POSIX XBD 3.206): its bytes are those of the body, then those of the ending.
+///
+/// The line is lent: its bytes stand where the text is held.
+#[derive(Clone, Copy)]
+pub struct Line<'a> {
+    /// The bytes of the line without its ending. A carriage return that no line feed follows stands here.
+    pub body: &'a [u8],
+    /// `\r\n` or `\n`; empty for a last line that lacks its line feed.
+    pub ending: &'a [u8],
+    /// The line's number in its text, from 1.
+    pub number: u32,
+}

@@ -1,0 +1,230 @@
+//! Lines of a text, from bytes that come in pieces.
+//!
+//! One line is held at a time, at most `LINE_BYTES` bytes with its ending. However the bytes are cut into pieces,
+//! the lines are those of the definitions (ud_model, specs/Lines.antt). States: nothing held; part of a line; a
+//! whole line, until `clear`; closed; refused, for good.
+//! A new way in which a line may end needs another `lines_of` and another `front`.
+
+ghost use Rattle.std.specs.Prelude.{◌≡◌, ℕ, suc, ◌+◌, ◌<◌, ◌≤◌, ◌↔◌, List, [], ◌∷◌, ◌++◌, length, take, true, false, Some, None, IfOk, IfErr, OnOk, OnErr, IfSome, IfNone, Ok, Err, IsTrue, MatchResult};
+ghost use Rattle.ud_model.specs.Lines.{whole_lines, open_rest, line_at};
+ghost use Rattle.ud_text.specs.Holding.{Took, UpToFeed, Refuses, refused_with, IsComplete, IsLastLine, IsLineOf};
+
+use crate::fault::TextFault;
+use crate::line::Line;
+use arrayvec::ArrayVec;
+use memchr::memchr;
+use std::marker::Model;
+use ud_model::{LINE_BYTES, TEXT_LINES};
+
+/// What was taken of a piece.
+#[derive(Clone, Copy)]
+pub struct Taken {
+    /// How many bytes were taken: those up to the piece's first line feed, which is the last of them, or all.
+    pub used: usize,
+    /// Whether the last byte taken is a line feed, so that a whole line is held.
+    pub whole: bool,
+}
+
+/// The line at the end of the bytes taken so far.
+#[derive(Drop)]
+pub struct Lines {
+    /// The bytes of the line so far, with its ending.
+    held_bytes: ArrayVec<u8, LINE_BYTES>,
+    /// Whether the line has its line feed, which is then the last byte held.
+    is_whole: bool,
+    /// How many lines were given up before the line that is held; at most `last`, and below it where a byte is held.
+    given_up: u32,
+    /// Whether the text has ended.
+    is_closed: bool,
+    /// What was refused, for good.
+    refused: Option<TextFault>,
+    /// The number of the last line that the text may have, at most `TEXT_LINES`.
+    last: u32,
+}
+
+impl Model for Lines {
+    ghost use Rattle.std.specs.Prelude.{◌≡◌, ◌≤◌, ◌<◌, length, true};
+    ghost use Rattle.ud_model.specs.declared.limits.TheConstants.{TEXT_LINES};
+    ghost use Rattle.ud_text.specs.Holding.{Holding};
+
+    ghost Value = { Holding };
+
+    ghost view = { λ l. record {
+      held = l.held_bytes.items;
+      whole = l.is_whole;
+      before = l.given_up;
+      closed = l.is_closed;
+      refusal = l.refused;
+      last_line = l.last;
+    } };
+
+    ghost invariant = { λ l. (l.last ≤ TEXT_LINES) × (l.given_up ≤ l.last)
+        × (0 < length l.held_bytes.items → l.given_up < l.last)
+        × (l.is_whole ≡ true → 0 < length l.held_bytes.items) };
+}
+
+impl Lines {
+    /// The lines of a text of which no byte was taken. It may have `last_line` lines, from 1 to 2,147,483,647.
+    pub fn new(last_line: u32) -> Lines
+        requires low { 1 ≤ last_line }
+        requires high { last_line ≤ TEXT_LINES }
+        ensures value { result ≡ record { held = []; whole = false; before = 0; closed = false; refusal = None; last_line = last_line } }
+        ensures stands { Took result [] }
+    {
+        Lines {
+            held_bytes: ArrayVec::new(),
+            is_whole: false,
+            given_up: 0,
+            is_closed: false,
+            refused: None,
+            last: last_line,
+        }
+    }
+
+    /// Takes the next bytes of the text, up to and including the first line feed, or the whole piece.
+    ///
+    /// `piece` may have any length and any bytes; of an empty one nothing is taken. No whole line may be held, and
+    /// the text may not have ended. Where the answer is `whole`, a line is complete: read it with `line`, then
+    /// `clear`. The rest of the piece is the next one to be taken.
+    ///
+    /// # Errors
+    /// In this order: `TooManyLines` at the first byte of a line behind the last one that the text may have;
+    /// `LineTooLong` at byte 4,097 of a line, its ending counted. No byte of the piece is kept, and every later `take`
+    /// and `close` answers the same, also for an empty piece.
+    ///
+    /// Lines are those of POSIX XBD 3.206; the last may lack its line feed.
+    pub fn take(&mut self, piece: &[u8]) -> Result<Taken, TextFault>
+        requires part { self.old.whole ≡ false }
+        requires open { self.old.closed ≡ false }
+        ensures used { IfOk result (λ t. UpToFeed piece.now t.used t.whole) }
+        ensures value { IfOk result (λ t.
+            self.new ≡ record self.old { held = self.old.held ++ take t.used piece.now; whole = t.whole }) }
+        ensures stands { IfOk result (λ t.
+            (text : List ℕ) → Took self.old text → Took self.new (text ++ take t.used piece.now)) }
+        ensures unrefused { OnOk result (self.new.refusal ≡ None) }
+        ensures limits { IfOk result (λ t. 0 < t.used →
+            (length self.new.held ≤ LINE_BYTES) × (self.old.before < self.old.last_line)) }
+
+        ensures refuses { IfNone self.old.refusal (IfErr result (λ f. Refuses self.old piece.now f)) }
+        ensures refusal { IfErr result (λ f. self.new ≡ refused_with self.old f) }
+        ensures still { OnErr result ((text : List ℕ) → Took self.old text → Took self.new text) }
+        ensures again { IfSome self.old.refusal (λ f. (result ≡ Err f) × (self.new ≡ self.old)) }
+    {
+        if let Some(fault) = self.refused {
+            return Err(fault);
+        }
+        let taken = front(piece);
+        if taken.used == 0 {
+            return Ok(taken);
+        }
+        if self.given_up >= self.last {
+            let fault = TextFault::TooManyLines {
+                line: self.given_up + 1,
+            };
+            self.refused = Some(fault);
+            return Err(fault);
+        }
+        let bytes = &piece[..taken.used];
+        if self.held_bytes.try_extend_from_slice(bytes).is_err() {
+            let fault = TextFault::LineTooLong {
+                line: self.given_up + 1,
+            };
+            self.refused = Some(fault);
+            return Err(fault);
+        }
+        self.is_whole = taken.whole;
+        Ok(taken)
+    }
+
+    /// How many bytes of the line are held, its ending counted; at most 4,096.
+    pub fn held(&self) -> usize
+        ensures value { result ≡ length self.now.held }
+        ensures bound { result ≤ LINE_BYTES }
+    {
+        self.held_bytes.len()
+    }
+
+    /// The line that is held: a whole one, or, where `close` has answered `true`, the last one of the text, which
+    /// lacks its line feed.
+    pub fn line(&self) -> Line<'_>
+        requires complete { IsComplete self.now }
+        ensures value { IsLineOf result.body.now result.ending.now result.number
+            (line_at (suc self.now.before) self.now.held) }
+        ensures bound { result.number ≤ self.now.last_line }
+        ensures stands { (text : List ℕ) → Took self.now text →
+            IsLastLine text (line_at (suc self.now.before) self.now.held) }
+        ensures whole { self.now.whole ≡ true → (text : List ℕ) → Took self.now text →
+            (earlier : List (List ℕ)) × (whole_lines text ≡ earlier ++ self.now.held ∷ []) }
+        ensures rest { self.now.whole ≡ false → (text : List ℕ) → Took self.now text → open_rest text ≡ self.now.held }
+    {
+        let (body, ending) = cut_ending(self.held_bytes.as_slice());
+        Line {
+            body,
+            ending,
+            number: self.given_up + 1,
+        }
+    }
+
+    /// Gives up the whole line that is held, so that the next one can be taken.
+    pub fn clear(&mut self)
+        requires whole { self.old.whole ≡ true }
+        ensures value { self.new ≡ record self.old { held = []; whole = false; before = self.old.before + 1 } }
+        ensures stands { (text : List ℕ) → Took self.old text → Took self.new text }
+    {
+        self.held_bytes.clear();
+        self.is_whole = false;
+        self.given_up += 1;
+    }
+
+    /// Ends the text. No whole line may be held, and the text may not have ended before.
+    ///
+    /// The answer is `true` where bytes are held: they are the text's last line, which `line` then reads.
+    ///
+    /// # Errors
+    /// What `take` refused, again. Nothing changes.
+    pub fn close(&mut self) -> Result<bool, TextFault>
+        requires part { self.old.whole ≡ false }
+        requires open { self.old.closed ≡ false }
+        ensures value { MatchResult result
+            (λ last. (self.old.refusal ≡ None) × (self.new ≡ record self.old { closed = true })
+            × (IsTrue last ↔ (0 < length self.old.held)))
+            (λ f. (self.old.refusal ≡ Some f) × (self.new ≡ self.old)) }
+        ensures stands { (text : List ℕ) → Took self.old text → Took self.new text }
+    {
+        if let Some(fault) = self.refused {
+            return Err(fault);
+        }
+        self.is_closed = true;
+        Ok(!self.held_bytes.is_empty())
+    }
+}
+
+/// How many bytes stand in front of the piece up to its first line feed, that one counted, or all where there is none.
+fn front(piece: &[u8]) -> Taken
+    ensures { UpToFeed piece.now result.used result.whole }
+{
+    match memchr(b'\n', piece) {
+        Some(at) => Taken {
+            used: at + 1,
+            whole: true,
+        },
+        None => Taken {
+            used: piece.len(),
+            whole: false,
+        },
+    }
+}
+
+/// A line as its body and its ending.
+fn cut_ending(line: &[u8]) -> (&[u8], &[u8])
+    ensures { (number : ℕ) → IsLineOf result.0.now result.1.now number (line_at number line.now) }
+{
+    let ending = if line.ends_with(b"\r\n") {
+        2
+    } else if line.ends_with(b"\n") {
+        1
+    } else {
+        0
+    };
+    line.split_at(line.len() - ending)
+}

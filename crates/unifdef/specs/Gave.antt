@@ -1,0 +1,70 @@
+-- Gave: what the tool wrote, said and gave back, against the answers of the definitions.
+--
+--   Gave out out' failed err err' status a     these contents of `out` and `err`, before and behind, and this status are the answer a
+--   GivesAnswer words input ..                 they are the answer that the definitions give to the words and the input
+--   HeldInput o input held end                 what is held is the input, as far as it goes before a limit is broken
+--   Told outcome r                             the code's outcome is that of a run of the definitions
+use Rattle.std.specs.Prelude.{◌≡◌, ◌≢◌, ℕ, suc, ◌<◌, ◌≤◌, List, [], ◌∷◌, ◌++◌, length, map, Bool, true, false, Option, Some, None, ◌⊎◌}
+use Rattle.std.specs.List.{AllByRecursion, list_any}
+use Rattle.std.specs.Io.KnownBytes.{Appends}
+use Rattle.ud_model.specs.Lines.{Line, lines_of, numbered_from}
+use Rattle.ud_model.specs.Items.{Options}
+use Rattle.ud_model.specs.Faults as model
+use Rattle.ud_model.specs.Messages.{message_of, read_error, write_error}
+use Rattle.ud_model.specs.Runs as runs
+use Rattle.ud_model.specs.Answer.{Answer, IsAnswer, run_answer}
+use Rattle.ud_model.specs.declared.settings.ExitMode.TheVariants.{Zero}
+use Rattle.ud_model.specs.declared.limits.TheConstants.{TEXT_LINES}
+use Rattle.unifdef.specs.Watching.{Says}
+use Rattle.unifdef.specs.Told.{fault_told}
+use Rattle.unifdef.specs.Outcomes.{Rest, IsWithin}
+use Rattle.unifdef.specs.Held.{Holds}
+use Rattle.unifdef.specs.Intake.{text_fault_told}
+use Rattle.ud_model.specs.Scans.{Reading}
+use Rattle.ud_model.specs.Tree.{Item}
+use Rattle.unifdef.specs.Walking.{WalksThrough, HaltsWell}
+use Rattle.unifdef.specs.declared.walk.Walk.{Walk}
+use Rattle.unifdef.specs.declared.walk.Stop.{Stop}
+use Rattle.unifdef.specs.declared.walk.Stop.TheVariants.{OutOfMemory}
+use Rattle.unifdef.specs.declared.held.Held.{Held}
+use Rattle.unifdef.specs.declared.intake.End.{End}
+use Rattle.unifdef.specs.declared.intake.End.TheVariants.{Ended, Failed, Broken}
+
+-- this was written, said and given back
+pub record Gave (out_old out_new : Option (List ℕ)) (err_failed : Bool) (err_old err_new : Option (List ℕ)) (status : ℕ) (a : Answer) : Type 0 where
+  pub output : Appends out_old out_new a.output
+  pub message : Says err_failed err_old err_new a.message
+  pub answered : status ≡ a.status
+
+abbrev pub GivesAnswer : List (List ℕ) → List ℕ → Option (List ℕ) → Option (List ℕ) → Bool → Option (List ℕ) → Option (List ℕ) → ℕ → Type 0
+GivesAnswer words input out_old out_new err_failed err_old err_new status =
+    (a : Answer) × IsAnswer words input a × Gave out_old out_new err_failed err_old err_new status a
+
+-- the limit that the next line breaks, if the reading stopped there; a failed read tells nothing of the text
+abbrev pub EndsAs : End → Option model.Fault → Type 0
+EndsAs Ended limit = limit ≡ None
+EndsAs Failed limit = ⊥
+EndsAs (Broken f) limit = limit ≡ Some (text_fault_told f)
+
+-- the text that is held is the input, or its lines up to the first one that breaks a limit
+pub record HeldInput (o : Options) (input : List ℕ) (held : Held) (end : End) : Type 0 where
+  pub plain : o.settings.plain ≡ true
+  pub texts : List (List ℕ)
+  pub more : List Line
+  pub limit : Option model.Fault
+  pub lines : lines_of input ≡ numbered_from 1 texts ++ more
+  pub rest : Rest (numbered_from 1 texts) more limit
+  pub ends : EndsAs end limit
+  pub nonempty : AllByRecursion (λ t. t ≡ [] → ⊥) texts
+  pub within : AllByRecursion IsWithin (numbered_from 1 texts)
+  pub holds : Holds o held (numbered_from 1 texts)
+
+-- what was written, said and given back is a run of the definitions
+abbrev pub GivesRun : Options → List ℕ → Option (List ℕ) → Option (List ℕ) → Bool → Option (List ℕ) → Option (List ℕ) → ℕ → Type 0
+GivesRun o input out_old out_new err_failed err_old err_new status =
+    (r : runs.Outcome) × runs.Runs o input r × Gave out_old out_new err_failed err_old err_new status (run_answer Zero r)
+
+-- how the walk over these lines ended: it went through them all, or it stopped
+abbrev pub WalkEnds : Walk → List (Item Reading) → Option Stop → Type 0
+WalkEnds w xs None = WalksThrough w xs
+WalkEnds w xs (Some stop) = (stop ≢ OutOfMemory) × HaltsWell w xs stop
