@@ -103,10 +103,11 @@ fn sixty_four_sections_may_be_open(rt: HostRuntime) -> Result<(), Fail> {
     check(&rt, rt.alloc(), &fits)?;
     let mut deeper = repeated(&rt, b"#ifdef X\n", 65)?;
     deeper.extend_from_slice(repeated(&rt, b"#endif\n", 65)?.as_slice())?;
+    let before = repeated(&rt, b"#ifdef X\n", 64)?;
     let breaks = Worked {
         words: &["-t", "-DA"],
         input: deeper.as_slice(),
-        output: repeated(&rt, b"#ifdef X\n", 64)?.as_slice(),
+        output: before.as_slice(),
         message: "unifdef: stdin: 65: Too many levels of nesting",
         status: 2,
     };

@@ -3,6 +3,7 @@
 use crate::worked::owned;
 use std::alloc::Global;
 use std::io::{self, ErrorKind, Read, Write};
+use std::process::Abort;
 use std::test::Fail;
 use unifdef::{Watched, tool};
 
@@ -74,24 +75,19 @@ const ROOM: usize = 1_000_000;
 
 /// Runs the tool from a source into a sink, and compares.
 fn run(
-    rt: &HostRuntime,
+    rt: &impl Abort,
+    alloc: Global,
     words: &[&str],
     source: Source<'_>,
     sink: Sink,
     output: &[u8],
     message: &[u8],
 ) -> Result<u8, Fail> {
-    let words = owned(rt.alloc(), words)?;
+    let words = owned(alloc, words)?;
     let mut reader = Watched::new(source);
     let mut out = Watched::new(sink);
-    let mut err = Watched::new(Vec::<u8>::new(rt.alloc()));
-    let status = tool(
-        rt.alloc(),
-        words.as_slice(),
-        &mut reader,
-        &mut out,
-        &mut err,
-    );
+    let mut err = Watched::new(Vec::<u8>::new(alloc));
+    let status = tool(alloc, words.as_slice(), &mut reader, &mut out, &mut err);
     assert_eq!(rt; out.inner().taken.as_slice(), output);
     assert_eq!(rt; err.inner().as_slice(), message);
     Ok(status)
@@ -106,6 +102,7 @@ fn a_byte_a_call_is_enough(rt: HostRuntime) -> Result<(), Fail> {
     };
     let status = run(
         &rt,
+        rt.alloc(),
         &["-t", "-DA"],
         source,
         Sink::new(rt.alloc(), ROOM, 1),
@@ -125,6 +122,7 @@ fn a_failing_read_is_told_behind_the_whole_lines(rt: HostRuntime) -> Result<(), 
     };
     let status = run(
         &rt,
+        rt.alloc(),
         &["-t", "-DA"],
         source,
         Sink::new(rt.alloc(), ROOM, 8192),
@@ -146,6 +144,7 @@ fn a_writer_that_takes_no_more_is_told(rt: HostRuntime) -> Result<(), Fail> {
     sink.refuses = false;
     let status = run(
         &rt,
+        rt.alloc(),
         &["-t", "-DA"],
         source,
         sink,
@@ -167,6 +166,7 @@ fn a_failing_flush_is_told_where_there_is_no_fault(rt: HostRuntime) -> Result<()
     sink.flush_fails = true;
     let status = run(
         &rt,
+        rt.alloc(),
         &["-t", "-DA"],
         source,
         sink,
@@ -188,6 +188,7 @@ fn a_failing_flush_changes_no_fault(rt: HostRuntime) -> Result<(), Fail> {
     sink.flush_fails = true;
     let status = run(
         &rt,
+        rt.alloc(),
         &["-t", "-DA"],
         source,
         sink,

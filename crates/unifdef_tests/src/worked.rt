@@ -5,6 +5,7 @@ use std::process::Abort;
 use unifdef::{Watched, tool};
 
 /// What a run has to write, say and give back.
+#[derive(Clone, Copy)]
 pub(crate) struct Worked<'a> {
     pub words: &'a [&'a str],
     pub input: &'a [u8],
