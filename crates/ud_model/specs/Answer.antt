@@ -8,7 +8,6 @@
 -- and printed (Printing), up to the first fault (Faults, Runs).
 use Rattle.std.specs.Prelude.{◌≡◌, ℕ, List, [], Bool, true, false, Option, Some, None}
 use Rattle.ud_model.specs.Arguments.{UsageFault, usage_fault, options_of}
-use Rattle.ud_model.specs.Items.{Options}
 use Rattle.ud_model.specs.Faults.{Fault}
 use Rattle.ud_model.specs.Messages.{message_of, usage_message, out_of_memory}
 use Rattle.ud_model.specs.Runs.{Outcome, Runs}

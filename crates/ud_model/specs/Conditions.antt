@@ -4,7 +4,7 @@
 --   Decision                               a condition, and whether its section is plain text
 --   condition_of kind after table rules    the decision on the text behind a keyword
 --   decision_on scan d table rules         the decision on a directive in its line
-use Rattle.std.specs.Prelude.{ℕ, List, [], ◌∷◌, Bool, true, false, not, ◌&&◌, Option, Some, None, if◌then◌else◌}
+use Rattle.std.specs.Prelude.{ℕ, List, Bool, false, not, ◌&&◌, Option, Some, None, if◌then◌else◌}
 use Rattle.ud_model.specs.Bytes.{past_white, word_in_front, past_word, are_white, is_identifier}
 use Rattle.ud_model.specs.Scans.{Scan}
 use Rattle.ud_model.specs.Directives.{Directive}

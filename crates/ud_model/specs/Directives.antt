@@ -5,7 +5,7 @@
 --   Directive            its kind, the keyword's place, what follows the keyword, and whether a continuation cuts it
 --
 -- Example: `  # ifdef A` is an `#ifdef` whose keyword lies at 4 and has 5 bytes, and ` A` follows it.
-use Rattle.std.specs.Prelude.{ℕ, ◌-◌, ◌==◌, List, [], ◌∷◌, length, take, Bool, true, false, not, ◌&&◌, ◌||◌, if◌then◌else◌, Option, Some, None, bytes_eq, codes, is_some}
+use Rattle.std.specs.Prelude.{ℕ, ◌-◌, ◌==◌, List, [], ◌∷◌, length, Bool, true, false, not, ◌&&◌, ◌||◌, if◌then◌else◌, Option, Some, None, bytes_eq, codes}
 use Rattle.std.specs.List.{list_any, starts_with}
 use Rattle.std.specs.Prelude.{nat_eq}
 use Rattle.ud_model.specs.Bytes.{past_white, word_in_front, past_word, are_word_bytes}

@@ -11,7 +11,7 @@
 -- The verdicts are those of the text up to the line; no later line changes them.
 use Rattle.std.specs.Prelude.{◌≡◌, ℕ, ◌<◌, List, [], ◌∷◌, ◌++◌, length, Bool, true, false, not, ◌&&◌, ◌||◌, IsTrue, Option, Some, None}
 use Rattle.ud_model.specs.Lines.{Line, text_of}
-use Rattle.ud_model.specs.Scans.{Scan, Reading, is_spanning}
+use Rattle.ud_model.specs.Scans.{Reading, is_spanning}
 use Rattle.ud_model.specs.Directives.{Content, cut_keyword, directive, text, content_of}
 use Rattle.ud_model.specs.Tree.{Item, Opener, Tree, closed, nothing, text_line, if_line, elif_line, else_line, endif_line, lines, HasTree, depth, innermost}
 use Rattle.ud_model.specs.Pruning.{Mark, marks}

@@ -1,7 +1,7 @@
 -- So far: the marks of a text by the groups up to each line, with which the table over the whole section agrees.
 --
 -- The condition of no later group changes an opener's verdict, so a line's mark is the same in every longer text.
-use Rattle.std.specs.Prelude.{List, [], ◌∷◌, ◌++◌, Bool, true, ◌&&◌}
+use Rattle.std.specs.Prelude.{List, [], ◌∷◌, ◌++◌, Bool, ◌&&◌}
 use Rattle.ud_model.specs.declared.cond.Cond.{Cond}
 use Rattle.ud_model.specs.declared.cond.Cond.TheVariants.{Yes}
 use Rattle.ud_model.specs.declared.verdict.Verdict.{Verdict}

@@ -1,15 +1,14 @@
 -- Ending: what the code prints, says and gives back for the text that it holds is a run of the definitions.
-use Rattle.std.proofs.Common.{◌≡◌, ◌≢◌, ℕ, suc, ◌+◌, List, [], ◌∷◌, ◌++◌, length, map, Bool, true, false, Option, Some, None, if◌then◌else◌, refl, sym, ◌∙◌, ap, subst, add-one}
+use Rattle.std.proofs.Common.{◌≡◌, ◌≢◌, ℕ, suc, ◌+◌, List, [], ◌∷◌, length, map, Bool, true, false, Option, Some, None, if◌then◌else◌, refl, sym, ◌∙◌, ap, subst, add-one}
 use Rattle.std.specs.List.{AllByRecursion, list_any}
 use Rattle.std.specs.Io.KnownBytes.{Appends}
-use Rattle.ud_model.specs.Lines.{Line, line_at, text_of, lines_of, numbered_from}
+use Rattle.ud_model.specs.Lines.{numbered_from}
 use Rattle.ud_model.specs.Items.{Options}
 use Rattle.ud_model.specs.Faults as model
 use Rattle.ud_model.specs.Messages.{message_of}
 use Rattle.ud_model.specs.Runs.{Outcome, Runs}
-use Rattle.ud_model.specs.Answer.{run_answer, status_of, message_or_none}
+use Rattle.ud_model.specs.Answer.{status_of, message_or_none}
 use Rattle.ud_model.specs.declared.settings.ExitMode.TheVariants.{Zero}
-use Rattle.ud_model.specs.declared.verdict.Verdict.{Verdict}
 use Rattle.ud_model.proofs.LinesLemmas.{text_of-line_at}
 use Rattle.ud_text.specs.declared.fault.TextFault.{TextFault}
 use Rattle.ud_text.specs.declared.fault.TextFault.TheVariants as texts
@@ -26,20 +25,24 @@ use Rattle.unifdef.specs.Walking.{WalksThrough, HaltsWell}
 use Rattle.unifdef.specs.Outcomes.{plain_item, pieces, is_changed, stop_fault, misplaced_fault}
 use Rattle.unifdef.specs.Told.{fault_told}
 use Rattle.unifdef.specs.Intake.{text_fault_told}
-use Rattle.unifdef.specs.Ending.{limit_fault, misplaced_by, outcome_by, stopped_by, at_end, message_told, status_told}
-use Rattle.unifdef.specs.Gave.{Gave, HeldInput, EndsAs, GivesRun}
+use Rattle.unifdef.specs.Ending.{limit_fault, misplaced_by, outcome_by, stopped_by, message_told, status_told}
+use Rattle.unifdef.specs.Gave.{HeldInput, EndsAs, GivesRun}
 use Rattle.unifdef.proofs.VerdictLemmas.{IsFilled}
-use Rattle.unifdef.proofs.OutcomeLemmas.{HoldsLines, Held, Comes, through, halted_well}
+use Rattle.unifdef.proofs.OutcomeLemmas.{HoldsLines, Comes, through, halted_well}
 
 -- a run whose output, fault and copy are these was written, said and given back, where that is what they ask for
 gave : (o : Options) (input p : List ℕ) (f : Option model.Fault) (d : Bool) (uo un : Option (List ℕ)) (e : Bool) (eo en : Option (List ℕ)) (m : List ℕ) (s : ℕ) →
     (r : Outcome) → Runs o input r → r.output ≡ p → r.fault ≡ f → r.differs ≡ d →
     Appends uo un p → Says e eo en m → m ≡ message_or_none f → s ≡ status_of Zero d f → GivesRun o input uo un e eo en s
-gave o input p f d uo un e eo en m s r runs is_p is_f is_d out said is_m is_s = (r, runs, record {
+gave o input p f d uo un e eo en m s r runs is_p is_f is_d out said is_m is_s = (
+  r,
+  runs,
+  record {
     output = subst (λ (q : List ℕ). Appends uo un q) (sym is_p) out;
     message = subst (λ (q : List ℕ). Says e eo en q) (is_m ∙ ap message_or_none (sym is_f)) said;
     answered = is_s ∙ ap (λ g. status_of Zero d g) (sym is_f) ∙ ap (λ g. status_of Zero g r.fault) (sym is_d);
-  })
+  },
+)
 
 limit_told : (f : TextFault) → fault_told (limit_fault f) ≡ text_fault_told f
 limit_told (texts.TooManyLines line) = refl
@@ -97,9 +100,11 @@ stop_told : (stop : Stop) (n : ℕ) (ss : List Shape) (end : End) (limit : Optio
 stop_told stops.Unhandled n ss end limit never h = (ap (λ k. message_of (model.unsupported k)) (add-one n), refl)
 stop_told stops.OutOfPlace n ss end limit never h = (ap message_of (misplaced_told ss (n + 1) ∙ ap (λ k. misplaced_fault ss k) (add-one n)), refl)
 stop_told stops.TooDeep n ss end limit never h = (ap (λ k. message_of (model.too_many_levels k)) (add-one n), refl)
-stop_told (stops.Unclosed opener) n ss Ended limit never h =
-    (ap (λ k. message_of (model.premature_eof n k)) (add-one opener)
-      ∙ ap (λ l. message_of (stop_fault (stops.Unclosed opener) n ss l)) (sym h), refl)
+stop_told (stops.Unclosed opener) n ss Ended limit never h = (
+  ap (λ k. message_of (model.premature_eof n k)) (add-one opener)
+      ∙ ap (λ l. message_of (stop_fault (stops.Unclosed opener) n ss l)) (sym h),
+  refl,
+)
 stop_told (stops.Unclosed opener) n ss Failed limit never h = absurd h
 stop_told (stops.Unclosed opener) n ss (Broken f) limit never h =
     (ap message_of (limit_told f) ∙ ap (λ l. message_of (stop_fault (stops.Unclosed opener) n ss l)) (sym h), refl)

@@ -1,8 +1,8 @@
 -- What one more group changes.
-use Rattle.std.proofs.Common.{◌≡◌, refl, sym, ap, ◌∙◌, List, [], ◌∷◌, ◌++◌, Bool, true, false, not, ◌&&◌, ◌||◌}
+use Rattle.std.proofs.Common.{◌≡◌, refl, ap, ◌∙◌, List, [], ◌∷◌, ◌++◌, false}
 use Rattle.ud_model.specs.declared.cond.Cond.{Cond}
 use Rattle.ud_model.specs.declared.cond.Cond.TheVariants.{Yes, No, Unknown}
-use Rattle.ud_model.specs.Pruning.{Part, all_false, any_true, gives_way, ends_with_first_true}
+use Rattle.ud_model.specs.Pruning.{Part, gives_way}
 use Rattle.ud_model.specs.SoFar.{verdict_so_far}
 use Rattle.unifdef.specs.declared.groups.Groups.{Groups}
 use Rattle.unifdef.specs.Groups.{groups_of, with_group, gives_way_with, opener_by_table}

@@ -1,17 +1,17 @@
 -- Headline: from what a reader gave to the answer of the definitions.
 use Rattle.std.proofs.Common.{◌≡◌, ℕ, suc, List, [], ◌∷◌, ◌++◌, length, map, Bool, true, false, not, Option, Some, None, refl, sym, ◌∙◌, ap, subst, append-nil, ◌≤◌, arith, ◌⊎◌, inl, inr}
 use Rattle.std.specs.Prelude.{IfSome}
-use Rattle.std.specs.Io.KnownBytes.{Appends, Consumes, IsAtEnd, Keeps}
-use Rattle.ud_model.specs.Lines.{Line, lines_of, whole_lines, numbered_from}
+use Rattle.std.specs.Io.KnownBytes.{Appends, Keeps}
+use Rattle.ud_model.specs.Lines.{Line, lines_of, numbered_from}
 use Rattle.ud_model.specs.Items.{Options}
 use Rattle.ud_model.specs.Arguments.{UsageFault, usage_fault, options_of, says_plain, word_fault_from, unless_plain}
-use Rattle.ud_model.specs.Answer.{Answer, IsAnswer, usage_answer, memory_answer, run_answer, refused, ran}
+use Rattle.ud_model.specs.Answer.{usage_answer, memory_answer, refused, ran}
 use Rattle.unifdef.specs.declared.held.Held.{Held}
 use Rattle.unifdef.specs.declared.intake.End.{End}
 use Rattle.unifdef.specs.declared.intake.End.TheVariants.{Ended, Failed, Broken}
 use Rattle.unifdef.specs.Watching.{Says}
 use Rattle.unifdef.specs.Outcomes.{Breaks, ended, broken, plain_item, pieces}
-use Rattle.unifdef.specs.Intake.{HeldOf, LinesHeld, text_fault_told}
+use Rattle.unifdef.specs.Intake.{HeldOf, text_fault_told}
 use Rattle.unifdef.specs.Gave.{Gave, GivesAnswer, HeldInput, GivesRun, WalkEnds}
 use Rattle.unifdef.specs.Held.{Holds}
 use Rattle.unifdef.specs.Shapes.{AreShapes}
@@ -138,11 +138,11 @@ pub ends_gives : (o : Options) (input : List ℕ) (held : Held) (end : End) (w :
 ends_gives o input held end w None uo um un p e eo en s h walks works printed kept said status =
     gives_through o input held end w uo un e eo en s h walks
     (appends_keeps uo um un (pieces (numbered_from 1 h.texts) w.verdicts.items)
-      (subst (λ (f : Bool). Says f uo um (pieces (numbered_from 1 h.texts) w.verdicts.items)) works printed) kept) said status
+    (subst (λ (f : Bool). Says f uo um (pieces (numbered_from 1 h.texts) w.verdicts.items)) works printed) kept) said status
 ends_gives o input held end w (Some stop) uo um un p e eo en s h walks works printed kept said status =
     gives_halted o input held end w stop uo un e eo en s h walks.0 walks.1
     (appends_keeps uo um un (pieces (numbered_from 1 h.texts) w.verdicts.items)
-      (subst (λ (f : Bool). Says f uo um (pieces (numbered_from 1 h.texts) w.verdicts.items)) works printed) kept) said status
+    (subst (λ (f : Bool). Says f uo um (pieces (numbered_from 1 h.texts) w.verdicts.items)) works printed) kept) said status
 
 not_false : (b : Bool) → false ≡ not b → b ≡ true
 not_false true e = refl

@@ -1,25 +1,21 @@
 -- Moves: how what a walk has read is put together from its parts.
-use Rattle.std.proofs.Common.{◌≡◌, ℕ, suc, ◌+◌, ◌<◌, ◌≤◌, List, [], ◌∷◌, ◌++◌, length, map, max, Bool, true, false, ◌&&◌, Some, slice_get, refl, sym, ◌∙◌, ap, subst, append_assoc, append-nil, arith}
+use Rattle.std.proofs.Common.{◌≡◌, ℕ, ◌≤◌, List, [], ◌∷◌, ◌++◌, map, Bool, ◌&&◌, Some, slice_get, refl, sym, ◌∙◌, ap, subst, append_assoc, append-nil, arith}
 use Rattle.std.proofs.lemmas.List.{map-append}
 use Rattle.ud_model.specs.Scans.{Reading}
-use Rattle.ud_model.specs.Tree.{Item, Nodes, Groups, Head, Tree, Opener, nothing, text, section, text_line, if_line, elif_line, else_line, endif_line, closed, open_section, if_head, elif_head, else_head, lines, lines_of_nodes, lines_of_groups, lines_of_head, depth, innermost, opener_of_head}
-use Rattle.ud_model.specs.Pruning.{Mark, marked, Part, is_kept, is_inside_kept, endif_verdict, conds_of_groups, conds_of_head}
-use Rattle.ud_model.specs.SoFar.{verdict_so_far, nodes_so_far, groups_so_far, head_so_far, marks_so_far}
-use Rattle.ud_model.specs.Height.{height, height_of_nodes, height_of_groups, height_of_head}
-use Rattle.ud_model.specs.Items.{line_of}
+use Rattle.ud_model.specs.Tree.{Item, Nodes, Tree, nothing, text, section, text_line, closed, open_section, lines, lines_of_nodes, lines_of_groups}
+use Rattle.ud_model.specs.Pruning.{Mark, marked, Part, is_kept}
+use Rattle.ud_model.specs.SoFar.{verdict_so_far, nodes_so_far, groups_so_far}
 use Rattle.ud_model.specs.declared.cond.Cond.{Cond}
 use Rattle.ud_model.specs.declared.verdict.Verdict.{Verdict}
 use Rattle.ud_model.specs.declared.verdict.Verdict.TheVariants.{Keep}
-use Rattle.ud_model.proofs.Growth.{Adds, lines-add, complete}
+use Rattle.ud_model.proofs.Growth.{Adds, lines-add}
 use Rattle.ud_model.proofs.Unique.{grows}
-use Rattle.unifdef.specs.declared.shape.Shape.{Shape}
-use Rattle.unifdef.specs.declared.shape.Shape.TheVariants.{Text, If, Elif, Else, Endif, Unhandled}
+use Rattle.unifdef.specs.declared.shape.Shape.TheVariants.{Text}
 use Rattle.unifdef.specs.declared.walk.Walk.{Walk}
 use Rattle.unifdef.specs.declared.walk.Stop.{Stop}
 use Rattle.unifdef.specs.declared.walk.Stop.TheVariants as stops
-use Rattle.unifdef.specs.Shapes.{AreShapes, AllHandled, shape_by, is_unhandled_item}
-use Rattle.unifdef.specs.Walking.{Left, verdict_of, Moved, ReadsLine, ReadsNodes, ReadsSection, ReadsGroup, InSection, StopsFor, Stuck, StopsWell, StuckInGroup, GroupStops, is_open, is_else}
-use Rattle.unifdef.proofs.ShapesLemmas.{all_handled-append, text_shape, if_shape, elif_shape, else_shape, endif_shape}
+use Rattle.unifdef.specs.Walking.{Left, verdict_of, Moved, ReadsLine, ReadsNodes, ReadsSection, ReadsGroup, StopsFor, Stuck, StopsWell}
+use Rattle.unifdef.proofs.ShapesLemmas.{all_handled-append, text_shape}
 use Rattle.unifdef.proofs.Behind.{behind, lines-behind, marks-behind, height-behind, depth-behind, innermost-behind, rebase}
 
 -- nothing was read
@@ -100,13 +96,28 @@ stops_behind : (ns : Nodes Reading) (stop : Stop) (t : Tree Reading) (ys : List 
     StopsFor stop t ys level → StopsFor stop (behind ns t) ys level
 stops_behind ns stops.Unhandled t ys level w = w
 stops_behind ns stops.OutOfPlace (closed ms) ys level w = cc
-stops_behind ns stops.OutOfPlace (open_section ms h t) ys level w = (w.0, w.1, w.2, w.3, refl, λ u e.
-    let v : (v : Tree Reading) × Adds (open_section ms h t) w.0 v =
-    rebase _ ms h t u w.0 (grows (behind ns (open_section ms h t)) u w.0 e) in w.5 v.0 (lines-add v.1))
-stops_behind ns stops.TooDeep t ys level w = (w.0, w.1, w.2, w.3, (behind ns w.4.0,
+stops_behind ns stops.OutOfPlace (open_section ms h t) ys level w = (
+  w.0,
+  w.1,
+  w.2,
+  w.3,
+  refl,
+  λ u e.
+      let v : (v : Tree Reading) × Adds (open_section ms h t) w.0 v =
+      rebase _ ms h t u w.0 (grows (behind ns (open_section ms h t)) u w.0 e) in w.5 v.0 (lines-add v.1),
+)
+stops_behind ns stops.TooDeep t ys level w = (
+  w.0,
+  w.1,
+  w.2,
+  w.3,
+  (
+    behind ns w.4.0,
     lines-behind ns w.4.0 ∙ ap (λ zs. lines_of_nodes ns ++ zs) w.4.1 ∙ sym (append_assoc (lines_of_nodes ns) (lines t) (w.0 ∷ []))
-    ∙ ap (λ zs. zs ++ w.0 ∷ []) (sym (lines-behind ns t)),
-    rw (depth-behind ns w.4.0) w.4.2))
+        ∙ ap (λ zs. zs ++ w.0 ∷ []) (sym (lines-behind ns t)),
+    rw (depth-behind ns w.4.0) w.4.2,
+  ),
+)
 stops_behind ns (stops.Unclosed opener) t ys level w = (w.0, (w.1.0, innermost-behind ns t ∙ w.1.1, w.1.2))
 stops_behind ns stops.OutOfMemory t ys level w = w
 

@@ -1,27 +1,26 @@
 -- Sections: how a walk reads a section, group for group.
-use Rattle.std.proofs.Common.{◌≡◌, ℕ, suc, ◌+◌, ◌<◌, ◌≤◌, List, [], ◌∷◌, ◌++◌, length, map, max, Bool, true, false, ◌&&◌, Some, None, slice_get, refl, sym, ◌∙◌, ap, subst, append_assoc, append-nil, arith}
+use Rattle.std.proofs.Common.{◌≡◌, ℕ, suc, ◌+◌, ◌≤◌, List, [], ◌∷◌, ◌++◌, length, max, Bool, true, false, ◌&&◌, Some, slice_get, refl, sym, ◌∙◌, ap, subst, append_assoc, arith}
 use Rattle.ud_model.specs.Scans.{Reading}
-use Rattle.ud_model.specs.Tree.{Item, Nodes, Groups, Elifs, Head, Tree, Opener, nothing, text, section, text_line, if_line, elif_line, else_line, endif_line, first, elif, conditional, otherwise, closed, open_section, if_head, elif_head, else_head, lines, lines_of_nodes, lines_of_groups, lines_of_elifs, lines_of_head, depth, innermost, opener_of_head, opener_of_elifs}
+use Rattle.ud_model.specs.Tree.{Item, Nodes, Groups, Elifs, Head, Tree, Opener, nothing, if_line, elif_line, else_line, endif_line, first, elif, closed, open_section, if_head, elif_head, else_head, lines, lines_of_nodes, lines_of_groups, lines_of_elifs, lines_of_head, opener_of_head, opener_of_elifs}
 use Rattle.ud_model.specs.Pruning.{Mark, marked, Part, an_if, an_elif, an_else, is_kept, is_inside_kept, endif_verdict, conds_of_groups, conds_of_elifs, conds_of_head}
-use Rattle.ud_model.specs.SoFar.{verdict_so_far, nodes_so_far, groups_so_far, elifs_so_far, head_so_far, marks_so_far}
-use Rattle.ud_model.specs.Height.{height, height_of_nodes, height_of_groups, height_of_elifs, height_of_head}
+use Rattle.ud_model.specs.SoFar.{verdict_so_far, nodes_so_far, groups_so_far, elifs_so_far, head_so_far}
+use Rattle.ud_model.specs.Height.{height_of_nodes, height_of_groups, height_of_elifs, height_of_head}
 use Rattle.ud_model.specs.Items.{line_of}
 use Rattle.ud_model.specs.declared.cond.Cond.{Cond}
 use Rattle.ud_model.specs.declared.cond.Cond.TheVariants.{Yes}
 use Rattle.ud_model.specs.declared.verdict.Verdict.{Verdict}
 use Rattle.ud_model.proofs.Growth.{Adds, adds_under, lines-add, complete, lines-complete, conds-complete}
 use Rattle.ud_model.proofs.Unique.{grows}
-use Rattle.unifdef.specs.declared.shape.Shape.{Shape}
-use Rattle.unifdef.specs.declared.shape.Shape.TheVariants.{Text, If, Elif, Else, Endif, Unhandled}
+use Rattle.unifdef.specs.declared.shape.Shape.TheVariants.{If, Elif, Else, Endif}
 use Rattle.unifdef.specs.declared.groups.Groups as kept_groups
 use Rattle.unifdef.specs.declared.walk.Walk.{Walk}
 use Rattle.unifdef.specs.declared.walk.Stop.{Stop}
 use Rattle.unifdef.specs.declared.walk.Stop.TheVariants as stops
 use Rattle.unifdef.specs.Groups.{groups_of}
-use Rattle.unifdef.specs.Shapes.{AreShapes, AllHandled, shape_by, is_unhandled_item}
-use Rattle.unifdef.specs.Walking.{Left, verdict_of, Moved, ReadsLine, ReadsNodes, ReadsSection, ReadsGroup, InSection, StopsFor, Stuck, StopsWell, StuckInGroup, GroupStops, is_open, is_else}
-use Rattle.unifdef.proofs.ShapesLemmas.{text_shape, if_shape, elif_shape, else_shape, endif_shape}
-use Rattle.unifdef.proofs.Moves.{moved_none, moved_line, moved_then, moved_as}
+use Rattle.unifdef.specs.Shapes.{shape_by, is_unhandled_item}
+use Rattle.unifdef.specs.Walking.{ReadsLine, ReadsSection, ReadsGroup, InSection, StopsFor, Stuck, is_else}
+use Rattle.unifdef.proofs.ShapesLemmas.{if_shape, elif_shape, else_shape, endif_shape}
+use Rattle.unifdef.proofs.Moves.{moved_line, moved_then, moved_as}
 
 -- the groups of a section without an `#else`, where its last group has these nodes
 abbrev pub elifs_with : Head Reading → Nodes Reading → Elifs Reading
@@ -99,9 +98,9 @@ pub marks_group : (kept : Bool) (h : Head Reading) (b : Nodes Reading) (part : P
 marks_group kept h b part c k inside e q =
     ap (λ cs. marks_with kept h b ++ marked kept (verdict_so_far cs part c) ∷ inside (kept && is_kept cs c)) (conds_with h b e)
     ∙ ap (λ j. marks_with kept h b ++ marked kept (verdict_so_far (conds_of_elifs (elifs_with h b)) part j)
-      ∷ inside (kept && is_kept (conds_of_elifs (elifs_with h b)) j)) (sym q)
+    ∷ inside (kept && is_kept (conds_of_elifs (elifs_with h b)) j)) (sym q)
     ∙ grow (marks_with kept h b) (elifs_so_far kept (elifs_with h b)) (marked kept (verdict_so_far (conds_of_elifs (elifs_with h b)) part k))
-      (inside (kept && is_kept (conds_of_elifs (elifs_with h b)) k)) (marks_elifs kept h b e)
+    (inside (kept && is_kept (conds_of_elifs (elifs_with h b)) k)) (marks_elifs kept h b e)
 
 pub lines_group : (h : Head Reading) (b : Nodes Reading) (x y : Item Reading) (more : List (Item Reading)) → false ≡ is_else h → x ≡ y →
     (lines_of_head h ++ lines_of_nodes b) ++ x ∷ more ≡ (lines_of_elifs (elifs_with h b) ++ y ∷ []) ++ more
@@ -167,8 +166,8 @@ section_closed a b d xs kept level g e opener v s i q l =
           (ap (λ ms. ms ++ marked kept (endif_verdict (conds_of_groups gs)) ∷ []) (marks_complete kept i.head i.nodes))
           (ap (λ ys. ys ++ l.item ∷ []) (lines-complete i.head i.nodes) ∙ ap (λ y. lines_of_groups gs ++ y ∷ []) x.1)
           (moved_then a b d _ _ xs _ i.after _ l.after i.moved
-            (moved_line b d i.after v (marked kept (endif_verdict (conds_of_groups gs)))
-              (ap (λ cs. (marked kept (endif_verdict cs)).verdict) (conds-complete i.head i.nodes) ∙ sym q) l));
+          (moved_line b d i.after v (marked kept (endif_verdict (conds_of_groups gs)))
+          (ap (λ cs. (marked kept (endif_verdict cs)).verdict) (conds-complete i.head i.nodes) ∙ sym q) l));
       low = let m = i.low in let n = height_complete i.head i.nodes in omega (arith, m, n);
     }
 
@@ -237,9 +236,17 @@ stops_under h stops.Unhandled t ys level w = w
 stops_under h stops.OutOfPlace (closed ms) ys level w = cc
 stops_under h stops.OutOfPlace (open_section ms k t) ys level w =
     (w.0, w.1, w.2, w.3, refl, λ u e. under_open h ms k t w.0 u w.5 (grows (open_section nothing h (open_section ms k t)) u w.0 e))
-stops_under h stops.TooDeep t ys level w = (w.0, w.1, w.2, w.3, (open_section nothing h w.4.0,
+stops_under h stops.TooDeep t ys level w = (
+  w.0,
+  w.1,
+  w.2,
+  w.3,
+  (
+    open_section nothing h w.4.0,
     ap (λ zs. lines_of_head h ++ zs) w.4.1 ∙ sym (append_assoc (lines_of_head h) (lines t) (w.0 ∷ [])),
-    let d = w.4.2 in omega (arith, d)))
+    let d = w.4.2 in omega (arith, d),
+  ),
+)
 stops_under h (stops.Unclosed opener) (closed ms) ys level w = let none = w.1.1 in cc
 stops_under h (stops.Unclosed opener) (open_section ms k t) ys level w = w
 stops_under h stops.OutOfMemory t ys level w = w

@@ -1,5 +1,5 @@
 -- What the shapes of lines tell of the items.
-use Rattle.std.proofs.Common.{◌≡◌, ℕ, suc, ◌+◌, List, [], ◌∷◌, ◌++◌, length, Bool, true, false, if◌then◌else◌, refl, sym, ◌∙◌, ap, subst, arith, length-append, add-one, slice_get, Some, None}
+use Rattle.std.proofs.Common.{◌≡◌, ℕ, suc, List, [], ◌∷◌, ◌++◌, length, Bool, true, false, if◌then◌else◌, refl, sym, ◌∙◌, ap, subst, length-append, add-one, slice_get, Some, None}
 use Rattle.ud_model.specs.Scans.{Reading}
 use Rattle.ud_model.specs.Tree.{Item, Opener, text_line, if_line, elif_line, else_line, endif_line}
 use Rattle.ud_model.specs.Items.{line_of}

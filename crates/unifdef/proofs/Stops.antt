@@ -1,21 +1,19 @@
 -- Stops: how a walk stops in a section, and in the nodes around it.
-use Rattle.std.proofs.Common.{◌≡◌, ℕ, suc, ◌+◌, ◌<◌, ◌≤◌, List, [], ◌∷◌, ◌++◌, length, max, Bool, true, false, ◌&&◌, Some, None, slice_get, refl, sym, ◌∙◌, ap, subst, append_assoc, arith}
+use Rattle.std.proofs.Common.{◌≡◌, ℕ, ◌+◌, List, [], ◌∷◌, length, Bool, true, false, ◌&&◌, Some, None, slice_get, refl, sym, ◌∙◌, ap, arith}
 use Rattle.ud_model.specs.Scans.{Reading}
-use Rattle.ud_model.specs.Tree.{Item, Nodes, Head, Tree, Opener, nothing, if_line, elif_line, else_line, closed, open_section, if_head, elif_head, else_head, lines, lines_of_nodes, depth}
-use Rattle.ud_model.specs.Pruning.{Mark, marked, Part, an_if, an_elif, an_else, is_kept, conds_of_head}
+use Rattle.ud_model.specs.Tree.{Item, Opener, nothing, if_line, elif_line, else_line, closed, open_section, if_head, elif_head, else_head, lines}
+use Rattle.ud_model.specs.Pruning.{marked, Part, an_if, an_elif, an_else, is_kept, conds_of_head}
 use Rattle.ud_model.specs.SoFar.{verdict_so_far, marks_so_far}
-use Rattle.ud_model.specs.Height.{height}
 use Rattle.ud_model.specs.declared.cond.Cond.{Cond}
 use Rattle.ud_model.specs.declared.cond.Cond.TheVariants.{Yes}
 use Rattle.ud_model.specs.declared.verdict.Verdict.{Verdict}
-use Rattle.unifdef.specs.declared.shape.Shape.{Shape}
-use Rattle.unifdef.specs.declared.shape.Shape.TheVariants.{If, Elif, Else, Endif, Unhandled}
+use Rattle.unifdef.specs.declared.shape.Shape.TheVariants.{If, Elif, Else, Unhandled}
 use Rattle.unifdef.specs.declared.groups.Groups as kept_groups
 use Rattle.unifdef.specs.declared.walk.Walk.{Walk}
 use Rattle.unifdef.specs.declared.walk.Stop.{Stop}
 use Rattle.unifdef.specs.declared.walk.Stop.TheVariants as stops
-use Rattle.unifdef.specs.Shapes.{shape_of, shape_by, is_unhandled_item}
-use Rattle.unifdef.specs.Walking.{Left, Moved, ReadsLine, ReadsNodes, InSection, Stuck, StopsWell, StuckInGroup, GroupStops, is_else}
+use Rattle.unifdef.specs.Shapes.{shape_of}
+use Rattle.unifdef.specs.Walking.{Left, ReadsLine, ReadsNodes, InSection, Stuck, StopsWell, StuckInGroup, GroupStops, is_else}
 use Rattle.unifdef.proofs.ShapesLemmas.{if_shape, elif_shape, else_shape, first_at, none_at, item_handled, item_unhandled, shape_own}
 use Rattle.unifdef.proofs.Moves.{moved_none, moved_line, moved_then, moved_as}
 use Rattle.unifdef.proofs.Sections.{elifs_with, marks_group, lines_group, height_with, stops_under, section_unclosed, misplaced_elif, misplaced_else}
@@ -133,8 +131,13 @@ too_deep w xs kept level c full s left =
       after = xs;
       moved = moved_none w xs left;
       low = omega arith;
-      why = (f.0, f.1, f.2, item_handled f.0 (If c) f.3 refl,
-        (open_section nothing (if_head x.0) (closed nothing), ap (λ y. y ∷ []) (sym x.1), omega arith));
+      why = (
+        f.0,
+        f.1,
+        f.2,
+        item_handled f.0 (If c) f.3 refl,
+        (open_section nothing (if_head x.0) (closed nothing), ap (λ y. y ∷ []) (sym x.1), omega arith),
+      );
     }
 
 -- at a directive that isn't handled

@@ -1,8 +1,7 @@
 -- WholeWalk: a walk over a whole text.
-use Rattle.std.proofs.Common.{◌≡◌, ℕ, suc, ◌+◌, ◌≤◌, List, [], ◌∷◌, ◌++◌, length, map, Bool, true, false, Some, None, is_some, slice_get, Option, refl, sym, ◌∙◌, ap, subst, append-nil, arith}
+use Rattle.std.proofs.Common.{◌≡◌, List, [], ◌∷◌, ◌++◌, length, map, true, false, Some, None, is_some, slice_get, Option, refl, ◌∙◌, ap, subst, arith}
 use Rattle.ud_model.specs.Scans.{Reading}
-use Rattle.ud_model.specs.Tree.{Item, Nodes, Tree, Opener, closed, open_section, text_line, if_line, elif_line, else_line, endif_line, lines}
-use Rattle.ud_model.specs.declared.cond.Cond.{Cond}
+use Rattle.ud_model.specs.Tree.{Item, Nodes, Tree, closed, text_line, if_line, elif_line, else_line, endif_line}
 use Rattle.ud_model.proofs.Growth.{Adds}
 use Rattle.ud_model.proofs.Unique.{grows}
 use Rattle.unifdef.specs.declared.shape.Shape.{Shape}
@@ -10,10 +9,10 @@ use Rattle.unifdef.specs.declared.shape.Shape.TheVariants.{Text, If, Elif, Else,
 use Rattle.unifdef.specs.declared.walk.Walk.{Walk}
 use Rattle.unifdef.specs.declared.walk.Stop.{Stop}
 use Rattle.unifdef.specs.declared.walk.Stop.TheVariants as stops
-use Rattle.unifdef.specs.Shapes.{AreShapes, shape_of, shape_by, is_unhandled_item, starts_with_closer}
-use Rattle.unifdef.specs.Walking.{Left, ReadsNodes, HaltsWell, Halts, StopsWell, Stuck, StopsFor, HaltsFor, Walked, verdict_of}
+use Rattle.unifdef.specs.Shapes.{shape_of, shape_by, is_unhandled_item, starts_with_closer}
+use Rattle.unifdef.specs.Walking.{ReadsNodes, HaltsWell, Halts, StopsWell, Stuck, StopsFor, HaltsFor, verdict_of}
 use Rattle.ud_model.specs.SoFar.{nodes_so_far, marks_so_far}
-use Rattle.unifdef.proofs.ShapesLemmas.{first_at, item_handled, shape_own, elif_shape, else_shape, endif_shape}
+use Rattle.unifdef.proofs.ShapesLemmas.{first_at, item_handled, shape_own}
 
 halts_for : (stop : Stop) (t : Tree Reading) (ys : List (Item Reading)) → StopsFor stop t ys 0 → HaltsFor stop t ys
 halts_for stops.Unhandled t ys w = w

@@ -4,19 +4,16 @@
 --   GivesAnswer words input ..                 they are the answer that the definitions give to the words and the input
 --   HeldInput o input held end                 what is held is the input, as far as it goes before a limit is broken
 --   Told outcome r                             the code's outcome is that of a run of the definitions
-use Rattle.std.specs.Prelude.{◌≡◌, ◌≢◌, ℕ, suc, ◌<◌, ◌≤◌, List, [], ◌∷◌, ◌++◌, length, map, Bool, true, false, Option, Some, None, ◌⊎◌}
-use Rattle.std.specs.List.{AllByRecursion, list_any}
+use Rattle.std.specs.Prelude.{◌≡◌, ◌≢◌, ℕ, List, [], ◌++◌, Bool, true, Option, Some, None}
+use Rattle.std.specs.List.{AllByRecursion}
 use Rattle.std.specs.Io.KnownBytes.{Appends}
 use Rattle.ud_model.specs.Lines.{Line, lines_of, numbered_from}
 use Rattle.ud_model.specs.Items.{Options}
 use Rattle.ud_model.specs.Faults as model
-use Rattle.ud_model.specs.Messages.{message_of, read_error, write_error}
 use Rattle.ud_model.specs.Runs as runs
 use Rattle.ud_model.specs.Answer.{Answer, IsAnswer, run_answer}
 use Rattle.ud_model.specs.declared.settings.ExitMode.TheVariants.{Zero}
-use Rattle.ud_model.specs.declared.limits.TheConstants.{TEXT_LINES}
 use Rattle.unifdef.specs.Watching.{Says}
-use Rattle.unifdef.specs.Told.{fault_told}
 use Rattle.unifdef.specs.Outcomes.{Rest, IsWithin}
 use Rattle.unifdef.specs.Held.{Holds}
 use Rattle.unifdef.specs.Intake.{text_fault_told}

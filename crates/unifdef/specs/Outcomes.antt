@@ -4,8 +4,8 @@
 --   pieces ls vs          what is printed of these lines with these verdicts
 --   line_fault stop ..    the fault of the line at which a walk stops
 --   Rest ls more f        behind the lines ls the input has ended, or its next line breaks a limit, which is the fault f
-use Rattle.std.specs.Prelude.{◌≡◌, ℕ, suc, ◌<◌, ◌≤◌, List, [], ◌∷◌, ◌++◌, length, map, Bool, true, false, Option, Some, None}
-use Rattle.ud_model.specs.Lines.{Line, text_of, lines_of}
+use Rattle.std.specs.Prelude.{ℕ, suc, ◌<◌, ◌≤◌, List, [], ◌∷◌, ◌++◌, length, Bool, true, false, Option, Some, None}
+use Rattle.ud_model.specs.Lines.{Line, text_of}
 use Rattle.ud_model.specs.Scans.{Reading, plain_scan}
 use Rattle.ud_model.specs.Directives.{content_of}
 use Rattle.ud_model.specs.Tree.{Item}

@@ -1,5 +1,5 @@
 -- What a walk over the lines of a text has read.
-use Rattle.std.specs.Prelude.{◌≡◌, ℕ, suc, ◌+◌, ◌<◌, ◌≤◌, List, [], ◌∷◌, ◌++◌, length, map, max, Bool, true, false, ◌&&◌, Option, Some, slice_get}
+use Rattle.std.specs.Prelude.{◌≡◌, ℕ, suc, ◌+◌, ◌<◌, ◌≤◌, List, [], ◌∷◌, ◌++◌, length, map, max, Bool, true, false, ◌&&◌, Some, slice_get}
 use Rattle.ud_model.specs.Scans.{Reading}
 use Rattle.ud_model.specs.Tree.{Item, Nodes, Groups, Head, Tree, Opener, closed, open_section, lines, lines_of_nodes, lines_of_groups, lines_of_head, depth, innermost, opener_of_head, endif_line, if_head, elif_head, else_head}
 use Rattle.ud_model.specs.Pruning.{Part, Mark, marked, is_kept, is_inside_kept, endif_verdict, conds_of_groups, conds_of_head}

@@ -4,9 +4,8 @@
 #![tactic(auto)]
 
 use std::alloc::AllocError;
-use std::env;
-use std::io;
 use std::process::ExitCode;
+use std::{env, io};
 use unifdef::{Watched, tool};
 
 fn main(rt: HostRuntime) -> ExitCode {

@@ -1,13 +1,9 @@
-use Rattle.std.proofs.Common.{◌≡◌, ◌∙◌, ◌≤◌, sym, ap, refl, arith, [], ◌∷◌, true, false, ◌+◌, ◌&&◌, length, Some}
+use Rattle.std.proofs.Common.{◌∙◌, sym, ap, refl, arith, [], Some}
 use Rattle.std.proofs.lemmas.Result.{err_from_is_err_and, IfErr-weaker, on_ok_weaker}
-use Rattle.ud_model.specs.Pruning.{marked, conds_of_head, endif_verdict, an_if, an_elif, an_else}
-use Rattle.ud_model.specs.Scans.{Reading}
-use Rattle.ud_model.specs.declared.cond.Cond.TheVariants.{Yes}
-use Rattle.unifdef.specs.Groups.{groups_of}
+use Rattle.ud_model.specs.Pruning.{marked, conds_of_head}
 use Rattle.unifdef.specs.Parts.{part_of}
-use Rattle.unifdef.specs.Walking.{ReadsNodes, ReadsLine, ReadsGroup, InSection, StopsWell, GroupStops}
-use Rattle.unifdef.specs.declared.walk.Stop.TheVariants as stops
-use Rattle.unifdef.proofs.Moves.{nodes_none, nodes_text, nodes_section, stops_well_behind, group_read}
+use Rattle.unifdef.specs.Walking.{ReadsNodes, ReadsLine, InSection, StopsWell, GroupStops}
+use Rattle.unifdef.proofs.Moves.{nodes_none, nodes_text, nodes_section, stops_well_behind}
 use Rattle.unifdef.proofs.Sections.{section_first, section_elif, section_else, section_closed}
 use Rattle.unifdef.proofs.Stops.{group_stops, first_stops, elif_stops, else_stops, too_deep, unhandled_next, unclosed, second_elif, second_else}
 use Rattle.unifdef.proofs.walk.+walk.Goals as goal
@@ -18,8 +14,8 @@ group-returns-clause-err t c = λ xs left before e.
     IfErr-weaker c.nodes.result (StopsWell c.read.new.self c.nodes.new.walk l.after c.keeps_in-inside.result c.args.level)
     (GroupStops c.args.walk.now c.nodes.new.walk xs c.args.kept c.args.level before (part_of c.args.part) c.args.cond)
     (λ stop w. group_stops c.args.walk.now c.read.new.self c.nodes.new.walk xs c.args.kept c.keeps_in-inside.result c.args.level before
-      (part_of c.args.part) c.args.cond c.marked.result stop
-      (c.marked.ensures ∙ ap (λ v. (marked c.args.kept v).verdict) (c.opener_verdict.ensures.value before e)) (c.keeps_in-inside.ensures.value before e) l w)
+    (part_of c.args.part) c.args.cond c.marked.result stop
+    (c.marked.ensures ∙ ap (λ v. (marked c.args.kept v).verdict) (c.opener_verdict.ensures.value before e)) (c.keeps_in-inside.ensures.value before e) l w)
     (c.nodes.ensures.err l.after l.left)
 
 pub nodes-loop-shape-init : goal.nodes-loop-shape-init
@@ -85,7 +81,7 @@ section-loop-walk-init t c = record {
 }
 
 pub section-returns-in-None-clause-err : goal.section-returns-in-None-clause-err
-section-returns-in-None-clause-err t c = λ xs left. 
+section-returns-in-None-clause-err t c = λ xs left.
     unclosed c.args.walk.now c.loop-walk.walk xs c.args.kept c.args.level c.loop-walk.groups c.loop-walk.else_seen c.len-opener.result
     (sym c.in-None.ensures) (c.loop-walk.invariant.reads xs left)
 
@@ -95,8 +91,8 @@ section-returns-in-Some-Endif-clause-ok t c = λ xs left.
     c.loop-walk.invariant.reads xs left in
     on_ok_weaker c.read.result
     (section_closed c.args.walk.now c.loop-walk.walk c.read.new.self xs c.args.kept c.args.level c.loop-walk.groups c.loop-walk.else_seen c.len-opener.result
-      c.marked.result (sym c.in-Some-Endif.ensures ∙ ap Some c.in-Some-Endif.field-0-is) i
-      (c.marked.ensures ∙ ap (λ v. (marked c.args.kept v).verdict) (c.endif_verdict.ensures.value (conds_of_head i.head) i.stands)))
+    c.marked.result (sym c.in-Some-Endif.ensures ∙ ap Some c.in-Some-Endif.field-0-is) i
+    (c.marked.ensures ∙ ap (λ v. (marked c.args.kept v).verdict) (c.endif_verdict.ensures.value (conds_of_head i.head) i.stands)))
     (c.read.ensures.ok i.after i.moved.left)
 
 pub section-returns-in_err-group-in-Some-Elif-clause-err :
@@ -106,8 +102,8 @@ section-returns-in_err-group-in-Some-Elif-clause-err t c = λ xs left.
     c.loop-walk.invariant.reads xs left in
     let p = err_from_is_err_and c.from_residual-in_err-group-in-Some-Elif.result c.from_residual-in_err-group-in-Some-Elif.ensures.1 in
     rw (p.1, p.2) (elif_stops c.args.walk.now c.loop-walk.walk c.group-in-Some-Elif.new.walk xs c.args.kept c.args.level c.in-Some-Elif.cond
-      c.loop-walk.groups c.loop-walk.else_seen c.len-opener.result _ c.if-not-else_seen.true (sym c.in-Some-Elif.ensures ∙ ap Some c.in-Some-Elif.field-0-is) i
-      (c.in_err-group-in-Some-Elif.ensures.err i.after i.moved.left (conds_of_head i.head) i.stands))
+    c.loop-walk.groups c.loop-walk.else_seen c.len-opener.result _ c.if-not-else_seen.true (sym c.in-Some-Elif.ensures ∙ ap Some c.in-Some-Elif.field-0-is) i
+    (c.in_err-group-in-Some-Elif.ensures.err i.after i.moved.left (conds_of_head i.head) i.stands))
 
 pub section-loop-walk-preserved-then-not-else_seen :
     goal.section-loop-walk-preserved-then-not-else_seen
@@ -132,8 +128,8 @@ section-returns-in_err-group-in-Some-Else-clause-err t c = λ xs left.
     c.loop-walk.invariant.reads xs left in
     let p = err_from_is_err_and c.from_residual-in_err-group-in-Some-Else.result c.from_residual-in_err-group-in-Some-Else.ensures.1 in
     rw (p.1, p.2) (else_stops c.args.walk.now c.loop-walk.walk c.group-in-Some-Else.new.walk xs c.args.kept c.args.level
-      c.loop-walk.groups c.loop-walk.else_seen c.len-opener.result _ c.if-not-else_seen-2.true (sym c.in-Some-Else.ensures ∙ ap Some c.in-Some-Else.field-0-is) i
-      (c.in_err-group-in-Some-Else.ensures.err i.after i.moved.left (conds_of_head i.head) i.stands))
+    c.loop-walk.groups c.loop-walk.else_seen c.len-opener.result _ c.if-not-else_seen-2.true (sym c.in-Some-Else.ensures ∙ ap Some c.in-Some-Else.field-0-is) i
+    (c.in_err-group-in-Some-Else.ensures.err i.after i.moved.left (conds_of_head i.head) i.stands))
 
 pub section-loop-walk-preserved : goal.section-loop-walk-preserved
 section-loop-walk-preserved t c = record {

@@ -1,4 +1,4 @@
-use Rattle.std.proofs.Common.{sym, ◌∙◌}
+use Rattle.std.proofs.Common.{sym}
 use Rattle.unifdef.proofs.WholeWalk.{halts_outside}
 use Rattle.unifdef.proofs.ShapesLemmas.{left_at_start}
 use Rattle.unifdef.proofs.walk.walk_text.Goals as goal
