@@ -6,7 +6,7 @@ use Rattle.ud_model.specs.Directives.{content_of}
 use Rattle.ud_model.specs.Tree.{Item, Tree, Opener, closed, open_section, text_line, if_line, elif_line, else_line, endif_line, lines, depth}
 use Rattle.ud_model.specs.Items.{reading_of, line_of}
 use Rattle.ud_model.specs.Faults.{Fault, Case, past_last, too_long, cut, unhandled, out_of_place, too_deep, NoneHolds, FaultOf, is_cut, misplaced, too_many_lines, line_too_long, unsupported, inappropriate_elif, inappropriate_else, inappropriate_endif, too_many_levels}
-use Rattle.ud_model.specs.declared.limits.TheConstants.{LINE_BYTES, TEXT_LINES}
+use Rattle.ud_model.specs.declared.limits.TheConstants.{LINE_BYTES, TEXT_LINES, OPEN_SECTIONS}
 use Rattle.ud_model.proofs.Growth.{Adds, adds_text, adds_if, adds_under, lines-add}
 use Rattle.ud_model.proofs.PlainSound.{plain_reading, plain_not_cut}
 use Rattle.unifdef.specs.declared.shape.Shape.{Shape}
@@ -67,7 +67,7 @@ unhandled_fault xs x l n r w e h = record {
 
 -- a directive that opens a section too many has the fault that says so
 pub too_deep_fault : (xs : List (Item Reading)) (x : Item Reading) (l : Line) (n : ℕ) (u : Tree Reading) → reading_of x ≡ plain_reading l → IsWithin l →
-    (line_of x).number ≡ n → is_unhandled_item x ≡ false → lines u ≡ xs ++ x ∷ [] → 64 < depth u → FaultOf xs x (too_many_levels n)
+    (line_of x).number ≡ n → is_unhandled_item x ≡ false → lines u ≡ xs ++ x ∷ [] → OPEN_SECTIONS < depth u → FaultOf xs x (too_many_levels n)
 too_deep_fault xs x l n u r w e h t d = record {
   which = too_deep;
   holds = (u, t, d);

@@ -2,6 +2,7 @@
 use Rattle.std.proofs.Common.{◌≡◌, ℕ, ◌≤◌, List, [], ◌∷◌, ◌++◌, map, Bool, ◌&&◌, Some, slice_get, refl, sym, ◌∙◌, ap, subst, append_assoc, append-nil, arith}
 use Rattle.std.proofs.lemmas.List.{map-append}
 use Rattle.ud_model.specs.Scans.{Reading}
+use Rattle.ud_model.specs.declared.limits.TheConstants.{OPEN_SECTIONS}
 use Rattle.ud_model.specs.Tree.{Item, Nodes, Tree, nothing, text, section, text_line, closed, open_section, lines, lines_of_nodes, lines_of_groups}
 use Rattle.ud_model.specs.Pruning.{Mark, marked, Part, is_kept}
 use Rattle.ud_model.specs.SoFar.{verdict_so_far, nodes_so_far, groups_so_far}
@@ -48,7 +49,7 @@ pub moved_as : (a c : Walk) (ms ns : List Mark) (xs read more ys : List (Item Re
 moved_as a c ms ns xs read more ys e f m = subst (λ (r : List (Item Reading)). Moved a c ns xs r ys) f (subst (λ (k : List Mark). Moved a c k xs read ys) e m)
 
 -- before the first node
-pub nodes_none : (w : Walk) (xs : List (Item Reading)) (kept : Bool) (level : ℕ) → level ≤ 64 → Left w xs → ReadsNodes w w xs kept level
+pub nodes_none : (w : Walk) (xs : List (Item Reading)) (kept : Bool) (level : ℕ) → level ≤ OPEN_SECTIONS → Left w xs → ReadsNodes w w xs kept level
 nodes_none w xs kept level low left = record { nodes = nothing; after = xs; moved = moved_none w xs left; low = omega arith }
 
 -- a text line more

@@ -3,6 +3,7 @@ use Rattle.std.proofs.Common.{◌≡◌, ◌≢◌, ℕ, suc, ◌≤◌, List, [
 use Rattle.std.specs.List.{AllByRecursion, list_any}
 use Rattle.std.proofs.lemmas.List.{length-map}
 use Rattle.ud_model.specs.Lines.{Line, texts_of, whole_lines, lines_of, numbered_from}
+use Rattle.ud_model.specs.declared.limits.TheConstants.{OPEN_SECTIONS}
 use Rattle.ud_model.specs.Scans.{Reading}
 use Rattle.ud_model.specs.Tree.{Item, Tree, Opener, closed, lines, innermost}
 use Rattle.ud_model.specs.Height.{height}
@@ -86,7 +87,7 @@ record Front (o : Options) (ls front : List Line) (t : Tree Reading) (vs : List 
   differs : some_differ (map (plain_item o) front) (marks t) ≡ list_any is_changed vs
 
 front_read : (o : Options) (front back : List Line) (t : Tree Reading) → o.settings.plain ≡ true → AllByRecursion IsFilled (front ++ back) →
-    AllByRecursion IsWithin (front ++ back) → lines t ≡ map (plain_item o) front → AllHandled (lines t) → height t ≤ 64 →
+    AllByRecursion IsWithin (front ++ back) → lines t ≡ map (plain_item o) front → AllHandled (lines t) → height t ≤ OPEN_SECTIONS →
     Front o (front ++ back) front t (map verdict_of (marks t))
 front_read o front back t p filled within e handled low =
     let h : AllHandled (map (plain_item o) front) = subst (λ (xs : List (Item Reading)). AllHandled xs) e handled in

@@ -1,6 +1,7 @@
 -- Stops: how a walk stops in a section, and in the nodes around it.
 use Rattle.std.proofs.Common.{◌≡◌, ℕ, ◌+◌, List, [], ◌∷◌, length, Bool, true, false, ◌&&◌, Some, None, slice_get, refl, sym, ◌∙◌, ap, arith}
 use Rattle.ud_model.specs.Scans.{Reading}
+use Rattle.ud_model.specs.declared.limits.TheConstants.{OPEN_SECTIONS}
 use Rattle.ud_model.specs.Tree.{Item, Opener, nothing, if_line, elif_line, else_line, closed, open_section, if_head, elif_head, else_head, lines}
 use Rattle.ud_model.specs.Pruning.{marked, Part, an_if, an_elif, an_else, is_kept, conds_of_head}
 use Rattle.ud_model.specs.SoFar.{verdict_so_far, marks_so_far}
@@ -121,7 +122,7 @@ else_stops a b d xs kept level g seen opener (stops.Unclosed o) h s i r = stuck_
 else_stops a b d xs kept level g seen opener stops.OutOfMemory h s i r = tt
 
 -- at a section too many
-pub too_deep : (w : Walk) (xs : List (Item Reading)) (kept : Bool) (level : ℕ) (c : Cond) → level ≡ 64 → slice_get w.rest.now 0 ≡ Some (If c) →
+pub too_deep : (w : Walk) (xs : List (Item Reading)) (kept : Bool) (level : ℕ) (c : Cond) → level ≡ OPEN_SECTIONS → slice_get w.rest.now 0 ≡ Some (If c) →
     Left w xs → Stuck w w xs kept level stops.TooDeep
 too_deep w xs kept level c full s left =
     let f : (x : Item Reading) × (after : List (Item Reading)) × (xs ≡ x ∷ after) × (shape_of x ≡ If c) = first_at (length w.verdicts.items) w.rest.now xs (If c) s left in

@@ -1,6 +1,7 @@
 -- What a walk over the lines of a text has read.
 use Rattle.std.specs.Prelude.{◌≡◌, ℕ, suc, ◌+◌, ◌<◌, ◌≤◌, List, [], ◌∷◌, ◌++◌, length, map, max, Bool, true, false, ◌&&◌, Some, slice_get}
 use Rattle.ud_model.specs.Scans.{Reading}
+use Rattle.ud_model.specs.declared.limits.TheConstants.{OPEN_SECTIONS}
 use Rattle.ud_model.specs.Tree.{Item, Nodes, Groups, Head, Tree, Opener, closed, open_section, lines, lines_of_nodes, lines_of_groups, lines_of_head, depth, innermost, opener_of_head, endif_line, if_head, elif_head, else_head}
 use Rattle.ud_model.specs.Pruning.{Part, Mark, marked, is_kept, is_inside_kept, endif_verdict, conds_of_groups, conds_of_head}
 use Rattle.ud_model.specs.SoFar.{verdict_so_far, nodes_so_far, groups_so_far, head_so_far, marks_so_far}
@@ -46,7 +47,7 @@ pub record ReadsNodes (old new : Walk) (xs : List (Item Reading)) (kept : Bool) 
   pub nodes : Nodes Reading
   pub after : List (Item Reading)
   pub moved : Moved old new (nodes_so_far kept nodes) xs (lines_of_nodes nodes) after
-  pub low : level + height_of_nodes nodes ≤ 64
+  pub low : level + height_of_nodes nodes ≤ OPEN_SECTIONS
 
 -- a whole section was read
 pub record ReadsSection (old new : Walk) (xs : List (Item Reading)) (kept : Bool) (level : ℕ) : Type 0 where
@@ -55,7 +56,7 @@ pub record ReadsSection (old new : Walk) (xs : List (Item Reading)) (kept : Bool
   pub after : List (Item Reading)
   pub moved : Moved old new (groups_so_far kept groups ++ marked kept (endif_verdict (conds_of_groups groups)) ∷ []) xs
       (lines_of_groups groups ++ endif_line endif ∷ []) after
-  pub low : level + suc (height_of_groups groups) ≤ 64
+  pub low : level + suc (height_of_groups groups) ≤ OPEN_SECTIONS
 
 -- an opener was read, and the nodes of its group; `before` are the conditions of the groups before
 pub record ReadsGroup (old new : Walk) (xs : List (Item Reading)) (kept : Bool) (level : ℕ) (before : List Cond) (part : Part) (c : Cond) : Type 0 where
@@ -64,7 +65,7 @@ pub record ReadsGroup (old new : Walk) (xs : List (Item Reading)) (kept : Bool) 
   pub after : List (Item Reading)
   pub moved : Moved old new (marked kept (verdict_so_far before part c) ∷ nodes_so_far (kept && is_kept before c) nodes) xs
       (opener ∷ lines_of_nodes nodes) after
-  pub low : level + height_of_nodes nodes ≤ 64
+  pub low : level + height_of_nodes nodes ≤ OPEN_SECTIONS
   pub shape : (s : Shape) → slice_get old.rest.now 0 ≡ Some s → shape_by opener ≡ s
   pub number : (line_of opener).number ≡ suc (length old.verdicts.items)
 
@@ -80,7 +81,7 @@ pub record InSection (old new : Walk) (xs : List (Item Reading)) (kept : Bool) (
   pub after : List (Item Reading)
   pub moved : Moved old new (head_so_far kept head ++ nodes_so_far (kept && is_inside_kept head) nodes) xs
       (lines_of_head head ++ lines_of_nodes nodes) after
-  pub low : level + suc (max (height_of_head head) (height_of_nodes nodes)) ≤ 64
+  pub low : level + suc (max (height_of_head head) (height_of_nodes nodes)) ≤ OPEN_SECTIONS
   pub stands : groups ≡ groups_of (conds_of_head head)
   pub ends : else_seen ≡ is_else head
   pub begins : (opener_of_head head).line.line.number ≡ suc opener
@@ -97,7 +98,7 @@ StopsFor OutOfPlace t ys level =
     × (is_open t ≡ true) × ((u : Tree Reading) → lines u ≡ lines t ++ x ∷ [] → ⊥)
 StopsFor TooDeep t ys level =
     (x : Item Reading) × (after : List (Item Reading)) × (ys ≡ x ∷ after) × (is_unhandled_item x ≡ false)
-    × ((u : Tree Reading) × (lines u ≡ lines t ++ x ∷ []) × (64 < level + depth u))
+    × ((u : Tree Reading) × (lines u ≡ lines t ++ x ∷ []) × (OPEN_SECTIONS < level + depth u))
 StopsFor (Unclosed opener) t ys level = (ys ≡ []) × ((o : Opener Reading) × (innermost t ≡ Some o) × (o.line.line.number ≡ suc opener))
 StopsFor OutOfMemory t ys level = Unit {0}
 
@@ -106,7 +107,7 @@ pub record Stuck (old new : Walk) (xs : List (Item Reading)) (kept : Bool) (leve
   pub tree : Tree Reading
   pub after : List (Item Reading)
   pub moved : Moved old new (marks_so_far kept tree) xs (lines tree) after
-  pub low : level + height tree ≤ 64
+  pub low : level + height tree ≤ OPEN_SECTIONS
   pub why : StopsFor stop tree after level
 
 -- where memory is refused nothing is said
@@ -124,7 +125,7 @@ pub record StuckInGroup (old new : Walk) (xs : List (Item Reading)) (kept : Bool
   pub after : List (Item Reading)
   pub moved : Moved old new (marked kept (verdict_so_far before part c) ∷ marks_so_far (kept && is_kept before c) tree) xs
       (opener ∷ lines tree) after
-  pub low : level + height tree ≤ 64
+  pub low : level + height tree ≤ OPEN_SECTIONS
   pub why : StopsFor stop tree after level
   pub shape : (s : Shape) → slice_get old.rest.now 0 ≡ Some s → shape_by opener ≡ s
   pub number : (line_of opener).number ≡ suc (length old.verdicts.items)
@@ -152,7 +153,7 @@ HaltsFor OutOfPlace t ys =
     × ((u : Tree Reading) → lines u ≡ lines t ++ x ∷ [] → ⊥)
 HaltsFor TooDeep t ys =
     (x : Item Reading) × (after : List (Item Reading)) × (ys ≡ x ∷ after) × (is_unhandled_item x ≡ false)
-    × ((u : Tree Reading) × (lines u ≡ lines t ++ x ∷ []) × (64 < depth u))
+    × ((u : Tree Reading) × (lines u ≡ lines t ++ x ∷ []) × (OPEN_SECTIONS < depth u))
 HaltsFor (Unclosed opener) t ys = (ys ≡ []) × ((o : Opener Reading) × (innermost t ≡ Some o) × (o.line.line.number ≡ suc opener))
 HaltsFor OutOfMemory t ys = Unit {0}
 
@@ -162,7 +163,7 @@ pub record Walked (w : Walk) (xs : List (Item Reading)) (t : Tree Reading) (ys :
   pub left : Left w ys
   pub verdicts : w.verdicts.items ≡ map verdict_of (marks_so_far true t)
   pub handled : AllHandled (lines t)
-  pub low : height t ≤ 64
+  pub low : height t ≤ OPEN_SECTIONS
 
 -- the whole text was read, and no section is open at its end
 pub record WalksThrough (w : Walk) (xs : List (Item Reading)) : Type 0 where

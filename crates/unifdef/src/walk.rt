@@ -82,7 +82,7 @@ fn marked(kept: bool, verdict: Verdict) -> Verdict
 /// `kept` tells that the place is a kept one, `level` how many sections are open around it.
 #[cycle(walk)]
 fn nodes(walk: &mut Walk<'_>, kept: bool, level: usize) -> Result<(), Stop>
-    requires { level ≤ 64 }
+    requires { level ≤ OPEN_SECTIONS }
     ensures ok { (xs : List (Item Reading)) → Left walk.old xs → OnOk result (ReadsNodes walk.old walk.new xs kept level) }
     ensures err { (xs : List (Item Reading)) → Left walk.old xs → IfErr result (StopsWell walk.old walk.new xs kept level) }
     ensures closer { OnOk result (starts_with_closer walk.new.rest.now ≡ true) }
@@ -104,7 +104,7 @@ fn nodes(walk: &mut Walk<'_>, kept: bool, level: usize) -> Result<(), Stop>
 /// Reads a section, whose first directive comes next and has this condition.
 #[cycle(walk)]
 fn section(walk: &mut Walk<'_>, kept: bool, level: usize, cond: Cond) -> Result<(), Stop>
-    requires low { level ≤ 64 }
+    requires low { level ≤ OPEN_SECTIONS }
     requires first { slice_get walk.old.rest.now 0 ≡ Some (Shape.If cond) }
     ensures ok { (xs : List (Item Reading)) → Left walk.old xs → OnOk result (ReadsSection walk.old walk.new xs kept level) }
     ensures err { (xs : List (Item Reading)) → Left walk.old xs → IfErr result (StopsWell walk.old walk.new xs kept level) }
@@ -145,7 +145,7 @@ fn group(
     part: Part,
     cond: Cond,
 ) -> Result<(), Stop>
-    requires low { level ≤ 64 }
+    requires low { level ≤ OPEN_SECTIONS }
     requires some { starts_handled walk.old.rest.now ≡ true }
     ensures ok { (xs : List (Item Reading)) → Left walk.old xs → (before : List Cond) → groups.old ≡ groups_of before →
         OnOk result (ReadsGroup walk.old walk.new xs kept level before (part_of part) cond) }
