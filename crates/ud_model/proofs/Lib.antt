@@ -8,4 +8,12 @@ pub mod Soundness
 pub mod PlainSound
 pub mod FaultStays
 pub mod Counts
+pub mod Steps
+pub mod PlaceLemmas
+pub mod ScanLemmas
+pub mod CutLemmas
+pub mod CutExists
+pub mod ScanLaws
+pub mod ScanBytes
 pub mod Examples
+pub mod ScanExamples

@@ -1,5 +1,5 @@
 -- Soundness: of the same lines the items, the tree and the fault are the same, so a text has one outcome at most.
-use Rattle.std.proofs.Common.{◌≡◌, ℕ, List, [], ◌∷◌, ◌++◌, map, Option, Some, None, refl, sym, ◌∙◌, ap, append_assoc, append-nil, subst, ◌⊎◌, inl, inr}
+use Rattle.std.proofs.Common.{◌≡◌, ℕ, List, [], ◌∷◌, ◌++◌, map, Option, Some, None, refl, sym, ◌∙◌, ap, ap₂, append_assoc, append-nil, subst, ◌⊎◌, inl, inr}
 use Rattle.std.proofs.lemmas.List.{same_from_push, map-append}
 use Rattle.ud_model.specs.Lines.{Line, lines_of}
 use Rattle.ud_model.specs.Scans.{Reading}
@@ -100,7 +100,7 @@ module _ (o : Options) where
       let s : (map line_of xs ≡ map line_of ys) × (l ≡ k) = same_from_push (map line_of xs) (map line_of ys) l k (sym (lines_with_next xs t l) ∙ e ∙ lines_with_next ys u k) in
       let q : xs ≡ ys = sound_same xs ys t u a b s.0 in
       let r : next_item o xs t l ≡ next_item o ys u k = same_next xs ys t u l k a b q s.1 in
-      rw (q, r)
+      ap₂ (λ (zs : List (Item Reading)) (x : Item Reading). zs ++ x ∷ []) q r
 
   -- of sound items with these lines in front, the first ones are sound
   pub sound_front : (ls : List Line) {more : List Line} → ByPush more → (ys : List (Item Reading)) (u : Tree Reading) → AreSound o ys u →

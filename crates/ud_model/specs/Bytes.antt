@@ -2,6 +2,8 @@
 -- C11 5.2.1 and 6.4.2.1, in ASCII.
 --
 --   is_white b          b is white space within a line: space, tab, vertical tab, form feed, carriage return
+--   is_quote b          b is `"` or `'`
+--   is_mark b           b is a byte at which a comment, a literal or a splice may begin or end
 --   is_word_byte b      b is an ASCII letter, a digit or an underscore
 --   is_identifier t     t is a nonempty run of word bytes that doesn't start with a digit
 --   past_white t        t without the white space in front
@@ -25,12 +27,26 @@ backslash = 92
 abbrev pub slash : ℕ
 slash = 47
 
+abbrev pub star : ℕ
+star = 42
+
+abbrev pub space : ℕ
+space = 32
+
 abbrev pub equals_sign : ℕ
 equals_sign = 61
 
 -- space, tab, vertical tab, form feed and carriage return
 abbrev pub is_white : ℕ → Bool
 is_white b = (b == 32) || (b == 9) || (b == 11) || (b == 12) || (b == 13)
+
+-- a double or a single quote
+abbrev pub is_quote : ℕ → Bool
+is_quote b = (b == 34) || (b == 39)
+
+-- a byte at which a comment, a literal or a splice may begin or end
+abbrev pub is_mark : ℕ → Bool
+is_mark b = (b == slash) || (b == star) || is_quote b || (b == backslash)
 
 abbrev pub is_digit : ℕ → Bool
 is_digit b = nat_le 48 b && nat_le b 57

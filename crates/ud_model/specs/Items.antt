@@ -10,7 +10,8 @@
 -- is plain, and the line behind that isn't on the section's account.
 use Rattle.std.specs.Prelude.{List, map, Bool, true, false, ◌||◌}
 use Rattle.ud_model.specs.Lines.{Line}
-use Rattle.ud_model.specs.Scans.{Reading, scan_after}
+use Rattle.ud_model.specs.Scans.{Reading}
+use Rattle.ud_model.specs.Scanning.{scan_after}
 use Rattle.ud_model.specs.Directives.{Content, cut_keyword, directive, text, content_of}
 use Rattle.ud_model.specs.Table.{Argument}
 use Rattle.ud_model.specs.Conditions.{Decision, Rules, decision_on}

@@ -1,6 +1,10 @@
 pub mod Bytes
 pub mod Lines
 pub mod Scans
+pub mod Splicing
+pub mod Pieces
+pub mod Scanning
+pub mod Places
 pub mod Directives
 pub mod Table
 pub mod Conditions

@@ -4,13 +4,15 @@
 --   Scan               the masked line, and how the line is joined to its neighbours
 --   Reading            a line, the mode in which it is read, and its scan
 --   plain_scan line    the scan of a line in plain mode
---   scan_after before mode line    the scan of a line that is read in this mode behind these
+--   is_spanning scan   the line is joined to a neighbour
 --
--- In plain mode strings, comments and continuations are ignored, and each line is seen as it stands.
+-- In plain mode strings, comments and continuations are ignored, and each line is seen as it stands. What is seen in C
+-- mode stands in Scanning.
+--
+-- Example: the line `x /* c` is seen in plain mode as it is, fresh and joined to nothing.
 use Rattle.std.specs.Prelude.{ℕ, List, Bool, true, false, ◌||◌}
 use Rattle.ud_model.specs.Lines.{Line}
 use Rattle.ud_model.specs.declared.kind.Mode.{Mode}
-use Rattle.ud_model.specs.declared.kind.Mode.TheVariants.{C, Plain}
 use Rattle.ud_model.specs.declared.kind.CommentAt.{CommentAt}
 use Rattle.ud_model.specs.declared.kind.CommentAt.TheVariants.{Outside}
 
@@ -35,14 +37,6 @@ pub record Reading : Type 0 where
 -- the masked line is the body; it is fresh and joins nothing
 abbrev pub plain_scan : Line → Scan
 plain_scan line = record { masked = line.body; fresh = true; joins_before = false; joins_after = false; spliced = false; comment = Outside }
-
--- Interim: no words are accepted that read a line in C mode, and splices, comments and literals have no definition yet.
-abbrev pub c_scan_after : List Reading → Line → Scan
-c_scan_after before line = plain_scan line
-
-abbrev pub scan_after : List Reading → Mode → Line → Scan
-scan_after before C line = c_scan_after before line
-scan_after before Plain line = plain_scan line
 
 -- the line joins a neighbour: a directive on it spans several lines
 abbrev pub is_spanning : Scan → Bool

@@ -1,8 +1,12 @@
 //! Laws over the definitions: functions without a body, whose contracts are theorems.
 
-ghost use Rattle.std.specs.Prelude.{◌≡◌, ◌++◌, ℕ, List, true};
-ghost use Rattle.ud_model.specs.Lines.{AreLines, texts_of};
+ghost use Rattle.std.specs.Prelude.{◌≡◌, ◌≢◌, ◌++◌, ℕ, List, [], ◌∷◌, length, map, true, false};
+ghost use Rattle.ud_model.specs.Lines.{Line, AreLines, texts_of};
 ghost use Rattle.ud_model.specs.Scans.{Reading};
+ghost use Rattle.ud_model.specs.Splicing.{content, run_of};
+ghost use Rattle.ud_model.specs.Pieces.{Piece, Cell, IsCut, cells_of, cut, shown};
+ghost use Rattle.ud_model.specs.Scanning.{own_cells, scan_after, next_reading, readings_after, readings_of};
+ghost use Rattle.ud_model.specs.declared.kind.Mode.{Mode};
 ghost use Rattle.ud_model.specs.Tree.{Item, Tree, lines};
 ghost use Rattle.ud_model.specs.Pruning.{Mark, marks, marks_in};
 ghost use Rattle.ud_model.specs.SoFar.{marks_so_far};
@@ -15,6 +19,35 @@ ghost use Rattle.ud_model.specs.Answer.{Answer, IsAnswer};
 pub fn law_lines()
     ensures exists { (text : List ℕ) → AreLines text (texts_of text) }
     ensures only { (text : List ℕ) → (ls : List (List ℕ)) → AreLines text ls → ls ≡ texts_of text }
+{}
+
+/// A joined text is cut into comments, literals and single bytes in one way, and the computed cells are those of this
+/// cut.
+pub fn law_cut()
+    ensures exists { (text : List ℕ) → (pieces : List Piece) × IsCut pieces text }
+    ensures only { (text : List ℕ) → (pieces : List Piece) → (others : List Piece) → IsCut pieces text → IsCut others text → pieces ≡ others }
+    ensures cells { (text : List ℕ) → (pieces : List Piece) → IsCut pieces text → cells_of pieces ≡ cut text }
+{}
+
+/// A line is seen by its logical line alone: behind a line that has an ending and doesn't join the next one, lines are
+/// seen as if no line stood before them.
+pub fn law_scan_alone()
+    ensures line { (front : List Reading) → (group : List Reading) → (m : Mode) → (n : Mode) → (last : Line) → (l : Line) → (scan_after front m last).joins_after ≡ false → last.ending ≢ [] → scan_after ((front ++ next_reading front m last ∷ []) ++ group) n l ≡ scan_after group n l }
+    ensures lines { (front : List Reading) → (group : List Reading) → (m : Mode) → (last : Line) → (ls : List (Mode × Line)) → (scan_after front m last).joins_after ≡ false → last.ending ≢ [] → readings_after ((front ++ next_reading front m last ∷ []) ++ group) ls ≡ (front ++ next_reading front m last ∷ []) ++ readings_after group ls }
+{}
+
+/// Place i of a masked line is place i of the body: the masked line shows a cell for each byte of the line's content,
+/// in order, and the body begins with the content.
+pub fn law_scan_bytes()
+    ensures shows { (before : List Reading) → (l : Line) → (scan_after before Mode.C l).masked ≡ map shown (own_cells (run_of before) l) }
+    ensures bytes { (run : List Line) → (l : Line) → map (λ (c : Cell). c.byte) (own_cells run l) ≡ content l }
+    ensures len { (before : List Reading) → (l : Line) → length (scan_after before Mode.C l).masked ≡ length (content l) }
+    ensures front { (l : Line) → (rest : List ℕ) × (l.body ≡ content l ++ rest) }
+{}
+
+/// What is seen of lines stays when more lines follow.
+pub fn law_scans_stay()
+    ensures { (ls : List (Mode × Line)) → (more : List (Mode × Line)) → (rest : List Reading) × (readings_of (ls ++ more) ≡ readings_of ls ++ rest) }
 {}
 
 /// The lines of a text are nested in one way at most.

@@ -1,3 +1,5 @@
+pub mod MarkLemmas
 pub mod FeedLemmas
 pub mod HoldingLemmas
-mod MarkLemmas
+pub mod RunLemmas
+pub mod CarryLemmas

@@ -1,2 +1,4 @@
 pub mod Holding
-pub mod Marks
+pub mod Viewing
+pub mod Carrying
+pub mod Lending

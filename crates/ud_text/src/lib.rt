@@ -1,15 +1,21 @@
-//! The lines of a text, from bytes that come in pieces, and the bytes at which a scan has to look.
+//! The lines of a text, from bytes that come in pieces, and what is seen of them.
 //!
-//! What a line is stands in ud_model, specs/Lines.antt. `specs/Holding.antt` says what a `Lines` stands for,
-//! `specs/Marks.antt` which bytes are marks.
+//! What a line is stands in ud_model, specs/Lines.antt, and what is seen of it in specs/Scanning.antt.
+//! `specs/Holding.antt` says what a `Lines` stands for, `specs/Carrying.antt` what a `Scanner` carries.
 #![tactic(auto)]
 
 pub mod fault;
 pub mod line;
 pub mod lines;
 pub mod marks;
+mod masking;
+pub mod scan;
+pub mod scanner;
 
 pub use fault::TextFault;
 pub use line::Line;
 pub use lines::{Lines, Taken};
 pub use marks::first_mark;
+pub use scan::Scan;
+pub use scanner::Scanner;
+pub use ud_model::CommentAt;

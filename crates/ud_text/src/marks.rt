@@ -1,14 +1,13 @@
-//! The bytes at which a scan of a line has to look.
+//! The bytes at which a comment, a literal or a splice may begin or end.
 
-ghost use Rattle.std.specs.Prelude.{◌≡◌, ◌≤◌, length, take, drop};
-ghost use Rattle.ud_text.specs.Marks.{is_mark, NoMark, FrontIsMark};
+ghost use Rattle.std.specs.Prelude.{◌≡◌};
+ghost use Rattle.std.specs.List.{position_or_len};
+ghost use Rattle.ud_model.specs.Bytes.{is_mark};
 
-/// The place of the first byte that may begin a comment, a literal or a splice, or end one: `/`, `*`, `"`, `'` or a
+/// The place of the first byte at which a comment, a literal or a splice may begin or end: `/`, `*`, `"`, `'` or a
 /// backslash (C11 5.1.1.2, 6.4.4.4, 6.4.5 and 6.4.9). The number of bytes where there is none.
 pub fn first_mark(bytes: &[u8]) -> usize
-    ensures bound { result ≤ length bytes.now }
-    ensures before { NoMark (take result bytes.now) }
-    ensures found { FrontIsMark (drop result bytes.now) }
+    ensures { result ≡ position_or_len is_mark bytes.now }
 {
     bytes
         .iter()

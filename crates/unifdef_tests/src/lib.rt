@@ -1,10 +1,15 @@
-//! Tests of the tool over memory: worked examples with their output, message and status, and what no clause says.
+//! Tests over memory: worked examples of the tool with their output, message and status; lines, scans and marks; and
+//! what no clause says.
 #![tactic(auto)]
 
 #[cfg(test)]
 mod faults;
 #[cfg(test)]
+mod lines;
+#[cfg(test)]
 mod plain;
+#[cfg(test)]
+mod scans;
 #[cfg(test)]
 mod streams;
 #[cfg(test)]

@@ -1,0 +1,15 @@
+-- The cells of a text have its bytes.
+use Rattle.ud_model.proofs.ScanBytes.{masked-own_cells, bytes-own_cells, length-masked, content-front}
+use Rattle.ud_model.proofs.laws.law_scan_bytes.Goals as goal
+
+pub returns-clause-shows : goal.returns-clause-shows
+returns-clause-shows c = masked-own_cells
+
+pub returns-clause-bytes : goal.returns-clause-bytes
+returns-clause-bytes c = bytes-own_cells
+
+pub returns-clause-len : goal.returns-clause-len
+returns-clause-len c = length-masked
+
+pub returns-clause-front : goal.returns-clause-front
+returns-clause-front c = content-front

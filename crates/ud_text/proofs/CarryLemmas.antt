@@ -1,0 +1,107 @@
+-- Carries: what is carried over a line, and what is seen of the line by it.
+use Rattle.std.proofs.Common.{◌≡◌, ℕ, ◌-◌, List, [], ◌∷◌, ◌++◌, length, take, map, Bool, true, false, ◌||◌, if◌then◌else◌, refl, sym, ◌∙◌, ap}
+use Rattle.ud_model.specs.Lines.{Line, NoFeed}
+use Rattle.ud_model.specs.Scans.{Scan, Reading}
+use Rattle.ud_model.specs.Splicing.{is_spliced, content, stays_open, share, joined, run_of}
+use Rattle.ud_model.specs.Pieces.{PieceKind, block_comment, line_comment, literal, single}
+use Rattle.ud_model.specs.Scanning.{is_block, joins, comment_at, scan_behind, scan_after, next_reading}
+use Rattle.ud_model.specs.Places.{Place, Reads, place_kind, fresh_at, closed_place, closed_white, Masks}
+use Rattle.ud_model.specs.Faults.{is_in_block, ends_in_comment}
+use Rattle.ud_model.specs.declared.kind.Mode.{Mode}
+use Rattle.ud_model.specs.declared.kind.Mode.TheVariants.{C, Plain}
+use Rattle.ud_model.specs.declared.kind.CommentAt.{CommentAt}
+use Rattle.ud_model.specs.Tree.{Item}
+use Rattle.ud_model.specs.Items.{reading_of}
+use Rattle.ud_model.proofs.PlaceLemmas.{Reads-nil}
+use Rattle.ud_model.proofs.ScanLaws.{scan_behind-from}
+use Rattle.ud_model.proofs.ScanLemmas.{Reads-same, Reads-close, kind_at_place, joined_run_last, run_of_last, joins_last, scan_behind_is}
+use Rattle.ud_text.specs.Carrying.{Carried, Carries, nothing_carried, ends_in_block}
+use Rattle.ud_text.proofs.RunLemmas.{no_feed-take}
+
+-- whether the last of readings with one more ends in a block comment
+pub ends_in_block_last : (before : List Reading) (r : Reading) → ends_in_block (before ++ r ∷ []) ≡ is_in_block r.scan.comment
+ends_in_block_last [] r = refl
+ends_in_block_last (q ∷ []) r = refl
+ends_in_block_last (q ∷ p ∷ before) r = ends_in_block_last (p ∷ before) r
+
+-- a line's comment state is that of a block comment where the line ends in one
+pub block_at : (spliced : Bool) (k : PieceKind) → is_in_block (comment_at spliced k) ≡ is_block k
+block_at spliced block_comment = refl
+block_at true line_comment = refl
+block_at false line_comment = refl
+block_at spliced literal = refl
+block_at spliced single = refl
+
+-- nothing is carried where the run has no lines
+pub carries_none : (before : List Reading) → run_of before ≡ [] → ends_in_block before ≡ false → Carries nothing_carried before
+unfolding joins
+carries_none before e f = record {
+  reads = Reads-same (sym (ap joined e)) refl refl Reads-nil;
+  joins_is = sym (ap joins e ∙ ap is_block (kind_at_place Reads-nil));
+  block_is = sym f;
+}
+
+-- nothing is carried over a line in plain mode
+pub carries_plain : (before : List Reading) (line : Line) → Carries nothing_carried (before ++ next_reading before Plain line ∷ [])
+carries_plain before line =
+    carries_none (before ++ next_reading before Plain line ∷ []) (run_of_last before (next_reading before Plain line))
+    (ends_in_block_last before (next_reading before Plain line))
+
+module _ (carry : Carried) (before : List Reading) (line : Line) (masked : List ℕ) (v : Place) (white : Bool) where
+  -- what is seen of a line in C mode, by what is carried and by the place at which the line's content leaves off
+  pub scan_carried : Carries carry before → Masks (length (joined (run_of before))) (joined (run_of before) ++ content line) v white masked →
+      scan_behind (run_of before) line ≡ record {
+        masked = masked;
+        fresh = fresh_at carry.place carry.white (content line);
+        joins_before = carry.joins;
+        joins_after = is_spliced line || is_block (place_kind (closed_place (stays_open line) v));
+        spliced = is_spliced line;
+        comment = comment_at (is_spliced line) (place_kind (closed_place (stays_open line) v));
+      }
+  scan_carried h m = scan_behind_is (run_of before) line masked carry.place v carry.white white carry.joins h.reads h.joins_is m
+
+  -- what is carried over a line in C mode
+  pub carries_code : (left : Carried) → Carries carry before → Masks (length (joined (run_of before))) (joined (run_of before) ++ content line) v white masked →
+      left.place ≡ closed_place (stays_open line) v → left.white ≡ closed_white (stays_open line) v white →
+      left.joins ≡ (is_spliced line || is_block (place_kind left.place)) → Carries left (before ++ next_reading before C line ∷ [])
+  carries_code left h m p w j =
+      let r : Reading = next_reading before C line in
+      let reads : Reads (joined (run_of before) ++ share line) (closed_place (stays_open line) v) (closed_white (stays_open line) v white) =
+      Reads-close (joined (run_of before)) line v white m.reads in
+      record {
+        reads = Reads-same (sym (joined_run_last before r refl)) (sym p) (sym w) reads;
+        joins_is = j ∙ ap (λ (x : Place). is_spliced line || is_block (place_kind x)) p
+            ∙ sym (ap joins (run_of_last before r) ∙ joins_last (run_of before) line
+            ∙ ap (λ (k : PieceKind). is_spliced line || is_block k) (kind_at_place reads));
+        block_is = ap (λ (x : Place). is_block (place_kind x)) p
+            ∙ sym (ends_in_block_last before r ∙ ap (λ (s : Scan). is_in_block s.comment) (scan_carried h m)
+            ∙ block_at (is_spliced line) (place_kind (closed_place (stays_open line) v)));
+      }
+
+-- two scans with the same parts are the same
+pub same_parts : {m n : List ℕ} {f g b c a d s t : Bool} {k l : CommentAt} → m ≡ n → f ≡ g → b ≡ c → a ≡ d → s ≡ t → k ≡ l →
+    ◌≡◌ {A = Scan} (record { masked = m; fresh = f; joins_before = b; joins_after = a; spliced = s; comment = k })
+    (record { masked = n; fresh = g; joins_before = c; joins_after = d; spliced = t; comment = l })
+same_parts e f g h i j = cc
+
+-- the content of a line has no line feed where its body has none
+pub no_feed-content : (line : Line) → NoFeed line.body → NoFeed (content line)
+no_feed-content line h = by_splice (is_spliced line)
+  where
+    by_splice : (t : Bool) → NoFeed (if t then take (length line.body - 1) line.body else line.body)
+    by_splice true = no_feed-take (length line.body - 1) line.body h
+    by_splice false = h
+
+-- what is carried decides what is seen of the next line
+pub same_scans : (carry : Carried) (before others : List Reading) (m : Mode) (line : Line) → Carries carry before → Carries carry others →
+    scan_after before m line ≡ scan_after others m line
+same_scans carry before others Plain line h k = refl
+same_scans carry before others C line h k =
+    scan_behind-from (run_of before) line carry.place carry.white carry.joins h.reads h.joins_is
+    ∙ sym (scan_behind-from (run_of others) line carry.place carry.white carry.joins k.reads k.joins_is)
+
+-- whether lines end in a block comment is said alike of items and of their readings
+pub ends_in_comment-readings : (xs : List (Item Reading)) → ends_in_block (map reading_of xs) ≡ ends_in_comment xs
+ends_in_comment-readings [] = refl
+ends_in_comment-readings (x ∷ []) = refl
+ends_in_comment-readings (x ∷ y ∷ xs) = ends_in_comment-readings (y ∷ xs)

@@ -1,0 +1,6 @@
+-- Both scans are seen from the place that is carried.
+use Rattle.ud_text.proofs.CarryLemmas.{same_scans}
+use Rattle.ud_text.proofs.scanner.law_same_scans.Goals as goal
+
+pub returns : goal.returns
+returns c = same_scans

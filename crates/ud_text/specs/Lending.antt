@@ -1,0 +1,19 @@
+-- Lending: what a scanner stands for once the scan that it lends is given back.
+--
+--   ReadsLine scanner mode line   the scanner stands for one reading more: the line in this mode, with its scan
+--
+-- Example: a new scanner that has read a line stands for that line's reading alone.
+use Rattle.std.specs.Prelude.{List, [], ◌∷◌, ◌++◌}
+use Rattle.std.specs.Borrow.{MutBor, Fml}
+use Rattle.std.specs.Io.BufRead.{Rests}
+use Rattle.ud_model.specs.Lines.{Line as TextLine}
+use Rattle.ud_model.specs.Scans.{Reading}
+use Rattle.ud_model.specs.Scanning.{next_reading}
+use Rattle.ud_model.specs.declared.kind.Mode.{Mode}
+use Rattle.ud_text.specs.Carrying.{Carried, Carries}
+use Rattle.ud_text.specs.contracts.scanner.Scanner.{the_row}
+
+-- for all readings that the scanner stands for, it stands for these and the line's
+abbrev pub ReadsLine : MutBor Carried → Mode → TextLine → Fml
+ReadsLine scanner mode line =
+    Rests the_row scanner (λ new. (before : List Reading) → Carries scanner.now before → Carries new (before ++ next_reading before mode line ∷ []))

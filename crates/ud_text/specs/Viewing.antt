@@ -1,0 +1,39 @@
+-- Viewing: lines, scans and places of the program as the definitions have them.
+--
+--   as_line line      the line with its body, its ending and its number
+--   as_scan scan      the scan
+--   place_of place    where a text leaves off
+--
+-- Example: the scan of a line in plain mode, as `as_scan` gives it, is `plain_scan` of the line.
+use Rattle.ud_model.specs.Lines.{Line as TextLine}
+use Rattle.ud_model.specs.Scans.{Scan as LineScan}
+use Rattle.ud_model.specs.Places.{Place as TextPlace, in_text, at_slash, in_block, at_star, in_line, in_literal, at_backslash}
+use Rattle.ud_text.specs.declared.line.Line.{Line}
+use Rattle.ud_text.specs.declared.scan.Scan.{Scan}
+use Rattle.ud_text.specs.declared.masking.Place.{Place}
+use Rattle.ud_text.specs.declared.masking.Place.TheVariants.{Text, Slash, Block, Star, ToLineEnd, Literal, Backslash}
+
+-- a line with its body, its ending and its number
+abbrev pub as_line : Line → TextLine
+as_line line = record { body = line.body.now; ending = line.ending.now; number = line.number }
+
+-- a scan
+abbrev pub as_scan : Scan → LineScan
+as_scan scan = record {
+  masked = scan.masked.now;
+  fresh = scan.fresh;
+  joins_before = scan.joins_before;
+  joins_after = scan.joins_after;
+  spliced = scan.spliced;
+  comment = scan.comment;
+}
+
+-- where a text leaves off
+abbrev pub place_of : Place → TextPlace
+place_of Text = in_text
+place_of Slash = at_slash
+place_of Block = in_block
+place_of Star = at_star
+place_of ToLineEnd = in_line
+place_of (Literal quote) = in_literal quote
+place_of (Backslash quote) = at_backslash quote

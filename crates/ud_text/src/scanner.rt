@@ -1,0 +1,233 @@
+//! What is seen of a text's lines, each read in its mode.
+//!
+//! A scanner holds no line but the last one as it was shown: of the lines before it carries where their joined text
+//! leaves off, whether the last logical line is white, and whether the last line joins the next one.
+
+ghost use Rattle.std.specs.Prelude.{◌≡◌, ◌≤◌, ◌||◌, List, [], ◌∷◌, ◌++◌, length, true, false};
+ghost use Rattle.std.specs.Borrow.{sem};
+ghost use Rattle.ud_model.specs.Lines.{NoFeed};
+ghost use Rattle.ud_model.specs.Lines.{Line as TextLine};
+ghost use Rattle.ud_model.specs.declared.kind.Mode.{Mode};
+ghost use Rattle.ud_model.specs.Splicing.{is_spliced, content, stays_open};
+ghost use Rattle.ud_model.specs.Scans.{Reading};
+ghost use Rattle.ud_model.specs.Scanning.{comment_at, scan_after, next_reading};
+ghost use Rattle.ud_model.specs.Places.{place_kind, closed_place, closed_white};
+ghost use Rattle.ud_text.specs.Viewing.{as_line, as_scan, place_of};
+ghost use Rattle.ud_text.specs.Carrying.{Carried, Carries, carried_by, nothing_carried, scan_with, ends_in_block};
+ghost use Rattle.ud_text.specs.Lending.{ReadsLine};
+
+use crate::line::Line;
+use crate::masking::{
+    Place, Reached, is_fresh, is_in_block, is_white_with, mask_content, next_place,
+};
+use crate::scan::Scan;
+use arrayvec::ArrayVec;
+use std::marker::Model;
+use ud_model::{CommentAt, LINE_BYTES, Mode};
+
+/// What is carried from line to line.
+#[derive(Clone, Copy)]
+struct Carry {
+    /// How far the joined text is read. The text is that of the lines in C mode behind the last one in plain mode.
+    reached: Reached,
+    /// Whether the last of these lines joins the next one.
+    joins: bool,
+}
+
+/// What is seen of a line beside its masked bytes.
+#[derive(Clone, Copy)]
+struct Facts {
+    /// The masked bytes of its logical line on earlier lines are white space.
+    fresh: bool,
+    /// The line before joins it.
+    joins_before: bool,
+    /// It joins the next line.
+    joins_after: bool,
+    /// It ends in a backslash that deletes its ending.
+    spliced: bool,
+    /// What is unclosed at its end.
+    comment: CommentAt,
+}
+
+/// Reads the lines of a text in order, each in its mode.
+#[derive(Drop)]
+pub struct Scanner {
+    /// What the lines so far leave.
+    carry: Carry,
+    /// The last line as it was shown.
+    masked: ArrayVec<u8, LINE_BYTES>,
+}
+
+/// What is carried where the run has no lines.
+fn nothing() -> Carry
+    ensures { carried_by result ≡ nothing_carried }
+{
+    Carry {
+        reached: Reached {
+            place: Place::Text,
+            white: true,
+        },
+        joins: false,
+    }
+}
+
+/// Whether the line ends in a backslash that deletes its ending.
+fn is_spliced(line: &Line<'_>) -> bool
+    ensures { result ≡ is_spliced (as_line line.now) }
+{
+    line.body.ends_with(b"\\") && !line.ending.is_empty()
+}
+
+/// The line's body without a splice's backslash.
+fn content<'a>(line: &Line<'a>) -> &'a [u8]
+    ensures { result.now ≡ content (as_line line.now) }
+{
+    if is_spliced(line) {
+        &line.body[..line.body.len() - 1]
+    } else {
+        line.body
+    }
+}
+
+/// How far the text is read behind the line's new-line, if it has one.
+fn close(line: &Line<'_>, inside: Reached) -> Reached
+    ensures place { place_of result.place ≡ closed_place (stays_open (as_line line.now)) (place_of inside.place) }
+    ensures white { result.white ≡ closed_white (stays_open (as_line line.now)) (place_of inside.place) inside.white }
+{
+    if is_spliced(line) || line.ending.is_empty() {
+        inside
+    } else {
+        Reached {
+            place: next_place(inside.place, b'\n'),
+            white: is_white_with(inside.place, inside.white, b'\n'),
+        }
+    }
+}
+
+/// What is unclosed at the end of a line whose text leaves off at this place.
+fn comment_at(spliced: bool, place: Place) -> CommentAt
+    ensures { result ≡ comment_at spliced (place_kind (place_of place)) }
+{
+    match place {
+        Place::Block | Place::Star => CommentAt::InBlock,
+        Place::ToLineEnd if spliced => CommentAt::InLine,
+        _ => CommentAt::Outside,
+    }
+}
+
+/// Reads a line in C mode, and puts it into `masked` as it is shown.
+fn scan_code(carry: Carry, line: &Line<'_>, masked: &mut ArrayVec<u8, LINE_BYTES>) -> (Carry, Facts)
+    requires empty { masked.old.items ≡ [] }
+    requires fits { length line.now.body.now ≤ LINE_BYTES }
+    requires one_line { NoFeed line.now.body.now }
+    ensures stands { (before : List Reading) → Carries (carried_by carry) before → Carries (carried_by result.0) (before ++ next_reading before Mode.C (as_line line.now) ∷ []) }
+    ensures value { (before : List Reading) → Carries (carried_by carry) before → scan_with masked.new.items result.1 ≡ scan_after before Mode.C (as_line line.now) }
+{
+    let spliced = is_spliced(line);
+    let bytes = content(line);
+    let fresh = is_fresh(carry.reached, bytes);
+    let inside = mask_content(carry.reached, bytes, masked);
+    let reached = close(line, inside);
+    let joins = spliced || is_in_block(reached.place);
+    let facts = Facts {
+        fresh,
+        joins_before: carry.joins,
+        joins_after: joins,
+        spliced,
+        comment: comment_at(spliced, reached.place),
+    };
+    (Carry { reached, joins }, facts)
+}
+
+/// Reads a line in plain mode, and puts it into `masked` as it stands.
+fn scan_plain(line: &Line<'_>, masked: &mut ArrayVec<u8, LINE_BYTES>) -> (Carry, Facts)
+    requires empty { masked.old.items ≡ [] }
+    requires fits { length line.now.body.now ≤ LINE_BYTES }
+    ensures stands { (before : List Reading) → Carries (carried_by result.0) (before ++ next_reading before Mode.Plain (as_line line.now) ∷ []) }
+    ensures value { (before : List Reading) → scan_with masked.new.items result.1 ≡ scan_after before Mode.Plain (as_line line.now) }
+{
+    let _ = masked.try_extend_from_slice(line.body);
+    let facts = Facts {
+        fresh: true,
+        joins_before: false,
+        joins_after: false,
+        spliced: false,
+        comment: CommentAt::Outside,
+    };
+    (nothing(), facts)
+}
+
+/// Reads a line in its mode, and puts it into `masked` as it is shown.
+fn scan_line(
+    mode: Mode,
+    carry: Carry,
+    line: &Line<'_>,
+    masked: &mut ArrayVec<u8, LINE_BYTES>,
+) -> (Carry, Facts)
+    requires fits { length line.now.body.now ≤ LINE_BYTES }
+    requires one_line { NoFeed line.now.body.now }
+    ensures stands { (before : List Reading) → Carries (carried_by carry) before → Carries (carried_by result.0) (before ++ next_reading before mode (as_line line.now) ∷ []) }
+    ensures value { (before : List Reading) → Carries (carried_by carry) before → scan_with masked.new.items result.1 ≡ scan_after before mode (as_line line.now) }
+{
+    masked.clear();
+    match mode {
+        Mode::C => scan_code(carry, line, masked),
+        Mode::Plain => scan_plain(line, masked),
+    }
+}
+
+impl Model for Scanner {
+    ghost use Rattle.ud_text.specs.Carrying.{Carried, carried_by};
+
+    ghost Value = { Carried };
+
+    ghost view = { λ s. carried_by s.carry };
+}
+
+impl Scanner {
+    /// Has read no line.
+    pub fn new() -> Scanner
+        ensures { Carries result [] }
+    {
+        Scanner {
+            carry: nothing(),
+            masked: ArrayVec::new(),
+        }
+    }
+
+    /// Reads the next line of the text, and tells what is seen of it. Lines that follow never count.
+    ///
+    /// The line's body has at most 4,096 bytes, none of which is a line feed. In plain mode the line is seen as it
+    /// stands, and the next line in C mode starts afresh. In C mode its masked bytes stand where they stand in the
+    /// body (C11 5.1.1.2, phases 2 and 3, and 6.4.9).
+    pub fn read<'s>(&'s mut self, mode: Mode, line: &Line<'_>) -> Scan<'s>
+        requires fits { length line.now.body.now ≤ LINE_BYTES }
+        requires one_line { NoFeed line.now.body.now }
+        ensures* stands { sem 𝓛 (ReadsLine self.entry mode (as_line line.now)) }
+        ensures value { (before : List Reading) → Carries self.old before → as_scan result ≡ scan_after before mode (as_line line.now) }
+    {
+        let (carry, facts) = scan_line(mode, self.carry, line, &mut self.masked);
+        self.carry = carry;
+        Scan {
+            masked: self.masked.as_slice(),
+            fresh: facts.fresh,
+            joins_before: facts.joins_before,
+            joins_after: facts.joins_after,
+            spliced: facts.spliced,
+            comment: facts.comment,
+        }
+    }
+
+    /// Whether a block comment is unclosed at the end of the last line; false where no line is read.
+    pub fn in_comment(&self) -> bool
+        ensures { (before : List Reading) → Carries self.now before → result ≡ ends_in_block before }
+    {
+        is_in_block(self.carry.reached.place)
+    }
+}
+
+/// What is carried decides what is seen of the next line: where it stands for two lists of readings, each line is seen
+/// alike behind both.
+pub fn law_same_scans()
+    ensures { (carry : Carried) → (before : List Reading) → (others : List Reading) → (m : Mode) → (l : TextLine) → Carries carry before → Carries carry others → scan_after before m l ≡ scan_after others m l }
+{}
