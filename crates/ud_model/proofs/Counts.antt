@@ -12,6 +12,15 @@ module _ {L : Type 0} where
   ifs (else_line l ∷ xs) = ifs xs
   ifs (endif_line l ∷ xs) = ifs xs
 
+  -- how many are an `#elif`
+  abbrev pub elifs : List (Item L) → ℕ
+  elifs [] = 0
+  elifs (text_line l ∷ xs) = elifs xs
+  elifs (if_line o ∷ xs) = elifs xs
+  elifs (elif_line o ∷ xs) = suc (elifs xs)
+  elifs (else_line l ∷ xs) = elifs xs
+  elifs (endif_line l ∷ xs) = elifs xs
+
   -- how many are an `#else`
   abbrev pub elses : List (Item L) → ℕ
   elses [] = 0
@@ -38,6 +47,15 @@ module _ {L : Type 0} where
   ifs-append (elif_line o ∷ xs) ys = ifs-append xs ys
   ifs-append (else_line l ∷ xs) ys = ifs-append xs ys
   ifs-append (endif_line l ∷ xs) ys = ifs-append xs ys
+
+  -- and so are those that are an `#elif`
+  pub elifs-append : (xs ys : List (Item L)) → elifs (xs ++ ys) ≡ elifs xs + elifs ys
+  elifs-append [] ys = omega arith
+  elifs-append (text_line l ∷ xs) ys = elifs-append xs ys
+  elifs-append (if_line o ∷ xs) ys = elifs-append xs ys
+  elifs-append (elif_line o ∷ xs) ys = omega (arith, elifs-append xs ys)
+  elifs-append (else_line l ∷ xs) ys = elifs-append xs ys
+  elifs-append (endif_line l ∷ xs) ys = elifs-append xs ys
 
   -- and so are those that are an `#else`
   pub elses-append : (xs ys : List (Item L)) → elses (xs ++ ys) ≡ elses xs + elses ys
@@ -114,3 +132,17 @@ module _ {L : Type 0} where
   elses_of_tree (closed ns) = elses_of_nodes ns
   elses_of_tree (open_section ns h t) =
       simp (elses-append, ifs-append) (omega (arith, elses_of_nodes ns, elses_of_head h, elses_of_tree t))
+
+  -- nodes without an opener have no `#elif`
+  pub elifs_of_nodes : (ns : Nodes L) → ifs (lines_of_nodes ns) ≡ 0 → elifs (lines_of_nodes ns) ≡ 0
+  elifs_of_nodes nothing e = refl
+  elifs_of_nodes (text ns l) e =
+      omega (arith, elifs-append (lines_of_nodes ns) (text_line l ∷ []), elifs_of_nodes ns (omega (arith, ifs-append (lines_of_nodes ns) (text_line l ∷ []), e)))
+  elifs_of_nodes (section ns gs l) e =
+      omega (arith, ifs-append (lines_of_nodes ns ++ lines_of_groups gs) (endif_line l ∷ []), ifs-append (lines_of_nodes ns) (lines_of_groups gs), endifs_of_groups gs, e)
+
+  -- neither has a text
+  pub elifs_of_tree : (t : Tree L) → ifs (lines t) ≡ 0 → elifs (lines t) ≡ 0
+  elifs_of_tree (closed ns) e = elifs_of_nodes ns e
+  elifs_of_tree (open_section ns h t) e =
+      omega (arith, ifs-append (lines_of_nodes ns ++ lines_of_head h) (lines t), ifs-append (lines_of_nodes ns) (lines_of_head h), endifs_of_head h, e)

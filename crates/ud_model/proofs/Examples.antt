@@ -10,7 +10,7 @@ use Rattle.ud_model.specs.Table.{Argument, entry_in}
 use Rattle.ud_model.specs.Conditions.{Rules, condition_of, undecided}
 use Rattle.ud_model.specs.Tree.{Opener, Tree, HasTree, text_line, if_line, elif_line, else_line, endif_line, nothing, text, section, conditional, otherwise, first, elif, else_head, closed, open_section, lines, depth}
 use Rattle.ud_model.specs.Pruning.{Mark, marks}
-use Rattle.ud_model.specs.Faults.{inappropriate_endif}
+use Rattle.ud_model.specs.Faults.{inappropriate_elif, inappropriate_else, inappropriate_endif, premature_eof}
 use Rattle.ud_model.specs.Messages.{message_of}
 use Rattle.ud_model.specs.Arguments.{plain_flag, symbol, bad_symbol, unsupported_word, word_of, unsupported, plain_needed, usage_fault, options_of}
 use Rattle.ud_model.specs.declared.cond.Cond.{Cond}
@@ -20,7 +20,7 @@ use Rattle.ud_model.specs.declared.kind.CommentAt.{CommentAt}
 use Rattle.ud_model.specs.declared.kind.CommentAt.TheVariants.{Outside, InLine}
 use Rattle.ud_model.specs.declared.verdict.Verdict.{Verdict}
 use Rattle.ud_model.specs.declared.verdict.Verdict.TheVariants.{Keep, Remove, ToIf, ToElse, ToEndif}
-use Rattle.ud_model.proofs.Counts.{ifs, elses, endifs, endifs_of_tree, elses_of_tree}
+use Rattle.ud_model.proofs.Counts.{ifs, elifs, elses, endifs, endifs_of_tree, elifs_of_tree, elses_of_tree}
 use Rattle.ud_model.proofs.LinesLemmas.{parts_of-front, text_of-line_at}
 
 -- a line of this body, ending and number
@@ -211,6 +211,10 @@ open_else_depth = refl
 pub lone_endif : ¬ (HasTree {L = ℕ} (text_line 1 ∷ endif_line 2 ∷ []))
 lone_endif (t, e) = omega (arith, endifs_of_tree t, ap endifs e, ap ifs e)
 
+-- a text can't begin with an `#elif`
+pub lone_elif : ¬ (HasTree {L = ℕ} (elif_line (opener_on 1 Yes) ∷ []))
+lone_elif (t, e) = omega (arith, elifs_of_tree t (ap ifs e), ap elifs e)
+
 -- a section has one `#else` at most
 pub second_else : ¬ (HasTree {L = ℕ} (if_line (opener_on 1 Unknown) ∷ else_line 2 ∷ else_line 3 ∷ []))
 second_else (t, e) = omega (arith, elses_of_tree t, ap elses e, ap ifs e)
@@ -218,6 +222,17 @@ second_else (t, e) = omega (arith, elses_of_tree t, ap elses e, ap ifs e)
 -- the message about an `#endif` out of its place
 pub endif_message : message_of (inappropriate_endif 2) ≡ codes "unifdef: stdin: 2: Inappropriate #endif\n"
 endif_message = rw (decimal_digit 2 (omega arith)) refl
+
+-- the messages about an `#elif` and an `#else` out of their places
+pub elif_message : message_of (inappropriate_elif 1) ≡ codes "unifdef: stdin: 1: Inappropriate #elif\n"
+elif_message = rw (decimal_digit 1 (omega arith)) refl
+
+pub else_message : message_of (inappropriate_else 3) ≡ codes "unifdef: stdin: 3: Inappropriate #else\n"
+else_message = rw (decimal_digit 3 (omega arith)) refl
+
+-- the message about a section that is open at the end, with its first line
+pub eof_message : message_of (premature_eof 2 1) ≡ codes "unifdef: stdin: 2: Premature EOF (#if line 1)\n"
+eof_message = rw (decimal_digit 2 (omega arith), decimal_digit 1 (omega arith)) refl
 
 -- an argument that defines a name with this value, or undefines it
 abbrev pub argument_of : List ℕ → Option (List ℕ) → Argument
