@@ -5,12 +5,12 @@
 //! over the definitions: functions without a body whose contracts are theorems.
 #![tactic(auto)]
 
-pub mod cond;
-pub mod kind;
+mod cond;
+mod kind;
 pub mod laws;
-pub mod limits;
-pub mod settings;
-pub mod verdict;
+mod limits;
+mod settings;
+mod verdict;
 
 pub use cond::Cond;
 pub use kind::{CommentAt, Kind, Mode};

@@ -4,13 +4,13 @@
 //! `specs/Holding.antt` says what a `Lines` stands for, `specs/Carrying.antt` what a `Scanner` carries.
 #![tactic(auto)]
 
-pub mod fault;
-pub mod line;
-pub mod lines;
-pub mod marks;
+mod fault;
+mod line;
+mod lines;
+mod marks;
 mod masking;
-pub mod scan;
-pub mod scanner;
+mod scan;
+mod scanner;
 
 pub use fault::TextFault;
 pub use line::Line;

@@ -16,10 +16,10 @@ mod messages;
 mod outcome;
 mod printing;
 mod reading;
-pub mod running;
+mod running;
 mod shape;
 mod walk;
-pub mod watched;
+mod watched;
 mod words;
 
 pub use running::tool;
