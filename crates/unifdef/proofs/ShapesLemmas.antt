@@ -1,5 +1,6 @@
 -- What the shapes of lines tell of the items.
-use Rattle.std.proofs.Common.{◌≡◌, ℕ, suc, List, [], ◌∷◌, ◌++◌, length, Bool, true, false, if◌then◌else◌, refl, sym, ◌∙◌, ap, subst, length-append, add-one, slice_get, Some, None}
+use Rattle.std.proofs.Common.{◌≡◌, ℕ, suc, List, [], ◌∷◌, ◌++◌, length, Bool, true, false, if◌then◌else◌, refl, sym, ◌∙◌, ap, subst, length-append, add-one, take, drop, ◌-◌, arith, slice_get, Some, None}
+use Rattle.std.proofs.lemmas.List.{take_all}
 use Rattle.ud_model.specs.Scans.{Reading}
 use Rattle.ud_model.specs.Tree.{Item, Opener, text_line, if_line, elif_line, else_line, endif_line}
 use Rattle.ud_model.specs.Items.{line_of}
@@ -146,6 +147,16 @@ one_line old rest s vs ws v xs e h w left =
       shape = shape_own f.item s f.shape handled;
       number = f.number;
     }
+
+-- the lines behind the first one
+abbrev pub behind_first : List Shape → List Shape
+behind_first ss = take (length ss - 1) (drop 1 ss)
+
+-- where the first line is handled, there is one
+pub front_of_handled : (old : List Shape) → starts_handled old ≡ true → (s : Shape) × (old ≡ s ∷ behind_first old)
+front_of_handled [] h = cc
+front_of_handled (s ∷ rest) h =
+    (s, ap (λ (ss : List Shape). s ∷ ss) (sym (take_all (length (s ∷ rest) - 1) rest (omega arith))))
 
 -- the first shape, where it is looked up
 pub front_shape : (s t : Shape) (rest old : List Shape) (u : Shape) → old ≡ s ∷ rest → u ≡ s → slice_get old 0 ≡ Some t → u ≡ t

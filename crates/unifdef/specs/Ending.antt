@@ -41,7 +41,7 @@ at_end Ended right = right
 at_end Failed right = ReadError
 at_end (Broken f) right = Fault (limit_fault f)
 
--- a walk stopped behind n lines
+-- a walk stopped behind n lines; of want of memory, which says nothing of the text, this is never asked
 abbrev pub stopped_by : Stop → List Shape → ℕ → End → Outcome
 stopped_by stops.Unhandled ss n end = Fault (kinds.Unsupported (n + 1))
 stopped_by stops.OutOfPlace ss n end = Fault (misplaced_by ss (n + 1))

@@ -68,7 +68,7 @@ misplaced_fault (Endif ∷ ss) n = model.inappropriate_endif n
 misplaced_fault (Unhandled ∷ ss) n = model.inappropriate_endif n
 
 -- Why a walk stopped that has read so many lines, these being left, where behind them all the text ends or a limit is
--- broken: the fault of the next line, or the one that follows all lines.
+-- broken: the fault of the next line, or the one that follows all lines. Of want of memory this is never asked.
 abbrev pub stop_fault : Stop → ℕ → List Shape → Option model.Fault → model.Fault
 stop_fault stops.Unhandled n ss limit = model.unsupported (suc n)
 stop_fault stops.OutOfPlace n ss limit = misplaced_fault ss (suc n)

@@ -1,6 +1,6 @@
 //! What comes of a text: a fault, a failed read, or an output that is a copy or isn't.
 
-ghost use Rattle.std.specs.Prelude.{◌≡◌, ◌+◌, ◌<◌, ◌≤◌, length, Option, IfSome, [], false};
+ghost use Rattle.std.specs.Prelude.{◌≡◌, ◌≢◌, ◌+◌, ◌<◌, ◌≤◌, length, Option, IfSome, [], false};
 ghost use Rattle.std.specs.List.{list_any};
 ghost use Rattle.ud_model.specs.declared.limits.TheConstants.{TEXT_LINES};
 ghost use Rattle.unifdef.specs.Ending.{outcome_by, stopped_by, at_end, misplaced_by, limit_fault, message_told, status_told};
@@ -33,7 +33,7 @@ pub(crate) enum Outcome {
 }
 
 /// What comes of a text, of which these lines are left behind those with verdicts, by why the walk over it stopped, if
-/// it did, and why the reading did.
+/// it did, and why the reading did. Want of memory says nothing of a text.
 pub(crate) fn outcome_of(
     stop: Option<Stop>,
     rest: &[Shape],
@@ -42,6 +42,7 @@ pub(crate) fn outcome_of(
 ) -> Outcome
     requires count { length verdicts.now ≤ TEXT_LINES }
     requires opener { IfSome stop (BeginsBefore (length verdicts.now)) }
+    requires text { IfSome stop (λ s. s ≢ Stop.OutOfMemory) }
     ensures { result ≡ outcome_by stop rest.now verdicts.now end }
 {
     match stop {
@@ -55,10 +56,11 @@ pub(crate) fn outcome_of(
     }
 }
 
-/// What comes of a text whose walk stopped behind so many lines.
+/// What comes of a text whose walk stopped behind so many lines; want of memory says nothing of it.
 fn stopped(stop: Stop, rest: &[Shape], count: u32, end: End) -> Outcome
     requires count { count ≤ TEXT_LINES }
     requires opener { BeginsBefore count stop }
+    requires text { stop ≢ Stop.OutOfMemory }
     ensures { result ≡ stopped_by stop rest.now count end }
 {
     let line = count + 1;
@@ -73,7 +75,7 @@ fn stopped(stop: Stop, rest: &[Shape], count: u32, end: End) -> Outcome
                 if_line: opener as u32 + 1,
             }),
         ),
-        Stop::OutOfMemory => Outcome::ReadError,
+        Stop::OutOfMemory => unreachable!(),
     }
 }
 

@@ -1,6 +1,6 @@
 //! The tool: words, a text, what is left of it, and what is said of it.
 
-ghost use Rattle.std.specs.Prelude.{◌≡◌, ◌≤◌, ℕ, List, length, map, string_bytes, false, true, IfSome, ◌⊎◌};
+ghost use Rattle.std.specs.Prelude.{◌≡◌, ◌≢◌, ◌≤◌, ℕ, List, length, map, string_bytes, false, true, IfSome, ◌⊎◌};
 ghost use Rattle.ud_model.specs.Lines.{Line, numbered_from};
 ghost use Rattle.ud_model.specs.Items.{Options};
 ghost use Rattle.ud_model.specs.Answer.{memory_answer};
@@ -118,6 +118,7 @@ fn conclude<W: Write, E: Write>(
     requires err { err.old.failed ≡ false }
     requires count { length walk.now.verdicts.items ≤ TEXT_LINES }
     requires opener { IfSome stop (BeginsBefore (length walk.now.verdicts.items)) }
+    requires text { IfSome stop (λ s. s ≢ Stop.OutOfMemory) }
     requires lines { (o : Options) × (ls : List Line) × Holds o held.now ls }
     ensures gives { out.new.failed ≡ false → (o : Options) → (input : List ℕ) → (h : HeldInput o input held.now end) →
         WalkEnds walk.now (map (plain_item o) (numbered_from 1 h.texts)) stop →

@@ -52,6 +52,9 @@ impl Walk<'_> {
     }
 
     /// Reads the next line, which has this verdict.
+    ///
+    /// # Errors
+    /// Memory is refused.
     fn read(&mut self, verdict: Verdict) -> Result<(), Stop>
         requires { starts_handled self.old.rest.now ≡ true }
         ensures ok { (xs : List (Item Reading)) → Left self.old xs → OnOk result (ReadsLine self.old self.new xs verdict) }
@@ -59,13 +62,10 @@ impl Walk<'_> {
         ensures forth { OnOk result (length self.new.rest.now < length self.old.rest.now) }
         ensures count { length self.new.verdicts.items + length self.new.rest.now ≡ length self.old.verdicts.items + length self.old.rest.now }
     {
-        let Some((_, rest)) = self.rest.split_first() else {
-            return Err(Stop::OutOfMemory);
-        };
         let Ok(()) = self.verdicts.push(verdict) else {
             return Err(Stop::OutOfMemory);
         };
-        self.rest = rest;
+        self.rest = &self.rest[1..];
         Ok(())
     }
 }
