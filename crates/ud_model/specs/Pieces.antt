@@ -45,14 +45,14 @@ NoClose (a ∷ bytes) = (((a == star) && begins slash bytes) ≡ false) × NoClo
 -- the text has ended, or a new-line comes
 abbrev pub IsLineEnd : List ℕ → Type 0
 IsLineEnd [] = Unit {0}
-IsLineEnd (a ∷ rest) = a ≡ 10
+IsLineEnd (a ∷ rest) = a ≡ line_feed
 
 -- What stands in a literal: bytes other than its quote, a new-line and a backslash, and backslashes, each with the byte
 -- behind it, which is no new-line.
 pub data IsInside (quote : ℕ) : List ℕ → Type 0 where
   nothing : IsInside quote []
-  plain : {a : ℕ} {rest : List ℕ} → a ≢ 10 → a ≢ quote → a ≢ 92 → IsInside quote rest → IsInside quote (a ∷ rest)
-  passed : {b : ℕ} {rest : List ℕ} → b ≢ 10 → IsInside quote rest → IsInside quote (92 ∷ b ∷ rest)
+  plain : {a : ℕ} {rest : List ℕ} → a ≢ line_feed → a ≢ quote → a ≢ backslash → IsInside quote rest → IsInside quote (a ∷ rest)
+  passed : {b : ℕ} {rest : List ℕ} → b ≢ line_feed → IsInside quote rest → IsInside quote (backslash ∷ b ∷ rest)
 
 -- These bytes are a piece of this kind where the rest of the text stands behind them.
 pub data IsPiece (bytes rest : List ℕ) : PieceKind → Type 0 where

@@ -8,6 +8,7 @@
 ghost use Rattle.std.specs.Prelude.{◌≡◌, ℕ, suc, ◌+◌, ◌<◌, ◌≤◌, ◌↔◌, List, [], ◌∷◌, ◌++◌, length, take, true, false, Some, None, IfOk, IfErr, OnOk, OnErr, IfSome, IfNone, Ok, Err, IsTrue, MatchResult};
 ghost use Rattle.ud_model.specs.Lines.{whole_lines, open_rest, line_at};
 ghost use Rattle.ud_text.specs.Holding.{Took, UpToFeed, Refuses, refused_with, IsComplete, IsLastLine, IsLineOf};
+ghost use Rattle.ud_text.specs.Viewing.{as_line};
 
 use crate::fault::TextFault;
 use crate::line::Line;
@@ -148,8 +149,7 @@ impl Lines {
     /// lacks its line feed.
     pub fn line(&self) -> Line<'_>
         requires complete { IsComplete self.now }
-        ensures value { IsLineOf result.body.now result.ending.now result.number
-            (line_at (suc self.now.before) self.now.held) }
+        ensures value { as_line result ≡ line_at (suc self.now.before) self.now.held }
         ensures bound { result.number ≤ self.now.last_line }
         ensures stands { (text : List ℕ) → Took self.now text →
             IsLastLine text (line_at (suc self.now.before) self.now.held) }

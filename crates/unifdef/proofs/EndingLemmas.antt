@@ -1,5 +1,5 @@
 -- Ending: what the code prints, says and gives back for the text that it holds is a run of the definitions.
-use Rattle.std.proofs.Common.{◌≡◌, ◌≢◌, ℕ, suc, ◌+◌, List, [], ◌∷◌, length, map, Bool, true, false, Option, Some, None, if◌then◌else◌, refl, sym, ◌∙◌, ap, subst, add-one}
+use Rattle.std.proofs.Common.{◌≡◌, ◌≢◌, ℕ, suc, List, [], ◌∷◌, length, map, Bool, true, false, Option, Some, None, if◌then◌else◌, refl, sym, ◌∙◌, ap, subst, add-one}
 use Rattle.std.specs.List.{AllByRecursion, list_any}
 use Rattle.std.specs.Io.KnownBytes.{Appends}
 use Rattle.ud_model.specs.Lines.{numbered_from}
@@ -10,10 +10,7 @@ use Rattle.ud_model.specs.Runs.{Outcome, Runs}
 use Rattle.ud_model.specs.Answer.{status_of, message_or_none}
 use Rattle.ud_model.specs.declared.settings.ExitMode.TheVariants.{Zero}
 use Rattle.ud_model.proofs.LinesLemmas.{text_of-line_at}
-use Rattle.ud_text.specs.declared.fault.TextFault.{TextFault}
-use Rattle.ud_text.specs.declared.fault.TextFault.TheVariants as texts
 use Rattle.unifdef.specs.declared.shape.Shape.{Shape}
-use Rattle.unifdef.specs.declared.shape.Shape.TheVariants.{Text, If, Elif, Else, Endif, Unhandled}
 use Rattle.unifdef.specs.declared.held.Held as held_text
 use Rattle.unifdef.specs.declared.intake.End.{End}
 use Rattle.unifdef.specs.declared.intake.End.TheVariants.{Ended, Failed, Broken}
@@ -23,9 +20,8 @@ use Rattle.unifdef.specs.declared.walk.Stop.TheVariants as stops
 use Rattle.unifdef.specs.Watching.{Says}
 use Rattle.unifdef.specs.Walking.{WalksThrough, HaltsWell}
 use Rattle.unifdef.specs.Outcomes.{plain_item, pieces, is_changed, stop_fault, misplaced_fault}
-use Rattle.unifdef.specs.Told.{fault_told}
 use Rattle.unifdef.specs.Intake.{text_fault_told}
-use Rattle.unifdef.specs.Ending.{limit_fault, misplaced_by, outcome_by, stopped_by, message_told, status_told}
+use Rattle.unifdef.specs.Ending.{outcome_by, stopped_by, message_told, status_told}
 use Rattle.unifdef.specs.Gave.{HeldInput, EndsAs, GivesRun}
 use Rattle.unifdef.proofs.VerdictLemmas.{IsFilled}
 use Rattle.unifdef.proofs.OutcomeLemmas.{HoldsLines, Comes, through, halted_well}
@@ -43,19 +39,6 @@ gave o input p f d uo un e eo en m s r runs is_p is_f is_d out said is_m is_s = 
     answered = is_s ∙ ap (λ g. status_of Zero d g) (sym is_f) ∙ ap (λ g. status_of Zero g r.fault) (sym is_d);
   },
 )
-
-limit_told : (f : TextFault) → fault_told (limit_fault f) ≡ text_fault_told f
-limit_told (texts.TooManyLines line) = refl
-limit_told (texts.LineTooLong line) = refl
-
-misplaced_told : (ss : List Shape) (n : ℕ) → fault_told (misplaced_by ss n) ≡ misplaced_fault ss n
-misplaced_told [] n = refl
-misplaced_told (Text ∷ ss) n = refl
-misplaced_told (If c ∷ ss) n = refl
-misplaced_told (Elif c ∷ ss) n = refl
-misplaced_told (Else ∷ ss) n = refl
-misplaced_told (Endif ∷ ss) n = refl
-misplaced_told (Unhandled ∷ ss) n = refl
 
 filled_from : (n : ℕ) (ts : List (List ℕ)) → AllByRecursion (λ t. t ≡ [] → ⊥) ts → AllByRecursion IsFilled (numbered_from n ts)
 filled_from n [] h = tt
@@ -91,14 +74,14 @@ gives_through o input held (Broken f) w uo un e eo en s h walks out said status 
     let r : Comes o input (numbered_from 1 h.texts) w.verdicts.items h.limit =
     through o input (numbered_from 1 h.texts) h.more h.limit w (lines_held o input held (Broken f) h) walks in
     gave o input (pieces (numbered_from 1 h.texts) w.verdicts.items) (Some (text_fault_told f)) (list_any is_changed w.verdicts.items) uo un e eo en
-    (message_of (fault_told (limit_fault f))) s
-    r.0 r.1 r.2 (r.3 ∙ h.ends) r.4 out said (ap message_of (limit_told f)) status
+    (message_of (text_fault_told f)) s
+    r.0 r.1 r.2 (r.3 ∙ h.ends) r.4 out said refl status
 
 -- how the code tells that a walk stopped is how the definitions do
 stop_told : (stop : Stop) (n : ℕ) (ss : List Shape) (end : End) (limit : Option model.Fault) → stop ≢ stops.OutOfMemory → EndsAs end limit →
     (message_told (stopped_by stop ss n end) true ≡ message_of (stop_fault stop n ss limit)) × (status_told (stopped_by stop ss n end) true ≡ 2)
 stop_told stops.Unhandled n ss end limit never h = (ap (λ k. message_of (model.unsupported k)) (add-one n), refl)
-stop_told stops.OutOfPlace n ss end limit never h = (ap message_of (misplaced_told ss (n + 1) ∙ ap (λ k. misplaced_fault ss k) (add-one n)), refl)
+stop_told stops.OutOfPlace n ss end limit never h = (ap (λ k. message_of (misplaced_fault ss k)) (add-one n), refl)
 stop_told stops.TooDeep n ss end limit never h = (ap (λ k. message_of (model.too_many_levels k)) (add-one n), refl)
 stop_told (stops.Unclosed opener) n ss Ended limit never h = (
   ap (λ k. message_of (model.premature_eof n k)) (add-one opener)
@@ -107,7 +90,7 @@ stop_told (stops.Unclosed opener) n ss Ended limit never h = (
 )
 stop_told (stops.Unclosed opener) n ss Failed limit never h = absurd h
 stop_told (stops.Unclosed opener) n ss (Broken f) limit never h =
-    (ap message_of (limit_told f) ∙ ap (λ l. message_of (stop_fault (stops.Unclosed opener) n ss l)) (sym h), refl)
+    (ap (λ l. message_of (stop_fault (stops.Unclosed opener) n ss l)) (sym h), refl)
 stop_told stops.OutOfMemory n ss end limit never h = absurd (never refl)
 
 -- the walk stopped

@@ -2,38 +2,20 @@
 --
 --   outcome_by stop rest verdicts end    by why the walk stopped, what is left behind it, its verdicts, and why the reading stopped
 --   message_told, status_told            what is said of an outcome, and its status, where `out` was flushed or couldn't be
-use Rattle.std.specs.Prelude.{ℕ, ◌+◌, List, [], ◌∷◌, length, Bool, true, false, Option, Some, None, if◌then◌else◌}
+use Rattle.std.specs.Prelude.{ℕ, ◌+◌, List, [], length, Bool, true, false, Option, Some, None, if◌then◌else◌}
 use Rattle.std.specs.List.{list_any}
 use Rattle.ud_model.specs.Messages.{message_of, read_error, write_error}
 use Rattle.ud_model.specs.declared.verdict.Verdict.{Verdict}
-use Rattle.ud_text.specs.declared.fault.TextFault.{TextFault}
-use Rattle.ud_text.specs.declared.fault.TextFault.TheVariants as texts
-use Rattle.unifdef.specs.declared.faults.Fault as faults
 use Rattle.unifdef.specs.declared.faults.Fault.TheVariants as kinds
 use Rattle.unifdef.specs.declared.shape.Shape.{Shape}
-use Rattle.unifdef.specs.declared.shape.Shape.TheVariants.{Text, If, Elif, Else, Endif, Unhandled}
 use Rattle.unifdef.specs.declared.walk.Stop.{Stop}
 use Rattle.unifdef.specs.declared.walk.Stop.TheVariants as stops
 use Rattle.unifdef.specs.declared.intake.End.{End}
 use Rattle.unifdef.specs.declared.intake.End.TheVariants.{Ended, Failed, Broken}
 use Rattle.unifdef.specs.declared.outcome.Outcome.{Outcome}
 use Rattle.unifdef.specs.declared.outcome.Outcome.TheVariants.{Fault, ReadError, Done}
-use Rattle.unifdef.specs.Told.{fault_told}
+use Rattle.unifdef.specs.Told.{fault_told, limit_fault, misplaced_by}
 use Rattle.unifdef.specs.Outcomes.{is_changed}
-
-abbrev pub limit_fault : TextFault → faults.Fault
-limit_fault (texts.TooManyLines line) = kinds.TooManyLines line
-limit_fault (texts.LineTooLong line) = kinds.LineTooLong line
-
--- the fault of a directive out of its place, which comes first here
-abbrev pub misplaced_by : List Shape → ℕ → faults.Fault
-misplaced_by [] n = kinds.InappropriateEndif n
-misplaced_by (Text ∷ ss) n = kinds.InappropriateEndif n
-misplaced_by (If c ∷ ss) n = kinds.InappropriateEndif n
-misplaced_by (Elif c ∷ ss) n = kinds.InappropriateElif n
-misplaced_by (Else ∷ ss) n = kinds.InappropriateElse n
-misplaced_by (Endif ∷ ss) n = kinds.InappropriateEndif n
-misplaced_by (Unhandled ∷ ss) n = kinds.InappropriateEndif n
 
 -- behind all lines that are held
 abbrev pub at_end : End → Outcome → Outcome

@@ -13,7 +13,7 @@ use Rattle.ud_model.specs.Faults as model
 use Rattle.ud_model.specs.declared.limits.TheConstants.{LINE_BYTES, TEXT_LINES}
 use Rattle.ud_text.specs.Holding.{Holding, Took}
 use Rattle.ud_text.specs.declared.fault.TextFault.{TextFault}
-use Rattle.ud_text.specs.declared.fault.TextFault.TheVariants.{TooManyLines, LineTooLong}
+use Rattle.unifdef.specs.Told.{fault_told, limit_fault}
 use Rattle.unifdef.specs.Outcomes.{IsWithin, Breaks}
 use Rattle.unifdef.specs.Held.{Holds}
 use Rattle.unifdef.specs.declared.held.Held.{Held}
@@ -23,8 +23,7 @@ use Rattle.unifdef.specs.declared.intake.Refusal.{Refusal}
 use Rattle.unifdef.specs.declared.intake.Refusal.TheVariants.{Text, Memory}
 
 abbrev pub text_fault_told : TextFault → model.Fault
-text_fault_told (TooManyLines line) = model.too_many_lines line
-text_fault_told (LineTooLong line) = model.line_too_long line
+text_fault_told f = fault_told (limit_fault f)
 
 -- the lines are those of the bytes that were given, up to the end of the text, up to its last line feed, or up to the
 -- first line that breaks a limit, whatever follows

@@ -2,7 +2,7 @@
 --
 --   plain_item o l        what a line is, read as plain text
 --   pieces ls vs          what is printed of these lines with these verdicts
---   line_fault stop ..    the fault of the line at which a walk stops
+--   stop_fault stop ..    the fault of the line at which a walk stops, or the one behind all lines
 --   Rest ls more f        behind the lines ls the input has ended, or its next line breaks a limit, which is the fault f
 use Rattle.std.specs.Prelude.{ℕ, suc, ◌<◌, ◌≤◌, List, [], ◌∷◌, ◌++◌, length, Bool, true, false, Option, Some, None}
 use Rattle.ud_model.specs.Lines.{Line, text_of}
@@ -17,7 +17,7 @@ use Rattle.ud_model.specs.declared.verdict.Verdict.{Verdict}
 use Rattle.ud_model.specs.declared.verdict.Verdict.TheVariants.{Keep, Remove, ToIf, ToElse, ToEndif}
 use Rattle.ud_model.specs.declared.limits.TheConstants.{LINE_BYTES, TEXT_LINES}
 use Rattle.unifdef.specs.declared.shape.Shape.{Shape}
-use Rattle.unifdef.specs.declared.shape.Shape.TheVariants.{Text, If, Elif, Else, Endif, Unhandled}
+use Rattle.unifdef.specs.Told.{fault_told, misplaced_by}
 use Rattle.unifdef.specs.declared.walk.Stop.{Stop}
 use Rattle.unifdef.specs.declared.walk.Stop.TheVariants as stops
 
@@ -59,13 +59,7 @@ pub data Rest (ls : List Line) : List Line → Option model.Fault → Type 0 whe
 
 -- the fault of a directive out of its place, on the line with this number
 abbrev pub misplaced_fault : List Shape → ℕ → model.Fault
-misplaced_fault [] n = model.inappropriate_endif n
-misplaced_fault (Text ∷ ss) n = model.inappropriate_endif n
-misplaced_fault (If c ∷ ss) n = model.inappropriate_endif n
-misplaced_fault (Elif c ∷ ss) n = model.inappropriate_elif n
-misplaced_fault (Else ∷ ss) n = model.inappropriate_else n
-misplaced_fault (Endif ∷ ss) n = model.inappropriate_endif n
-misplaced_fault (Unhandled ∷ ss) n = model.inappropriate_endif n
+misplaced_fault ss n = fault_told (misplaced_by ss n)
 
 -- Why a walk stopped that has read so many lines, these being left, where behind them all the text ends or a limit is
 -- broken: the fault of the next line, or the one that follows all lines. Of want of memory this is never asked.

@@ -1,7 +1,14 @@
 -- The faults that the code tells, as the faults of the definitions.
 --
---   fault_told f    a text's fault
---   usage_told f    a fault of the words
+--   fault_told f          a text's fault
+--   usage_told f          a fault of the words
+--   limit_fault f         what the code tells of a limit that a line breaks
+--   misplaced_by rest n   what it tells of a directive out of its place, where these lines are left and this is the first one's number
+use Rattle.std.specs.Prelude.{ℕ, List, [], ◌∷◌}
+use Rattle.ud_text.specs.declared.fault.TextFault.{TextFault as LimitFault}
+use Rattle.ud_text.specs.declared.fault.TextFault.TheVariants as limits
+use Rattle.unifdef.specs.declared.shape.Shape.{Shape}
+use Rattle.unifdef.specs.declared.shape.Shape.TheVariants.{Text, If, Elif, Else, Endif, Unhandled}
 use Rattle.ud_model.specs.Faults.{Fault as TextFault, too_many_lines, line_too_long, obfuscated, unsupported, inappropriate_elif, inappropriate_else, inappropriate_endif, too_many_levels, eof_in_comment, premature_eof}
 use Rattle.ud_model.specs.Arguments.{UsageFault as WordsFault, bad_symbol_in, plain_needed}
 use Rattle.ud_model.specs.Arguments.{unsupported as unsupported_in}
@@ -29,3 +36,18 @@ abbrev pub usage_told : UsageFault → WordsFault
 usage_told (UnsupportedWord word) = unsupported_in word
 usage_told (BadSymbol word) = bad_symbol_in word
 usage_told PlainNeeded = plain_needed
+
+-- a limit that a line breaks
+abbrev pub limit_fault : LimitFault → Fault
+limit_fault (limits.TooManyLines line) = TooManyLines line
+limit_fault (limits.LineTooLong line) = LineTooLong line
+
+-- a directive out of its place, which comes first here
+abbrev pub misplaced_by : List Shape → ℕ → Fault
+misplaced_by [] n = InappropriateEndif n
+misplaced_by (Text ∷ ss) n = InappropriateEndif n
+misplaced_by (If c ∷ ss) n = InappropriateEndif n
+misplaced_by (Elif c ∷ ss) n = InappropriateElif n
+misplaced_by (Else ∷ ss) n = InappropriateElse n
+misplaced_by (Endif ∷ ss) n = InappropriateEndif n
+misplaced_by (Unhandled ∷ ss) n = InappropriateEndif n

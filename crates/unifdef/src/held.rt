@@ -6,7 +6,7 @@ ghost use Rattle.std.specs.Prelude.{◌≡◌, ◌++◌, ◌∷◌, [], List, On
 ghost use Rattle.std.specs.Prelude.{ℕ};
 ghost use Rattle.ud_model.specs.Lines as model;
 ghost use Rattle.ud_model.specs.Arguments.{options_of};
-ghost use Rattle.ud_text.specs.Holding.{IsLineOf};
+ghost use Rattle.ud_text.specs.Viewing.{as_line};
 
 use crate::reading::shape_of;
 use crate::shape::Shape;
@@ -52,7 +52,7 @@ impl Held {
     /// # Errors
     /// Memory is refused; what is held is then of no use.
     pub(crate) fn add(&mut self, line: &Line<'_>, words: &[String]) -> Result<(), AllocError>
-        ensures { (ls : List model.Line) (l : model.Line) → IsLineOf line.now.body.now line.now.ending.now line.now.number l →
+        ensures { (ls : List model.Line) (l : model.Line) → as_line line.now ≡ l →
             Holds (options_of (map string_bytes words.now)) self.old ls →
             OnOk result (Holds (options_of (map string_bytes words.now)) self.new (ls ++ l ∷ [])) }
     {

@@ -3,7 +3,8 @@
 ghost use Rattle.std.specs.Prelude.{◌≡◌, ◌≢◌, ◌+◌, ◌<◌, ◌≤◌, length, Option, IfSome, [], false};
 ghost use Rattle.std.specs.List.{list_any};
 ghost use Rattle.ud_model.specs.declared.limits.TheConstants.{TEXT_LINES};
-ghost use Rattle.unifdef.specs.Ending.{outcome_by, stopped_by, at_end, misplaced_by, limit_fault, message_told, status_told};
+ghost use Rattle.unifdef.specs.Ending.{outcome_by, stopped_by, at_end, message_told, status_told};
+ghost use Rattle.unifdef.specs.Told.{limit_fault, misplaced_by};
 ghost use Rattle.unifdef.specs.Outcomes.{is_changed};
 ghost use Rattle.unifdef.specs.Walking.{BeginsBefore};
 ghost use Rattle.unifdef.specs.Watching.{Says};
