@@ -18,3 +18,4 @@ pub mod ScanBytes
 pub mod Examples
 pub mod ScanExamples
 pub mod ExpressionExamples
+pub mod Readings
