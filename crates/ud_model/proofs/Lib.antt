@@ -19,3 +19,5 @@ pub mod Examples
 pub mod ScanExamples
 pub mod ExpressionExamples
 pub mod Readings
+pub mod SymbolLemmas
+pub mod ConditionLemmas

@@ -58,6 +58,11 @@ negated Yes = No
 negated No = Yes
 negated Unknown = Unknown
 
+-- an entry undefines its name
+abbrev pub undefined_by : Option Entry → Bool
+undefined_by None = false
+undefined_by (Some e) = not (is_some e.value)
+
 module _ (table : List Argument) where
   abbrev pub is_listed : List ℕ → Bool
   is_listed n = is_some (entry_in table n)
@@ -70,10 +75,6 @@ module _ (table : List Argument) where
   names_listed (unary o a) = names_listed a
   names_listed (binary o a b) = names_listed a || names_listed b
   names_listed (parens a) = names_listed a
-
-  abbrev pub undefined_by : Option Entry → Bool
-  undefined_by None = false
-  undefined_by (Some e) = not (is_some e.value)
 
   -- a name that the table undefines stands there with arguments
   abbrev pub calls_undefined : Expression → Bool
