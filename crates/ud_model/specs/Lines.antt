@@ -7,7 +7,7 @@
 --   lines_of text        the lines of a text that has ended, each with body, ending and number
 --
 -- Example: "a\r\nb" has the lines "a" with the ending "\r\n" and number 1, and "b" without an ending and number 2.
-use Rattle.std.specs.Prelude.{◌≡◌, ◌≢◌, ℕ, suc, ◌-◌, ◌==◌, nat_eq, List, [], ◌∷◌, ◌++◌, length, take, if◌then◌else◌, ◌⊎◌}
+use Rattle.std.specs.Prelude.{◌≡◌, ◌≢◌, ℕ, suc, ◌-◌, ◌==◌, nat_eq, List, [], ◌∷◌, ◌++◌, length, take, if◌then◌else◌, ◌⊎◌, Bool, true, ◌||◌, bytes_eq}
 use Rattle.std.specs.List.{concat, ends_with}
 
 -- no byte of these is a line feed
@@ -71,6 +71,11 @@ texts_of text = whole_lines text ++ last_line (open_rest text)
 -- the ending of a line: `\r\n` where it ends so, else `\n` where it ends so, else nothing
 abbrev pub ending_of : List ℕ → List ℕ
 ending_of line = if ends_with nat_eq line (13 ∷ 10 ∷ []) then 13 ∷ 10 ∷ [] else if ends_with nat_eq line (10 ∷ []) then 10 ∷ [] else []
+
+-- what may end a line: `\r\n`, `\n` or nothing
+abbrev pub is_ending : List ℕ → Bool
+is_ending [] = true
+is_ending (b ∷ bs) = bytes_eq (b ∷ bs) (10 ∷ []) || bytes_eq (b ∷ bs) (13 ∷ 10 ∷ [])
 
 -- a line of a text: its body, its ending and its number from 1
 pub record Line : Type 0 where

@@ -1,5 +1,8 @@
 //! A line of a text.
 
+ghost use Rattle.std.specs.Prelude.{IsTrue};
+ghost use Rattle.ud_model.specs.Lines.{is_ending};
+
 /// A line of a text (POSIX XBD 3.206): its bytes are those of the body, then those of the ending.
 ///
 /// The line is lent: its bytes stand where the text is held.
@@ -11,4 +14,6 @@ pub struct Line<'a> {
     pub ending: &'a [u8],
     /// The line's number in its text, from 1.
     pub number: u32,
+    /// The ending is one of these three.
+    pub ghost ended: { IsTrue (is_ending ending.now) },
 }

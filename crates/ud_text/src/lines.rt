@@ -6,7 +6,7 @@
 //! A new way in which a line may end needs another `lines_of` and another `front`.
 
 ghost use Rattle.std.specs.Prelude.{◌≡◌, ℕ, suc, ◌+◌, ◌<◌, ◌≤◌, ◌↔◌, List, [], ◌∷◌, ◌++◌, length, take, true, false, Some, None, IfOk, IfErr, OnOk, OnErr, IfSome, IfNone, Ok, Err, IsTrue, MatchResult};
-ghost use Rattle.ud_model.specs.Lines.{whole_lines, open_rest, line_at};
+ghost use Rattle.ud_model.specs.Lines.{whole_lines, open_rest, line_at, is_ending};
 ghost use Rattle.ud_text.specs.Holding.{Took, UpToFeed, Refuses, refused_with, IsComplete, IsLastLine, IsLineOf};
 ghost use Rattle.ud_text.specs.Viewing.{as_line};
 
@@ -217,7 +217,8 @@ fn front(piece: &[u8]) -> Taken
 
 /// A line as its body and its ending.
 fn cut_ending(line: &[u8]) -> (&[u8], &[u8])
-    ensures { (number : ℕ) → IsLineOf result.0.now result.1.now number (line_at number line.now) }
+    ensures value { (number : ℕ) → IsLineOf result.0.now result.1.now number (line_at number line.now) }
+    ensures ended { IsTrue (is_ending result.1.now) }
 {
     let ending = if line.ends_with(b"\r\n") {
         2

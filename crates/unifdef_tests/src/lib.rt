@@ -9,6 +9,9 @@ mod lines;
 #[cfg(test)]
 mod plain;
 #[cfg(test)]
+mod printers;
+mod printing;
+#[cfg(test)]
 mod scans;
 #[cfg(test)]
 mod streams;

@@ -14,7 +14,7 @@ some_held inside invariant (inr ended) = ended.1
 pub returns-clause-value : goal.returns-clause-value
 returns-clause-value c =
     subst (λ (l : Holding). IsLineOf c.cut_ending.result.0.now c.cut_ending.result.1.now (c.self.inside.given_up + 1) (line_at (suc l.before) l.held)) c.self.view_is
-    (rw (add-one, ← c.as_slice.ensures.value) (c.cut_ending.ensures (suc c.self.inside.given_up)))
+    (rw (add-one, ← c.as_slice.ensures.value) (c.cut_ending.ensures.value (suc c.self.inside.given_up)))
 
 pub returns-clause-stands : goal.returns-clause-stands
 returns-clause-stands c = λ text took.

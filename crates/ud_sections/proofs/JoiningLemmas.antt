@@ -1,0 +1,144 @@
+-- Parts that are compared with a line, part by part: what is left of both is equal where they are.
+use Rattle.std.proofs.Common.{◌≡◌, ◌∙◌, ◌≤◌, ◌+◌, ◌⊎◌, inl, inr, ℕ, List, [], ◌∷◌, ◌++◌, length, take, drop, get_or, min, Bool, true, false, ◌&&◌, nat_eq, bytes_eq, arith, nat_le, length-append, Bor, zero, suc, add-one, refl, sym, ap, ap₂, subst, append_assoc, take-append-drop}
+use Rattle.std.specs.List.{flat_map}
+use Rattle.std.proofs.lemmas.List.{take-append-le, length-take}
+use Rattle.std.proofs.lemmas.Slice.Eq.{bytes_eq-Decides}
+use Rattle.std.proofs.lemmas.Bool.Decides.{nat_tests}
+use Rattle.std.proofs.Math.Seq.{take-append_seam, drop-length}
+
+same_byte : (b : ℕ) → nat_eq b b ≡ true
+same_byte b = grind (arith)
+
+-- texts that begin alike are equal where their rests are
+same_front : (x a b : List ℕ) → bytes_eq (x ++ a) (x ++ b) ≡ bytes_eq a b
+same_front [] a b = refl
+same_front (c ∷ x) a b = ap (λ (t : Bool). t && bytes_eq (x ++ a) (x ++ b)) (same_byte c) ∙ same_front x a b
+
+not_true : (r : Bool) → (r ≡ true → ⊥) → r ≡ false
+not_true true h = absurd (h refl)
+not_true false h = refl
+
+-- a text that doesn't begin so isn't one that does
+other_front : (x more y : List ℕ) → bytes_eq (take (length x) y) x ≡ false → bytes_eq (x ++ more) y ≡ false
+other_front x more y h =
+    not_true (bytes_eq (x ++ more) y) (λ e.
+    let same : x ++ more ≡ y = (bytes_eq-Decides (x ++ more) y).0 e in
+    let front : take (length x) y ≡ x = ap (take (length x)) (sym same) ∙ take-append_seam x more in
+    cc (h, (bytes_eq-Decides (take (length x) y) x).1 front))
+
+-- A part is split where a body ends: its front lies in the body, and where something is behind it the body has no more.
+pub record Split (p body front back : List ℕ) : Type 0 where
+  pub whole : p ≡ front ++ back
+  pub within : length front ≤ length body
+  pub ends : (back ≡ []) ⊎ (length body ≡ length front)
+
+drop_all : (p : List ℕ) (n : ℕ) → n ≡ length p → drop n p ≡ []
+drop_all p n e = ap (λ (k : ℕ). drop k p) e ∙ drop-length p
+
+-- a part is split at the lesser of its length and the body's
+pub split_part : (p body front back : List ℕ) (n : ℕ) → n ≡ min (length p) (length body) → front ≡ take n p → back ≡ drop n p → Split p body front back
+split_part p body front back n least f b = record {
+  whole = sym (take-append-drop n p) ∙ ap₂ (λ (x y : List ℕ). x ++ y) (sym f) (sym b);
+  within = omega (arith, len, least);
+  ends = by_less (nat_le (length p) (length body)) refl;
+}
+  where
+    len : length front ≡ min n (length p)
+    len = ap length f ∙ length-take n p
+
+    by_less : (t : Bool) → t ≡ nat_le (length p) (length body) → (back ≡ []) ⊎ (length body ≡ length front)
+    by_less true h = inl (b ∙ drop_all p n (grind (arith, nat_tests, h, least)))
+    by_less false h = inr (grind (arith, nat_tests, h, least, len))
+
+stripped : (s x r : List ℕ) → bytes_eq (take (length x) s) x ≡ true → r ≡ drop (length x) s → s ≡ x ++ r
+stripped s x r h e = sym (take-append-drop (length x) s) ∙ ap₂ (λ (a b : List ℕ). a ++ b) ((bytes_eq-Decides (take (length x) s) x).0 h) (sym e)
+
+no_rest : (x r s : List ℕ) → s ≡ x ++ r → length s ≡ length x → r ≡ []
+no_rest x [] s e h = refl
+no_rest x (c ∷ r) s e h = let k : length s ≡ length x + length (c ∷ r) = ap length e ∙ length-append x (c ∷ r) in absurd (omega (arith, k, h))
+
+-- what is left of a part and of a line, whose bodies begin alike
+in_body : (front back more b ending : List ℕ) → (back ≡ []) ⊎ (b ≡ []) →
+    bytes_eq ((front ++ back) ++ more) ((front ++ b) ++ ending) ≡ bytes_eq (back ++ more) (b ++ ending)
+in_body front back more b ending ends =
+    ap₂ (λ (x y : List ℕ). bytes_eq x y) (append_assoc front back more) (append_assoc front b ending) ∙ same_front front (back ++ more) (b ++ ending)
+
+-- what is left of a part and of a line, whose endings begin alike, too
+in_ending : (back more b e : List ℕ) → (back ≡ []) ⊎ (b ≡ []) → bytes_eq (back ++ more) (b ++ (back ++ e)) ≡ bytes_eq more (b ++ e)
+in_ending back more b e (inl none) = subst (λ (x : List ℕ). bytes_eq (x ++ more) (b ++ (x ++ e)) ≡ bytes_eq more (b ++ e)) (sym none) refl
+in_ending back more b e (inr none) = subst (λ (x : List ℕ). bytes_eq (back ++ more) (x ++ (back ++ e)) ≡ bytes_eq more (x ++ e)) (sym none) (same_front back more e)
+
+module _ (p more body ending front back : List ℕ) (split : Split p body front back) where
+  -- the body doesn't begin as the part does
+  pub other_body : bytes_eq (take (length front) body) front ≡ false → bytes_eq (p ++ more) (body ++ ending) ≡ false
+  other_body h =
+      ap (λ (x : List ℕ). bytes_eq x (body ++ ending)) (ap (λ (x : List ℕ). x ++ more) split.whole ∙ append_assoc front back more)
+      ∙ other_front front (back ++ more) (body ++ ending)
+      (ap (λ (x : List ℕ). bytes_eq x front) (take-append-le (length front) body ending split.within) ∙ h)
+
+  module _ (b : List ℕ) (is : bytes_eq (take (length front) body) front ≡ true) (rest : b ≡ drop (length front) body) where
+    ends : (back ≡ []) ⊎ (b ≡ [])
+    ends = or_end split.ends
+      where
+        or_end : (back ≡ []) ⊎ (length body ≡ length front) → (back ≡ []) ⊎ (b ≡ [])
+        or_end (inl none) = inl none
+        or_end (inr e) = inr (no_rest front b body (stripped body front b is rest) e)
+
+    behind_body : bytes_eq (p ++ more) (body ++ ending) ≡ bytes_eq (back ++ more) (b ++ ending)
+    behind_body =
+        ap₂ (λ (x y : List ℕ). bytes_eq (x ++ more) (y ++ ending)) split.whole (stripped body front b is rest)
+        ∙ in_body front back more b ending ends
+
+    -- the ending doesn't begin as the rest of the part does
+    pub other_ending : bytes_eq (take (length back) ending) back ≡ false → bytes_eq (p ++ more) (body ++ ending) ≡ false
+    other_ending h = behind_body ∙ by_end ends
+      where
+        by_end : (back ≡ []) ⊎ (b ≡ []) → bytes_eq (back ++ more) (b ++ ending) ≡ false
+        by_end (inl none) = absurd (cc (subst (λ (x : List ℕ). bytes_eq (take (length x) ending) x ≡ false) none h))
+        by_end (inr none) = subst (λ (x : List ℕ). bytes_eq (back ++ more) (x ++ ending) ≡ false) (sym none) (other_front back more ending h)
+
+    -- with the part and what it stands for left out, the rests are compared
+    pub next_part : (e : List ℕ) → bytes_eq (take (length back) ending) back ≡ true → e ≡ drop (length back) ending →
+        bytes_eq (p ++ more) (body ++ ending) ≡ bytes_eq more (b ++ e)
+    next_part e same last =
+        behind_body ∙ ap (λ (x : List ℕ). bytes_eq (back ++ more) (b ++ x)) (stripped ending back e same last) ∙ in_ending back more b e ends
+
+-- the part of no bytes
+abbrev pub no_part : Bor (List ℕ)
+no_part = record { ref_ptr = (0, 0); now = [] }
+
+-- the bytes of parts
+abbrev pub bytes_of : List (Bor (List ℕ)) → List ℕ
+bytes_of ps = flat_map (λ (p : Bor (List ℕ)). p.now) ps
+
+-- so many parts, empty ones where there are no more
+abbrev firsts : ℕ → List (Bor (List ℕ)) → List (Bor (List ℕ))
+firsts zero ps = []
+firsts (suc k) [] = no_part ∷ firsts k []
+firsts (suc k) (p ∷ ps) = p ∷ firsts k ps
+
+take_firsts : (k n : ℕ) (ps : List (Bor (List ℕ))) → n ≤ k → bytes_of (take n (firsts k ps)) ≡ bytes_of (take n ps)
+take_firsts k zero ps h = refl
+take_firsts zero (suc n) ps h = absurd (omega (arith, h))
+take_firsts (suc k) (suc n) [] h = take_firsts k n [] (omega (arith, h)) ∙ none n
+  where
+    none : (m : ℕ) → bytes_of (take m []) ≡ []
+    none zero = refl
+    none (suc m) = refl
+take_firsts (suc k) (suc n) (p ∷ ps) h = ap (λ (t : List ℕ). p.now ++ t) (take_firsts k n ps (omega (arith, h)))
+
+four_firsts : (ps : List (Bor (List ℕ))) → firsts 4 ps ≡ get_or ps 0 no_part ∷ get_or ps 1 no_part ∷ get_or ps 2 no_part ∷ get_or ps 3 no_part ∷ []
+four_firsts [] = refl
+four_firsts (a ∷ []) = refl
+four_firsts (a ∷ b ∷ []) = refl
+four_firsts (a ∷ b ∷ c ∷ []) = refl
+four_firsts (a ∷ b ∷ c ∷ d ∷ ps) = refl
+
+-- a part before at most four others
+pub one_before : (first : Bor (List ℕ)) (ps : List (Bor (List ℕ))) (n : ℕ) → n ≤ 4 →
+    bytes_of (take (n + 1) (first ∷ get_or ps 0 no_part ∷ get_or ps 1 no_part ∷ get_or ps 2 no_part ∷ get_or ps 3 no_part ∷ []))
+    ≡ first.now ++ bytes_of (take n ps)
+one_before first ps n h =
+    rw add-one
+    (ap (λ (t : List (Bor (List ℕ))). first.now ++ bytes_of (take n t)) (sym (four_firsts ps))
+    ∙ ap (λ (t : List ℕ). first.now ++ t) (take_firsts 4 n ps h))

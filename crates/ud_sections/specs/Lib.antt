@@ -1,0 +1,4 @@
+pub mod Joining
+pub mod Showing
+pub mod Styles
+pub mod Printers

@@ -1,0 +1,55 @@
+//! Printing what would be removed.
+
+ghost use Rattle.std.specs.Prelude.{◌≡◌};
+ghost use Rattle.ud_model.specs.Printing.{turned};
+
+use crate::pieces::Pieces;
+use crate::show::Show;
+use crate::step::Step;
+use ud_model::Verdict;
+use ud_text::Line;
+
+/// A printer by which lines that would be removed are kept, and the other way round (unifdef(1), `-c`).
+#[derive(Drop)]
+pub struct Complement<S> {
+    inner: S,
+}
+
+impl<S: Show> Complement<S> {
+    ghost use Rattle.std.specs.Prelude.{◌≡◌};
+    ghost use Rattle.ud_sections.specs.Styles.{inner_of};
+
+    /// The complement of a printer at the beginning of a text.
+    pub fn new(inner: S) -> Complement<S>
+        ensures { inner_of result ≡ inner }
+    {
+        Complement { inner }
+    }
+}
+
+impl<S: Show> Show for Complement<S> {
+    ghost use Rattle.std.specs.Prelude.{map};
+    ghost use Rattle.ud_model.specs.Printing.{complemented};
+
+    ghost stands = { λ c before. S.stands c.inner (map complemented before) };
+
+    ghost piece = { λ c before j. S.piece c.inner (map complemented before) (complemented j) };
+
+    fn pieces<'a>(&'a mut self, line: &Line<'a>, step: Step) -> Pieces<'a> {
+        let turned = Step {
+            verdict: complement_of(step.verdict),
+            keyword: step.keyword,
+        };
+        self.inner.pieces(line, turned)
+    }
+}
+
+/// What becomes of a line under the complement.
+fn complement_of(verdict: Verdict) -> Verdict
+    ensures { result ≡ turned verdict }
+{
+    match verdict {
+        Verdict::Remove => Verdict::Keep,
+        _ => Verdict::Remove,
+    }
+}

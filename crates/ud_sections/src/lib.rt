@@ -1,0 +1,23 @@
+//! What stands between the scan of a line and what is printed of it.
+//!
+//! The definitions are those of ud_model: specs/Printing.antt says what is printed. `specs/Showing.antt` says which
+//! line of the definitions a line and its step are.
+#![tactic(auto)]
+
+mod blank;
+mod complement;
+mod delete;
+mod pieces;
+mod printer;
+mod renumber;
+mod show;
+mod step;
+
+pub use blank::Blank;
+pub use complement::Complement;
+pub use delete::Delete;
+pub use pieces::Pieces;
+pub use printer::Printer;
+pub use renumber::Renumber;
+pub use show::Show;
+pub use step::{Span, Step};

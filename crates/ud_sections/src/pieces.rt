@@ -1,0 +1,129 @@
+//! The parts of what is printed of a line.
+
+ghost use Rattle.std.specs.Prelude.{◌≡◌, ◌≤◌, bytes_eq};
+ghost use Rattle.std.specs.List.{flat_map};
+ghost use Rattle.ud_model.specs.Lines.{text_of};
+ghost use Rattle.ud_text.specs.Viewing.{as_line};
+
+use crate::step::Step;
+use ud_model::Verdict;
+use ud_text::Line;
+
+/// What is printed of a line: at most five parts, to be written one behind the other.
+///
+/// The parts are lent by the line and by the printer.
+#[derive(Drop)]
+pub struct Pieces<'a> {
+    /// The parts; the first `count` of them count.
+    slices: [&'a [u8]; 5],
+    count: usize,
+    same: bool,
+    ghost few: { count ≤ 5 },
+}
+
+impl<'a> Pieces<'a> {
+    ghost use Rattle.std.specs.Prelude.{◌+◌, ◌++◌, length, take, if◌then◌else◌};
+    ghost use Rattle.ud_model.specs.Printing.{piece_by, is_removed};
+    ghost use Rattle.ud_sections.specs.Joining.{joined, count_of, is_same};
+    ghost use Rattle.ud_sections.specs.Showing.{as_span, HoldsKeyword};
+
+    /// The first `count` of these parts, printed in place of a line.
+    fn new(slices: [&'a [u8]; 5], count: usize, line: &Line<'_>) -> Pieces<'a>
+        requires few { count ≤ 5 }
+        ensures parts { joined result ≡ flat_map (λ s. s.now) (take count slices.entry) }
+        ensures count { count_of result ≡ count }
+        ensures same { is_same result ≡ bytes_eq (joined result) (text_of (as_line line.now)) }
+    {
+        let same = is_joined(&slices[..count], line);
+        Pieces {
+            slices,
+            count,
+            same,
+        }
+    }
+
+    /// A line as it is.
+    fn whole(line: &Line<'a>) -> Pieces<'a>
+        ensures parts { joined result ≡ text_of (as_line line.now) }
+        ensures count { count_of result ≡ 2 }
+        ensures same { is_same result ≡ bytes_eq (joined result) (text_of (as_line line.now)) }
+    {
+        Pieces {
+            slices: [line.body, line.ending, &[], &[], &[]],
+            count: 2,
+            same: true,
+        }
+    }
+
+    /// What a line's step leaves of it by itself, with `blank` in place of a line that is removed.
+    pub(crate) fn alone(line: &Line<'a>, step: Step, blank: &'a [u8]) -> Pieces<'a>
+        requires keyword { HoldsKeyword step line.now }
+        ensures parts { joined result ≡ (if is_removed step.verdict then blank.now else piece_by step.verdict (as_span step.keyword) (as_line line.now)) }
+        ensures count { count_of result ≤ 4 }
+        ensures same { is_same result ≡ bytes_eq (joined result) (text_of (as_line line.now)) }
+    {
+        match step.verdict {
+            Verdict::Keep => Pieces::whole(line),
+            Verdict::Remove => Pieces::new([blank, &[], &[], &[], &[]], 1, line),
+            Verdict::ToIf => {
+                let before = &line.body[..step.keyword.at];
+                let behind = &line.body[step.keyword.at + step.keyword.len..];
+                Pieces::new([before, b"if  ", behind, line.ending, &[]], 4, line)
+            }
+            Verdict::ToElse => {
+                let before = &line.body[..step.keyword.at];
+                Pieces::new([before, b"else", line.ending, &[], &[]], 3, line)
+            }
+            Verdict::ToEndif => {
+                let before = &line.body[..step.keyword.at];
+                Pieces::new([before, b"endif", line.ending, &[], &[]], 3, line)
+            }
+        }
+    }
+
+    /// These parts behind another one, printed in place of a line. There must be room for it.
+    pub(crate) fn behind(self, first: &'a [u8], line: &Line<'_>) -> Pieces<'a>
+        requires room { count_of self ≤ 4 }
+        ensures parts { joined result ≡ first.now ++ joined self.entry }
+        ensures count { count_of result ≡ count_of self.entry + 1 }
+        ensures same { is_same result ≡ bytes_eq (joined result) (text_of (as_line line.now)) }
+    {
+        let [a, b, c, d, _] = self.slices;
+        Pieces::new([first, a, b, c, d], self.count + 1, line)
+    }
+
+    /// The parts, in order; at most five. Some may be empty.
+    pub fn parts(&self) -> &[&'a [u8]]
+        ensures joined { flat_map (λ s. s.now) result.now ≡ joined self.now }
+        ensures few { length result.now ≤ 5 }
+    {
+        &self.slices[..self.count]
+    }
+
+    /// Whether the parts joined are the line itself.
+    pub fn same(&self) -> bool
+        ensures { result ≡ is_same self.now }
+    {
+        self.same
+    }
+}
+
+/// Whether these parts joined are a line with its ending.
+fn is_joined(parts: &[&[u8]], line: &Line<'_>) -> bool
+    ensures { result ≡ bytes_eq (flat_map (λ p. p.now) parts.now) (text_of (as_line line.now)) }
+{
+    let mut body = line.body;
+    let mut ending = line.ending;
+    for part in parts {
+        let (in_body, in_ending) = part.split_at(part.len().min(body.len()));
+        match body.strip_prefix(in_body) {
+            Some(rest) => body = rest,
+            None => return false,
+        }
+        match ending.strip_prefix(in_ending) {
+            Some(rest) => ending = rest,
+            None => return false,
+        }
+    }
+    body.is_empty() && ending.is_empty()
+}

@@ -1,0 +1,68 @@
+//! The printer that the options ask for.
+
+use crate::blank::Blank;
+use crate::complement::Complement;
+use crate::delete::Delete;
+use crate::pieces::Pieces;
+use crate::renumber::Renumber;
+use crate::show::Show;
+use crate::step::Step;
+use ud_model::Settings;
+use ud_text::Line;
+
+/// One of the printers.
+#[derive(Drop)]
+pub enum Printer {
+    /// Removed lines are deleted.
+    Deletes(Delete),
+    /// Removed lines are blanked.
+    Blanks(Blank),
+    /// Removed lines are deleted, and numbers are put in.
+    Renumbers(Renumber),
+    /// Removed lines alone are printed.
+    ComplementDeletes(Complement<Delete>),
+    /// Lines that would be kept are blanked.
+    ComplementBlanks(Complement<Blank>),
+    /// Removed lines alone are printed, and numbers are put in.
+    ComplementRenumbers(Complement<Renumber>),
+}
+
+impl Printer {
+    ghost use Rattle.std.specs.Prelude.{◌≡◌, [], List, ℕ};
+    ghost use Rattle.ud_model.specs.Printing.{Judged, piece_behind, style_of};
+    ghost use Rattle.ud_sections.specs.Printers.{printer_stands, printer_piece};
+
+    /// The printer for these settings, at the beginning of a text. Where removed lines are blanked, none is numbered.
+    pub fn of(settings: &Settings) -> Printer
+        ensures stands { printer_stands result [] }
+        ensures piece { (before : List Judged) → (j : Judged) → printer_piece result before j ≡ piece_behind (style_of settings.now) before j }
+    {
+        match (settings.complement, settings.blank, settings.renumber) {
+            (false, true, _) => Printer::Blanks(Blank::new()),
+            (false, false, true) => Printer::Renumbers(Renumber::new()),
+            (false, false, false) => Printer::Deletes(Delete::new()),
+            (true, true, _) => Printer::ComplementBlanks(Complement::new(Blank::new())),
+            (true, false, true) => Printer::ComplementRenumbers(Complement::new(Renumber::new())),
+            (true, false, false) => Printer::ComplementDeletes(Complement::new(Delete::new())),
+        }
+    }
+}
+
+impl Show for Printer {
+    ghost use Rattle.ud_sections.specs.Printers.{printer_stands, printer_piece};
+
+    ghost stands = { printer_stands };
+
+    ghost piece = { printer_piece };
+
+    fn pieces<'a>(&'a mut self, line: &Line<'a>, step: Step) -> Pieces<'a> {
+        match self {
+            Printer::Deletes(printer) => printer.pieces(line, step),
+            Printer::Blanks(printer) => printer.pieces(line, step),
+            Printer::Renumbers(printer) => printer.pieces(line, step),
+            Printer::ComplementDeletes(printer) => printer.pieces(line, step),
+            Printer::ComplementBlanks(printer) => printer.pieces(line, step),
+            Printer::ComplementRenumbers(printer) => printer.pieces(line, step),
+        }
+    }
+}

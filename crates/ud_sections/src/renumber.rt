@@ -1,0 +1,96 @@
+//! Printing the numbers of lines behind removed ones.
+
+ghost use Rattle.std.specs.Prelude.{◌≡◌, ◌+◌, ◌≤◌, ◌++◌, length};
+ghost use Rattle.ud_model.specs.Printing.{number_line, is_removed};
+ghost use Rattle.ud_text.specs.Viewing.{as_line};
+
+use crate::pieces::Pieces;
+use crate::show::Show;
+use crate::step::Step;
+use arrayvec::ArrayVec;
+use itoa::Buffer;
+use ud_model::Verdict;
+use ud_text::Line;
+
+/// The most bytes of a `#line` directive: its keyword, a space, ten digits and an ending.
+const NUMBER_LINE_BYTES: usize = 18;
+
+/// A printer by which removed lines are deleted, and a line behind them has a `#line` with its own number in front
+/// (unifdef(1), `-n`; C11 6.10.4).
+#[derive(Drop)]
+pub struct Renumber {
+    /// Whether the line before is removed.
+    removed: bool,
+    /// The `#line` that was printed last.
+    number_line: ArrayVec<u8, NUMBER_LINE_BYTES>,
+}
+
+impl Renumber {
+    ghost use Rattle.std.specs.Prelude.{[]};
+    ghost use Rattle.ud_sections.specs.Styles.{renumber_stands};
+
+    /// The printer at the beginning of a text.
+    pub fn new() -> Renumber
+        ensures { renumber_stands result [] }
+    {
+        Renumber {
+            removed: false,
+            number_line: ArrayVec::new(),
+        }
+    }
+}
+
+impl Show for Renumber {
+    ghost use Rattle.ud_model.specs.Printing.{piece_behind};
+    ghost use Rattle.ud_sections.specs.Styles.{renumber_stands, renumber_style};
+
+    ghost stands = { renumber_stands };
+
+    ghost piece = { λ r. piece_behind renumber_style };
+
+    fn pieces<'a>(&'a mut self, line: &Line<'a>, step: Step) -> Pieces<'a> {
+        let follows_removed = self.removed;
+        let removed = is_removed(step.verdict);
+        self.removed = removed;
+        let alone = Pieces::alone(line, step, &[]);
+        if removed {
+            return alone;
+        }
+        if !follows_removed {
+            return alone;
+        }
+        write_number_line(&mut self.number_line, line);
+        alone.behind(self.number_line.as_slice(), line)
+    }
+}
+
+/// Whether a line is removed.
+fn is_removed(verdict: Verdict) -> bool
+    ensures { result ≡ is_removed verdict }
+{
+    matches!(verdict, Verdict::Remove)
+}
+
+/// Writes the `#line` that stands in front of a line behind removed ones, in place of what was written before.
+fn write_number_line(bytes: &mut ArrayVec<u8, NUMBER_LINE_BYTES>, line: &Line<'_>)
+    ensures { bytes.new.items ≡ number_line (as_line line.now) }
+{
+    let mut digits = Buffer::new();
+    let number = digits.format(line.number).as_bytes();
+    bytes.clear();
+    append(bytes, b"#line ");
+    append(bytes, number);
+    if line.ending.is_empty() {
+        append(bytes, b"\n");
+    } else {
+        append(bytes, line.ending);
+    }
+}
+
+/// Appends bytes for which there is room.
+fn append(bytes: &mut ArrayVec<u8, NUMBER_LINE_BYTES>, more: &[u8])
+    requires { length bytes.old.items + length more.now ≤ NUMBER_LINE_BYTES }
+    ensures { bytes.new.items ≡ bytes.old.items ++ more.now }
+{
+    let _ = bytes.try_extend_from_slice(more);
+}

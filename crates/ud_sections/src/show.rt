@@ -1,0 +1,35 @@
+//! Printers.
+
+ghost use Rattle.std.specs.Prelude.{◌≡◌, List, [], ◌∷◌, ◌++◌, bytes_eq, ℕ};
+ghost use Rattle.std.specs.Borrow.{sem};
+ghost use Rattle.std.specs.Io.BufRead.{Rests};
+ghost use Rattle.ud_model.specs.Lines.{text_of};
+ghost use Rattle.ud_model.specs.Printing.{Judged};
+ghost use Rattle.ud_text.specs.Viewing.{as_line};
+ghost use Rattle.ud_sections.specs.Joining.{joined, is_same};
+ghost use Rattle.ud_sections.specs.Showing.{judged, HoldsKeyword};
+
+use crate::pieces::Pieces;
+use crate::step::Step;
+use ud_text::Line;
+
+/// A printer: it is given the lines of a text in order, each with its step, and says what is printed of each.
+///
+/// The law: over any list of lines and steps, the pieces of each line are those that the printer's definition gives
+/// from that list. A printer stands for the lines that it was given so far, and `pieces` adds one.
+pub trait Show: Drop {
+    /// The printer was given these lines.
+    ghost stands: { Self → List Judged → Type 0 };
+
+    /// The printer's definition: what is printed of a line behind others. It never changes.
+    ghost piece: { Self → List Judged → Judged → List ℕ };
+
+    /// What is printed of the next line. A directive that is edited has its keyword in the line's body.
+    fn pieces<'a>(&'a mut self, line: &Line<'a>, step: Step) -> Pieces<'a>
+        requires keyword { HoldsKeyword step line.now }
+        ensures parts { (before : List Judged) → stands self.old before → joined result ≡ piece self.old before (judged line.now step) }
+        ensures same { is_same result ≡ bytes_eq (joined result) (text_of (as_line line.now)) }
+        ensures* after { sem 𝓛 (Rests Self.row self.entry (λ new.
+            ((before : List Judged) → stands self.entry.now before → stands new (before ++ judged line.now step ∷ []))
+            × ((before : List Judged) (j : Judged) → piece new before j ≡ piece self.entry.now before j))) };
+}
