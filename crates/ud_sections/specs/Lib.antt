@@ -2,3 +2,4 @@ pub mod Joining
 pub mod Showing
 pub mod Styles
 pub mod Printers
+pub mod Finding

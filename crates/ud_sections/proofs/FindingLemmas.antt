@@ -1,0 +1,22 @@
+-- What stands behind the `#` of a line is no longer than the line.
+use Rattle.std.proofs.Common.{◌≡◌, ◌≤◌, ◌==◌, ℕ, List, [], ◌∷◌, length, Bool, true, false, Some, None, if◌then◌else◌, ap, arith}
+use Rattle.ud_model.specs.Bytes.{past_white}
+use Rattle.ud_model.specs.Directives.{past_sign, past_sign_of}
+use Rattle.ud_cond.proofs.ByteLemmas.{length-past_white}
+
+one_sign : (is : Bool) (b : ℕ) (bs rest : List ℕ) → (if is then Some bs else None) ≡ Some rest → length rest ≤ length (b ∷ bs)
+one_sign true b bs rest e = let same : bs ≡ rest = cc in let k : length bs ≡ length rest = ap length same in omega (arith, k)
+one_sign false b bs rest e = absurd cc
+
+sign_within : (bytes rest : List ℕ) → past_sign_of bytes ≡ Some rest → length rest ≤ length bytes
+sign_within [] rest e = absurd cc
+sign_within (b ∷ bs) rest e = one_sign (b == 35) b bs rest e
+
+-- without the white space in front, too
+pub length-past_sign : (masked behind rest : List ℕ) → past_sign masked ≡ Some behind → rest ≡ past_white behind → length rest ≤ length masked
+length-past_sign masked behind rest e is =
+    let sign = sign_within (past_white masked) behind e in
+    let before = length-past_white masked in
+    let white = length-past_white behind in
+    let k : length rest ≡ length (past_white behind) = ap length is in
+    omega (arith, sign, before, white, k)

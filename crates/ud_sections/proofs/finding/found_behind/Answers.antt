@@ -1,0 +1,5 @@
+use Rattle.ud_sections.proofs.FindingLemmas.{length-past_sign}
+use Rattle.ud_sections.proofs.finding.found_behind.Goals as goal
+
+pub overflow_sub-result : goal.overflow_sub-result
+overflow_sub-result c = length-past_sign c.args.scan.now.masked.now c.args.behind.now c.past_white-rest.result.now c.requires c.past_white-rest.ensures

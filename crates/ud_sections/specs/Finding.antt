@@ -1,0 +1,22 @@
+-- Finding: what the program finds on a line, as the definitions have it.
+--
+--   content_found found   a cut keyword, else a directive, else text
+--
+-- Example: where the program finds no directive, the line is text.
+use Rattle.std.specs.Prelude.{Option, Some, None, Result, Ok, Err}
+use Rattle.ud_model.specs.Directives.{Content, cut_keyword, text}
+use Rattle.ud_model.specs.Directives as model
+use Rattle.ud_sections.specs.declared.found.Directive.{Directive}
+use Rattle.ud_sections.specs.declared.found.Cut.{Cut}
+use Rattle.ud_sections.specs.Showing.{as_span}
+
+abbrev pub as_directive : Directive → model.Directive
+as_directive d = record { kind = d.kind; keyword = as_span d.keyword; after = d.after.now; broken = d.broken }
+
+abbrev pub directive_or_text : Option Directive → Content
+directive_or_text None = text
+directive_or_text (Some d) = model.directive (as_directive d)
+
+abbrev pub content_found : Result (Option Directive) Cut → Content
+content_found (Ok found) = directive_or_text found
+content_found (Err cut) = cut_keyword

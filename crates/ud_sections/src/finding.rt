@@ -1,0 +1,137 @@
+//! The directive that a line carries.
+
+ghost use Rattle.std.specs.Prelude.{◌≡◌, MatchOption, Some, None};
+ghost use Rattle.ud_model.specs.Bytes.{are_word_bytes};
+ghost use Rattle.ud_model.specs.Directives.{content_of, past_sign, kind_of, is_cut_off, begins_keyword, is_keyword_front, leaves_keyword, has_cut_keyword, found_behind};
+ghost use Rattle.ud_text.specs.Viewing.{as_scan};
+ghost use Rattle.ud_sections.specs.Finding.{content_found, directive_or_text};
+
+use crate::found::{Cut, Directive};
+use crate::step::Span;
+use ud_cond::bytes::{is_word_byte, past_white, word_len};
+use ud_model::{CommentAt, Kind};
+use ud_text::Scan;
+
+/// The directive of a line that is seen so: the line is fresh, and its masked bytes are white space, `#`, white space,
+/// and a longest run of word bytes that is one of the six keywords (C11 6.10). `None` where it is a text line.
+///
+/// # Errors
+/// The line goes on, and its keyword can't be known: behind the `#` there is only white space, or a continuation cuts
+/// the line behind a single `/` or behind what may become a keyword.
+pub fn directive<'a>(scan: &Scan<'a>) -> Result<Option<Directive<'a>>, Cut>
+    ensures { content_found result ≡ content_of (as_scan scan.now) }
+{
+    let Some(behind) = past_sign(scan.masked) else {
+        return Ok(None);
+    };
+    if has_cut_keyword(scan, behind) {
+        return Err(Cut);
+    }
+    Ok(found_behind(scan, behind))
+}
+
+/// The bytes behind the `#` that comes first but for white space, if one does.
+fn past_sign(masked: &[u8]) -> Option<&[u8]>
+    ensures { MatchOption result (past_sign masked.now ≡ None) (λ rest. past_sign masked.now ≡ Some rest.now) }
+{
+    match past_white(masked).split_first() {
+        Some((b'#', rest)) => Some(rest),
+        _ => None,
+    }
+}
+
+/// Whether behind the `#` of a line its keyword can't be known.
+fn has_cut_keyword(scan: &Scan<'_>, behind: &[u8]) -> bool
+    ensures { result ≡ has_cut_keyword (as_scan scan.now) (Some behind.now) }
+{
+    scan.fresh
+        && scan.joins_after
+        && scan.comment != CommentAt::InLine
+        && leaves_keyword(scan, past_white(behind))
+}
+
+/// Whether the keyword can't be known of which these bytes are all that the line has.
+fn leaves_keyword(scan: &Scan<'_>, rest: &[u8]) -> bool
+    ensures { result ≡ leaves_keyword (as_scan scan.now) rest.now }
+{
+    rest.is_empty() || is_cut_off(scan) && (rest == b"/".as_slice() || is_keyword_front(rest))
+}
+
+/// Whether a continuation cuts the line outside comments.
+fn is_cut_off(scan: &Scan<'_>) -> bool
+    ensures { result ≡ is_cut_off (as_scan scan.now) }
+{
+    scan.spliced && scan.comment == CommentAt::Outside
+}
+
+/// Whether a text is a nonempty run of word bytes that begins a keyword.
+fn is_keyword_front(text: &[u8]) -> bool
+    ensures { result ≡ is_keyword_front text.now }
+{
+    match text.first() {
+        Some(_) => are_word_bytes(text) && begins_keyword(text),
+        None => false,
+    }
+}
+
+/// Whether each byte is one of a word.
+fn are_word_bytes(bytes: &[u8]) -> bool
+    ensures { result ≡ are_word_bytes bytes.now }
+{
+    bytes.iter().all(|byte| is_word_byte(*byte))
+}
+
+/// Whether a word is a front of a keyword, or a whole one.
+fn begins_keyword(word: &[u8]) -> bool
+    ensures { result ≡ begins_keyword word.now }
+{
+    b"if".starts_with(word)
+        || b"ifdef".starts_with(word)
+        || b"ifndef".starts_with(word)
+        || b"elif".starts_with(word)
+        || b"else".starts_with(word)
+        || b"endif".starts_with(word)
+}
+
+/// The directive whose keyword stands behind the `#` of a line, where the line is fresh.
+fn found_behind<'a>(scan: &Scan<'a>, behind: &'a [u8]) -> Option<Directive<'a>>
+    requires { past_sign scan.now.masked.now ≡ Some behind.now }
+    ensures { directive_or_text result ≡ found_behind (as_scan scan.now) (Some behind.now) }
+{
+    if !scan.fresh {
+        return None;
+    }
+    let rest = past_white(behind);
+    let len = word_len(rest);
+    let kind = kind_of(&rest[..len])?;
+    Some(Directive {
+        kind,
+        keyword: Span {
+            at: scan.masked.len() - rest.len(),
+            len,
+        },
+        after: &rest[len..],
+        broken: is_cut_off(scan),
+    })
+}
+
+/// The directive of a keyword, if the word is one.
+fn kind_of(word: &[u8]) -> Option<Kind>
+    ensures { result ≡ kind_of word.now }
+{
+    if word == b"if".as_slice() {
+        Some(Kind::If)
+    } else if word == b"ifdef".as_slice() {
+        Some(Kind::Ifdef)
+    } else if word == b"ifndef".as_slice() {
+        Some(Kind::Ifndef)
+    } else if word == b"elif".as_slice() {
+        Some(Kind::Elif)
+    } else if word == b"else".as_slice() {
+        Some(Kind::Else)
+    } else if word == b"endif".as_slice() {
+        Some(Kind::Endif)
+    } else {
+        None
+    }
+}
