@@ -21,3 +21,4 @@ pub mod ExpressionExamples
 pub mod Readings
 pub mod SymbolLemmas
 pub mod ConditionLemmas
+pub mod KnownNumbers
