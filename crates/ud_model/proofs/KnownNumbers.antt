@@ -2,17 +2,18 @@
 --
 -- Between two numbers of intmax_t this is how C defines its results. Beside one of uintmax_t no known number lies below 0 or
 -- above 2^63-1, and modulo 2^64 such a result is itself. That is what the least number is for.
-use Rattle.std.proofs.Common.{◌≡◌, ◌≢◌, ℕ, zero, suc, ◌+◌, ◌-◌, ◌*◌, ◌/◌, ◌%◌, ◌^◌, ◌<◌, ◌≤◌, Bool, true, false, not, ◌&&◌, if◌then◌else◌, Option, Some, None, refl, sym, ◌∙◌, ap, subst, inl, inr, arith, ℤ, pos, negsuc, ◌-ℤ◌, ◌<ℤ◌, ◌≤ℤ◌, int_lt, int_le, int_div, bit_and, bit_or, bit_xor, Decides, T, leb, ltb, nat_eq, unsigned_abs}
+use Rattle.std.proofs.Common.{◌≡◌, ◌≢◌, ℕ, zero, suc, ◌+◌, ◌-◌, ◌*◌, ◌/◌, ◌%◌, ◌^◌, ◌<◌, ◌≤◌, Bool, true, false, not, ◌&&◌, if◌then◌else◌, Option, Some, None, refl, sym, ◌∙◌, ap, subst, inl, inr, arith, ℤ, pos, negsuc, ◌-ℤ◌, neg_ℤ, ◌<ℤ◌, ◌≤ℤ◌, int_lt, int_le, int_div, bit_and, bit_or, bit_xor, Decides, T, leb, ltb, nat_eq, unsigned_abs}
 use Rattle.std.specs.Int.{cast_signed, cast_unsigned}
 use Rattle.std.proofs.lemmas.Option.{none-some, same_Some}
 use Rattle.std.proofs.lemmas.Bool.{false≢true}
-use Rattle.std.proofs.lemmas.Bool.Decides.{Decides-ltb, leb_tells}
+use Rattle.std.proofs.lemmas.Bool.Decides.{Decides-ltb, Decides-eqb, leb_tells}
 use Rattle.std.proofs.lemmas.Nat.{and_le_l, or_lt, xor_lt}
 use Rattle.std.proofs.lemmas.Int.{to_z_pos}
 use Rattle.std.proofs.Math.Nat.{mod-eq_of_lt, add-mul-mod_self_right}
+use Rattle.std.proofs.Math.Facts.{to_z-neg}
 use mir.Syntax.{w64}
-use Rattle.ud_model.specs.Values.{fits, fit, truth, is_zero, same, operate}
-use Rattle.ud_model.specs.CValues.{Number, signed, unsigned, number, IsTruth, GivesSigned, GivesUnsigned, Gives}
+use Rattle.ud_model.specs.Values.{fits, fit, truth, is_zero, same, operate, change}
+use Rattle.ud_model.specs.CValues.{Changes, Number, signed, unsigned, number, IsTruth, GivesSigned, GivesUnsigned, Gives}
 use Rattle.ud_model.specs.declared.operator.Operator.{Operator}
 use Rattle.ud_model.specs.declared.operator.Operator.TheVariants.{Or, And, BitOr, BitXor, BitAnd, Equal, NotEqual, Less, LessEqual, Greater, GreaterEqual, Plus, Minus, Times, Over, Remainder, Not, Complement}
 
@@ -214,3 +215,57 @@ gives_agrees u o a b n (unsigned s) (signed t) c p q e g =
     gives_by u o a b n c s _ p.2 p.1 q.1 (ap (cast_unsigned w64) p.0) (ap (cast_unsigned w64) q.0) e g
 gives_agrees u o a b n (unsigned s) (unsigned t) c p q e g =
     gives_by u o a b n c s t p.2 p.1 q.1 (ap (cast_unsigned w64) p.0) (ap (cast_unsigned w64) q.0) e g
+
+zero_decides : (a : ℤ) → Decides (is_zero a) (a ≡ pos 0)
+zero_decides (pos j) = like_decides (nat_eq j 0) (λ e. ap pos e) (pos_same j 0) (Decides-eqb j 0)
+zero_decides (negsuc j) = ((λ e. absurd (false≢true e)), λ h. cc)
+
+-- a known number is 0 exactly where C's is
+pub zero_agrees : (u : Bool) (a : ℤ) (x : Number) → Agrees u a x → Decides (is_zero a) (number x ≡ pos 0)
+zero_agrees u a x p = like_decides (is_zero a) (λ e. agrees_number u a x p ∙ e) (λ e. sym (agrees_number u a x p) ∙ e) (zero_decides a)
+
+below_zero_fits : (u : Bool) (j : ℕ) → fits u (negsuc j) ≡ true → j < 2 ^ 63
+below_zero_fits true j f = absurd (false≢true f)
+below_zero_fits false j f = (Decides-ltb j (2 ^ 63)).0 f
+
+minus_one : (j : ℕ) → neg_ℤ (pos j) -ℤ pos 1 ≡ negsuc j
+minus_one zero = refl
+minus_one (suc j) = ap negsuc (omega arith)
+
+minus_one_more : (j : ℕ) → neg_ℤ (negsuc j) -ℤ pos 1 ≡ pos j
+minus_one_more j = less (ltb (suc j) 1) refl
+  where
+    less : (b : Bool) → ltb (suc j) 1 ≡ b → (if b then negsuc (1 - suc (suc j)) else pos (suc j - 1)) ≡ pos j
+    less true e = let h : suc j < 1 = (Decides-ltb (suc j) 1).0 e in absurd (omega arith)
+    less false e = ap pos (omega arith)
+
+-- the bits of a number turned are those of -1 less the number
+turned : (u : Bool) (a : ℤ) → fits u a ≡ true → cast_signed w64 (2 ^ 64 - 1 - cast_unsigned w64 a) ≡ neg_ℤ a -ℤ pos 1
+turned u (pos j) f =
+    let h : j < 2 ^ 63 = (Decides-ltb j (2 ^ 63)).0 f in
+    let d : 2 ^ 64 - 1 - j ≡ 2 ^ 64 - suc j = omega arith in
+    ap (cast_signed w64) d ∙ to_z-neg w64 j h ∙ sym (minus_one j)
+turned u (negsuc j) f =
+    let h : j < 2 ^ 63 = below_zero_fits u j f in
+    let d : 2 ^ 64 - 1 - (2 ^ 64 - suc j) ≡ j = omega arith in
+    ap (cast_signed w64) d ∙ to_z_pos w64 j h ∙ sym (minus_one_more j)
+
+negated_natural : (j : ℕ) (n : ℤ) (c : Number) → fit true (neg_ℤ (pos j)) ≡ Some n → c ≡ unsigned ((2 ^ 64 - j) % 2 ^ 64) → Agrees true n c
+negated_natural zero n c e g = as_natural n c 0 g (fit_is true (pos 0) n e)
+negated_natural (suc j) n c e g = absurd (none-some n e)
+
+no_complement : (j : ℕ) (n : ℤ) → fit true (neg_ℤ (pos j) -ℤ pos 1) ≡ Some n → ⊥
+no_complement j n e = none-some n (rw (minus_one j) at e)
+
+-- C's result agrees with the known one
+pub changes_agrees : (u : Bool) (o : Operator) (a n : ℤ) (x c : Number) → Agrees u a x → change u o a ≡ Some n → Changes o x c → Agrees u n c
+unfolding change
+changes_agrees u Not a n x c p e g = truth_agrees (number x ≡ pos 0) u (is_zero a) n c (zero_agrees u a x p) e g
+changes_agrees u Minus a n (signed s) c p e g = as_signed u n c (neg_ℤ s) g.1 (fit_is u (neg_ℤ s) n (ap (λ z. fit u (neg_ℤ z)) p.0 ∙ e))
+changes_agrees true Minus a n (unsigned j) c p e g = negated_natural j n c (ap (λ z. fit true (neg_ℤ z)) p.0 ∙ e) g
+changes_agrees false Minus a n (unsigned j) c p e g = absurd (false≢true p.2)
+changes_agrees u Complement a n (signed s) c p e g =
+    as_signed u n c (neg_ℤ s -ℤ pos 1) (g ∙ ap signed (turned u s (ap (fits u) p.0 ∙ p.1))) (fit_is u (neg_ℤ s -ℤ pos 1) n (ap (λ z. fit u (neg_ℤ z -ℤ pos 1)) p.0 ∙ e))
+changes_agrees true Complement a n (unsigned j) c p e g = absurd (no_complement j n (ap (λ z. fit true (neg_ℤ z -ℤ pos 1)) p.0 ∙ e))
+changes_agrees false Complement a n (unsigned j) c p e g = absurd (false≢true p.2)
+changes_agrees u _ a n x c p e g = absurd (none-some n e)
