@@ -81,7 +81,8 @@ both_ways a b = elim (leb_tells a b) [
   | inr p ↦ ((λ e. absurd (false≢true (rw p.0 at e))), λ h. absurd (omega arith))
 ]
 
-not_decides : {P : Type 0} (b : Bool) → Decides b P → Decides (not b) (P → ⊥)
+-- a test turned decides that the fact doesn't hold
+pub not_decides : {P : Type 0} (b : Bool) → Decides b P → Decides (not b) (P → ⊥)
 not_decides true d = ((λ e. absurd (false≢true e)), λ h. absurd (h (d.0 refl)))
 not_decides false d = ((λ e. λ p. false≢true (d.1 p)), λ h. refl)
 

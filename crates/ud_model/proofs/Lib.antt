@@ -22,3 +22,4 @@ pub mod Readings
 pub mod SymbolLemmas
 pub mod ConditionLemmas
 pub mod KnownNumbers
+pub mod KnownStays

@@ -1,6 +1,6 @@
 //! Laws over the definitions: functions without a body, whose contracts are theorems.
 
-ghost use Rattle.std.specs.Prelude.{◌≡◌, ◌≢◌, ◌++◌, ℕ, List, [], ◌∷◌, length, map, true, false};
+ghost use Rattle.std.specs.Prelude.{◌≡◌, ◌≢◌, ◌++◌, ℕ, List, [], ◌∷◌, length, map, true, false, Bool, Some, ℤ};
 ghost use Rattle.ud_model.specs.Lines.{Line, AreLines, texts_of};
 ghost use Rattle.ud_model.specs.Scans.{Reading};
 ghost use Rattle.ud_model.specs.Splicing.{content, run_of};
@@ -14,6 +14,10 @@ ghost use Rattle.ud_model.specs.Items.{Options};
 ghost use Rattle.ud_model.specs.Faults.{Fault, FaultOf, NoneHolds, cases};
 ghost use Rattle.ud_model.specs.Runs.{Outcome, Runs, RunsSoFar};
 ghost use Rattle.ud_model.specs.Answer.{Answer, IsAnswer};
+ghost use Rattle.ud_model.specs.Table.{Argument};
+ghost use Rattle.ud_model.specs.Expressions.{Expression};
+ghost use Rattle.ud_model.specs.Values.{value_of};
+ghost use Rattle.ud_model.specs.CValues.{Number, number, IsCValue};
 
 /// A text has lines, and has them in one way only.
 pub fn law_lines()
@@ -77,4 +81,10 @@ pub fn law_fault_stays()
 /// Words and an input have one answer at most.
 pub fn law_one_answer()
     ensures { (words : List (List ℕ)) → (input : List ℕ) → (a : Answer) → (b : Answer) → IsAnswer words input a → IsAnswer words input b → a ≡ b }
+{}
+
+/// Where the value of an expression is known, it is the C value, whatever stands for the names that the table leaves open,
+/// with and without `strict`: each value that C may give the expression is this number (C11 6.10.1p4, 6.5).
+pub fn law_known_stays()
+    ensures { (table : List Argument) → (strict : Bool) → (e : Expression) → (n : ℤ) → (c : Number) → value_of table strict e ≡ Some n → IsCValue table e c → number c ≡ n }
 {}
