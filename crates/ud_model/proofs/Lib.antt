@@ -23,3 +23,4 @@ pub mod SymbolLemmas
 pub mod ConditionLemmas
 pub mod KnownNumbers
 pub mod KnownStays
+pub mod KnownExamples
