@@ -24,3 +24,4 @@ pub mod ConditionLemmas
 pub mod KnownNumbers
 pub mod KnownStays
 pub mod KnownExamples
+pub mod ParsingComplete
