@@ -25,3 +25,4 @@ pub mod KnownNumbers
 pub mod KnownStays
 pub mod KnownExamples
 pub mod ParsingComplete
+pub mod ParsingSound
