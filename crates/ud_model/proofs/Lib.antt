@@ -26,3 +26,5 @@ pub mod KnownStays
 pub mod KnownExamples
 pub mod ParsingComplete
 pub mod ParsingSound
+pub mod TokenLemmas
+pub mod OneExpression
