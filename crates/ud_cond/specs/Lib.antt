@@ -1,2 +1,4 @@
 pub mod Standing
 pub mod Viewing
+pub mod Worth
+pub mod Descent
