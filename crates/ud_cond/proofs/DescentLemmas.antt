@@ -6,43 +6,23 @@ use Rattle.ud_model.specs.Tokens.{Token, number, name, defined, operator, openin
 use Rattle.ud_model.specs.Expressions.{level, is_prefix}
 use Rattle.ud_model.specs.Parsing.{Meaning, Frame, left, before, paren, needs, has, asks, asks_inside, asks_end, stuck, reduce, close, wait, step, alone, reads}
 use Rattle.ud_model.specs.declared.operator.Operator.{Operator}
-use Rattle.ud_model.specs.declared.operator.Operator.TheVariants.{Or, And, BitOr, BitXor, BitAnd, Equal, NotEqual, Less, LessEqual, Greater, GreaterEqual, Plus, Minus, Times, Over, Remainder, Not, Complement}
 use Rattle.ud_cond.specs.Viewing.{as_next, as_token}
 use Rattle.ud_cond.specs.declared.tokens.Token as token
 use Rattle.ud_cond.specs.declared.tokens.Next as front
 use Rattle.ud_cond.specs.declared.tokens.Next.TheVariants as comes
 use Rattle.ud_cond.specs.Descent.{Below, Stops, plain_name, behind_opening, behind_closing, next_operator, Begun, Parsed, Parses, Asked, Asks}
-use Rattle.ud_cond.proofs.ReadingLemmas.{shorter, reads_on, reads-on, reads-stuck, reads-found}
+use Rattle.ud_model.proofs.ParsingComplete.{level_most}
+use Rattle.ud_model.proofs.TokenLemmas.{shorter}
+use Rattle.ud_cond.proofs.ReadingLemmas.{reads_on, reads-on, reads-stuck, reads-found}
 
--- no operator is tighter than level 9
-pub level-bound : (o : Operator) → level o ≤ 9
-level-bound Or = omega arith
-level-bound And = omega arith
-level-bound BitOr = omega arith
-level-bound BitXor = omega arith
-level-bound BitAnd = omega arith
-level-bound Equal = omega arith
-level-bound NotEqual = omega arith
-level-bound Less = omega arith
-level-bound LessEqual = omega arith
-level-bound Greater = omega arith
-level-bound GreaterEqual = omega arith
-level-bound Plus = omega arith
-level-bound Minus = omega arith
-level-bound Times = omega arith
-level-bound Over = omega arith
-level-bound Remainder = omega arith
-level-bound Not = omega arith
-level-bound Complement = omega arith
-
--- so none comes that is of level 10
+-- no operator is of level 10
 stops-ten : (x : Next) → Stops 10 x
 stops-ten at_end = tt
 stops-ten unreadable = tt
 stops-ten (found (number w) rest) = tt
 stops-ten (found (name n a) rest) = tt
 stops-ten (found defined rest) = tt
-stops-ten (found (operator o) rest) = omega (arith, level-bound o)
+stops-ten (found (operator o) rest) = omega (arith, level_most o)
 stops-ten (found opening rest) = tt
 stops-ten (found closing rest) = tt
 
@@ -63,11 +43,11 @@ module _ {A : Type 0} (m : Meaning A) where
   -- an operand of one token
   pub parses-constant : (text w rest : List ℕ) → next_token text ≡ found (number w) rest → Parsed m 10 text (m.constant w) rest
   parses-constant text w rest e =
-      record { same = λ s b. reads-found m (needs s) text (number w) rest e; stops = stops-ten (next_token rest); shorter = shorter text (number w) rest e }
+      record { same = λ s b. reads-found m (needs s) text (number w) rest e; stops = stops-ten (next_token rest); shorter = shorter text rest (number w) e }
 
   pub parses-name : (text n : List ℕ) (a : Bool) (rest : List ℕ) → next_token text ≡ found (name n a) rest → Parsed m 10 text (m.named n a) rest
   parses-name text n a rest e =
-      record { same = λ s b. reads-found m (needs s) text (name n a) rest e; stops = stops-ten (next_token rest); shorter = shorter text (name n a) rest e }
+      record { same = λ s b. reads-found m (needs s) text (name n a) rest e; stops = stops-ten (next_token rest); shorter = shorter text rest (name n a) e }
 
   -- a token with which no operand begins
   pub parses-closing : (text rest : List ℕ) → next_token text ≡ found closing rest → Parses m 10 text None
@@ -82,7 +62,7 @@ module _ {A : Type 0} (m : Meaning A) where
   parses-defined text rest v end e asked = record {
     same = λ s b. reads-found m (needs s) text defined rest e ∙ asked.same s;
     stops = stops-ten (next_token end);
-    shorter = let l : length end < length rest = asked.shorter in omega (arith, shorter text defined rest e);
+    shorter = let l : length end < length rest = asked.shorter in omega (arith, shorter text rest defined e);
   }
 
   pub parses-defined-none : (text rest : List ℕ) → next_token text ≡ found defined rest → Asks m rest None → Parses m 10 text None
@@ -113,10 +93,10 @@ module _ {A : Type 0} (m : Meaning A) where
       Parsed m 10 rest v end → Parsed m 10 text (m.unary o v) end
   parses-prefix text o rest v end e p parsed = record {
     same = λ s b.
-      to_prefix text o rest e p s ∙ parsed.same (before o ∷ s) (omega arith) ∙ reads-on m (has v (before o ∷ s)) end ∙ take_before o v s (next_token end)
-      ∙ sym (reads-on m (has (m.unary o v) s) end);
+        to_prefix text o rest e p s ∙ parsed.same (before o ∷ s) (omega arith) ∙ reads-on m (has v (before o ∷ s)) end ∙ take_before o v s (next_token end)
+        ∙ sym (reads-on m (has (m.unary o v) s) end);
     stops = stops-ten (next_token end);
-    shorter = let l : length end < length rest = parsed.shorter in omega (arith, shorter text (operator o) rest e);
+    shorter = let l : length end < length rest = parsed.shorter in omega (arith, shorter text rest (operator o) e);
   }
 
   pub parses-prefix-none : (text : List ℕ) (o : Operator) (rest : List ℕ) → next_token text ≡ found (operator o) rest → is_prefix o ≡ true →
@@ -128,9 +108,9 @@ module _ {A : Type 0} (m : Meaning A) where
       next_token end ≡ found closing behind → Parsed m 10 text (m.parens v) behind
   parses-parens text rest v end behind e parsed f = record {
     same = λ s b.
-      reads-found m (needs s) text opening rest e ∙ parsed.same (paren ∷ s) tt ∙ reads-found m (has v (paren ∷ s)) end closing behind f;
+        reads-found m (needs s) text opening rest e ∙ parsed.same (paren ∷ s) tt ∙ reads-found m (has v (paren ∷ s)) end closing behind f;
     stops = stops-ten (next_token behind);
-    shorter = let l : length end < length rest = parsed.shorter in omega (arith, shorter text opening rest e, shorter end closing behind f);
+    shorter = let l : length end < length rest = parsed.shorter in omega (arith, shorter text rest opening e, shorter end behind closing f);
   }
 
   pub parses-parens-none : (text rest : List ℕ) → next_token text ≡ found opening rest → Parses m 1 rest None → Parses m 10 text None
@@ -181,7 +161,7 @@ module _ {A : Type 0} (m : Meaning A) where
   to_infix k text o rest v s e low l b =
       let some : leb 1 (level o) ≡ true = le-leb 1 (level o) (omega arith) in
       reads-found m (has v s) text (operator o) rest e ∙ ap (λ t. reads m (if t then wait m o (reduce m (level o) v s) else stuck) rest) some
-      ∙ ap (λ r. reads m (wait m o r) rest) (reduce-below k (level o) v s l (level-bound o) b)
+      ∙ ap (λ r. reads m (wait m o r) rest) (reduce-below k (level o) v s l (level_most o) b)
 
   take_if : (t : Bool) (j : ℕ) (o : Operator) (a v : A) (s : List (Frame A)) → t ≡ true →
       (if t then reduce m j (m.binary o a v) s else (v, left o a ∷ s)) ≡ reduce m j (m.binary o a v) s
@@ -209,12 +189,12 @@ module _ {A : Type 0} (m : Meaning A) where
       next_token rest ≡ found (operator o) behind → 1 ≤ k → k ≤ j → Parsed m (j + 1) behind w end → Begun m k text (m.binary o v w) end
   goes-on k j text v rest o behind w end i begun e low l parsed = record {
     same = λ s b.
-      begun.same s b ∙ to_infix k rest o behind v s e low (omega arith) b ∙ parsed.same (left o v ∷ s) (omega arith) ∙ reads-on m (has w (left o v ∷ s)) end
-      ∙ take_left o j v w s (next_token end) i parsed.stops ∙ sym (reads-on m (has (m.binary o v w) s) end);
+        begun.same s b ∙ to_infix k rest o behind v s e low (omega arith) b ∙ parsed.same (left o v ∷ s) (omega arith) ∙ reads-on m (has w (left o v ∷ s)) end
+        ∙ take_left o j v w s (next_token end) i parsed.stops ∙ sym (reads-on m (has (m.binary o v w) s) end);
     shorter =
-      let a : length end < length behind = parsed.shorter in
-      let c : length rest < length text = begun.shorter in
-      omega (arith, shorter rest (operator o) behind e);
+        let a : length end < length behind = parsed.shorter in
+        let c : length rest < length text = begun.shorter in
+        omega (arith, shorter rest behind (operator o) e);
   }
 
   pub goes-none : (k j : ℕ) (text : List ℕ) (v : A) (rest : List ℕ) (o : Operator) (behind : List ℕ) → j ≡ level o → Begun m k text v rest → next_token rest ≡ found (operator o) behind →
@@ -227,14 +207,14 @@ module _ {A : Type 0} (m : Meaning A) where
 
   -- `defined` and a name
   pub asks-plain : (text n rest : List ℕ) → next_token text ≡ found (name n false) rest → Asked m text (m.is_defined n false) rest
-  asks-plain text n rest e = record { same = λ s. reads-found m (asks s) text (name n false) rest e; shorter = shorter text (name n false) rest e }
+  asks-plain text n rest e = record { same = λ s. reads-found m (asks s) text (name n false) rest e; shorter = shorter text rest (name n false) e }
 
   -- `defined` and a name in parentheses
   pub asks-parens : (text inside n end rest : List ℕ) → next_token text ≡ found opening inside → next_token inside ≡ found (name n false) end → next_token end ≡ found closing rest →
       Asked m text (m.is_defined n true) rest
   asks-parens text inside n end rest e f g = record {
     same = λ s. reads-found m (asks s) text opening inside e ∙ reads-found m (asks_inside s) inside (name n false) end f ∙ reads-found m (asks_end n s) end closing rest g;
-    shorter = omega (arith, shorter text opening inside e, shorter inside (name n false) end f, shorter end closing rest g);
+    shorter = omega (arith, shorter text inside opening e, shorter inside end (name n false) f, shorter end rest closing g);
   }
 
   neither : (s : List (Frame A)) (x : Next) → plain_name x ≡ None → behind_opening x ≡ None → reads_on m (asks s) x ≡ None

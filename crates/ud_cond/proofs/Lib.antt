@@ -3,4 +3,5 @@ pub mod TableLemmas
 pub mod ReadingLemmas
 pub mod DescentLemmas
 pub mod WorthLemmas
+pub mod NamingLemmas
 pub mod DigitLemmas

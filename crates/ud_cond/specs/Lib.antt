@@ -2,3 +2,4 @@ pub mod Standing
 pub mod Viewing
 pub mod Worth
 pub mod Descent
+pub mod Naming

@@ -5,7 +5,8 @@
 --   worth table strict u   what each part of an expression is worth, u saying whether the whole has a `u`
 --   worth_of table strict u e   what a tree is worth
 --   decided rules v        what a value decides
-use Rattle.std.specs.Prelude.{ℕ, List, Bool, false, ◌||◌, ◌&&◌, not, if◌then◌else◌}
+use Rattle.std.specs.Prelude.{ℕ, List, [], Option, Some, None, Bool, false, ◌||◌, ◌&&◌, not, if◌then◌else◌}
+use Rattle.std.specs.Borrow.{Bor}
 use Rattle.ud_model.specs.Table.{Argument, entry_in}
 use Rattle.ud_model.specs.Constants.{has_u}
 use Rattle.ud_model.specs.Expressions.{Expression}
@@ -50,9 +51,17 @@ worth table strict u = record {
   parens = λ a. a;
 }
 
--- as a scope has it
+abbrev pub rows_in : Option (Bor (List Argument)) → List Argument
+rows_in None = []
+rows_in (Some symbols) = symbols.now
+
+-- the table of a scope, which says nothing where there is none
+abbrev pub table_in : Scope → List Argument
+table_in s = rows_in s.symbols
+
+-- what each part of an expression is worth in a scope
 abbrev pub worth_in : Scope → Meaning Value
-worth_in s = worth s.symbols.now s.strict s.unsigned
+worth_in s = worth (table_in s) s.strict s.unsigned
 
 -- what a tree is worth
 abbrev pub worth_of : List Argument → Bool → Bool → Expression → Value

@@ -51,7 +51,7 @@ fn expression_cond(text: &[u8], symbols: &Symbols, rules: Rules) -> Cond
     ensures { result ≡ spec.expression_cond text.now symbols.now (as_rules rules) }
 {
     let signed = Scope {
-        symbols,
+        symbols: Some(symbols),
         strict: rules.strict,
         unsigned: false,
     };
@@ -62,7 +62,7 @@ fn expression_cond(text: &[u8], symbols: &Symbols, rules: Rules) -> Cond
                 return decided(rules, value);
             }
             let unsigned = Scope {
-                symbols,
+                symbols: Some(symbols),
                 strict: rules.strict,
                 unsigned: true,
             };

@@ -9,6 +9,8 @@ pub mod bytes;
 mod conditions;
 mod constants;
 mod fault;
+mod listed;
+mod naming;
 mod parsing;
 mod symbols;
 mod tokens;
@@ -16,4 +18,6 @@ mod values;
 
 pub use conditions::{Answer, Rules, condition};
 pub use fault::SymbolFault;
+pub use listed::Names;
+pub use naming::names;
 pub use symbols::{Entry, Symbols};

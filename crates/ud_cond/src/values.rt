@@ -2,12 +2,15 @@
 //!
 //! Numbers are those of ud_model, specs/Values.antt (C11 6.10.1p4 and 6.5); `specs/Worth.antt` says what is kept beside them.
 
-ghost use Rattle.std.specs.Prelude.{◌≡◌, option_and_then};
+ghost use Rattle.std.specs.Prelude.{◌≡◌, option_and_then, option_map};
+ghost use Rattle.ud_model.specs.Table.{entry_in};
+ghost use Rattle.ud_model.specs.Symbols.{end_of};
 ghost use Rattle.ud_model.specs.Values as spec;
-ghost use Rattle.ud_cond.specs.Worth.{constant_worth, name_worth, defined_worth, unary_worth, binary_worth};
+ghost use Rattle.ud_cond.specs.Viewing.{as_entry};
+ghost use Rattle.ud_cond.specs.Worth.{table_in, constant_worth, name_worth, defined_worth, unary_worth, binary_worth};
 
 use crate::constants::{constant_value, has_u, is_constant};
-use crate::symbols::Symbols;
+use crate::symbols::{Entry, Symbols};
 use ud_model::Operator;
 
 /// What a part of an expression is worth.
@@ -26,12 +29,35 @@ pub(crate) struct Value {
 /// What decides the values of an expression.
 #[derive(Clone, Copy)]
 pub(crate) struct Scope<'a> {
-    /// What is said of names.
-    pub(crate) symbols: &'a Symbols,
+    /// What is said of names; nothing without a table.
+    pub(crate) symbols: Option<&'a Symbols>,
     /// `&&` and `||` are unknown where an operand is.
     pub(crate) strict: bool,
     /// A `u` stands in the expression, so its least number is 0.
     pub(crate) unsigned: bool,
+}
+
+impl Scope<'_> {
+    /// What is said of a name.
+    fn find(&self, name: &[u8]) -> Option<Entry<'_>>
+        ensures { option_map as_entry result ≡ entry_in (table_in self.now) name.now }
+    {
+        match self.symbols {
+            Some(symbols) => symbols.find(name),
+            None => None,
+        }
+    }
+
+    /// The text at which the value of a name ends.
+    #[tactic(auto, unfolding(ud_model::specs::Symbols::end_of))]
+    fn end_of<'a>(&'a self, name: &'a [u8]) -> Option<&'a [u8]>
+        ensures { option_map (λ v. v.now) result ≡ end_of (table_in self.now) name.now }
+    {
+        match self.symbols {
+            Some(symbols) => symbols.end_of(name),
+            None => None,
+        }
+    }
 }
 
 /// What a constant is worth.
@@ -83,14 +109,14 @@ fn text_has_u(text: &[u8]) -> bool
 /// What a name with or without arguments is worth.
 #[tactic(auto, unfolding(ud_model::specs::Values::name_value, ud_model::specs::Values::name_has_u))]
 pub(crate) fn named(scope: &Scope<'_>, name: &[u8], arguments: bool) -> Value
-    ensures { result ≡ name_worth scope.now.symbols.now scope.now.unsigned name.now arguments }
+    ensures { result ≡ name_worth (table_in scope.now) scope.now.unsigned name.now arguments }
 {
-    let end = scope.symbols.end_of(name);
+    let end = scope.end_of(name);
     let unsigned = match end {
         Some(text) => text_has_u(text),
         None => false,
     };
-    match scope.symbols.find(name) {
+    match scope.find(name) {
         None => Value {
             number: None,
             unsigned,
@@ -120,9 +146,9 @@ pub(crate) fn named(scope: &Scope<'_>, name: &[u8], arguments: bool) -> Value
 /// What `defined` and a name are worth.
 #[tactic(auto, unfolding(ud_model::specs::Values::defined_value))]
 pub(crate) fn defined(scope: &Scope<'_>, name: &[u8]) -> Value
-    ensures { result ≡ defined_worth scope.now.symbols.now name.now }
+    ensures { result ≡ defined_worth (table_in scope.now) name.now }
 {
-    match scope.symbols.find(name) {
+    match scope.find(name) {
         None => Value {
             number: None,
             unsigned: false,
@@ -211,20 +237,8 @@ fn decides(strict: bool, operator: Operator, a: i64) -> Option<i64>
         return None;
     }
     match operator {
-        Operator::And => {
-            if a == 0 {
-                Some(0)
-            } else {
-                None
-            }
-        }
-        Operator::Or => {
-            if a == 0 {
-                None
-            } else {
-                Some(1)
-            }
-        }
+        Operator::And => { if a == 0 { Some(0) } else { None } }
+        Operator::Or => { if a == 0 { None } else { Some(1) } }
         _ => None,
     }
 }

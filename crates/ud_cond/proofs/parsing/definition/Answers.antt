@@ -16,7 +16,7 @@ pub returns-in_err-rest-in-None : goal.returns-in_err-rest-in-None
 returns-in_err-rest-in-None c =
     rw c.from_residual-in_err-rest-in-None.ensures
     (step.asks-endless (worth_in c.args.scope.now) c.args.text.now c.in_ok-inside-in-None.inside.now c.in_ok-name-in-None.name.now c.in_ok-name-in-None.end.now
-     (step.found-opening _ _ c.in_ok-inside-in-None.ensures) (step.found-plain_name _ _ _ c.in_ok-name-in-None.ensures) (sym c.in_err-rest-in-None.ensures))
+    (step.found-opening _ _ c.in_ok-inside-in-None.ensures) (step.found-plain_name _ _ _ c.in_ok-name-in-None.ensures) (sym c.in_err-rest-in-None.ensures))
 
 pub returns-in-Some : goal.returns-in-Some
 returns-in-Some c =
@@ -26,4 +26,4 @@ pub returns-in_ok-rest-in-None : goal.returns-in_ok-rest-in-None
 returns-in_ok-rest-in-None c =
     rw c.defined-in-None.ensures
     (step.asks-parens (worth_in c.args.scope.now) c.args.text.now c.in_ok-inside-in-None.inside.now c.in_ok-name-in-None.name.now c.in_ok-name-in-None.end.now c.in_ok-rest-in-None.rest.now
-     (step.found-opening _ _ c.in_ok-inside-in-None.ensures) (step.found-plain_name _ _ _ c.in_ok-name-in-None.ensures) (step.found-closing _ _ c.in_ok-rest-in-None.ensures))
+    (step.found-opening _ _ c.in_ok-inside-in-None.ensures) (step.found-plain_name _ _ _ c.in_ok-name-in-None.ensures) (step.found-closing _ _ c.in_ok-rest-in-None.ensures))
