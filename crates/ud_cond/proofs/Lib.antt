@@ -1,2 +1,7 @@
 pub mod ByteLemmas
 pub mod TableLemmas
+pub mod ReadingLemmas
+pub mod DescentLemmas
+pub mod WorthLemmas
+pub mod NamingLemmas
+pub mod DigitLemmas

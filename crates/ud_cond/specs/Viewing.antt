@@ -1,12 +1,57 @@
 -- Viewing: the program's values, seen as those of the definitions.
 use Rattle.std.specs.Prelude.{List, ℕ, Bool, Option, option_map}
-use Rattle.ud_cond.specs.declared.symbols.Entry as declared
+use Rattle.ud_cond.specs.declared.symbols.Entry as entry
+use Rattle.ud_cond.specs.declared.conditions.Rules as rules
+use Rattle.ud_cond.specs.declared.conditions.Answer as answer
+use Rattle.ud_cond.specs.declared.tokens.Token as token
+use Rattle.ud_cond.specs.declared.tokens.Token.TheVariants as is
+use Rattle.ud_cond.specs.declared.tokens.Next as next
+use Rattle.ud_cond.specs.declared.tokens.Next.TheVariants as comes
+use Rattle.ud_cond.specs.declared.constants.Base as base
+use Rattle.ud_cond.specs.declared.constants.Base.TheVariants.{Octal, Decimal, Hexadecimal}
+use Rattle.ud_cond.specs.declared.constants.Parts as parts
+use Rattle.ud_model.specs.Bytes.{is_digit}
+use Rattle.ud_model.specs.Constants.{Parts, is_octal_digit, is_hex_digit}
+use Rattle.ud_model.specs.Tokens.{Token, number, name, defined, operator, opening, closing, Next, at_end, unreadable, found}
 use Rattle.ud_model.specs.Table.{Argument, Entry}
+use Rattle.ud_model.specs.Conditions.{Rules, Decision}
 
 -- an entry that the table lends
-abbrev pub as_entry : declared.Entry → Entry
+abbrev pub as_entry : entry.Entry → Entry
 as_entry e = record { value = option_map (λ v. v.now) e.value; ignoring = e.ignoring }
 
 -- the call that says of a name that it has this value, or that it is undefined
 abbrev pub said : List ℕ → Option (List ℕ) → Bool → Argument
-said name value ignoring = record { name = name; entry = record { value = value; ignoring = ignoring } }
+said n value ignoring = record { name = n; entry = record { value = value; ignoring = ignoring } }
+
+abbrev pub as_rules : rules.Rules → Rules
+as_rules r = record { constants = r.constants; strict = r.strict }
+
+abbrev pub as_decision : answer.Answer → Decision
+as_decision a = record { cond = a.cond; ignoring = a.ignoring }
+
+abbrev pub as_token : token.Token → Token
+as_token (is.Number w) = number w.now
+as_token (is.Name w arguments) = name w.now arguments
+as_token is.Defined = defined
+as_token (is.Operator o) = operator o
+as_token is.Opening = opening
+as_token is.Closing = closing
+
+abbrev pub as_next : next.Next → Next
+as_next comes.AtEnd = at_end
+as_next comes.Unreadable = unreadable
+as_next (comes.Found t rest) = found (as_token t) rest.now
+
+abbrev pub base_of : base.Base → ℕ
+base_of Octal = 8
+base_of Decimal = 10
+base_of Hexadecimal = 16
+
+abbrev pub is_digit_of : base.Base → ℕ → Bool
+is_digit_of Octal b = is_octal_digit b
+is_digit_of Decimal b = is_digit b
+is_digit_of Hexadecimal b = is_hex_digit b
+
+abbrev pub as_parts : parts.Parts → Parts
+as_parts p = record { base = base_of p.base; digits = p.digits.now; suffix = p.suffix.now }

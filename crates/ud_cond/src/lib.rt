@@ -1,12 +1,23 @@
-//! Symbols: what the options say of names.
+//! Symbols, and what they decide of a condition.
 //!
-//! What a list of calls says of a name stands in ud_model, specs/Table.antt, and what a name is in specs/Arguments.antt.
-//! `specs/Standing.antt` says what a `Symbols` stands for.
+//! What a list of calls says of a name stands in ud_model, specs/Table.antt; what a condition is, in specs/Conditions.antt.
+//! `specs/Standing.antt` says what a `Symbols` stands for, `specs/Worth.antt` what is kept of an expression while
+//! `parsing` reads it, and `specs/Descent.antt` how.
 #![tactic(auto)]
 
 pub mod bytes;
+mod conditions;
+mod constants;
 mod fault;
+mod listed;
+mod naming;
+mod parsing;
 mod symbols;
+mod tokens;
+mod values;
 
+pub use conditions::{Answer, Rules, condition};
 pub use fault::SymbolFault;
+pub use listed::Names;
+pub use naming::names;
 pub use symbols::{Entry, Symbols};

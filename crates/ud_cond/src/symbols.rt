@@ -6,6 +6,7 @@
 ghost use Rattle.std.specs.Prelude.{◌≡◌, ◌<◌, ◌++◌, ◌∷◌, [], List, ℕ, option_map, OnOk, OnErr, IfOk, IfSome, IfNone, IsErrOf, IsTrue, Some, None, ◌↔◌, false, length};
 ghost use Rattle.ud_model.specs.Table.{Argument, entry_in};
 ghost use Rattle.ud_model.specs.Arguments as names;
+ghost use Rattle.ud_model.specs.Symbols as ends;
 ghost use Rattle.ud_cond.specs.Standing.{StandsFor, Changes, IsLastRow};
 ghost use Rattle.ud_cond.specs.Viewing.{as_entry, said};
 
@@ -133,6 +134,43 @@ impl Symbols {
             Some(i) => Some(self.rows[i].entry()),
             None => None,
         }
+    }
+
+    /// How many rows there are.
+    fn count(&self) -> usize
+        ensures { result ≡ length self.now }
+    {
+        self.rows.len()
+    }
+
+    /// The text as which a name is defined.
+    fn text_of(&self, name: &[u8]) -> Option<&[u8]>
+        ensures { option_map (λ v. v.now) result ≡ ends.defined_text self.now name.now }
+    {
+        match self.find(name) {
+            Some(entry) => entry.value,
+            None => None,
+        }
+    }
+
+    /// The text at which the value of a name ends: the first that is no identifier, from name to name. There is none
+    /// where a name on the way isn't defined, or where the way takes more steps than there are rows, since it then is a
+    /// cycle.
+    pub(crate) fn end_of<'a>(&'a self, name: &'a [u8]) -> Option<&'a [u8]>
+        ensures { option_map (λ v. v.now) result ≡ ends.end_of self.now name.now }
+    {
+        let mut at = name;
+        let most = self.count();
+        'steps: for _ in 0..most {
+            let Some(text) = self.text_of(at) else {
+                return None;
+            };
+            if !is_identifier(text) {
+                return Some(text);
+            }
+            at = text;
+        }
+        None
     }
 
     /// The place of the last row of a name.

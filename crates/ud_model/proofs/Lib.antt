@@ -22,3 +22,10 @@ pub mod Readings
 pub mod SymbolLemmas
 pub mod ConditionLemmas
 pub mod PrintingLemmas
+pub mod KnownNumbers
+pub mod KnownStays
+pub mod KnownExamples
+pub mod ParsingComplete
+pub mod ParsingSound
+pub mod TokenLemmas
+pub mod OneExpression

@@ -15,6 +15,7 @@ pub mod Symbols
 pub mod Values
 pub mod Conditions
 pub mod Names
+pub mod CValues
 pub mod Tree
 pub mod Pruning
 pub mod SoFar

@@ -1,6 +1,6 @@
 //! Laws over the definitions: functions without a body, whose contracts are theorems.
 
-ghost use Rattle.std.specs.Prelude.{◌≡◌, ◌≢◌, ◌++◌, ℕ, List, [], ◌∷◌, length, map, true, false};
+ghost use Rattle.std.specs.Prelude.{◌≡◌, ◌≢◌, ◌++◌, ℕ, List, [], ◌∷◌, length, map, true, false, Bool, Some, ℤ};
 ghost use Rattle.ud_model.specs.Lines.{Line, AreLines, texts_of};
 ghost use Rattle.ud_model.specs.Scans.{Reading};
 ghost use Rattle.ud_model.specs.Splicing.{content, run_of};
@@ -16,6 +16,10 @@ ghost use Rattle.ud_model.specs.Runs.{Outcome, Runs, RunsSoFar};
 ghost use Rattle.ud_model.specs.Answer.{Answer, IsAnswer};
 ghost use Rattle.ud_model.specs.Printing.{style_of, plain_style, printed, printed_by, some_differ, some_differ_by};
 ghost use Rattle.ud_model.specs.declared.settings.Settings.{Settings};
+ghost use Rattle.ud_model.specs.Table.{Argument};
+ghost use Rattle.ud_model.specs.Expressions.{Expression};
+ghost use Rattle.ud_model.specs.Values.{value_of};
+ghost use Rattle.ud_model.specs.CValues.{Number, number, IsCValue};
 
 /// A text has lines, and has them in one way only.
 pub fn law_lines()
@@ -85,4 +89,10 @@ pub fn law_one_answer()
 pub fn law_plain_printing()
     ensures printed { (s : Settings) → style_of s ≡ plain_style → (xs : List (Item Reading)) → (ms : List Mark) → printed_by s xs ms ≡ printed xs ms }
     ensures differ { (s : Settings) → style_of s ≡ plain_style → (xs : List (Item Reading)) → (ms : List Mark) → some_differ_by s xs ms ≡ some_differ xs ms }
+{}
+
+/// Where the value of an expression is known, it is the C value, whatever stands for the names that the table leaves open,
+/// with and without `strict`: each value that C may give the expression is this number (C11 6.10.1p4, 6.5).
+pub fn law_known_stays()
+    ensures { (table : List Argument) → (strict : Bool) → (e : Expression) → (n : ℤ) → (c : Number) → value_of table strict e ≡ Some n → IsCValue table e c → number c ≡ n }
 {}

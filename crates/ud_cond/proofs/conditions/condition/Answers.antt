@@ -1,0 +1,7 @@
+use Rattle.std.proofs.Common.{◌∙◌}
+use Rattle.ud_model.proofs.ConditionLemmas.{condition_of_same}
+use Rattle.ud_cond.specs.Viewing.{as_rules}
+use Rattle.ud_cond.proofs.conditions.condition.Goals as goal
+
+pub returns : goal.returns
+returns c = λ calls stands. c.decide.ensures ∙ condition_of_same c.args.symbols.now calls stands c.args.kind c.args.text.now (as_rules c.args.rules)

@@ -1,0 +1,16 @@
+use Rattle.std.proofs.Common.{◌≡◌, ◌∙◌, sym, ap, suc, ◌-◌, ◌+◌, length, arith}
+use Rattle.ud_model.specs.Symbols.{end_of, ends_in}
+use Rattle.ud_model.proofs.SymbolLemmas.{ends_behind}
+use Rattle.ud_cond.proofs.symbols.Symbols.end_of.Goals as goal
+
+pub steps-init : goal.steps-init
+unfolding end_of
+steps-init c =
+    let all : length c.args.self.now ≡ c.count-most.result - 0 = omega arith in
+    ap (λ k. ends_in k c.args.self.now c.args.name.now) all
+
+pub steps-preserved : goal.steps-preserved
+steps-preserved c =
+    let one : c.count-most.result - c.steps.counter ≡ suc (c.count-most.result - (c.steps.counter + 1)) = omega arith in
+    c.steps.invariant ∙ ap (λ k. ends_in k c.args.self.now c.steps.at.now) one
+    ∙ ends_behind c.args.self.now (c.count-most.result - (c.steps.counter + 1)) c.steps.at.now c.in-Some.text.now (sym c.in-Some.ensures) (sym c.is_identifier.ensures ∙ c.if-not-is_identifier.false)

@@ -1,0 +1,32 @@
+-- Naming: the names of a text, token by token.
+-- ud_model, specs/Names.antt, says what the names of a tree are. A text that has a tree has the same ones, in the order of
+-- its tokens.
+--
+--   name_in t            the name that a token is, if it is one
+--   names_in_text text   the names of a text, where it is tokens to its end
+--   Named                names that are listed: one alone, and then those of a text
+use Rattle.std.specs.Prelude.{ℕ, List, [], ◌∷◌, ◌++◌, Option, Some, None}
+use Rattle.std.specs.Option.{option_to_list}
+use Rattle.ud_model.specs.Tokens.{Token, name}
+use Rattle.ud_model.specs.Parsing.{tokens_of}
+
+-- the name that a token is, if it is one
+abbrev pub name_in : Token → Option (List ℕ)
+name_in (name n arguments) = Some n
+name_in _ = None
+
+abbrev pub names_in_tokens : List Token → List (List ℕ)
+names_in_tokens [] = []
+names_in_tokens (t ∷ ts) = option_to_list (name_in t) ++ names_in_tokens ts
+
+abbrev pub names_in_all : Option (List Token) → List (List ℕ)
+names_in_all None = []
+names_in_all (Some ts) = names_in_tokens ts
+
+-- the names of a text, where it is tokens to its end
+abbrev pub names_in_text : List ℕ → List (List ℕ)
+names_in_text text = names_in_all (tokens_of text)
+
+-- a name alone, if there is one, and then those of a text
+abbrev pub names_listed : Option (List ℕ) → List ℕ → List (List ℕ)
+names_listed alone text = option_to_list alone ++ names_in_text text

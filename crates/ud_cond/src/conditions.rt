@@ -1,0 +1,161 @@
+//! What the table decides of a directive.
+
+ghost use Rattle.std.specs.Prelude.{◌≡◌, ◌≤◌, List, length, option_map};
+ghost use Rattle.ud_model.specs.Table.{Argument};
+ghost use Rattle.ud_model.specs.Conditions as spec;
+ghost use Rattle.ud_model.specs.declared.limits.TheConstants.{LINE_BYTES};
+ghost use Rattle.ud_cond.specs.Standing.{StandsFor};
+ghost use Rattle.ud_cond.specs.Viewing.{as_rules, as_decision};
+ghost use Rattle.ud_cond.specs.Worth.{decided};
+
+use crate::bytes::{are_white, is_identifier, past_white, word_len};
+use crate::parsing::whole;
+use crate::symbols::Symbols;
+use crate::values::{Scope, Value};
+use ud_model::{Cond, Kind};
+
+/// How expressions are valued.
+#[derive(Clone, Copy)]
+pub struct Rules {
+    /// Those that name no symbol of the table are valued too, and aren't unknown (`-k`).
+    pub constants: bool,
+    /// `&&` and `||` are unknown where an operand is (`-K`).
+    pub strict: bool,
+}
+
+/// What is decided of a directive.
+#[derive(Clone, Copy)]
+pub struct Answer {
+    /// Its condition.
+    pub cond: Cond,
+    /// Whether its section is plain text.
+    pub ignoring: bool,
+}
+
+/// What a value decides.
+fn decided(rules: Rules, value: Value) -> Cond
+    ensures { result ≡ decided (as_rules rules) value }
+{
+    if value.spoiled || !(rules.constants || value.listed) {
+        return Cond::Unknown;
+    }
+    match value.number {
+        None => Cond::Unknown,
+        Some(0) => Cond::No,
+        Some(_) => Cond::Yes,
+    }
+}
+
+/// What is decided of the text of an `#if` or `#elif`.
+fn expression_cond(text: &[u8], symbols: &Symbols, rules: Rules) -> Cond
+    ensures { result ≡ spec.expression_cond text.now symbols.now (as_rules rules) }
+{
+    let signed = Scope {
+        symbols: Some(symbols),
+        strict: rules.strict,
+        unsigned: false,
+    };
+    match whole(&signed, text) {
+        None => Cond::Unknown,
+        Some(value) => {
+            if !value.unsigned {
+                return decided(rules, value);
+            }
+            let unsigned = Scope {
+                symbols: Some(symbols),
+                strict: rules.strict,
+                unsigned: true,
+            };
+            match whole(&unsigned, text) {
+                None => Cond::Unknown,
+                Some(value) => decided(rules, value),
+            }
+        }
+    }
+}
+
+/// The one identifier that a text is but for white space around it.
+pub(crate) fn sole_name(text: &[u8]) -> Option<&[u8]>
+    ensures { option_map (λ n. n.now) result ≡ spec.sole_name text.now }
+{
+    let text = past_white(text);
+    let length = word_len(text);
+    let name = &text[..length];
+    if is_identifier(name) && are_white(&text[length..]) {
+        Some(name)
+    } else {
+        None
+    }
+}
+
+/// What is decided of the text of an `#ifdef`.
+fn ifdef_answer(text: &[u8], symbols: &Symbols) -> Answer
+    ensures { as_decision result ≡ spec.ifdef_decision (spec.sole_name text.now) symbols.now }
+{
+    let undecided = Answer {
+        cond: Cond::Unknown,
+        ignoring: false,
+    };
+    let Some(name) = sole_name(text) else {
+        return undecided;
+    };
+    match symbols.find(name) {
+        None => undecided,
+        Some(entry) => Answer {
+            cond: if entry.value.is_some() {
+                Cond::Yes
+            } else {
+                Cond::No
+            },
+            ignoring: entry.ignoring,
+        },
+    }
+}
+
+/// The other way round.
+fn negated(cond: Cond) -> Cond
+    ensures { result ≡ spec.negated cond }
+{
+    match cond {
+        Cond::Yes => Cond::No,
+        Cond::No => Cond::Yes,
+        Cond::Unknown => Cond::Unknown,
+    }
+}
+
+/// What is decided by these very rows.
+fn decide(kind: Kind, text: &[u8], symbols: &Symbols, rules: Rules) -> Answer
+    ensures { as_decision result ≡ spec.condition_of kind text.now symbols.now (as_rules rules) }
+{
+    match kind {
+        Kind::If | Kind::Elif => Answer {
+            cond: expression_cond(text, symbols, rules),
+            ignoring: false,
+        },
+        Kind::Ifdef => ifdef_answer(text, symbols),
+        Kind::Ifndef => {
+            let answer = ifdef_answer(text, symbols);
+            Answer {
+                cond: negated(answer.cond),
+                ignoring: answer.ignoring,
+            }
+        }
+        Kind::Else | Kind::Endif => Answer {
+            cond: Cond::Unknown,
+            ignoring: false,
+        },
+    }
+}
+
+/// The condition of a directive that no continuation cuts, and whether its section is plain text.
+///
+/// `text` is what follows the keyword on its masked line, at most 4,096 bytes. The answer is that of the list of calls
+/// that `symbols` stands for. Text that isn't understood is unknown, and so are `#else` and `#endif`. Takes no memory.
+///
+/// C11 6.10.1; unifdef(1), `-D`, `-U`, `-iD`, `-iU`, `-k` and `-K`.
+pub fn condition(kind: Kind, text: &[u8], symbols: &Symbols, rules: Rules) -> Answer
+    requires fits { length text.now ≤ LINE_BYTES }
+    ensures { (calls : List Argument) → StandsFor symbols.now calls → as_decision result ≡ spec.condition_of kind text.now calls (as_rules rules) }
+{
+    decide(kind, text, symbols, rules)
+}

@@ -1,0 +1,211 @@
+//! Integer constants, and the numbers that they are.
+//!
+//! What a constant is stands in ud_model, specs/Constants.antt (C11 6.4.4.1).
+
+ghost use Rattle.std.specs.Prelude.{◌≡◌, ◌≤◌, ◌<◌, length, map};
+ghost use Rattle.std.specs.List.{prefix_len};
+ghost use Rattle.ud_model.specs.Constants as spec;
+ghost use Rattle.ud_model.specs.Values.{limited, constant_value};
+ghost use Rattle.ud_cond.specs.Viewing.{as_parts, base_of, is_digit_of};
+
+use crate::bytes::is_digit;
+use crate::tokens::{begins, behind};
+
+/// The base of a constant.
+#[derive(Clone, Copy)]
+enum Base {
+    /// 8
+    Octal,
+    /// 10
+    Decimal,
+    /// 16
+    Hexadecimal,
+}
+
+/// A word as the digits of a base and what follows them.
+#[derive(Clone, Copy)]
+struct Parts<'a> {
+    /// The base.
+    base: Base,
+    /// The digits.
+    digits: &'a [u8],
+    /// What follows the digits.
+    suffix: &'a [u8],
+}
+
+/// The suffixes with a `u` or `U`.
+const UNSIGNED: [&[u8]; 18] = [
+    b"u", b"U", b"ul", b"uL", b"ull", b"uLL", b"Ul", b"UL", b"Ull", b"ULL", b"lu", b"lU", b"Lu",
+    b"LU", b"llu", b"llU", b"LLu", b"LLU",
+];
+
+/// The suffixes without one; the first is nothing.
+const SIGNED: [&[u8]; 5] = [b"", b"l", b"L", b"ll", b"LL"];
+
+/// Whether a byte is a digit of a base.
+fn is_digit_of(base: Base, byte: u8) -> bool
+    ensures { result ≡ is_digit_of base byte }
+{
+    match base {
+        Base::Octal => b'0' <= byte && byte <= b'7',
+        Base::Decimal => is_digit(byte),
+        Base::Hexadecimal => byte.is_ascii_hexdigit(),
+    }
+}
+
+/// How many digits of a base stand in front.
+fn digits_in_front(base: Base, text: &[u8]) -> usize
+    ensures value { result ≡ prefix_len (is_digit_of base) text.now }
+    ensures within { result ≤ length text.now }
+{
+    let mut count = 0;
+    'digits: while count < text.len() && is_digit_of(base, text[count]) {
+        count += 1;
+    }
+    count
+}
+
+/// The digits of a base in front, and what follows them.
+fn cut_behind(base: Base, text: &[u8]) -> Parts<'_>
+    ensures { as_parts result ≡ spec.cut_behind (is_digit_of base) (base_of base) text.now }
+{
+    let count = digits_in_front(base, text);
+    Parts {
+        base,
+        digits: &text[..count],
+        suffix: &text[count..],
+    }
+}
+
+/// Whether `0x` or `0X` stands in front.
+fn is_hex(word: &[u8]) -> bool
+    ensures { result ≡ spec.is_hex word.now }
+{
+    if !begins(b'0', word) {
+        return false;
+    }
+    let rest = behind(1, word);
+    begins(b'x', rest) || begins(b'X', rest)
+}
+
+/// The parts of a word.
+fn parts_of(word: &[u8]) -> Parts<'_>
+    ensures { as_parts result ≡ spec.parts_of word.now }
+{
+    if is_hex(word) {
+        cut_behind(Base::Hexadecimal, behind(2, word))
+    } else if begins(b'0', word) {
+        cut_behind(Base::Octal, word)
+    } else {
+        cut_behind(Base::Decimal, word)
+    }
+}
+
+/// Whether a text is one of these.
+fn is_among(mut words: &[&[u8]], text: &[u8]) -> bool
+    ensures { result ≡ spec.is_among (map (λ w. w.now) words.entry.now) text.now }
+{
+    'words: while let [word, others @ ..] = words {
+        if *word == text {
+            return true;
+        }
+        words = others;
+    }
+    false
+}
+
+/// Whether a suffix has a `u`, if it is a suffix.
+#[tactic(auto, unfolding(ud_model::specs::Constants::suffix_sign))]
+fn suffix_sign(suffix: &[u8]) -> Option<bool>
+    ensures { result ≡ spec.suffix_sign suffix.now }
+{
+    if is_among(&UNSIGNED, suffix) {
+        Some(true)
+    } else if is_among(&SIGNED, suffix) {
+        Some(false)
+    } else {
+        None
+    }
+}
+
+/// Whether a word is a constant with a `u`; `None` where it is no constant.
+fn sign_of(word: &[u8]) -> Option<bool>
+    ensures { result ≡ spec.parts_sign (spec.parts_of word.now) }
+{
+    let parts = parts_of(word);
+    if parts.digits.is_empty() {
+        None
+    } else {
+        suffix_sign(parts.suffix)
+    }
+}
+
+/// Whether a word is an integer constant.
+pub(crate) fn is_constant(word: &[u8]) -> bool
+    ensures { result ≡ spec.is_constant word.now }
+{
+    sign_of(word).is_some()
+}
+
+/// Whether a word is an integer constant with a `u` or `U`.
+pub(crate) fn has_u(word: &[u8]) -> bool
+    ensures { result ≡ spec.has_u word.now }
+{
+    sign_of(word).unwrap_or(false)
+}
+
+/// The number that a digit is.
+fn digit_value(digit: u8) -> u8
+    ensures { result ≡ spec.digit_value digit }
+{
+    if digit <= b'9' {
+        digit.saturating_sub(48)
+    } else if digit <= b'F' {
+        digit.saturating_sub(55)
+    } else {
+        digit.saturating_sub(87)
+    }
+}
+
+/// The number of a base, from 1 on.
+fn radix(base: Base) -> u64
+    ensures { result ≡ base_of base }
+{
+    match base {
+        Base::Octal => 8,
+        Base::Decimal => 10,
+        Base::Hexadecimal => 16,
+    }
+}
+
+/// The number that digits of a base are; `None` where it is above 2^63-1.
+fn number(base: Base, digits: &[u8]) -> Option<i64>
+    ensures { result ≡ limited (spec.continued (base_of base) 0 digits.now) }
+{
+    let times = radix(base);
+    let mut number: u64 = 0;
+    let mut rest = digits;
+    'digits: while let [digit, others @ ..] = rest {
+        let Some(product) = number.checked_mul(times) else {
+            return None;
+        };
+        let Some(sum) = product.checked_add(u64::from(digit_value(*digit))) else {
+            return None;
+        };
+        number = sum;
+        rest = others;
+    }
+    if number < 0x8000_0000_0000_0000 {
+        Some(number as i64)
+    } else {
+        None
+    }
+}
+
+/// The number that a word's digits are; `None` where it is above 2^63-1.
+pub(crate) fn constant_value(word: &[u8]) -> Option<i64>
+    ensures { result ≡ constant_value word.now }
+{
+    let parts = parts_of(word);
+    number(parts.base, parts.digits)
+}

@@ -1,0 +1,313 @@
+//! What an expression is worth, part by part.
+//!
+//! Numbers are those of ud_model, specs/Values.antt (C11 6.10.1p4 and 6.5); `specs/Worth.antt` says what is kept beside them.
+
+ghost use Rattle.std.specs.Prelude.{◌≡◌, option_and_then, option_map};
+ghost use Rattle.ud_model.specs.Table.{entry_in};
+ghost use Rattle.ud_model.specs.Symbols.{end_of};
+ghost use Rattle.ud_model.specs.Values as spec;
+ghost use Rattle.ud_cond.specs.Viewing.{as_entry};
+ghost use Rattle.ud_cond.specs.Worth.{table_in, constant_worth, name_worth, defined_worth, unary_worth, binary_worth};
+
+use crate::constants::{constant_value, has_u, is_constant};
+use crate::symbols::{Entry, Symbols};
+use ud_model::Operator;
+
+/// What a part of an expression is worth.
+#[derive(Clone, Copy)]
+pub(crate) struct Value {
+    /// Its number; `None` where it is unknown.
+    pub(crate) number: Option<i64>,
+    /// A constant in it, or one at which the value of a symbol in it ends, has a `u`.
+    pub(crate) unsigned: bool,
+    /// A symbol of the table stands in it.
+    pub(crate) listed: bool,
+    /// An undefined symbol with arguments stands in it.
+    pub(crate) spoiled: bool,
+}
+
+/// What decides the values of an expression.
+#[derive(Clone, Copy)]
+pub(crate) struct Scope<'a> {
+    /// What is said of names; nothing without a table.
+    pub(crate) symbols: Option<&'a Symbols>,
+    /// `&&` and `||` are unknown where an operand is.
+    pub(crate) strict: bool,
+    /// A `u` stands in the expression, so its least number is 0.
+    pub(crate) unsigned: bool,
+}
+
+impl Scope<'_> {
+    /// What is said of a name.
+    fn find(&self, name: &[u8]) -> Option<Entry<'_>>
+        ensures { option_map as_entry result ≡ entry_in (table_in self.now) name.now }
+    {
+        match self.symbols {
+            Some(symbols) => symbols.find(name),
+            None => None,
+        }
+    }
+
+    /// The text at which the value of a name ends.
+    #[tactic(auto, unfolding(ud_model::specs::Symbols::end_of))]
+    fn end_of<'a>(&'a self, name: &'a [u8]) -> Option<&'a [u8]>
+        ensures { option_map (λ v. v.now) result ≡ end_of (table_in self.now) name.now }
+    {
+        match self.symbols {
+            Some(symbols) => symbols.end_of(name),
+            None => None,
+        }
+    }
+}
+
+/// What a constant is worth.
+pub(crate) fn constant(word: &[u8]) -> Value
+    ensures { result ≡ constant_worth word.now }
+{
+    Value {
+        number: constant_value(word),
+        unsigned: has_u(word),
+        listed: false,
+        spoiled: false,
+    }
+}
+
+/// The value of the text at which a symbol's value ends: a constant, or a `-` and a constant.
+fn text_value(unsigned: bool, text: &[u8]) -> Option<i64>
+    ensures { result ≡ spec.text_value unsigned text.now }
+{
+    match text {
+        [b'-', rest @ ..] => {
+            if !is_constant(rest) {
+                return None;
+            }
+            match constant_value(rest) {
+                Some(number) => fit_checked(unsigned, number.checked_neg()),
+                None => None,
+            }
+        }
+        _ => {
+            if is_constant(text) {
+                constant_value(text)
+            } else {
+                None
+            }
+        }
+    }
+}
+
+/// Whether the constant of such a text has a `u`.
+fn text_has_u(text: &[u8]) -> bool
+    ensures { result ≡ spec.text_has_u text.now }
+{
+    match text {
+        [b'-', rest @ ..] => has_u(rest),
+        _ => has_u(text),
+    }
+}
+
+/// What a name with or without arguments is worth.
+#[tactic(auto, unfolding(ud_model::specs::Values::name_value, ud_model::specs::Values::name_has_u))]
+pub(crate) fn named(scope: &Scope<'_>, name: &[u8], arguments: bool) -> Value
+    ensures { result ≡ name_worth (table_in scope.now) scope.now.unsigned name.now arguments }
+{
+    let end = scope.end_of(name);
+    let unsigned = match end {
+        Some(text) => text_has_u(text),
+        None => false,
+    };
+    match scope.find(name) {
+        None => Value {
+            number: None,
+            unsigned,
+            listed: false,
+            spoiled: false,
+        },
+        Some(entry) => match entry.value {
+            None => Value {
+                number: Some(0),
+                unsigned,
+                listed: true,
+                spoiled: arguments,
+            },
+            Some(_) => Value {
+                number: match end {
+                    Some(text) => text_value(scope.unsigned, text),
+                    None => None,
+                },
+                unsigned,
+                listed: true,
+                spoiled: false,
+            },
+        },
+    }
+}
+
+/// What `defined` and a name are worth.
+#[tactic(auto, unfolding(ud_model::specs::Values::defined_value))]
+pub(crate) fn defined(scope: &Scope<'_>, name: &[u8]) -> Value
+    ensures { result ≡ defined_worth (table_in scope.now) name.now }
+{
+    match scope.find(name) {
+        None => Value {
+            number: None,
+            unsigned: false,
+            listed: false,
+            spoiled: false,
+        },
+        Some(entry) => Value {
+            number: Some(truth(entry.value.is_some())),
+            unsigned: false,
+            listed: true,
+            spoiled: false,
+        },
+    }
+}
+
+/// A number, if it isn't below the least one.
+fn fit(unsigned: bool, number: i64) -> Option<i64>
+    ensures { result ≡ spec.fit unsigned number }
+{
+    if unsigned && number < 0 {
+        None
+    } else {
+        Some(number)
+    }
+}
+
+/// A number that may be above the greatest one, or below the least.
+fn fit_checked(unsigned: bool, number: Option<i64>) -> Option<i64>
+    ensures { result ≡ option_and_then (spec.fit unsigned) number }
+{
+    match number {
+        Some(number) => fit(unsigned, number),
+        None => None,
+    }
+}
+
+/// 1 where something holds, else 0.
+fn truth(holds: bool) -> i64
+    ensures { result ≡ spec.truth holds }
+{
+    if holds { 1 } else { 0 }
+}
+
+/// The remainder of a division whose quotient is a number.
+#[tactic(auto, unfolding(ud_model::specs::Values::operate))]
+fn remainder(unsigned: bool, a: i64, b: i64) -> Option<i64>
+    ensures { result ≡ spec.operate unsigned Operator.Remainder a b }
+{
+    match fit_checked(unsigned, a.checked_div(b)) {
+        None => None,
+        Some(_) => fit_checked(unsigned, a.checked_rem(b)),
+    }
+}
+
+/// Two known operands and an operator.
+#[tactic(auto, unfolding(ud_model::specs::Values::operate))]
+fn operate(unsigned: bool, operator: Operator, a: i64, b: i64) -> Option<i64>
+    ensures { result ≡ spec.operate unsigned operator a b }
+{
+    match operator {
+        Operator::Or => Some(truth(a != 0 || b != 0)),
+        Operator::And => Some(truth(a != 0 && b != 0)),
+        Operator::BitOr => fit(unsigned, a | b),
+        Operator::BitXor => fit(unsigned, a ^ b),
+        Operator::BitAnd => fit(unsigned, a & b),
+        Operator::Equal => Some(truth(a == b)),
+        Operator::NotEqual => Some(truth(a != b)),
+        Operator::Less => Some(truth(a < b)),
+        Operator::LessEqual => Some(truth(a <= b)),
+        Operator::Greater => Some(truth(b < a)),
+        Operator::GreaterEqual => Some(truth(b <= a)),
+        Operator::Plus => fit_checked(unsigned, a.checked_add(b)),
+        Operator::Minus => fit_checked(unsigned, a.checked_sub(b)),
+        Operator::Times => fit_checked(unsigned, a.checked_mul(b)),
+        Operator::Over => fit_checked(unsigned, a.checked_div(b)),
+        Operator::Remainder => remainder(unsigned, a, b),
+        Operator::Not | Operator::Complement => None,
+    }
+}
+
+/// What one known operand decides, whatever the other is.
+fn decides(strict: bool, operator: Operator, a: i64) -> Option<i64>
+    ensures { result ≡ spec.decides strict operator a }
+{
+    if strict {
+        return None;
+    }
+    match operator {
+        Operator::And => { if a == 0 { Some(0) } else { None } }
+        Operator::Or => { if a == 0 { None } else { Some(1) } }
+        _ => None,
+    }
+}
+
+/// Two operands and an operator.
+fn combine(
+    strict: bool,
+    unsigned: bool,
+    operator: Operator,
+    a: Option<i64>,
+    b: Option<i64>,
+) -> Option<i64>
+    ensures { result ≡ spec.combine strict unsigned operator a b }
+{
+    match a {
+        Some(a) => match b {
+            Some(b) => operate(unsigned, operator, a, b),
+            None => decides(strict, operator, a),
+        },
+        None => match b {
+            Some(b) => decides(strict, operator, b),
+            None => None,
+        },
+    }
+}
+
+/// An operator before a known operand.
+#[tactic(auto, unfolding(ud_model::specs::Values::change))]
+fn change(unsigned: bool, operator: Operator, a: i64) -> Option<i64>
+    ensures { result ≡ spec.change unsigned operator a }
+{
+    match operator {
+        Operator::Not => Some(truth(a == 0)),
+        Operator::Minus => fit_checked(unsigned, a.checked_neg()),
+        Operator::Complement => fit(unsigned, !a),
+        _ => None,
+    }
+}
+
+/// An operator before one operand.
+fn alter(unsigned: bool, operator: Operator, a: Option<i64>) -> Option<i64>
+    ensures { result ≡ spec.alter unsigned operator a }
+{
+    match a {
+        Some(a) => change(unsigned, operator, a),
+        None => None,
+    }
+}
+
+/// What an operator before an operand is worth.
+pub(crate) fn unary(scope: &Scope<'_>, operator: Operator, a: Value) -> Value
+    ensures { result ≡ unary_worth scope.now.unsigned operator a }
+{
+    Value {
+        number: alter(scope.unsigned, operator, a.number),
+        unsigned: a.unsigned,
+        listed: a.listed,
+        spoiled: a.spoiled,
+    }
+}
+
+/// What two operands and an operator are worth.
+pub(crate) fn binary(scope: &Scope<'_>, operator: Operator, a: Value, b: Value) -> Value
+    ensures { result ≡ binary_worth scope.now.strict scope.now.unsigned operator a b }
+{
+    Value {
+        number: combine(scope.strict, scope.unsigned, operator, a.number, b.number),
+        unsigned: a.unsigned || b.unsigned,
+        listed: a.listed || b.listed,
+        spoiled: a.spoiled || b.spoiled,
+    }
+}

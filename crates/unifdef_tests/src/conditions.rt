@@ -1,0 +1,156 @@
+//! Conditions, and the names of directives.
+
+use std::alloc::Global;
+use std::process::Abort;
+use std::test::Fail;
+use ud_cond::{Rules, Symbols, condition, names};
+use ud_model::{Cond, Kind, LINE_BYTES};
+
+const USUAL: Rules = Rules {
+    constants: false,
+    strict: false,
+};
+
+const CONSTANTS: Rules = Rules {
+    constants: true,
+    strict: false,
+};
+
+const STRICT: Rules = Rules {
+    constants: false,
+    strict: true,
+};
+
+/// A table in which `A` is 5.
+fn five(alloc: Global) -> Result<Symbols, Fail> {
+    let mut symbols = Symbols::new(alloc);
+    symbols.define(b"A", b"5", false)?;
+    Ok(symbols)
+}
+
+/// Compares the condition of an `#if` and that of an `#elif`.
+fn check(rt: &impl Abort, symbols: &Symbols, rules: Rules, text: &[u8], expected: Cond) {
+    assert!(rt; text.len() <= LINE_BYTES);
+    for kind in [Kind::If, Kind::Elif] {
+        let answer = condition(kind, text, symbols, rules);
+        assert!(rt; answer.cond == expected);
+        assert!(rt; !answer.ignoring);
+    }
+}
+
+#[test]
+fn expressions_are_valued(rt: HostRuntime) -> Result<(), Fail> {
+    let symbols = five(rt.alloc())?;
+    let worked: [(&[u8], Cond); 16] = [
+        (b"-A / 2 == -2", Cond::Yes),
+        (b"-A % 2 == -1", Cond::Yes),
+        (b"~A == -6", Cond::Yes),
+        (b"010 + A == 13", Cond::Yes),
+        (b"A == 08", Cond::Unknown),
+        (b"0xE-9 == A", Cond::Unknown),
+        (b"A & 4 == 4", Cond::Yes),
+        (b"1 < A < 2", Cond::Yes),
+        (b"A / (A - 5)", Cond::Unknown),
+        (b"-9223372036854775807 - 1 < A", Cond::Yes),
+        (b"-9223372036854775808 < A", Cond::Unknown),
+        (b"(-9223372036854775807 - 1) / -1 < A", Cond::Unknown),
+        (b"~A < 0u", Cond::Unknown),
+        (b"~A < 0u || A", Cond::Yes),
+        (b"X && !A", Cond::No),
+        (b"X || 1", Cond::Unknown),
+    ];
+    for (text, expected) in worked {
+        check(&rt, &symbols, USUAL, text, expected);
+    }
+    Ok(())
+}
+
+#[test]
+fn a_known_operand_decides_unless_strict(rt: HostRuntime) -> Result<(), Fail> {
+    let mut symbols = Symbols::new(rt.alloc());
+    symbols.undefine(b"A", false)?;
+    check(&rt, &symbols, USUAL, b" A && X", Cond::No);
+    check(&rt, &symbols, STRICT, b" A && X", Cond::Unknown);
+    Ok(())
+}
+
+#[test]
+fn constants_are_valued_where_they_are_asked_for(rt: HostRuntime) -> Result<(), Fail> {
+    let symbols = five(rt.alloc())?;
+    check(&rt, &symbols, USUAL, b" 0", Cond::Unknown);
+    check(&rt, &symbols, CONSTANTS, b" 0", Cond::No);
+    check(&rt, &symbols, CONSTANTS, b" X && 0", Cond::No);
+    check(&rt, &symbols, CONSTANTS, b" 1 +", Cond::Unknown);
+    Ok(())
+}
+
+#[test]
+fn a_value_is_followed_from_symbol_to_symbol(rt: HostRuntime) -> Result<(), Fail> {
+    let mut symbols = Symbols::new(rt.alloc());
+    symbols.define(b"A", b"B", false)?;
+    symbols.define(b"B", b"-7", false)?;
+    symbols.define(b"C", b"D", false)?;
+    symbols.define(b"D", b"C", false)?;
+    symbols.undefine(b"U", false)?;
+    check(&rt, &symbols, USUAL, b"A == -7", Cond::Yes);
+    check(&rt, &symbols, USUAL, b"A(1)(2)", Cond::Unknown);
+    check(&rt, &symbols, USUAL, b"A((x)) < 0", Cond::Yes);
+    check(&rt, &symbols, USUAL, b"C == 0", Cond::Unknown);
+    check(&rt, &symbols, USUAL, b"defined C && defined(D)", Cond::Yes);
+    check(&rt, &symbols, USUAL, b"1 || U(1)", Cond::Unknown);
+    check(&rt, &symbols, USUAL, b"U == 0", Cond::Yes);
+    Ok(())
+}
+
+#[test]
+fn ifdef_asks_for_one_name(rt: HostRuntime) -> Result<(), Fail> {
+    let mut symbols = Symbols::new(rt.alloc());
+    symbols.define(b"A", b"", true)?;
+    symbols.undefine(b"U", false)?;
+    let worked: [(Kind, &[u8], Cond, bool); 7] = [
+        (Kind::Ifdef, b" A ", Cond::Yes, true),
+        (Kind::Ifndef, b" A", Cond::No, true),
+        (Kind::Ifdef, b"\tU", Cond::No, false),
+        (Kind::Ifndef, b" U", Cond::Yes, false),
+        (Kind::Ifdef, b" X", Cond::Unknown, false),
+        (Kind::Ifdef, b" A B", Cond::Unknown, false),
+        (Kind::Ifndef, b"", Cond::Unknown, false),
+    ];
+    for (kind, text, cond, ignoring) in worked {
+        assert!(rt; text.len() <= LINE_BYTES);
+        let answer = condition(kind, text, &symbols, USUAL);
+        assert!(rt; answer.cond == cond);
+        assert_eq!(rt; answer.ignoring, ignoring);
+    }
+    Ok(())
+}
+
+/// Compares the names of a directive.
+fn check_names(rt: &impl Abort, kind: Kind, text: &[u8], expected: &[&[u8]]) {
+    assert!(rt; text.len() <= LINE_BYTES);
+    let mut listed = names(kind, text);
+    for name in expected {
+        assert!(rt; listed.next() == Some(*name));
+    }
+    assert!(rt; listed.next().is_none());
+}
+
+#[test]
+fn names_come_in_order(rt: HostRuntime) -> Result<(), Fail> {
+    check_names(&rt, Kind::If, b" F(X) + defined(Y) > 0x1uL", &[b"F", b"Y"]);
+    check_names(&rt, Kind::Elif, b" A + (A)", &[b"A", b"A"]);
+    check_names(&rt, Kind::If, b" A--1", &[]);
+    check_names(&rt, Kind::If, b" A A", &[]);
+    check_names(&rt, Kind::Ifdef, b" defined ", &[b"defined"]);
+    check_names(&rt, Kind::Ifndef, b" A B", &[]);
+    check_names(&rt, Kind::Else, b" A", &[]);
+    check_names(&rt, Kind::Endif, b" A", &[]);
+    Ok(())
+}
+
+#[test]
+fn parentheses_are_read_to_the_longest_line(rt: HostRuntime) -> Result<(), Fail> {
+    let symbols = five(rt.alloc())?;
+    check(&rt, &symbols, USUAL, &[b'('; 4096], Cond::Unknown);
+    Ok(())
+}
