@@ -23,6 +23,7 @@ pub mod Height
 pub mod Items
 pub mod Faults
 pub mod Printing
+pub mod Listing
 pub mod Arguments
 pub mod Messages
 pub mod Runs

@@ -1,5 +1,6 @@
 -- What stands behind the `#` of a line is no longer than the line.
-use Rattle.std.proofs.Common.{◌≡◌, ◌≤◌, ◌==◌, ℕ, List, [], ◌∷◌, length, Bool, true, false, Some, None, if◌then◌else◌, ap, arith}
+use Rattle.std.proofs.Common.{◌≡◌, ◌≤◌, ◌==◌, ◌+◌, ◌-◌, ℕ, List, [], ◌∷◌, length, take, drop, Bool, true, false, Some, None, if◌then◌else◌, ap, arith}
+use Rattle.std.proofs.lemmas.List.{length-drop, length-take-le}
 use Rattle.ud_model.specs.Bytes.{past_white}
 use Rattle.ud_model.specs.Directives.{past_sign, past_sign_of}
 use Rattle.ud_cond.proofs.ByteLemmas.{length-past_white}
@@ -20,3 +21,11 @@ length-past_sign masked behind rest e is =
     let white = length-past_white behind in
     let k : length rest ≡ length (past_white behind) = ap length is in
     omega (arith, sign, before, white, k)
+
+-- the bytes before a keyword, its own and those behind it are all that there are
+pub all_places : (masked rest : List ℕ) (len : ℕ) → length rest ≤ length masked → len ≤ length rest →
+    (length masked - length rest) + len + length (take (length rest - len) (drop len rest)) ≡ length masked
+all_places masked rest len within bound =
+    let behind = length-drop len rest in
+    let taken = length-take-le (length rest - len) (drop len rest) (omega (arith, behind)) in
+    omega (arith, taken, within, bound)

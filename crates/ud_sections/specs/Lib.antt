@@ -3,3 +3,4 @@ pub mod Showing
 pub mod Styles
 pub mod Printers
 pub mod Finding
+pub mod Listing

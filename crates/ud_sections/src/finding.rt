@@ -1,6 +1,6 @@
 //! The directive that a line carries.
 
-ghost use Rattle.std.specs.Prelude.{◌≡◌, MatchOption, Some, None};
+ghost use Rattle.std.specs.Prelude.{◌≡◌, ◌+◌, length, IfOk, IfSome, MatchOption, Some, None};
 ghost use Rattle.ud_model.specs.Bytes.{are_word_bytes};
 ghost use Rattle.ud_model.specs.Directives.{content_of, past_sign, kind_of, is_cut_off, begins_keyword, is_keyword_front, leaves_keyword, has_cut_keyword, found_behind};
 ghost use Rattle.ud_text.specs.Viewing.{as_scan};
@@ -19,7 +19,9 @@ use ud_text::Scan;
 /// The line goes on, and its keyword can't be known: behind the `#` there is only white space, or a continuation cuts
 /// the line behind a single `/` or behind what may become a keyword.
 pub fn directive<'a>(scan: &Scan<'a>) -> Result<Option<Directive<'a>>, Cut>
-    ensures { content_found result ≡ content_of (as_scan scan.now) }
+    ensures value { content_found result ≡ content_of (as_scan scan.now) }
+    ensures places { IfOk result (λ found. IfSome found (λ d.
+        d.keyword.at + d.keyword.len + length d.after.now ≡ length scan.now.masked.now)) }
 {
     let Some(behind) = past_sign(scan.masked) else {
         return Ok(None);
@@ -96,7 +98,8 @@ fn begins_keyword(word: &[u8]) -> bool
 /// The directive whose keyword stands behind the `#` of a line, where the line is fresh.
 fn found_behind<'a>(scan: &Scan<'a>, behind: &'a [u8]) -> Option<Directive<'a>>
     requires { past_sign scan.now.masked.now ≡ Some behind.now }
-    ensures { directive_or_text result ≡ found_behind (as_scan scan.now) (Some behind.now) }
+    ensures value { directive_or_text result ≡ found_behind (as_scan scan.now) (Some behind.now) }
+    ensures places { IfSome result (λ d. d.keyword.at + d.keyword.len + length d.after.now ≡ length scan.now.masked.now) }
 {
     if !scan.fresh {
         return None;

@@ -11,6 +11,8 @@ mod faults;
 #[cfg(test)]
 mod lines;
 #[cfg(test)]
+mod listing;
+#[cfg(test)]
 mod plain;
 #[cfg(test)]
 mod printers;
