@@ -29,3 +29,4 @@ pub mod ParsingComplete
 pub mod ParsingSound
 pub mod TokenLemmas
 pub mod OneExpression
+pub mod PrintingExamples

@@ -1,5 +1,5 @@
 -- What is printed of a text grows line by line, and without options each line is printed by its verdict alone.
-use Rattle.std.proofs.Common.{◌≡◌, ◌∙◌, List, ℕ, [], ◌∷◌, ◌++◌, Bool, not, ◌||◌, bytes_eq, refl, ap, sym, append_assoc, append-nil}
+use Rattle.std.proofs.Common.{◌≡◌, ◌∙◌, List, ℕ, [], ◌∷◌, ◌++◌, Bool, true, false, not, ◌||◌, bytes_eq, refl, ap, sym, append_assoc, append-nil}
 use Rattle.std.specs.List.{concat}
 use Rattle.std.proofs.lemmas.List.Folds.{concat-append}
 use Rattle.ud_model.specs.Lines.{text_of}
@@ -30,6 +30,27 @@ pub printed-more : (piece : List Judged → Judged → List ℕ) (js : List Judg
 printed-more piece js j =
     ap concat (pieces_by-more piece [] js j) ∙ concat-append (pieces_by piece [] js) (piece js j ∷ [])
     ∙ ap (λ (t : List ℕ). concat (pieces_by piece [] js) ++ t) (append-nil (piece js j))
+
+-- a line behind others differs, or one of these does
+pub differ-more : (piece : List Judged → Judged → List ℕ) (before js : List Judged) (j : Judged) →
+    some_other (pieces_by piece before (js ++ j ∷ [])) (js ++ j ∷ [])
+    ≡ (some_other (pieces_by piece before js) js || not (bytes_eq (piece (before ++ js) j) (text_of j.line)))
+differ-more piece before [] j =
+    ap (λ (ks : List Judged). not (bytes_eq (piece ks j) (text_of j.line)) || false) (sym (append-nil before)) ∙ or_false (not (bytes_eq (piece (before ++ []) j) (text_of j.line)))
+  where
+    or_false : (b : Bool) → (b || false) ≡ b
+    or_false true = refl
+    or_false false = refl
+differ-more piece before (k ∷ js) j =
+    ap (λ (d : Bool). not (bytes_eq (piece before k) (text_of k.line)) || d)
+    (differ-more piece (before ++ k ∷ []) js j
+    ∙ ap (λ (ks : List Judged). some_other (pieces_by piece (before ++ k ∷ []) js) js || not (bytes_eq (piece ks j) (text_of j.line))) (append_assoc before (k ∷ []) js))
+    ∙ or_or (not (bytes_eq (piece before k) (text_of k.line))) (some_other (pieces_by piece (before ++ k ∷ []) js) js)
+    (not (bytes_eq (piece (before ++ k ∷ js) j) (text_of j.line)))
+  where
+    or_or : (a b c : Bool) → (a || (b || c)) ≡ ((a || b) || c)
+    or_or true b c = refl
+    or_or false b c = refl
 
 -- without options, what is printed of a line is what its verdict says
 pub plain_piece : (before : List Judged) (j : Judged) → piece_behind plain_style before j ≡ piece_by j.verdict j.keyword j.line
