@@ -217,7 +217,8 @@ gives_agrees u o a b n (unsigned s) (signed t) c p q e g =
 gives_agrees u o a b n (unsigned s) (unsigned t) c p q e g =
     gives_by u o a b n c s t p.2 p.1 q.1 (ap (cast_unsigned w64) p.0) (ap (cast_unsigned w64) q.0) e g
 
-zero_decides : (a : ℤ) → Decides (is_zero a) (a ≡ pos 0)
+-- the test for 0 decides
+pub zero_decides : (a : ℤ) → Decides (is_zero a) (a ≡ pos 0)
 zero_decides (pos j) = like_decides (nat_eq j 0) (λ e. ap pos e) (pos_same j 0) (Decides-eqb j 0)
 zero_decides (negsuc j) = ((λ e. absurd (false≢true e)), λ h. cc)
 

@@ -28,3 +28,4 @@ pub mod ParsingComplete
 pub mod ParsingSound
 pub mod TokenLemmas
 pub mod OneExpression
+pub mod DecidedConditions
