@@ -24,6 +24,7 @@ pub mod ConditionLemmas
 pub mod KnownNumbers
 pub mod KnownStays
 pub mod KnownExamples
+pub mod WrongRules
 pub mod ParsingComplete
 pub mod ParsingSound
 pub mod TokenLemmas
