@@ -194,3 +194,48 @@ names_in_order = refl
 pub no_names : names_of If (codes " A--1") ≡ []
 unfolding expression_of reads tokens_of next_token suffix_sign
 no_names = refl
+
+-- with A as 5, and B as a constant with a `u` above the greatest number
+abbrev pub with_u : List Argument
+with_u = says (codes "A") (codes "5") ∷ says (codes "B") (codes "99999999999999999999u") ∷ []
+
+-- a `u` counts wherever it stands in the expression
+pub u_beside_a_decided_operand : asked (codes "(A || 0u) && ~A < 0") ≡ Unknown
+unfolding expression_cond expression_of reads tokens_of next_token suffix_sign operate change name_value name_has_u end_of defined_value
+u_beside_a_decided_operand = refl
+
+-- also where a symbol's value ends at it, whether or not the constant is in range
+pub u_at_the_end_of_a_symbol : expression_cond (codes "(A || B) && ~A < 0") with_u usual ≡ Unknown
+unfolding expression_cond expression_of reads tokens_of next_token suffix_sign operate change name_value name_has_u end_of defined_value
+u_at_the_end_of_a_symbol = refl
+
+-- but not behind `defined`, nor in arguments
+pub u_that_does_not_count : expression_cond (codes "defined B && A(0u) && ~A < 0") with_u usual ≡ Yes
+unfolding expression_cond expression_of reads tokens_of next_token suffix_sign operate change name_value name_has_u end_of defined_value
+u_that_does_not_count = refl
+
+-- the rule on `e` and a sign is for constants that end in `e`
+pub sign_behind_a_suffix : asked (codes "0xEu-1 == 13 && A") ≡ Yes
+unfolding expression_cond expression_of reads tokens_of next_token suffix_sign operate change name_value name_has_u end_of defined_value
+sign_behind_a_suffix = refl
+
+-- a name has arguments once
+pub arguments_twice : asked (codes "A(1)(2)") ≡ Unknown
+unfolding expression_cond expression_of reads tokens_of next_token suffix_sign operate change name_value name_has_u end_of defined_value
+arguments_twice = refl
+
+-- what stands in parentheses has none
+pub arguments_behind_parentheses : asked (codes "(A)(1)") ≡ Unknown
+unfolding expression_cond expression_of reads tokens_of next_token suffix_sign operate change name_value name_has_u end_of defined_value
+arguments_behind_parentheses = refl
+
+-- `defined` is no name, also as a symbol's value
+pub defined_as_a_value : expression_cond (codes "A || !A") (says (codes "A") (codes "defined") ∷ []) usual ≡ Unknown
+unfolding expression_cond expression_of reads tokens_of next_token suffix_sign operate change name_value name_has_u end_of defined_value
+defined_as_a_value = refl
+
+-- a way of names that ends at an undefined one has no end
+pub chain_to_an_undefined_name :
+    expression_cond (codes "A == 0") (says (codes "A") (codes "B") ∷ record { name = codes "B"; entry = record { value = None; ignoring = false } } ∷ []) usual ≡ Unknown
+unfolding expression_cond expression_of reads tokens_of next_token suffix_sign operate change name_value name_has_u end_of defined_value
+chain_to_an_undefined_name = refl

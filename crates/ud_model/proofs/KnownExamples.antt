@@ -1,16 +1,15 @@
 -- Examples: expressions with a known value that C gives a value, computed by the checker.
 --
 -- Each shows a text, its tree, the value, and one way in which C comes to it.
-use Rattle.std.proofs.Common.{◌≡◌, refl, subst, ℕ, ◌<◌, ◌^◌, List, codes, Some, None, true, false, Bool, inl, inr, arith, ℤ, pos, negsuc}
-use Rattle.std.proofs.lemmas.Bool.{false≢true}
+use Rattle.std.proofs.Common.{◌≡◌, refl, ℕ, ◌<◌, ◌^◌, List, codes, Some, None, true, false, Bool, inl, inr, arith, ℤ, pos, negsuc}
 use Rattle.ud_model.specs.Table.{Argument}
 use Rattle.ud_model.specs.Constants.{suffix_sign, has_u, constant_number}
 use Rattle.ud_model.specs.Tokens.{next_token}
 use Rattle.ud_model.specs.Expressions.{Expression, constant, named, is_defined, unary, binary}
 use Rattle.ud_model.specs.Parsing.{tokens_of, reads, expression_of}
 use Rattle.ud_model.specs.Symbols.{end_of}
-use Rattle.ud_model.specs.Values.{operate, change, name_value, name_has_u, defined_value, number_of, value_of}
-use Rattle.ud_model.specs.CValues.{Number, Gives, IsConstantValue, by_size, signed, unsigned, plain, by_suffix, CValue, of_constant, of_known_name, of_open_name, of_known_defined, of_open_defined, of_unary, of_binary, of_and_left, of_and_both, of_or_both, IsCValue}
+use Rattle.ud_model.specs.Values.{operate, change, name_value, name_has_u, defined_value, value_of}
+use Rattle.ud_model.specs.CValues.{Number, signed, unsigned, plain, by_suffix, CValue, of_constant, of_known_name, of_open_name, of_known_defined, of_open_defined, of_unary, of_binary, of_and_left, of_and_both, of_or_both, IsCValue}
 use Rattle.ud_model.specs.declared.operator.Operator.TheVariants.{Or, And, BitAnd, Equal, Less, Plus, Minus, Over, Remainder, Not, Complement}
 use Rattle.ud_model.proofs.ExpressionExamples.{five, without}
 
@@ -24,7 +23,7 @@ pub record Shown (table : List Argument) (text : List ℕ) (n : ℤ) : Type 0 wh
 
 module _ (u : Bool) where
   -- A is 5
-  a_is_five : CValue five u (named (codes "A") false) (signed (pos 5))
+  pub a_is_five : CValue five u (named (codes "A") false) (signed (pos 5))
   unfolding suffix_sign name_value name_has_u end_of
   a_is_five = of_known_name {z = pos 5} refl
 
@@ -182,32 +181,3 @@ defined_or_not = record {
   known = refl;
   given = of_or_both (of_open_defined refl (inl refl)) refl (of_known_defined {z = pos 1} refl) (inl ((λ h. cc), refl));
 }
-
--- -1 % 0
-abbrev pub remainder_by_zero : Expression
-remainder_by_zero = binary Remainder (unary Minus (c (codes "1"))) (c (codes "0"))
-
--- it has no known value
-pub remainder_by_zero_unknown : (table : List Argument) (strict u : Bool) → number_of table strict u remainder_by_zero ≡ None
-unfolding operate change
-remainder_by_zero_unknown table true true = refl
-remainder_by_zero_unknown table true false = refl
-remainder_by_zero_unknown table false true = refl
-remainder_by_zero_unknown table false false = refl
-
-is_nought : (y : Number) → IsConstantValue (codes "0") y → y ≡ signed (pos 0)
-unfolding suffix_sign
-is_nought y (plain h l) = refl
-is_nought y (by_suffix h l) = absurd (false≢true h)
-is_nought y (by_size h d l m) = absurd (omega arith)
-
-no_remainder : (x z : Number) → Gives Remainder x (signed (pos 0)) z → ⊥
-no_remainder (signed k) z g = g.0 refl
-no_remainder (unsigned k) z g = let l : 0 < 0 = g.0 in omega arith
-
-nought_of : {table : List Argument} {u : Bool} {y : Number} → CValue table u (constant (codes "0")) y → y ≡ signed (pos 0)
-nought_of {y = y} (of_constant p) = is_nought y p
-
--- and no C value
-pub remainder_by_zero_none : (table : List Argument) (u : Bool) (z : Number) → CValue table u remainder_by_zero z → ⊥
-remainder_by_zero_none table u z (of_binary {x = k} {y = y} d f g) = no_remainder k z (subst (λ w. Gives Remainder k w z) (nought_of f) g)

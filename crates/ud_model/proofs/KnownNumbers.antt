@@ -63,9 +63,11 @@ decides_by : {P : Type 0} (b : Bool) → (T b → P) → (P → T b) → Decides
 decides_by true f g = ((λ e. f tt), λ p. refl)
 decides_by false f g = ((λ e. absurd (false≢true e)), λ p. absurd (g p))
 
+-- the test for less decides
 pub less_decides : (a b : ℤ) → Decides (int_lt a b) (a <ℤ b)
 less_decides a b = decides_by (int_lt a b) (λ t. record { lt = t }) (λ p. p.lt)
 
+-- the test for at most decides
 pub at_most_decides : (a b : ℤ) → Decides (int_le a b) (a ≤ℤ b)
 at_most_decides a b = decides_by (int_le a b) (λ t. record { le = t }) (λ p. p.le)
 
@@ -95,6 +97,7 @@ pos_same a b e = ap unsigned_abs e
 negsuc_same : (a b : ℕ) → negsuc a ≡ negsuc b → a ≡ b
 negsuc_same a b e = let q : suc a ≡ suc b = ap unsigned_abs e in omega arith
 
+-- the test for equal numbers decides
 pub same_decides : (a b : ℤ) → Decides (same a b) (a ≡ b)
 same_decides (pos a) (pos b) = like_decides (leb a b && leb b a) (λ e. ap pos e) (pos_same a b) (both_ways a b)
 same_decides (pos a) (negsuc b) = ((λ e. absurd (false≢true e)), λ h. cc)
@@ -217,7 +220,8 @@ gives_agrees u o a b n (unsigned s) (signed t) c p q e g =
 gives_agrees u o a b n (unsigned s) (unsigned t) c p q e g =
     gives_by u o a b n c s t p.2 p.1 q.1 (ap (cast_unsigned w64) p.0) (ap (cast_unsigned w64) q.0) e g
 
-zero_decides : (a : ℤ) → Decides (is_zero a) (a ≡ pos 0)
+-- the test for 0 decides
+pub zero_decides : (a : ℤ) → Decides (is_zero a) (a ≡ pos 0)
 zero_decides (pos j) = like_decides (nat_eq j 0) (λ e. ap pos e) (pos_same j 0) (Decides-eqb j 0)
 zero_decides (negsuc j) = ((λ e. absurd (false≢true e)), λ h. cc)
 

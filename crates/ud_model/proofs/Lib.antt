@@ -25,8 +25,10 @@ pub mod PrintingLemmas
 pub mod KnownNumbers
 pub mod KnownStays
 pub mod KnownExamples
+pub mod WrongRules
 pub mod ParsingComplete
 pub mod ParsingSound
 pub mod TokenLemmas
 pub mod OneExpression
 pub mod PrintingExamples
+pub mod DecidedConditions

@@ -45,18 +45,22 @@ level_most Remainder = omega arith
 level_most Not = omega arith
 level_most Complement = omega arith
 
+-- the test for at most, where it holds
 pub leb_yes : (a b : ℕ) → a ≤ b → leb a b ≡ true
 leb_yes a b h = elim (leb_tells a b) [ inl p ↦ p.0 | inr p ↦ absurd (omega arith) ]
 
+-- the test for at most, where it doesn't
 pub leb_no : (a b : ℕ) → b < a → leb a b ≡ false
 leb_no a b h = elim (leb_tells a b) [ inl p ↦ absurd (omega arith) | inr p ↦ p.0 ]
 
+-- what takes no operand before level j takes none before a tighter one
 pub below_more : {A : Type 0} (j k : ℕ) (s : List (Frame A)) → j ≤ k → Below j s → Below k s
 below_more j k [] l b = tt
 below_more j k (left o a ∷ s) l b = omega arith
 below_more j k (before o ∷ s) l b = omega arith
 below_more j k (paren ∷ s) l b = tt
 
+-- where nothing tighter than level j comes next, nothing tighter than a tighter level does
 pub stops_more : (j k : ℕ) (ts : List Token) → j ≤ k → Stops j ts → Stops k ts
 stops_more j k [] l b = tt
 stops_more j k (operator o ∷ ts) l b = omega arith

@@ -13,9 +13,11 @@ module _ {A : Type 0} (m : Meaning A) where
   frames_meant (before o ∷ s) = before o ∷ frames_meant s
   frames_meant (paren ∷ s) = paren ∷ frames_meant s
 
+  -- an operand and what waits, taken by their meaning
   abbrev pub pair_meant : Expression × List (Frame Expression) → A × List (Frame A)
   pair_meant (e, s) = (meaning m e, frames_meant s)
 
+  -- a state, taken by its meaning
   abbrev pub state_meant : State Expression → State A
   state_meant (needs s) = needs (frames_meant s)
   state_meant (has e s) = has (meaning m e) (frames_meant s)

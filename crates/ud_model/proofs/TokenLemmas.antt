@@ -157,6 +157,7 @@ pub tokens_of_only : (text : List ℕ) (ts : List Token) → AreTokens text ts �
 unfolding tokens_of
 tokens_of_only text ts p = tokens_enough ts (suc (length text)) text (omega arith) p
 
+-- the tokens that are computed are those of the text
 pub tokens_of_are : (text : List ℕ) (ts : List Token) → tokens_of text ≡ Some ts → AreTokens text ts
 unfolding tokens_of
 tokens_of_are text ts e = tokens_found (suc (length text)) text ts e

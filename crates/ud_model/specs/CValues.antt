@@ -24,12 +24,14 @@ use Rattle.ud_model.specs.Values.{name_value, name_has_u, defined_value, has_uns
 use Rattle.ud_model.specs.declared.operator.Operator.{Operator}
 use Rattle.ud_model.specs.declared.operator.Operator.TheVariants.{Or, And, BitOr, BitXor, BitAnd, Equal, NotEqual, Less, LessEqual, Greater, GreaterEqual, Plus, Minus, Times, Over, Remainder, Not, Complement}
 
+-- a number with its type
 pub data Number : Type 0 where
   -- of intmax_t
   signed : ℤ → Number
   -- of uintmax_t
   unsigned : ℕ → Number
 
+-- the number alone
 abbrev pub number : Number → ℤ
 number (signed z) = z
 number (unsigned n) = pos n
@@ -48,6 +50,7 @@ as_unsigned (unsigned n) = n
 abbrev pub IsTruth : Type 0 → Number → Type 0
 IsTruth Holds c = (Holds × (c ≡ signed (pos 1))) ⊎ ((Holds → ⊥) × (c ≡ signed (pos 0)))
 
+-- the number is 0
 abbrev pub IsZero : Number → Type 0
 IsZero x = number x ≡ pos 0
 

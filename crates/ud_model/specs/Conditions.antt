@@ -21,6 +21,7 @@ use Rattle.ud_model.specs.declared.cond.Cond.TheVariants.{Yes, No, Unknown}
 use Rattle.ud_model.specs.declared.kind.Kind.{Kind}
 use Rattle.ud_model.specs.declared.kind.Kind.TheVariants.{If, Ifdef, Ifndef, Elif, Else, Endif}
 
+-- a condition, and whether its section is plain text
 pub record Decision : Type 0 where
   pub cond : Cond
   pub ignoring : Bool
@@ -30,6 +31,7 @@ pub record Rules : Type 0 where
   pub constants : Bool
   pub strict : Bool
 
+-- nothing is decided
 abbrev pub undecided : Decision
 undecided = record { cond = Unknown; ignoring = false }
 
@@ -48,6 +50,7 @@ ifdef_by (Some e) = record { cond = defined_by e.value; ignoring = e.ignoring }
     defined_by None = No
     defined_by (Some value) = Yes
 
+-- `#ifdef` with its name, if its text is one
 abbrev pub ifdef_decision : Option (List ℕ) → List Argument → Decision
 ifdef_decision None table = undecided
 ifdef_decision (Some name) table = ifdef_by (entry_in table name)
@@ -64,6 +67,7 @@ undefined_by None = false
 undefined_by (Some e) = not (is_some e.value)
 
 module _ (table : List Argument) where
+  -- an argument names it
   abbrev pub is_listed : List ℕ → Bool
   is_listed n = is_some (entry_in table n)
 
@@ -95,6 +99,7 @@ abbrev pub tree_cond : Expression → List Argument → Rules → Cond
 tree_cond e table rules =
     if calls_undefined table e || not (rules.constants || names_listed table e) then Unknown else truth_of (value_of table rules.strict e)
 
+-- the condition of a tree, if there is one
 abbrev pub tree_cond_if : Option Expression → List Argument → Rules → Cond
 tree_cond_if None table rules = Unknown
 tree_cond_if (Some e) table rules = tree_cond e table rules
@@ -104,6 +109,7 @@ tree_cond_if (Some e) table rules = tree_cond e table rules
 unfoldable pub expression_cond : List ℕ → List Argument → Rules → Cond
 expression_cond after table rules = tree_cond_if (expression_of after) table rules
 
+-- the decision on the text behind a keyword
 abbrev pub condition_of : Kind → List ℕ → List Argument → Rules → Decision
 condition_of If after table rules = record { cond = expression_cond after table rules; ignoring = false }
 condition_of Elif after table rules = record { cond = expression_cond after table rules; ignoring = false }

@@ -13,9 +13,11 @@ use Rattle.std.specs.Prelude.{ℕ, ◌+◌, ◌-◌, ◌*◌, ◌==◌, nat_le, 
 use Rattle.std.specs.List.{prefix_len, flat_map}
 use Rattle.ud_model.specs.Bytes.{is_digit}
 
+-- `0` to `7`
 abbrev pub is_octal_digit : ℕ → Bool
 is_octal_digit b = nat_le 48 b && nat_le b 55
 
+-- a digit, or a letter from `a` to `f`, small or large
 abbrev pub is_hex_digit : ℕ → Bool
 is_hex_digit b = is_digit b || (nat_le 65 b && nat_le b 70) || (nat_le 97 b && nat_le b 102)
 
@@ -24,6 +26,7 @@ abbrev pub begins : ℕ → List ℕ → Bool
 begins c [] = false
 begins c (b ∷ text) = b == c
 
+-- digits of a base, and what follows them
 pub record Parts : Type 0 where
   pub base : ℕ
   pub digits : List ℕ
@@ -56,6 +59,7 @@ long_suffixes = codes "l" ∷ codes "L" ∷ codes "ll" ∷ codes "LL" ∷ []
 abbrev pub each_behind : List (List ℕ) → List (List ℕ) → List (List ℕ)
 each_behind firsts others = flat_map (λ a. map (λ b. a ++ b) others) firsts
 
+-- the text is one of these
 abbrev pub is_among : List (List ℕ) → List ℕ → Bool
 is_among [] s = false
 is_among (t ∷ ts) s = bytes_eq t s || is_among ts s
@@ -71,15 +75,19 @@ suffix_sign s =
 abbrev pub parts_sign : Parts → Option Bool
 parts_sign p = if nat_le 1 (length p.digits) then suffix_sign p.suffix else None
 
+-- the word is a constant
 abbrev pub is_constant : List ℕ → Bool
 is_constant w = is_some (parts_sign (parts_of w))
 
+-- it is one with a `u` or `U`
 abbrev pub has_u : List ℕ → Bool
 has_u w = unwrap_or (parts_sign (parts_of w)) false
 
+-- it begins with no `0`
 abbrev pub is_decimal : List ℕ → Bool
 is_decimal w = not (begins 48 w)
 
+-- what a digit counts for: `0` to `9`, `A` to `F`, `a` to `f`
 abbrev pub digit_value : ℕ → ℕ
 digit_value d = if nat_le d 57 then d - 48 else if nat_le d 70 then d - 55 else d - 87
 
@@ -88,5 +96,6 @@ abbrev pub continued : ℕ → ℕ → List ℕ → ℕ
 continued base n [] = n
 continued base n (d ∷ ds) = continued base (n * base + digit_value d) ds
 
+-- the number that its digits are
 abbrev pub constant_number : List ℕ → ℕ
 constant_number w = continued (parts_of w).base 0 (parts_of w).digits

@@ -41,6 +41,7 @@ is_prefix Complement = true
 is_prefix Minus = true
 is_prefix _ = false
 
+-- a tree of operands and operators
 pub data Expression : Type 0 where
   constant : List ℕ → Expression
   -- a name, and whether it has arguments

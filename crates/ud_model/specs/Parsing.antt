@@ -14,6 +14,7 @@ use Rattle.ud_model.specs.Tokens.{Token, number, name, defined, operator, openin
 use Rattle.ud_model.specs.Expressions.{Expression, constant, named, is_defined, unary, binary, parens, level, is_prefix}
 use Rattle.ud_model.specs.declared.operator.Operator.{Operator}
 
+-- what each node of a tree means
 pub record Meaning (A : Type 0) : Type 0 where
   pub constant : List ℕ → A
   pub named : List ℕ → Bool → A
@@ -22,6 +23,7 @@ pub record Meaning (A : Type 0) : Type 0 where
   pub binary : Operator → A → A → A
   pub parens : A → A
 
+-- what a tree means
 abbrev pub meaning : {A : Type 0} → Meaning A → Expression → A
 meaning m (constant w) = m.constant w
 meaning m (named n a) = m.named n a
@@ -39,6 +41,7 @@ pub data Frame (A : Type 0) : Type 0 where
   -- an open parenthesis
   paren : Frame A
 
+-- where the reading stands
 pub data State (A : Type 0) : Type 0 where
   -- an operand has to come, for what waits
   needs : List (Frame A) → State A
@@ -59,13 +62,16 @@ module _ {A : Type 0} (m : Meaning A) where
   reduce j x (before o ∷ s) = reduce j (m.unary o x) s
   reduce j x (paren ∷ s) = (x, paren ∷ s)
 
+  -- a closing parenthesis takes the one that waits
   abbrev pub close : A × List (Frame A) → State A
   close (x, paren ∷ s) = has (m.parens x) s
   close (x, _) = stuck
 
+  -- an operator with its left operand waits for the right one
   abbrev pub wait : Operator → A × List (Frame A) → State A
   wait o (x, s) = needs (left o x ∷ s)
 
+  -- the state behind one token more
   abbrev pub step : State A → Token → State A
   step (needs s) (number w) = has (m.constant w) s
   step (needs s) (name n a) = has (m.named n a) s
@@ -85,18 +91,22 @@ module _ {A : Type 0} (m : Meaning A) where
   step (asks_end n s) _ = stuck
   step stuck _ = stuck
 
+  -- what has come, where nothing waits
   abbrev pub alone : A × List (Frame A) → Option A
   alone (x, []) = Some x
   alone (x, _ ∷ _) = None
 
+  -- what the tokens mean, where they end here
   abbrev pub finish : State A → Option A
   finish (has x s) = alone (reduce 0 x s)
   finish _ = None
 
+  -- what further tokens mean
   abbrev pub run : State A → List Token → Option A
   run s [] = finish s
   run s (t ∷ ts) = run (step s t) ts
 
+-- a token and those behind it
 abbrev pub cut : (List ℕ → Option (List Token)) → Next → Option (List Token)
 cut f at_end = Some []
 cut f unreadable = None
@@ -111,10 +121,12 @@ tokens_in (suc n) text = cut (λ rest. tokens_in n rest) (next_token text)
 unfoldable pub tokens_of : List ℕ → Option (List Token)
 tokens_of text = tokens_in (suc (length text)) text
 
+-- what tokens mean, if there are such
 abbrev pub run_all : {A : Type 0} → Meaning A → State A → Option (List Token) → Option A
 run_all m s None = None
 run_all m s (Some ts) = run m s ts
 
+-- what a text means in a state
 unfoldable pub reads : {A : Type 0} → Meaning A → State A → List ℕ → Option A
 reads m s text = run_all m s (tokens_of text)
 

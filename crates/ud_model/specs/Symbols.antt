@@ -12,6 +12,7 @@ use Rattle.std.specs.Prelude.{ℕ, zero, suc, List, length, Option, Some, None, 
 use Rattle.ud_model.specs.Bytes.{is_identifier}
 use Rattle.ud_model.specs.Table.{Argument, Entry, entry_in}
 
+-- the text of an entry that defines its name
 abbrev pub text_in : Option Entry → Option (List ℕ)
 text_in None = None
 text_in (Some e) = e.value
@@ -30,5 +31,6 @@ abbrev pub ends_in : ℕ → List Argument → List ℕ → Option (List ℕ)
 ends_in zero table n = None
 ends_in (suc k) table n = on_text (λ v. ends_in k table v) (defined_text table n)
 
+-- the text at which the value of a name ends
 unfoldable pub end_of : List Argument → List ℕ → Option (List ℕ)
 end_of table n = ends_in (length table) table n

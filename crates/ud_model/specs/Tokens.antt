@@ -15,6 +15,7 @@ use Rattle.ud_model.specs.Constants.{begins, is_constant}
 use Rattle.ud_model.specs.declared.operator.Operator.{Operator}
 use Rattle.ud_model.specs.declared.operator.Operator.TheVariants.{Or, And, BitOr, BitXor, BitAnd, Equal, NotEqual, Less, LessEqual, Greater, GreaterEqual, Plus, Minus, Times, Over, Remainder, Not, Complement}
 
+-- what an expression is written with
 pub data Token : Type 0 where
   -- an integer constant, as it is spelled
   number : List ℕ → Token
@@ -25,6 +26,7 @@ pub data Token : Type 0 where
   opening : Token
   closing : Token
 
+-- what stands at the front of a text
 pub data Next : Type 0 where
   -- white space alone
   at_end : Next
@@ -40,6 +42,7 @@ behind_closing zero (b ∷ text) = if b == 40 then behind_closing 1 text else if
 behind_closing (suc n) (b ∷ text) =
     if b == 40 then behind_closing (suc (suc n)) text else if b == 41 then behind_closing n text else behind_closing (suc n) text
 
+-- the name with its arguments, where they end
 abbrev pub with_arguments : List ℕ → Option (List ℕ) → Next
 with_arguments w None = unreadable
 with_arguments w (Some rest) = found (name w true) rest
@@ -90,6 +93,7 @@ token_in_front [] = at_end
 token_in_front (b ∷ text) =
     if is_word_byte b then word_token (word_in_front (b ∷ text)) (past_word (b ∷ text)) else sign_token b text
 
+-- the token at the front of a text, white space left out
 unfoldable pub next_token : List ℕ → Next
 next_token text = token_in_front (past_white text)
 

@@ -34,13 +34,16 @@ fits u (negsuc n) = not u && nat_lt n (2 ^ 63)
 abbrev pub fit : Bool → ℤ → Option ℤ
 fit u z = if fits u z then Some z else None
 
+-- 1 for true, 0 for false
 abbrev pub truth : Bool → ℤ
 truth b = if b then pos 1 else pos 0
 
+-- the number is 0
 abbrev pub is_zero : ℤ → Bool
 is_zero (pos n) = nat_eq n 0
 is_zero (negsuc n) = false
 
+-- the numbers are the same
 abbrev pub same : ℤ → ℤ → Bool
 same a b = int_le a b && int_le b a
 
@@ -80,6 +83,7 @@ abbrev pub decides : Bool → Operator → ℤ → Option ℤ
 decides true o a = None
 decides false o a = decided o a
 
+-- two operands, known or not
 abbrev pub combine : Bool → Bool → Operator → Option ℤ → Option ℤ → Option ℤ
 combine strict u o (Some a) (Some b) = operate u o a b
 combine strict u o (Some a) None = decides strict o a
@@ -93,6 +97,7 @@ change u Minus a = fit u (neg_ℤ a)
 change u Complement a = fit u (neg_ℤ a -ℤ pos 1)
 change u _ a = None
 
+-- an operator before an operand, known or not
 abbrev pub alter : Bool → Operator → Option ℤ → Option ℤ
 alter u o (Some a) = change u o a
 alter u o None = None
@@ -101,9 +106,11 @@ alter u o None = None
 abbrev pub limited : ℕ → Option ℤ
 limited n = if nat_lt n (2 ^ 63) then Some (pos n) else None
 
+-- the value of a constant
 abbrev pub constant_value : List ℕ → Option ℤ
 constant_value w = limited (constant_number w)
 
+-- a value with a `-` before it
 abbrev pub negated_value : Bool → Option ℤ → Option ℤ
 negated_value u None = None
 negated_value u (Some z) = fit u (neg_ℤ z)
@@ -120,6 +127,7 @@ abbrev pub text_has_u : List ℕ → Bool
 text_has_u [] = false
 text_has_u (b ∷ w) = if b == 45 then has_u w else has_u (b ∷ w)
 
+-- the value of what a way ends at
 abbrev pub end_value : Bool → Option (List ℕ) → Option ℤ
 end_value u None = None
 end_value u (Some text) = text_value u text
@@ -134,9 +142,11 @@ abbrev pub name_value_by : Bool → Option (List ℕ) → Option Entry → Optio
 name_value_by u end None = None
 name_value_by u end (Some e) = defined_name_value u end e.value
 
+-- the value of a name as an operand
 unfoldable pub name_value : List Argument → Bool → List ℕ → Option ℤ
 name_value table u n = name_value_by u (end_of table n) (entry_in table n)
 
+-- there is an end, and its constant has a `u`
 abbrev pub end_has_u : Option (List ℕ) → Bool
 end_has_u None = false
 end_has_u (Some text) = text_has_u text
@@ -145,6 +155,7 @@ end_has_u (Some text) = text_has_u text
 unfoldable pub name_has_u : List Argument → List ℕ → Bool
 name_has_u table n = end_has_u (end_of table n)
 
+-- 1 where the entry defines its name, and 0 where it undefines it
 abbrev pub defined_value_by : Option Entry → Option ℤ
 defined_value_by None = None
 defined_value_by (Some e) = Some (truth (is_some e.value))
@@ -172,5 +183,6 @@ module _ (table : List Argument) where
   has_unsigned (binary o a b) = has_unsigned a || has_unsigned b
   has_unsigned (parens a) = has_unsigned a
 
+  -- the value of a tree
   abbrev pub value_of : Bool → Expression → Option ℤ
   value_of strict e = number_of strict (has_unsigned e) e

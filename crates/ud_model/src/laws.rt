@@ -1,6 +1,6 @@
 //! Laws over the definitions: functions without a body, whose contracts are theorems.
 
-ghost use Rattle.std.specs.Prelude.{◌≡◌, ◌≢◌, ◌++◌, ℕ, List, [], ◌∷◌, length, map, true, false, Bool, Some, ℤ};
+ghost use Rattle.std.specs.Prelude.{◌≡◌, ◌≢◌, ◌++◌, ℕ, List, [], ◌∷◌, length, map, true, false, Bool, Some, ℤ, pos};
 ghost use Rattle.ud_model.specs.Lines.{Line, AreLines, texts_of};
 ghost use Rattle.ud_model.specs.Scans.{Reading};
 ghost use Rattle.ud_model.specs.Splicing.{content, run_of};
@@ -16,9 +16,14 @@ ghost use Rattle.ud_model.specs.Runs.{Outcome, Runs, RunsSoFar};
 ghost use Rattle.ud_model.specs.Answer.{Answer, IsAnswer};
 ghost use Rattle.ud_model.specs.Printing.{style_of, plain_style, printed, printed_by, some_differ, some_differ_by};
 ghost use Rattle.ud_model.specs.declared.settings.Settings.{Settings};
-ghost use Rattle.ud_model.specs.Table.{Argument};
-ghost use Rattle.ud_model.specs.Expressions.{Expression};
+ghost use Rattle.ud_model.specs.Table.{Argument, entry_in};
+ghost use Rattle.ud_model.specs.Expressions.{Expression, IsWritten};
+ghost use Rattle.ud_model.specs.Parsing.{expression_of};
 ghost use Rattle.ud_model.specs.Values.{value_of};
+ghost use Rattle.ud_model.specs.Conditions.{Rules, tree_cond, expression_cond, condition_of};
+ghost use Rattle.ud_model.specs.Names.{names_in, names_of};
+ghost use Rattle.ud_model.specs.declared.cond.Cond.{Cond};
+ghost use Rattle.ud_model.specs.declared.kind.Kind.{Kind};
 ghost use Rattle.ud_model.specs.CValues.{Number, number, IsCValue};
 
 /// A text has lines, and has them in one way only.
@@ -91,8 +96,32 @@ pub fn law_plain_printing()
     ensures differ { (s : Settings) → style_of s ≡ plain_style → (xs : List (Item Reading)) → (ms : List Mark) → some_differ_by s xs ms ≡ some_differ xs ms }
 {}
 
+/// A text is written for one tree at most, and the computed tree is the one for which it is written (C11 6.5).
+pub fn law_one_expression()
+    ensures only { (text : List ℕ) → (e : Expression) → (f : Expression) → IsWritten text e → IsWritten text f → e ≡ f }
+    ensures found { (text : List ℕ) → (e : Expression) → IsWritten text e → expression_of text ≡ Some e }
+    ensures written { (text : List ℕ) → (e : Expression) → expression_of text ≡ Some e → IsWritten text e }
+{}
+
+/// The condition and the names of an `#if` or `#elif` are those of the tree for which its text is written; where there is
+/// none, the condition is unknown and there are no names.
+pub fn law_expression_cond()
+    ensures cond { (text : List ℕ) → (e : Expression) → (table : List Argument) → (rules : Rules) → IsWritten text e → expression_cond text table rules ≡ tree_cond e table rules }
+    ensures unknown { (text : List ℕ) → (table : List Argument) → (rules : Rules) → ((e : Expression) → IsWritten text e → ⊥) → expression_cond text table rules ≡ Cond.Unknown }
+    ensures names { (text : List ℕ) → (e : Expression) → IsWritten text e → names_of Kind.If text ≡ names_in e }
+    ensures no_names { (text : List ℕ) → ((e : Expression) → IsWritten text e → ⊥) → names_of Kind.If text ≡ [] }
+{}
+
+/// Tables that say the same of every name decide the same of every directive.
+pub fn law_condition_by_entries()
+    ensures { (table : List Argument) → (other : List Argument) → ((name : List ℕ) → entry_in table name ≡ entry_in other name) → (kind : Kind) → (after : List ℕ) → (rules : Rules) → condition_of kind after table rules ≡ condition_of kind after other rules }
+{}
+
 /// Where the value of an expression is known, it is the C value, whatever stands for the names that the table leaves open,
-/// with and without `strict`: each value that C may give the expression is this number (C11 6.10.1p4, 6.5).
+/// with and without `strict`: each value that C may give the expression is this number (C11 6.10.1p4, 6.5). So a condition that is decided is true or
+/// false as C has it.
 pub fn law_known_stays()
-    ensures { (table : List Argument) → (strict : Bool) → (e : Expression) → (n : ℤ) → (c : Number) → value_of table strict e ≡ Some n → IsCValue table e c → number c ≡ n }
+    ensures value { (table : List Argument) → (strict : Bool) → (e : Expression) → (n : ℤ) → (c : Number) → value_of table strict e ≡ Some n → IsCValue table e c → number c ≡ n }
+    ensures yes { (table : List Argument) → (rules : Rules) → (e : Expression) → (c : Number) → tree_cond e table rules ≡ Cond.Yes → IsCValue table e c → number c ≢ pos 0 }
+    ensures no { (table : List Argument) → (rules : Rules) → (e : Expression) → (c : Number) → tree_cond e table rules ≡ Cond.No → IsCValue table e c → number c ≡ pos 0 }
 {}
