@@ -2,6 +2,7 @@
 # make check      the merge gate: every proof from nothing, the edits that must be refused, the tests, the stored run
 # make install    installs ./unifdef and its manual under DESTDIR and PREFIX
 # make bench      measures ./unifdef on a large text (bench/README.md)
+# make bench-conditions  measures how fast conditions are decided (bench/README.md)
 # make clean      removes what was built
 
 PREFIX ?= /usr/local
@@ -19,7 +20,7 @@ SOURCES := crates.txt HANDLES \
 	$(shell find crates -name out -prune -o \( -name '*.rt' -o -name '*.antt' \) -print)
 
 .DELETE_ON_ERROR:
-.PHONY: all build check install bench clean
+.PHONY: all build check install bench bench-conditions clean
 
 all: build
 
@@ -40,6 +41,10 @@ install: unifdef
 
 bench: unifdef
 	bench/run.sh
+
+bench-conditions:
+	cd crates/conditions_bench && $(RT) run -- conditions 1 < /dev/null > /dev/null
+	bench/conditions.sh
 
 clean:
 	rm -f unifdef

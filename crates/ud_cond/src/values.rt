@@ -237,8 +237,8 @@ fn decides(strict: bool, operator: Operator, a: i64) -> Option<i64>
         return None;
     }
     match operator {
-        Operator::And => { if a == 0 { Some(0) } else { None } }
-        Operator::Or => { if a == 0 { None } else { Some(1) } }
+        Operator::And if a == 0 => Some(0),
+        Operator::Or if a != 0 => Some(1),
         _ => None,
     }
 }

@@ -91,14 +91,66 @@ fn a_value_is_followed_from_symbol_to_symbol(rt: HostRuntime) -> Result<(), Fail
     symbols.define(b"B", b"-7", false)?;
     symbols.define(b"C", b"D", false)?;
     symbols.define(b"D", b"C", false)?;
+    symbols.define(b"E", b"U", false)?;
     symbols.undefine(b"U", false)?;
     check(&rt, &symbols, USUAL, b"A == -7", Cond::Yes);
-    check(&rt, &symbols, USUAL, b"A(1)(2)", Cond::Unknown);
+    check(&rt, &symbols, USUAL, b"E == 0", Cond::Unknown);
     check(&rt, &symbols, USUAL, b"A((x)) < 0", Cond::Yes);
     check(&rt, &symbols, USUAL, b"C == 0", Cond::Unknown);
     check(&rt, &symbols, USUAL, b"defined C && defined(D)", Cond::Yes);
     check(&rt, &symbols, USUAL, b"1 || U(1)", Cond::Unknown);
     check(&rt, &symbols, USUAL, b"U == 0", Cond::Yes);
+    Ok(())
+}
+
+#[test]
+fn arguments_are_bytes_up_to_their_parenthesis(rt: HostRuntime) -> Result<(), Fail> {
+    let symbols = five(rt.alloc())?;
+    check(&rt, &symbols, USUAL, b"A (1, \"x\") == 5", Cond::Yes);
+    check(&rt, &symbols, USUAL, b"A(0u) > -1", Cond::Yes);
+    check(&rt, &symbols, USUAL, b"A(\")\") == 5", Cond::Unknown);
+    check(&rt, &symbols, USUAL, b"A(1)(2)", Cond::Unknown);
+    check(&rt, &symbols, USUAL, b"(A)(1)", Cond::Unknown);
+    check(&rt, &symbols, USUAL, b"A(1", Cond::Unknown);
+    check(&rt, &symbols, USUAL, b"defined A(1)", Cond::Unknown);
+    check(&rt, &symbols, USUAL, b"defined(A)(1)", Cond::Unknown);
+    Ok(())
+}
+
+#[test]
+fn a_u_anywhere_raises_the_least_number(rt: HostRuntime) -> Result<(), Fail> {
+    let mut symbols = five(rt.alloc())?;
+    symbols.define(b"B", b"-5u", false)?;
+    check(&rt, &symbols, USUAL, b"-1 < A", Cond::Yes);
+    check(&rt, &symbols, USUAL, b"-1 < A || 0u", Cond::Unknown);
+    check(&rt, &symbols, USUAL, b"-1 < A || B", Cond::Unknown);
+    check(&rt, &symbols, USUAL, b"-1 < A && defined B", Cond::Yes);
+    Ok(())
+}
+
+#[test]
+fn constants_are_read_as_in_c(rt: HostRuntime) -> Result<(), Fail> {
+    let mut symbols = five(rt.alloc())?;
+    symbols.define(b"Ae", b"3", false)?;
+    symbols.define(b"B", b"defined", false)?;
+    symbols.define(b"C", b"0x10", false)?;
+    symbols.define(b"D", b"-9223372036854775808", false)?;
+    check(&rt, &symbols, USUAL, b"Ae-1 == 2", Cond::Yes);
+    check(&rt, &symbols, CONSTANTS, b"0xEu-1 == 13", Cond::Yes);
+    check(&rt, &symbols, CONSTANTS, b"1e+2", Cond::Unknown);
+    check(&rt, &symbols, CONSTANTS, b"0xfUll == 15", Cond::Yes);
+    check(&rt, &symbols, CONSTANTS, b"1lL", Cond::Unknown);
+    check(&rt, &symbols, CONSTANTS, b"0x", Cond::Unknown);
+    check(
+        &rt,
+        &symbols,
+        CONSTANTS,
+        b"(-9223372036854775807 - 1) % -1 == 0",
+        Cond::Unknown,
+    );
+    check(&rt, &symbols, USUAL, b"B", Cond::Unknown);
+    check(&rt, &symbols, USUAL, b"C == 16", Cond::Yes);
+    check(&rt, &symbols, USUAL, b"D < 0", Cond::Unknown);
     Ok(())
 }
 
