@@ -17,3 +17,4 @@ pub mod ScanLaws
 pub mod ScanBytes
 pub mod Examples
 pub mod ScanExamples
+pub mod CommandLineExamples

@@ -16,6 +16,7 @@ pub mod Items
 pub mod Faults
 pub mod Printing
 pub mod Arguments
+pub mod CommandLine
 pub mod Messages
 pub mod Runs
 pub mod Answer
