@@ -2,7 +2,7 @@
 -- POSIX XBD 12.2, and the options of unifdef(1).
 --
 --   Given                  what is given in the words: an option, an operand, or a letter that is no option or lacks its argument
---   given_in words         all that is given in these words, in reading order, up to the first letter that is at fault
+--   given_in words         all that is given in these words, in reading order
 --   symbol_in c argument   what the argument of `-D`, `-U` or `-i` says of a symbol, if it is right
 --   mode_in argument       the exit mode that the argument of `-x` names, if it is right
 --   usage_fault words      the first fault of the words in reading order, if there is one
@@ -72,7 +72,7 @@ letters_given number [] next rest = rest
 letters_given number (c ∷ cs) next rest =
     if is_flag c then flag c ∷ letters_given number cs next rest
     else if takes_argument c then option_given c number cs (next c) rest
-    else unknown c ∷ []
+    else unknown c ∷ letters_given number cs next rest
 
 -- what a word gives that has these letters, if any; `operands` is given where it has none
 abbrev pub word_given : ℕ → List ℕ → (ℕ → List Given) → List Given → List Given → List Given

@@ -19,3 +19,4 @@ pub mod HeadlineLemmas
 pub mod RunLemmas
 pub mod HeldLemmas
 pub mod IntakeLemmas
+mod LetterLemmas

@@ -12,3 +12,5 @@ pub mod Held
 pub mod Intake
 pub mod Ending
 pub mod Gave
+pub mod Letters
+pub mod Given

@@ -6,6 +6,7 @@
 #![tactic(auto)]
 
 mod bytes;
+mod command_line;
 mod directive;
 mod emit;
 mod faults;
