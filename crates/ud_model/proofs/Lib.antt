@@ -18,3 +18,7 @@ pub mod ScanBytes
 pub mod Examples
 pub mod ScanExamples
 pub mod CommandLineExamples
+pub mod ExpressionExamples
+pub mod Readings
+pub mod SymbolLemmas
+pub mod ConditionLemmas

@@ -7,7 +7,14 @@ pub mod Scanning
 pub mod Places
 pub mod Directives
 pub mod Table
+pub mod Constants
+pub mod Tokens
+pub mod Expressions
+pub mod Parsing
+pub mod Symbols
+pub mod Values
 pub mod Conditions
+pub mod Names
 pub mod Tree
 pub mod Pruning
 pub mod SoFar

@@ -9,11 +9,13 @@ mod cond;
 mod kind;
 pub mod laws;
 mod limits;
+mod operator;
 mod settings;
 mod verdict;
 
 pub use cond::Cond;
 pub use kind::{CommentAt, Kind, Mode};
 pub use limits::{LINE_BYTES, OPEN_SECTIONS, TEXT_LINES};
+pub use operator::Operator;
 pub use settings::{ExitMode, Listing, Settings};
 pub use verdict::Verdict;

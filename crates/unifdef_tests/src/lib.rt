@@ -13,6 +13,8 @@ mod scans;
 #[cfg(test)]
 mod streams;
 #[cfg(test)]
+mod symbols;
+#[cfg(test)]
 mod words;
 #[cfg(test)]
 mod worked;

@@ -1,0 +1,63 @@
+-- White space and words, by std's words for tests and positions.
+use Rattle.std.proofs.Common.{◌≡◌, ◌∙◌, ◌≤◌, nat_lt, Some, None, unwrap_or, slice_get, arith, ℕ, ◌+◌, List, [], ◌∷◌, Bool, true, false, not, cond, length, take, drop, refl, ap, if◌then◌else◌}
+use Rattle.std.specs.List.{list_all, position, position_or_len}
+use Rattle.std.proofs.lemmas.List.Sums.{prefix_len-le-length}
+use Rattle.std.proofs.lemmas.Bool.Decides.{nat_tests}
+use Rattle.ud_model.specs.Bytes.{is_white, is_word_byte, are_white, are_word_bytes, is_digit, is_identifier, word_in_front, past_word, past_white}
+use Rattle.std.proofs.Common.{◌&&◌, one-add}
+
+-- `all` at `is_white` tests each byte for white space
+pub list_all-white : (bytes : List ℕ) → list_all (λ b. is_white b) bytes ≡ are_white bytes
+list_all-white [] = refl
+list_all-white (b ∷ bs) = ap (λ t. is_white b && t) (list_all-white bs)
+
+-- `all` at `is_word_byte` tests each byte for a word's
+pub list_all-word : (bytes : List ℕ) → list_all (λ b. is_word_byte b) bytes ≡ are_word_bytes bytes
+list_all-word [] = refl
+list_all-word (b ∷ bs) = ap (λ t. is_word_byte b && t) (list_all-word bs)
+
+-- how many word bytes stand in front: the position of the first other byte
+abbrev pub front_len : List ℕ → ℕ
+front_len bytes = position_or_len (λ b. not (is_word_byte b)) bytes
+
+take_one : (w : Bool) (n b : ℕ) (bs front : List ℕ) → take n bs ≡ front → take (cond (not (not w)) (1 + n) 0) (b ∷ bs) ≡ (if w then b ∷ front else [])
+take_one true n b bs front h = rw one-add (ap (λ l. b ∷ l) h)
+take_one false n b bs front h = refl
+
+drop_one : (w : Bool) (n b : ℕ) (bs rest : List ℕ) → drop n bs ≡ rest → drop (cond (not (not w)) (1 + n) 0) (b ∷ bs) ≡ (if w then rest else b ∷ bs)
+drop_one true n b bs rest h = rw one-add h
+drop_one false n b bs rest h = refl
+
+or_len : (n len : ℕ) → n ≤ len → unwrap_or (cond (nat_lt n len) (Some n) None) len ≡ n
+or_len n len h = grind (arith, nat_tests)
+
+-- the bytes before the first that is no word byte are the word in front
+pub take-front_len : (bytes : List ℕ) → take (front_len bytes) bytes ≡ word_in_front bytes
+take-front_len [] = refl
+take-front_len (b ∷ bs) = take_one (is_word_byte b) (front_len bs) b bs (word_in_front bs) (take-front_len bs)
+
+-- the bytes from the first that is no word byte on are those behind the word
+pub drop-front_len : (bytes : List ℕ) → drop (front_len bytes) bytes ≡ past_word bytes
+drop-front_len [] = refl
+drop-front_len (b ∷ bs) = drop_one (is_word_byte b) (front_len bs) b bs (past_word bs) (drop-front_len bs)
+
+-- the position of the first byte that passes, or the length where none does
+pub unwrap_or-position : (p : ℕ → Bool) (bytes : List ℕ) → unwrap_or (position p bytes) (length bytes) ≡ position_or_len p bytes
+unwrap_or-position p bytes = or_len (position_or_len p bytes) (length bytes) (prefix_len-le-length (λ b. not (p b)) bytes)
+
+-- behind a first byte that is no digit, an identifier has word bytes alone
+pub is_identifier-first : (text : List ℕ) (first : ℕ) → slice_get text 0 ≡ Some first → is_digit first ≡ false → is_identifier text ≡ are_word_bytes text
+is_identifier-first [] first e h = cc
+is_identifier-first (b ∷ bs) first e h =
+    let same : b ≡ first = cc in
+    let other : is_digit b ≡ false = ap is_digit same ∙ h in
+    ap (λ d. not d && are_word_bytes (b ∷ bs)) other
+
+one_off : (w : Bool) (b : ℕ) (bs rest : List ℕ) → length rest ≤ length bs → length (if w then rest else b ∷ bs) ≤ length (b ∷ bs)
+one_off true b bs rest h = let s : length (b ∷ bs) ≡ length bs + 1 = omega arith in omega arith
+one_off false b bs rest h = omega arith
+
+-- white space in front is no more than there is
+pub length-past_white : (bytes : List ℕ) → length (past_white bytes) ≤ length bytes
+length-past_white [] = omega arith
+length-past_white (b ∷ bs) = one_off (is_white b) b bs (past_white bs) (length-past_white bs)

@@ -1,0 +1,71 @@
+//! Bytes with a meaning: white space, and the words that they make up.
+//!
+//! The meaning is that of ASCII; bytes from 128 on and NUL belong to no word. Which byte is which is said in
+//! ud_model, specs/Bytes.antt.
+
+ghost use Rattle.std.specs.Prelude.{◌≡◌, ◌≤◌, take, drop, length};
+ghost use Rattle.ud_model.specs.Bytes.{is_white, is_digit, is_word_byte, is_identifier, are_white, past_white, word_in_front, past_word};
+
+/// Whether a byte is white space within a line: space, tab, vertical tab, form feed or carriage return.
+pub fn is_white(byte: u8) -> bool
+    ensures { result ≡ is_white byte }
+{
+    matches!(byte, b' ' | b'\t' | b'\x0b' | b'\x0c' | b'\r')
+}
+
+/// Whether a byte is a digit.
+pub fn is_digit(byte: u8) -> bool
+    ensures { result ≡ is_digit byte }
+{
+    byte.is_ascii_digit()
+}
+
+/// Whether a byte is a letter, a digit or an underscore.
+pub fn is_word_byte(byte: u8) -> bool
+    ensures { result ≡ is_word_byte byte }
+{
+    byte.is_ascii_alphanumeric() || byte == b'_'
+}
+
+/// Whether a text is an identifier: word bytes, at least one, of which the first is no digit.
+pub fn is_identifier(text: &[u8]) -> bool
+    ensures { result ≡ is_identifier text.now }
+{
+    match text.first() {
+        Some(first) => !is_digit(*first) && text.iter().all(|byte| is_word_byte(*byte)),
+        None => false,
+    }
+}
+
+/// Whether each byte is white space.
+pub fn are_white(bytes: &[u8]) -> bool
+    ensures { result ≡ are_white bytes.now }
+{
+    bytes.iter().all(|byte| is_white(*byte))
+}
+
+/// The bytes behind the white space in front.
+pub fn past_white(bytes: &[u8]) -> &[u8]
+    ensures { result.now ≡ past_white bytes.now }
+{
+    let mut rest = bytes;
+    while let Some((first, others)) = rest.split_first() {
+        if !is_white(*first) {
+            break;
+        }
+        rest = others;
+    }
+    rest
+}
+
+/// How many word bytes stand in front.
+pub fn word_len(bytes: &[u8]) -> usize
+    ensures bound { result ≤ length bytes.now }
+    ensures word { take result bytes.now ≡ word_in_front bytes.now }
+    ensures rest { drop result bytes.now ≡ past_word bytes.now }
+{
+    bytes
+        .iter()
+        .position(|byte| !is_word_byte(*byte))
+        .unwrap_or(bytes.len())
+}

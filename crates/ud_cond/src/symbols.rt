@@ -1,0 +1,219 @@
+//! The table of symbols.
+//!
+//! It has one row a name, in the order of the first calls; a later call for a name changes its row. Memory is taken
+//! before anything changes, so a refused call leaves the table as it was.
+
+ghost use Rattle.std.specs.Prelude.{◌≡◌, ◌<◌, ◌++◌, ◌∷◌, [], List, ℕ, option_map, OnOk, OnErr, IfOk, IfSome, IfNone, IsErrOf, IsTrue, Some, None, ◌↔◌, false, length};
+ghost use Rattle.ud_model.specs.Table.{Argument, entry_in};
+ghost use Rattle.ud_model.specs.Arguments as names;
+ghost use Rattle.ud_cond.specs.Standing.{StandsFor, Changes, IsLastRow};
+ghost use Rattle.ud_cond.specs.Viewing.{as_entry, said};
+
+use crate::bytes::is_identifier;
+use crate::fault::SymbolFault;
+use std::alloc::Global;
+use std::marker::Model;
+
+/// What the table says of a name.
+#[derive(Clone, Copy)]
+pub struct Entry<'a> {
+    /// The value that it is defined with; `None` where it is undefined.
+    pub value: Option<&'a [u8]>,
+    /// Whether the sections that it controls are plain text.
+    pub ignoring: bool,
+}
+
+/// A name, and what is said of it.
+#[derive(Drop)]
+struct Row {
+    /// The name.
+    symbol: Vec<u8>,
+    /// The value that it is defined with; `None` where it is undefined.
+    text: Option<Vec<u8>>,
+    /// Whether the sections that it controls are plain text.
+    ignores: bool,
+}
+
+impl Model for Row {
+    ghost use Rattle.std.specs.Prelude.{option_map};
+    ghost use Rattle.ud_model.specs.Table.{Argument};
+    ghost use Rattle.ud_cond.specs.Viewing.{said};
+
+    ghost Value = { Argument };
+
+    ghost view = { λ r. said r.symbol.items (option_map (λ v. v.items) r.text) r.ignores };
+}
+
+impl Row {
+    /// Whether the row is that of this name.
+    fn is_of(&self, name: &[u8]) -> bool
+        ensures { IsTrue result ↔ self.now.name ≡ name.now }
+    {
+        self.symbol.as_slice() == name
+    }
+
+    /// What the row says of its name.
+    fn entry(&self) -> Entry<'_>
+        ensures { as_entry result ≡ self.now.entry }
+    {
+        Entry {
+            value: match &self.text {
+                Some(text) => Some(text.as_slice()),
+                None => None,
+            },
+            ignoring: self.ignores,
+        }
+    }
+}
+
+/// What is said of names: of several calls for a name, the last one counts (unifdef(1)).
+#[derive(Drop)]
+pub struct Symbols {
+    /// Where memory comes from.
+    alloc: Global,
+    /// The rows, one a name.
+    rows: Vec<Row>,
+}
+
+impl Model for Symbols {
+    ghost use Rattle.std.specs.Prelude.{List};
+    ghost use Rattle.ud_model.specs.Table.{Argument};
+
+    ghost Value = { List Argument };
+
+    ghost view = { λ s. s.rows.items };
+}
+
+impl Symbols {
+    /// The table that says nothing of any name. It takes no memory; what it takes later comes from `alloc`.
+    pub fn new(alloc: Global) -> Symbols
+        ensures value { result ≡ [] }
+        ensures stands { StandsFor result [] }
+    {
+        Symbols {
+            alloc,
+            rows: Vec::new(alloc),
+        }
+    }
+
+    /// Says of a name that it is defined with a value, which may be empty, and whether its sections are plain text.
+    ///
+    /// # Errors
+    /// In this order: `BadName` where the name isn't an identifier or is `defined` (C11 6.10.8p4), before memory is
+    /// taken; `OutOfMemory` where memory is refused. The table stays as it was.
+    pub fn define(&mut self, name: &[u8], value: &[u8], ignoring: bool) -> Result<(), SymbolFault>
+        ensures ok { OnOk result (Changes self.old self.new (said name.now (Some value.now) ignoring)) }
+        ensures stands { OnOk result ((calls : List Argument) → StandsFor self.old calls → StandsFor self.new (calls ++ said name.now (Some value.now) ignoring ∷ [])) }
+        ensures err { OnErr result (self.new ≡ self.old) }
+        ensures bad { IsErrOf result SymbolFault.BadName ↔ names.is_name name.now ≡ false }
+    {
+        self.say(name, Some(value), ignoring)
+    }
+
+    /// Says of a name that it is undefined, and whether its sections are plain text.
+    ///
+    /// # Errors
+    /// In this order: `BadName` where the name isn't an identifier or is `defined` (C11 6.10.8p4), before memory is
+    /// taken; `OutOfMemory` where memory is refused. The table stays as it was.
+    pub fn undefine(&mut self, name: &[u8], ignoring: bool) -> Result<(), SymbolFault>
+        ensures ok { OnOk result (Changes self.old self.new (said name.now None ignoring)) }
+        ensures stands { OnOk result ((calls : List Argument) → StandsFor self.old calls → StandsFor self.new (calls ++ said name.now None ignoring ∷ [])) }
+        ensures err { OnErr result (self.new ≡ self.old) }
+        ensures bad { IsErrOf result SymbolFault.BadName ↔ names.is_name name.now ≡ false }
+    {
+        self.say(name, None, ignoring)
+    }
+
+    /// What the last accepted call for a name said of it; `None` where no call named it.
+    pub fn find(&self, name: &[u8]) -> Option<Entry<'_>>
+        ensures value { option_map as_entry result ≡ entry_in self.now name.now }
+        ensures stands { (calls : List Argument) → StandsFor self.now calls → option_map as_entry result ≡ entry_in calls name.now }
+    {
+        match self.place(name) {
+            Some(i) => Some(self.rows[i].entry()),
+            None => None,
+        }
+    }
+
+    /// The place of the last row of a name.
+    fn place(&self, name: &[u8]) -> Option<usize>
+        ensures none { IfNone result (entry_in self.now name.now ≡ None) }
+        ensures some { IfSome result (λ i. IsLastRow self.now i name.now) }
+    {
+        let mut i = self.rows.len();
+        'rows: while 0 < i {
+            i -= 1;
+            if self.rows[i].is_of(name) {
+                return Some(i);
+            }
+        }
+        None
+    }
+
+    /// Says of a name that it has this value, or that it is undefined.
+    fn say(&mut self, name: &[u8], value: Option<&[u8]>, ignoring: bool) -> Result<(), SymbolFault>
+        ensures ok { OnOk result (Changes self.old self.new (said name.now (option_map (λ v. v.now) value.entry) ignoring)) }
+        ensures err { OnErr result (self.new ≡ self.old) }
+        ensures bad { IsErrOf result SymbolFault.BadName ↔ names.is_name name.now ≡ false }
+    {
+        if !is_name(name) {
+            return Err(SymbolFault::BadName);
+        }
+        self.set(name, value, ignoring)
+    }
+
+    /// Changes the row of a name, or adds one.
+    fn set(&mut self, name: &[u8], value: Option<&[u8]>, ignoring: bool) -> Result<(), SymbolFault>
+        ensures ok { OnOk result (Changes self.old self.new (said name.now (option_map (λ v. v.now) value.entry) ignoring)) }
+        ensures err { OnErr result (self.new ≡ self.old) }
+        ensures fault { OnErr result (IsErrOf result SymbolFault.OutOfMemory) }
+    {
+        let text = copy_of(self.alloc, value)?;
+        match self.place(name) {
+            Some(i) => {
+                let row = &mut self.rows[i];
+                row.text = text;
+                row.ignores = ignoring;
+                Ok(())
+            }
+            None => {
+                let symbol = Vec::from_slice(self.alloc, name)?;
+                self.add(Row {
+                    symbol,
+                    text,
+                    ignores: ignoring,
+                })
+            }
+        }
+    }
+
+    /// Adds a row at the end.
+    fn add(&mut self, row: Row) -> Result<(), SymbolFault>
+        ensures ok { OnOk result (self.new ≡ self.old ++ row ∷ []) }
+        ensures err { OnErr result (self.new ≡ self.old) }
+        ensures fault { OnErr result (IsErrOf result SymbolFault.OutOfMemory) }
+    {
+        match self.rows.push(row) {
+            Ok(()) => Ok(()),
+            Err(_) => Err(SymbolFault::OutOfMemory),
+        }
+    }
+}
+
+/// A value in memory of its own.
+fn copy_of(alloc: Global, value: Option<&[u8]>) -> Result<Option<Vec<u8>>, SymbolFault>
+    ensures ok { IfOk result (λ c. option_map (λ v. v.items) c ≡ option_map (λ v. v.now) value.entry) }
+    ensures fault { OnErr result (IsErrOf result SymbolFault.OutOfMemory) }
+{
+    match value {
+        Some(bytes) => Ok(Some(Vec::from_slice(alloc, bytes)?)),
+        None => Ok(None),
+    }
+}
+
+/// Whether a text may name a symbol: an identifier other than `defined`.
+fn is_name(text: &[u8]) -> bool
+    ensures { result ≡ names.is_name text.now }
+{
+    is_identifier(text) && text != b"defined".as_slice()
+}

@@ -1,0 +1,44 @@
+//! The operators of an expression.
+
+/// An operator of a condition's expression (C11 6.5.3 to 6.5.14, without those that no constant expression has).
+///
+/// `Minus` stands between operands and before one; `Not` and `Complement` stand before one alone.
+#[derive(Clone, Copy, Debug, PartialEq, Eq)]
+pub enum Operator {
+    /// `||`
+    Or,
+    /// `&&`
+    And,
+    /// `|`
+    BitOr,
+    /// `^`
+    BitXor,
+    /// `&`
+    BitAnd,
+    /// `==`
+    Equal,
+    /// `!=`
+    NotEqual,
+    /// `<`
+    Less,
+    /// `<=`
+    LessEqual,
+    /// `>`
+    Greater,
+    /// `>=`
+    GreaterEqual,
+    /// `+`
+    Plus,
+    /// `-`
+    Minus,
+    /// `*`
+    Times,
+    /// `/`
+    Over,
+    /// `%`
+    Remainder,
+    /// `!`
+    Not,
+    /// `~`
+    Complement,
+}
