@@ -20,3 +20,6 @@ pub mod RunLemmas
 pub mod HeldLemmas
 pub mod IntakeLemmas
 mod LetterLemmas
+mod GivenLemmas
+mod OptionLemmas
+mod PlanLemmas

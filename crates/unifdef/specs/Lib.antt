@@ -14,3 +14,5 @@ pub mod Ending
 pub mod Gave
 pub mod Letters
 pub mod Given
+pub mod Saying
+pub mod Planning
