@@ -9,6 +9,8 @@ mod lines;
 #[cfg(test)]
 mod plain;
 #[cfg(test)]
+mod plans;
+#[cfg(test)]
 mod scans;
 #[cfg(test)]
 mod streams;
