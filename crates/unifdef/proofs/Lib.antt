@@ -19,7 +19,8 @@ pub mod HeadlineLemmas
 pub mod RunLemmas
 pub mod HeldLemmas
 pub mod IntakeLemmas
-mod LetterLemmas
-mod GivenLemmas
-mod OptionLemmas
-mod PlanLemmas
+pub mod LetterLemmas
+pub mod GivenLemmas
+pub mod OptionLemmas
+pub mod PlanLemmas
+pub mod RefusalLemmas

@@ -16,3 +16,4 @@ pub mod Letters
 pub mod Given
 pub mod Saying
 pub mod Planning
+pub mod Refusals

@@ -20,6 +20,7 @@ mod planned;
 mod planning;
 mod printing;
 mod reading;
+mod refusals;
 mod running;
 mod shape;
 mod usage;

@@ -1,7 +1,7 @@
 //! Reading the words of a command line: what they say, and where they are faulty.
 
 ghost use Rattle.std.specs.Prelude.{◌≡◌, ◌∷◌, [], None, Some, map, string_bytes, option_map, IfOk, IfErr};
-ghost use Rattle.ud_model.specs.CommandLine.{Given, usage_fault, given_in, operand_in, input_of};
+ghost use Rattle.ud_model.specs.CommandLine.{Given, usage_fault, given_in, operand_in, input_of, input_name};
 ghost use Rattle.unifdef.specs.Saying.{IsSaid, IsFaultOf, IsUsageOf};
 ghost use Rattle.unifdef.specs.Planning.{IsPlanOf, as_operand};
 
@@ -45,6 +45,17 @@ pub fn input_of(words: &[String]) -> Option<usize>
     }
 }
 
+/// How messages call the input of words that have no fault: by the operand's bytes, or `stdin` where there is no operand
+/// or it is `-`. Takes no memory.
+pub(crate) fn input_name(words: &[String]) -> &[u8]
+    ensures { usage_fault (map string_bytes words.now) ≡ None → result.now ≡ input_name (map string_bytes words.now) }
+{
+    match operand_in(words) {
+        Ok(Some(operand)) => operand.called(),
+        Ok(None) | Err(_) => b"stdin",
+    }
+}
+
 /// An operand: its place among the words, counted from 0, and its bytes.
 #[derive(Clone, Copy)]
 pub(crate) struct Operand<'a> {
@@ -52,8 +63,8 @@ pub(crate) struct Operand<'a> {
     pub name: &'a [u8],
 }
 
-impl Operand<'_> {
-    ghost use Rattle.ud_model.specs.CommandLine.{file_place};
+impl<'a> Operand<'a> {
+    ghost use Rattle.ud_model.specs.CommandLine.{file_place, name_or_stdin};
 
     /// Its place, where it names a file; `-` is the standard input.
     fn file(&self) -> Option<usize>
@@ -63,6 +74,17 @@ impl Operand<'_> {
             None
         } else {
             Some(self.place)
+        }
+    }
+
+    /// How messages call it.
+    fn called(&self) -> &'a [u8]
+        ensures { result.now ≡ name_or_stdin (Some (as_operand self.now)) }
+    {
+        if self.name == b"-".as_slice() {
+            b"stdin"
+        } else {
+            self.name
         }
     }
 }
