@@ -64,13 +64,20 @@ pub(crate) struct Operand<'a> {
 }
 
 impl<'a> Operand<'a> {
-    ghost use Rattle.ud_model.specs.CommandLine.{file_place, name_or_stdin};
+    ghost use Rattle.ud_model.specs.CommandLine.{is_standard, file_place, name_or_stdin};
+
+    /// Whether it is `-`, the standard input.
+    fn is_standard(&self) -> bool
+        ensures { result ≡ is_standard self.now.name.now }
+    {
+        self.name == b"-".as_slice()
+    }
 
     /// Its place, where it names a file; `-` is the standard input.
     fn file(&self) -> Option<usize>
         ensures { result ≡ file_place (Some (as_operand self.now)) }
     {
-        if self.name == b"-".as_slice() {
+        if self.is_standard() {
             None
         } else {
             Some(self.place)
@@ -81,7 +88,7 @@ impl<'a> Operand<'a> {
     fn called(&self) -> &'a [u8]
         ensures { result.now ≡ name_or_stdin (Some (as_operand self.now)) }
     {
-        if self.name == b"-".as_slice() {
+        if self.is_standard() {
             b"stdin"
         } else {
             self.name
