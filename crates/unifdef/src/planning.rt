@@ -56,10 +56,12 @@ pub(crate) fn input_name(words: &[String]) -> &[u8]
     }
 }
 
-/// An operand: its place among the words, counted from 0, and its bytes.
+/// An operand.
 #[derive(Clone, Copy)]
 pub(crate) struct Operand<'a> {
+    /// Its place among the words, counted from 0.
     pub place: usize,
+    /// Its bytes, of which there may be none.
     pub name: &'a [u8],
 }
 
