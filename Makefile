@@ -1,6 +1,8 @@
 # make            proves the crates, builds the program and copies it to ./unifdef
 # make check      the merge gate: every proof from nothing, the edits that must be refused, the tests, the stored run
+# make examples   runs the README's examples on ./unifdef, and compares what they print
 # make install    installs ./unifdef and its manual under DESTDIR and PREFIX
+# make uninstall  takes both away
 # make bench      measures ./unifdef on a large text (bench/README.md)
 # make bench-conditions  measures how fast conditions are decided (bench/README.md)
 # make clean      removes what was built
@@ -20,7 +22,7 @@ SOURCES := crates.txt HANDLES \
 	$(shell find crates -name out -prune -o \( -name '*.rt' -o -name '*.antt' \) -print)
 
 .DELETE_ON_ERROR:
-.PHONY: all build check install bench bench-conditions clean
+.PHONY: all build check examples install uninstall bench bench-conditions clean
 
 all: build
 
@@ -38,6 +40,12 @@ install: unifdef
 	$(INSTALL) -d $(DESTDIR)$(BINDIR) $(DESTDIR)$(MANDIR)/man1
 	$(INSTALL) -m 755 unifdef $(DESTDIR)$(BINDIR)/unifdef
 	$(INSTALL) -m 644 docs/unifdef.1 $(DESTDIR)$(MANDIR)/man1/unifdef.1
+
+uninstall:
+	rm -f $(DESTDIR)$(BINDIR)/unifdef $(DESTDIR)$(MANDIR)/man1/unifdef.1
+
+examples: unifdef
+	examples/run.sh
 
 bench: unifdef
 	bench/run.sh

@@ -17,6 +17,7 @@ pub mod ScanLaws
 pub mod ScanBytes
 pub mod Examples
 pub mod ScanExamples
+pub mod CommandLineExamples
 pub mod ExpressionExamples
 pub mod Readings
 pub mod SymbolLemmas

@@ -25,6 +25,7 @@ pub mod Faults
 pub mod Printing
 pub mod Listing
 pub mod Arguments
+pub mod CommandLine
 pub mod Messages
 pub mod Runs
 pub mod Answer

@@ -19,3 +19,8 @@ pub mod HeadlineLemmas
 pub mod RunLemmas
 pub mod HeldLemmas
 pub mod IntakeLemmas
+pub mod LetterLemmas
+pub mod GivenLemmas
+pub mod OptionLemmas
+pub mod PlanLemmas
+pub mod RefusalLemmas

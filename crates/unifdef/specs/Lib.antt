@@ -12,3 +12,8 @@ pub mod Held
 pub mod Intake
 pub mod Ending
 pub mod Gave
+pub mod Letters
+pub mod Given
+pub mod Saying
+pub mod Planning
+pub mod Refusals

@@ -6,6 +6,7 @@
 #![tactic(auto)]
 
 mod bytes;
+mod command_line;
 mod directive;
 mod emit;
 mod faults;
@@ -13,14 +14,22 @@ mod groups;
 mod held;
 mod intake;
 mod messages;
+mod options;
 mod outcome;
+mod planned;
+mod planning;
 mod printing;
 mod reading;
+mod refusals;
 mod running;
 mod shape;
+mod usage;
 mod walk;
 mod watched;
 mod words;
 
+pub use planned::Plan;
+pub use planning::{input_of, plan};
 pub use running::tool;
+pub use usage::Usage;
 pub use watched::Watched;

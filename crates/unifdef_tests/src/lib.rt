@@ -18,6 +18,8 @@ mod plain;
 mod printers;
 mod printing;
 #[cfg(test)]
+mod plans;
+#[cfg(test)]
 mod scans;
 #[cfg(test)]
 mod streams;
