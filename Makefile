@@ -1,10 +1,10 @@
 # make            proves the crates, builds the program and copies it to ./unifdef
 # make check      the merge gate: every proof from nothing, the edits that must be refused, the tests, the stored run
-# make examples   runs the README's examples on ./unifdef, and compares what they print
-# make install    installs ./unifdef and its manual under DESTDIR and PREFIX
-# make uninstall  takes both away
+# make examples   runs the examples of README.md with ./unifdef
+# make install    installs ./unifdef and its manual under DESTDIR and PREFIX; make uninstall takes them away
 # make bench      measures ./unifdef on a large text (bench/README.md)
 # make bench-conditions  measures how fast conditions are decided (bench/README.md)
+# make trees      runs ./unifdef over real trees beside the released program (bench/README.md)
 # make clean      removes what was built
 
 PREFIX ?= /usr/local
@@ -22,19 +22,22 @@ SOURCES := crates.txt HANDLES \
 	$(shell find crates -name out -prune -o \( -name '*.rt' -o -name '*.antt' \) -print)
 
 .DELETE_ON_ERROR:
-.PHONY: all build check examples install uninstall bench bench-conditions clean
+.PHONY: all build check examples install uninstall bench bench-conditions trees clean
 
 all: build
 
 build: unifdef
 
-# `rt run` proves and builds before it runs. Under -t an empty input is printed as it is, with status 0.
+# `rt run` proves and builds before it runs. An empty input is printed as it is, with status 0.
 unifdef: $(SOURCES)
-	cd $(CRATE) && $(RT) run -- -t < /dev/null
+	cd $(CRATE) && $(RT) run < /dev/null
 	cp $(CRATE)/out/unifdef_cli $@
 
 check:
 	@$(RT) ci
+
+examples: unifdef
+	@examples/run.sh
 
 install: unifdef
 	$(INSTALL) -d $(DESTDIR)$(BINDIR) $(DESTDIR)$(MANDIR)/man1
@@ -44,15 +47,15 @@ install: unifdef
 uninstall:
 	rm -f $(DESTDIR)$(BINDIR)/unifdef $(DESTDIR)$(MANDIR)/man1/unifdef.1
 
-examples: unifdef
-	examples/run.sh
-
 bench: unifdef
 	bench/run.sh
 
 bench-conditions:
 	cd crates/conditions_bench && $(RT) run -- conditions 1 < /dev/null > /dev/null
 	bench/conditions.sh
+
+trees: unifdef
+	bench/trees.sh
 
 clean:
 	rm -f unifdef

@@ -1,54 +1,77 @@
-#!/bin/sh
-# Runs the examples of the README on the built program, and compares what they print.
+#!/usr/bin/env bash
+# Runs the examples of README.md with ./unifdef, and compares what they print with what is written there.
 #
-#   examples/run.sh [TEXT] [PROGRAM]
+# run.sh [TEXT] [PROGRAM]: another text in place of README.md, and another program.
 #
-# TEXT is README.md, and PROGRAM ./unifdef, where they aren't given. An example stands between the lines ```console and
-# ```. A line that starts with `$ ` is a command of sh, with the lines behind it that start with `> `; what follows is
-# what it prints, on standard output and standard error. The examples of a text run in their order, in one folder of
-# their own, where ./unifdef is the program.
-set -eu
+# An example is a fenced block that begins with ```console. A line that begins with "$ " is a command, and the lines up to
+# the next command are what it prints, on either stream. The commands of a block run in order in a folder of their own, in
+# which ./unifdef is the program. Where a block begins by showing a header of the machine that isn't the one that is written,
+# the block is left out.
+set -eu -o pipefail
+export LC_ALL=C
+unset MAKEFLAGS MAKELEVEL
+here=$(cd "$(dirname "$0")" && pwd)
+page=$(realpath "${1:-$here/../README.md}")
+program=$(realpath "${2:-$here/../unifdef}")
 
-root=$(cd "$(dirname "$0")/.." && pwd)
-text=${1:-$root/README.md}
-program=${2:-$root/unifdef}
-case $text in /*) ;; *) text=$PWD/$text ;; esac
-case $program in /*) ;; *) program=$PWD/$program ;; esac
-[ -x "$program" ] || { echo "examples: $program isn't built" >&2; exit 2; }
+[ -x "$program" ] || { echo "examples: $program is not there: run make" >&2; exit 1; }
 
 work=$(mktemp -d)
 trap 'rm -rf "$work"' EXIT
-mkdir "$work/cases" "$work/run"
-ln -s "$program" "$work/run/unifdef"
+right=0 wrong=0 left_out=0
 
-# Cuts the examples into files: NUMBER.sh is a command, NUMBER.want what it prints.
-awk -v folder="$work/cases" '
-	/^```/ { inside = ($0 == "```console"); waits = 0; next }
-	!inside { next }
-	/^\$ / {
-		name = sprintf("%s/%03d", folder, ++count)
-		print substr($0, 3) > (name ".sh")
-		printf "" > (name ".want")
-		waits = 1
-		next
-	}
-	waits && /^> / { print substr($0, 3) > (name ".sh"); next }
-	count { waits = 0; print > (name ".want") }
-' "$text"
+# Runs one command in the block's folder, and compares what it prints with $work/wanted.
+run_command() {
+  local command=$1 printed="$work/printed"
+  (cd "$work/folder" && bash -c "$command") > "$printed" 2>&1 < /dev/null || true
+  if cmp -s "$work/wanted" "$printed"; then
+    right=$((right + 1))
+    return 0
+  fi
+  if [ "$first" = yes ] && [[ "$command" == "cat /usr/include/"* ]]; then
+    echo "examples: left out, since this machine has another header: $command"
+    left_out=$((left_out + 1))
+    return 1
+  fi
+  wrong=$((wrong + 1))
+  echo "examples: $command"
+  diff -u --label written --label printed "$work/wanted" "$printed" || true
+  return 1
+}
 
-run=0
-wrong=0
-for command in "$work"/cases/*.sh; do
-	[ -e "$command" ] || break
-	case=${command%.sh}
-	(cd "$work/run" && sh "$command") > "$case.got" 2>&1 < /dev/null || true
-	run=$((run + 1))
-	if ! cmp -s "$case.want" "$case.got"; then
-		wrong=$((wrong + 1))
-		echo "examples: this prints something else than $(basename "$text") says:"
-		sed 's/^/    /' "$command"
-		diff "$case.want" "$case.got" || true
-	fi
-done
-echo "$run examples, $wrong wrong"
-[ "$run" -gt 0 ] && [ "$wrong" -eq 0 ]
+# The block that $work/block holds: each command with the lines behind it.
+run_block() {
+  local line command= first=yes
+  rm -rf "$work/folder"
+  mkdir "$work/folder"
+  ln -s "$program" "$work/folder/unifdef"
+  while IFS= read -r line || [ -n "$line" ]; do
+    if [[ "$line" == "$ "* ]]; then
+      if [ -n "$command" ]; then
+        run_command "$command" || return 0
+        first=no
+      fi
+      command=${line#"$ "}
+      : > "$work/wanted"
+    else
+      printf '%s\n' "$line" >> "$work/wanted"
+    fi
+  done < "$work/block"
+  [ -z "$command" ] || run_command "$command" || return 0
+}
+
+inside=no
+while IFS= read -r line; do
+  if [ "$inside" = no ] && [ "$line" = '```console' ]; then
+    inside=yes
+    : > "$work/block"
+  elif [ "$inside" = yes ] && [ "$line" = '```' ]; then
+    inside=no
+    run_block
+  elif [ "$inside" = yes ]; then
+    printf '%s\n' "$line" >> "$work/block"
+  fi
+done < "$page"
+
+echo "examples: $right commands print what is written, $wrong don't, $left_out left out"
+[ "$wrong" -eq 0 ] && [ "$right" -gt 0 ]

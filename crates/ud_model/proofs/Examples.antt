@@ -1,18 +1,18 @@
 -- Examples: what the definitions give for small inputs, computed by the checker.
-use Rattle.std.proofs.Common.{◌≡◌, zero, refl, ◌∙◌, ap, ℕ, suc, ◌+◌, List, [], ◌∷◌, ◌++◌, codes, map, replicate, length, length-append, Option, Some, None, true, false, arith}
+use Rattle.std.proofs.Common.{◌≡◌, zero, refl, ◌∙◌, ap, ℕ, suc, ◌+◌, List, [], ◌∷◌, ◌++◌, codes, map, replicate, length, length-append, Option, Some, Bool, true, false, ◌==◌, ◌||◌, arith}
 use Rattle.std.proofs.lemmas.List.{length-replicate}
 use Rattle.std.proofs.lemmas.Fmt.{decimal_digit}
 use Rattle.ud_model.specs.Lines.{Line, NoFeed, Parts, lines_of, parts_of, last_line, text_of, line_at, numbered_from}
 use Rattle.ud_model.specs.Scans.{Scan, plain_scan}
 use Rattle.ud_model.specs.Directives.{cut_keyword, directive, content_of}
 use Rattle.ud_model.specs.Directives.{text as no_directive}
-use Rattle.ud_model.specs.Table.{Argument, entry_in}
+use Rattle.ud_model.specs.Table.{Argument}
 use Rattle.ud_model.specs.Conditions.{Rules, condition_of, undecided}
 use Rattle.ud_model.specs.Tree.{Opener, Tree, HasTree, text_line, if_line, elif_line, else_line, endif_line, nothing, text, section, conditional, otherwise, first, elif, else_head, closed, open_section, lines, depth}
 use Rattle.ud_model.specs.Pruning.{Mark, marks}
+use Rattle.ud_model.specs.Worlds.{selected, Agrees}
 use Rattle.ud_model.specs.Faults.{inappropriate_elif, inappropriate_else, inappropriate_endif, premature_eof}
 use Rattle.ud_model.specs.Messages.{message_of}
-use Rattle.ud_model.specs.Arguments.{plain_flag, symbol, bad_symbol, unsupported_word, word_of, unsupported, plain_needed, usage_fault, options_of}
 use Rattle.ud_model.specs.declared.cond.Cond.{Cond}
 use Rattle.ud_model.specs.declared.cond.Cond.TheVariants.{Yes, No, Unknown}
 use Rattle.ud_model.specs.declared.kind.Kind.TheVariants.{Ifdef, Ifndef, Endif}
@@ -220,80 +220,23 @@ pub second_else : ¬ (HasTree {L = ℕ} (if_line (opener_on 1 Unknown) ∷ else_
 second_else (t, e) = omega (arith, elses_of_tree t, ap elses e, ap ifs e)
 
 -- the message about an `#endif` out of its place
-pub endif_message : message_of (inappropriate_endif 2) ≡ codes "unifdef: stdin: 2: Inappropriate #endif\n"
+pub endif_message : message_of (codes "stdin") (inappropriate_endif 2) ≡ codes "unifdef: stdin: 2: Inappropriate #endif\n"
 endif_message = rw (decimal_digit 2 (omega arith)) refl
 
 -- the messages about an `#elif` and an `#else` out of their places
-pub elif_message : message_of (inappropriate_elif 1) ≡ codes "unifdef: stdin: 1: Inappropriate #elif\n"
+pub elif_message : message_of (codes "stdin") (inappropriate_elif 1) ≡ codes "unifdef: stdin: 1: Inappropriate #elif\n"
 elif_message = rw (decimal_digit 1 (omega arith)) refl
 
-pub else_message : message_of (inappropriate_else 3) ≡ codes "unifdef: stdin: 3: Inappropriate #else\n"
+pub else_message : message_of (codes "stdin") (inappropriate_else 3) ≡ codes "unifdef: stdin: 3: Inappropriate #else\n"
 else_message = rw (decimal_digit 3 (omega arith)) refl
 
 -- the message about a section that is open at the end, with its first line
-pub eof_message : message_of (premature_eof 2 1) ≡ codes "unifdef: stdin: 2: Premature EOF (#if line 1)\n"
+pub eof_message : message_of (codes "stdin") (premature_eof 2 1) ≡ codes "unifdef: stdin: 2: Premature EOF (#if line 1)\n"
 eof_message = rw (decimal_digit 2 (omega arith), decimal_digit 1 (omega arith)) refl
 
 -- an argument that defines a name with this value, or undefines it
 abbrev pub argument_of : List ℕ → Option (List ℕ) → Argument
 argument_of name value = record { name = name; entry = record { value = value; ignoring = false } }
-
--- `-DNAME` gives the value 1
-pub define_word : word_of (codes "-DA") ≡ symbol (argument_of (codes "A") (Some (codes "1")))
-define_word = refl
-
--- `-DNAME=VALUE` gives the value
-pub define_value_word : word_of (codes "-DA=B") ≡ symbol (argument_of (codes "A") (Some (codes "B")))
-define_value_word = refl
-
--- the value begins behind the first `=`, and may be empty
-pub define_empty_word : word_of (codes "-DA=") ≡ symbol (argument_of (codes "A") (Some []))
-define_empty_word = refl
-
--- `-UNAME` undefines a name
-pub undefine_word : word_of (codes "-UA") ≡ symbol (argument_of (codes "A") None)
-undefine_word = refl
-
--- a name in a word of its own isn't accepted yet
-pub bare_define_word : word_of (codes "-D") ≡ unsupported_word
-bare_define_word = refl
-
--- a name doesn't begin with a digit
-pub digit_word : word_of (codes "-D1A") ≡ bad_symbol
-digit_word = refl
-
--- `defined` is no name
-pub defined_word : word_of (codes "-Udefined") ≡ bad_symbol
-defined_word = refl
-
--- `-t` is the word for plain text
-pub plain_word : word_of (codes "-t") ≡ plain_flag
-plain_word = refl
-
--- another letter isn't accepted yet
-pub other_word : word_of (codes "-B") ≡ unsupported_word
-other_word = refl
-
--- a fault names the word by its number
-pub other_word_fault : usage_fault (codes "-t" ∷ codes "-B" ∷ []) ≡ Some (unsupported 2)
-other_word_fault = refl
-
--- `-t` has to be among the words
-pub plain_needed_fault : usage_fault (codes "-DA" ∷ []) ≡ Some plain_needed
-plain_needed_fault = refl
-
--- words without a fault
-pub no_usage_fault : usage_fault (codes "-t" ∷ codes "-DA" ∷ []) ≡ None
-no_usage_fault = refl
-
--- of two words that name a symbol the last one counts
-pub last_word_counts : entry_in (options_of (codes "-t" ∷ codes "-UA" ∷ codes "-DA" ∷ [])).table (codes "A") ≡
-    Some (record { value = Some (codes "1"); ignoring = false })
-last_word_counts = refl
-
--- a symbol that no word names is unlisted
-pub unlisted_symbol : entry_in (options_of (codes "-t" ∷ codes "-UA" ∷ [])).table (codes "B") ≡ None
-unlisted_symbol = refl
 
 -- neither of the rules for expressions
 abbrev pub usual_rules : Rules
@@ -314,3 +257,25 @@ ifndef_of_name = refl
 -- in plain mode a comment behind the name is seen, and the condition is undecided
 pub ifdef_before_comment : condition_of Ifdef (codes " A /* c */") with_name usual_rules ≡ undecided
 ifdef_before_comment = refl
+
+-- a world in which the conditions on the lines 1 and 5 are true
+abbrev pub some_world : ℕ → Bool
+some_world l = (l == 1) || (l == 5)
+
+-- `#if` on line 1, text on 2, `#else` on 3, text on 4
+abbrev pub with_else : ℕ → Tree ℕ
+with_else n = closed (section nothing (otherwise (first (opener_on n Unknown) (text nothing 2)) 3 (text nothing 4)) 6)
+
+-- the first group is selected where its condition is true, else that of `#else`
+pub first_selected : selected some_world (with_else 1) ≡ 2 ∷ []
+first_selected = refl
+
+pub else_selected : selected some_world (with_else 7) ≡ 4 ∷ []
+else_selected = refl
+
+-- a world agrees with what is decided, up to the first true group
+pub agrees_with_true : Agrees some_world (closed (section nothing (conditional (elif (first (opener_on 1 Yes) nothing) (opener_on 2 Yes) nothing)) 3))
+agrees_with_true = (tt, ((refl, tt), tt, tt))
+
+pub differs_from_false : ¬ (Agrees some_world (closed (section nothing (conditional (first (opener_on 1 No) nothing)) 2)))
+differs_from_false h = cc

@@ -133,10 +133,10 @@ limit_ends o given more xs t f through h = by_lines_of (lines_of-rest given more
 
 -- a broken limit stays one when the text goes on
 pub limit_goes_on : (o : Options) (given more : List ℕ) (xs : List (Item Reading)) (t : Tree Reading) (f : Fault) →
-    GoesThrough o (lines_so_far given) xs t → RestBreaks o given xs t f → RunsSoFar o (given ++ more) (outcome_of xs t (Some f))
+    GoesThrough o (lines_so_far given) xs t → RestBreaks o given xs t f → RunsSoFar o (given ++ more) (outcome_of o.settings xs t (Some f))
 limit_goes_on o given more xs t f through h = by_growth (grows given more)
   where
-    by_growth : Growth given more → RunsSoFar o (given ++ more) (outcome_of xs t (Some f))
+    by_growth : Growth given more → RunsSoFar o (given ++ more) (outcome_of o.settings xs t (Some f))
     by_growth (ends_line x later e) =
         stops_so_far xs t f
         (subst (λ (ls : List Line). StopsAt o ls xs t f)

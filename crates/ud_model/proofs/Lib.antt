@@ -5,7 +5,6 @@ pub mod Unique
 pub mod Stays
 pub mod Heights
 pub mod Soundness
-pub mod PlainSound
 pub mod FaultStays
 pub mod Counts
 pub mod Steps
@@ -20,9 +19,9 @@ pub mod ScanExamples
 pub mod CommandLineExamples
 pub mod ExpressionExamples
 pub mod Readings
+pub mod PrintingLemmas
 pub mod SymbolLemmas
 pub mod ConditionLemmas
-pub mod PrintingLemmas
 pub mod KnownNumbers
 pub mod KnownStays
 pub mod KnownExamples
@@ -31,5 +30,6 @@ pub mod ParsingComplete
 pub mod ParsingSound
 pub mod TokenLemmas
 pub mod OneExpression
-pub mod PrintingExamples
 pub mod DecidedConditions
+pub mod KeywordLies
+pub mod PrintingExamples

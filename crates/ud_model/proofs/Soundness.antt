@@ -7,9 +7,10 @@ use Rattle.ud_model.specs.Directives.{Content, cut_keyword, directive, text, con
 use Rattle.ud_model.specs.Conditions.{Decision, decision_on}
 use Rattle.ud_model.specs.Tree.{Item, Tree, lines}
 use Rattle.ud_model.specs.Items.{Options, reading_of, line_of, directive_item, item_by, item_of, mode_after, read_after, next_item, rules_of}
-use Rattle.ud_model.specs.Faults.{Fault, Case, past_last, too_long, cut, unhandled, out_of_place, too_deep, spoiled, earlier, cases, Holds, NoneHolds, fault_in, FaultOf, AreSound, no_lines, one_more, end_fault}
+use Rattle.ud_model.specs.Faults.{Fault, Case, past_last, too_long, cut, out_of_place, too_deep, spoiled, earlier, cases, Holds, NoneHolds, fault_in, FaultOf, AreSound, no_lines, one_more, end_fault}
 use Rattle.ud_model.specs.Runs.{Outcome, outcome_of, StopsAt, GoesThrough, Runs, stops, ends, lines_so_far, line_so_far, RestBreaks, RunsSoFar, breaks, goes_on}
 use Rattle.ud_model.specs.Answer.{Answer, IsAnswer, refused, ran}
+use Rattle.ud_model.specs.declared.settings.Settings.{Settings}
 use Rattle.ud_model.specs.declared.kind.Kind.{Kind}
 use Rattle.ud_model.specs.declared.kind.Kind.TheVariants.{If, Ifdef, Ifndef, Elif, Else, Endif}
 use Rattle.ud_model.proofs.Pushes.{ByPush, none, push, by_push, push_not_nil}
@@ -26,10 +27,9 @@ sound_once {t = t} {u = u} a b = unique t u (sound_lines a ∙ sym (sound_lines 
 
 -- the cases from this one on
 case_in_order : (c : Case) → (later : List Case) × (earlier c ++ c ∷ later ≡ cases)
-case_in_order past_last = (too_long ∷ cut ∷ unhandled ∷ out_of_place ∷ too_deep ∷ spoiled ∷ [], refl)
-case_in_order too_long = (cut ∷ unhandled ∷ out_of_place ∷ too_deep ∷ spoiled ∷ [], refl)
-case_in_order cut = (unhandled ∷ out_of_place ∷ too_deep ∷ spoiled ∷ [], refl)
-case_in_order unhandled = (out_of_place ∷ too_deep ∷ spoiled ∷ [], refl)
+case_in_order past_last = (too_long ∷ cut ∷ out_of_place ∷ too_deep ∷ spoiled ∷ [], refl)
+case_in_order too_long = (cut ∷ out_of_place ∷ too_deep ∷ spoiled ∷ [], refl)
+case_in_order cut = (out_of_place ∷ too_deep ∷ spoiled ∷ [], refl)
 case_in_order out_of_place = (too_deep ∷ spoiled ∷ [], refl)
 case_in_order too_deep = (spoiled ∷ [], refl)
 case_in_order spoiled = ([], refl)
@@ -176,19 +176,20 @@ module _ (o : Options) (ls : List Line) where
   pub stops_or_goes : (xs ys : List (Item Reading)) (t u : Tree Reading) (f : Fault) → StopsAt o ls xs t f → GoesThrough o ls ys u → ⊥
   stops_or_goes xs ys t u f a b = faulty_inside o xs ys t u a.faulty a.later f a.sound a.fault b.sound (sym b.are ∙ a.are)
 
-same_outcome : (xs ys : List (Item Reading)) (t u : Tree Reading) (f g : Option Fault) → xs ≡ ys → t ≡ u → f ≡ g → outcome_of xs t f ≡ outcome_of ys u g
-same_outcome xs ys t u f g p q r = rw (p, q, r)
+same_outcome : (s : Settings) (xs ys : List (Item Reading)) (t u : Tree Reading) (f g : Option Fault) → xs ≡ ys → t ≡ u → f ≡ g →
+    outcome_of s xs t f ≡ outcome_of s ys u g
+same_outcome s xs ys t u f g p q r = rw (p, q, r)
 
 -- a text has one outcome at most
 pub one_run : {o : Options} {input : List ℕ} {r s : Outcome} → Runs o input r → Runs o input s → r ≡ s
 one_run {o = o} {input = input} (stops xs t f a) (stops ys u g b) =
     let w : (xs ≡ ys) × (t ≡ u) × (f ≡ g) = one_stop o (lines_of input) xs ys t u f g a b in
-    same_outcome xs ys t u (Some f) (Some g) w.0 w.1 (ap (λ h. Some h) w.2)
+    same_outcome o.settings xs ys t u (Some f) (Some g) w.0 w.1 (ap (λ h. Some h) w.2)
 one_run {o = o} {input = input} (stops xs t f a) (ends ys u b) = absurd (stops_or_goes o (lines_of input) xs ys t u f a b)
 one_run {o = o} {input = input} (ends xs t a) (stops ys u g b) = absurd (stops_or_goes o (lines_of input) ys xs u t g b a)
 one_run {o = o} {input = input} (ends xs t a) (ends ys u b) =
     let w : (xs ≡ ys) × (t ≡ u) = one_way_through o (lines_of input) xs ys t u a b in
-    same_outcome xs ys t u (end_fault xs t) (end_fault ys u) w.0 w.1 (rw (w.0, w.1))
+    same_outcome o.settings xs ys t u (end_fault xs t) (end_fault ys u) w.0 w.1 (rw (w.0, w.1))
 
 same_break : {o : Options} {given : List ℕ} {xs ys : List (Item Reading)} {t u : Tree Reading} {f : Fault} → xs ≡ ys → t ≡ u →
     RestBreaks o given xs t f → RestBreaks o given ys u f
@@ -199,14 +200,14 @@ same_break {o = o} {given = given} {ys = ys} {t = t} {f = f} p q c =
 pub one_run_so_far : {o : Options} {given : List ℕ} {r s : Outcome} → RunsSoFar o given r → RunsSoFar o given s → r ≡ s
 one_run_so_far {o = o} {given = given} (stops xs t f a) (stops ys u g b) =
     let w : (xs ≡ ys) × (t ≡ u) × (f ≡ g) = one_stop o (lines_so_far given) xs ys t u f g a b in
-    same_outcome xs ys t u (Some f) (Some g) w.0 w.1 (ap (λ h. Some h) w.2)
+    same_outcome o.settings xs ys t u (Some f) (Some g) w.0 w.1 (ap (λ h. Some h) w.2)
 one_run_so_far {o = o} {given = given} (stops xs t f a) (breaks ys u g b c) = absurd (stops_or_goes o (lines_so_far given) xs ys t u f a b)
 one_run_so_far {o = o} {given = given} (stops xs t f a) (goes_on ys u b c) = absurd (stops_or_goes o (lines_so_far given) xs ys t u f a b)
 one_run_so_far {o = o} {given = given} (breaks xs t f a c) (stops ys u g b) = absurd (stops_or_goes o (lines_so_far given) ys xs u t g b a)
 one_run_so_far {o = o} {given = given} (goes_on xs t a c) (stops ys u g b) = absurd (stops_or_goes o (lines_so_far given) ys xs u t g b a)
 one_run_so_far {o = o} {given = given} (breaks xs t f a c) (breaks ys u g b d) =
     let w : (xs ≡ ys) × (t ≡ u) = one_way_through o (lines_so_far given) xs ys t u a b in
-    same_outcome xs ys t u (Some f) (Some g) w.0 w.1
+    same_outcome o.settings xs ys t u (Some f) (Some g) w.0 w.1
     (ap (λ h. Some h) (one_fault ys (next_item o ys u (line_so_far given)) f g (same_break w.0 w.1 c).fault d.fault))
 one_run_so_far {o = o} {given = given} (breaks xs t f a c) (goes_on ys u b d) =
     let w : (xs ≡ ys) × (t ≡ u) = one_way_through o (lines_so_far given) xs ys t u a b in
@@ -216,7 +217,7 @@ one_run_so_far {o = o} {given = given} (goes_on xs t a c) (breaks ys u g b d) =
     absurd (c g (same_break w.0 w.1 d))
 one_run_so_far {o = o} {given = given} (goes_on xs t a c) (goes_on ys u b d) =
     let w : (xs ≡ ys) × (t ≡ u) = one_way_through o (lines_so_far given) xs ys t u a b in
-    same_outcome xs ys t u None None w.0 w.1 refl
+    same_outcome o.settings xs ys t u None None w.0 w.1 refl
 
 -- words and an input have one answer at most
 pub one_answer : {words : List (List ℕ)} {input : List ℕ} {a b : Answer} → IsAnswer words input a → IsAnswer words input b → a ≡ b

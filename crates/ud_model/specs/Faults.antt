@@ -14,10 +14,8 @@ use Rattle.ud_model.specs.Lines.{Line, text_of}
 use Rattle.ud_model.specs.Scans.{Reading, is_spanning}
 use Rattle.ud_model.specs.Directives.{Content, cut_keyword, directive, text, content_of}
 use Rattle.ud_model.specs.Tree.{Item, Opener, Tree, closed, nothing, text_line, if_line, elif_line, else_line, endif_line, lines, HasTree, depth, innermost}
-use Rattle.ud_model.specs.Pruning.{Mark, marks}
+use Rattle.ud_model.specs.Pruning.{Mark, marks, is_removed}
 use Rattle.ud_model.specs.Items.{Options, reading_of, line_of, next_item}
-use Rattle.ud_model.specs.declared.kind.Kind.{Kind}
-use Rattle.ud_model.specs.declared.kind.Kind.TheVariants.{If, Ifdef, Ifndef, Elif, Else, Endif}
 use Rattle.ud_model.specs.declared.kind.CommentAt.{CommentAt}
 use Rattle.ud_model.specs.declared.kind.CommentAt.TheVariants.{Outside, InLine, InBlock}
 use Rattle.ud_model.specs.declared.verdict.Verdict.{Verdict}
@@ -28,8 +26,6 @@ pub data Fault : Type 0 where
   too_many_lines : ℕ → Fault
   line_too_long : ℕ → Fault
   obfuscated : ℕ → Fault
-  -- Interim: `#if`, `#elif` and `#else`
-  unsupported : ℕ → Fault
   inappropriate_elif : ℕ → Fault
   inappropriate_else : ℕ → Fault
   inappropriate_endif : ℕ → Fault
@@ -44,8 +40,6 @@ pub data Case : Type 0 where
   too_long : Case
   -- it can't be known whether it is a directive
   cut : Case
-  -- Interim: a directive that isn't handled yet
-  unhandled : Case
   -- a directive out of its place
   out_of_place : Case
   -- it opens one section too many
@@ -58,32 +52,17 @@ abbrev pub earlier : Case → List Case
 earlier past_last = []
 earlier too_long = past_last ∷ []
 earlier cut = past_last ∷ too_long ∷ []
-earlier unhandled = past_last ∷ too_long ∷ cut ∷ []
-earlier out_of_place = past_last ∷ too_long ∷ cut ∷ unhandled ∷ []
-earlier too_deep = past_last ∷ too_long ∷ cut ∷ unhandled ∷ out_of_place ∷ []
-earlier spoiled = past_last ∷ too_long ∷ cut ∷ unhandled ∷ out_of_place ∷ too_deep ∷ []
+earlier out_of_place = past_last ∷ too_long ∷ cut ∷ []
+earlier too_deep = past_last ∷ too_long ∷ cut ∷ out_of_place ∷ []
+earlier spoiled = past_last ∷ too_long ∷ cut ∷ out_of_place ∷ too_deep ∷ []
 
 abbrev pub cases : List Case
-cases = past_last ∷ too_long ∷ cut ∷ unhandled ∷ out_of_place ∷ too_deep ∷ spoiled ∷ []
+cases = past_last ∷ too_long ∷ cut ∷ out_of_place ∷ too_deep ∷ spoiled ∷ []
 
 abbrev pub is_cut : Content → Bool
 is_cut cut_keyword = true
 is_cut (directive d) = false
 is_cut text = false
-
--- Interim: the kinds that aren't handled yet
-abbrev pub is_unhandled_kind : Kind → Bool
-is_unhandled_kind If = true
-is_unhandled_kind Ifdef = false
-is_unhandled_kind Ifndef = false
-is_unhandled_kind Elif = true
-is_unhandled_kind Else = true
-is_unhandled_kind Endif = false
-
-abbrev pub is_unhandled : Content → Bool
-is_unhandled cut_keyword = false
-is_unhandled (directive d) = is_unhandled_kind d.kind
-is_unhandled text = false
 
 abbrev pub is_directive : Item Reading → Bool
 is_directive (text_line r) = false
@@ -91,13 +70,6 @@ is_directive (if_line o) = true
 is_directive (elif_line o) = true
 is_directive (else_line r) = true
 is_directive (endif_line r) = true
-
-abbrev pub is_removed : Verdict → Bool
-is_removed Keep = false
-is_removed Remove = true
-is_removed ToIf = false
-is_removed ToElse = false
-is_removed ToEndif = false
 
 -- what follows the keyword stays, and so does what the directive is joined to
 abbrev pub keeps_rest : Verdict → Bool
@@ -114,11 +86,15 @@ ends_removed (m ∷ []) = is_removed m.verdict
 ends_removed (m ∷ n ∷ ms) = ends_removed (n ∷ ms)
 
 -- a spanning directive whose section lies in a kept place, unless its verdict is Keep or ToIf and, where it joins the
--- line before, that line isn't removed; `before` are the marks of the lines before
-abbrev pub is_spoiled : List Mark → Item Reading → Mark → Bool
-is_spoiled before x m =
+-- line before, that line isn't removed; `removed` tells that the line before is
+abbrev pub is_spoiled_behind : Bool → Item Reading → Mark → Bool
+is_spoiled_behind removed x m =
     is_directive x && is_spanning (reading_of x).scan && m.kept
-    && (not (keeps_rest m.verdict) || ((reading_of x).scan.joins_before && ends_removed before))
+    && (not (keeps_rest m.verdict) || ((reading_of x).scan.joins_before && removed))
+
+-- the same, `before` being the marks of the lines before
+abbrev pub is_spoiled : List Mark → Item Reading → Mark → Bool
+is_spoiled before x m = is_spoiled_behind (ends_removed before) x m
 
 -- the line x has these marks before it, and this one
 abbrev pub MarksWith : List (Item Reading) → Item Reading → List Mark → Mark → Type 0
@@ -128,7 +104,6 @@ abbrev pub Holds : List (Item Reading) → Item Reading → Case → Type 0
 Holds xs x past_last = TEXT_LINES < (line_of x).number
 Holds xs x too_long = LINE_BYTES < length (text_of (line_of x))
 Holds xs x cut = IsTrue (is_cut (content_of (reading_of x).scan))
-Holds xs x unhandled = IsTrue (is_unhandled (content_of (reading_of x).scan))
 Holds xs x out_of_place = HasTree xs × ¬ (HasTree (xs ++ x ∷ []))
 Holds xs x too_deep = (t : Tree Reading) × (lines t ≡ xs ++ x ∷ []) × (OPEN_SECTIONS < depth t)
 Holds xs x spoiled = (before : List Mark) × (m : Mark) × MarksWith xs x before m × IsTrue (is_spoiled before x m)
@@ -151,7 +126,6 @@ abbrev pub fault_in : Item Reading → Case → Option Fault
 fault_in x past_last = Some (too_many_lines (line_of x).number)
 fault_in x too_long = Some (line_too_long (line_of x).number)
 fault_in x cut = Some (obfuscated (line_of x).number)
-fault_in x unhandled = Some (unsupported (line_of x).number)
 fault_in x out_of_place = misplaced x
 fault_in x too_deep = Some (too_many_levels (line_of x).number)
 fault_in x spoiled = Some (obfuscated (line_of x).number)

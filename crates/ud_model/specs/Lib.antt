@@ -24,6 +24,7 @@ pub mod Items
 pub mod Faults
 pub mod Printing
 pub mod Listing
+pub mod Worlds
 pub mod Arguments
 pub mod CommandLine
 pub mod Messages

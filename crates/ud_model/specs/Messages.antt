@@ -1,38 +1,37 @@
 -- Messages: the text of each fault, which ends in a line feed.
 --
---   message_of fault          of a text's fault, with the input's name and the line
---   usage_message fault       of the words' fault
+--   message_of name fault     of a text's fault, with the input's name and the line
+--   read_error name           of a read that fails; write_error name of a write
+--   out_of_memory             where memory for the symbols is refused
+--
+-- The messages of the words' faults stand in CommandLine.
 use Rattle.std.specs.Prelude.{ℕ, List, ◌++◌, codes, decimal}
-use Rattle.ud_model.specs.Faults.{Fault, too_many_lines, line_too_long, obfuscated, unsupported, inappropriate_elif, inappropriate_else, inappropriate_endif, too_many_levels, eof_in_comment, premature_eof}
-use Rattle.ud_model.specs.Arguments.{UsageFault, bad_symbol_in, plain_needed}
-use Rattle.ud_model.specs.Arguments.{unsupported as unsupported_in}
+use Rattle.ud_model.specs.Faults.{Fault, too_many_lines, line_too_long, obfuscated, inappropriate_elif, inappropriate_else, inappropriate_endif, too_many_levels, eof_in_comment, premature_eof}
 
--- a message about a line of standard input
-abbrev pub about_line : ℕ → List ℕ → List ℕ
-about_line line text = codes "unifdef: stdin: " ++ decimal line ++ codes ": " ++ text ++ codes "\n"
+-- a message about the input of this name
+abbrev pub about : List ℕ → List ℕ → List ℕ
+about name text = codes "unifdef: " ++ name ++ codes ": " ++ text ++ codes "\n"
 
-abbrev pub message_of : Fault → List ℕ
-message_of (too_many_lines line) = about_line line (codes "Too many lines")
-message_of (line_too_long line) = about_line line (codes "Line too long")
-message_of (obfuscated line) = about_line line (codes "Obfuscated preprocessor control line")
-message_of (unsupported line) = about_line line (codes "Unsupported directive")
-message_of (inappropriate_elif line) = about_line line (codes "Inappropriate #elif")
-message_of (inappropriate_else line) = about_line line (codes "Inappropriate #else")
-message_of (inappropriate_endif line) = about_line line (codes "Inappropriate #endif")
-message_of (too_many_levels line) = about_line line (codes "Too many levels of nesting")
-message_of (eof_in_comment line) = about_line line (codes "EOF in comment")
-message_of (premature_eof line if_line) = about_line line (codes "Premature EOF (#if line " ++ decimal if_line ++ codes ")")
+-- and about a line of it
+abbrev pub about_line : List ℕ → ℕ → List ℕ → List ℕ
+about_line name line text = codes "unifdef: " ++ name ++ codes ": " ++ decimal line ++ codes ": " ++ text ++ codes "\n"
 
-abbrev pub usage_message : UsageFault → List ℕ
-usage_message (unsupported_in word) = codes "unifdef: Unsupported word " ++ decimal word ++ codes "\n"
-usage_message (bad_symbol_in word) = codes "unifdef: Bad symbol in word " ++ decimal word ++ codes "\n"
-usage_message plain_needed = codes "unifdef: Option -t is needed\n"
+abbrev pub message_of : List ℕ → Fault → List ℕ
+message_of name (too_many_lines line) = about_line name line (codes "Too many lines")
+message_of name (line_too_long line) = about_line name line (codes "Line too long")
+message_of name (obfuscated line) = about_line name line (codes "Obfuscated preprocessor control line")
+message_of name (inappropriate_elif line) = about_line name line (codes "Inappropriate #elif")
+message_of name (inappropriate_else line) = about_line name line (codes "Inappropriate #else")
+message_of name (inappropriate_endif line) = about_line name line (codes "Inappropriate #endif")
+message_of name (too_many_levels line) = about_line name line (codes "Too many levels of nesting")
+message_of name (eof_in_comment line) = about_line name line (codes "EOF in comment")
+message_of name (premature_eof line if_line) = about_line name line (codes "Premature EOF (#if line " ++ decimal if_line ++ codes ")")
 
-abbrev pub read_error : List ℕ
-read_error = codes "unifdef: stdin: Read error\n"
+abbrev pub read_error : List ℕ → List ℕ
+read_error name = about name (codes "Read error")
 
-abbrev pub write_error : List ℕ
-write_error = codes "unifdef: stdin: Write error\n"
+abbrev pub write_error : List ℕ → List ℕ
+write_error name = about name (codes "Write error")
 
 abbrev pub out_of_memory : List ℕ
 out_of_memory = codes "unifdef: Out of memory\n"

@@ -1,25 +1,20 @@
 -- Printing: what is printed of a line.
 -- unifdef(1): the lines that are left, with edited directives where a neighbour went; `-b`, `-c`, `-n`.
 --
---   piece_of x m               what is printed of a line with this mark, without options
---   printed xs ms              the pieces of these lines, joined in order
---   some_differ xs ms          some line's piece isn't the line itself
---
+--   piece_by verdict keyword l    what is printed of a line by its verdict alone, without options
 --   piece_behind style before j   what is printed of a judged line that follows others, in a style
 --   pieces_by piece before js     the pieces of judged lines that follow others, each by all lines before it
 --   printed_by settings xs ms     the pieces of these lines under these settings, joined in order
 --   some_differ_by settings ..    some line's piece isn't the line itself
 --
--- Without `-b`, `-c` and `-n`, `printed_by` is `printed`, and `some_differ_by` is `some_differ` (`law_plain_printing`).
---
 -- Example: of a line `x` that follows a removed one, `#line 5` and the line are printed under `-n`, 5 being its number.
-use Rattle.std.specs.Prelude.{ℕ, ◌+◌, List, [], ◌∷◌, ◌++◌, take, drop, map, Bool, true, false, not, ◌&&◌, ◌||◌, bytes_eq, codes, decimal, if◌then◌else◌}
+use Rattle.std.specs.Prelude.{ℕ, ◌+◌, List, [], ◌∷◌, ◌++◌, take, drop, map, Bool, false, not, ◌&&◌, ◌||◌, bytes_eq, codes, decimal, if◌then◌else◌}
 use Rattle.std.specs.List.{concat}
 use Rattle.ud_model.specs.Lines.{Line, text_of}
 use Rattle.ud_model.specs.Scans.{Reading}
 use Rattle.ud_model.specs.Directives.{Span, Content, cut_keyword, directive, text, content_of}
 use Rattle.ud_model.specs.Tree.{Item}
-use Rattle.ud_model.specs.Pruning.{Mark}
+use Rattle.ud_model.specs.Pruning.{Mark, is_removed}
 use Rattle.ud_model.specs.Items.{reading_of, line_of}
 use Rattle.ud_model.specs.declared.settings.Settings.{Settings}
 use Rattle.ud_model.specs.declared.verdict.Verdict.{Verdict}
@@ -40,23 +35,6 @@ piece_by ToIf keyword l = take keyword.at l.body ++ codes "if  " ++ drop (keywor
 piece_by ToElse keyword l = take keyword.at l.body ++ codes "else" ++ l.ending
 piece_by ToEndif keyword l = take keyword.at l.body ++ codes "endif" ++ l.ending
 
-abbrev pub piece_of : Item Reading → Mark → List ℕ
-piece_of x m = piece_by m.verdict (keyword_in (content_of (reading_of x).scan)) (line_of x)
-
-abbrev pub printed : List (Item Reading) → List Mark → List ℕ
-printed [] ms = []
-printed (x ∷ xs) [] = []
-printed (x ∷ xs) (m ∷ ms) = piece_of x m ++ printed xs ms
-
--- the line's piece isn't the line itself
-abbrev pub differs : Item Reading → Mark → Bool
-differs x m = not (bytes_eq (piece_of x m) (text_of (line_of x)))
-
-abbrev pub some_differ : List (Item Reading) → List Mark → Bool
-some_differ [] ms = false
-some_differ (x ∷ xs) [] = false
-some_differ (x ∷ xs) (m ∷ ms) = differs x m || some_differ xs ms
-
 -- a line with what becomes of it: its verdict, and where its keyword lies
 pub record Judged : Type 0 where
   pub line : Line
@@ -75,13 +53,6 @@ plain_style = record { blank = false; complement = false; renumber = false }
 
 abbrev pub style_of : Settings → Style
 style_of s = record { blank = s.blank; complement = s.complement; renumber = s.renumber }
-
-abbrev pub is_removed : Verdict → Bool
-is_removed Keep = false
-is_removed Remove = true
-is_removed ToIf = false
-is_removed ToElse = false
-is_removed ToEndif = false
 
 -- a line that would be removed is kept, and each other one is removed
 abbrev pub turned : Verdict → Verdict

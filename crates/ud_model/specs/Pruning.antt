@@ -97,6 +97,14 @@ endif_verdict all =
     else if ends_with_first_true all then Keep
     else Remove
 
+-- the line goes
+abbrev pub is_removed : Verdict → Bool
+is_removed Keep = false
+is_removed Remove = true
+is_removed ToIf = false
+is_removed ToElse = false
+is_removed ToEndif = false
+
 pub record Mark : Type 0 where
   pub kept : Bool
   pub verdict : Verdict

@@ -14,8 +14,6 @@ ghost use Rattle.ud_model.specs.Items.{Options};
 ghost use Rattle.ud_model.specs.Faults.{Fault, FaultOf, NoneHolds, cases};
 ghost use Rattle.ud_model.specs.Runs.{Outcome, Runs, RunsSoFar};
 ghost use Rattle.ud_model.specs.Answer.{Answer, IsAnswer};
-ghost use Rattle.ud_model.specs.Printing.{style_of, plain_style, printed, printed_by, some_differ, some_differ_by};
-ghost use Rattle.ud_model.specs.declared.settings.Settings.{Settings};
 ghost use Rattle.ud_model.specs.Table.{Argument, entry_in};
 ghost use Rattle.ud_model.specs.Expressions.{Expression, IsWritten};
 ghost use Rattle.ud_model.specs.Parsing.{expression_of};
@@ -88,12 +86,6 @@ pub fn law_fault_stays()
 /// Words and an input have one answer at most.
 pub fn law_one_answer()
     ensures { (words : List (List ℕ)) → (input : List ℕ) → (a : Answer) → (b : Answer) → IsAnswer words input a → IsAnswer words input b → a ≡ b }
-{}
-
-/// Without `-b`, `-c` and `-n` each line is printed by its verdict alone, whatever stands before it.
-pub fn law_plain_printing()
-    ensures printed { (s : Settings) → style_of s ≡ plain_style → (xs : List (Item Reading)) → (ms : List Mark) → printed_by s xs ms ≡ printed xs ms }
-    ensures differ { (s : Settings) → style_of s ≡ plain_style → (xs : List (Item Reading)) → (ms : List Mark) → some_differ_by s xs ms ≡ some_differ xs ms }
 {}
 
 /// A text is written for one tree at most, and the computed tree is the one for which it is written (C11 6.5).

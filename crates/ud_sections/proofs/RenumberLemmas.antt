@@ -1,6 +1,7 @@
 -- What is printed of a line with numbers put in, by whether it is numbered.
 use Rattle.std.proofs.Common.{◌≡◌, ◌∙◌, List, ℕ, [], ◌++◌, Bool, true, false, not, ◌&&◌, if◌then◌else◌, refl, sym, ap, ap₂}
-use Rattle.ud_model.specs.Printing.{Judged, is_removed, last_removed, number_line, piece_by, piece_behind}
+use Rattle.ud_model.specs.Printing.{Judged, last_removed, number_line, piece_by, piece_behind}
+use Rattle.ud_model.specs.Pruning.{is_removed}
 use Rattle.ud_model.specs.Lines.{Line}
 use Rattle.ud_model.specs.Directives.{Span}
 use Rattle.ud_model.specs.declared.verdict.Verdict.{Verdict}

@@ -23,7 +23,8 @@ pub struct Pieces<'a> {
 
 impl<'a> Pieces<'a> {
     ghost use Rattle.std.specs.Prelude.{◌+◌, ◌++◌, length, take, if◌then◌else◌};
-    ghost use Rattle.ud_model.specs.Printing.{piece_by, is_removed};
+    ghost use Rattle.ud_model.specs.Printing.{piece_by};
+    ghost use Rattle.ud_model.specs.Pruning.{is_removed};
     ghost use Rattle.ud_sections.specs.Joining.{joined, count_of, is_same};
     ghost use Rattle.ud_sections.specs.Showing.{as_span, HoldsKeyword};
 

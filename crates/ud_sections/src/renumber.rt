@@ -1,7 +1,8 @@
 //! Printing the numbers of lines behind removed ones.
 
 ghost use Rattle.std.specs.Prelude.{◌≡◌, ◌+◌, ◌≤◌, ◌++◌, length};
-ghost use Rattle.ud_model.specs.Printing.{number_line, is_removed};
+ghost use Rattle.ud_model.specs.Printing.{number_line};
+ghost use Rattle.ud_model.specs.Pruning.{is_removed};
 ghost use Rattle.ud_text.specs.Viewing.{as_line};
 
 use crate::pieces::Pieces;

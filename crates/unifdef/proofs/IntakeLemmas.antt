@@ -1,19 +1,24 @@
 -- The intake: what the bytes of a piece do to the lines that are held.
-use Rattle.std.proofs.Common.{◌≡◌, ℕ, suc, ◌+◌, ◌<◌, ◌≤◌, Bool, true, false, List, [], ◌∷◌, ◌++◌, length, take, drop, Option, None, refl, sym, ◌∙◌, ap, subst, append_assoc, append-nil, take-append-drop, take_all, arith, length-append}
+use Rattle.std.proofs.Common.{◌≡◌, ℕ, suc, ◌+◌, ◌-◌, ◌<◌, ◌≤◌, Bool, true, false, if◌then◌else◌, nat_eq, List, [], ◌∷◌, ◌++◌, length, take, drop, Option, None, refl, sym, ◌∙◌, ap, subst, append_assoc, append-nil, take-append-drop, take_all, arith, length-append}
 use Rattle.std.specs.List.{AllByRecursion}
 use Rattle.std.specs.Io.KnownBytes.{Consumes}
 use Rattle.std.proofs.Math.ListN.{length-take}
-use Rattle.ud_model.specs.Lines.{NoFeed, Parts, parts_of, whole_lines, open_rest, last_line, texts_of, line_at, numbered_from}
+use Rattle.std.proofs.lemmas.List.{take-append-le}
+use Rattle.std.proofs.lemmas.Bool.Decides.{Decides-eqb}
+use Rattle.ud_model.specs.Lines.{NoFeed, IsWhole, ending_of, Parts, parts_of, whole_lines, open_rest, last_line, texts_of, line_at, numbered_from}
 use Rattle.ud_model.specs.Items.{Options}
 use Rattle.ud_model.specs.Faults as model
 use Rattle.ud_model.specs.declared.limits.TheConstants.{LINE_BYTES, TEXT_LINES}
-use Rattle.ud_model.proofs.LinesLemmas.{AreWhole, are_whole, parts_of-append-open, parts_of-append-line, last_line-some, texts_of_grows, texts_of-whole, Growth, stays_open, ends_line, grows, text_of-line_at, numbered_from-next, length-numbered_from}
+use Rattle.ud_model.proofs.LinesLemmas.{AreWhole, are_whole, open_rest-open, parts_of-append-open, parts_of-append-line, last_line-some, texts_of_grows, texts_of-whole, Growth, stays_open, ends_line, grows, text_of-line_at, numbered_from-next, length-numbered_from}
 use Rattle.ud_text.specs.Holding.{Holding, Took, UpToFeed, Refuses}
 use Rattle.ud_text.proofs.HoldingLemmas.{took_before, took_rest}
+use Rattle.ud_text.proofs.RunLemmas.{no_feed-take}
+use Rattle.std.proofs.lemmas.Slice.Eq.{ends_is}
+use Rattle.std.specs.List.{ends_with}
 use Rattle.ud_text.specs.declared.fault.TextFault.{TextFault}
 use Rattle.ud_text.specs.declared.fault.TextFault.TheVariants.{TooManyLines, LineTooLong}
-use Rattle.unifdef.specs.Outcomes.{IsWithin, Breaks, past_last, too_long}
-use Rattle.unifdef.specs.Held.{Holds}
+use Rattle.unifdef.specs.Limits.{IsWithin, Breaks, past_last, too_long}
+use Rattle.unifdef.specs.Held.{Holds, IsReadable}
 use Rattle.unifdef.specs.Intake.{text_fault_told, StopsReading, HeldOf, Fed, Stopped, room}
 use Rattle.unifdef.specs.declared.held.Held.{Held}
 use Rattle.unifdef.specs.declared.intake.End.{End}
@@ -365,3 +370,38 @@ fed_nothing o held lines holds took is =
       within = tt;
       holds = holds;
     }
+
+-- a line that ends in its line feed has none in its body
+whole_feedless : (n : ℕ) (l : List ℕ) → IsWhole l → NoFeed (line_at n l).body
+whole_feedless n l w =
+    by_tests (ends_with nat_eq l (13 ∷ 10 ∷ [])) (ends_with nat_eq l (10 ∷ []))
+    ((ends_is Decides-eqb l (10 ∷ []) (ends_with nat_eq l (10 ∷ [])) refl).1 w.0 w.2)
+  where
+    len : length l ≡ length w.0 + 1
+    len = ap length w.2 ∙ length-append w.0 (10 ∷ [])
+
+    front_of : (k : ℕ) → k ≤ length w.0 → NoFeed (take k l)
+    front_of k h = subst (λ (t : List ℕ). NoFeed t) (sym (ap (take k) w.2 ∙ take-append-le k w.0 (10 ∷ []) h)) (no_feed-take k w.0 w.1)
+
+    by_tests : (a b : Bool) → b ≡ true → NoFeed (take (length l - length {A = ℕ} (if a then 13 ∷ 10 ∷ [] else if b then 10 ∷ [] else [])) l)
+    by_tests true b e = front_of (length l - 2) (omega (arith, len))
+    by_tests false true e = front_of (length l - 1) (omega (arith, len))
+    by_tests false false e = cc
+
+-- each whole line is one
+last_whole : (earlier : List (List ℕ)) (l : List ℕ) → AreWhole (earlier ++ l ∷ []) → IsWhole l
+last_whole [] l w = w.0
+last_whole (m ∷ ms) l w = last_whole ms l w.1
+
+body_short : (n : ℕ) (l : List ℕ) → length l ≤ LINE_BYTES → length (line_at n l).body ≤ LINE_BYTES
+body_short n l h = let k = length-take (length l - length (ending_of l)) l in omega (arith, k, h)
+
+-- the whole line that is held can be read
+pub readable_whole : (text : List ℕ) (earlier : List (List ℕ)) (n : ℕ) (l : List ℕ) → whole_lines text ≡ earlier ++ l ∷ [] → length l ≤ LINE_BYTES → IsReadable (line_at n l)
+readable_whole text earlier n l e h =
+    (body_short n l h, whole_feedless n l (last_whole earlier l (subst AreWhole e (are_whole text))))
+
+-- the rest behind the last line feed can be read
+pub readable_rest : (text : List ℕ) (n : ℕ) (l : List ℕ) → open_rest text ≡ l → length l ≤ LINE_BYTES → IsReadable (line_at n l)
+readable_rest text n l e h =
+    (body_short n l h, no_feed-take (length l - length (ending_of l)) l (subst (λ (t : List ℕ). NoFeed t) e (open_rest-open text)))

@@ -1,8 +1,5 @@
-pub mod ByteLemmas
 pub mod WatchingLemmas
 pub mod MessageLemmas
-pub mod WordLemmas
-pub mod FoundLemmas
 pub mod GroupsLemmas
 pub mod ShapesLemmas
 pub mod Behind
@@ -10,17 +7,23 @@ pub mod Moves
 pub mod Sections
 pub mod Stops
 pub mod WholeWalk
-pub mod ItemLemmas
-pub mod VerdictLemmas
-pub mod LineFaults
-pub mod OutcomeLemmas
-pub mod EndingLemmas
-pub mod HeadlineLemmas
-pub mod RunLemmas
+pub mod InsideLemmas
+pub mod SpoiledLemmas
+pub mod SoundItems
 pub mod HeldLemmas
 pub mod IntakeLemmas
-pub mod LetterLemmas
-pub mod GivenLemmas
-pub mod OptionLemmas
-pub mod PlanLemmas
+pub mod LineFaults
+pub mod CountingLemmas
+pub mod ReadLemmas
+pub mod OutcomeLemmas
+pub mod WalkLemmas
+mod LetterLemmas
+mod GivenLemmas
+mod OptionLemmas
+mod PlanLemmas
+pub mod SeeingLemmas
+pub mod PrintLemmas
 pub mod RefusalLemmas
+pub mod RunsSame
+pub mod HeadlineLemmas
+pub mod ListingLemmas

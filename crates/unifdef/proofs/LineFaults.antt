@@ -1,19 +1,22 @@
--- LineFaults: the fault of a plain line that breaks a limit, isn't handled, is out of its place or opens too many sections.
-use Rattle.std.proofs.Common.{◌≡◌, ℕ, suc, ◌<◌, ◌≤◌, List, [], ◌∷◌, ◌++◌, length, Bool, true, false, if◌then◌else◌, IsTrue, Some, refl, sym, ◌∙◌, ap, subst, arith}
+-- LineFaults: the fault of a line, by the first way in which it is faulty.
+use Rattle.std.proofs.Common.{◌≡◌, ℕ, ◌<◌, ◌≤◌, List, [], ◌∷◌, ◌++◌, length, true, false, Some, refl, sym, ◌∙◌, ap, subst, arith}
 use Rattle.ud_model.specs.Lines.{Line, text_of}
-use Rattle.ud_model.specs.Scans.{Reading, plain_scan}
-use Rattle.ud_model.specs.Directives.{content_of}
-use Rattle.ud_model.specs.Tree.{Item, Tree, Opener, closed, open_section, text_line, if_line, elif_line, else_line, endif_line, lines, depth}
-use Rattle.ud_model.specs.Items.{reading_of, line_of}
-use Rattle.ud_model.specs.Faults.{Fault, Case, past_last, too_long, cut, unhandled, out_of_place, too_deep, NoneHolds, FaultOf, is_cut, misplaced, too_many_lines, line_too_long, unsupported, inappropriate_elif, inappropriate_else, inappropriate_endif, too_many_levels}
+use Rattle.ud_model.specs.Scans.{Reading}
+use Rattle.ud_model.specs.Tree.{Item, Opener, Tree, text_line, if_line, elif_line, else_line, endif_line, closed, open_section, lines, depth}
+use Rattle.ud_model.specs.Pruning.{Mark, marks}
+use Rattle.ud_model.specs.Items.{line_of}
+use Rattle.ud_model.specs.Faults.{Fault, FaultOf, past_last, too_long, cut, out_of_place, too_deep, spoiled, is_spoiled, misplaced, too_many_lines, line_too_long, obfuscated, inappropriate_elif, inappropriate_else, inappropriate_endif, too_many_levels}
 use Rattle.ud_model.specs.declared.limits.TheConstants.{LINE_BYTES, TEXT_LINES, OPEN_SECTIONS}
 use Rattle.ud_model.proofs.Growth.{Adds, adds_text, adds_if, adds_under, lines-add}
-use Rattle.ud_model.proofs.PlainSound.{plain_reading, plain_not_cut}
+use Rattle.ud_model.proofs.Unique.{unique}
 use Rattle.unifdef.specs.declared.shape.Shape.{Shape}
-use Rattle.unifdef.specs.declared.shape.Shape.TheVariants.{Unhandled}
-use Rattle.unifdef.specs.Shapes.{AreShapes, shape_by, is_unhandled_item}
-use Rattle.unifdef.specs.Outcomes.{IsWithin, Breaks, misplaced_fault}
-use Rattle.unifdef.specs.Outcomes as outcomes
+use Rattle.unifdef.specs.declared.seen.Seen.{Seen}
+use Rattle.unifdef.specs.Shapes.{AreSeen, shape_by, is_cut_item, first_shape}
+use Rattle.unifdef.specs.Limits.{IsWithin, Breaks}
+use Rattle.unifdef.specs.Limits as limits
+use Rattle.unifdef.specs.Outcomes.{misplaced_fault}
+use Rattle.unifdef.proofs.ShapesLemmas.{shape_whole}
+use Rattle.unifdef.proofs.SoundItems.{within_first, within_clear}
 
 module _ {L : Type 0} where
   -- each text takes a text line
@@ -26,84 +29,73 @@ module _ {L : Type 0} where
   takes_if (closed ns) o = (_, adds_if)
   takes_if (open_section ns h t) o = let s : (u : Tree L) × Adds t (if_line o) u = takes_if t o in (open_section ns h s.0, adds_under s.1)
 
--- a line of this number that breaks a limit has the limit's fault
-pub limit_fault : (xs : List (Item Reading)) (x : Item Reading) (l : Line) (f : Fault) → reading_of x ≡ plain_reading l → Breaks l f → FaultOf xs x f
-limit_fault xs x l _ r (outcomes.past_last h) = record {
+-- a line that breaks a limit has the limit's fault
+pub limit_fault : (xs : List (Item Reading)) (x : Item Reading) (l : Line) (f : Fault) → line_of x ≡ l → Breaks l f → FaultOf xs x f
+limit_fault xs x l _ r (limits.past_last h) = record {
   which = past_last;
-  holds = subst (λ (y : Reading). TEXT_LINES < y.line.number) (sym r) h;
+  holds = subst (λ (k : Line). TEXT_LINES < k.number) (sym r) h;
   first = tt;
-  named = ap (λ (y : Reading). Some (too_many_lines y.line.number)) r;
+  named = ap (λ (k : Line). Some (too_many_lines k.number)) r;
 }
-limit_fault xs x l _ r (outcomes.too_long n h) = record {
+limit_fault xs x l _ r (limits.too_long n h) = record {
   which = too_long;
-  holds = subst (λ (y : Reading). LINE_BYTES < length (text_of y.line)) (sym r) h;
-  first = (λ k. let m : TEXT_LINES < l.number = subst (λ (y : Reading). TEXT_LINES < y.line.number) r k in omega arith, tt);
-  named = ap (λ (y : Reading). Some (line_too_long y.line.number)) r;
+  holds = subst (λ (k : Line). LINE_BYTES < length (text_of k)) (sym r) h;
+  first = (λ k. let m : TEXT_LINES < l.number = subst (λ (y : Line). TEXT_LINES < y.number) r k in omega (arith, m, n), tt);
+  named = ap (λ (k : Line). Some (line_too_long k.number)) r;
 }
 
-not_true : (b : Bool) → b ≡ false → IsTrue b → ⊥
-not_true b e h = cc
-
--- a plain line within the limits isn't faulty in the first three ways
-within_clear : (xs : List (Item Reading)) (x : Item Reading) (l : Line) (cs : List Case) → reading_of x ≡ plain_reading l → IsWithin l →
-    NoneHolds xs x cs → NoneHolds xs x (past_last ∷ too_long ∷ cut ∷ cs)
-within_clear xs x l cs r w none = (
-  λ h. let k : TEXT_LINES < l.number = subst (λ (y : Reading). TEXT_LINES < y.line.number) r h in let n : l.number ≤ TEXT_LINES = w.number_fits in omega arith,
-  (
-    λ h. let k : LINE_BYTES < length (text_of l) = subst (λ (y : Reading). LINE_BYTES < length (text_of y.line)) r h in let n : length (text_of l) ≤ LINE_BYTES = w.bytes_fit in omega arith,
-    (λ h. not_true (is_cut (content_of (plain_scan l))) (plain_not_cut l) (subst (λ (y : Reading). IsTrue (is_cut (content_of y.scan))) r h), none),
-  ),
-)
-
--- a directive that isn't handled has the fault that says so
-pub unhandled_fault : (xs : List (Item Reading)) (x : Item Reading) (l : Line) (n : ℕ) → reading_of x ≡ plain_reading l → IsWithin l →
-    (line_of x).number ≡ n → is_unhandled_item x ≡ true → FaultOf xs x (unsupported n)
-unhandled_fault xs x l n r w e h = record {
-  which = unhandled;
-  holds = h;
-  first = within_clear xs x l [] r w tt;
-  named = ap (λ (k : ℕ). Some (unsupported k)) e;
-}
+-- a keyword that is cut is a fault
+pub cut_fault : (xs : List (Item Reading)) (x : Item Reading) (n : ℕ) → IsWithin (line_of x) → (line_of x).number ≡ n → is_cut_item x ≡ true → FaultOf xs x (obfuscated n)
+cut_fault xs x n w e h = record { which = cut; holds = h; first = within_first xs x [] w tt; named = ap (λ (k : ℕ). Some (obfuscated k)) e }
 
 -- a directive that opens a section too many has the fault that says so
-pub too_deep_fault : (xs : List (Item Reading)) (x : Item Reading) (l : Line) (n : ℕ) (u : Tree Reading) → reading_of x ≡ plain_reading l → IsWithin l →
-    (line_of x).number ≡ n → is_unhandled_item x ≡ false → lines u ≡ xs ++ x ∷ [] → OPEN_SECTIONS < depth u → FaultOf xs x (too_many_levels n)
-too_deep_fault xs x l n u r w e h t d = record {
+pub too_deep_fault : (xs : List (Item Reading)) (x : Item Reading) (n : ℕ) (u : Tree Reading) → IsWithin (line_of x) →
+    (line_of x).number ≡ n → is_cut_item x ≡ false → lines u ≡ xs ++ x ∷ [] → OPEN_SECTIONS < depth u → FaultOf xs x (too_many_levels n)
+too_deep_fault xs x n u w e h t d = record {
   which = too_deep;
   holds = (u, t, d);
-  first = within_clear xs x l (unhandled ∷ out_of_place ∷ []) r w (λ k. not_true (is_unhandled_item x) h k, (λ k. k.1 (u, t), tt));
+  first = within_clear xs x (out_of_place ∷ []) w h (λ k. k.1 (u, t), tt);
   named = ap (λ (k : ℕ). Some (too_many_levels k)) e;
 }
 
-own_shape : (b : Bool) (s t : Shape) → (if b then Unhandled else s) ≡ t → b ≡ false → s ≡ t
-own_shape true s t e h = cc
-own_shape false s t e h = e
+-- a directive that spans lines and would have to be changed has the fault that says so
+pub spoiled_fault : (xs : List (Item Reading)) (x : Item Reading) (n : ℕ) (u : Tree Reading) (before : List Mark) (m : Mark) → IsWithin (line_of x) →
+    (line_of x).number ≡ n → is_cut_item x ≡ false → lines u ≡ xs ++ x ∷ [] → depth u ≤ OPEN_SECTIONS → marks u ≡ before ++ m ∷ [] →
+    is_spoiled before x m ≡ true → FaultOf xs x (obfuscated n)
+spoiled_fault xs x n u before m w e h t d k s = record {
+  which = spoiled;
+  holds = (before, m, (u, t, k), s);
+  first = within_clear xs x (out_of_place ∷ too_deep ∷ []) w h (
+    λ j. j.1 (u, t),
+    (λ j. let q : j.0 ≡ u = unique j.0 u (j.1 ∙ sym t) in let k : OPEN_SECTIONS < depth u = subst (λ v. OPEN_SECTIONS < depth v) q j.2 in omega (arith, k, d), tt),
+  );
+  named = ap (λ (k : ℕ). Some (obfuscated k)) e;
+}
 
-misplaced_by : (x : Item Reading) (s : Shape) (ss : List Shape) (n : ℕ) (t : Tree Reading) → shape_by x ≡ s → (line_of x).number ≡ n →
-    ((u : Tree Reading) → lines u ≡ lines t ++ x ∷ [] → ⊥) → misplaced x ≡ Some (misplaced_fault (s ∷ ss) n)
-misplaced_by (text_line r) s ss n t e k refuses = let a : (u : Tree Reading) × Adds t (text_line r) u = takes_text t r in absurd (refuses a.0 (lines-add a.1))
-misplaced_by (if_line o) s ss n t e k refuses = let a : (u : Tree Reading) × Adds t (if_line o) u = takes_if t o in absurd (refuses a.0 (lines-add a.1))
-misplaced_by (elif_line o) s ss n t e k refuses =
-    ap (λ (m : ℕ). Some (inappropriate_elif m)) k ∙ ap (λ (s : Shape). Some (misplaced_fault (s ∷ ss) n)) e
-misplaced_by (else_line r) s ss n t e k refuses =
-    ap (λ (m : ℕ). Some (inappropriate_else m)) k ∙ ap (λ (s : Shape). Some (misplaced_fault (s ∷ ss) n)) e
-misplaced_by (endif_line r) s ss n t e k refuses =
-    ap (λ (m : ℕ). Some (inappropriate_endif m)) k ∙ ap (λ (s : Shape). Some (misplaced_fault (s ∷ ss) n)) e
+misplaced_by : (x : Item Reading) (s : Shape) (n : ℕ) (t : Tree Reading) → shape_by x ≡ s → (line_of x).number ≡ n →
+    ((u : Tree Reading) → lines u ≡ lines t ++ x ∷ [] → ⊥) → misplaced x ≡ Some (misplaced_fault (Some s) n)
+misplaced_by (text_line r) s n t e k refuses = let a : (u : Tree Reading) × Adds t (text_line r) u = takes_text t r in absurd (refuses a.0 (lines-add a.1))
+misplaced_by (if_line o) s n t e k refuses = let a : (u : Tree Reading) × Adds t (if_line o) u = takes_if t o in absurd (refuses a.0 (lines-add a.1))
+misplaced_by (elif_line o) s n t e k refuses =
+    ap (λ (m : ℕ). Some (inappropriate_elif m)) k ∙ ap (λ (s : Shape). Some (misplaced_fault (Some s) n)) e
+misplaced_by (else_line r) s n t e k refuses =
+    ap (λ (m : ℕ). Some (inappropriate_else m)) k ∙ ap (λ (s : Shape). Some (misplaced_fault (Some s) n)) e
+misplaced_by (endif_line r) s n t e k refuses =
+    ap (λ (m : ℕ). Some (inappropriate_endif m)) k ∙ ap (λ (s : Shape). Some (misplaced_fault (Some s) n)) e
 
--- a directive that no tree takes is an `#elif`, an `#else` or an `#endif`, and its shape names its fault
-pub misplaced_is : (x : Item Reading) (after : List (Item Reading)) (ss : List Shape) (n : ℕ) (t : Tree Reading) → AreShapes n ss (x ∷ after) →
-    is_unhandled_item x ≡ false → ((u : Tree Reading) → lines u ≡ lines t ++ x ∷ [] → ⊥) → misplaced x ≡ Some (misplaced_fault ss (suc n))
-misplaced_is x after [] n t a h refuses = absurd a
-misplaced_is x after (s ∷ ss) n t a h refuses =
-    misplaced_by x s ss (suc n) t (own_shape (is_unhandled_item x) (shape_by x) s a.0 h) a.1 refuses
+misplaced_is : (n k : ℕ) (ss : List Seen) (x : Item Reading) (after : List (Item Reading)) (t : Tree Reading) → AreSeen n ss (x ∷ after) →
+    is_cut_item x ≡ false → (line_of x).number ≡ k → ((u : Tree Reading) → lines u ≡ lines t ++ x ∷ [] → ⊥) → misplaced x ≡ Some (misplaced_fault (first_shape ss) k)
+misplaced_is n k [] x after t a h e refuses = absurd a
+misplaced_is n k (s ∷ ss) x after t a h e refuses =
+    misplaced_by x s.shape k t (shape_whole (is_cut_item x) (shape_by x) s.shape (ap (λ (r : Seen). r.shape) a.0) h) e refuses
 
 -- a directive that no tree takes has the fault that its shape names
-pub out_of_place_fault : (x : Item Reading) (after : List (Item Reading)) (l : Line) (ss : List Shape) (n : ℕ) (t : Tree Reading) →
-    reading_of x ≡ plain_reading l → IsWithin l → AreShapes n ss (x ∷ after) → is_unhandled_item x ≡ false →
-    ((u : Tree Reading) → lines u ≡ lines t ++ x ∷ [] → ⊥) → FaultOf (lines t) x (misplaced_fault ss (suc n))
-out_of_place_fault x after l ss n t r w a h refuses = record {
+pub out_of_place_fault : (n k : ℕ) (ss : List Seen) (x : Item Reading) (after : List (Item Reading)) (t : Tree Reading) → IsWithin (line_of x) →
+    AreSeen n ss (x ∷ after) → is_cut_item x ≡ false → (line_of x).number ≡ k →
+    ((u : Tree Reading) → lines u ≡ lines t ++ x ∷ [] → ⊥) → FaultOf (lines t) x (misplaced_fault (first_shape ss) k)
+out_of_place_fault n k ss x after t w a h e refuses = record {
   which = out_of_place;
-  holds = ((t, refl), λ k. refuses k.0 k.1);
-  first = within_clear (lines t) x l (unhandled ∷ []) r w (λ k. not_true (is_unhandled_item x) h k, tt);
-  named = misplaced_is x after ss n t a h refuses;
+  holds = ((t, refl), λ j. refuses j.0 j.1);
+  first = within_clear (lines t) x [] w h tt;
+  named = misplaced_is n k ss x after t a h e refuses;
 }

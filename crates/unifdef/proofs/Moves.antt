@@ -1,5 +1,5 @@
 -- Moves: how what a walk has read is put together from its parts.
-use Rattle.std.proofs.Common.{◌≡◌, ℕ, ◌≤◌, List, [], ◌∷◌, ◌++◌, map, Bool, ◌&&◌, Some, slice_get, refl, sym, ◌∙◌, ap, subst, append_assoc, append-nil, arith}
+use Rattle.std.proofs.Common.{◌≡◌, ℕ, ◌≤◌, List, [], ◌∷◌, ◌++◌, map, Bool, ◌&&◌, Some, refl, sym, ◌∙◌, ap, subst, append_assoc, append-nil, arith}
 use Rattle.std.proofs.lemmas.List.{map-append}
 use Rattle.ud_model.specs.Scans.{Reading}
 use Rattle.ud_model.specs.declared.limits.TheConstants.{OPEN_SECTIONS}
@@ -7,30 +7,31 @@ use Rattle.ud_model.specs.Tree.{Item, Nodes, Tree, nothing, text, section, text_
 use Rattle.ud_model.specs.Pruning.{Mark, marked, Part, is_kept}
 use Rattle.ud_model.specs.SoFar.{verdict_so_far, nodes_so_far, groups_so_far}
 use Rattle.ud_model.specs.declared.cond.Cond.{Cond}
-use Rattle.ud_model.specs.declared.verdict.Verdict.{Verdict}
 use Rattle.ud_model.specs.declared.verdict.Verdict.TheVariants.{Keep}
 use Rattle.ud_model.proofs.Growth.{Adds, lines-add}
 use Rattle.ud_model.proofs.Unique.{grows}
 use Rattle.unifdef.specs.declared.shape.Shape.TheVariants.{Text}
+use Rattle.unifdef.specs.Shapes.{first_shape, code_mark}
+use Rattle.unifdef.specs.declared.mark.Mark as kept_marks
 use Rattle.unifdef.specs.declared.walk.Walk.{Walk}
 use Rattle.unifdef.specs.declared.walk.Stop.{Stop}
 use Rattle.unifdef.specs.declared.walk.Stop.TheVariants as stops
-use Rattle.unifdef.specs.Walking.{Left, verdict_of, Moved, ReadsLine, ReadsNodes, ReadsSection, ReadsGroup, StopsFor, Stuck, StopsWell}
-use Rattle.unifdef.proofs.ShapesLemmas.{all_handled-append, text_shape}
+use Rattle.unifdef.specs.Walking.{Left, Moved, ReadsLine, ReadsNodes, ReadsSection, ReadsGroup, StopsFor, Stuck, StopsWell}
+use Rattle.unifdef.proofs.ShapesLemmas.{all_whole-append, text_shape}
 use Rattle.unifdef.proofs.Behind.{behind, lines-behind, marks-behind, height-behind, depth-behind, innermost-behind, rebase}
 
 -- nothing was read
 pub moved_none : (w : Walk) (xs : List (Item Reading)) → Left w xs → Moved w w [] xs [] xs
-moved_none w xs left = record { split = refl; left = left; verdicts = sym (append-nil w.verdicts.items); handled = tt }
+moved_none w xs left = record { split = refl; left = left; marked_as = sym (append-nil w.marks.items); whole = tt }
 
 -- one line was read
-pub moved_line : (old new : Walk) (xs : List (Item Reading)) (v : Verdict) (m : Mark) → m.verdict ≡ v → (l : ReadsLine old new xs v) →
+pub moved_line : (old new : Walk) (xs : List (Item Reading)) (v : kept_marks.Mark) (m : Mark) → code_mark m ≡ v → (l : ReadsLine old new xs v) →
     Moved old new (m ∷ []) xs (l.item ∷ []) l.after
 moved_line old new xs v m e l = record {
   split = l.split;
   left = l.left;
-  verdicts = l.verdicts ∙ ap (λ w. old.verdicts.items ++ w ∷ []) (sym e);
-  handled = (l.handled, tt);
+  marked_as = l.marked_as ∙ ap (λ w. old.marks.items ++ w ∷ []) (sym e);
+  whole = (l.whole, tt);
 }
 
 -- some lines were read, and then more
@@ -39,9 +40,9 @@ pub moved_then : (a b c : Walk) (ms ns : List Mark) (xs read ys more zs : List (
 moved_then a b c ms ns xs read ys more zs m n = record {
   split = m.split ∙ ap (λ s. read ++ s) n.split ∙ sym (append_assoc read more zs);
   left = n.left;
-  verdicts = n.verdicts ∙ ap (λ vs. vs ++ map verdict_of ns) m.verdicts ∙ append_assoc a.verdicts.items (map verdict_of ms) (map verdict_of ns)
-      ∙ ap (λ vs. a.verdicts.items ++ vs) (sym (map-append verdict_of ms ns));
-  handled = all_handled-append read more m.handled n.handled;
+  marked_as = n.marked_as ∙ ap (λ vs. vs ++ map code_mark ns) m.marked_as ∙ append_assoc a.marks.items (map code_mark ms) (map code_mark ns)
+      ∙ ap (λ vs. a.marks.items ++ vs) (sym (map-append code_mark ms ns));
+  whole = all_whole-append read more m.whole n.whole;
 }
 
 -- the same under other names
@@ -53,8 +54,8 @@ pub nodes_none : (w : Walk) (xs : List (Item Reading)) (kept : Bool) (level : �
 nodes_none w xs kept level low left = record { nodes = nothing; after = xs; moved = moved_none w xs left; low = omega arith }
 
 -- a text line more
-pub nodes_text : (a b c : Walk) (xs : List (Item Reading)) (kept : Bool) (level : ℕ) (v : Verdict) → v ≡ (marked kept Keep).verdict →
-    slice_get b.rest.now 0 ≡ Some Text → (r : ReadsNodes a b xs kept level) → ReadsLine b c r.after v → ReadsNodes a c xs kept level
+pub nodes_text : (a b c : Walk) (xs : List (Item Reading)) (kept : Bool) (level : ℕ) (v : kept_marks.Mark) → v ≡ code_mark (marked kept Keep) →
+    first_shape b.rest.now ≡ Some Text → (r : ReadsNodes a b xs kept level) → ReadsLine b c r.after v → ReadsNodes a c xs kept level
 nodes_text a b c xs kept level v e s r l =
     let t : (q : Reading) × (l.item ≡ text_line q) = text_shape l.item (l.shape Text s) in
     record {
@@ -78,8 +79,8 @@ nodes_section a b c xs kept level r s = record {
 }
 
 -- an opener and the nodes behind it
-pub group_read : (a b c : Walk) (xs : List (Item Reading)) (kept inside : Bool) (level : ℕ) (before : List Cond) (part : Part) (k : Cond) (v : Verdict) →
-    v ≡ (marked kept (verdict_so_far before part k)).verdict → inside ≡ (kept && is_kept before k) →
+pub group_read : (a b c : Walk) (xs : List (Item Reading)) (kept inside : Bool) (level : ℕ) (before : List Cond) (part : Part) (k : Cond) (v : kept_marks.Mark) →
+    v ≡ code_mark (marked kept (verdict_so_far before part k)) → inside ≡ (kept && is_kept before k) →
     (l : ReadsLine a b xs v) → ReadsNodes b c l.after inside level → ReadsGroup a c xs kept level before part k
 group_read a b c xs kept inside level before part k v e i l r = record {
   opener = l.item;
@@ -95,7 +96,7 @@ group_read a b c xs kept inside level before part k v e i l r = record {
 -- why a walk stops, behind nodes
 stops_behind : (ns : Nodes Reading) (stop : Stop) (t : Tree Reading) (ys : List (Item Reading)) (level : ℕ) →
     StopsFor stop t ys level → StopsFor stop (behind ns t) ys level
-stops_behind ns stops.Unhandled t ys level w = w
+stops_behind ns stops.Cut t ys level w = w
 stops_behind ns stops.OutOfPlace (closed ms) ys level w = cc
 stops_behind ns stops.OutOfPlace (open_section ms h t) ys level w = (
   w.0,
@@ -137,7 +138,7 @@ stuck_behind a b c xs kept level stop r s = record {
 -- the same, where nothing is said if memory is refused
 pub stops_well_behind : (a b c : Walk) (xs : List (Item Reading)) (kept : Bool) (level : ℕ) (stop : Stop) →
     (r : ReadsNodes a b xs kept level) → StopsWell b c r.after kept level stop → StopsWell a c xs kept level stop
-stops_well_behind a b c xs kept level stops.Unhandled r s = stuck_behind a b c xs kept level stops.Unhandled r s
+stops_well_behind a b c xs kept level stops.Cut r s = stuck_behind a b c xs kept level stops.Cut r s
 stops_well_behind a b c xs kept level stops.OutOfPlace r s = stuck_behind a b c xs kept level stops.OutOfPlace r s
 stops_well_behind a b c xs kept level stops.TooDeep r s = stuck_behind a b c xs kept level stops.TooDeep r s
 stops_well_behind a b c xs kept level (stops.Unclosed o) r s = stuck_behind a b c xs kept level (stops.Unclosed o) r s

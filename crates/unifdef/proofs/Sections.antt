@@ -1,5 +1,5 @@
 -- Sections: how a walk reads a section, group for group.
-use Rattle.std.proofs.Common.{◌≡◌, ℕ, suc, ◌+◌, ◌≤◌, List, [], ◌∷◌, ◌++◌, length, max, Bool, true, false, ◌&&◌, Some, slice_get, refl, sym, ◌∙◌, ap, subst, append_assoc, arith}
+use Rattle.std.proofs.Common.{◌≡◌, ℕ, suc, ◌+◌, ◌≤◌, List, [], ◌∷◌, ◌++◌, length, max, Bool, true, false, ◌&&◌, Some, refl, sym, ◌∙◌, ap, subst, append_assoc, arith}
 use Rattle.ud_model.specs.Scans.{Reading}
 use Rattle.ud_model.specs.Tree.{Item, Nodes, Groups, Elifs, Head, Tree, Opener, nothing, if_line, elif_line, else_line, endif_line, first, elif, closed, open_section, if_head, elif_head, else_head, lines, lines_of_nodes, lines_of_groups, lines_of_elifs, lines_of_head, opener_of_head, opener_of_elifs}
 use Rattle.ud_model.specs.Pruning.{Mark, marked, Part, an_if, an_elif, an_else, is_kept, is_inside_kept, endif_verdict, conds_of_groups, conds_of_elifs, conds_of_head}
@@ -8,7 +8,6 @@ use Rattle.ud_model.specs.Height.{height_of_nodes, height_of_groups, height_of_e
 use Rattle.ud_model.specs.Items.{line_of}
 use Rattle.ud_model.specs.declared.cond.Cond.{Cond}
 use Rattle.ud_model.specs.declared.cond.Cond.TheVariants.{Yes}
-use Rattle.ud_model.specs.declared.verdict.Verdict.{Verdict}
 use Rattle.ud_model.proofs.Growth.{Adds, adds_under, lines-add, complete, lines-complete, conds-complete}
 use Rattle.ud_model.proofs.Unique.{grows}
 use Rattle.unifdef.specs.declared.shape.Shape.TheVariants.{If, Elif, Else, Endif}
@@ -17,7 +16,8 @@ use Rattle.unifdef.specs.declared.walk.Walk.{Walk}
 use Rattle.unifdef.specs.declared.walk.Stop.{Stop}
 use Rattle.unifdef.specs.declared.walk.Stop.TheVariants as stops
 use Rattle.unifdef.specs.Groups.{groups_of}
-use Rattle.unifdef.specs.Shapes.{shape_by, is_unhandled_item}
+use Rattle.unifdef.specs.Shapes.{shape_by, is_cut_item, first_shape, code_mark}
+use Rattle.unifdef.specs.declared.mark.Mark as kept_marks
 use Rattle.unifdef.specs.Walking.{ReadsLine, ReadsSection, ReadsGroup, InSection, StopsFor, Stuck, is_else}
 use Rattle.unifdef.proofs.ShapesLemmas.{if_shape, elif_shape, else_shape, endif_shape}
 use Rattle.unifdef.proofs.Moves.{moved_line, moved_then, moved_as}
@@ -70,7 +70,7 @@ height_complete (else_head es l) b = omega arith
 
 -- behind the first group
 pub section_first : (a b : Walk) (xs : List (Item Reading)) (kept : Bool) (level : ℕ) (c : Cond) (g : kept_groups.Groups) (opener : ℕ) →
-    slice_get a.rest.now 0 ≡ Some (If c) → g ≡ groups_of (c ∷ []) → opener ≡ length a.verdicts.items →
+    first_shape a.rest.now ≡ Some (If c) → g ≡ groups_of (c ∷ []) → opener ≡ length a.marks.items →
     ReadsGroup a b xs kept (level + 1) [] an_if c → InSection a b xs kept level g false opener
 section_first a b xs kept level c g opener s e n r =
     let x : (o : Opener Reading) × (r.opener ≡ if_line o) × (o.cond ≡ c) = if_shape r.opener c (r.shape (If c) s) in
@@ -108,7 +108,7 @@ lines_group h b x y more e q = ap (λ z. (lines_of_head h ++ lines_of_nodes b) +
 
 -- behind one more group
 pub section_elif : (a b d : Walk) (xs : List (Item Reading)) (kept : Bool) (level : ℕ) (c : Cond) (g k : kept_groups.Groups) (seen : Bool) (opener : ℕ) →
-    seen ≡ false → slice_get b.rest.now 0 ≡ Some (Elif c) → (i : InSection a b xs kept level g seen opener) → k ≡ groups_of (conds_of_head i.head ++ c ∷ []) →
+    seen ≡ false → first_shape b.rest.now ≡ Some (Elif c) → (i : InSection a b xs kept level g seen opener) → k ≡ groups_of (conds_of_head i.head ++ c ∷ []) →
     ReadsGroup b d i.after kept (level + 1) (conds_of_head i.head) an_elif c → InSection a d xs kept level k seen opener
 section_elif a b d xs kept level c g k seen opener h s i e r =
     let ends : false ≡ is_else i.head = sym h ∙ i.ends in
@@ -131,7 +131,7 @@ section_elif a b d xs kept level c g k seen opener h s i e r =
 
 -- behind the `#else` group
 pub section_else : (a b d : Walk) (xs : List (Item Reading)) (kept : Bool) (level : ℕ) (g k : kept_groups.Groups) (seen : Bool) (opener : ℕ) →
-    seen ≡ false → slice_get b.rest.now 0 ≡ Some Else → (i : InSection a b xs kept level g seen opener) → k ≡ groups_of (conds_of_head i.head ++ Yes ∷ []) →
+    seen ≡ false → first_shape b.rest.now ≡ Some Else → (i : InSection a b xs kept level g seen opener) → k ≡ groups_of (conds_of_head i.head ++ Yes ∷ []) →
     ReadsGroup b d i.after kept (level + 1) (conds_of_head i.head) an_else Yes → InSection a d xs kept level k true opener
 section_else a b d xs kept level g k seen opener h s i e r =
     let ends : false ≡ is_else i.head = sym h ∙ i.ends in
@@ -152,8 +152,8 @@ section_else a b d xs kept level g k seen opener h s i e r =
     }
 
 -- the section ends
-pub section_closed : (a b d : Walk) (xs : List (Item Reading)) (kept : Bool) (level : ℕ) (g : kept_groups.Groups) (e : Bool) (opener : ℕ) (v : Verdict) →
-    slice_get b.rest.now 0 ≡ Some Endif → (i : InSection a b xs kept level g e opener) → v ≡ (marked kept (endif_verdict (conds_of_head i.head))).verdict →
+pub section_closed : (a b d : Walk) (xs : List (Item Reading)) (kept : Bool) (level : ℕ) (g : kept_groups.Groups) (e : Bool) (opener : ℕ) (v : kept_marks.Mark) →
+    first_shape b.rest.now ≡ Some Endif → (i : InSection a b xs kept level g e opener) → v ≡ code_mark (marked kept (endif_verdict (conds_of_head i.head))) →
     ReadsLine b d i.after v → ReadsSection a d xs kept level
 section_closed a b d xs kept level g e opener v s i q l =
     let x : (r : Reading) × (l.item ≡ endif_line r) = endif_shape l.item (l.shape Endif s) in
@@ -167,7 +167,7 @@ section_closed a b d xs kept level g e opener v s i q l =
           (ap (λ ys. ys ++ l.item ∷ []) (lines-complete i.head i.nodes) ∙ ap (λ y. lines_of_groups gs ++ y ∷ []) x.1)
           (moved_then a b d _ _ xs _ i.after _ l.after i.moved
           (moved_line b d i.after v (marked kept (endif_verdict (conds_of_groups gs)))
-          (ap (λ cs. (marked kept (endif_verdict cs)).verdict) (conds-complete i.head i.nodes) ∙ sym q) l));
+          (ap (λ cs. code_mark (marked kept (endif_verdict cs))) (conds-complete i.head i.nodes) ∙ sym q) l));
       low = let m = i.low in let n = height_complete i.head i.nodes in omega (arith, m, n);
     }
 
@@ -200,7 +200,7 @@ no_else (else_head es l) b r u e (adds_under a) = elim a [ ]
 -- a directive out of its place in the group of an `#else`
 pub section_misplaced : (a b : Walk) (xs : List (Item Reading)) (kept : Bool) (level : ℕ) (g : kept_groups.Groups) (seen : Bool) (opener : ℕ) →
     seen ≡ true → (i : InSection a b xs kept level g seen opener) → (x : Item Reading) (after : List (Item Reading)) → i.after ≡ x ∷ after →
-    is_unhandled_item x ≡ false → ((u : Tree Reading) → Adds (text_in i.head i.nodes) x u → ⊥) → Stuck a b xs kept level stops.OutOfPlace
+    is_cut_item x ≡ false → ((u : Tree Reading) → Adds (text_in i.head i.nodes) x u → ⊥) → Stuck a b xs kept level stops.OutOfPlace
 section_misplaced a b xs kept level g seen opener q i x after e h never = record {
   tree = text_in i.head i.nodes;
   after = i.after;
@@ -211,7 +211,7 @@ section_misplaced a b xs kept level g seen opener q i x after e h never = record
 
 pub misplaced_elif : (a b : Walk) (xs : List (Item Reading)) (kept : Bool) (level : ℕ) (g : kept_groups.Groups) (seen : Bool) (opener : ℕ) →
     seen ≡ true → (i : InSection a b xs kept level g seen opener) → (x : Item Reading) (after : List (Item Reading)) (c : Cond) → i.after ≡ x ∷ after →
-    is_unhandled_item x ≡ false → shape_by x ≡ Elif c → Stuck a b xs kept level stops.OutOfPlace
+    is_cut_item x ≡ false → shape_by x ≡ Elif c → Stuck a b xs kept level stops.OutOfPlace
 misplaced_elif a b xs kept level g seen opener q i x after c e h s =
     let o : (o : Opener Reading) × (x ≡ elif_line o) × (o.cond ≡ c) = elif_shape x c s in
     section_misplaced a b xs kept level g seen opener q i x after e h
@@ -219,7 +219,7 @@ misplaced_elif a b xs kept level g seen opener q i x after c e h s =
 
 pub misplaced_else : (a b : Walk) (xs : List (Item Reading)) (kept : Bool) (level : ℕ) (g : kept_groups.Groups) (seen : Bool) (opener : ℕ) →
     seen ≡ true → (i : InSection a b xs kept level g seen opener) → (x : Item Reading) (after : List (Item Reading)) → i.after ≡ x ∷ after →
-    is_unhandled_item x ≡ false → shape_by x ≡ Else → Stuck a b xs kept level stops.OutOfPlace
+    is_cut_item x ≡ false → shape_by x ≡ Else → Stuck a b xs kept level stops.OutOfPlace
 misplaced_else a b xs kept level g seen opener q i x after e h s =
     let r : (r : Reading) × (x ≡ else_line r) = else_shape x s in
     section_misplaced a b xs kept level g seen opener q i x after e h
@@ -232,7 +232,7 @@ under_open h ms k t x u w (adds_under {u = v} f) = w v (lines-add f)
 -- why a walk stops, within a section
 pub stops_under : (h : Head Reading) (stop : Stop) (t : Tree Reading) (ys : List (Item Reading)) (level : ℕ) →
     StopsFor stop t ys (level + 1) → StopsFor stop (open_section nothing h t) ys level
-stops_under h stops.Unhandled t ys level w = w
+stops_under h stops.Cut t ys level w = w
 stops_under h stops.OutOfPlace (closed ms) ys level w = cc
 stops_under h stops.OutOfPlace (open_section ms k t) ys level w =
     (w.0, w.1, w.2, w.3, refl, λ u e. under_open h ms k t w.0 u w.5 (grows (open_section nothing h (open_section ms k t)) u w.0 e))

@@ -1,54 +1,46 @@
 -- What the shapes of lines tell of the items.
-use Rattle.std.proofs.Common.{◌≡◌, ℕ, suc, List, [], ◌∷◌, ◌++◌, length, Bool, true, false, if◌then◌else◌, refl, sym, ◌∙◌, ap, subst, length-append, add-one, take, drop, ◌-◌, arith, slice_get, Some, None}
+use Rattle.std.proofs.Common.{◌≡◌, ℕ, suc, List, [], ◌∷◌, ◌++◌, length, Bool, true, false, if◌then◌else◌, refl, sym, ◌∙◌, ap, subst, length-append, add-one, take, drop, ◌-◌, arith, Some, None}
 use Rattle.std.proofs.lemmas.List.{take_all}
 use Rattle.ud_model.specs.Scans.{Reading}
 use Rattle.ud_model.specs.Tree.{Item, Opener, text_line, if_line, elif_line, else_line, endif_line}
 use Rattle.ud_model.specs.Items.{line_of}
 use Rattle.ud_model.specs.declared.cond.Cond.{Cond}
-use Rattle.unifdef.specs.Shapes.{shape_by, shape_of, is_unhandled_item, AreShapes, AllHandled, starts_handled}
+use Rattle.unifdef.specs.Shapes.{shape_by, shape_of, is_cut_item, AreSeen, AllWhole, starts_whole, is_whole, first_shape, seen_of}
+use Rattle.unifdef.specs.declared.seen.Seen.{Seen}
 use Rattle.unifdef.specs.declared.shape.Shape.{Shape}
-use Rattle.unifdef.specs.declared.shape.Shape.TheVariants.{Text, If, Elif, Else, Endif, Unhandled}
+use Rattle.unifdef.specs.declared.shape.Shape.TheVariants.{Text, If, Elif, Else, Endif, Cut}
 use Rattle.unifdef.specs.declared.walk.Walk.{Walk}
 use Rattle.unifdef.specs.Walking.{Left}
 
--- a shape that is handled
-abbrev pub is_handled : Shape → Bool
-is_handled Text = true
-is_handled (If c) = true
-is_handled (Elif c) = true
-is_handled Else = true
-is_handled Endif = true
-is_handled Unhandled = false
+whole_by : (b : Bool) (t s : Shape) → (if b then Cut else t) ≡ s → is_whole s ≡ true → b ≡ false
+whole_by true t s e h = let clash : false ≡ true = ap is_whole e ∙ h in cc
+whole_by false t s e h = refl
 
-handled_by : (b : Bool) (t s : Shape) → (if b then Unhandled else t) ≡ s → is_handled s ≡ true → b ≡ false
-handled_by true t s e h = let clash : false ≡ true = ap is_handled e ∙ h in cc
-handled_by false t s e h = refl
+pub shape_whole : (b : Bool) (t s : Shape) → (if b then Cut else t) ≡ s → b ≡ false → t ≡ s
+shape_whole true t s e h = cc
+shape_whole false t s e h = e
 
-shape_handled : (b : Bool) (t s : Shape) → (if b then Unhandled else t) ≡ s → b ≡ false → t ≡ s
-shape_handled true t s e h = cc
-shape_handled false t s e h = e
+-- an item of a shape that is whole is whole, and the shape is its own
+pub item_whole : (x : Item Reading) (s : Shape) → shape_of x ≡ s → is_whole s ≡ true → is_cut_item x ≡ false
+item_whole x s e h = whole_by (is_cut_item x) (shape_by x) s e h
 
--- an item of a shape that is handled is handled, and the shape is its own
-pub item_handled : (x : Item Reading) (s : Shape) → shape_of x ≡ s → is_handled s ≡ true → is_unhandled_item x ≡ false
-item_handled x s e h = handled_by (is_unhandled_item x) (shape_by x) s e h
+pub shape_own : (x : Item Reading) (s : Shape) → shape_of x ≡ s → is_whole s ≡ true → shape_by x ≡ s
+shape_own x s e h = shape_whole (is_cut_item x) (shape_by x) s e (item_whole x s e h)
 
-pub shape_own : (x : Item Reading) (s : Shape) → shape_of x ≡ s → is_handled s ≡ true → shape_by x ≡ s
-shape_own x s e h = shape_handled (is_unhandled_item x) (shape_by x) s e (item_handled x s e h)
+cut_by : (b : Bool) (t : Shape) → is_whole t ≡ true → (if b then Cut else t) ≡ Cut → b ≡ true
+cut_by true t h e = refl
+cut_by false t h e = let clash : false ≡ true = sym (ap is_whole e) ∙ h in cc
 
-unhandled_by : (b : Bool) (t : Shape) → is_handled t ≡ true → (if b then Unhandled else t) ≡ Unhandled → b ≡ true
-unhandled_by true t h e = refl
-unhandled_by false t h e = let clash : false ≡ true = sym (ap is_handled e) ∙ h in cc
+own_whole : (x : Item Reading) → is_whole (shape_by x) ≡ true
+own_whole (text_line r) = refl
+own_whole (if_line o) = refl
+own_whole (elif_line o) = refl
+own_whole (else_line r) = refl
+own_whole (endif_line r) = refl
 
-own_handled : (x : Item Reading) → is_handled (shape_by x) ≡ true
-own_handled (text_line r) = refl
-own_handled (if_line o) = refl
-own_handled (elif_line o) = refl
-own_handled (else_line r) = refl
-own_handled (endif_line r) = refl
-
--- an item without a shape of its own isn't handled
-pub item_unhandled : (x : Item Reading) → shape_of x ≡ Unhandled → is_unhandled_item x ≡ true
-item_unhandled x e = unhandled_by (is_unhandled_item x) (shape_by x) (own_handled x) e
+-- an item without a shape of its own isn't whole
+pub item_cut : (x : Item Reading) → shape_of x ≡ Cut → is_cut_item x ≡ true
+item_cut x e = cut_by (is_cut_item x) (shape_by x) (own_whole x) e
 
 -- the item of each shape
 pub text_shape : (x : Item Reading) → shape_by x ≡ Text → (r : Reading) × (x ≡ text_line r)
@@ -87,98 +79,88 @@ endif_shape (else_line r) e = cc
 endif_shape (endif_line r) e = (r, refl)
 
 -- the item that comes first
-pub record FirstItem (n : ℕ) (s : Shape) (ss : List Shape) (xs : List (Item Reading)) : Type 0 where
+pub record FirstItem (n : ℕ) (s : Seen) (ss : List Seen) (xs : List (Item Reading)) : Type 0 where
   pub item : Item Reading
   pub after : List (Item Reading)
   pub split : xs ≡ item ∷ after
-  pub shape : shape_of item ≡ s
+  pub seen : seen_of item ≡ s
   pub number : (line_of item).number ≡ suc n
-  pub left : AreShapes (suc n) ss after
+  pub left : AreSeen (suc n) ss after
 
-pub first_item : (n : ℕ) (s : Shape) (ss : List Shape) (xs : List (Item Reading)) → AreShapes n (s ∷ ss) xs → FirstItem n s ss xs
+pub first_item : (n : ℕ) (s : Seen) (ss : List Seen) (xs : List (Item Reading)) → AreSeen n (s ∷ ss) xs → FirstItem n s ss xs
 first_item n s ss [] h = absurd h
-first_item n s ss (x ∷ xs) h = record { item = x; after = xs; split = refl; shape = h.0; number = h.1; left = h.2 }
+first_item n s ss (x ∷ xs) h = record { item = x; after = xs; split = refl; seen = h.0; number = h.1; left = h.2 }
 
 -- where no line is left there is no item
-pub no_items : (n : ℕ) (xs : List (Item Reading)) → AreShapes n [] xs → xs ≡ []
+pub no_items : (n : ℕ) (xs : List (Item Reading)) → AreSeen n [] xs → xs ≡ []
 no_items n [] h = refl
 no_items n (x ∷ xs) h = absurd h
 
-pub front_handled : (ss : List Shape) (s : Shape) (later : List Shape) → ss ≡ s ∷ later → starts_handled ss ≡ true → is_handled s ≡ true
-front_handled ss s later e h = by_shape s (sym (ap starts_handled e) ∙ h)
-  where
-    by_shape : (s : Shape) → starts_handled (s ∷ later) ≡ true → is_handled s ≡ true
-    by_shape Text k = refl
-    by_shape (If c) k = refl
-    by_shape (Elif c) k = refl
-    by_shape Else k = refl
-    by_shape Endif k = refl
-    by_shape Unhandled k = k
-
-pub all_handled-append : (xs ys : List (Item Reading)) → AllHandled xs → AllHandled ys → AllHandled (xs ++ ys)
-all_handled-append [] ys h k = k
-all_handled-append (x ∷ xs) ys h k = (h.0, all_handled-append xs ys h.1 k)
+pub all_whole-append : (xs ys : List (Item Reading)) → AllWhole xs → AllWhole ys → AllWhole (xs ++ ys)
+all_whole-append [] ys h k = k
+all_whole-append (x ∷ xs) ys h k = (h.0, all_whole-append xs ys h.1 k)
 
 pub length_last : {X : Type 0} (xs : List X) (x : X) → length (xs ++ x ∷ []) ≡ suc (length xs)
 length_last xs x = simp (length-append, add-one)
 
--- one line was read: what is left behind it, the line's own item being handled
-pub record OneLine (before count : ℕ) (rest : List Shape) (xs : List (Item Reading)) (s : Shape) : Type 0 where
+-- one line was read: what is left behind it, no keyword being cut in the line
+pub record OneLine (before count : ℕ) (rest : List Seen) (xs : List (Item Reading)) (s : Seen) : Type 0 where
   pub item : Item Reading
   pub after : List (Item Reading)
   pub split : xs ≡ item ∷ after
-  pub left : AreShapes count rest after
-  pub handled : is_unhandled_item item ≡ false
-  pub shape : shape_by item ≡ s
+  pub left : AreSeen count rest after
+  pub whole : is_cut_item item ≡ false
+  pub shape : shape_by item ≡ s.shape
   pub number : (line_of item).number ≡ suc before
 
-pub one_line : {V : Type 0} (old rest : List Shape) (s : Shape) (vs ws : List V) (v : V) (xs : List (Item Reading)) →
-    old ≡ s ∷ rest → starts_handled old ≡ true → ws ≡ vs ++ v ∷ [] → AreShapes (length vs) old xs → OneLine (length vs) (length ws) rest xs s
+pub one_line : {V : Type 0} (old rest : List Seen) (s : Seen) (vs ws : List V) (v : V) (xs : List (Item Reading)) →
+    old ≡ s ∷ rest → starts_whole old ≡ true → ws ≡ vs ++ v ∷ [] → AreSeen (length vs) old xs → OneLine (length vs) (length ws) rest xs s
 one_line old rest s vs ws v xs e h w left =
-    let f : FirstItem (length vs) s rest xs = first_item (length vs) s rest xs (subst (λ (ss : List Shape). AreShapes (length vs) ss xs) e left) in
-    let handled : is_handled s ≡ true = front_handled old s rest e h in
+    let f : FirstItem (length vs) s rest xs = first_item (length vs) s rest xs (subst (λ (ss : List Seen). AreSeen (length vs) ss xs) e left) in
+    let whole : is_whole s.shape ≡ true = sym (ap starts_whole e) ∙ h in
+    let shape : shape_of f.item ≡ s.shape = ap (λ (t : Seen). t.shape) f.seen in
     let count : length ws ≡ suc (length vs) = ap length w ∙ length_last vs v in
     record {
       item = f.item;
       after = f.after;
       split = f.split;
-      left = subst (λ n. AreShapes n rest f.after) (sym count) f.left;
-      handled = item_handled f.item s f.shape handled;
-      shape = shape_own f.item s f.shape handled;
+      left = subst (λ n. AreSeen n rest f.after) (sym count) f.left;
+      whole = item_whole f.item s.shape shape whole;
+      shape = shape_own f.item s.shape shape whole;
       number = f.number;
     }
 
 -- the lines behind the first one
-abbrev pub behind_first : List Shape → List Shape
+abbrev pub behind_first : List Seen → List Seen
 behind_first ss = take (length ss - 1) (drop 1 ss)
 
--- where the first line is handled, there is one
-pub front_of_handled : (old : List Shape) → starts_handled old ≡ true → (s : Shape) × (old ≡ s ∷ behind_first old)
-front_of_handled [] h = cc
-front_of_handled (s ∷ rest) h =
-    (s, ap (λ (ss : List Shape). s ∷ ss) (sym (take_all (length (s ∷ rest) - 1) rest (omega arith))))
+-- where no keyword is cut in the first line, there is one
+pub front_of_whole : (old : List Seen) → starts_whole old ≡ true → (s : Seen) × (old ≡ s ∷ behind_first old)
+front_of_whole [] h = cc
+front_of_whole (s ∷ rest) h =
+    (s, ap (λ (ss : List Seen). s ∷ ss) (sym (take_all (length (s ∷ rest) - 1) rest (omega arith))))
 
 -- the first shape, where it is looked up
-pub front_shape : (s t : Shape) (rest old : List Shape) (u : Shape) → old ≡ s ∷ rest → u ≡ s → slice_get old 0 ≡ Some t → u ≡ t
-front_shape s t rest old u e h g = let first : Some s ≡ Some t = subst (λ (ss : List Shape). slice_get ss 0 ≡ Some t) e g in cc
+pub front_shape : (s : Seen) (t : Shape) (rest old : List Seen) (u : Shape) → old ≡ s ∷ rest → u ≡ s.shape → first_shape old ≡ Some t → u ≡ t
+front_shape s t rest old u e h g = let first : Some s.shape ≡ Some t = subst (λ (ss : List Seen). first_shape ss ≡ Some t) e g in cc
 
 -- the item of the line that comes first
-pub first_at : (n : ℕ) (ss : List Shape) (xs : List (Item Reading)) (s : Shape) → slice_get ss 0 ≡ Some s → AreShapes n ss xs →
+pub first_at : (n : ℕ) (ss : List Seen) (xs : List (Item Reading)) (s : Shape) → first_shape ss ≡ Some s → AreSeen n ss xs →
     (x : Item Reading) × (after : List (Item Reading)) × (xs ≡ x ∷ after) × (shape_of x ≡ s)
 first_at n [] xs s e h = cc
 first_at n (t ∷ ss) xs s e h =
     let f : FirstItem n t ss xs = first_item n t ss xs h in
-    let same : t ≡ s = some_same t s e in
-    (f.item, f.after, f.split, f.shape ∙ same)
+    let same : t.shape ≡ s = some_same t.shape s e in
+    (f.item, f.after, f.split, ap (λ (t : Seen). t.shape) f.seen ∙ same)
   where
     some_same : (t s : Shape) → Some t ≡ Some s → t ≡ s
     some_same t s e = cc
 
 -- no line comes where none is left
-pub none_at : (n : ℕ) (ss : List Shape) (xs : List (Item Reading)) → slice_get ss 0 ≡ None → AreShapes n ss xs → xs ≡ []
+pub none_at : (n : ℕ) (ss : List Seen) (xs : List (Item Reading)) → first_shape ss ≡ None → AreSeen n ss xs → xs ≡ []
 none_at n [] xs e h = no_items n xs h
 none_at n (t ∷ ss) xs e h = cc
 
 -- a walk that has read nothing is at the first line
-pub left_at_start : (w : Walk) (xs : List (Item Reading)) → w.verdicts.items ≡ [] → AreShapes 0 w.rest.now xs → Left w xs
-left_at_start w xs e h = subst (λ n. AreShapes n w.rest.now xs) (sym (ap length e)) h
+pub left_at_start : (w : Walk) (xs : List (Item Reading)) → w.marks.items ≡ [] → AreSeen 0 w.rest.now xs → Left w xs
+left_at_start w xs e h = subst (λ n. AreSeen n w.rest.now xs) (sym (ap length e)) h

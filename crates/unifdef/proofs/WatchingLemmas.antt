@@ -129,3 +129,13 @@ pub parts_empty : {X : Type 0} (f : X → List ℕ) (xs : List X) (i : ℕ) (d :
 parts_empty f xs i d a b h s e =
     front_nil (f (get_or xs i d)) (flat_map f (drop (i + 1) xs))
     (sym (flat_map-drop f xs i d h) ∙ sent_empty a b (flat_map f xs) (flat_map f (drop i xs)) s e)
+
+-- a front of the first bytes is a front of all
+pub front_first : (a b : Option (List ℕ)) (x y : List ℕ) → AppendsFront a b x → AppendsFront a b (x ++ y)
+front_first a b x y h = sent_front a a b (x ++ y) x y (sent_none a (x ++ y)) h
+
+-- behind the first bytes a front of the others was appended
+pub front_second : (a b c : Option (List ℕ)) (x y : List ℕ) → Appends a b x → AppendsFront b c y → AppendsFront a c (x ++ y)
+front_second a b c x y h k =
+    sent_front a b c (x ++ y) y []
+    (subst (λ r. Sent a b (x ++ y) r) (sym (append-nil y)) (sent_part a a b (x ++ y) x y (sent_none a (x ++ y)) h)) k

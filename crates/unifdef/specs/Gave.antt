@@ -2,27 +2,25 @@
 --
 --   Gave out out' failed err err' status a     these contents of `out` and `err`, before and behind, and this status are the answer a
 --   GivesAnswer words input ..                 they are the answer that the definitions give to the words and the input
+--   GivesRun o name input ..                   they are the answer of a run of the definitions
 --   HeldInput o input held end                 what is held is the input, as far as it goes before a limit is broken
---   Told outcome r                             the code's outcome is that of a run of the definitions
-use Rattle.std.specs.Prelude.{◌≡◌, ◌≢◌, ℕ, List, [], ◌++◌, Bool, true, Option, Some, None}
+use Rattle.std.specs.Prelude.{◌≡◌, ℕ, List, [], ◌++◌, Bool, true, Option, Some, None}
 use Rattle.std.specs.List.{AllByRecursion}
 use Rattle.std.specs.Io.KnownBytes.{Appends}
 use Rattle.ud_model.specs.Lines.{Line, lines_of, numbered_from}
 use Rattle.ud_model.specs.Items.{Options}
 use Rattle.ud_model.specs.Faults as model
 use Rattle.ud_model.specs.Runs as runs
-use Rattle.ud_model.specs.Answer.{Answer, IsAnswer, run_answer}
-use Rattle.ud_model.specs.declared.settings.ExitMode.TheVariants.{Zero}
+use Rattle.ud_model.specs.Answer.{Answer, IsAnswer, run_answer, status_of, message_or_none}
+use Rattle.ud_model.specs.Pruning.{Mark}
 use Rattle.unifdef.specs.Watching.{Says}
-use Rattle.unifdef.specs.Outcomes.{Rest, IsWithin}
+use Rattle.unifdef.specs.Limits.{Rest, IsWithin}
+use Rattle.unifdef.specs.Inside.{items_in}
+use Rattle.unifdef.specs.Outcomes.{output_told, differs_told}
 use Rattle.unifdef.specs.Held.{Holds}
 use Rattle.unifdef.specs.Intake.{text_fault_told}
-use Rattle.ud_model.specs.Scans.{Reading}
-use Rattle.ud_model.specs.Tree.{Item}
-use Rattle.unifdef.specs.Walking.{WalksThrough, HaltsWell}
-use Rattle.unifdef.specs.declared.walk.Walk.{Walk}
-use Rattle.unifdef.specs.declared.walk.Stop.{Stop}
-use Rattle.unifdef.specs.declared.walk.Stop.TheVariants.{OutOfMemory}
+use Rattle.unifdef.specs.Ending.{message_told, status_told}
+use Rattle.unifdef.specs.declared.outcome.Outcome.{Outcome}
 use Rattle.unifdef.specs.declared.held.Held.{Held}
 use Rattle.unifdef.specs.declared.intake.End.{End}
 use Rattle.unifdef.specs.declared.intake.End.TheVariants.{Ended, Failed, Broken}
@@ -45,7 +43,6 @@ EndsAs (Broken f) limit = limit ≡ Some (text_fault_told f)
 
 -- the text that is held is the input, or its lines up to the first one that breaks a limit
 pub record HeldInput (o : Options) (input : List ℕ) (held : Held) (end : End) : Type 0 where
-  pub plain : o.settings.plain ≡ true
   pub texts : List (List ℕ)
   pub more : List Line
   pub limit : Option model.Fault
@@ -56,12 +53,15 @@ pub record HeldInput (o : Options) (input : List ℕ) (held : Held) (end : End) 
   pub within : AllByRecursion IsWithin (numbered_from 1 texts)
   pub holds : Holds o held (numbered_from 1 texts)
 
--- what was written, said and given back is a run of the definitions
-abbrev pub GivesRun : Options → List ℕ → Option (List ℕ) → Option (List ℕ) → Bool → Option (List ℕ) → Option (List ℕ) → ℕ → Type 0
-GivesRun o input out_old out_new err_failed err_old err_new status =
-    (r : runs.Outcome) × runs.Runs o input r × Gave out_old out_new err_failed err_old err_new status (run_answer Zero r)
+-- what was written, said and given back is the answer of a run of the definitions
+abbrev pub GivesRun : Options → List ℕ → List ℕ → Option (List ℕ) → Option (List ℕ) → Bool → Option (List ℕ) → Option (List ℕ) → ℕ → Type 0
+GivesRun o name input out_old out_new err_failed err_old err_new status =
+    (r : runs.Outcome) × runs.Runs o input r × Gave out_old out_new err_failed err_old err_new status (run_answer o.settings name r)
 
--- how the walk over these lines ended: it went through them all, or it stopped
-abbrev pub WalkEnds : Walk → List (Item Reading) → Option Stop → Type 0
-WalkEnds w xs None = WalksThrough w xs
-WalkEnds w xs (Some stop) = (stop ≢ OutOfMemory) × HaltsWell w xs stop
+-- of a text of which these lines are held, what is printed of them with these marks, and this outcome, are a run of the definitions
+pub record Comes (o : Options) (name input : List ℕ) (ls : List Line) (ms : List Mark) (outcome : Outcome) : Type 0 where
+  pub run : runs.Outcome
+  pub runs : runs.Runs o input run
+  pub output : run.output ≡ output_told o.settings.listing o.settings (items_in o ls) ms
+  pub message : message_told name outcome true ≡ message_or_none name run.fault
+  pub status : status_told o.settings outcome (differs_told o.settings.listing o.settings (items_in o ls) ms) true ≡ status_of o.settings run.differs run.fault

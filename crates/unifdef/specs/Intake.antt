@@ -14,7 +14,7 @@ use Rattle.ud_model.specs.declared.limits.TheConstants.{LINE_BYTES, TEXT_LINES}
 use Rattle.ud_text.specs.Holding.{Holding, Took}
 use Rattle.ud_text.specs.declared.fault.TextFault.{TextFault}
 use Rattle.unifdef.specs.Told.{fault_told, limit_fault}
-use Rattle.unifdef.specs.Outcomes.{IsWithin, Breaks}
+use Rattle.unifdef.specs.Limits.{IsWithin, Breaks}
 use Rattle.unifdef.specs.Held.{Holds}
 use Rattle.unifdef.specs.declared.held.Held.{Held}
 use Rattle.unifdef.specs.declared.intake.End.{End}

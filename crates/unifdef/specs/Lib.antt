@@ -1,15 +1,17 @@
--- What the contracts of this crate speak of, beside the definitions of ud_model.
 pub mod Watching
-pub mod Told
-pub mod Reading
-pub mod Found
 pub mod Parts
 pub mod Groups
 pub mod Shapes
 pub mod Walking
-pub mod Outcomes
+pub mod Spoiled
+pub mod Inside
+pub mod Counting
+pub mod Limits
+pub mod Told
+pub mod Asked
 pub mod Held
 pub mod Intake
+pub mod Outcomes
 pub mod Ending
 pub mod Gave
 pub mod Letters
@@ -17,3 +19,5 @@ pub mod Given
 pub mod Saying
 pub mod Planning
 pub mod Refusals
+pub mod Seeing
+pub mod Showing

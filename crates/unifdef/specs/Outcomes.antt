@@ -1,72 +1,53 @@
--- What comes of the lines that the code holds, by the verdicts of their walk.
+-- Outcomes: what comes of the lines that the code holds, by the marks of their walk.
 --
---   plain_item o l        what a line is, read as plain text
---   pieces ls vs          what is printed of these lines with these verdicts
---   stop_fault stop ..    the fault of the line at which a walk stops, or the one behind all lines
---   Rest ls more f        behind the lines ls the input has ended, or its next line breaks a limit, which is the fault f
-use Rattle.std.specs.Prelude.{ℕ, suc, ◌<◌, ◌≤◌, List, [], ◌∷◌, ◌++◌, length, Bool, true, false, Option, Some, None}
-use Rattle.ud_model.specs.Lines.{Line, text_of}
-use Rattle.ud_model.specs.Scans.{Reading, plain_scan}
-use Rattle.ud_model.specs.Directives.{content_of}
+--   output_told, differs_told    what is printed of these items with these marks, and whether some line differs
+--   stop_fault stop ..           the fault of the line at which a walk stops, or the one behind all lines
+use Rattle.std.specs.Prelude.{ℕ, suc, List, length, take, Bool, true, false, Option, Some, None, if◌then◌else◌}
+use Rattle.ud_model.specs.Scans.{Reading}
 use Rattle.ud_model.specs.Tree.{Item}
-use Rattle.ud_model.specs.Items.{Options, item_of}
-use Rattle.ud_model.specs.Printing.{piece_by, keyword_in}
+use Rattle.ud_model.specs.Pruning.{Mark}
+use Rattle.ud_model.specs.Printing.{printed_by, some_differ_by}
+use Rattle.ud_model.specs.Listing.{listed}
 use Rattle.ud_model.specs.Faults as model
-use Rattle.ud_model.specs.declared.kind.Mode.TheVariants.{Plain}
-use Rattle.ud_model.specs.declared.verdict.Verdict.{Verdict}
-use Rattle.ud_model.specs.declared.verdict.Verdict.TheVariants.{Keep, Remove, ToIf, ToElse, ToEndif}
-use Rattle.ud_model.specs.declared.limits.TheConstants.{LINE_BYTES, TEXT_LINES}
+use Rattle.ud_model.specs.declared.settings.Settings.{Settings}
+use Rattle.ud_model.specs.declared.settings.Listing.{Listing}
+use Rattle.ud_model.specs.declared.settings.Listing.TheVariants.{Off, Names, Depths}
 use Rattle.unifdef.specs.declared.shape.Shape.{Shape}
+use Rattle.unifdef.specs.Counting.{counted}
 use Rattle.unifdef.specs.Told.{fault_told, misplaced_by}
 use Rattle.unifdef.specs.declared.walk.Stop.{Stop}
 use Rattle.unifdef.specs.declared.walk.Stop.TheVariants as stops
 
-abbrev pub plain_item : Options → Line → Item Reading
-plain_item o l = item_of o (record { line = l; mode = Plain; scan = plain_scan l })
+abbrev pub output_told : Listing → Settings → List (Item Reading) → List Mark → List ℕ
+output_told Off s xs ms = printed_by s xs ms
+output_told Names s xs ms = listed false xs (take (length ms) (counted 0 xs))
+output_told Depths s xs ms = listed true xs (take (length ms) (counted 0 xs))
 
--- a line's piece under a verdict
-abbrev pub piece_under : Verdict → Line → List ℕ
-piece_under v l = piece_by v (keyword_in (content_of (plain_scan l))) l
-
--- the pieces of lines, as far as there are verdicts, joined in order
-abbrev pub pieces : List Line → List Verdict → List ℕ
-pieces [] vs = []
-pieces (l ∷ ls) [] = []
-pieces (l ∷ ls) (v ∷ vs) = piece_under v l ++ pieces ls vs
-
--- the line isn't printed as it is
-abbrev pub is_changed : Verdict → Bool
-is_changed Keep = false
-is_changed Remove = true
-is_changed ToIf = true
-is_changed ToElse = true
-is_changed ToEndif = true
-
--- a line within the limits
-pub record IsWithin (l : Line) : Type 0 where
-  pub number_fits : l.number ≤ TEXT_LINES
-  pub bytes_fit : length (text_of l) ≤ LINE_BYTES
-
--- a line that breaks a limit, by its number or its bytes; the first of these counts
-pub data Breaks (l : Line) : model.Fault → Type 0 where
-  past_last : TEXT_LINES < l.number → Breaks l (model.too_many_lines l.number)
-  too_long : l.number ≤ TEXT_LINES → LINE_BYTES < length (text_of l) → Breaks l (model.line_too_long l.number)
-
--- behind these lines the text has ended, or a line follows that breaks a limit
-pub data Rest (ls : List Line) : List Line → Option model.Fault → Type 0 where
-  ended : Rest ls [] None
-  broken : (l : Line) (later : List Line) (f : model.Fault) → Breaks l f → Rest ls (l ∷ later) (Some f)
+abbrev pub differs_told : Listing → Settings → List (Item Reading) → List Mark → Bool
+differs_told Off s xs ms = some_differ_by s xs ms
+differs_told Names s xs ms = false
+differs_told Depths s xs ms = false
 
 -- the fault of a directive out of its place, on the line with this number
-abbrev pub misplaced_fault : List Shape → ℕ → model.Fault
-misplaced_fault ss n = fault_told (misplaced_by ss n)
+abbrev pub misplaced_fault : Option Shape → ℕ → model.Fault
+misplaced_fault s n = fault_told (misplaced_by s n)
 
--- Why a walk stopped that has read so many lines, these being left, where behind them all the text ends or a limit is
--- broken: the fault of the next line, or the one that follows all lines. Of want of memory this is never asked.
-abbrev pub stop_fault : Stop → ℕ → List Shape → Option model.Fault → model.Fault
-stop_fault stops.Unhandled n ss limit = model.unsupported (suc n)
-stop_fault stops.OutOfPlace n ss limit = misplaced_fault ss (suc n)
-stop_fault stops.TooDeep n ss limit = model.too_many_levels (suc n)
-stop_fault (stops.Unclosed opener) n ss (Some f) = f
-stop_fault (stops.Unclosed opener) n ss None = model.premature_eof n (suc opener)
-stop_fault stops.OutOfMemory n ss limit = model.unsupported (suc n)
+-- the fault behind all lines of a text in which a section is open
+abbrev pub unclosed_fault : Bool → ℕ → ℕ → model.Fault
+unclosed_fault comment n opener = if comment then model.eof_in_comment n else model.premature_eof n (suc opener)
+
+-- Why a walk stopped that has read so many lines, where this shape comes next; or, where it read them all, the fault of
+-- the end, by whether a comment is open there. Behind all lines a limit that the next one breaks comes first. Of want of
+-- memory this is never asked.
+abbrev pub stop_fault : Stop → ℕ → Option Shape → Bool → Option model.Fault → model.Fault
+stop_fault stops.Cut n s comment limit = model.obfuscated (suc n)
+stop_fault stops.OutOfPlace n s comment limit = misplaced_fault s (suc n)
+stop_fault stops.TooDeep n s comment limit = model.too_many_levels (suc n)
+stop_fault (stops.Unclosed opener) n s comment (Some f) = f
+stop_fault (stops.Unclosed opener) n s comment None = unclosed_fault comment n opener
+stop_fault stops.OutOfMemory n s comment limit = model.obfuscated (suc n)
+
+-- the fault behind all lines of a text in which no section is open
+abbrev pub end_told : Bool → ℕ → Option model.Fault → Option model.Fault
+end_told comment n (Some f) = Some f
+end_told comment n None = if comment then Some (model.eof_in_comment n) else None

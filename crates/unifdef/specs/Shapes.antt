@@ -1,12 +1,25 @@
--- What the code keeps of a line among the sections.
-use Rattle.std.specs.Prelude.{◌≡◌, ℕ, suc, List, [], ◌∷◌, Bool, true, false, if◌then◌else◌}
-use Rattle.ud_model.specs.Scans.{Reading}
+-- Shapes: what the code keeps of a line beside its bytes.
+--
+--   shape_by x            what the item is among the sections
+--   seen_of x             what is kept of the item's line
+--   AreSeen n ss xs       of these items, behind n others, this is kept
+--   mark_of m             a mark as the definitions have it
+use Rattle.std.specs.Prelude.{◌≡◌, ℕ, suc, List, [], ◌∷◌, Bool, true, false, Option, Some, None, if◌then◌else◌}
+use Rattle.ud_model.specs.Scans.{Reading, is_spanning}
 use Rattle.ud_model.specs.Directives.{content_of}
+use Rattle.ud_model.specs.Directives.{Span as ModelSpan}
 use Rattle.ud_model.specs.Tree.{Item, text_line, if_line, elif_line, else_line, endif_line}
 use Rattle.ud_model.specs.Items.{reading_of, line_of}
-use Rattle.ud_model.specs.Faults.{is_unhandled}
+use Rattle.ud_model.specs.Faults.{is_cut}
+use Rattle.ud_model.specs.Printing.{keyword_in}
+use Rattle.ud_model.specs.Pruning as table
+use Rattle.ud_model.specs.declared.kind.Mode.{Mode}
+use Rattle.ud_model.specs.declared.kind.Mode.TheVariants.{C, Plain}
+use Rattle.ud_sections.specs.declared.step.Span.{Span}
 use Rattle.unifdef.specs.declared.shape.Shape.{Shape}
-use Rattle.unifdef.specs.declared.shape.Shape.TheVariants.{Text, If, Elif, Else, Endif, Unhandled}
+use Rattle.unifdef.specs.declared.shape.Shape.TheVariants.{Text, If, Elif, Else, Endif, Cut}
+use Rattle.unifdef.specs.declared.seen.Seen.{Seen}
+use Rattle.unifdef.specs.declared.mark.Mark.{Mark}
 
 abbrev pub shape_by : Item Reading → Shape
 shape_by (text_line r) = Text
@@ -15,24 +28,49 @@ shape_by (elif_line o) = Elif o.cond
 shape_by (else_line r) = Else
 shape_by (endif_line r) = Endif
 
--- the item's directive isn't handled yet
-abbrev pub is_unhandled_item : Item Reading → Bool
-is_unhandled_item x = is_unhandled (content_of (reading_of x).scan)
+-- it can't be known whether the item's line is a directive
+abbrev pub is_cut_item : Item Reading → Bool
+is_cut_item x = is_cut (content_of (reading_of x).scan)
 
 abbrev pub shape_of : Item Reading → Shape
-shape_of x = if is_unhandled_item x then Unhandled else shape_by x
+shape_of x = if is_cut_item x then Cut else shape_by x
 
--- these lines, behind n others, are these items
-abbrev pub AreShapes : ℕ → List Shape → List (Item Reading) → Type 0
-AreShapes n [] [] = Unit {0}
-AreShapes n [] (x ∷ xs) = ⊥
-AreShapes n (s ∷ ss) [] = ⊥
-AreShapes n (s ∷ ss) (x ∷ xs) = (shape_of x ≡ s) × ((line_of x).number ≡ suc n) × AreShapes (suc n) ss xs
+abbrev pub is_plain : Mode → Bool
+is_plain C = false
+is_plain Plain = true
 
--- each of these is handled
-abbrev pub AllHandled : List (Item Reading) → Type 0
-AllHandled [] = Unit {0}
-AllHandled (x ∷ xs) = (is_unhandled_item x ≡ false) × AllHandled xs
+abbrev pub span_of : ModelSpan → Span
+span_of s = record { at = s.at; len = s.len }
+
+-- the item is the first directive of a section that is plain text
+abbrev pub is_ignoring_item : Item Reading → Bool
+is_ignoring_item (text_line r) = false
+is_ignoring_item (if_line o) = o.ignoring
+is_ignoring_item (elif_line o) = false
+is_ignoring_item (else_line r) = false
+is_ignoring_item (endif_line r) = false
+
+abbrev pub seen_of : Item Reading → Seen
+seen_of x = record {
+  shape = shape_of x;
+  ignoring = is_ignoring_item x;
+  keyword = span_of (keyword_in (content_of (reading_of x).scan));
+  spans = is_spanning (reading_of x).scan;
+  joins_before = (reading_of x).scan.joins_before;
+  plain = is_plain (reading_of x).mode;
+}
+
+-- of these items, behind n others, this is kept
+abbrev pub AreSeen : ℕ → List Seen → List (Item Reading) → Type 0
+AreSeen n [] [] = Unit {0}
+AreSeen n [] (x ∷ xs) = ⊥
+AreSeen n (s ∷ ss) [] = ⊥
+AreSeen n (s ∷ ss) (x ∷ xs) = (seen_of x ≡ s) × ((line_of x).number ≡ suc n) × AreSeen (suc n) ss xs
+
+-- no keyword is cut in these
+abbrev pub AllWhole : List (Item Reading) → Type 0
+AllWhole [] = Unit {0}
+AllWhole (x ∷ xs) = (is_cut_item x ≡ false) × AllWhole xs
 
 -- the shape ends a group
 abbrev pub is_closer : Shape → Bool
@@ -41,19 +79,36 @@ is_closer (If c) = false
 is_closer (Elif c) = true
 is_closer Else = true
 is_closer Endif = true
-is_closer Unhandled = false
+is_closer Cut = false
 
--- a line that is handled comes next
-abbrev pub starts_handled : List Shape → Bool
-starts_handled [] = false
-starts_handled (Text ∷ ss) = true
-starts_handled (If c ∷ ss) = true
-starts_handled (Elif c ∷ ss) = true
-starts_handled (Else ∷ ss) = true
-starts_handled (Endif ∷ ss) = true
-starts_handled (Unhandled ∷ ss) = false
+-- no keyword is cut in the line
+abbrev pub is_whole : Shape → Bool
+is_whole Text = true
+is_whole (If c) = true
+is_whole (Elif c) = true
+is_whole Else = true
+is_whole Endif = true
+is_whole Cut = false
+
+-- a line comes next in which no keyword is cut
+abbrev pub starts_whole : List Seen → Bool
+starts_whole [] = false
+starts_whole (s ∷ ss) = is_whole s.shape
 
 -- the next line, if there is one, ends a group
-abbrev pub starts_with_closer : List Shape → Bool
+abbrev pub starts_with_closer : List Seen → Bool
 starts_with_closer [] = true
-starts_with_closer (s ∷ ss) = is_closer s
+starts_with_closer (s ∷ ss) = is_closer s.shape
+
+-- what the next line is, if there is one
+abbrev pub first_shape : List Seen → Option Shape
+first_shape [] = None
+first_shape (s ∷ ss) = Some s.shape
+
+-- a mark as the definitions have it
+abbrev pub mark_of : Mark → table.Mark
+mark_of m = record { verdict = m.verdict; kept = m.kept }
+
+-- and as the code has it
+abbrev pub code_mark : table.Mark → Mark
+code_mark m = record { verdict = m.verdict; kept = m.kept }

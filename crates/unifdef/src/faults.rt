@@ -9,8 +9,6 @@ pub(crate) enum Fault {
     LineTooLong { line: u32 },
     /// It can't be known whether the line is a directive, or a directive that spans lines would have to be changed.
     Obfuscated { line: u32 },
-    /// Interim: the line is a directive that isn't handled yet.
-    Unsupported { line: u32 },
     /// An `#elif` stands in no section, or behind its `#else`.
     InappropriateElif { line: u32 },
     /// An `#else` stands in no section, or behind another.
@@ -23,15 +21,4 @@ pub(crate) enum Fault {
     EofInComment { line: u32 },
     /// The text ends in an open section: its last line, and the line of the innermost open section's first directive.
     PrematureEof { line: u32, if_line: u32 },
-}
-
-/// What is wrong with the words of a command line. Words are counted from 1, the program's name not among them.
-#[derive(Clone, Copy, Debug, PartialEq, Eq)]
-pub(crate) enum UsageFault {
-    /// Interim: the word has none of the accepted forms.
-    Unsupported { word: usize },
-    /// The word names no symbol.
-    BadSymbol { word: usize },
-    /// Interim: no word is `-t`.
-    PlainNeeded,
 }

@@ -1,9 +1,10 @@
 //! The intake: a reader's bytes, cut into lines and held.
 
-ghost use Rattle.std.specs.Prelude.{◌≡◌, ℕ, ◌<◌, ◌≤◌, ◌++◌, List, length, take, false, IfOk, OnOk, MatchResult, map, string_bytes};
-ghost use Rattle.ud_model.specs.Arguments.{options_of};
+ghost use Rattle.std.specs.Prelude.{◌≡◌, ℕ, ◌<◌, ◌≤◌, ◌++◌, List, length, take, false, IfOk, OnOk, MatchResult};
+ghost use Rattle.unifdef.specs.Asked.{options_by};
 ghost use Rattle.unifdef.specs.Intake.{HeldOf, IsOpen, Fed, Stopped, IsRefused};
 
+use crate::asked::Asked;
 use crate::held::Held;
 use crate::watched::Watched;
 use std::alloc::{AllocError, Global};
@@ -40,11 +41,11 @@ const PIECE: usize = 8192;
 /// Memory is refused.
 pub(crate) fn read_text<R: Read>(
     alloc: Global,
-    words: &[String],
+    asked: Asked<'_>,
     reader: &mut Watched<R>,
 ) -> Result<(Held, End), AllocError>
     requires works { reader.old.failed ≡ false }
-    ensures held { IfOk result (λ r. HeldOf (options_of (map string_bytes words.now)) (R.remaining reader.old.inner) (R.remaining reader.new.inner) reader.new.failed r.0 r.1) }
+    ensures held { IfOk result (λ r. HeldOf (options_by asked.entry) (R.remaining reader.old.inner) (R.remaining reader.new.inner) reader.new.failed r.0 r.1) }
 {
     let mut held = Held::new(alloc);
     let mut lines = Lines::new(TEXT_LINES);
@@ -52,8 +53,8 @@ pub(crate) fn read_text<R: Read>(
     loop {
         match reader.read(&mut buffer) {
             None => return Ok((held, End::Failed)),
-            Some(0) => return close(held, lines, words),
-            Some(count) => match feed(&mut held, &mut lines, words, &buffer[..count]) {
+            Some(0) => return close(held, lines, asked),
+            Some(count) => match feed(&mut held, &mut lines, asked, &buffer[..count]) {
                 Ok(()) => {}
                 Err(Refusal::Text(fault)) => return Ok((held, End::Broken(fault))),
                 Err(Refusal::Memory(refused)) => return Err(refused),
@@ -66,16 +67,17 @@ pub(crate) fn read_text<R: Read>(
 ///
 /// # Errors
 /// A line breaks a limit, and those before it are held; or memory is refused.
-fn feed(held: &mut Held, lines: &mut Lines, words: &[String], piece: &[u8]) -> Result<(), Refusal>
+fn feed(held: &mut Held, lines: &mut Lines, asked: Asked<'_>, piece: &[u8]) -> Result<(), Refusal>
     requires open { IsOpen lines.old }
+    requires fed { (text : List ℕ) × Fed (options_by asked) held.old lines.old text }
     ensures open { OnOk result (IsOpen lines.new) }
-    ensures fed { (text : List ℕ) → Fed (options_of (map string_bytes words.now)) held.old lines.old text →
-        MatchResult result (λ _. Fed (options_of (map string_bytes words.now)) held.new lines.new (text ++ piece.now))
-        (IsRefused (options_of (map string_bytes words.now)) held.new (text ++ piece.now)) }
+    ensures fed { (text : List ℕ) → Fed (options_by asked.entry) held.old lines.old text →
+        MatchResult result (λ _. Fed (options_by asked.entry) held.new lines.new (text ++ piece.now))
+        (IsRefused (options_by asked.entry) held.new (text ++ piece.now)) }
 {
     let mut rest = piece;
     while !rest.is_empty() {
-        match advance(held, lines, words, rest) {
+        match advance(held, lines, asked, rest) {
             Ok(used) => rest = &rest[used..],
             Err(refusal) => return Err(refusal),
         }
@@ -90,16 +92,17 @@ fn feed(held: &mut Held, lines: &mut Lines, words: &[String], piece: &[u8]) -> R
 fn advance(
     held: &mut Held,
     lines: &mut Lines,
-    words: &[String],
+    asked: Asked<'_>,
     piece: &[u8],
 ) -> Result<usize, Refusal>
     requires open { IsOpen lines.old }
     requires some { 0 < length piece.now }
+    requires fed { (text : List ℕ) × Fed (options_by asked) held.old lines.old text }
     ensures used { IfOk result (λ used. (0 < used) × (used ≤ length piece.now)) }
     ensures open { OnOk result (IsOpen lines.new) }
-    ensures fed { (text : List ℕ) → Fed (options_of (map string_bytes words.now)) held.old lines.old text →
-        MatchResult result (λ used. Fed (options_of (map string_bytes words.now)) held.new lines.new (text ++ take used piece.now))
-        (IsRefused (options_of (map string_bytes words.now)) held.new (text ++ piece.now)) }
+    ensures fed { (text : List ℕ) → Fed (options_by asked.entry) held.old lines.old text →
+        MatchResult result (λ used. Fed (options_by asked.entry) held.new lines.new (text ++ take used piece.now))
+        (IsRefused (options_by asked.entry) held.new (text ++ piece.now)) }
 {
     let taken = match lines.take(piece) {
         Ok(taken) => taken,
@@ -108,7 +111,7 @@ fn advance(
     if !taken.whole {
         return Ok(taken.used);
     }
-    if let Err(refused) = held.add(&lines.line(), words) {
+    if let Err(refused) = held.add(&lines.line(), asked) {
         return Err(Refusal::Memory(refused));
     }
     lines.clear();
@@ -119,16 +122,17 @@ fn advance(
 ///
 /// # Errors
 /// Memory is refused.
-fn close(mut held: Held, mut lines: Lines, words: &[String]) -> Result<(Held, End), AllocError>
+fn close(mut held: Held, mut lines: Lines, asked: Asked<'_>) -> Result<(Held, End), AllocError>
     requires open { IsOpen lines }
-    ensures { (text : List ℕ) → Fed (options_of (map string_bytes words.now)) held lines text →
-        IfOk result (λ r. (r.1 ≡ End.Ended) × Stopped (options_of (map string_bytes words.now)) r.0 r.1 text) }
+    requires fed { (text : List ℕ) × Fed (options_by asked) held lines text }
+    ensures { (text : List ℕ) → Fed (options_by asked.entry) held lines text →
+        IfOk result (λ r. (r.1 ≡ End.Ended) × Stopped (options_by asked.entry) r.0 r.1 text) }
 {
     match lines.close() {
         Err(fault) => Ok((held, End::Broken(fault))),
         Ok(false) => Ok((held, End::Ended)),
         Ok(true) => {
-            held.add(&lines.line(), words)?;
+            held.add(&lines.line(), asked)?;
             Ok((held, End::Ended))
         }
     }

@@ -1,18 +1,20 @@
 //! The tool as a library: unifdef(1) over a reader and two writers.
 //!
-//! `tool` is the whole of it. Its words are read by `words`; the text comes through `intake` into `held`, each line
-//! with what it is (`reading`, `directive`); `walk` gives each line its verdict; `printing` prints what is left, and
-//! `messages` tells what is wrong.
+//! `tool` is the whole of it. Its words are read by `command_line` and `planning`; the text comes through `intake` into
+//! `held`, each line with what `reading` sees of it; `walk` gives each line its mark, `spoiled` looks for directives that
+//! can't be changed; `printing` prints what is left, or `listing` the names, and `messages` tells what is wrong.
 #![tactic(auto)]
 
-mod bytes;
+mod asked;
 mod command_line;
-mod directive;
 mod emit;
 mod faults;
 mod groups;
 mod held;
+mod inside;
 mod intake;
+mod listing;
+mod mark;
 mod messages;
 mod options;
 mod outcome;
@@ -22,11 +24,12 @@ mod printing;
 mod reading;
 mod refusals;
 mod running;
+mod seen;
 mod shape;
+mod spoiled;
 mod usage;
 mod walk;
 mod watched;
-mod words;
 
 pub use planned::Plan;
 pub use planning::{input_of, plan};

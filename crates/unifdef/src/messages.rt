@@ -1,54 +1,60 @@
 //! The text of each fault, which ends in a line feed, and goes to the error stream alone.
 
-ghost use Rattle.std.specs.Prelude.{◌≡◌, ◌++◌, false, codes, decimal};
-ghost use Rattle.ud_model.specs.Messages.{about_line, message_of, usage_message, read_error, write_error, out_of_memory};
-ghost use Rattle.ud_model.specs.Arguments.{plain_needed};
+ghost use Rattle.std.specs.Prelude.{◌≡◌, false};
+ghost use Rattle.ud_model.specs.Messages.{about, about_line, message_of, read_error, write_error, out_of_memory};
 ghost use Rattle.ud_model.specs.Faults.{premature_eof};
-ghost use Rattle.unifdef.specs.Told.{fault_told, usage_told};
+ghost use Rattle.unifdef.specs.Told.{fault_told};
 ghost use Rattle.unifdef.specs.Watching.{Says};
 
 use crate::emit::{emit, emit_parts};
-use crate::faults::{Fault, UsageFault};
+use crate::faults::Fault;
 use crate::watched::Watched;
 use itoa::Buffer;
 use std::io::Write;
 
 /// Says which line of the text is faulty, and why. Where a write fails, a front of the message is written.
-pub(crate) fn report<E: Write>(err: &mut Watched<E>, fault: Fault)
+pub(crate) fn report<E: Write>(err: &mut Watched<E>, name: &[u8], fault: Fault)
     requires works { err.old.failed ≡ false }
     ensures { Says err.new.failed (E.contents err.old.inner) (E.contents err.new.inner)
-        (message_of (fault_told fault)) }
+        (message_of name.now (fault_told fault)) }
 {
     match fault {
-        Fault::TooManyLines { line } => report_at(err, line, b"Too many lines"),
-        Fault::LineTooLong { line } => report_at(err, line, b"Line too long"),
-        Fault::Obfuscated { line } => report_at(err, line, b"Obfuscated preprocessor control line"),
-        Fault::Unsupported { line } => report_at(err, line, b"Unsupported directive"),
-        Fault::InappropriateElif { line } => report_at(err, line, b"Inappropriate #elif"),
-        Fault::InappropriateElse { line } => report_at(err, line, b"Inappropriate #else"),
-        Fault::InappropriateEndif { line } => report_at(err, line, b"Inappropriate #endif"),
-        Fault::TooManyLevels { line } => report_at(err, line, b"Too many levels of nesting"),
-        Fault::EofInComment { line } => report_at(err, line, b"EOF in comment"),
-        Fault::PrematureEof { line, if_line } => report_premature_eof(err, line, if_line),
+        Fault::TooManyLines { line } => report_at(err, name, line, b"Too many lines"),
+        Fault::LineTooLong { line } => report_at(err, name, line, b"Line too long"),
+        Fault::Obfuscated { line } => report_at(
+            err,
+            name,
+            line,
+            b"Obfuscated preprocessor control line",
+        ),
+        Fault::InappropriateElif { line } => report_at(err, name, line, b"Inappropriate #elif"),
+        Fault::InappropriateElse { line } => report_at(err, name, line, b"Inappropriate #else"),
+        Fault::InappropriateEndif { line } => report_at(err, name, line, b"Inappropriate #endif"),
+        Fault::TooManyLevels { line } => report_at(err, name, line, b"Too many levels of nesting"),
+        Fault::EofInComment { line } => report_at(err, name, line, b"EOF in comment"),
+        Fault::PrematureEof { line, if_line } => report_premature_eof(err, name, line, if_line),
     }
 }
 
 /// Says something of a line of the text.
-fn report_at<E: Write>(err: &mut Watched<E>, line: u32, text: &[u8])
+fn report_at<E: Write>(err: &mut Watched<E>, name: &[u8], line: u32, text: &[u8])
     requires works { err.old.failed ≡ false }
     ensures { Says err.new.failed (E.contents err.old.inner) (E.contents err.new.inner)
-        (about_line line text.now) }
+        (about_line name.now line text.now) }
 {
     let mut digits = Buffer::new();
     let number = digits.format(line).as_bytes();
-    emit_parts(err, &[b"unifdef: stdin: ", number, b": ", text, b"\n"]);
+    emit_parts(
+        err,
+        &[b"unifdef: ", name, b": ", number, b": ", text, b"\n"],
+    );
 }
 
 /// Says that the text ends in a section whose first directive stands in the line `if_line`.
-fn report_premature_eof<E: Write>(err: &mut Watched<E>, line: u32, if_line: u32)
+fn report_premature_eof<E: Write>(err: &mut Watched<E>, name: &[u8], line: u32, if_line: u32)
     requires works { err.old.failed ≡ false }
     ensures { Says err.new.failed (E.contents err.old.inner) (E.contents err.new.inner)
-        (message_of (premature_eof line if_line)) }
+        (message_of name.now (premature_eof line if_line)) }
 {
     let mut digits = Buffer::new();
     let number = digits.format(line).as_bytes();
@@ -57,7 +63,9 @@ fn report_premature_eof<E: Write>(err: &mut Watched<E>, line: u32, if_line: u32)
     emit_parts(
         err,
         &[
-            b"unifdef: stdin: ",
+            b"unifdef: ",
+            name,
+            b": ",
             number,
             b": Premature EOF (#if line ",
             if_number,
@@ -66,54 +74,30 @@ fn report_premature_eof<E: Write>(err: &mut Watched<E>, line: u32, if_line: u32)
     );
 }
 
-/// Says what is wrong with the words. Where a write fails, a front of the message is written.
-pub(crate) fn report_usage<E: Write>(err: &mut Watched<E>, fault: UsageFault)
+/// Says something of the input.
+fn report_on<E: Write>(err: &mut Watched<E>, name: &[u8], text: &[u8])
     requires works { err.old.failed ≡ false }
     ensures { Says err.new.failed (E.contents err.old.inner) (E.contents err.new.inner)
-        (usage_message (usage_told fault)) }
+        (about name.now text.now) }
 {
-    match fault {
-        UsageFault::Unsupported { word } => report_word(err, b"unifdef: Unsupported word ", word),
-        UsageFault::BadSymbol { word } => report_word(err, b"unifdef: Bad symbol in word ", word),
-        UsageFault::PlainNeeded => report_plain_needed(err),
-    }
-}
-
-/// Says something of a word, whose number stands behind the text.
-fn report_word<E: Write>(err: &mut Watched<E>, text: &[u8], word: usize)
-    requires works { err.old.failed ≡ false }
-    ensures { Says err.new.failed (E.contents err.old.inner) (E.contents err.new.inner)
-        (text.now ++ decimal word ++ codes "\n") }
-{
-    let mut digits = Buffer::new();
-    let number = digits.format(word).as_bytes();
-    emit_parts(err, &[text, number, b"\n"]);
-}
-
-/// Interim: says that no word is `-t`.
-fn report_plain_needed<E: Write>(err: &mut Watched<E>)
-    requires works { err.old.failed ≡ false }
-    ensures { Says err.new.failed (E.contents err.old.inner) (E.contents err.new.inner)
-        (usage_message plain_needed) }
-{
-    emit(err, b"unifdef: Option -t is needed\n");
+    emit_parts(err, &[b"unifdef: ", name, b": ", text, b"\n"]);
 }
 
 /// Says that reading the text failed. Where a write fails, a front of the message is written.
-pub(crate) fn report_read_error<E: Write>(err: &mut Watched<E>)
+pub(crate) fn report_read_error<E: Write>(err: &mut Watched<E>, name: &[u8])
     requires works { err.old.failed ≡ false }
-    ensures { Says err.new.failed (E.contents err.old.inner) (E.contents err.new.inner) read_error }
+    ensures { Says err.new.failed (E.contents err.old.inner) (E.contents err.new.inner) (read_error name.now) }
 {
-    emit(err, b"unifdef: stdin: Read error\n");
+    report_on(err, name, b"Read error");
 }
 
 /// Says that writing the output failed. Where a write fails, a front of the message is written.
-pub(crate) fn report_write_error<E: Write>(err: &mut Watched<E>)
+pub(crate) fn report_write_error<E: Write>(err: &mut Watched<E>, name: &[u8])
     requires works { err.old.failed ≡ false }
     ensures { Says err.new.failed (E.contents err.old.inner) (E.contents err.new.inner)
-        write_error }
+        (write_error name.now) }
 {
-    emit(err, b"unifdef: stdin: Write error\n");
+    report_on(err, name, b"Write error");
 }
 
 /// Says that memory was refused. Where a write fails, a front of the message is written.

@@ -1,74 +1,115 @@
-//! What a line in plain mode is among the sections.
+//! What is kept of a line that was scanned.
 
-ghost use Rattle.std.specs.Prelude.{◌≡◌, map, string_bytes};
-ghost use Rattle.std.specs.Option.{option_map};
-ghost use Rattle.ud_model.specs.Lines.{Line};
-ghost use Rattle.ud_model.specs.Conditions.{sole_name, ifdef_decision, negated};
-ghost use Rattle.ud_model.specs.Items.{item_of};
-ghost use Rattle.ud_model.specs.Arguments.{options_of};
-ghost use Rattle.unifdef.specs.Reading.{table_of};
-ghost use Rattle.unifdef.specs.Shapes.{shape_of};
-ghost use Rattle.unifdef.specs.Found.{read_plainly};
+ghost use Rattle.std.specs.Prelude.{◌≡◌, ◌≤◌, length};
+ghost use Rattle.ud_model.specs.Scans.{Reading, is_spanning};
+ghost use Rattle.ud_model.specs.Directives.{content_of};
+ghost use Rattle.ud_model.specs.Directives as directives;
+ghost use Rattle.ud_model.specs.Conditions.{decision_on};
+ghost use Rattle.ud_model.specs.Items.{item_of, rules_of};
+ghost use Rattle.ud_model.specs.declared.limits.TheConstants.{LINE_BYTES};
+ghost use Rattle.ud_cond.specs.Viewing.{as_decision, as_rules};
+ghost use Rattle.ud_sections.specs.Finding.{as_directive};
+ghost use Rattle.ud_text.specs.Viewing.{as_scan};
+ghost use Rattle.unifdef.specs.Asked.{options_by};
+ghost use Rattle.unifdef.specs.Shapes.{seen_of, is_plain};
+ghost use Rattle.unifdef.specs.Seeing.{shape_in, opens_ignoring};
 
-use crate::bytes::{are_white, is_identifier, past_white, word_len};
-use crate::directive::directive_in;
+use crate::asked::Asked;
+use crate::seen::Seen;
 use crate::shape::Shape;
-use crate::words::lookup;
-use ud_model::{Cond, Kind};
+use ud_cond::{Answer, Rules, condition};
+use ud_model::{Cond, Kind, Settings};
+use ud_sections::{Cut, Directive, Span, directive};
+use ud_text::Scan;
 
-/// What a line with this body is, with what the words decide of its condition.
-///
-/// Interim: `#if`, `#elif` and `#else` aren't handled yet.
-pub(crate) fn shape_of(body: &[u8], words: &[String]) -> Shape
-    ensures { (l : Line) → l.body ≡ body.now →
-        result ≡ shape_of (item_of (options_of (map string_bytes words.now)) (read_plainly l)) }
+/// What is kept of a line with this scan, with what the options decide of its condition; `plain` tells that it was read
+/// as plain text.
+pub(crate) fn see(scan: &Scan<'_>, plain: bool, asked: Asked<'_>) -> Seen
+    requires fits { length scan.now.masked.now ≤ LINE_BYTES }
+    ensures { (r : Reading) → r.scan ≡ as_scan scan.now → is_plain r.mode ≡ plain → result ≡ seen_of (item_of (options_by asked.entry) r) }
 {
-    let Some(directive) = directive_in(body) else {
-        return Shape::Text;
+    let (shape, ignoring, keyword) = match directive(scan) {
+        Ok(Some(found)) => {
+            let answer = decide(scan, &found, asked);
+            (
+                shape_in(found.kind, answer.cond),
+                opens_ignoring(found.kind, answer.ignoring),
+                found.keyword,
+            )
+        }
+        Ok(None) => (Shape::Text, false, Span { at: 0, len: 0 }),
+        Err(Cut) => (Shape::Cut, false, Span { at: 0, len: 0 }),
     };
-    match directive.kind {
-        Kind::Ifdef => Shape::If(ifdef_cond(directive.after, words)),
-        Kind::Ifndef => Shape::If(negated(ifdef_cond(directive.after, words))),
+    Seen {
+        shape,
+        ignoring,
+        keyword,
+        spans: spans(scan),
+        joins_before: scan.joins_before,
+        plain,
+    }
+}
+
+/// Whether the line joins a neighbour.
+fn spans(scan: &Scan<'_>) -> bool
+    ensures { result ≡ is_spanning (as_scan scan.now) }
+{
+    scan.joins_before || scan.joins_after
+}
+
+/// What the options decide of a line's directive: a broken one is undecided, and one that joins the next line opens no
+/// section that is plain text.
+fn decide(scan: &Scan<'_>, found: &Directive<'_>, asked: Asked<'_>) -> Answer
+    requires fits { length scan.now.masked.now ≤ LINE_BYTES }
+    requires found { content_of (as_scan scan.now) ≡ directives.directive (as_directive found.now) }
+    ensures { as_decision result ≡ decision_on (as_scan scan.now) (as_directive found.now) asked.entry.symbols.now (rules_of asked.entry.settings) }
+{
+    if found.broken {
+        return Answer {
+            cond: Cond::Unknown,
+            ignoring: false,
+        };
+    }
+    let answer = condition(
+        found.kind,
+        found.after,
+        asked.symbols,
+        rules_of(asked.settings),
+    );
+    Answer {
+        cond: answer.cond,
+        ignoring: answer.ignoring && !scan.joins_after,
+    }
+}
+
+/// How the settings have expressions valued.
+fn rules_of(settings: Settings) -> Rules
+    ensures { as_rules result ≡ rules_of settings }
+{
+    Rules {
+        constants: settings.constants,
+        strict: settings.strict,
+    }
+}
+
+/// What a directive of this kind with this condition is among the sections.
+fn shape_in(kind: Kind, cond: Cond) -> Shape
+    ensures { result ≡ shape_in kind cond }
+{
+    match kind {
+        Kind::If | Kind::Ifdef | Kind::Ifndef => Shape::If(cond),
+        Kind::Elif => Shape::Elif(cond),
+        Kind::Else => Shape::Else,
         Kind::Endif => Shape::Endif,
-        Kind::If | Kind::Elif | Kind::Else => Shape::Unhandled,
     }
 }
 
-/// What the words decide of an `#ifdef` with this text behind its keyword.
-fn ifdef_cond(after: &[u8], words: &[String]) -> Cond
-    ensures { result ≡ (ifdef_decision (sole_name after.now) (table_of (map string_bytes words.now))).cond }
+/// Whether a directive of this kind opens a section that is plain text.
+fn opens_ignoring(kind: Kind, ignoring: bool) -> bool
+    ensures { result ≡ opens_ignoring kind ignoring }
 {
-    let Some(name) = sole_name(after) else {
-        return Cond::Unknown;
-    };
-    match lookup(words, name) {
-        Some(true) => Cond::Yes,
-        Some(false) => Cond::No,
-        None => Cond::Unknown,
-    }
-}
-
-/// The one identifier that a text is but for white space around it, if it is so.
-fn sole_name(after: &[u8]) -> Option<&[u8]>
-    ensures { option_map (λ name. name.now) result ≡ sole_name after.now }
-{
-    let rest = past_white(after);
-    let len = word_len(rest);
-    let name = &rest[..len];
-    if is_identifier(name) && are_white(&rest[len..]) {
-        Some(name)
-    } else {
-        None
-    }
-}
-
-/// The condition the other way round.
-fn negated(cond: Cond) -> Cond
-    ensures { result ≡ negated cond }
-{
-    match cond {
-        Cond::Yes => Cond::No,
-        Cond::No => Cond::Yes,
-        Cond::Unknown => Cond::Unknown,
+    match kind {
+        Kind::If | Kind::Ifdef | Kind::Ifndef => ignoring,
+        Kind::Elif | Kind::Else | Kind::Endif => false,
     }
 }

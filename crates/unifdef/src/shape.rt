@@ -2,7 +2,7 @@
 
 use ud_model::Cond;
 
-/// What a line is among the sections, with what the words decide of its condition.
+/// What a line is among the sections, with what the options decide of its condition.
 #[derive(Clone, Copy, Debug, PartialEq, Eq)]
 pub enum Shape {
     /// A text line.
@@ -15,6 +15,6 @@ pub enum Shape {
     Else,
     /// `#endif`.
     Endif,
-    /// A directive that isn't handled yet.
-    Unhandled,
+    /// It can't be known whether it is a directive: a continuation cuts its keyword.
+    Cut,
 }

@@ -1,36 +1,38 @@
-//! The walk over the lines of a text: a recursion over nodes, sections and groups that gives each line its verdict.
+//! The walk over the lines of a text: a recursion over nodes, sections and groups that gives each line its mark.
 //!
 //! It reads as the grammar of a text does (C11 6.10): nodes are text lines and sections, a section is a group behind
 //! an `#if`, groups behind `#elif`, perhaps one behind `#else`, and an `#endif`.
 
-ghost use Rattle.std.specs.Prelude.{◌≡◌, ◌+◌, ◌<◌, ◌≤◌, ℕ, suc, List, [], length, true, false, IsTrue, IfErr, OnOk, ◌∷◌, ◌++◌, Some, None, slice_get};
+ghost use Rattle.std.specs.Prelude.{◌≡◌, ◌+◌, ◌<◌, ◌≤◌, ℕ, suc, List, [], length, true, false, IsTrue, IfErr, OnOk, ◌∷◌, ◌++◌, Some, None};
 ghost use Rattle.ud_model.specs.Scans.{Reading};
 ghost use Rattle.ud_model.specs.Tree.{Item};
 ghost use Rattle.ud_model.specs.Pruning.{marked};
 ghost use Rattle.ud_model.specs.declared.cond.Cond.{Cond};
 ghost use Rattle.unifdef.specs.Parts.{part_of};
-ghost use Rattle.unifdef.specs.Shapes.{AreShapes, starts_handled, starts_with_closer};
+ghost use Rattle.unifdef.specs.Shapes.{AreSeen, starts_whole, starts_with_closer, first_shape, code_mark};
 ghost use Rattle.unifdef.specs.Groups.{groups_of};
 ghost use Rattle.unifdef.specs.Walking.{Left, ReadsNodes, ReadsSection, ReadsGroup, StopsWell, GroupStops, WalksThrough, HaltsWell, BeginsBefore};
 
 use crate::groups::{Groups, Part};
+use crate::mark::Mark;
+use crate::seen::Seen;
 use crate::shape::Shape;
 use ud_model::{Cond, OPEN_SECTIONS, Verdict};
 
-/// The lines that are left of a text, and the verdicts of those that were read.
+/// The lines that are left of a text, and the marks of those that were read.
 #[derive(Drop)]
 pub struct Walk<'a> {
     /// What the lines that are left are.
-    pub rest: &'a [Shape],
-    /// The verdicts of the lines before them, in order.
-    pub verdicts: Vec<Verdict>,
+    pub rest: &'a [Seen],
+    /// The marks of the lines before them, in order.
+    pub marks: Vec<Mark>,
 }
 
 /// Why a walk stops before the end of the text, or at it with a section open.
 #[derive(Clone, Copy, Debug, PartialEq, Eq)]
 pub enum Stop {
-    /// The next line is a directive that isn't handled yet.
-    Unhandled,
+    /// It can't be known whether the next line is a directive.
+    Cut,
     /// The next line is a directive out of its place.
     OutOfPlace,
     /// The next line opens one section too many.
@@ -44,25 +46,25 @@ pub enum Stop {
 impl Walk<'_> {
     ghost use Rattle.unifdef.specs.Walking.{ReadsLine};
 
-    /// The next line.
-    fn next(&self) -> Option<Shape>
-        ensures { result ≡ slice_get self.now.rest.now 0 }
+    /// What the next line is among the sections.
+    pub(crate) fn next(&self) -> Option<Shape>
+        ensures { result ≡ first_shape self.now.rest.now }
     {
-        self.rest.first().copied()
+        self.rest.first().map(|seen| seen.shape)
     }
 
-    /// Reads the next line, which has this verdict.
+    /// Reads the next line, which has this mark.
     ///
     /// # Errors
     /// Memory is refused.
-    fn read(&mut self, verdict: Verdict) -> Result<(), Stop>
-        requires { starts_handled self.old.rest.now ≡ true }
-        ensures ok { (xs : List (Item Reading)) → Left self.old xs → OnOk result (ReadsLine self.old self.new xs verdict) }
+    fn read(&mut self, mark: Mark) -> Result<(), Stop>
+        requires { starts_whole self.old.rest.now ≡ true }
+        ensures ok { (xs : List (Item Reading)) → Left self.old xs → OnOk result (ReadsLine self.old self.new xs mark) }
         ensures err { IfErr result (λ stop. stop ≡ Stop.OutOfMemory) }
         ensures forth { OnOk result (length self.new.rest.now < length self.old.rest.now) }
-        ensures count { length self.new.verdicts.items + length self.new.rest.now ≡ length self.old.verdicts.items + length self.old.rest.now }
+        ensures count { length self.new.marks.items + length self.new.rest.now ≡ length self.old.marks.items + length self.old.rest.now }
     {
-        let Ok(()) = self.verdicts.push(verdict) else {
+        let Ok(()) = self.marks.push(mark) else {
             return Err(Stop::OutOfMemory);
         };
         self.rest = &self.rest[1..];
@@ -70,11 +72,14 @@ impl Walk<'_> {
     }
 }
 
-/// A verdict in a kept place; elsewhere every line is removed.
-fn marked(kept: bool, verdict: Verdict) -> Verdict
-    ensures { result ≡ (marked kept verdict).verdict }
+/// The mark of a line with this verdict in a kept place; elsewhere every line is removed.
+fn marked(kept: bool, verdict: Verdict) -> Mark
+    ensures { result ≡ code_mark (marked kept verdict) }
 {
-    if kept { verdict } else { Verdict::Remove }
+    Mark {
+        verdict: if kept { verdict } else { Verdict::Remove },
+        kept,
+    }
 }
 
 /// Reads the nodes of a place, up to a line that ends a group or to the end of the text.
@@ -87,14 +92,14 @@ fn nodes(walk: &mut Walk<'_>, kept: bool, level: usize) -> Result<(), Stop>
     ensures err { (xs : List (Item Reading)) → Left walk.old xs → IfErr result (StopsWell walk.old walk.new xs kept level) }
     ensures closer { OnOk result (starts_with_closer walk.new.rest.now ≡ true) }
     ensures forth { OnOk result (length walk.new.rest.now ≤ length walk.old.rest.now) }
-    ensures count { length walk.new.verdicts.items + length walk.new.rest.now ≡ length walk.old.verdicts.items + length walk.old.rest.now }
-    ensures opener { IfErr result (BeginsBefore (length walk.new.verdicts.items)) }
+    ensures count { length walk.new.marks.items + length walk.new.rest.now ≡ length walk.old.marks.items + length walk.old.rest.now }
+    ensures opener { IfErr result (BeginsBefore (length walk.new.marks.items)) }
 {
     while let Some(shape) = walk.next() {
         match shape {
             Shape::Text => walk.read(marked(kept, Verdict::Keep))?,
             Shape::If(cond) => section(walk, kept, level, cond)?,
-            Shape::Unhandled => return Err(Stop::Unhandled),
+            Shape::Cut => return Err(Stop::Cut),
             Shape::Elif(_) | Shape::Else | Shape::Endif => return Ok(()),
         }
     }
@@ -105,17 +110,17 @@ fn nodes(walk: &mut Walk<'_>, kept: bool, level: usize) -> Result<(), Stop>
 #[cycle(walk)]
 fn section(walk: &mut Walk<'_>, kept: bool, level: usize, cond: Cond) -> Result<(), Stop>
     requires low { level ≤ OPEN_SECTIONS }
-    requires first { slice_get walk.old.rest.now 0 ≡ Some (Shape.If cond) }
+    requires first { first_shape walk.old.rest.now ≡ Some (Shape.If cond) }
     ensures ok { (xs : List (Item Reading)) → Left walk.old xs → OnOk result (ReadsSection walk.old walk.new xs kept level) }
     ensures err { (xs : List (Item Reading)) → Left walk.old xs → IfErr result (StopsWell walk.old walk.new xs kept level) }
     ensures forth { OnOk result (length walk.new.rest.now < length walk.old.rest.now) }
-    ensures count { length walk.new.verdicts.items + length walk.new.rest.now ≡ length walk.old.verdicts.items + length walk.old.rest.now }
-    ensures opener { IfErr result (BeginsBefore (length walk.new.verdicts.items)) }
+    ensures count { length walk.new.marks.items + length walk.new.rest.now ≡ length walk.old.marks.items + length walk.old.rest.now }
+    ensures opener { IfErr result (BeginsBefore (length walk.new.marks.items)) }
 {
     if level == OPEN_SECTIONS {
         return Err(Stop::TooDeep);
     }
-    let opener = walk.verdicts.len();
+    let opener = walk.marks.len();
     let mut groups = Groups::none();
     let mut else_seen = false;
     group(walk, kept, level + 1, &mut groups, Part::AnIf, cond)?;
@@ -146,7 +151,7 @@ fn group(
     cond: Cond,
 ) -> Result<(), Stop>
     requires low { level ≤ OPEN_SECTIONS }
-    requires some { starts_handled walk.old.rest.now ≡ true }
+    requires some { starts_whole walk.old.rest.now ≡ true }
     ensures ok { (xs : List (Item Reading)) → Left walk.old xs → (before : List Cond) → groups.old ≡ groups_of before →
         OnOk result (ReadsGroup walk.old walk.new xs kept level before (part_of part) cond) }
     ensures err { (xs : List (Item Reading)) → Left walk.old xs → (before : List Cond) → groups.old ≡ groups_of before →
@@ -154,8 +159,8 @@ fn group(
     ensures groups { (before : List Cond) → groups.old ≡ groups_of before → OnOk result (groups.new ≡ groups_of (before ++ cond ∷ [])) }
     ensures closer { OnOk result (starts_with_closer walk.new.rest.now ≡ true) }
     ensures forth { OnOk result (length walk.new.rest.now < length walk.old.rest.now) }
-    ensures count { length walk.new.verdicts.items + length walk.new.rest.now ≡ length walk.old.verdicts.items + length walk.old.rest.now }
-    ensures opener { IfErr result (BeginsBefore (length walk.new.verdicts.items)) }
+    ensures count { length walk.new.marks.items + length walk.new.rest.now ≡ length walk.old.marks.items + length walk.old.rest.now }
+    ensures opener { IfErr result (BeginsBefore (length walk.new.marks.items)) }
 {
     let inside = groups.keeps_in(kept, cond);
     walk.read(marked(kept, groups.opener_verdict(part, cond)))?;
@@ -163,17 +168,17 @@ fn group(
     nodes(walk, inside, level)
 }
 
-/// Reads a whole text, and gives each line its verdict.
+/// Reads a whole text, and gives each line its mark.
 ///
 /// # Errors
-/// Why the walk stops: `rest` then begins with the line at fault, and the lines before it have their verdicts. Where
+/// Why the walk stops: `rest` then begins with the line at fault, and the lines before it have their marks. Where
 /// the text ends in a section, all lines have theirs.
 pub(crate) fn walk_text(walk: &mut Walk<'_>) -> Result<(), Stop>
-    requires { walk.old.verdicts.items ≡ [] }
-    ensures ok { (xs : List (Item Reading)) → AreShapes 0 walk.old.rest.now xs → OnOk result (WalksThrough walk.new xs) }
-    ensures err { (xs : List (Item Reading)) → AreShapes 0 walk.old.rest.now xs → IfErr result (HaltsWell walk.new xs) }
-    ensures count { length walk.new.verdicts.items + length walk.new.rest.now ≡ length walk.old.verdicts.items + length walk.old.rest.now }
-    ensures opener { IfErr result (BeginsBefore (length walk.new.verdicts.items)) }
+    requires { walk.old.marks.items ≡ [] }
+    ensures ok { (xs : List (Item Reading)) → AreSeen 0 walk.old.rest.now xs → OnOk result (WalksThrough walk.new xs) }
+    ensures err { (xs : List (Item Reading)) → AreSeen 0 walk.old.rest.now xs → IfErr result (HaltsWell walk.new xs) }
+    ensures count { length walk.new.marks.items + length walk.new.rest.now ≡ length walk.old.marks.items + length walk.old.rest.now }
+    ensures opener { IfErr result (BeginsBefore (length walk.new.marks.items)) }
 {
     nodes(walk, true, 0)?;
     if walk.next().is_some() {

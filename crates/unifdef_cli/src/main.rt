@@ -1,28 +1,48 @@
 //! unifdef(1): removes preprocessor conditionals from C source.
 //!
-//! The tool itself is the library `unifdef`; this program hands it its words and the standard streams.
+//! The tool itself is the library `unifdef`; this program hands it its words, the file that they name or standard input,
+//! and the standard streams.
 #![tactic(auto)]
 
 use std::alloc::AllocError;
+use std::fs::File;
+use std::io::Read;
 use std::process::ExitCode;
 use std::{env, io};
-use unifdef::{Watched, tool};
+use unifdef::{Watched, input_of, tool};
+
+/// The status of a fault.
+const TROUBLE: u8 = 2;
 
 fn main(rt: HostRuntime) -> ExitCode {
     let Ok(words) = words(&rt) else {
         let _ = rt.eprintln("unifdef: Cannot take arguments");
-        return ExitCode::from(2);
+        return ExitCode::from(TROUBLE);
     };
-    let mut reader = Watched::new(rt.stdin());
+    match file_name(words.as_slice()) {
+        None => run(&rt, words.as_slice(), rt.stdin()),
+        Some(name) => match File::open(&rt, name) {
+            Ok(file) => run(&rt, words.as_slice(), file),
+            Err(_) => {
+                let _ = eprintln!(rt; "unifdef: {name}: Cannot open");
+                ExitCode::from(TROUBLE)
+            }
+        },
+    }
+}
+
+/// The file that the words name, if they name one.
+fn file_name(words: &[String]) -> Option<&str> {
+    let place = input_of(words)?;
+    Some(words.get(place)?.as_str())
+}
+
+/// Runs the tool over a reader and the standard streams.
+fn run<R: Read + Drop>(rt: &HostRuntime, words: &[String], reader: R) -> ExitCode {
+    let mut reader = Watched::new(reader);
     let mut out = Watched::new(rt.stdout());
     let mut err = Watched::new(rt.stderr());
-    ExitCode::from(tool(
-        rt.alloc(),
-        words.as_slice(),
-        &mut reader,
-        &mut out,
-        &mut err,
-    ))
+    ExitCode::from(tool(rt.alloc(), words, &mut reader, &mut out, &mut err))
 }
 
 /// The words behind the program's name.

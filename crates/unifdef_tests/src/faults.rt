@@ -1,116 +1,104 @@
 //! Faults of a text: what is printed before them, and how they are told.
 
-use crate::worked::{Worked, check};
+use crate::worked::{check, check_copy};
 use std::test::Fail;
 
 #[test]
-fn an_endif_outside_is_inappropriate(rt: HostRuntime) -> Result<(), Fail> {
-    let worked = Worked {
-        words: &["-t"],
-        input: b"x\n#endif\n",
-        output: b"x\n",
-        message: "unifdef: stdin: 2: Inappropriate #endif",
-        status: 2,
-    };
-    check(&rt, rt.alloc(), &worked)?;
-    Ok(())
+fn directives_outside_a_section_are_inappropriate(rt: HostRuntime) -> Result<(), Fail> {
+    let message = "unifdef: stdin: 2: Inappropriate #endif";
+    check(&rt, rt.alloc(), "-DA", b"x\n#endif\n", b"x\n", message, 2)?;
+    let message = "unifdef: stdin: 1: Inappropriate #elif";
+    check(&rt, rt.alloc(), "-DA", b"#elif A\n", b"", message, 2)?;
+    let message = "unifdef: stdin: 1: Inappropriate #else";
+    check(&rt, rt.alloc(), "-DA", b"#else\n", b"", message, 2)
 }
 
 #[test]
-fn an_if_is_unsupported(rt: HostRuntime) -> Result<(), Fail> {
-    let worked = Worked {
-        words: &["-t", "-DA"],
-        input: b"x\n#if A\n",
-        output: b"x\n",
-        message: "unifdef: stdin: 2: Unsupported directive",
-        status: 2,
-    };
-    check(&rt, rt.alloc(), &worked)?;
-    Ok(())
+fn directives_behind_an_else_are_inappropriate(rt: HostRuntime) -> Result<(), Fail> {
+    let input = b"#if X\n#else\n#else\n#endif\n";
+    let message = "unifdef: stdin: 3: Inappropriate #else";
+    check(&rt, rt.alloc(), "-DA", input, b"#if X\n#else\n", message, 2)?;
+    let removed = b"#ifdef A\n#if X\n#else\n#elif Y\n#endif\n#endif\n";
+    let message = "unifdef: stdin: 4: Inappropriate #elif";
+    check(&rt, rt.alloc(), "-UA", removed, b"", message, 2)
+}
+
+#[test]
+fn a_directive_over_two_lines_cannot_go(rt: HostRuntime) -> Result<(), Fail> {
+    let input = b"a\n#ifdef A /* x\n*/\nb\n#endif\n";
+    let message = "unifdef: stdin: 2: Obfuscated preprocessor control line";
+    check(&rt, rt.alloc(), "-DA", input, b"a\n", message, 2)?;
+    let open = b"#ifdef A\nx\n#endif /* c";
+    let message = "unifdef: stdin: 3: Obfuscated preprocessor control line";
+    check(&rt, rt.alloc(), "-DA", open, b"x\n", message, 2)
+}
+
+#[test]
+fn a_directive_cannot_stay_behind_a_removed_line_that_joins_it(
+    rt: HostRuntime,
+) -> Result<(), Fail> {
+    let input = b"#if X\n1\n#elif A\n/* c\n*/ #endif\n";
+    let message = "unifdef: stdin: 5: Obfuscated preprocessor control line";
+    check(&rt, rt.alloc(), "-UA", input, b"#if X\n1\n", message, 2)
+}
+
+#[test]
+fn a_keyword_may_not_be_cut(rt: HostRuntime) -> Result<(), Fail> {
+    let message = "unifdef: stdin: 1: Obfuscated preprocessor control line";
+    for input in [
+        "#if\\\ndef A\n",
+        "#if\\\n",
+        "# /* c\n*/ ifdef A\n",
+        "# /* c",
+    ] {
+        check(&rt, rt.alloc(), "-DA", input.as_bytes(), b"", message, 2)?;
+    }
+    check_copy(&rt, rt.alloc(), "-DA", b"#define \\\nif\n")
+}
+
+#[test]
+fn a_keyword_may_not_be_cut_in_removed_places(rt: HostRuntime) -> Result<(), Fail> {
+    let message = "unifdef: stdin: 2: Obfuscated preprocessor control line";
+    check(
+        &rt,
+        rt.alloc(),
+        "-UA",
+        b"#ifdef A\n#end\\\nif\n",
+        b"",
+        message,
+        2,
+    )
 }
 
 #[test]
 fn an_open_section_at_the_end_is_told_with_its_first_line(rt: HostRuntime) -> Result<(), Fail> {
-    let worked = Worked {
-        words: &["-t", "-DA"],
-        input: b"y\n#ifdef A\nx\n",
-        output: b"y\nx\n",
-        message: "unifdef: stdin: 3: Premature EOF (#if line 2)",
-        status: 2,
-    };
-    check(&rt, rt.alloc(), &worked)?;
-    Ok(())
+    let message = "unifdef: stdin: 2: Premature EOF (#if line 1)";
+    check(&rt, rt.alloc(), "-DA", b"#ifdef A\nx\n", b"x\n", message, 2)?;
+    let input = b"y\n#ifdef X\n#elif Y\n#else\nx";
+    let message = "unifdef: stdin: 5: Premature EOF (#if line 2)";
+    check(&rt, rt.alloc(), "-DA", input, input, message, 2)?;
+    let message = "unifdef: stdin: 1: Premature EOF (#if line 1)";
+    check(&rt, rt.alloc(), "-DA", b"#if\\", b"#if\\", message, 2)
+}
+
+#[test]
+fn an_open_comment_comes_before_an_open_section(rt: HostRuntime) -> Result<(), Fail> {
+    let message = "unifdef: stdin: 2: EOF in comment";
+    check(
+        &rt,
+        rt.alloc(),
+        "-DA",
+        b"#ifdef B\n/*",
+        b"#ifdef B\n/*",
+        message,
+        2,
+    )?;
+    check(&rt, rt.alloc(), "-UB", b"#ifdef B\n/*\n", b"", message, 2)
 }
 
 #[test]
 fn the_earliest_fault_is_told(rt: HostRuntime) -> Result<(), Fail> {
-    let worked = Worked {
-        words: &["-t", "-UA"],
-        input: b"#ifdef A\n#elif B\n#endif\n#endif\n",
-        output: b"",
-        message: "unifdef: stdin: 2: Unsupported directive",
-        status: 2,
-    };
-    check(&rt, rt.alloc(), &worked)?;
-    Ok(())
-}
-
-/// `count` times the line, with its ending.
-fn repeated(rt: &HostRuntime, line: &[u8], count: usize) -> Result<Vec<u8>, Fail> {
-    let mut text = Vec::new(rt.alloc());
-    for _ in 0..count {
-        text.extend_from_slice(line)?;
-    }
-    Ok(text)
-}
-
-#[test]
-fn a_line_of_4096_bytes_fits(rt: HostRuntime) -> Result<(), Fail> {
-    let mut longest = repeated(&rt, b"a", 4095)?;
-    longest.push(b'\n')?;
-    let fits = Worked {
-        words: &["-t", "-DA"],
-        input: longest.as_slice(),
-        output: longest.as_slice(),
-        message: "",
-        status: 0,
-    };
-    check(&rt, rt.alloc(), &fits)?;
-    let mut longer = repeated(&rt, b"a", 4096)?;
-    longer.push(b'\n')?;
-    let breaks = Worked {
-        words: &["-t", "-DA"],
-        input: longer.as_slice(),
-        output: b"",
-        message: "unifdef: stdin: 1: Line too long",
-        status: 2,
-    };
-    check(&rt, rt.alloc(), &breaks)?;
-    Ok(())
-}
-
-#[test]
-fn sixty_four_sections_may_be_open(rt: HostRuntime) -> Result<(), Fail> {
-    let mut deepest = repeated(&rt, b"#ifdef X\n", 64)?;
-    deepest.extend_from_slice(repeated(&rt, b"#endif\n", 64)?.as_slice())?;
-    let fits = Worked {
-        words: &["-t", "-DA"],
-        input: deepest.as_slice(),
-        output: deepest.as_slice(),
-        message: "",
-        status: 0,
-    };
-    check(&rt, rt.alloc(), &fits)?;
-    let mut deeper = repeated(&rt, b"#ifdef X\n", 65)?;
-    deeper.extend_from_slice(repeated(&rt, b"#endif\n", 65)?.as_slice())?;
-    let before = repeated(&rt, b"#ifdef X\n", 64)?;
-    let breaks = Worked {
-        words: &["-t", "-DA"],
-        input: deeper.as_slice(),
-        output: before.as_slice(),
-        message: "unifdef: stdin: 65: Too many levels of nesting",
-        status: 2,
-    };
-    check(&rt, rt.alloc(), &breaks)?;
-    Ok(())
+    let input = b"#ifdef A\n#else\n#else\n#endif\n#endif\n/*";
+    let message = "unifdef: stdin: 3: Inappropriate #else";
+    check(&rt, rt.alloc(), "-UA", input, b"", message, 2)
 }

@@ -3,11 +3,19 @@
 #![tactic(auto)]
 
 #[cfg(test)]
+mod command_line;
+#[cfg(test)]
 mod conditions;
+#[cfg(test)]
+mod deciding;
 #[cfg(test)]
 mod directives;
 #[cfg(test)]
 mod faults;
+#[cfg(test)]
+mod ignoring;
+#[cfg(test)]
+mod limits;
 #[cfg(test)]
 mod lines;
 #[cfg(test)]
@@ -15,17 +23,25 @@ mod listing;
 #[cfg(test)]
 mod plain;
 #[cfg(test)]
+mod plans;
+#[cfg(test)]
+mod printed;
+#[cfg(test)]
 mod printers;
 mod printing;
 #[cfg(test)]
-mod plans;
+mod scanning;
 #[cfg(test)]
 mod scans;
+#[cfg(test)]
+mod sections;
+#[cfg(test)]
+mod sink;
+#[cfg(test)]
+mod source;
 #[cfg(test)]
 mod streams;
 #[cfg(test)]
 mod symbols;
-#[cfg(test)]
-mod words;
 #[cfg(test)]
 mod worked;

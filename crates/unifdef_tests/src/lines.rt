@@ -92,3 +92,18 @@ fn a_line_ends_where_two_pieces_meet(rt: HostRuntime) -> Result<(), Fail> {
     check_line(&rt, &lines.line(), &line);
     Ok(())
 }
+
+#[test]
+fn a_line_past_the_limit_is_refused_at_the_end_too(rt: HostRuntime) -> Result<(), Fail> {
+    let mut lines = Lines::new(1);
+    pass_line(&mut lines, b"a\nb")?;
+    let Err(fault) = lines.take(b"b") else {
+        return Err(Fail::new("a second line is refused"));
+    };
+    assert!(rt; fault == TextFault::TooManyLines { line: 2 });
+    let Err(again) = lines.close() else {
+        return Err(Fail::new("a refusal stays"));
+    };
+    assert!(rt; again == fault);
+    Ok(())
+}

@@ -1,69 +1,46 @@
-//! Plain text: `#ifdef`, `#ifndef` and `#endif` sections.
+//! Plain text, under `-t`.
 
-use crate::worked::{Worked, check};
+use crate::worked::{check, check_copy};
 use std::test::Fail;
 
 #[test]
 fn a_comment_is_plain_text(rt: HostRuntime) -> Result<(), Fail> {
-    let worked = Worked {
-        words: &["-t", "-DA"],
-        input: b"/*\n#ifdef A\nx\n#endif\n",
-        output: b"/*\nx\n",
-        message: "",
-        status: 1,
-    };
-    check(&rt, rt.alloc(), &worked)?;
-    Ok(())
+    let input = b"/*\n#ifdef A\nx\n#endif\n";
+    check(&rt, rt.alloc(), "-t -DA", input, b"/*\nx\n", "", 1)
+}
+
+#[test]
+fn a_splice_is_plain_text(rt: HostRuntime) -> Result<(), Fail> {
+    let input = b"a\\\n#ifdef A\nx\\\n#endif\\\ny\n";
+    check(&rt, rt.alloc(), "-t -DA", input, b"a\\\nx\\\ny\n", "", 1)?;
+    check_copy(&rt, rt.alloc(), "-t -DA", b"#if\\\n#endif\n")
 }
 
 #[test]
 fn an_unlisted_symbol_decides_nothing(rt: HostRuntime) -> Result<(), Fail> {
-    let worked = Worked {
-        words: &["-t", "-DA", "-UB"],
-        input: b"#ifdef C\nx\n#endif\n",
-        output: b"#ifdef C\nx\n#endif\n",
-        message: "",
-        status: 0,
-    };
-    check(&rt, rt.alloc(), &worked)?;
-    Ok(())
+    check_copy(&rt, rt.alloc(), "-t -DA -UB", b"#ifdef C\nx\n#endif\n")
 }
 
 #[test]
 fn the_last_argument_of_a_symbol_counts(rt: HostRuntime) -> Result<(), Fail> {
-    let worked = Worked {
-        words: &["-t", "-UA", "-DA"],
-        input: b"#ifndef A\nx\n#endif\ny",
-        output: b"y",
-        message: "",
-        status: 1,
-    };
-    check(&rt, rt.alloc(), &worked)?;
-    Ok(())
+    check(
+        &rt,
+        rt.alloc(),
+        "-t -UA -DA",
+        b"#ifndef A\nx\n#endif\ny",
+        b"y",
+        "",
+        1,
+    )
 }
 
 #[test]
 fn a_comment_behind_the_name_leaves_the_section(rt: HostRuntime) -> Result<(), Fail> {
-    let worked = Worked {
-        words: &["-t", "-DA"],
-        input: b"#ifdef A /* c */\n#endif\n",
-        output: b"#ifdef A /* c */\n#endif\n",
-        message: "",
-        status: 0,
-    };
-    check(&rt, rt.alloc(), &worked)?;
-    Ok(())
+    check_copy(&rt, rt.alloc(), "-t -DA", b"#ifdef A /* c */\n#endif\n")
 }
 
 #[test]
-fn sections_nest_in_kept_and_removed_groups(rt: HostRuntime) -> Result<(), Fail> {
-    let worked = Worked {
-        words: &["-t", "-DA", "-UB"],
-        input: b"#ifdef X\n#ifdef A\n1\n#ifdef B\n2\n#endif\n#endif\n#endif\r\n#ifdef B\n#ifdef A\n3\n#endif\n4\n#endif\n5",
-        output: b"#ifdef X\n1\n#endif\r\n5",
-        message: "",
-        status: 1,
-    };
-    check(&rt, rt.alloc(), &worked)?;
-    Ok(())
+fn faults_are_told_in_plain_text_too(rt: HostRuntime) -> Result<(), Fail> {
+    let message = "unifdef: stdin: 2: Inappropriate #endif";
+    check(&rt, rt.alloc(), "-t", b"x\n#endif\n", b"x\n", message, 2)
 }

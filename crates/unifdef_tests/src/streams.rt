@@ -1,210 +1,208 @@
 //! Readers and writers that fail, or give and take a few bytes at a time.
 
-use crate::worked::owned;
-use std::alloc::Global;
-use std::io::{self, ErrorKind, Read, Write};
-use std::process::Abort;
+use crate::sink::Sink;
+use crate::source::Source;
+use crate::worked::{Answer, check_run, owned};
 use std::test::Fail;
 use unifdef::{Watched, tool};
 
-/// Gives its bytes, at most `step` a call, and then fails, if it has to.
-#[derive(Drop)]
-struct Source<'a> {
-    bytes: &'a [u8],
-    step: usize,
-    fails: bool,
-}
+/// Six lines, of which the last lacks its line feed.
+const INPUT: &[u8] = b"/*\n*/\n#ifdef A\nx\r\n#endif\ny";
 
-impl Read for Source<'_> {
-    fn read(&mut self, buf: &mut [u8]) -> io::Result<usize> {
-        if self.bytes.is_empty() && self.fails {
-            return Err(io::Error::from(ErrorKind::Other));
-        }
-        let count = buf.len().min(self.bytes.len()).min(self.step);
-        let (given, left) = self.bytes.split_at(count);
-        buf[..count].copy_from_slice(given);
-        self.bytes = left;
-        Ok(count)
-    }
-}
+/// What is left of them where `A` is defined.
+const OUTPUT: &[u8] = b"/*\n*/\nx\r\ny";
 
-/// Takes `room` bytes in all, at most `step` a call, and then none, or fails; its flush may fail.
-#[derive(Drop)]
-struct Sink {
-    taken: Vec<u8>,
-    room: usize,
-    step: usize,
-    refuses: bool,
-    flush_fails: bool,
-}
+const READ_ERROR: &str = "unifdef: stdin: Read error";
 
-impl Write for Sink {
-    fn write(&mut self, buf: &[u8]) -> io::Result<usize> {
-        let count = buf.len().min(self.room).min(self.step);
-        if count == 0 && self.refuses {
-            return Err(io::Error::from(ErrorKind::Other));
-        }
-        if self.taken.extend_from_slice(&buf[..count]).is_err() {
-            return Err(io::Error::from(ErrorKind::OutOfMemory));
-        }
-        self.room -= count;
-        Ok(count)
-    }
-
-    fn flush(&mut self) -> io::Result<()> {
-        if self.flush_fails {
-            return Err(io::Error::from(ErrorKind::Other));
-        }
-        Ok(())
-    }
-}
-
-impl Sink {
-    fn new(alloc: Global, room: usize, step: usize) -> Sink {
-        Sink {
-            taken: Vec::new(alloc),
-            room,
-            step,
-            refuses: true,
-            flush_fails: false,
-        }
-    }
-}
-
-const ROOM: usize = 1_000_000;
-
-/// Runs the tool from a source into a sink, and compares.
-fn run(
-    rt: &impl Abort,
-    alloc: Global,
-    words: &[&str],
-    source: Source<'_>,
-    sink: Sink,
-    output: &[u8],
-    message: &[u8],
-) -> Result<u8, Fail> {
-    let words = owned(alloc, words)?;
-    let mut reader = Watched::new(source);
-    let mut out = Watched::new(sink);
-    let mut err = Watched::new(Vec::<u8>::new(alloc));
-    let status = tool(alloc, words.as_slice(), &mut reader, &mut out, &mut err);
-    assert_eq!(rt; out.inner().taken.as_slice(), output);
-    assert_eq!(rt; err.inner().as_slice(), message);
-    Ok(status)
-}
+const WRITE_ERROR: &str = "unifdef: stdin: Write error";
 
 #[test]
 fn a_byte_a_call_is_enough(rt: HostRuntime) -> Result<(), Fail> {
-    let source = Source {
-        bytes: b"/*\n#ifdef A\nx\r\n#endif\ny",
-        step: 1,
-        fails: false,
+    let answer = Answer {
+        output: OUTPUT,
+        message: "",
+        status: 1,
     };
-    let status = run(
-        &rt,
-        rt.alloc(),
-        &["-t", "-DA"],
-        source,
-        Sink::new(rt.alloc(), ROOM, 1),
-        b"/*\nx\r\ny",
-        b"",
-    )?;
-    assert_eq!(rt; status, 1);
+    for step in [1, 2, 3, 5, 8] {
+        let source = Source {
+            step,
+            ..Source::whole(INPUT)
+        };
+        let sink = Sink {
+            step: 1,
+            ..Sink::wide(rt.alloc())
+        };
+        check_run(&rt, rt.alloc(), "-DA", source, sink, answer)?;
+    }
     Ok(())
 }
 
 #[test]
 fn a_failing_read_is_told_behind_the_whole_lines(rt: HostRuntime) -> Result<(), Fail> {
     let source = Source {
-        bytes: b"a\nb",
-        step: 8192,
         fails: true,
+        ..Source::whole(b"a\nb")
     };
-    let status = run(
+    let answer = Answer {
+        output: b"a\n",
+        message: READ_ERROR,
+        status: 2,
+    };
+    check_run(
         &rt,
         rt.alloc(),
-        &["-t", "-DA"],
+        "-DA",
         source,
-        Sink::new(rt.alloc(), ROOM, 8192),
-        b"a\n",
-        b"unifdef: stdin: Read error\n",
-    )?;
-    assert_eq!(rt; status, 2);
+        Sink::wide(rt.alloc()),
+        answer,
+    )
+}
+
+#[test]
+fn each_read_may_fail(rt: HostRuntime) -> Result<(), Fail> {
+    let left: [&[u8]; 6] = [
+        b"",
+        b"/*\n",
+        b"/*\n*/\n",
+        b"/*\n*/\n",
+        b"/*\n*/\nx\r\n",
+        b"/*\n*/\nx\r\n",
+    ];
+    for count in 0..=INPUT.len() {
+        let given = &INPUT[..count];
+        let source = Source {
+            bytes: given,
+            step: 1,
+            fails: true,
+        };
+        let whole_lines = given.iter().filter(|&&byte| byte == b'\n').count();
+        assert!(rt; whole_lines < left.len());
+        let answer = Answer {
+            output: left[whole_lines],
+            message: READ_ERROR,
+            status: 2,
+        };
+        check_run(
+            &rt,
+            rt.alloc(),
+            "-DA",
+            source,
+            Sink::wide(rt.alloc()),
+            answer,
+        )?;
+    }
     Ok(())
 }
 
 #[test]
-fn a_writer_that_takes_no_more_is_told(rt: HostRuntime) -> Result<(), Fail> {
+fn a_fault_comes_before_a_failing_read(rt: HostRuntime) -> Result<(), Fail> {
     let source = Source {
-        bytes: b"ab\ncd\n",
-        step: 8192,
-        fails: false,
+        fails: true,
+        ..Source::whole(b"a\n#ifdef A /* x\n")
     };
-    let mut sink = Sink::new(rt.alloc(), 3, 8192);
-    sink.refuses = false;
-    let status = run(
+    let answer = Answer {
+        output: b"a\n",
+        message: "unifdef: stdin: 2: Obfuscated preprocessor control line",
+        status: 2,
+    };
+    check_run(
         &rt,
         rt.alloc(),
-        &["-t", "-DA"],
+        "-DA",
         source,
-        sink,
-        b"ab\n",
-        b"unifdef: stdin: Write error\n",
-    )?;
-    assert_eq!(rt; status, 2);
+        Sink::wide(rt.alloc()),
+        answer,
+    )
+}
+
+#[test]
+fn a_writer_that_takes_no_more_is_told(rt: HostRuntime) -> Result<(), Fail> {
+    let cases: [(usize, &[u8]); 2] = [(3, b"ab\n"), (0, b"")];
+    for (room, output) in cases {
+        let sink = Sink {
+            room,
+            refuses: false,
+            ..Sink::wide(rt.alloc())
+        };
+        let answer = Answer {
+            output,
+            message: WRITE_ERROR,
+            status: 2,
+        };
+        check_run(
+            &rt,
+            rt.alloc(),
+            "-DA",
+            Source::whole(b"ab\ncd\n"),
+            sink,
+            answer,
+        )?;
+    }
+    Ok(())
+}
+
+#[test]
+fn each_write_may_fail(rt: HostRuntime) -> Result<(), Fail> {
+    for room in 0..OUTPUT.len() {
+        let sink = Sink {
+            room,
+            ..Sink::wide(rt.alloc())
+        };
+        let answer = Answer {
+            output: &OUTPUT[..room],
+            message: WRITE_ERROR,
+            status: 2,
+        };
+        check_run(&rt, rt.alloc(), "-DA", Source::whole(INPUT), sink, answer)?;
+    }
     Ok(())
 }
 
 #[test]
 fn a_failing_flush_is_told_where_there_is_no_fault(rt: HostRuntime) -> Result<(), Fail> {
-    let source = Source {
-        bytes: b"x\n",
-        step: 8192,
-        fails: false,
+    let sink = Sink {
+        flush_fails: true,
+        ..Sink::wide(rt.alloc())
     };
-    let mut sink = Sink::new(rt.alloc(), ROOM, 8192);
-    sink.flush_fails = true;
-    let status = run(
-        &rt,
-        rt.alloc(),
-        &["-t", "-DA"],
-        source,
-        sink,
-        b"x\n",
-        b"unifdef: stdin: Write error\n",
-    )?;
-    assert_eq!(rt; status, 2);
-    Ok(())
+    let answer = Answer {
+        output: b"x\n",
+        message: WRITE_ERROR,
+        status: 2,
+    };
+    check_run(&rt, rt.alloc(), "-DA", Source::whole(b"x\n"), sink, answer)
 }
 
 #[test]
 fn a_failing_flush_changes_no_fault(rt: HostRuntime) -> Result<(), Fail> {
-    let source = Source {
-        bytes: b"x\n#endif\n",
-        step: 8192,
-        fails: false,
+    let sink = Sink {
+        flush_fails: true,
+        ..Sink::wide(rt.alloc())
     };
-    let mut sink = Sink::new(rt.alloc(), ROOM, 8192);
-    sink.flush_fails = true;
-    let status = run(
+    let answer = Answer {
+        output: b"x\n",
+        message: "unifdef: stdin: 2: Inappropriate #endif",
+        status: 2,
+    };
+    check_run(
         &rt,
         rt.alloc(),
-        &["-t", "-DA"],
-        source,
+        "-DA",
+        Source::whole(b"x\n#endif\n"),
         sink,
-        b"x\n",
-        b"unifdef: stdin: 2: Inappropriate #endif\n",
-    )?;
-    assert_eq!(rt; status, 2);
-    Ok(())
+        answer,
+    )
 }
 
 #[test]
 fn a_message_that_cannot_be_written_changes_no_status(rt: HostRuntime) -> Result<(), Fail> {
-    let words = owned(rt.alloc(), &["-t", "-DA"])?;
+    let words = owned(rt.alloc(), &["-DA"])?;
     let mut reader = Watched::new(b"#ifdef A\nx\n".as_slice());
     let mut out = Watched::new(Vec::<u8>::new(rt.alloc()));
-    let mut err = Watched::new(Sink::new(rt.alloc(), 0, 8192));
+    let sink = Sink {
+        room: 0,
+        ..Sink::wide(rt.alloc())
+    };
+    let mut err = Watched::new(sink);
     let status = tool(
         rt.alloc(),
         words.as_slice(),

@@ -1,31 +1,87 @@
-//! One run of the tool over memory, held against what it has to answer.
+//! Runs of the tool over memory, held against what they have to answer.
 
+use crate::sink::Sink;
+use crate::source::Source;
 use std::alloc::{AllocError, Global};
 use std::process::Abort;
+use std::test::Fail;
 use unifdef::{Watched, tool};
 
-/// What a run has to write, say and give back.
+/// What a run has to write, say and answer.
 #[derive(Clone, Copy)]
-pub(crate) struct Worked<'a> {
-    pub words: &'a [&'a str],
-    pub input: &'a [u8],
+pub(crate) struct Answer<'a> {
     pub output: &'a [u8],
     /// Without its line feed; empty where there is none.
     pub message: &'a str,
     pub status: u8,
 }
 
-/// Runs the tool on the words and the input, and compares.
-pub(crate) fn check(rt: &impl Abort, alloc: Global, worked: &Worked<'_>) -> Result<(), AllocError> {
-    let words = owned(alloc, worked.words)?;
-    let mut reader = Watched::new(worked.input);
-    let mut out = Watched::new(Vec::<u8>::new(alloc));
+/// Compares the answer to these words, parted by spaces, and this input: read in one piece, and byte by byte.
+pub(crate) fn check(
+    rt: &impl Abort,
+    alloc: Global,
+    words: &str,
+    input: &[u8],
+    output: &[u8],
+    message: &str,
+    status: u8,
+) -> Result<(), Fail> {
+    let answer = Answer {
+        output,
+        message,
+        status,
+    };
+    for step in [usize::MAX, 1] {
+        let source = Source {
+            step,
+            ..Source::whole(input)
+        };
+        let sink = Sink {
+            step,
+            ..Sink::wide(alloc)
+        };
+        check_run(rt, alloc, words, source, sink, answer)?;
+    }
+    Ok(())
+}
+
+/// Compares an answer that has the input for its output, and nothing to say.
+pub(crate) fn check_copy(
+    rt: &impl Abort,
+    alloc: Global,
+    words: &str,
+    input: &[u8],
+) -> Result<(), Fail> {
+    check(rt, alloc, words, input, input, "", 0)
+}
+
+/// Compares the answer to these words, parted by spaces, from this source into this sink.
+pub(crate) fn check_run(
+    rt: &impl Abort,
+    alloc: Global,
+    words: &str,
+    source: Source<'_>,
+    sink: Sink,
+    answer: Answer<'_>,
+) -> Result<(), Fail> {
+    let parted: Vec<&str> = words.split_whitespace().collect(alloc)?;
+    let owned = owned(alloc, parted.as_slice())?;
+    let mut reader = Watched::new(source);
+    let mut out = Watched::new(sink);
     let mut err = Watched::new(Vec::<u8>::new(alloc));
-    let status = tool(alloc, words.as_slice(), &mut reader, &mut out, &mut err);
-    let message = with_feed(alloc, worked.message)?;
-    assert_eq!(rt; out.inner().as_slice(), worked.output);
-    assert_eq!(rt; err.inner().as_slice(), message.as_slice());
-    assert_eq!(rt; status, worked.status);
+    let status = tool(alloc, owned.as_slice(), &mut reader, &mut out, &mut err);
+    let message = with_feed(alloc, answer.message)?;
+    assert_eq!(rt;
+        out.inner().taken.as_slice(),
+        answer.output,
+        "output under {words}"
+    );
+    assert_eq!(rt;
+        err.inner().as_slice(),
+        message.as_slice(),
+        "message under {words}"
+    );
+    assert_eq!(rt; status, answer.status, "status under {words}");
     Ok(())
 }
 
@@ -39,7 +95,7 @@ pub(crate) fn owned(alloc: Global, words: &[&str]) -> Result<Vec<String>, AllocE
 }
 
 /// A message with its line feed; nothing where there is none.
-pub(crate) fn with_feed(alloc: Global, message: &str) -> Result<Vec<u8>, AllocError> {
+fn with_feed(alloc: Global, message: &str) -> Result<Vec<u8>, AllocError> {
     let mut bytes = Vec::new(alloc);
     if !message.is_empty() {
         bytes.extend_from_slice(message.as_bytes())?;

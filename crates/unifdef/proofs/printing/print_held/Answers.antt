@@ -1,59 +1,113 @@
-use Rattle.std.proofs.Common.{rules, ap, ◌∙◌}
-use Rattle.std.proofs.lemmas.Slice.Zip.{either_empty_from_Zip}
-use Rattle.unifdef.proofs.RunLemmas.{turn_of, ends_within, run_kept, run_changed, run_fails, turn_fails, run_ends}
+use Rattle.std.proofs.Common.{rules, ◌++◌, ◌∷◌, ◌+◌, [], ℕ, List, length, take, drop, ◌-◌, refl, sym, ap, subst, ◌∙◌, arith, inl, inr, if◌then◌else◌}
+use Rattle.ud_sections.specs.Showing.{judged}
+use Rattle.unifdef.specs.Watching.{AppendsFront}
+use Rattle.unifdef.proofs.WatchingLemmas.{says_failed}
+use Rattle.unifdef.proofs.PrintLemmas.{Ends, run_begins, turn_of, turn_within, turn_ended, turn_judged, turn_keyword, turn_fails, turn_next, run_within, run_ends, run_differs, one_empty}
 use Rattle.unifdef.proofs.printing.print_held.Goals as goal
-use Rattle.unifdef.proofs.printing.print_held.Goals.{then-ne+else-not-emit+else-not-print_line, else-ne}
+use Rattle.unifdef.proofs.printing.print_held.Goals.{then-shown, else-shown}
 
-pub returns-then-not-emit-clause-written : goal.returns-then-not-emit-clause-written
-returns-then-not-emit-clause-written g c = λ o ls h.
-    run_fails (c.loop-end.invariant.run o ls h) c.emit.new.out.failed (g.W.Write.contents c.emit.new.out.inner)
-    c.if-not-emit.ensures.failed c.if-not-emit.ensures.written
+pub loop-end-init : goal.loop-end-init
+loop-end-init g c = record {
+  works = c.requires.works;
+  few = search rules;
+  stays = λ before j. refl;
+  given = (
+    [],
+    c.requires.new,
+    λ o texts h.
+        run_begins o texts c.args.held.now (g.S.Show.piece c.args.show) (g.W.Write.contents c.args.out.now.inner) c.args.marks.now _ _ _ _ h
+        (search rules) (search rules) (search rules) (search rules),
+  );
+}
 
-pub slice_bounds-body-count : goal.slice_bounds-body-count
-slice_bounds-body-count g c = (ends_within c.loop-end.invariant.run c.requires.lines c.in-Some.ensures.steps).body
+pub line_in-line-requires-clause-body : goal.line_in-line-requires-clause-body
+line_in-line-requires-clause-body g c =
+    let h = c.requires.lines in
+    let s = c.in-Some.ensures.steps in
+    (turn_within (turn_of _ _ _ _ _ _ _ _ _ _ _ _ _ _ _ _ _ _ _ _ (c.loop-end.invariant.given.2 h.0 h.1 h.2) s.0 s.1.0 s.1.1)).body
 
-pub slice_bounds-body-start : goal.slice_bounds-body-start
-slice_bounds-body-start g c = let here = ends_within c.loop-end.invariant.run c.requires.lines c.in-Some.ensures.steps in search rules
+pub line_in-line-requires-clause-ending : goal.line_in-line-requires-clause-ending
+line_in-line-requires-clause-ending g c =
+    let h = c.requires.lines in
+    let s = c.in-Some.ensures.steps in
+    (turn_within (turn_of _ _ _ _ _ _ _ _ _ _ _ _ _ _ _ _ _ _ _ _ (c.loop-end.invariant.given.2 h.0 h.1 h.2) s.0 s.1.0 s.1.1)).line
 
-pub slice_bounds-body-end : goal.slice_bounds-body-end
-slice_bounds-body-end g c = let here = ends_within c.loop-end.invariant.run c.requires.lines c.in-Some.ensures.steps in search rules
+pub line_in-line-requires-clause-fits : goal.line_in-line-requires-clause-fits
+line_in-line-requires-clause-fits g c =
+    let h = c.requires.lines in
+    let s = c.in-Some.ensures.steps in
+    let ends : Ends _ _ _ _ = turn_within (turn_of _ _ _ _ _ _ _ _ _ _ _ _ _ _ _ _ _ _ _ _ (c.loop-end.invariant.given.2 h.0 h.1 h.2) s.0 s.1.0 s.1.1) in
+    ends.text_holds
 
-pub slice_bounds-ending-count : goal.slice_bounds-ending-count
-slice_bounds-ending-count g c = (ends_within c.loop-end.invariant.run c.requires.lines c.in-Some.ensures.steps).line
+pub line_in-line-requires-clause-ended : goal.line_in-line-requires-clause-ended
+line_in-line-requires-clause-ended g c =
+    let h = c.requires.lines in
+    let s = c.in-Some.ensures.steps in
+    turn_ended (turn_of _ _ _ _ _ _ _ _ _ _ _ _ _ _ _ _ _ _ _ _ (c.loop-end.invariant.given.2 h.0 h.1 h.2) s.0 s.1.0 s.1.1)
 
-pub slice_bounds-ending-start : goal.slice_bounds-ending-start
-slice_bounds-ending-start g c = let here = ends_within c.loop-end.invariant.run c.requires.lines c.in-Some.ensures.steps in search rules
+pub slice_bounds-show_line-end : goal.slice_bounds-show_line-end
+slice_bounds-show_line-end g c =
+    let h = c.requires.lines in
+    let within = run_within (c.loop-end.invariant.given.2 h.0 h.1 h.2) in
+    search rules
 
-pub slice_bounds-ending-end : goal.slice_bounds-ending-end
-slice_bounds-ending-end g c = let here = ends_within c.loop-end.invariant.run c.requires.lines c.in-Some.ensures.steps in search rules
+pub show_line-requires-clause-keyword : goal.show_line-requires-clause-keyword
+show_line-requires-clause-keyword g c =
+    let h = c.requires.lines in
+    let s = c.in-Some.ensures.steps in
+    turn_keyword (turn_of _ _ _ _ _ _ _ _ _ _ _ _ _ _ _ _ _ _ _ _ (c.loop-end.invariant.given.2 h.0 h.1 h.2) s.0 s.1.0 s.1.1) _ _ _ _ refl c.line_in-line.ensures refl
 
-pub returns-then-not-print_line-clause-written : goal.returns-then-not-print_line-clause-written
-returns-then-not-print_line-clause-written g c = λ o ls h.
-    turn_fails (turn_of (c.loop-end.invariant.run o ls h) c.in-Some.ensures.steps) c.emit.new.out.failed c.print_line.new.out.failed (g.W.Write.contents c.emit.new.out.inner)
-    (g.W.Write.contents c.print_line.new.out.inner)
-    c.if-not-emit.ensures.failed c.if-not-emit.ensures.written
-    c.if-not-print_line.ensures.failed c.if-not-print_line.ensures.written
+pub returns-in_err-shown-clause-written : goal.returns-in_err-shown-clause-written
+returns-in_err-shown-clause-written g c = λ o texts h.
+    let s = c.in-Some.ensures.steps in
+    let given = c.loop-end.invariant.given in
+    let t = turn_of _ _ _ _ _ _ _ _ _ _ _ _ _ _ _ _ _ _ _ _ (given.2 o texts h) s.0 s.1.0 s.1.1 in
+    let is = turn_judged t _ _ _ _ refl c.line_in-line.ensures refl refl in
+    says_failed c.show_line.new.out.failed (g.W.Write.contents c.args.out.now.inner) (g.W.Write.contents c.show_line.new.out.inner) _
+    c.in_err-shown.ensures.failed
+    (turn_fails t (g.W.Write.contents c.show_line.new.out.inner)
+    (subst (λ (p : List ℕ). AppendsFront (g.W.Write.contents c.loop-end.out.inner) (g.W.Write.contents c.show_line.new.out.inner)
+    (take (c.loop-end.at - c.loop-end.from) (drop c.loop-end.from c.as_slice-text.result.now) ++ p))
+    (c.loop-end.invariant.stays given.0 _ ∙ ap (g.S.Show.piece c.args.show given.0) is)
+    (c.in_err-shown.ensures.none given.0 given.1)))
 
 pub loop-end-preserved : goal.loop-end-preserved
-loop-end-preserved g c = elim c.if-ne.branch [
-  | then-ne+else-not-emit+else-not-print_line w ↦ record {
-    works = ap (λ x. x.failed) w.out-is ∙ w.if-not-print_line.ensures.failed;
-    run = λ o ls h.
-        rw (w.out-is, w.from-is)
-        (run_changed (turn_of (c.loop-end.invariant.run o ls h) c.in-Some.ensures.steps)
-        w.emit.new.out.failed w.print_line.new.out.failed (g.W.Write.contents w.emit.new.out.inner) (g.W.Write.contents w.print_line.new.out.inner)
-        w.if-not-emit.ensures.failed w.if-not-emit.ensures.written w.if-not-print_line.ensures.failed w.if-not-print_line.ensures.written);
-  }
-  | else-ne w ↦ record {
-    works = ap (λ x. x.failed) w.out-is ∙ c.loop-end.invariant.works;
-    run = λ o ls h.
-        rw (w.out-is, w.from-is)
-        (run_kept (turn_of (c.loop-end.invariant.run o ls h) c.in-Some.ensures.steps)
-        (search rules));
-  }
-]
+loop-end-preserved g c =
+    let s = c.in-Some.ensures.steps in
+    let given = c.loop-end.invariant.given in
+    record {
+      works = c.in_ok-shown.ensures.failed;
+      few = let f = c.loop-end.invariant.few in let e = ap length s.1.0 in omega (arith, f, e);
+      stays = λ before j. c.show_line.ensures.stays before j ∙ c.loop-end.invariant.stays before j;
+      given = (
+        given.0 ++ judged c.line_in-line.result (record { verdict = c.in-Some.mark.now.verdict; keyword = c.in-Some.seen.now.keyword }) ∷ [],
+        c.show_line.ensures.stands given.0 given.1,
+        λ o texts h.
+            let t = turn_of _ _ _ _ _ _ _ _ _ _ _ _ _ _ _ _ _ _ _ _ (given.2 o texts h) s.0 s.1.0 s.1.1 in
+            turn_next t c.in_ok-shown.shown (g.W.Write.contents c.show_line.new.out.inner) _ _ _ c.if-shown.from (c.loop-end.number + 1)
+            (turn_judged t _ _ _ _ refl c.line_in-line.ensures refl refl)
+            (c.loop-end.invariant.stays given.0 _) refl (c.in_ok-shown.ensures.some given.0 given.1)
+            (elim c.if-shown.branch [
+              | then-shown w ↦ w.from-is ∙ sym (ap (λ b. if b then c.in-Some.end.now.line else c.loop-end.from) w.if-shown.true)
+              | else-shown w ↦ w.from-is ∙ sym (ap (λ b. if b then c.in-Some.end.now.line else c.loop-end.from) w.if-shown.false)
+            ])
+            refl,
+      );
+    }
+
+pub returns-then-emit-clause-written : goal.returns-then-emit-clause-written
+returns-then-emit-clause-written g c = λ o texts h.
+    run_ends (c.loop-end.invariant.given.2 o texts h)
+    (one_empty _ _ _ (elim c.in-None.ensures.steps [ inl a ↦ inl a.1.0 | inr z ↦ inr (elim z.1 [ inl a ↦ inl a.1.0 | inr b ↦ inr b.1.0 ]) ]))
+    c.emit.new.out.failed (g.W.Write.contents c.emit.new.out.inner) c.emit.ensures.written
+
+pub returns-then-emit-clause-differs : goal.returns-then-emit-clause-differs
+returns-then-emit-clause-differs g c = λ o texts h.
+    run_differs (c.loop-end.invariant.given.2 o texts h)
+    (one_empty _ _ _ (elim c.in-None.ensures.steps [ inl a ↦ inl a.1.0 | inr z ↦ inr (elim z.1 [ inl a ↦ inl a.1.0 | inr b ↦ inr b.1.0 ]) ]))
 
 pub returns-clause-written : goal.returns-clause-written
-returns-clause-written g c = λ o ls h.
-    run_ends (c.loop-end.invariant.run o ls h) (either_empty_from_Zip c.loop-end.end-iterator c.next.new.self c.next.result c.in-None.is c.next.ensures.steps)
-    c.emit-2.new.out.failed (g.W.Write.contents c.emit-2.new.out.inner) c.emit-2.ensures.written
+returns-clause-written g c = λ o texts h.
+    run_ends (c.loop-end.invariant.given.2 o texts h)
+    (one_empty _ _ _ (elim c.in-None.ensures.steps [ inl a ↦ inl a.1.0 | inr z ↦ inr (elim z.1 [ inl a ↦ inl a.1.0 | inr b ↦ inr b.1.0 ]) ]))
+    c.emit.new.out.failed (g.W.Write.contents c.emit.new.out.inner) c.emit.ensures.written

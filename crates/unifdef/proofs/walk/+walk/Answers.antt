@@ -2,10 +2,11 @@ use Rattle.std.proofs.Common.{◌∙◌, sym, ap, refl, arith, [], Some}
 use Rattle.std.proofs.lemmas.Result.{err_from_is_err_and, IfErr-weaker, on_ok_weaker}
 use Rattle.ud_model.specs.Pruning.{marked, conds_of_head}
 use Rattle.unifdef.specs.Parts.{part_of}
+use Rattle.unifdef.specs.Shapes.{code_mark}
 use Rattle.unifdef.specs.Walking.{ReadsNodes, ReadsLine, InSection, StopsWell, GroupStops}
 use Rattle.unifdef.proofs.Moves.{nodes_none, nodes_text, nodes_section, stops_well_behind}
 use Rattle.unifdef.proofs.Sections.{section_first, section_elif, section_else, section_closed}
-use Rattle.unifdef.proofs.Stops.{group_stops, first_stops, elif_stops, else_stops, too_deep, unhandled_next, unclosed, second_elif, second_else}
+use Rattle.unifdef.proofs.Stops.{group_stops, first_stops, elif_stops, else_stops, too_deep, cut_next, unclosed, second_elif, second_else}
 use Rattle.unifdef.proofs.walk.+walk.Goals as goal
 
 pub group-returns-clause-err : goal.group-returns-clause-err
@@ -15,7 +16,7 @@ group-returns-clause-err t c = λ xs left before e.
     (GroupStops c.args.walk.now c.nodes.new.walk xs c.args.kept c.args.level before (part_of c.args.part) c.args.cond)
     (λ stop w. group_stops c.args.walk.now c.read.new.self c.nodes.new.walk xs c.args.kept c.keeps_in-inside.result c.args.level before
     (part_of c.args.part) c.args.cond c.marked.result stop
-    (c.marked.ensures ∙ ap (λ v. (marked c.args.kept v).verdict) (c.opener_verdict.ensures.value before e)) (c.keeps_in-inside.ensures.value before e) l w)
+    (c.marked.ensures ∙ ap (λ v. code_mark (marked c.args.kept v)) (c.opener_verdict.ensures.value before e)) (c.keeps_in-inside.ensures.value before e) l w)
     (c.nodes.ensures.err l.after l.left)
 
 pub nodes-loop-shape-init : goal.nodes-loop-shape-init
@@ -53,9 +54,9 @@ nodes-returns-in_err-section-in-If-clause-err t c = λ xs left.
     let q = p.2 in
     rw (p.1, p.2) (stops_well_behind c.args.walk.now c.loop-shape.walk c.section.new.walk xs c.args.kept c.args.level _ r w)
 
-pub nodes-returns-in-Unhandled-clause-err : goal.nodes-returns-in-Unhandled-clause-err
-nodes-returns-in-Unhandled-clause-err t c = λ xs left.
-    unhandled_next c.args.walk.now c.loop-shape.walk xs c.args.kept c.args.level (sym c.in-Some.ensures ∙ ap Some c.in-Unhandled.is)
+pub nodes-returns-in-Cut-clause-err : goal.nodes-returns-in-Cut-clause-err
+nodes-returns-in-Cut-clause-err t c = λ xs left.
+    cut_next c.args.walk.now c.loop-shape.walk xs c.args.kept c.args.level (sym c.in-Some.ensures ∙ ap Some c.in-Cut.is)
     (c.loop-shape.invariant.reads xs left)
 
 pub section-returns-then-level-eq-OPEN_SECTIONS-clause-err :
@@ -77,7 +78,7 @@ section-loop-walk-init t c = record {
   count = c.in_ok-group.ensures.count;
   reads = λ xs left. section_first c.args.walk.now c.group.new.walk xs c.args.kept c.args.level c.args.cond c.group.new.groups c.len-opener.result c.requires.first
       (c.in_ok-group.ensures.groups [] c.none-groups.ensures.value)
-      (c.len-opener.ensures ∙ c.args.walk.now.verdicts.ok.0) (c.in_ok-group.ensures.ok xs left [] c.none-groups.ensures.value);
+      (c.len-opener.ensures ∙ c.args.walk.now.marks.ok.0) (c.in_ok-group.ensures.ok xs left [] c.none-groups.ensures.value);
 }
 
 pub section-returns-in-None-clause-err : goal.section-returns-in-None-clause-err
@@ -92,7 +93,7 @@ section-returns-in-Some-Endif-clause-ok t c = λ xs left.
     on_ok_weaker c.read.result
     (section_closed c.args.walk.now c.loop-walk.walk c.read.new.self xs c.args.kept c.args.level c.loop-walk.groups c.loop-walk.else_seen c.len-opener.result
     c.marked.result (sym c.in-Some-Endif.ensures ∙ ap Some c.in-Some-Endif.field-0-is) i
-    (c.marked.ensures ∙ ap (λ v. (marked c.args.kept v).verdict) (c.endif_verdict.ensures.value (conds_of_head i.head) i.stands)))
+    (c.marked.ensures ∙ ap (λ v. code_mark (marked c.args.kept v)) (c.endif_verdict.ensures.value (conds_of_head i.head) i.stands)))
     (c.read.ensures.ok i.after i.moved.left)
 
 pub section-returns-in_err-group-in-Some-Elif-clause-err :

@@ -17,7 +17,7 @@ decreases-group l = 3 * length l.walk.now.rest.now
 abbrev pub invariant-nodes-loop-shape : goal.invariant-nodes-loop-shape
 invariant-nodes-loop-shape l = record {
   forth : length l.walk.rest.now ≤ length l.fn.walk.rest.now;
-  count : length l.walk.verdicts.items + length l.walk.rest.now ≡ length l.fn.walk.verdicts.items + length l.fn.walk.rest.now;
+  count : length l.walk.marks.items + length l.walk.rest.now ≡ length l.fn.walk.marks.items + length l.fn.walk.rest.now;
   reads : (xs : List (Item Reading)) → Left l.fn.walk xs → ReadsNodes l.fn.walk l.walk xs l.kept l.level;
 }
 
@@ -28,7 +28,7 @@ abbrev pub invariant-section-loop-walk : goal.invariant-section-loop-walk
 invariant-section-loop-walk l = record {
   room : l.level < 64;
   forth : length l.walk.rest.now < length l.fn.walk.rest.now;
-  count : length l.walk.verdicts.items + length l.walk.rest.now ≡ length l.fn.walk.verdicts.items + length l.fn.walk.rest.now;
+  count : length l.walk.marks.items + length l.walk.rest.now ≡ length l.fn.walk.marks.items + length l.fn.walk.rest.now;
   closer : starts_with_closer l.walk.rest.now ≡ true;
   reads : (xs : List (Item Reading)) → Left l.fn.walk xs → InSection l.fn.walk l.walk xs l.kept l.level l.groups l.else_seen l.opener;
 }

@@ -1,0 +1,13 @@
+use Rattle.std.proofs.Common.{◌≡◌, false}
+use Rattle.ud_model.specs.Listing.{listed_names}
+use Rattle.unifdef.proofs.WatchingLemmas.{Sent}
+use Rattle.unifdef.proofs.listing.list_names.Given as goal
+
+abbrev pub invariant-loop-name : goal.invariant-loop-name
+invariant-loop-name g l = record {
+  can : (goal.iterator-loop-name g).can_next l.name-iterator;
+  ends : (goal.iterator-loop-name g).is_finite l.name-iterator;
+  works : l.out.failed ≡ false;
+  sent : Sent (g.W.Write.contents l.initial.out.inner) (g.W.Write.contents l.out.inner)
+      (listed_names l.prefix l.fn.names) (listed_names l.prefix l.name-iterator);
+}

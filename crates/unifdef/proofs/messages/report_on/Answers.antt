@@ -1,0 +1,10 @@
+use Rattle.ud_model.specs.Messages.{about}
+use Rattle.unifdef.proofs.WatchingLemmas.{says_same}
+use Rattle.unifdef.proofs.MessageLemmas.{about_joined}
+use Rattle.unifdef.proofs.messages.report_on.Goals as goal
+
+pub returns : goal.returns
+returns g c =
+    says_same c.emit_parts.new.out.failed (g.E.Write.contents c.args.err.now.inner) (g.E.Write.contents c.emit_parts.new.out.inner)
+    _ (about c.args.name.now c.args.text.now) (about_joined c.args.name.now c.args.text.now)
+    c.emit_parts.ensures.written

@@ -1,0 +1,76 @@
+//! Limits: the longest line, and the deepest section.
+
+use crate::worked::{check, check_copy};
+use std::alloc::{AllocError, Global};
+use std::test::Fail;
+
+/// The text so many times.
+fn repeated(alloc: Global, text: &[u8], count: usize) -> Result<Vec<u8>, AllocError> {
+    let mut whole = Vec::new(alloc);
+    for _ in 0..count {
+        whole.extend_from_slice(text)?;
+    }
+    Ok(whole)
+}
+
+/// One text behind another.
+fn joined(alloc: Global, first: &[u8], second: &[u8]) -> Result<Vec<u8>, AllocError> {
+    let mut whole = repeated(alloc, first, 1)?;
+    whole.extend_from_slice(second)?;
+    Ok(whole)
+}
+
+#[test]
+fn a_line_has_4096_bytes_with_its_ending(rt: HostRuntime) -> Result<(), Fail> {
+    let message = "unifdef: stdin: 1: Line too long";
+    let endings: [(usize, &[u8]); 3] = [(4095, b"\n"), (4094, b"\r\n"), (4096, b"")];
+    for (count, ending) in endings {
+        let body = repeated(rt.alloc(), b"a", count)?;
+        let longest = joined(rt.alloc(), body.as_slice(), ending)?;
+        check_copy(&rt, rt.alloc(), "-DA", longest.as_slice())?;
+        let longer = joined(rt.alloc(), b"a", longest.as_slice())?;
+        check(&rt, rt.alloc(), "-DA", longer.as_slice(), b"", message, 2)?;
+    }
+    Ok(())
+}
+
+#[test]
+fn a_line_that_is_too_long_is_told_behind_the_lines_before(rt: HostRuntime) -> Result<(), Fail> {
+    let long = repeated(rt.alloc(), b"a", 4097)?;
+    let input = joined(rt.alloc(), b"#ifdef A\nx\n", long.as_slice())?;
+    let message = "unifdef: stdin: 3: Line too long";
+    check(&rt, rt.alloc(), "-DA", input.as_slice(), b"x\n", message, 2)
+}
+
+/// A text that opens so many sections, and closes them.
+fn nested(alloc: Global, depth: usize) -> Result<Vec<u8>, AllocError> {
+    let opening = repeated(alloc, b"#ifdef X\n", depth)?;
+    let closing = repeated(alloc, b"#endif\n", depth)?;
+    joined(alloc, opening.as_slice(), closing.as_slice())
+}
+
+#[test]
+fn sixty_four_sections_may_be_open(rt: HostRuntime) -> Result<(), Fail> {
+    let deepest = nested(rt.alloc(), 64)?;
+    check_copy(&rt, rt.alloc(), "-DA", deepest.as_slice())?;
+    let deeper = nested(rt.alloc(), 65)?;
+    let before = repeated(rt.alloc(), b"#ifdef X\n", 64)?;
+    let message = "unifdef: stdin: 65: Too many levels of nesting";
+    check(
+        &rt,
+        rt.alloc(),
+        "-DA",
+        deeper.as_slice(),
+        before.as_slice(),
+        message,
+        2,
+    )
+}
+
+#[test]
+fn sections_count_in_removed_places_too(rt: HostRuntime) -> Result<(), Fail> {
+    let inner = repeated(rt.alloc(), b"#ifdef X\n", 64)?;
+    let input = joined(rt.alloc(), b"#ifdef A\n", inner.as_slice())?;
+    let message = "unifdef: stdin: 65: Too many levels of nesting";
+    check(&rt, rt.alloc(), "-UA", input.as_slice(), b"", message, 2)
+}
