@@ -1,0 +1,34 @@
+#!/usr/bin/env bash
+# Runs ./unifdef over the C files of real trees, beside the released unifdef: see README.md in this folder.
+# TREES_WORDS: the options; TREES_INCLUDE: the folder of the headers; TREES_SOURCE: a source tree, in place of Debian's kernel.
+set -eu -o pipefail
+export LC_ALL=C
+here=$(cd "$(dirname "$0")" && pwd)
+program=$(dirname "$here")/unifdef
+read -r -a words <<< "${TREES_WORDS:--U__KERNEL__ -DCONFIG_SMP}"
+include=${TREES_INCLUDE:-/usr/include}
+source=${TREES_SOURCE:-}
+
+[ -x "$program" ] || { echo "trees: $program is not there: run make" >&2; exit 1; }
+
+work=$(mktemp -d)
+trap 'rm -rf "$work"' EXIT
+
+as_root=""
+[ "$(id -u)" -eq 0 ] || as_root=sudo
+[ -x /usr/bin/unifdef ] || $as_root apt-get install --yes --no-install-recommends unifdef >&2
+
+# The C files of the kernel's source as Debian packs it; the package is fetched and not installed.
+if [ -z "$source" ]; then
+  package=$(apt-cache depends linux-source | sed -n 's/^ *Depends: *//p' | head -n 1)
+  [ -n "$package" ] || { echo "trees: no package of the kernel's source: run apt-get update" >&2; exit 1; }
+  echo "trees: fetching $package" >&2
+  (cd "$work" && apt-get download "$package" > /dev/null 2>&1 && dpkg-deb -x ./*.deb package)
+  mkdir "$work/source"
+  tar -C "$work/source" -xf "$work"/package/usr/src/linux-source-*.tar.xz --wildcards '*.c' '*.h'
+  source=$work/source
+fi
+
+for tree in "$include" "$source"; do
+  python3 "$here/trees.py" "$program" /usr/bin/unifdef "$tree" "${words[@]}"
+done
