@@ -2,8 +2,7 @@
 # make check      the merge gate: every proof from nothing, the edits that must be refused, the tests, the stored run
 # make examples   runs the examples of README.md with ./unifdef
 # make install    installs ./unifdef and its manual under DESTDIR and PREFIX; make uninstall takes them away
-# make bench      measures ./unifdef on a large text (bench/README.md)
-# make bench-conditions  measures how fast conditions are decided (bench/README.md)
+# make bench      measures ./unifdef on a large text, and how fast conditions are decided (bench/README.md)
 # make trees      runs ./unifdef over real trees beside the released program (bench/README.md)
 # make clean      removes what was built
 
@@ -22,7 +21,7 @@ SOURCES := crates.txt HANDLES \
 	$(shell find crates -name out -prune -o \( -name '*.rt' -o -name '*.antt' \) -print)
 
 .DELETE_ON_ERROR:
-.PHONY: all build check examples install uninstall bench bench-conditions trees clean
+.PHONY: all build check examples install uninstall bench bench-text bench-conditions trees clean
 
 all: build
 
@@ -47,7 +46,9 @@ install: unifdef
 uninstall:
 	rm -f $(DESTDIR)$(BINDIR)/unifdef $(DESTDIR)$(MANDIR)/man1/unifdef.1
 
-bench: unifdef
+bench: bench-text bench-conditions
+
+bench-text: unifdef
 	bench/run.sh
 
 bench-conditions:
