@@ -2,22 +2,14 @@
 -- ud_model, specs/Parsing.antt, says what a text means in a state. An operand that is read here means the same there: the
 -- state that needs an operand comes to the state that has it, behind fewer bytes.
 --
---   Below k s              the operators that wait are looser than level k
 --   Stops k next           no operator of level k or tighter comes next
 --   Parses m k text r      r is an operand of level k in front of the text and what follows it; or there is none
 --   Asks m text r          r is a name behind `defined` and what follows it; or there is none
-use Rattle.std.specs.Prelude.{◌≡◌, ℕ, ◌≤◌, ◌<◌, false, List, length, Option, Some, None, ◌∷◌, []}
+use Rattle.std.specs.Prelude.{◌≡◌, ℕ, ◌<◌, false, List, length, Option, Some, None}
 use Rattle.ud_model.specs.Tokens.{name, operator, opening, closing, Next, found, next_token}
 use Rattle.ud_model.specs.Expressions.{level}
-use Rattle.ud_model.specs.Parsing.{Meaning, Frame, left, before, paren, needs, has, asks, reads}
+use Rattle.ud_model.specs.Parsing.{Meaning, Frame, Below, needs, has, asks, reads}
 use Rattle.ud_model.specs.declared.operator.Operator.{Operator}
-
--- the operators that wait are looser than level k; a parenthesis holds those outside back
-abbrev pub Below : {A : Type 0} → ℕ → List (Frame A) → Type 0
-Below k [] = Unit {0}
-Below k (left o a ∷ s) = level o < k
-Below k (before o ∷ s) = 10 ≤ k
-Below k (paren ∷ s) = Unit {0}
 
 -- no operator of level k or tighter comes next
 abbrev pub Stops : ℕ → Next → Type 0

@@ -3,16 +3,9 @@ use Rattle.std.proofs.Common.{◌≡◌, ℕ, ◌+◌, ◌<◌, ◌≤◌, List,
 use Rattle.std.proofs.lemmas.Bool.Decides.{leb_tells}
 use Rattle.ud_model.specs.Tokens.{Token, number, name, defined, operator, opening, closing}
 use Rattle.ud_model.specs.Expressions.{Expression, constant, named, is_defined, unary, binary, parens, level, is_prefix, spelling, IsOfLevel}
-use Rattle.ud_model.specs.Parsing.{Meaning, meaning, Frame, left, before, paren, needs, has, stuck, reduce, close, wait, alone, run, itself}
+use Rattle.ud_model.specs.Parsing.{Meaning, meaning, Frame, left, before, paren, Below, needs, has, stuck, reduce, close, wait, alone, run, itself}
 use Rattle.ud_model.specs.declared.operator.Operator.{Operator}
 use Rattle.ud_model.specs.declared.operator.Operator.TheVariants.{Or, And, BitOr, BitXor, BitAnd, Equal, NotEqual, Less, LessEqual, Greater, GreaterEqual, Plus, Minus, Times, Over, Remainder, Not, Complement}
-
--- what waits takes an operand that is followed by an operator of level k no sooner than this operator does
-abbrev pub Below : {A : Type 0} → ℕ → List (Frame A) → Type 0
-Below k [] = Unit {0}
-Below k (left o a ∷ s) = level o < k
-Below k (before o ∷ s) = 10 ≤ k
-Below k (paren ∷ s) = Unit {0}
 
 -- no operator tighter than level k comes next
 abbrev pub Stops : ℕ → List Token → Type 0

@@ -3,18 +3,16 @@ use Rattle.std.proofs.Common.{◌≡◌, ℕ, List, [], ◌∷◌, ◌++◌, map
 use Rattle.std.proofs.lemmas.List.{same_from_push, map-append}
 use Rattle.ud_model.specs.Lines.{Line, lines_of}
 use Rattle.ud_model.specs.Scans.{Reading}
-use Rattle.ud_model.specs.Directives.{Content, cut_keyword, directive, text, content_of}
-use Rattle.ud_model.specs.Conditions.{Decision, decision_on}
+use Rattle.ud_model.specs.Directives.{content_of}
 use Rattle.ud_model.specs.Tree.{Item, Tree, lines}
-use Rattle.ud_model.specs.Items.{Options, reading_of, line_of, directive_item, item_by, item_of, mode_after, read_after, next_item, rules_of}
+use Rattle.ud_model.specs.Items.{Options, reading_of, line_of, item_of, mode_after, read_after, next_item}
 use Rattle.ud_model.specs.Faults.{Fault, Case, past_last, too_long, cut, out_of_place, too_deep, spoiled, earlier, cases, Holds, NoneHolds, fault_in, FaultOf, AreSound, no_lines, one_more, end_fault}
 use Rattle.ud_model.specs.Runs.{Outcome, outcome_of, StopsAt, GoesThrough, Runs, stops, ends, lines_so_far, line_so_far, RestBreaks, RunsSoFar, breaks, goes_on}
 use Rattle.ud_model.specs.Answer.{Answer, IsAnswer, refused, ran}
 use Rattle.ud_model.specs.declared.settings.Settings.{Settings}
-use Rattle.ud_model.specs.declared.kind.Kind.{Kind}
-use Rattle.ud_model.specs.declared.kind.Kind.TheVariants.{If, Ifdef, Ifndef, Elif, Else, Endif}
 use Rattle.ud_model.proofs.Pushes.{ByPush, none, push, by_push, push_not_nil}
 use Rattle.ud_model.proofs.Unique.{unique}
+use Rattle.ud_model.proofs.FaultStays.{reading_of-item_by}
 
 -- sound lines are the lines of their tree
 pub sound_lines : {o : Options} {xs : List (Item Reading)} {t : Tree Reading} → AreSound o xs t → lines t ≡ xs
@@ -61,19 +59,6 @@ pub sound_or_faulty : (xs : List (Item Reading)) (x : Item Reading) (f : Fault) 
 sound_or_faulty xs x f n a =
     let c : (later : List Case) × (earlier a.which ++ a.which ∷ later ≡ cases) = case_in_order a.which in
     none_at xs x (earlier a.which) a.which c.0 (subst (NoneHolds xs x) (sym c.1) n) a.holds
-
-reading_of-directive_item : (r : Reading) (k : Kind) (d : Decision) → reading_of (directive_item r k d) ≡ r
-reading_of-directive_item r If d = refl
-reading_of-directive_item r Ifdef d = refl
-reading_of-directive_item r Ifndef d = refl
-reading_of-directive_item r Elif d = refl
-reading_of-directive_item r Else d = refl
-reading_of-directive_item r Endif d = refl
-
-reading_of-item_by : (o : Options) (r : Reading) (c : Content) → reading_of (item_by o r c) ≡ r
-reading_of-item_by o r cut_keyword = refl
-reading_of-item_by o r text = refl
-reading_of-item_by o r (directive d) = reading_of-directive_item r d.kind (decision_on r.scan d o.table (rules_of o.settings))
 
 -- an item is of the line that was read
 pub reading_of-item_of : (o : Options) (r : Reading) → reading_of (item_of o r) ≡ r

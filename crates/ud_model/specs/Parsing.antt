@@ -5,11 +5,12 @@
 --   expression_of text    the tree of a text, if it has one
 --   Meaning A             what each node of a tree means, of any type
 --   meaning m e           what a tree means by it
+--   Below k s             what waits is looser than level k
 --   reads m s text        what a text means in a state, without a tree
 --
 -- Tokens are read one at a time, with the operators that wait for their operands. Since the meaning is a parameter, a
 -- program that keeps no tree reads by the same steps.
-use Rattle.std.specs.Prelude.{ℕ, zero, suc, leb, Bool, true, false, if◌then◌else◌, List, [], ◌∷◌, length, Option, Some, None, option_map}
+use Rattle.std.specs.Prelude.{ℕ, zero, suc, ◌<◌, ◌≤◌, leb, Bool, true, false, if◌then◌else◌, List, [], ◌∷◌, length, Option, Some, None, option_map}
 use Rattle.ud_model.specs.Tokens.{Token, number, name, defined, operator, opening, closing, Next, at_end, unreadable, found, next_token}
 use Rattle.ud_model.specs.Expressions.{Expression, constant, named, is_defined, unary, binary, parens, level, is_prefix}
 use Rattle.ud_model.specs.declared.operator.Operator.{Operator}
@@ -40,6 +41,14 @@ pub data Frame (A : Type 0) : Type 0 where
   before : Operator → Frame A
   -- an open parenthesis
   paren : Frame A
+
+-- What waits is looser than level k, so an operand that is followed by an operator of this level isn't taken before that
+-- operator. A parenthesis holds back what waits outside.
+abbrev pub Below : {A : Type 0} → ℕ → List (Frame A) → Type 0
+Below k [] = Unit {0}
+Below k (left o a ∷ s) = level o < k
+Below k (before o ∷ s) = 10 ≤ k
+Below k (paren ∷ s) = Unit {0}
 
 -- where the reading stands
 pub data State (A : Type 0) : Type 0 where

@@ -22,6 +22,7 @@ mod GivenLemmas
 mod OptionLemmas
 mod PlanLemmas
 pub mod SeeingLemmas
+pub mod CuttingLemmas
 pub mod PrintLemmas
 pub mod RefusalLemmas
 pub mod RunsSame

@@ -24,9 +24,10 @@ use Rattle.unifdef.specs.declared.mark.Mark.{Mark}
 use Rattle.unifdef.specs.declared.seen.Seen.{Seen}
 use Rattle.unifdef.specs.declared.shape.Shape.{Shape}
 use Rattle.unifdef.specs.declared.shape.Shape.TheVariants.{Text, If, Elif, Else, Endif, Cut}
+use Rattle.unifdef.proofs.CuttingLemmas.{Parts, parts_in, line_cut}
 use Rattle.unifdef.proofs.HeldLemmas.{plain_mode}
 use Rattle.unifdef.proofs.InsideLemmas.{cut_or_text, uncut_text, ended_le}
-use Rattle.unifdef.proofs.PrintLemmas.{cut, ending_by, nothing_later, none_seen}
+use Rattle.unifdef.proofs.PrintLemmas.{ending_by, nothing_later, none_seen}
 use Rattle.unifdef.proofs.WatchingLemmas.{Sent, sent_none, sent_part, sent_front, says_failed, says_all, sent_all, said_all, said_front}
 
 -- a name with what stands before it and a line feed
@@ -202,45 +203,21 @@ module _ (o : Options) (text bytes : List ℕ) (depths : Bool) (a b : Option (Li
       (subst (λ w. Sent a b bytes (listed depths (items_behind o r.before (lines_left number r.later))
       (take (length w) (counted sections (items_behind o r.before (lines_left number r.later)))))) h r.sent)
 
--- where a line's parts end, in order
-pub record Parts (text : List ℕ) (at : ℕ) (end : LineEnd) : Type 0 where
-  pub body : at ≤ end.body
-  pub line : end.body ≤ end.line
-  pub text_holds : end.line ≤ length text
-
 module _ {o : Options} {text bytes : List ℕ} {depths : Bool} {a b : Option (List ℕ)} {carried : Carried} {at number sections : ℕ}
     {end : LineEnd} {s : Seen} {ends : List LineEnd} {ss : List Seen} {ms : List Mark} where
+  abbrev rest_of : Next o text bytes depths a b carried at number sections end s ends ss ms → List ℕ
+  rest_of t = concat (map text_of (lines_left (suc number) t.later))
+
   -- a line's parts are within the text
   pub next_within : Next o text bytes depths a b carried at number sections end s ends ss ms → Parts text at end
-  next_within t =
-      let whole = length-append t.line.body t.line.ending in
-      let all = ap length t.joined ∙ length-append t.passed (text_of t.line ++ concat (map text_of (lines_left (suc number) t.later))) in
-      let rest = length-append (text_of t.line) (concat (map text_of (lines_left (suc number) t.later))) in
-      let p = t.passed_to in
-      let q = t.body_ends in
-      let r = t.line_ends in
-      record { body = omega (arith, q); line = omega (arith, q, r, whole); text_holds = omega (arith, all, rest, p, r) }
+  next_within t = parts_in text t.passed (rest_of t) t.line at end t.joined t.passed_to t.body_ends t.line_ends
 
   -- the line, as its ends cut it from the text
   pub next_line : (t : Next o text bytes depths a b carried at number sections end s ends ss ms) → (n : ℕ) → n ≡ number + 1 →
       line_between text at end n ≡ t.line
   next_line t n h =
-      let l : Line = t.line in
-      let rest : List ℕ = concat (map text_of (lines_left (suc number) t.later)) in
-      let p = t.passed_to in
-      let q = t.body_ends in
-      let r = t.line_ends in
-      let whole = length-append l.body l.ending in
-      let front = length-append t.passed l.body in
-      let joined : text ≡ t.passed ++ (l.body ++ (l.ending ++ rest)) = t.joined ∙ ap (λ x. t.passed ++ x) (append_assoc l.body l.ending rest) in
-      let body : take (end.body - at) (drop at text) ≡ l.body = cut text t.passed l.body (l.ending ++ rest) at (end.body - at) joined p (omega (arith, q)) in
-      let ending : take (end.line - end.body) (drop end.body text) ≡ l.ending =
-      cut text (t.passed ++ l.body) l.ending rest end.body (end.line - end.body)
-      (joined ∙ sym (append_assoc t.passed l.body (l.ending ++ rest))) (omega (arith, front, p, q)) (omega (arith, whole, q, r)) in
-      let count : n ≡ l.number = h ∙ add-one number ∙ sym t.numbered in
-      ap (λ (x : List ℕ). let k : Line = record { body = x; ending = take (end.line - end.body) (drop end.body text); number = n } in k) body
-      ∙ ap (λ (x : List ℕ). let k : Line = record { body = l.body; ending = x; number = n } in k) ending
-      ∙ ap (λ (x : ℕ). let k : Line = record { body = l.body; ending = l.ending; number = x } in k) count
+      ap (line_between text at end) (h ∙ add-one number ∙ sym t.numbered)
+      ∙ line_cut text t.passed (rest_of t) t.line at end t.joined t.passed_to t.body_ends t.line_ends
 
   -- its ending is one
   pub next_ended : Next o text bytes depths a b carried at number sections end s ends ss ms → IsTrue (is_ending (take (end.line - end.body) (drop end.body text)))

@@ -2,7 +2,7 @@
 use Rattle.std.proofs.Common.{arith, inl, inr, ◌≡◌, ℕ, suc, ◌+◌, ◌-◌, ◌≤◌, List, [], ◌∷◌, ◌++◌, length, map, take, drop, Bool, true, false, not, ◌||◌, Option, IsTrue, bytes_eq, if◌then◌else◌, refl, sym, ap, ap₂, subst, ◌∙◌, append_assoc, add-one, length-append, take-append-drop}
 use Rattle.std.specs.List.{concat, AllByRecursion}
 use Rattle.std.specs.Prelude.{◌⊎◌}
-use Rattle.std.proofs.Math.Seq.{drop-append_seam, drop-length, take-append_seam}
+use Rattle.std.proofs.Math.Seq.{drop-length}
 use Rattle.std.proofs.lemmas.List.{drop-append-le, length-drop, length-take-le}
 use Rattle.std.proofs.lemmas.Slice.Eq.{bytes_eq-Decides}
 use Rattle.std.specs.Io.KnownBytes.{Appends}
@@ -28,6 +28,7 @@ use Rattle.unifdef.specs.declared.held.LineEnd.{LineEnd}
 use Rattle.unifdef.specs.declared.seen.Seen.{Seen}
 use Rattle.unifdef.specs.declared.mark.Mark as kept_marks
 use Rattle.unifdef.specs.Watching.{AppendsFront, Says}
+use Rattle.unifdef.proofs.CuttingLemmas.{cut, Parts, parts_in, line_cut}
 use Rattle.unifdef.proofs.InsideLemmas.{lines_of-items_in}
 use Rattle.unifdef.proofs.SeeingLemmas.{masked_le}
 use Rattle.unifdef.proofs.WatchingLemmas.{Sent, sent_none, sent_part, sent_front, sent_all}
@@ -91,12 +92,6 @@ run_begins o texts held piece a ms rest text ends ss h is_text is_ends is_seen i
       ap (λ ns. some_other (pieces_by piece [] (judged_lines (items_in o (numbered_from 1 texts)) (map mark_of ns))) (judged_lines (items_in o (numbered_from 1 texts)) (map mark_of ns)))
       (sym is_rest);
 }
-
--- a part of a text, as a range cuts it
-pub cut : (text x y z : List ℕ) (i n : ℕ) → text ≡ x ++ (y ++ z) → length x ≡ i → length y ≡ n → take n (drop i text) ≡ y
-cut text x y z i n e p q =
-    ap (λ t. take n (drop i t)) e ∙ ap (λ k. take n (drop k (x ++ (y ++ z)))) (sym p)
-    ∙ ap (take n) (drop-append_seam x (y ++ z)) ∙ ap (λ k. take k (y ++ z)) (sym q) ∙ take-append_seam y z
 
 -- what is cut from a text for a run, which ends where so many bytes have passed
 cut_run : (text passed rest : List ℕ) (from at : ℕ) → text ≡ passed ++ rest → length passed ≡ at → from ≤ at
@@ -178,13 +173,6 @@ module _ (text bytes : List ℕ) (total : Bool) (piece : List Judged → Judged 
       (subst (λ w. Sent a b bytes (drop from r.passed ++ concat (pieces_by piece before (judged_lines r.xs (map mark_of w))))) h r.sent)
       (subst (λ w. total ≡ (differs || some_other (pieces_by piece before (judged_lines r.xs (map mark_of w))) (judged_lines r.xs (map mark_of w)))) h r.differ)
 
--- where a line's parts end, in order
-pub record Ends (text : List ℕ) (from at : ℕ) (end : LineEnd) : Type 0 where
-  pub run : from ≤ at
-  pub body : at ≤ end.body
-  pub line : end.body ≤ end.line
-  pub text_holds : end.line ≤ length text
-
 pub ending_by : (a b : Bool) → IsTrue (is_ending (if a then 13 ∷ 10 ∷ [] else if b then 10 ∷ [] else []))
 ending_by true b = refl
 ending_by false true = refl
@@ -218,35 +206,17 @@ true_or false d = refl
 
 module _ {text bytes : List ℕ} {total : Bool} {piece : List Judged → Judged → List ℕ} {before : List Judged} {a b : Option (List ℕ)} {from at number : ℕ} {differs : Bool}
     {end : LineEnd} {s : Seen} {m : kept_marks.Mark} {ends : List LineEnd} {ss : List Seen} {ms : List kept_marks.Mark} where
+  abbrev rest_of : Turn text bytes total piece before a b from at number differs end s m ends ss ms → List ℕ
+  rest_of t = concat (map text_of (numbered_from (suc (suc number)) t.later))
+
   -- a line's parts are within the text
-  pub turn_within : Turn text bytes total piece before a b from at number differs end s m ends ss ms → Ends text from at end
-  turn_within t =
-      let l : Line = line_at (suc number) t.body_text in
-      let whole = length-append l.body l.ending in
-      let all = ap length t.joined ∙ length-append t.passed (text_of l ++ concat (map text_of (numbered_from (suc (suc number)) t.later))) in
-      let rest = length-append (text_of l) (concat (map text_of (numbered_from (suc (suc number)) t.later))) in
-      let p = t.passed_to in
-      let q = t.body_ends in
-      let r = t.line_ends in
-      record { run = t.ordered; body = omega (arith, q); line = omega (arith, q, r, whole); text_holds = omega (arith, all, rest, p, r) }
+  pub turn_within : Turn text bytes total piece before a b from at number differs end s m ends ss ms → Parts text at end
+  turn_within t = parts_in text t.passed (rest_of t) (line_at (suc number) t.body_text) at end t.joined t.passed_to t.body_ends t.line_ends
 
   -- the line, as its ends cut it from the text
   pub turn_line : (t : Turn text bytes total piece before a b from at number differs end s m ends ss ms) →
       line_between text at end (suc number) ≡ line_at (suc number) t.body_text
-  turn_line t =
-      let l : Line = line_at (suc number) t.body_text in
-      let rest : List ℕ = concat (map text_of (numbered_from (suc (suc number)) t.later)) in
-      let p = t.passed_to in
-      let q = t.body_ends in
-      let r = t.line_ends in
-      let whole = length-append l.body l.ending in
-      let front = length-append t.passed l.body in
-      let joined : text ≡ t.passed ++ (l.body ++ (l.ending ++ rest)) = t.joined ∙ ap (λ x. t.passed ++ x) (append_assoc l.body l.ending rest) in
-      let body : take (end.body - at) (drop at text) ≡ l.body = cut text t.passed l.body (l.ending ++ rest) at (end.body - at) joined p (omega (arith, q)) in
-      let ending : take (end.line - end.body) (drop end.body text) ≡ l.ending =
-      cut text (t.passed ++ l.body) l.ending rest end.body (end.line - end.body)
-      (joined ∙ sym (append_assoc t.passed l.body (l.ending ++ rest))) (omega (arith, front, p, q)) (omega (arith, whole, q, r)) in
-      ap₂ (λ (x y : List ℕ). let k : Line = record { body = x; ending = y; number = suc number } in k) body ending
+  turn_line t = line_cut text t.passed (rest_of t) (line_at (suc number) t.body_text) at end t.joined t.passed_to t.body_ends t.line_ends
 
   -- its ending is one
   pub turn_ended : Turn text bytes total piece before a b from at number differs end s m ends ss ms → IsTrue (is_ending (take (end.line - end.body) (drop end.body text)))

@@ -2,7 +2,8 @@ use Rattle.std.proofs.Common.{rules, ◌<◌, map, length, refl, ap, ◌∙◌, 
 use Rattle.ud_model.specs.Items.{reading_of}
 use Rattle.unifdef.specs.Inside.{most}
 use Rattle.unifdef.proofs.PrintLemmas.{one_empty}
-use Rattle.unifdef.proofs.ListingLemmas.{Parts, left_begins, next_of, next_within, next_ended, next_readable, next_left, next_fails, left_ends, open_le}
+use Rattle.unifdef.proofs.CuttingLemmas.{Parts}
+use Rattle.unifdef.proofs.ListingLemmas.{left_begins, next_of, next_within, next_ended, next_readable, next_left, next_fails, left_ends, open_le}
 use Rattle.unifdef.proofs.listing.list_held.Goals as goal
 
 pub loop-end-init : goal.loop-end-init

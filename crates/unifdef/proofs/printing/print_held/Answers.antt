@@ -2,7 +2,8 @@ use Rattle.std.proofs.Common.{rules, ◌++◌, ◌∷◌, ◌+◌, [], ℕ, List
 use Rattle.ud_sections.specs.Showing.{judged}
 use Rattle.unifdef.specs.Watching.{AppendsFront}
 use Rattle.unifdef.proofs.WatchingLemmas.{says_failed}
-use Rattle.unifdef.proofs.PrintLemmas.{Ends, run_begins, turn_of, turn_within, turn_ended, turn_judged, turn_keyword, turn_fails, turn_next, run_within, run_ends, run_differs, one_empty}
+use Rattle.unifdef.proofs.CuttingLemmas.{Parts}
+use Rattle.unifdef.proofs.PrintLemmas.{run_begins, turn_of, turn_within, turn_ended, turn_judged, turn_keyword, turn_fails, turn_next, run_within, run_ends, run_differs, one_empty}
 use Rattle.unifdef.proofs.printing.print_held.Goals as goal
 use Rattle.unifdef.proofs.printing.print_held.Goals.{then-shown, else-shown}
 
@@ -36,8 +37,8 @@ pub line_in-line-requires-clause-fits : goal.line_in-line-requires-clause-fits
 line_in-line-requires-clause-fits g c =
     let h = c.requires.lines in
     let s = c.in-Some.ensures.steps in
-    let ends : Ends _ _ _ _ = turn_within (turn_of _ _ _ _ _ _ _ _ _ _ _ _ _ _ _ _ _ _ _ _ (c.loop-end.invariant.given.2 h.0 h.1 h.2) s.0 s.1.0 s.1.1) in
-    ends.text_holds
+    let parts : Parts _ _ _ = turn_within (turn_of _ _ _ _ _ _ _ _ _ _ _ _ _ _ _ _ _ _ _ _ (c.loop-end.invariant.given.2 h.0 h.1 h.2) s.0 s.1.0 s.1.1) in
+    parts.text_holds
 
 pub line_in-line-requires-clause-ended : goal.line_in-line-requires-clause-ended
 line_in-line-requires-clause-ended g c =
