@@ -4,3 +4,13 @@ pub mod Styles
 pub mod Printers
 pub mod Finding
 pub mod Listing
+pub mod Phases
+pub mod Levels
+pub mod Acting
+pub mod Seeing
+pub mod Judging
+pub mod Limits
+pub mod Sections
+pub mod Ending
+pub mod Changing
+pub mod Turning

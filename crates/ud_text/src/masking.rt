@@ -243,7 +243,8 @@ pub(crate) fn mask_content(
     requires empty { masked.old.items ≡ [] }
     requires fits { length content.now ≤ LINE_BYTES }
     requires one_line { NoFeed content.now }
-    ensures { (text : List ℕ) → Reads text (place_of reached.place) reached.white → Masks (length text) (text ++ content.now) (place_of result.place) result.white masked.new.items }
+    ensures len { length masked.new.items ≡ length content.now }
+    ensures masks { (text : List ℕ) → Reads text (place_of reached.place) reached.white → Masks (length text) (text ++ content.now) (place_of result.place) result.white masked.new.items }
 {
     let mut inside = reached;
     let mut at = 0;

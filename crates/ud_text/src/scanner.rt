@@ -122,6 +122,7 @@ fn scan_code(carry: Carry, line: &Line<'_>, masked: &mut ArrayVec<u8, LINE_BYTES
     requires one_line { NoFeed line.now.body.now }
     ensures stands { (before : List Reading) → Carries (carried_by carry) before → Carries (carried_by result.0) (before ++ next_reading before Mode.C (as_line line.now) ∷ []) }
     ensures value { (before : List Reading) → Carries (carried_by carry) before → scan_with masked.new.items result.1 ≡ scan_after before Mode.C (as_line line.now) }
+    ensures fits { length masked.new.items ≤ length line.now.body.now }
 {
     let spliced = is_spliced(line);
     let bytes = content(line);
@@ -145,6 +146,7 @@ fn scan_plain(line: &Line<'_>, masked: &mut ArrayVec<u8, LINE_BYTES>) -> (Carry,
     requires fits { length line.now.body.now ≤ LINE_BYTES }
     ensures stands { (before : List Reading) → Carries (carried_by result.0) (before ++ next_reading before Mode.Plain (as_line line.now) ∷ []) }
     ensures value { (before : List Reading) → scan_with masked.new.items result.1 ≡ scan_after before Mode.Plain (as_line line.now) }
+    ensures fits { length masked.new.items ≤ length line.now.body.now }
 {
     let _ = masked.try_extend_from_slice(line.body);
     let facts = Facts {
@@ -168,6 +170,7 @@ fn scan_line(
     requires one_line { NoFeed line.now.body.now }
     ensures stands { (before : List Reading) → Carries (carried_by carry) before → Carries (carried_by result.0) (before ++ next_reading before mode (as_line line.now) ∷ []) }
     ensures value { (before : List Reading) → Carries (carried_by carry) before → scan_with masked.new.items result.1 ≡ scan_after before mode (as_line line.now) }
+    ensures fits { length masked.new.items ≤ length line.now.body.now }
 {
     masked.clear();
     match mode {
@@ -205,6 +208,7 @@ impl Scanner {
         requires one_line { NoFeed line.now.body.now }
         ensures* stands { sem 𝓛 (ReadsLine self.entry mode (as_line line.now)) }
         ensures value { (before : List Reading) → Carries self.old before → as_scan result ≡ scan_after before mode (as_line line.now) }
+        ensures fits { length result.masked.now ≤ length line.now.body.now }
     {
         let (carry, facts) = scan_line(mode, self.carry, line, &mut self.masked);
         self.carry = carry;

@@ -34,6 +34,6 @@ loop-at-preserved c = record {
       (c.mask_run-count.ensures.masks _ _ (c.loop-at.invariant.masks text r));
 }
 
-pub returns : goal.returns
-returns c = λ text r.
+pub returns-clause-masks : goal.returns-clause-masks
+returns-clause-masks c = λ text r.
     Masks-same (ap (λ l. text ++ l) (take_all c.loop-at.at c.args.content.now c.loop-at-test.false)) refl refl refl (c.loop-at.invariant.masks text r)

@@ -22,7 +22,7 @@ shown_content : (c : After-comment_at) (before : List Reading) → Carries (carr
 shown_content c before h =
     subst (λ (l : List ℕ). Masks (length (joined (run_of before))) (joined (run_of before) ++ l) (place_of c.mask_content-inside.result.place)
     c.mask_content-inside.result.white c.mask_content-inside.new.masked.items) c.content-bytes.ensures
-    (c.mask_content-inside.ensures (joined (run_of before)) h.reads)
+    (c.mask_content-inside.ensures.masks (joined (run_of before)) h.reads)
 
 or_true : (a b : Bool) → a ≡ true → a ≡ (a || b)
 or_true true b e = refl

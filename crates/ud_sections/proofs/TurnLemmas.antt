@@ -1,0 +1,200 @@
+-- Turns: what the machine answers to the line that comes next.
+use Rattle.std.proofs.Common.{◌≡◌, ◌≤◌, List, [], ◌∷◌, ◌++◌, length, true, false, Result, Ok, Err, refl, sym, ◌∙◌, ap, ap₂, subst, arith}
+use Rattle.ud_model.specs.Lines.{Line}
+use Rattle.ud_model.specs.Scans.{Scan, Reading, is_spanning}
+use Rattle.ud_model.specs.Directives.{Span, Content, cut_keyword, directive, text, content_of}
+use Rattle.ud_model.specs.Conditions.{Decision, decision_on}
+use Rattle.ud_model.specs.Table.{Argument}
+use Rattle.ud_model.specs.Tree.{Item, Tree, lines, depth}
+use Rattle.ud_model.specs.Pruning.{Mark, marks, is_removed}
+use Rattle.ud_model.specs.Items.{Options, reading_of, line_of, item_by, directive_item, rules_of, mode_after, read_after, next_item}
+use Rattle.ud_model.specs.Faults.{FaultOf, NoneHolds, cases, is_cut, ends_removed, last_number, obfuscated}
+use Rattle.ud_model.specs.Printing.{keyword_in, judged}
+use Rattle.ud_model.specs.declared.kind.Kind as kinds
+use Rattle.ud_model.specs.declared.kind.Kind.TheVariants as kind
+use Rattle.ud_model.specs.declared.limits.TheConstants.{OPEN_SECTIONS}
+use Rattle.ud_model.proofs.FaultStays.{reading_of-item_by}
+use Rattle.ud_model.proofs.Soundness.{reading_of-item_of, reading_of-next, sound_lines}
+use Rattle.ud_sections.specs.declared.fault.SectionFault.{SectionFault}
+use Rattle.ud_sections.specs.declared.fault.SectionFault.TheVariants.{Obfuscated}
+use Rattle.ud_sections.specs.declared.found.Cut.{Cut}
+use Rattle.ud_sections.specs.declared.level.Action.{Action}
+use Rattle.ud_sections.specs.declared.machine.Machine.{Machine}
+use Rattle.ud_sections.specs.declared.machine.Turn.{Turn}
+use Rattle.ud_sections.specs.declared.seeing.Seen.{Seen}
+use Rattle.ud_sections.specs.Acting.{Changes}
+use Rattle.ud_sections.specs.Judging.{judged_by}
+use Rattle.ud_sections.specs.Levels.{levels}
+use Rattle.ud_sections.specs.Limits.{IsWithin}
+use Rattle.ud_sections.specs.Sections.{HasRead, ComesNext, fault_of}
+use Rattle.ud_sections.specs.Seeing.{shape_of, shape_in, seen_on, seen_with}
+use Rattle.ud_sections.specs.Showing.{as_span}
+use Rattle.ud_sections.specs.Turning.{before_in, turn_with, turned}
+use Rattle.ud_sections.proofs.LineFaults.{cut_fault}
+use Rattle.ud_sections.proofs.Moves.{mark_of, innermost_level, depth_levels}
+use Rattle.ud_sections.proofs.Judgements.{before_behind, IsSeen, Follows, judged_well, judged_ill}
+
+shape_of_kind : (r : Reading) (k : kinds.Kind) (d : Decision) → shape_of (directive_item r k d) ≡ shape_in k d
+shape_of_kind r kind.If d = refl
+shape_of_kind r kind.Ifdef d = refl
+shape_of_kind r kind.Ifndef d = refl
+shape_of_kind r kind.Elif d = refl
+shape_of_kind r kind.Else d = refl
+shape_of_kind r kind.Endif d = refl
+
+-- what is seen of a line that carries this
+pub record SeenOn (o : Options) (r : Reading) (c : Content) (s : Seen) : Type 0 where
+  pub seen : IsSeen (item_by o r c) s
+  pub whole : is_cut c ≡ false
+  pub keyword : as_span s.keyword ≡ keyword_in c
+
+module _ (o : Options) (r : Reading) where
+  pub seen_well : (c : Content) (s : Seen) → seen_on r.scan o.table (rules_of o.settings) c ≡ Ok s → SeenOn o r c s
+  seen_well cut_keyword s e = cc
+  seen_well text s e =
+      let q : seen_with r.scan (record { at = 0; len = 0 }) (shape_of (item_by o r text)) ≡ s = cc in
+      subst (SeenOn o r text) q (record { seen = record { shape = refl; spans = refl; joins = refl }; whole = refl; keyword = refl })
+  seen_well (directive d) s e =
+      let q : seen_with r.scan d.keyword (shape_in d.kind (decision_on r.scan d o.table (rules_of o.settings))) ≡ s = cc in
+      let k : reading_of (item_by o r (directive d)) ≡ r = reading_of-item_by o r (directive d) in
+      subst (SeenOn o r (directive d)) q (record {
+        seen = record {
+          shape = sym (shape_of_kind r d.kind (decision_on r.scan d o.table (rules_of o.settings)));
+          spans = ap (λ (v : Reading). is_spanning v.scan) (sym k);
+          joins = ap (λ (v : Reading). v.scan.joins_before) (sym k);
+        };
+        whole = refl;
+        keyword = refl;
+      })
+
+  pub seen_ill : (c : Content) (f : Cut) → seen_on r.scan o.table (rules_of o.settings) c ≡ Err f → is_cut c ≡ true
+  seen_ill cut_keyword f e = refl
+  seen_ill text f e = cc
+  seen_ill (directive d) f e = cc
+
+-- the line is sound, and this is its turn
+pub record TurnsWell (o : Options) (xs : List (Item Reading)) (t : Tree Reading) (l : Line) (turn : Turn) : Type 0 where
+  pub tree : Tree Reading
+  pub lines_are : lines tree ≡ xs ++ next_item o xs t l ∷ []
+  pub clear : NoneHolds xs (next_item o xs t l) cases
+  pub mark : Mark
+  pub marks_are : marks tree ≡ marks t ++ mark ∷ []
+  pub changes : Changes turn.change (levels true o.settings.plain t) (levels true o.settings.plain tree)
+  pub judged_so : record { line = l; verdict = turn.step.verdict; keyword = as_span turn.step.keyword } ≡ judged (next_item o xs t l) mark
+
+-- a machine keeps what stands before the line
+pub before_is : (m : Machine) (o : Options) (xs : List (Item Reading)) (t : Tree Reading) → HasRead m o xs t →
+    before_in m ≡ before_behind o.settings.plain t
+before_is m o xs t h =
+    rw (h.settings, h.sections, h.removed, innermost_level o.settings.plain t, depth_levels true o.settings.plain t) refl
+
+module _ (o : Options) (xs : List (Item Reading)) (t : Tree Reading) (l : Line) (e : lines t ≡ xs) (w : IsWithin l) (shallow : depth t ≤ OPEN_SECTIONS) where
+  within_item : IsWithin (line_of (next_item o xs t l))
+  within_item = subst IsWithin (sym (reading_of-next o xs t l)) w
+
+  -- what is carried by the line
+  abbrev carried : Content
+  carried = content_of (read_after xs (mode_after o t) l).scan
+
+  carried_item : content_of (reading_of (next_item o xs t l)).scan ≡ carried
+  carried_item = ap (λ (v : Reading). content_of v.scan) (reading_of-item_of o (read_after xs (mode_after o t) l))
+
+  number_is : l.number ≡ (line_of (next_item o xs t l)).number
+  number_is = ap (λ (k : Line). k.number) (sym (reading_of-next o xs t l))
+
+  well_seen : (s : Seen) → SeenOn o (read_after xs (mode_after o t) l) carried s → (a : Action) →
+      judged_by (before_behind o.settings.plain t) s l.number ≡ Ok a →
+      TurnsWell o xs t l (record { step = record { verdict = a.verdict; keyword = s.keyword }; change = a.change })
+  well_seen s seen a j =
+      let f : Follows o.settings.plain t (next_item o xs t l) a =
+      judged_well o.settings.plain t (next_item o xs t l) s seen.seen within_item (ap is_cut carried_item ∙ seen.whole) shallow a
+      (ap (λ n. judged_by (before_behind o.settings.plain t) s n) (sym number_is) ∙ j) in
+      record {
+        tree = f.tree;
+        lines_are = f.lines_are ∙ ap (λ ys. ys ++ next_item o xs t l ∷ []) e;
+        clear = subst (λ ys. NoneHolds ys (next_item o xs t l) cases) e f.clear;
+        mark = mark_of a;
+        marks_are = f.marks_are;
+        changes = f.changes;
+        judged_so =
+            ap₂ (λ (k : Line) (q : Span). record { line = k; verdict = a.verdict; keyword = q }) (sym (reading_of-next o xs t l))
+            (seen.keyword ∙ ap keyword_in (sym carried_item));
+      }
+
+  ill_seen : (s : Seen) → SeenOn o (read_after xs (mode_after o t) l) carried s → (f : SectionFault) →
+      judged_by (before_behind o.settings.plain t) s l.number ≡ Err f → FaultOf xs (next_item o xs t l) (fault_of f)
+  ill_seen s seen f j =
+      subst (λ ys. FaultOf ys (next_item o xs t l) (fault_of f)) e
+      (judged_ill o.settings.plain t (next_item o xs t l) s seen.seen within_item (ap is_cut carried_item ∙ seen.whole) shallow f
+      (ap (λ n. judged_by (before_behind o.settings.plain t) s n) (sym number_is) ∙ j))
+
+  well_by : (s : Seen) → SeenOn o (read_after xs (mode_after o t) l) carried s → (a : Result Action SectionFault) →
+      judged_by (before_behind o.settings.plain t) s l.number ≡ a → (turn : Turn) → turn_with s.keyword a ≡ Ok turn → TurnsWell o xs t l turn
+  well_by s seen (Ok a) j turn q =
+      let same : record { step = record { verdict = a.verdict; keyword = s.keyword }; change = a.change } ≡ turn = cc in
+      subst (TurnsWell o xs t l) same (well_seen s seen a j)
+  well_by s seen (Err f) j turn q = cc
+
+  ill_by : (s : Seen) → SeenOn o (read_after xs (mode_after o t) l) carried s → (a : Result Action SectionFault) →
+      judged_by (before_behind o.settings.plain t) s l.number ≡ a → (f : SectionFault) → turn_with s.keyword a ≡ Err f →
+      FaultOf xs (next_item o xs t l) (fault_of f)
+  ill_by s seen (Ok a) j f q = cc
+  ill_by s seen (Err g) j f q =
+      let same : g ≡ f = cc in
+      subst (λ h. FaultOf xs (next_item o xs t l) (fault_of h)) same (ill_seen s seen g j)
+
+  well_at : (s : Result Seen Cut) → seen_on (read_after xs (mode_after o t) l).scan o.table (rules_of o.settings) carried ≡ s →
+      (turn : Turn) → turned (before_behind o.settings.plain t) l.number s ≡ Ok turn → TurnsWell o xs t l turn
+  well_at (Ok s) seen turn q =
+      well_by s (seen_well o (read_after xs (mode_after o t) l) carried s seen) (judged_by (before_behind o.settings.plain t) s l.number) refl turn q
+  well_at (Err cut) seen turn q = cc
+
+  ill_at : (s : Result Seen Cut) → seen_on (read_after xs (mode_after o t) l).scan o.table (rules_of o.settings) carried ≡ s →
+      (f : SectionFault) → turned (before_behind o.settings.plain t) l.number s ≡ Err f → FaultOf xs (next_item o xs t l) (fault_of f)
+  ill_at (Ok s) seen f q =
+      ill_by s (seen_well o (read_after xs (mode_after o t) l) carried s seen) (judged_by (before_behind o.settings.plain t) s l.number) refl f q
+  ill_at (Err cut) seen f q =
+      let same : Obfuscated l.number ≡ f = cc in
+      subst (λ h. FaultOf xs (next_item o xs t l) (fault_of h)) same
+      (subst (λ n. FaultOf xs (next_item o xs t l) (obfuscated n)) (sym number_is)
+      (cut_fault xs (next_item o xs t l) within_item (ap is_cut carried_item ∙ seen_ill o (read_after xs (mode_after o t) l) carried cut seen)))
+
+-- what the machine is asked for the line that comes next
+abbrev pub asked : Machine → Options → Scan → Line → Result Turn SectionFault
+asked m o scan l = turned (before_in m) l.number (seen_on scan o.table (rules_of m.settings) (content_of scan))
+
+asked_is : (m : Machine) (o : Options) (xs : List (Item Reading)) (t : Tree Reading) (scan : Scan) (l : Line) (table : List Argument) →
+    HasRead m o xs t → ComesNext o xs t scan l table →
+    turned (before_behind o.settings.plain t) l.number
+    (seen_on (read_after xs (mode_after o t) l).scan o.table (rules_of o.settings) (content_of (read_after xs (mode_after o t) l).scan))
+    ≡ asked m o scan l
+asked_is m o xs t scan l table h next = rw (before_is m o xs t h, h.settings, next.seen) refl
+
+pub shallow_by : (m : Machine) (o : Options) (xs : List (Item Reading)) (t : Tree Reading) → HasRead m o xs t →
+    length m.open_sections.items ≤ OPEN_SECTIONS → depth t ≤ OPEN_SECTIONS
+shallow_by m o xs t h fits =
+    let a : length m.open_sections.items ≡ length (levels true o.settings.plain t) = ap length h.sections in
+    let b : length (levels true o.settings.plain t) ≡ depth t = depth_levels true o.settings.plain t in
+    omega (arith, a, b, fits)
+
+module _ (m : Machine) (o : Options) (xs : List (Item Reading)) (t : Tree Reading) (scan : Scan) (l : Line) (table : List Argument)
+    (h : HasRead m o xs t) (next : ComesNext o xs t scan l table) (w : IsWithin l) (fits : length m.open_sections.items ≤ OPEN_SECTIONS) where
+  -- a line whose turn is told is sound
+  pub turns_well : (turn : Turn) → asked m o scan l ≡ Ok turn → TurnsWell o xs t l turn
+  turns_well turn e =
+      well_at o xs t l (sound_lines h.sound) w (shallow_by m o xs t h fits) _ refl turn (asked_is m o xs t scan l table h next ∙ e)
+
+  -- a line of which a fault is told has this fault
+  pub turns_ill : (f : SectionFault) → asked m o scan l ≡ Err f → FaultOf xs (next_item o xs t l) (fault_of f)
+  turns_ill f e =
+      ill_at o xs t l (sound_lines h.sound) w (shallow_by m o xs t h fits) _ refl f (asked_is m o xs t scan l table h next ∙ e)
+
+pub ends_removed_last : (ms : List Mark) (m : Mark) → ends_removed (ms ++ m ∷ []) ≡ is_removed m.verdict
+ends_removed_last [] m = refl
+ends_removed_last (k ∷ []) m = refl
+ends_removed_last (k ∷ n ∷ ms) m = ends_removed_last (n ∷ ms) m
+
+pub last_number_last : (xs : List (Item Reading)) (x : Item Reading) → last_number (xs ++ x ∷ []) ≡ (line_of x).number
+last_number_last [] x = refl
+last_number_last (y ∷ []) x = refl
+last_number_last (y ∷ z ∷ ys) x = last_number_last (z ∷ ys) x

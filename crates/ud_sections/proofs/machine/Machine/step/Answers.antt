@@ -1,0 +1,17 @@
+use Rattle.std.proofs.Common.{sym, refl}
+use Rattle.ud_text.specs.Viewing.{as_line, as_scan}
+use Rattle.ud_sections.proofs.TurnLemmas.{turns_well, turns_ill}
+use Rattle.ud_sections.proofs.StandingLemmas.{reads_line}
+use Rattle.ud_sections.proofs.machine.Machine.step.Goals as goal
+
+pub returns-in-Ok-clause-stands : goal.returns-in-Ok-clause-stands
+returns-in-Ok-clause-stands c = λ o xs t h next.
+    reads_line c.args.self.now _ o xs t (as_line c.args.line.now) c.in-Ok.turn h
+    (turns_well c.args.self.now o xs t (as_scan c.args.scan.now) (as_line c.args.line.now) c.args.symbols.now h next c.requires.within c.turn.ensures.fits
+    c.in-Ok.turn (sym (c.in-Ok.ensures.value o.table next.stands)))
+    refl c.change.ensures c.is_removed-self.ensures refl
+
+pub returns-in-Err-clause-refuses : goal.returns-in-Err-clause-refuses
+returns-in-Err-clause-refuses c = λ o xs t h next none.
+    turns_ill c.args.self.now o xs t (as_scan c.args.scan.now) (as_line c.args.line.now) c.args.symbols.now h next c.requires.within c.turn.ensures.fits
+    c.in-Err.fault (sym (c.in-Err.ensures.value o.table next.stands))

@@ -1,0 +1,9 @@
+-- Limits: lines within the limits of a text.
+use Rattle.std.specs.Prelude.{◌≤◌, length}
+use Rattle.ud_model.specs.Lines.{Line, text_of}
+use Rattle.ud_model.specs.declared.limits.TheConstants.{LINE_BYTES, TEXT_LINES}
+
+-- a line within the limits
+pub record IsWithin (l : Line) : Type 0 where
+  pub number_fits : l.number ≤ TEXT_LINES
+  pub bytes_fit : length (text_of l) ≤ LINE_BYTES

@@ -1,0 +1,111 @@
+//! What is kept of a line while it is judged.
+
+ghost use Rattle.std.specs.Prelude.{◌≡◌, ◌≤◌, ◌+◌, List, length, IfOk};
+ghost use Rattle.ud_model.specs.Scans.{is_spanning};
+ghost use Rattle.ud_model.specs.Directives.{content_of};
+ghost use Rattle.ud_model.specs.Conditions.{decision_on};
+ghost use Rattle.ud_model.specs.Items.{rules_of};
+ghost use Rattle.ud_model.specs.Table.{Argument};
+ghost use Rattle.ud_model.specs.declared.limits.TheConstants.{LINE_BYTES};
+ghost use Rattle.ud_cond.specs.Standing.{StandsFor};
+ghost use Rattle.ud_cond.specs.Viewing.{as_decision, as_rules};
+ghost use Rattle.ud_text.specs.Viewing.{as_scan};
+ghost use Rattle.ud_sections.specs.Finding.{as_directive};
+ghost use Rattle.ud_sections.specs.Seeing.{shape_in, seen_on};
+
+use crate::finding::directive;
+use crate::found::{Cut, Directive};
+use crate::shape::Shape;
+use crate::step::Span;
+use ud_cond::{Answer, Rules, Symbols, condition};
+use ud_model::{Cond, Kind, Settings};
+use ud_text::Scan;
+
+/// What is kept of a line while it is judged.
+#[derive(Clone, Copy, Debug, PartialEq, Eq)]
+pub(crate) struct Seen {
+    /// What it is among the sections.
+    pub shape: Shape,
+    /// Where the keyword of its directive lies; 0 and 0 for a text line.
+    pub keyword: Span,
+    /// It joins a neighbour.
+    pub spans: bool,
+    /// The line before joins it.
+    pub joins_before: bool,
+}
+
+/// What is kept of a line with this scan, with what the symbols decide of its condition.
+///
+/// # Errors
+/// The keyword of its directive can't be known.
+pub(crate) fn see(scan: &Scan<'_>, symbols: &Symbols, settings: Settings) -> Result<Seen, Cut>
+    requires { length scan.now.masked.now ≤ LINE_BYTES }
+    ensures value { (calls : List Argument) → StandsFor symbols.now calls → result ≡ seen_on (as_scan scan.now) calls (rules_of settings) (content_of (as_scan scan.now)) }
+    ensures place { IfOk result (λ seen. seen.keyword.at + seen.keyword.len ≤ length scan.now.masked.now) }
+{
+    let (shape, keyword) = match directive(scan)? {
+        Some(found) => (
+            shape_in(found.kind, decide(scan, &found, symbols, settings)),
+            found.keyword,
+        ),
+        None => (Shape::Text, Span { at: 0, len: 0 }),
+    };
+    Ok(Seen {
+        shape,
+        keyword,
+        spans: spans(scan),
+        joins_before: scan.joins_before,
+    })
+}
+
+/// Whether the line joins a neighbour.
+fn spans(scan: &Scan<'_>) -> bool
+    ensures { result ≡ is_spanning (as_scan scan.now) }
+{
+    scan.joins_before || scan.joins_after
+}
+
+/// What the symbols decide of a line's directive: a broken one is undecided, and one that joins the next line opens no
+/// section that is plain text.
+fn decide(scan: &Scan<'_>, found: &Directive<'_>, symbols: &Symbols, settings: Settings) -> Answer
+    requires { length found.now.after.now ≤ LINE_BYTES }
+    ensures { (calls : List Argument) → StandsFor symbols.now calls →
+        as_decision result ≡ decision_on (as_scan scan.now) (as_directive found.now) calls (rules_of settings) }
+{
+    if found.broken {
+        return Answer {
+            cond: Cond::Unknown,
+            ignoring: false,
+        };
+    }
+    let answer = condition(found.kind, found.after, symbols, rules_of(settings));
+    Answer {
+        cond: answer.cond,
+        ignoring: answer.ignoring && !scan.joins_after,
+    }
+}
+
+/// How the settings have expressions valued.
+fn rules_of(settings: Settings) -> Rules
+    ensures { as_rules result ≡ rules_of settings }
+{
+    Rules {
+        constants: settings.constants,
+        strict: settings.strict,
+    }
+}
+
+/// What a directive of this kind is among the sections, where this is decided of it.
+fn shape_in(kind: Kind, answer: Answer) -> Shape
+    ensures { result ≡ shape_in kind (as_decision answer) }
+{
+    match kind {
+        Kind::If | Kind::Ifdef | Kind::Ifndef => Shape::If {
+            cond: answer.cond,
+            ignoring: answer.ignoring,
+        },
+        Kind::Elif => Shape::Elif { cond: answer.cond },
+        Kind::Else => Shape::Else,
+        Kind::Endif => Shape::Endif,
+    }
+}
