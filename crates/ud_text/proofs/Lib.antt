@@ -3,3 +3,12 @@ pub mod FeedLemmas
 pub mod HoldingLemmas
 pub mod RunLemmas
 pub mod CarryLemmas
+pub mod QuietLemmas
+pub mod TextLemmas
+pub mod LineRunLemmas
+pub mod PassLemmas
+pub mod SpanLemmas
+pub mod LookLemmas
+pub mod RanLemmas
+pub mod BlockLemmas
+pub mod StepLemmas

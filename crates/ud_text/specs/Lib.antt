@@ -2,3 +2,6 @@ pub mod Holding
 pub mod Viewing
 pub mod Carrying
 pub mod Lending
+pub mod Passing
+pub mod Running
+pub mod Along

@@ -9,6 +9,9 @@ mod line;
 mod lines;
 mod marks;
 mod masking;
+mod passing;
+#[cfg(test)]
+mod progress;
 mod scan;
 mod scanner;
 

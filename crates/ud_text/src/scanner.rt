@@ -3,7 +3,7 @@
 //! A scanner holds no line but the last one as it was shown: of the lines before it carries where their joined text
 //! leaves off, whether the last logical line is white, and whether the last line joins the next one.
 
-ghost use Rattle.std.specs.Prelude.{◌≡◌, ◌≤◌, ◌||◌, List, [], ◌∷◌, ◌++◌, length, true, false};
+ghost use Rattle.std.specs.Prelude.{◌≡◌, ◌≤◌, ◌||◌, List, [], ◌∷◌, ◌++◌, length, true, false, take};
 ghost use Rattle.std.specs.Borrow.{sem};
 ghost use Rattle.ud_model.specs.Lines.{NoFeed};
 ghost use Rattle.ud_model.specs.Lines.{Line as TextLine};
@@ -15,11 +15,15 @@ ghost use Rattle.ud_model.specs.Places.{place_kind, closed_place, closed_white};
 ghost use Rattle.ud_text.specs.Viewing.{as_line, as_scan, place_of};
 ghost use Rattle.ud_text.specs.Carrying.{Carried, Carries, carried_by, nothing_carried, scan_with, ends_in_block};
 ghost use Rattle.ud_text.specs.Lending.{ReadsLine};
+ghost use Rattle.ud_text.specs.Passing.{EndsLine, PassesText};
+ghost use Rattle.ud_text.specs.Running.{starts_at};
+ghost use Rattle.ud_model.specs.Scanning.{is_block};
 
 use crate::line::Line;
 use crate::masking::{
     Place, Reached, is_fresh, is_in_block, is_white_with, mask_content, next_place,
 };
+use crate::passing::pass_run;
 use crate::scan::Scan;
 use arrayvec::ArrayVec;
 use std::marker::Model;
@@ -179,6 +183,32 @@ fn scan_line(
     }
 }
 
+/// Reads as many of these lines as are seen to be text. Answers how many bytes they have, and what they leave.
+fn pass_lines(carry: Carry, lines: &[u8]) -> (usize, Carry)
+    ensures bound { result.0 ≤ length lines.now }
+    ensures ends { EndsLine (take result.0 lines.now) }
+    ensures passes { PassesText (carried_by carry) (carried_by result.1) (take result.0 lines.now) }
+{
+    if !can_pass(carry) {
+        return (0, carry);
+    }
+    let (count, reached) = pass_run(carry.reached, lines);
+    let joins = is_in_block(reached.place);
+    (count, Carry { reached, joins })
+}
+
+/// Whether the next line begins outside comments or in a block comment, and not behind a splice.
+fn can_pass(carry: Carry) -> bool
+    ensures starts { result ≡ true → starts_at (place_of carry.reached.place) carry.reached.white ≡ true }
+    ensures joins { result ≡ true → carry.joins ≡ is_block (place_kind (place_of carry.reached.place)) }
+{
+    match carry.reached.place {
+        Place::Text => carry.reached.white && !carry.joins,
+        Place::Block => carry.joins,
+        _ => false,
+    }
+}
+
 impl Model for Scanner {
     ghost use Rattle.ud_text.specs.Carrying.{Carried, carried_by};
 
@@ -220,6 +250,21 @@ impl Scanner {
             spliced: facts.spliced,
             comment: facts.comment,
         }
+    }
+
+    /// Reads in C mode as many of these lines as it sees to be text. Answers how many bytes they have: 0, or up to the
+    /// end of a line.
+    ///
+    /// The scanner then stands for one more reading in C mode for each of these lines, as `read` would have it, with
+    /// whatever numbers; none of them carries a directive or a cut keyword. Nothing is said of how far it goes.
+    pub fn pass(&mut self, lines: &[u8]) -> usize
+        ensures bound { result ≤ length lines.now }
+        ensures ends { EndsLine (take result lines.now) }
+        ensures passes { PassesText self.old self.new (take result lines.now) }
+    {
+        let (count, carry) = pass_lines(self.carry, lines);
+        self.carry = carry;
+        count
     }
 
     /// Whether a block comment is unclosed at the end of the last line; false where no line is read.

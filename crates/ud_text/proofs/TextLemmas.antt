@@ -1,0 +1,410 @@
+-- Text: a line that is read quietly carries no directive.
+use Rattle.std.proofs.Common.{◌≡◌, ℕ, ◌==◌, List, [], ◌∷◌, ◌++◌, Bool, true, false, not, ◌&&◌, ◌||◌, if◌then◌else◌, refl, sym, ◌∙◌, ap, subst, ne_eqb, Option, Some, None, bytes_eq}
+use Rattle.std.proofs.lemmas.Bool.{eqb-true}
+use Rattle.ud_model.specs.Bytes.{is_white, is_quote, is_word_byte, past_white, word_in_front}
+use Rattle.ud_model.specs.Lines.{NoFeed}
+use Rattle.ud_model.specs.Scans.{Scan}
+use Rattle.ud_model.specs.Places.{Place, in_text, at_slash, in_block, at_star, in_line, in_literal, at_backslash, next, opens, shows, blank_last}
+use Rattle.ud_model.specs.Directives.{cut_keyword, text, content_of, past_sign, past_sign_of, has_cut_keyword, found_behind, directive_at, leaves_keyword, is_cut_off, is_in_line, kind_of, is_keyword_front}
+use Rattle.ud_model.specs.declared.kind.Kind.{Kind}
+use Rattle.ud_text.specs.Running.{Stand, step, is_other_word, starts_other, is_other_name, cut_behind, Quiet}
+use Rattle.ud_model.proofs.ScanLaws.{masked_after}
+
+-- no keyword stands in front of these bytes, but a byte does
+pub record IsOther (bytes : List ℕ) : Type 0 where
+  pub first : ℕ
+  pub more : List ℕ
+  pub is : past_white bytes ≡ first ∷ more
+  pub none : kind_of (word_in_front (first ∷ more)) ≡ None
+
+-- there is no `#`, or another name behind it
+pub data Unsigned : Option (List ℕ) → Type 0 where
+  no_sign : Unsigned None
+  other_sign : (rest : List ℕ) → IsOther rest → Unsigned (Some rest)
+
+-- a scan that isn't fresh is text
+pub text_not_fresh : (scan : Scan) → scan.fresh ≡ false → content_of scan ≡ text
+text_not_fresh scan e = by_sign (past_sign scan.masked) scan.fresh e
+  where
+    by_sign : (o : Option (List ℕ)) (f : Bool) → f ≡ false →
+        (if has_cut_keyword (record scan { fresh = f }) o then cut_keyword else found_behind (record scan { fresh = f }) o) ≡ text
+    by_sign None f h = refl
+    by_sign (Some rest) true h = cc
+    by_sign (Some rest) false h = refl
+
+-- a scan without a sign is text, if it isn't cut off
+pub text_unsigned : (scan : Scan) → Unsigned (past_sign scan.masked) → is_cut_off scan ≡ false → content_of scan ≡ text
+text_unsigned scan u e = by_sign (past_sign scan.masked) u
+  where
+    chosen : (f j l y : Bool) (word : List ℕ) (k : Option Kind) → y ≡ false → k ≡ None →
+        (if f && j && l && y then cut_keyword else if f then directive_at scan word k else text) ≡ text
+    chosen f j l true word k h m = cc
+    chosen f j l y word (Some d) h m = cc
+    chosen false j l false word None h m = refl
+    chosen true false l false word None h m = refl
+    chosen true true false false word None h m = refl
+    chosen true true true false word None h m = refl
+
+    stays : (word : List ℕ) (a : ℕ) (more : List ℕ) → word ≡ a ∷ more → leaves_keyword scan word ≡ false
+    stays word a more i = ap (λ (w : List ℕ). leaves_keyword scan w) i
+        ∙ ap (λ (c : Bool). c && (bytes_eq (a ∷ more) (47 ∷ []) || is_keyword_front (a ∷ more))) e
+
+    by_sign : (o : Option (List ℕ)) → Unsigned o → (if has_cut_keyword scan o then cut_keyword else found_behind scan o) ≡ text
+    by_sign None v = refl
+    by_sign (Some _) (other_sign rest i) =
+        chosen scan.fresh scan.joins_after (not (is_in_line scan.comment)) (leaves_keyword scan (past_white rest)) (past_white rest)
+        (kind_of (word_in_front (past_white rest))) (stays (past_white rest) i.first i.more i.is)
+        (ap (λ (w : List ℕ). kind_of (word_in_front w)) i.is ∙ i.none)
+
+-- a slash at the end doesn't wait for the next byte, or more stands in front of it
+abbrev pub Settled : Place → List ℕ → Type 0
+Settled at_slash [] = ⊥
+Settled at_slash (x ∷ m) = Unit {0}
+Settled in_text m = Unit {0}
+Settled in_block m = Unit {0}
+Settled at_star m = Unit {0}
+Settled in_line m = Unit {0}
+Settled (in_literal q) m = Unit {0}
+Settled (at_backslash q) m = Unit {0}
+
+settled_some : (w : Place) (m : List ℕ) (y : ℕ) → Settled w (m ++ y ∷ [])
+settled_some at_slash [] y = tt
+settled_some at_slash (x ∷ m) y = tt
+settled_some in_text m y = tt
+settled_some in_block m y = tt
+settled_some at_star m y = tt
+settled_some in_line m y = tt
+settled_some (in_literal q) m y = tt
+settled_some (at_backslash q) m y = tt
+
+front_step : (w : Place) (b x : ℕ) (m : List ℕ) → Settled w m →
+    (if opens w b then blank_last (x ∷ m) else x ∷ m) ≡ x ∷ (if opens w b then blank_last m else m)
+front_step at_slash b x [] h = absurd h
+front_step at_slash b x (z ∷ m) h = by_opens (opens at_slash b)
+  where
+    by_opens : (o : Bool) → (if o then x ∷ blank_last (z ∷ m) else x ∷ z ∷ m) ≡ x ∷ (if o then blank_last (z ∷ m) else z ∷ m)
+    by_opens true = refl
+    by_opens false = refl
+front_step in_text b x m h = refl
+front_step in_block b x m h = refl
+front_step at_star b x m h = refl
+front_step in_line b x m h = refl
+front_step (in_literal q) b x m h = refl
+front_step (at_backslash q) b x m h = refl
+
+-- the first byte shown stays
+pub front_stays : (x : ℕ) (m : List ℕ) (w : Place) (bytes : List ℕ) → Settled w m → masked_after w (x ∷ m) bytes ≡ x ∷ masked_after w m bytes
+front_stays x m w [] h = refl
+front_stays x m w (b ∷ bytes) h =
+    let now : List ℕ = if opens w b then blank_last m else m in
+    ap (λ (l : List ℕ). masked_after (next w b) (l ++ shows w b ∷ []) bytes) (front_step w b x m h)
+    ∙ front_stays x (now ++ shows w b ∷ []) (next w b) bytes (settled_some (next w b) now (shows w b))
+
+-- a byte that is neither white space nor `#` comes first
+pub black_first : (x : ℕ) (m : List ℕ) (w : Place) (bytes : List ℕ) → Settled w m → is_white x ≡ false → (x == 35) ≡ false →
+    Unsigned (past_sign (masked_after w (x ∷ m) bytes))
+black_first x m w bytes h e f = subst (λ (l : List ℕ). Unsigned (past_sign l)) (sym (front_stays x m w bytes h)) (by_tests (is_white x) (x == 35) e f)
+  where
+    by_tests : (t s : Bool) → t ≡ false → s ≡ false →
+        Unsigned (past_sign_of (if t then past_white (masked_after w m bytes) else x ∷ masked_after w m bytes))
+    by_tests true s g k = cc
+    by_tests false s g k = subst Unsigned (sym (ap (λ (o : Bool). if o then Some (masked_after w m bytes) else None) f)) no_sign
+
+-- white space in front doesn't count
+pub white_first : (x : ℕ) (m : List ℕ) (w : Place) (bytes : List ℕ) → Settled w m → is_white x ≡ true →
+    Unsigned (past_sign (masked_after w m bytes)) → Unsigned (past_sign (masked_after w (x ∷ m) bytes))
+white_first x m w bytes h e u = subst (λ (l : List ℕ). Unsigned (past_sign l)) (sym (front_stays x m w bytes h)) (by_white (is_white x) e)
+  where
+    by_white : (t : Bool) → t ≡ true → Unsigned (past_sign_of (if t then past_white (masked_after w m bytes) else x ∷ masked_after w m bytes))
+    by_white true g = u
+    by_white false g = cc
+
+-- what the classes of bytes are that count here
+pub data Class : ℕ → Type 0 where
+  a_slash : Class 47
+  a_sign : Class 35
+  a_white : (b : ℕ) → is_white b ≡ true → (b == 47) ≡ false → is_quote b ≡ false → (b == 35) ≡ false → (b == 10) ≡ false → is_word_byte b ≡ false → Class b
+  a_quote : (b : ℕ) → is_quote b ≡ true → is_white b ≡ false → (b == 47) ≡ false → (b == 35) ≡ false → (b == 10) ≡ false → is_word_byte b ≡ false → Class b
+  another : (b : ℕ) → is_white b ≡ false → (b == 47) ≡ false → is_quote b ≡ false → (b == 35) ≡ false → Class b
+
+pub class_of : (b : ℕ) → Class b
+class_of b = by_slash (b == 47) refl
+  where
+    white_is : (t u v w x : Bool) → (b == 32) ≡ t → (b == 9) ≡ u → (b == 11) ≡ v → (b == 12) ≡ w → (b == 13) ≡ x → (t || u || v || w || x) ≡ true → is_white b ≡ true → Class b
+    white_is true u v w x e f g h i j k = subst Class (sym (eqb-true b 32 e)) (a_white 32 refl refl refl refl refl refl)
+    white_is false true v w x e f g h i j k = subst Class (sym (eqb-true b 9 f)) (a_white 9 refl refl refl refl refl refl)
+    white_is false false true w x e f g h i j k = subst Class (sym (eqb-true b 11 g)) (a_white 11 refl refl refl refl refl refl)
+    white_is false false false true x e f g h i j k = subst Class (sym (eqb-true b 12 h)) (a_white 12 refl refl refl refl refl refl)
+    white_is false false false false true e f g h i j k = subst Class (sym (eqb-true b 13 i)) (a_white 13 refl refl refl refl refl refl)
+    white_is false false false false false e f g h i j k = cc
+
+    quote_is : (t u : Bool) → (b == 34) ≡ t → (b == 39) ≡ u → (t || u) ≡ true → Class b
+    quote_is true u e f g = subst Class (sym (eqb-true b 34 e)) (a_quote 34 refl refl refl refl refl refl)
+    quote_is false true e f g = subst Class (sym (eqb-true b 39 f)) (a_quote 39 refl refl refl refl refl refl)
+    quote_is false false e f g = cc
+
+    by_white : (t : Bool) → is_white b ≡ t → (b == 47) ≡ false → is_quote b ≡ false → (b == 35) ≡ false → Class b
+    by_white true e f g h = white_is (b == 32) (b == 9) (b == 11) (b == 12) (b == 13) refl refl refl refl refl e e
+    by_white false e f g h = another b e f g h
+
+    by_quote : (t : Bool) → is_quote b ≡ t → (b == 47) ≡ false → (b == 35) ≡ false → Class b
+    by_quote true e f g = quote_is (b == 34) (b == 39) refl refl e
+    by_quote false e f g = by_white (is_white b) refl f e g
+
+    by_sign : (t : Bool) → (b == 35) ≡ t → (b == 47) ≡ false → Class b
+    by_sign true e f = subst Class (sym (eqb-true b 35 e)) a_sign
+    by_sign false e f = by_quote (is_quote b) refl f e
+
+    by_slash : (t : Bool) → (b == 47) ≡ t → Class b
+    by_slash true e = subst Class (sym (eqb-true b 47 e)) a_slash
+    by_slash false e = by_sign (b == 35) refl e
+
+next_plain : (b : ℕ) → (b == 47) ≡ false → is_quote b ≡ false → next in_text b ≡ in_text
+next_plain b e f = by_tests (b == 47) (is_quote b) e f
+  where
+    by_tests : (s q : Bool) → s ≡ false → q ≡ false → (if s then at_slash else if q then in_literal b else in_text) ≡ in_text
+    by_tests true q g h = cc
+    by_tests false true g h = cc
+    by_tests false false g h = refl
+
+-- a byte of no meaning is shown as it is
+shown_plain : (b : ℕ) (bytes : List ℕ) → (b == 47) ≡ false → is_quote b ≡ false → masked_after in_text [] (b ∷ bytes) ≡ b ∷ masked_after in_text [] bytes
+shown_plain b bytes e f =
+    ap (λ (w : Place). masked_after w (b ∷ []) bytes) (next_plain b e f) ∙ front_stays b [] in_text bytes tt
+
+word_is_plain : (b : ℕ) → is_word_byte b ≡ true → (is_white b ≡ false) × ((b == 47) ≡ false) × (is_quote b ≡ false)
+word_is_plain b h = by_class b (class_of b) h
+  where
+    by_class : (b : ℕ) → Class b → is_word_byte b ≡ true → (is_white b ≡ false) × ((b == 47) ≡ false) × (is_quote b ≡ false)
+    by_class _ a_slash h = cc
+    by_class _ a_sign h = cc
+    by_class _ (a_white b w e f g i n) h = cc
+    by_class _ (a_quote b w e f g i n) h = cc
+    by_class _ (another b w e f g) h = (w, e, f)
+
+and_parts : (a b : Bool) → (a && b) ≡ true → (a ≡ true) × (b ≡ true)
+and_parts true true e = (refl, refl)
+and_parts true false e = cc
+and_parts false b e = cc
+
+no_keyword : (b : ℕ) (w : List ℕ) → (b == 105) ≡ false → (b == 101) ≡ false → kind_of (b ∷ w) ≡ None
+no_keyword b w e f = rw (e, f) refl
+
+no_keyword_i : (b : ℕ) (w : List ℕ) → (b == 102) ≡ false → kind_of (105 ∷ b ∷ w) ≡ None
+no_keyword_i b w e = rw e refl
+
+no_keyword_e : (b : ℕ) (w : List ℕ) → (b == 108) ≡ false → (b == 110) ≡ false → kind_of (101 ∷ b ∷ w) ≡ None
+no_keyword_e b w e f = rw (e, f) refl
+
+not_true : (a : Bool) → not a ≡ true → a ≡ false
+not_true true e = cc
+not_true false e = refl
+
+-- a word that begins with two such bytes is no keyword
+other_word : (b c : ℕ) (w v : List ℕ) → is_other_word b c ≡ true → (is_word_byte c ≡ true → w ≡ c ∷ v) → kind_of (b ∷ w) ≡ None
+other_word b c w v e f = by_i (b == 105) refl
+  where
+    begins_i : is_other_word 105 c ≡ true → kind_of (105 ∷ w) ≡ None
+    begins_i g =
+        let p : (is_word_byte c ≡ true) × (not (c == 102) ≡ true) = and_parts (is_word_byte c) (not (c == 102)) g in
+        subst (λ (x : List ℕ). kind_of (105 ∷ x) ≡ None) (sym (f p.0)) (no_keyword_i c v (not_true (c == 102) p.1))
+
+    begins_e : is_other_word 101 c ≡ true → kind_of (101 ∷ w) ≡ None
+    begins_e g =
+        let p : ((is_word_byte c && not (c == 108)) ≡ true) × (not (c == 110) ≡ true) = and_parts (is_word_byte c && not (c == 108)) (not (c == 110)) g in
+        let q : (is_word_byte c ≡ true) × (not (c == 108) ≡ true) = and_parts (is_word_byte c) (not (c == 108)) p.0 in
+        subst (λ (x : List ℕ). kind_of (101 ∷ x) ≡ None) (sym (f q.0)) (no_keyword_e c v (not_true (c == 108) q.1) (not_true (c == 110) p.1))
+
+    by_e : (t : Bool) → (b == 101) ≡ t → (b == 105) ≡ false → kind_of (b ∷ w) ≡ None
+    by_e true g h = subst (λ (n : ℕ). is_other_word n c ≡ true → kind_of (n ∷ w) ≡ None) (sym (eqb-true b 101 g)) begins_e e
+    by_e false g h = no_keyword b w h g
+
+    by_i : (t : Bool) → (b == 105) ≡ t → kind_of (b ∷ w) ≡ None
+    by_i true g = subst (λ (n : ℕ). is_other_word n c ≡ true → kind_of (n ∷ w) ≡ None) (sym (eqb-true b 105 g)) begins_i e
+    by_i false g = by_e (b == 101) refl g
+
+-- no byte of a word comes first
+abbrev pub NoWord : List ℕ → Type 0
+NoWord [] = Unit {0}
+NoWord (b ∷ bytes) = is_word_byte b ≡ false
+
+word_front : (b : ℕ) (w : List ℕ) → is_word_byte b ≡ true → word_in_front (b ∷ w) ≡ b ∷ word_in_front w
+word_front b w e = rw e refl
+
+is_other_word-first : (b c : ℕ) → is_other_word b c ≡ true → is_word_byte b ≡ true
+is_other_word-first b c e =
+    (and_parts (is_word_byte b)
+    (if b == 105 then is_word_byte c && not (c == 102)
+    else if b == 101 then is_word_byte c && not (c == 108) && not (c == 110) else true) e).0
+
+word_shown : (b : ℕ) (bytes tail : List ℕ) → starts_other (b ∷ (bytes ++ tail)) ≡ true → NoWord tail → IsOther (b ∷ masked_after in_text [] bytes)
+word_shown b [] [] e n = cc
+word_shown b [] (c ∷ tail) e n =
+    let word : is_word_byte b ≡ true = is_other_word-first b c e in
+    record {
+      first = b;
+      more = [];
+      is = rw (word_is_plain b word).0 refl;
+      none = ap kind_of (word_front b [] word) ∙ other_word b c [] [] e (λ f. cc);
+    }
+word_shown b (c ∷ bytes) tail e n =
+    let word : is_word_byte b ≡ true = is_other_word-first b c e in
+    record {
+      first = b;
+      more = masked_after in_text [] (c ∷ bytes);
+      is = rw (word_is_plain b word).0 refl;
+      none = ap kind_of (word_front b (masked_after in_text [] (c ∷ bytes)) word)
+          ∙ other_word b c (word_in_front (masked_after in_text [] (c ∷ bytes))) (word_in_front (masked_after in_text [] bytes)) e
+          (λ f. ap word_in_front (shown_plain c bytes (word_is_plain c f).1 (word_is_plain c f).2) ∙ word_front c (masked_after in_text [] bytes) f);
+    }
+
+white_other : (b : ℕ) (bytes : List ℕ) → is_white b ≡ true → IsOther bytes → IsOther (b ∷ bytes)
+white_other b bytes w i = record { first = i.first; more = i.more; is = rw w i.is; none = i.none }
+
+-- a name that is no keyword is shown as it is
+name_shown : (bytes tail : List ℕ) → is_other_name (bytes ++ tail) ≡ true → is_other_name tail ≡ false → NoWord tail →
+    IsOther (masked_after in_text [] bytes)
+name_shown [] tail e f n = cc
+name_shown (b ∷ bytes) tail e f n = by_class b (class_of b) e (λ g. name_shown bytes tail g f n)
+  where
+    black : (b : ℕ) → is_white b ≡ false → is_other_name (b ∷ (bytes ++ tail)) ≡ true → starts_other (b ∷ (bytes ++ tail)) ≡ true
+    black b w g = sym (rw w refl) ∙ g
+
+    first_word : (b : ℕ) (more : List ℕ) → starts_other (b ∷ more) ≡ true → is_word_byte b ≡ true
+    first_word b [] g = cc
+    first_word b (c ∷ more) g = is_other_word-first b c g
+
+    by_class : (b : ℕ) → Class b → is_other_name (b ∷ (bytes ++ tail)) ≡ true →
+        (is_other_name (bytes ++ tail) ≡ true → IsOther (masked_after in_text [] bytes)) → IsOther (masked_after in_text [] (b ∷ bytes))
+    by_class _ a_slash g more = let h : is_word_byte 47 ≡ true = first_word 47 (bytes ++ tail) g in cc
+    by_class _ a_sign g more = let h : is_word_byte 35 ≡ true = first_word 35 (bytes ++ tail) g in cc
+    by_class _ (a_white b w e f s i n) g more =
+        subst IsOther (sym (shown_plain b bytes e f))
+        (white_other b (masked_after in_text [] bytes) w
+        (more (sym (ap (λ (t : Bool). starts_other (if t then past_white (bytes ++ tail) else b ∷ (bytes ++ tail))) w) ∙ g)))
+    by_class _ (a_quote b q w e f i n) g more = let h : is_word_byte b ≡ true = first_word b (bytes ++ tail) (black b w g) in cc
+    by_class _ (another b w e f s) g more =
+        subst IsOther (sym (shown_plain b bytes e f)) (word_shown b bytes tail (black b w g) n)
+
+abbrev pub NotLiteral : Place → Type 0
+NotLiteral in_text = Unit {0}
+NotLiteral at_slash = Unit {0}
+NotLiteral in_block = Unit {0}
+NotLiteral at_star = Unit {0}
+NotLiteral in_line = Unit {0}
+NotLiteral (in_literal q) = ⊥
+NotLiteral (at_backslash q) = ⊥
+
+-- what is shown and not settled
+abbrev pub pending : Place → List ℕ
+pending at_slash = 47 ∷ []
+pending in_text = []
+pending in_block = []
+pending at_star = []
+pending in_line = []
+pending (in_literal q) = []
+pending (at_backslash q) = []
+
+abbrev pub white_at : Place → Bool → Stand
+white_at w c = record { place = w; white = true; cut = c }
+
+step_white : (b : ℕ) (c : Bool) → is_white b ≡ true → (b == 47) ≡ false → is_quote b ≡ false → (b == 10) ≡ false →
+    step (white_at in_text c) b ≡ white_at in_text (cut_behind in_text c b)
+step_white b c w e f i = rw (e, f, i, w) refl
+
+next_quote : (b : ℕ) → (b == 47) ≡ false → is_quote b ≡ true → next in_text b ≡ in_literal b
+next_quote b e q = rw (e, q) refl
+
+module _ (bytes tail : List ℕ) (later : (w : Place) (c : Bool) → NotLiteral w → Quiet (white_at w c) (bytes ++ tail) → Unsigned (past_sign (masked_after w (pending w) bytes)))
+    (f : is_other_name tail ≡ false) (n : NoWord tail) where
+  from_text : (b : ℕ) (c : Bool) → Class b → (b == 10) ≡ false → Quiet (white_at in_text c) (b ∷ (bytes ++ tail)) → Unsigned (past_sign (masked_after in_text [] (b ∷ bytes)))
+  from_text _ c a_slash i h = later at_slash _ tt h.1
+  from_text _ c a_sign i h =
+      subst (λ (l : List ℕ). Unsigned (past_sign l)) (sym (front_stays 35 [] in_text bytes tt))
+      (other_sign (masked_after in_text [] bytes) (name_shown bytes tail (is_other h.0) f n))
+    where
+      is_other : not (is_other_name (bytes ++ tail)) ≡ false → is_other_name (bytes ++ tail) ≡ true
+      is_other g = not_false (is_other_name (bytes ++ tail)) g
+        where
+          not_false : (a : Bool) → not a ≡ false → a ≡ true
+          not_false true e = refl
+          not_false false e = cc
+  from_text _ c (a_white b w e q s i m) _ h =
+      subst (λ (p : Place). Unsigned (past_sign (masked_after p (b ∷ []) bytes))) (sym (next_plain b e q))
+      (white_first b [] in_text bytes tt w
+      (later in_text (cut_behind in_text c b) tt (subst (λ (s : Stand). Quiet s (bytes ++ tail)) (step_white b c w e q i) h.1)))
+  from_text _ c (a_quote b q w e s i m) _ h =
+      subst (λ (p : Place). Unsigned (past_sign (masked_after p (b ∷ []) bytes))) (sym (next_quote b e q))
+      (black_first b [] (in_literal b) bytes tt w s)
+  from_text _ c (another b w e q s) _ h =
+      subst (λ (p : Place). Unsigned (past_sign (masked_after p (b ∷ []) bytes))) (sym (next_plain b e q))
+      (black_first b [] in_text bytes tt w s)
+
+  spaces : (w : Place) → pending w ≡ [] → Settled w [] → Unsigned (past_sign (masked_after w (pending w) bytes)) → Unsigned (past_sign (masked_after w (32 ∷ []) bytes))
+  spaces w e s u = white_first 32 [] w bytes s refl (subst (λ (l : List ℕ). Unsigned (past_sign (masked_after w l bytes))) e u)
+
+  from_slash : (b : ℕ) (c : Bool) → Quiet (white_at at_slash c) (b ∷ (bytes ++ tail)) → Unsigned (past_sign (masked_after at_slash (47 ∷ []) (b ∷ bytes)))
+  from_slash b c h = by_star (b == 42) refl
+    where
+      other : (o : Bool) (w : Place) (y : ℕ) → o ≡ false → Unsigned (past_sign (masked_after w ((if o then blank_last (47 ∷ []) else 47 ∷ []) ++ y ∷ []) bytes))
+      other true w y e = cc
+      other false w y e = black_first 47 (y ∷ []) w bytes (settled_some w [] y) refl refl
+
+      opens_block : Quiet (white_at at_slash c) (42 ∷ (bytes ++ tail)) → Unsigned (past_sign (masked_after at_slash (47 ∷ []) (42 ∷ bytes)))
+      opens_block k = white_first 32 (32 ∷ []) in_block bytes tt refl (spaces in_block refl tt (later in_block _ tt k.1))
+
+      opens_line : Quiet (white_at at_slash c) (47 ∷ (bytes ++ tail)) → Unsigned (past_sign (masked_after at_slash (47 ∷ []) (47 ∷ bytes)))
+      opens_line k = white_first 32 (32 ∷ []) in_line bytes tt refl (spaces in_line refl tt (later in_line _ tt k.1))
+
+      by_slash : (t : Bool) → (b == 47) ≡ t → (b == 42) ≡ false → Unsigned (past_sign (masked_after at_slash (47 ∷ []) (b ∷ bytes)))
+      by_slash true e g =
+          subst (λ (x : ℕ). Quiet (white_at at_slash c) (x ∷ (bytes ++ tail)) → Unsigned (past_sign (masked_after at_slash (47 ∷ []) (x ∷ bytes)))) (sym (eqb-true b 47 e)) opens_line h
+      by_slash false e g = other (opens at_slash b) (next at_slash b) (shows at_slash b) (rw (e, g) refl)
+
+      by_star : (t : Bool) → (b == 42) ≡ t → Unsigned (past_sign (masked_after at_slash (47 ∷ []) (b ∷ bytes)))
+      by_star true e =
+          subst (λ (x : ℕ). Quiet (white_at at_slash c) (x ∷ (bytes ++ tail)) → Unsigned (past_sign (masked_after at_slash (47 ∷ []) (x ∷ bytes)))) (sym (eqb-true b 42 e)) opens_block h
+      by_star false e = by_slash (b == 47) refl e
+
+  from_block : (b : ℕ) (c : Bool) → Quiet (white_at in_block c) (b ∷ (bytes ++ tail)) → Unsigned (past_sign (masked_after in_block [] (b ∷ bytes)))
+  from_block b c h = by_star (b == 42) h.1
+    where
+      by_star : (t : Bool) → Quiet (white_at (if t then at_star else in_block) (cut_behind in_block c b)) (bytes ++ tail) →
+          Unsigned (past_sign (masked_after (if t then at_star else in_block) (32 ∷ []) bytes))
+      by_star true k = spaces at_star refl tt (later at_star _ tt k)
+      by_star false k = spaces in_block refl tt (later in_block _ tt k)
+
+  from_star : (b : ℕ) (c : Bool) → Quiet (white_at at_star c) (b ∷ (bytes ++ tail)) → Unsigned (past_sign (masked_after at_star [] (b ∷ bytes)))
+  from_star b c h = by_tests (b == 47) (b == 42) h.1
+    where
+      by_tests : (s t : Bool) → Quiet (white_at (if s then in_text else if t then at_star else in_block) (cut_behind at_star c b)) (bytes ++ tail) →
+          Unsigned (past_sign (masked_after (if s then in_text else if t then at_star else in_block) (32 ∷ []) bytes))
+      by_tests true t k = spaces in_text refl tt (later in_text _ tt k)
+      by_tests false true k = spaces at_star refl tt (later at_star _ tt k)
+      by_tests false false k = spaces in_block refl tt (later in_block _ tt k)
+
+  from_line : (b : ℕ) (c : Bool) → (b == 10) ≡ false → Quiet (white_at in_line c) (b ∷ (bytes ++ tail)) → Unsigned (past_sign (masked_after in_line [] (b ∷ bytes)))
+  from_line b c i h = by_feed (b == 10) i h.1
+    where
+      by_feed : (t : Bool) → t ≡ false → Quiet (record { place = if t then in_text else in_line; white = if t then true else true; cut = cut_behind in_line c b }) (bytes ++ tail) →
+          Unsigned (past_sign (masked_after (if t then in_text else in_line) ((if t then b else 32) ∷ []) bytes))
+      by_feed true e k = cc
+      by_feed false e k = spaces in_line refl tt (later in_line _ tt k)
+
+-- what is shown of a line that is read quietly carries no sign, but perhaps in front of a name that is no keyword
+pub unsigned : (bytes tail : List ℕ) (w : Place) (c : Bool) → NotLiteral w → NoFeed bytes → Quiet (white_at w c) (bytes ++ tail) →
+    is_other_name tail ≡ false → NoWord tail → Unsigned (past_sign (masked_after w (pending w) bytes))
+unsigned [] tail in_text c l o h f n = no_sign
+unsigned [] tail at_slash c l o h f n = no_sign
+unsigned [] tail in_block c l o h f n = no_sign
+unsigned [] tail at_star c l o h f n = no_sign
+unsigned [] tail in_line c l o h f n = no_sign
+unsigned [] tail (in_literal q) c l o h f n = absurd l
+unsigned [] tail (at_backslash q) c l o h f n = absurd l
+unsigned (b ∷ bytes) tail in_text c l o h f n = from_text bytes tail (λ w d m k. unsigned bytes tail w d m o.1 k f n) f n b c (class_of b) (ne_eqb b 10 o.0) h
+unsigned (b ∷ bytes) tail at_slash c l o h f n = from_slash bytes tail (λ w d m k. unsigned bytes tail w d m o.1 k f n) f n b c h
+unsigned (b ∷ bytes) tail in_block c l o h f n = from_block bytes tail (λ w d m k. unsigned bytes tail w d m o.1 k f n) f n b c h
+unsigned (b ∷ bytes) tail at_star c l o h f n = from_star bytes tail (λ w d m k. unsigned bytes tail w d m o.1 k f n) f n b c h
+unsigned (b ∷ bytes) tail in_line c l o h f n = from_line bytes tail (λ w d m k. unsigned bytes tail w d m o.1 k f n) f n b c (ne_eqb b 10 o.0) h
+unsigned (b ∷ bytes) tail (in_literal q) c l o h f n = absurd l
+unsigned (b ∷ bytes) tail (at_backslash q) c l o h f n = absurd l
