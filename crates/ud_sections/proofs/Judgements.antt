@@ -1,4 +1,4 @@
--- Judgements: what a judgement of a line says of the line behind sound ones.
+-- Judgements: what a judgement of a line says of the line after sound ones.
 use Rattle.std.proofs.Common.{◌≡◌, ◌≢◌, ℕ, suc, ◌<◌, ◌≤◌, ◌==◌, [], ◌∷◌, ◌++◌, length, Bool, true, false, ◌&&◌, if◌then◌else◌, Option, Some, None, Ok, Err, refl, sym, ◌∙◌, ap, subst, arith}
 use Rattle.std.proofs.lemmas.Bool.{eqb-true}
 use Rattle.ud_model.specs.Scans.{Reading, is_spanning}
@@ -24,9 +24,9 @@ use Rattle.ud_sections.specs.Seeing.{shape_of}
 use Rattle.ud_sections.proofs.LineFaults.{is_cut_item, out_of_place_fault, too_deep_fault, spoiled_fault, clear_line}
 use Rattle.ud_sections.proofs.Moves.{mark_of, Moved, moves, takes, depth_levels, changes_depth, changes_deeper}
 
--- what stands before the line behind a text
-abbrev pub before_behind : Bool → Tree Reading → Before
-before_behind p t = record {
+-- what stands before the line after a text
+abbrev pub before_next : Bool → Tree Reading → Before
+before_next p t = record {
   place = record { section = section_at None true p t; plain = p };
   depth = depth t;
   removed = ends_removed (marks t);
@@ -38,7 +38,7 @@ pub record IsSeen (x : Item Reading) (s : Seen) : Type 0 where
   pub spans : s.spans ≡ is_spanning (reading_of x).scan
   pub joins : s.joins_before ≡ (reading_of x).scan.joins_before
 
--- the line is sound behind the text, with this action
+-- the line is sound after the text, with this action
 pub record Follows (p : Bool) (t : Tree Reading) (x : Item Reading) (a : Action) : Type 0 where
   pub tree : Tree Reading
   pub lines_are : lines tree ≡ lines t ++ x ∷ []
@@ -157,13 +157,13 @@ module _ (p : Bool) (t : Tree Reading) (x : Item Reading) where
     ill_by c f h false false push spoil e = cc
 
     well_at : (r : Option Action) (a : Action) → act p (section_at None true p t) (shape_of x) (line_of x).number ≡ r →
-        judged_as (before_behind p t) s (line_of x).number r ≡ Ok a → Follows p t x a
+        judged_as (before_next p t) s (line_of x).number r ≡ Ok a → Follows p t x a
     well_at None a none e = cc
     well_at (Some c) a acts e =
         well_by c a (taken c acts) (is_push c.change && (depth t == OPEN_SECTIONS)) (is_spoiled_by (ends_removed (marks t)) s c) refl refl e
 
     ill_at : (r : Option Action) (f : SectionFault) → act p (section_at None true p t) (shape_of x) (line_of x).number ≡ r →
-        judged_as (before_behind p t) s (line_of x).number r ≡ Err f → FaultOf (lines t) x (fault_of f)
+        judged_as (before_next p t) s (line_of x).number r ≡ Err f → FaultOf (lines t) x (fault_of f)
     ill_at None f none e =
         let same : misplaced_by s.shape (line_of x).number ≡ f = cc in
         subst (λ g. FaultOf (lines t) x (fault_of g)) same
@@ -176,9 +176,9 @@ module _ (p : Bool) (t : Tree Reading) (x : Item Reading) where
     acts_alike = ap (λ k. act p (section_at None true p t) k (line_of x).number) (sym seen.shape)
 
     -- a line of which an action is told is sound
-    pub judged_well : (a : Action) → judged_by (before_behind p t) s (line_of x).number ≡ Ok a → Follows p t x a
+    pub judged_well : (a : Action) → judged_by (before_next p t) s (line_of x).number ≡ Ok a → Follows p t x a
     judged_well a e = well_at (act p (section_at None true p t) s.shape (line_of x).number) a acts_alike e
 
     -- a line of which a fault is told has this fault
-    pub judged_ill : (f : SectionFault) → judged_by (before_behind p t) s (line_of x).number ≡ Err f → FaultOf (lines t) x (fault_of f)
+    pub judged_ill : (f : SectionFault) → judged_by (before_next p t) s (line_of x).number ≡ Err f → FaultOf (lines t) x (fault_of f)
     judged_ill f e = ill_at (act p (section_at None true p t) s.shape (line_of x).number) f acts_alike e

@@ -1,4 +1,4 @@
--- LineFaults: when a line behind sound ones is sound, and which fault it has otherwise.
+-- LineFaults: when a line after sound ones is sound, and which fault it has otherwise.
 use Rattle.std.proofs.Common.{◌≡◌, ◌<◌, ◌≤◌, List, [], ◌∷◌, ◌++◌, length, Bool, true, false, IsTrue, Some, refl, sym, ◌∙◌, ap, subst, arith}
 use Rattle.std.proofs.lemmas.List.{same_from_push}
 use Rattle.ud_model.specs.Scans.{Reading}
@@ -27,7 +27,7 @@ module _ (xs : List (Item Reading)) (x : Item Reading) (w : IsWithin (line_of x)
     (λ h. let n : length (text_of (line_of x)) ≤ LINE_BYTES = w.bytes_fit in omega (arith, h, n), others),
   )
 
-  -- and where no keyword is cut in it, not in the third
+  -- and if no keyword is cut in it, not in the third
   within_clear : (cs : List Case) → is_cut_item x ≡ false → NoneHolds xs x cs → NoneHolds xs x (past_last ∷ too_long ∷ cut ∷ cs)
   within_clear cs whole others = within_first (cut ∷ cs) (λ h. not_true (is_cut_item x) whole h, others)
 
@@ -70,7 +70,7 @@ module _ (xs : List (Item Reading)) (x : Item Reading) (w : IsWithin (line_of x)
       named = refl;
     }
 
-    -- a line isn't faulty where it and the lines before have a tree that isn't too deep, and it isn't spoiled
+    -- a line isn't faulty if it and the lines before have a tree that isn't too deep, and it isn't spoiled
     pub clear_line : (before : List Mark) (m : Mark) → depth u ≤ OPEN_SECTIONS → marks u ≡ before ++ m ∷ [] →
         is_spoiled before x m ≡ false → NoneHolds xs x cases
     clear_line before m d k s = within_clear (out_of_place ∷ too_deep ∷ spoiled ∷ []) whole (

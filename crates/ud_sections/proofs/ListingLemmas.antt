@@ -1,4 +1,4 @@
--- Listing: the depth of a line's names, by how many sections are open behind the line.
+-- Listing: the depth of a line's names, by how many sections are open after the line.
 use Rattle.std.proofs.Common.{◌≡◌, ℕ, suc, ◌+◌, [], ◌∷◌, ◌++◌, Bool, true, false, refl, append_assoc, append-nil, arith}
 use Rattle.ud_model.specs.Scans.{Reading}
 use Rattle.ud_model.specs.Tree.{Item, Nodes, Head, Tree, text_line, if_line, elif_line, else_line, endif_line, if_head, elif_head, else_head, depth}

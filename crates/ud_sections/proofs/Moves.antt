@@ -28,7 +28,7 @@ use Rattle.ud_sections.proofs.PhaseLemmas.{phase-last, opener_mark, endif_mark, 
 abbrev pub mark_of : Action → Mark
 mark_of a = record { kept = a.kept; verdict = a.verdict }
 
--- the group that a head opens is kept where its phase says so
+-- the group that a head opens is kept if its phase says so
 pub kept_inside : (kept : Bool) (h : Head Reading) → is_kept_in (phase_after (begun kept) (conds_of_head h)) ≡ (kept && is_inside_kept h)
 kept_inside kept (if_head o) = kept_last kept [] o.cond
 kept_inside kept (elif_head es o) = kept_last kept (conds_of_elifs es) o.cond
@@ -240,7 +240,7 @@ end_is c n p t =
     ∙ ap (end_by_line c n) (if_line_at None None true p t refl ∙ ap line_of_opener (sym (innermost_is t)))
     ∙ sym (end_opener c n (innermost t))
 
--- a change opens at most one section, and only where it says so
+-- a change opens at most one section, and only if it says so
 pub changes_depth : (c : Change) (old new : List Level) → Changes c old new → is_push c ≡ false → length new ≤ length old
 changes_depth Stay old new e n = rw e (omega arith)
 changes_depth (Push l) old new e n = cc

@@ -47,7 +47,7 @@ kept_never Yes = refl
 kept_never No = refl
 kept_never Unknown = refl
 
--- behind the first true group
+-- after the first true group
 over-stays : (cs : List Cond) → phase_after Over cs ≡ Over
 over-stays [] = refl
 over-stays (c ∷ cs) = over-stays cs
@@ -97,7 +97,7 @@ agrees (Unknown ∷ cs) = live_agrees cs
 agrees (Yes ∷ []) = record { lives = refl; opener = λ part c. refl; endif = refl; kept = kept_never }
 agrees (Yes ∷ d ∷ cs) = rw (over-stays cs) (over_agrees (λ c. true) true (λ c. refl))
 
--- where the section's place is removed, it stays so
+-- a section in a removed place stays so
 dead-stays : (cs : List Cond) → phase_after Dead cs ≡ Dead
 dead-stays [] = refl
 dead-stays (c ∷ cs) = dead-stays cs

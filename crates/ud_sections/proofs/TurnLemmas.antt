@@ -22,7 +22,9 @@ use Rattle.ud_sections.specs.declared.level.Action.{Action}
 use Rattle.ud_sections.specs.declared.machine.Machine.{Machine}
 use Rattle.ud_sections.specs.declared.machine.Turn.{Turn}
 use Rattle.ud_sections.specs.declared.seeing.Seen.{Seen}
-use Rattle.ud_sections.specs.Acting.{Changes}
+use Rattle.ud_sections.specs.declared.level.Change.TheVariants.{Stay}
+use Rattle.ud_sections.specs.Acting.{Changes, kept_at, text_action}
+use Rattle.ud_sections.specs.Changing.{last_of}
 use Rattle.ud_sections.specs.Judging.{judged_by}
 use Rattle.ud_sections.specs.Levels.{levels}
 use Rattle.ud_sections.specs.Limits.{IsWithin}
@@ -32,7 +34,7 @@ use Rattle.ud_sections.specs.Showing.{as_span}
 use Rattle.ud_sections.specs.Turning.{before_in, turn_with, turned}
 use Rattle.ud_sections.proofs.LineFaults.{cut_fault}
 use Rattle.ud_sections.proofs.Moves.{mark_of, innermost_level, depth_levels}
-use Rattle.ud_sections.proofs.Judgements.{before_behind, IsSeen, Follows, judged_well, judged_ill}
+use Rattle.ud_sections.proofs.Judgements.{before_next, IsSeen, Follows, judged_well, judged_ill}
 
 shape_of_kind : (r : Reading) (k : kinds.Kind) (d : Decision) → shape_of (directive_item r k d) ≡ shape_in k d
 shape_of_kind r kind.If d = refl
@@ -84,7 +86,7 @@ pub record TurnsWell (o : Options) (xs : List (Item Reading)) (t : Tree Reading)
 
 -- a machine keeps what stands before the line
 pub before_is : (m : Machine) (o : Options) (xs : List (Item Reading)) (t : Tree Reading) → HasRead m o xs t →
-    before_in m ≡ before_behind o.settings.plain t
+    before_in m ≡ before_next o.settings.plain t
 before_is m o xs t h =
     rw (h.settings, h.sections, h.removed, innermost_level o.settings.plain t, depth_levels true o.settings.plain t) refl
 
@@ -103,12 +105,12 @@ module _ (o : Options) (xs : List (Item Reading)) (t : Tree Reading) (l : Line) 
   number_is = ap (λ (k : Line). k.number) (sym (reading_of-next o xs t l))
 
   well_seen : (s : Seen) → SeenOn o (read_after xs (mode_after o t) l) carried s → (a : Action) →
-      judged_by (before_behind o.settings.plain t) s l.number ≡ Ok a →
+      judged_by (before_next o.settings.plain t) s l.number ≡ Ok a →
       TurnsWell o xs t l (record { step = record { verdict = a.verdict; keyword = s.keyword }; change = a.change })
   well_seen s seen a j =
       let f : Follows o.settings.plain t (next_item o xs t l) a =
       judged_well o.settings.plain t (next_item o xs t l) s seen.seen within_item (ap is_cut carried_item ∙ seen.whole) shallow a
-      (ap (λ n. judged_by (before_behind o.settings.plain t) s n) (sym number_is) ∙ j) in
+      (ap (λ n. judged_by (before_next o.settings.plain t) s n) (sym number_is) ∙ j) in
       record {
         tree = f.tree;
         lines_are = f.lines_are ∙ ap (λ ys. ys ++ next_item o xs t l ∷ []) e;
@@ -122,21 +124,21 @@ module _ (o : Options) (xs : List (Item Reading)) (t : Tree Reading) (l : Line) 
       }
 
   ill_seen : (s : Seen) → SeenOn o (read_after xs (mode_after o t) l) carried s → (f : SectionFault) →
-      judged_by (before_behind o.settings.plain t) s l.number ≡ Err f → FaultOf xs (next_item o xs t l) (fault_of f)
+      judged_by (before_next o.settings.plain t) s l.number ≡ Err f → FaultOf xs (next_item o xs t l) (fault_of f)
   ill_seen s seen f j =
       subst (λ ys. FaultOf ys (next_item o xs t l) (fault_of f)) e
       (judged_ill o.settings.plain t (next_item o xs t l) s seen.seen within_item (ap is_cut carried_item ∙ seen.whole) shallow f
-      (ap (λ n. judged_by (before_behind o.settings.plain t) s n) (sym number_is) ∙ j))
+      (ap (λ n. judged_by (before_next o.settings.plain t) s n) (sym number_is) ∙ j))
 
   well_by : (s : Seen) → SeenOn o (read_after xs (mode_after o t) l) carried s → (a : Result Action SectionFault) →
-      judged_by (before_behind o.settings.plain t) s l.number ≡ a → (turn : Turn) → turn_with s.keyword a ≡ Ok turn → TurnsWell o xs t l turn
+      judged_by (before_next o.settings.plain t) s l.number ≡ a → (turn : Turn) → turn_with s.keyword a ≡ Ok turn → TurnsWell o xs t l turn
   well_by s seen (Ok a) j turn q =
       let same : record { step = record { verdict = a.verdict; keyword = s.keyword }; change = a.change } ≡ turn = cc in
       subst (TurnsWell o xs t l) same (well_seen s seen a j)
   well_by s seen (Err f) j turn q = cc
 
   ill_by : (s : Seen) → SeenOn o (read_after xs (mode_after o t) l) carried s → (a : Result Action SectionFault) →
-      judged_by (before_behind o.settings.plain t) s l.number ≡ a → (f : SectionFault) → turn_with s.keyword a ≡ Err f →
+      judged_by (before_next o.settings.plain t) s l.number ≡ a → (f : SectionFault) → turn_with s.keyword a ≡ Err f →
       FaultOf xs (next_item o xs t l) (fault_of f)
   ill_by s seen (Ok a) j f q = cc
   ill_by s seen (Err g) j f q =
@@ -144,15 +146,15 @@ module _ (o : Options) (xs : List (Item Reading)) (t : Tree Reading) (l : Line) 
       subst (λ h. FaultOf xs (next_item o xs t l) (fault_of h)) same (ill_seen s seen g j)
 
   well_at : (s : Result Seen Cut) → seen_on (read_after xs (mode_after o t) l).scan o.table (rules_of o.settings) carried ≡ s →
-      (turn : Turn) → turned (before_behind o.settings.plain t) l.number s ≡ Ok turn → TurnsWell o xs t l turn
+      (turn : Turn) → turned (before_next o.settings.plain t) l.number s ≡ Ok turn → TurnsWell o xs t l turn
   well_at (Ok s) seen turn q =
-      well_by s (seen_well o (read_after xs (mode_after o t) l) carried s seen) (judged_by (before_behind o.settings.plain t) s l.number) refl turn q
+      well_by s (seen_well o (read_after xs (mode_after o t) l) carried s seen) (judged_by (before_next o.settings.plain t) s l.number) refl turn q
   well_at (Err cut) seen turn q = cc
 
   ill_at : (s : Result Seen Cut) → seen_on (read_after xs (mode_after o t) l).scan o.table (rules_of o.settings) carried ≡ s →
-      (f : SectionFault) → turned (before_behind o.settings.plain t) l.number s ≡ Err f → FaultOf xs (next_item o xs t l) (fault_of f)
+      (f : SectionFault) → turned (before_next o.settings.plain t) l.number s ≡ Err f → FaultOf xs (next_item o xs t l) (fault_of f)
   ill_at (Ok s) seen f q =
-      ill_by s (seen_well o (read_after xs (mode_after o t) l) carried s seen) (judged_by (before_behind o.settings.plain t) s l.number) refl f q
+      ill_by s (seen_well o (read_after xs (mode_after o t) l) carried s seen) (judged_by (before_next o.settings.plain t) s l.number) refl f q
   ill_at (Err cut) seen f q =
       let same : Obfuscated l.number ≡ f = cc in
       subst (λ h. FaultOf xs (next_item o xs t l) (fault_of h)) same
@@ -165,7 +167,7 @@ asked m o scan l = turned (before_in m) l.number (seen_on scan o.table (rules_of
 
 asked_is : (m : Machine) (o : Options) (xs : List (Item Reading)) (t : Tree Reading) (scan : Scan) (l : Line) (table : List Argument) →
     HasRead m o xs t → ComesNext o xs t scan l table →
-    turned (before_behind o.settings.plain t) l.number
+    turned (before_next o.settings.plain t) l.number
     (seen_on (read_after xs (mode_after o t) l).scan o.table (rules_of o.settings) (content_of (read_after xs (mode_after o t) l).scan))
     ≡ asked m o scan l
 asked_is m o xs t scan l table h next = rw (before_is m o xs t h, h.settings, next.seen) refl
@@ -188,6 +190,14 @@ module _ (m : Machine) (o : Options) (xs : List (Item Reading)) (t : Tree Readin
   pub turns_ill : (f : SectionFault) → asked m o scan l ≡ Err f → FaultOf xs (next_item o xs t l) (fault_of f)
   turns_ill f e =
       ill_at o xs t l (sound_lines h.sound) w (shallow_by m o xs t h fits) _ refl f (asked_is m o xs t scan l table h next ∙ e)
+
+-- a text line is told the verdict of its place
+pub text_turn : (m : Machine) (o : Options) (scan : Scan) (l : Line) → content_of scan ≡ text →
+    asked m o scan l ≡ Ok (record {
+      step = record { verdict = (text_action (kept_at (last_of m.open_sections.items))).verdict; keyword = record { at = 0; len = 0 } };
+      change = Stay;
+    })
+text_turn m o scan l e = rw e refl
 
 pub ends_removed_last : (ms : List Mark) (m : Mark) → ends_removed (ms ++ m ∷ []) ≡ is_removed m.verdict
 ends_removed_last [] m = refl

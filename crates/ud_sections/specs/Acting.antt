@@ -1,6 +1,6 @@
 -- Acting: what becomes of a line, by the innermost open section.
 --
---   act plain section shape n    what becomes of a line of this shape and number; nothing where it is a directive out of
+--   act plain section shape n    what becomes of a line of this shape and number; nothing if it is a directive out of
 --                                its place; `plain` tells that text outside of all sections is plain
 --   Changes change old new       the change makes the new open sections of the old ones
 use Rattle.std.specs.Prelude.{◌≡◌, ℕ, List, [], ◌∷◌, ◌++◌, Bool, true, not, ◌||◌, if◌then◌else◌, Option, Some, None}

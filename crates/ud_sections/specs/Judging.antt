@@ -1,7 +1,7 @@
 -- Judging: what the machine answers to a line, by the open sections and by the line before.
 --
 --   judged_by before seen n      what becomes of a line of number n of which this is kept, or why it is faulty
---   judged before n seen         the same; where its keyword is cut, it is faulty
+--   judged before n seen         the same; if its keyword is cut, it is faulty
 use Rattle.std.specs.Prelude.{ℕ, ◌==◌, Bool, true, false, not, ◌&&◌, ◌||◌, if◌then◌else◌, Option, Some, None, Result, Ok, Err}
 use Rattle.ud_model.specs.Faults.{keeps_rest}
 use Rattle.ud_model.specs.declared.limits.TheConstants.{OPEN_SECTIONS}

@@ -2,8 +2,8 @@
 --
 --   level_of kept plain h    of the section with this head, whose place is kept or not, and plain text or not
 --   levels kept plain t      of the open sections of a text that begins in such a place, the outermost first
---   section_at d kept plain t   of the innermost one, and d where none is open
---   last_or d ls             the last of these, and d where there is none
+--   section_at d kept plain t   of the innermost one, and d if none is open
+--   last_or d ls             the last of these, and d if there is none
 use Rattle.std.specs.Prelude.{ℕ, List, [], ◌∷◌, Bool, true, false, ◌||◌, ◌&&◌, Option, Some}
 use Rattle.ud_model.specs.declared.cond.Cond.{Cond}
 use Rattle.ud_model.specs.Scans.{Reading}

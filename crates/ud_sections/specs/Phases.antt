@@ -1,7 +1,7 @@
 -- Phases: how far an open section is among its groups, by the conditions of these.
 --
---   phase_after p cs        the phase behind groups with these conditions, where p is the one before them
---   opener_verdict_in p part c   the verdict of the next opener; next_phase p c is the phase behind it
+--   phase_after p cs        the phase after groups with these conditions, p being the one before them
+--   opener_verdict_in p part c   the verdict of the next opener; next_phase p c is the phase after it
 --   endif_verdict_in p      the verdict of the `#endif`
 --   is_kept_in p            the last group is kept
 --   is_dead p               the section lies in a removed place
@@ -30,7 +30,7 @@ abbrev pub begun : Bool → Phase
 begun true = Seek
 begun false = Dead
 
--- the phase behind the next group
+-- the phase after the next group
 abbrev pub next_phase : Phase → Cond → Phase
 next_phase Dead c = Dead
 next_phase Seek Yes = Sole

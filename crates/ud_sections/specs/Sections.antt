@@ -3,11 +3,11 @@
 --   HasRead m o xs t          the machine has read these items, under these options; t is their tree
 --   ComesNext o xs t scan l table    the line l comes next, with this scan; the table says what the options say
 --   ReadsLine m o xs t l step        the machine has read the line too, and this step is its own
---   AreText o mode xs rs      these lines are text, as they are read in this mode behind these items
+--   AreText o mode xs rs      these lines are text, as they are read in this mode after these items
 --   refusal m                 what the machine has refused, if it has
 --   fault_of f                a fault of the program as the definitions have it
 --
--- `HasRead` says that none of the lines is faulty, so the items are those of the definitions. It stays where a line is
+-- `HasRead` says that none of the lines is faulty, so the items are those of the definitions. It stays if a line is
 -- refused: it then speaks of the lines before that one.
 --
 -- Example: a machine that has read `#if X` alone has one section open, and the line was no text.
@@ -54,7 +54,7 @@ pub record ReadsLine (m : Machine) (o : Options) (xs : List (Item Reading)) (t :
   pub marks_are : marks tree ≡ marks t ++ mark ∷ []
   pub judged_so : record { line = l; verdict = step.verdict; keyword = as_span step.keyword } ≡ judged (next_item o xs t l) mark
 
--- these lines are text within the limits, as they are read in this mode, one after another, behind these items
+-- these lines are text within the limits, as they are read in this mode, one after another, after these items
 abbrev pub AreText : Options → Mode → List (Item Reading) → List Reading → Type 0
 AreText o mode xs [] = Unit {0}
 AreText o mode xs (r ∷ rs) =

@@ -1,6 +1,6 @@
 -- Seeing: what is kept of a line while it is judged.
 --
---   shape_in kind d               what a directive of this kind is among the sections, where this is decided of it
+--   shape_in kind d               what a directive of this kind is among the sections, with what is decided of it
 --   seen_on scan table rules c    what is kept of the line with this scan, which carries this
 --   shape_of x                    what an item is among the sections
 use Rattle.std.specs.Prelude.{List, Result, Ok, Err}

@@ -1,8 +1,8 @@
 //! The directive that a line carries.
 
-ghost use Rattle.std.specs.Prelude.{◌≡◌, ◌+◌, length, IfOk, IfSome, MatchOption, Some, None};
+ghost use Rattle.std.specs.Prelude.{◌≡◌, ◌+◌, length, IsTrue, IfOk, IfSome, MatchOption, Some, None};
 ghost use Rattle.ud_model.specs.Bytes.{are_word_bytes};
-ghost use Rattle.ud_model.specs.Directives.{content_of, past_sign, kind_of, is_cut_off, begins_keyword, is_keyword_front, leaves_keyword, has_cut_keyword, found_behind};
+ghost use Rattle.ud_model.specs.Directives.{text, content_of, past_sign, kind_of, is_cut_off, begins_keyword, is_keyword_front, leaves_keyword, has_cut_keyword, found_behind};
 ghost use Rattle.ud_text.specs.Viewing.{as_scan};
 ghost use Rattle.ud_sections.specs.Finding.{content_found, directive_or_text};
 
@@ -30,6 +30,13 @@ pub fn directive<'a>(scan: &Scan<'a>) -> Result<Option<Directive<'a>>, Cut>
         return Err(Cut);
     }
     Ok(found_behind(scan, behind))
+}
+
+/// Whether a line is seen at once to be text: it isn't fresh, or its first byte that isn't white space is no `#`.
+pub(crate) fn is_plainly_text(scan: &Scan<'_>) -> bool
+    ensures { IsTrue result → content_of (as_scan scan.now) ≡ text }
+{
+    !scan.fresh || past_sign(scan.masked).is_none()
 }
 
 /// The bytes behind the `#` that comes first but for white space, if one does.

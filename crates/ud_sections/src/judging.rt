@@ -22,7 +22,7 @@ pub(crate) struct Before {
     pub removed: bool,
 }
 
-/// What becomes of a line of this number behind these, its keyword left out.
+/// What becomes of a line of this number after these, its keyword left out.
 ///
 /// # Errors
 /// The first of the cases in which the line is faulty: it is a directive out of its place, it opens one section too

@@ -79,7 +79,7 @@ impl Level {
         }
     }
 
-    /// What becomes of the next group's opener, and the section behind it.
+    /// What becomes of the next group's opener, and the section after it.
     fn open(self, part: Part, cond: Cond) -> (Verdict, Level)
         ensures verdict { result.0 ≡ opener_verdict_in self.phase (part_of part) cond }
         ensures level { result.1 ≡ opened_level self (part_of part) cond }
@@ -168,7 +168,7 @@ impl Place {
         }
     }
 
-    /// What becomes of a line of this shape and number; `None` where it is a directive out of its place.
+    /// What becomes of a line of this shape and number; `None` if it is a directive out of its place.
     pub(crate) fn act(self, shape: Shape, number: u32) -> Option<Action>
         ensures { result ≡ act self.plain self.section shape number }
     {

@@ -1,7 +1,8 @@
 //! What decides the lines of a text, one after another.
 //!
-//! A machine holds no line. Of the open sections it keeps how far each is among its groups; of the lines, whether the last
-//! one is removed, and its number.
+//! A machine holds no line and takes no memory. Of each open section it keeps how far it is among its groups; of the lines
+//! only whether the last one is removed, and its number. What a line does is decided by `judging`, after all its faults;
+//! then the open sections change. `specs/Sections.antt` says what a machine stands for: a list of lines and their tree.
 
 ghost use Rattle.std.specs.Prelude.{◌≡◌, ◌≤◌, ◌<◌, ◌+◌, ◌∷◌, [], ◌++◌, List, length, map, IsTrue, IfOk, IfErr, OnOk, OnErr, None, Some};
 ghost use Rattle.arrayvec.specs.ArrayVec.{array_vec_len};
@@ -17,14 +18,15 @@ ghost use Rattle.ud_text.specs.Viewing.{as_line, as_scan};
 ghost use Rattle.ud_sections.specs.Limits.{IsWithin};
 ghost use Rattle.ud_sections.specs.Showing.{HoldsKeyword};
 ghost use Rattle.ud_sections.specs.Changing.{changed, last_of};
+ghost use Rattle.ud_model.specs.Pruning.{is_removed};
 ghost use Rattle.ud_sections.specs.Judging.{is_push};
 
 use crate::fault::SectionFault;
-use crate::found::Cut;
+use crate::finding::is_plainly_text;
 use crate::judging::{Before, is_removed, judge};
 use crate::level::{Change, Level, Place};
 use crate::seeing::see;
-use crate::step::Step;
+use crate::step::{Span, Step};
 use arrayvec::ArrayVec;
 use ud_cond::Symbols;
 use ud_model::{Mode, OPEN_SECTIONS, Settings, Verdict};
@@ -48,7 +50,7 @@ pub struct Machine {
     open_sections: ArrayVec<Level, OPEN_SECTIONS>,
     /// The last line is removed.
     removed: bool,
-    /// The number of the last line; 0 where none is read.
+    /// The number of the last line; 0 if none is read.
     last: u32,
     /// What was refused, for good.
     refused: Option<SectionFault>,
@@ -57,7 +59,7 @@ pub struct Machine {
 impl Machine {
     ghost use Rattle.ud_sections.specs.Sections.{HasRead, ComesNext, ReadsLine, AreText, ReadsText, refusal, refused_with, fault_of, end_told};
     ghost use Rattle.ud_sections.specs.Turning.{before_in, turned};
-    ghost use Rattle.ud_sections.specs.Acting.{plain_at, kept_at};
+    ghost use Rattle.ud_sections.specs.Acting.{kept_at, text_action};
     ghost use Rattle.ud_sections.specs.Seeing.{seen_on};
     ghost use Rattle.ud_sections.specs.Ending.{end_in};
 
@@ -86,7 +88,7 @@ impl Machine {
         }
     }
 
-    /// How many sections are open; at most 64.
+    /// How many sections are open; at most `OPEN_SECTIONS`.
     pub fn depth(&self) -> usize
         ensures value { (o : Options) → (xs : List (Item Reading)) → (t : Tree Reading) → HasRead self.now o xs t → result ≡ depth t }
         ensures bound { result ≤ OPEN_SECTIONS }
@@ -96,7 +98,7 @@ impl Machine {
 
     /// Reads the next line, and tells what becomes of it. Lines that follow never count.
     ///
-    /// The scan is that of the line behind the lines before it, read in the mode that `mode` gives. The line's number and
+    /// The scan is that of the line after the lines before it, read in the mode that `mode` gives. The line's number and
     /// its length are within the limits of a text, and `symbols` says the same of every name at each call.
     ///
     /// # Errors
@@ -126,6 +128,12 @@ impl Machine {
     {
         if let Some(fault) = self.refused {
             return Err(fault);
+        }
+        if is_plainly_text(scan) {
+            return Ok(Step {
+                verdict: self.read_text(line.number),
+                keyword: Span { at: 0, len: 0 },
+            });
         }
         match self.turn(scan, line.number, symbols) {
             Ok(turn) => {
@@ -162,6 +170,15 @@ impl Machine {
             (r : Reading) → (rs : List Reading) → AreText o (mode_after o t) xs (r ∷ rs) → last ≡ last_number (xs ++ map text_line (r ∷ rs)) →
             ReadsText self.new o xs t (r ∷ rs) result }
         ensures refusal { refusal self.new ≡ refusal self.old }
+    {
+        self.read_text(last)
+    }
+
+    /// Reads text lines, the last of which has this number, and tells their verdict.
+    fn read_text(&mut self, last: u32) -> Verdict
+        ensures value { result ≡ (text_action (kept_at (last_of self.old.open_sections.items))).verdict }
+        ensures rest { self.new ≡ record self.old { removed = is_removed result; last = last } }
+        ensures fits { array_vec_len self.old.open_sections ≤ OPEN_SECTIONS }
     {
         let verdict = self.place().text_action().verdict;
         self.removed = is_removed(verdict);

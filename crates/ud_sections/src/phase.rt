@@ -30,7 +30,7 @@ pub(crate) enum Phase {
     Live,
     /// As `Live`, but the last group is false.
     Skip,
-    /// Behind an unknown group the last one is the first that is true.
+    /// After an unknown group the last one is the first that is true.
     Last,
     /// The first true group is past.
     Over,
@@ -44,7 +44,7 @@ impl Phase {
         if kept { Phase::Seek } else { Phase::Dead }
     }
 
-    /// The table of a section: what becomes of the next group's opener, and the phase behind it.
+    /// The table of a section: what becomes of the next group's opener, and the phase after it.
     pub(crate) fn open(self, part: Part, cond: Cond) -> (Verdict, Phase)
         ensures verdict { result.0 ≡ opener_verdict_in self (part_of part) cond }
         ensures phase { result.1 ≡ next_phase self cond }
@@ -104,7 +104,7 @@ fn first_kept_verdict(part: Part) -> Verdict
     }
 }
 
-/// The verdict of the opener of the first true group, where a group before it is kept.
+/// The verdict of the opener of the first true group, if a group before it is kept.
 fn first_true_verdict(part: Part) -> Verdict
     ensures { result ≡ first_true_verdict (part_of part) }
 {

@@ -95,7 +95,7 @@ fn rules_of(settings: Settings) -> Rules
     }
 }
 
-/// What a directive of this kind is among the sections, where this is decided of it.
+/// What a directive of this kind is among the sections, with what is decided of it.
 fn shape_in(kind: Kind, answer: Answer) -> Shape
     ensures { result ≡ shape_in kind (as_decision answer) }
 {

@@ -21,6 +21,8 @@ mod lines;
 #[cfg(test)]
 mod listing;
 #[cfg(test)]
+mod machines;
+#[cfg(test)]
 mod plain;
 #[cfg(test)]
 mod plans;
@@ -39,6 +41,8 @@ mod sections;
 mod sink;
 #[cfg(test)]
 mod source;
+#[cfg(test)]
+mod stepping;
 #[cfg(test)]
 mod streams;
 #[cfg(test)]

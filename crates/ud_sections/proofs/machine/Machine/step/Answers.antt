@@ -1,8 +1,20 @@
-use Rattle.std.proofs.Common.{sym, refl}
+use Rattle.std.proofs.Common.{◌∙◌, ap, sym, refl}
+use Rattle.ud_model.specs.Pruning.{is_removed}
 use Rattle.ud_text.specs.Viewing.{as_line, as_scan}
-use Rattle.ud_sections.proofs.TurnLemmas.{turns_well, turns_ill}
+use Rattle.ud_sections.proofs.TurnLemmas.{turns_well, turns_ill, text_turn}
 use Rattle.ud_sections.proofs.StandingLemmas.{reads_line}
 use Rattle.ud_sections.proofs.machine.Machine.step.Goals as goal
+
+-- a line that is seen at once to be text
+pub returns-then-is_plainly_text-clause-stands : goal.returns-then-is_plainly_text-clause-stands
+returns-then-is_plainly_text-clause-stands c = λ o xs t h next.
+    let told = text_turn c.args.self.now o (as_scan c.args.scan.now) (as_line c.args.line.now) (c.is_plainly_text.ensures c.if-is_plainly_text.true) in
+    let same = ap (λ m. m.open_sections.items) c.read_text.ensures.rest in
+    rw c.read_text.ensures.value
+    (reads_line c.args.self.now _ o xs t (as_line c.args.line.now) _ h
+    (turns_well c.args.self.now o xs t (as_scan c.args.scan.now) (as_line c.args.line.now) c.args.symbols.now h next c.requires.within c.read_text.ensures.fits _ told)
+    (ap (λ m. m.settings) c.read_text.ensures.rest) same
+    (ap (λ m. m.removed) c.read_text.ensures.rest ∙ ap is_removed c.read_text.ensures.value) (ap (λ m. m.last) c.read_text.ensures.rest))
 
 pub returns-in-Ok-clause-stands : goal.returns-in-Ok-clause-stands
 returns-in-Ok-clause-stands c = λ o xs t h next.
