@@ -148,7 +148,11 @@ scan_from_run run rest (q ∷ group) line r j = by_mode q.mode (λ ls. scan_from
         ap (λ (ls : List Line). scan_behind (run_from ls group) line) (append_assoc run rest (q.line ∷ [])) ∙ more (rest ++ q.line ∷ [])
     by_mode Plain more = refl
 
-joins_after-code : (run : List Line) (line : Line) → (scan_behind run line).joins_after ≡ joins (run ++ line ∷ [])
+pub joins_before-code : (run : List Line) (line : Line) → (scan_behind run line).joins_before ≡ joins run
+unfolding scan_behind
+joins_before-code run line = refl
+
+pub joins_after-code : (run : List Line) (line : Line) → (scan_behind run line).joins_after ≡ joins (run ++ line ∷ [])
 unfolding scan_behind
 joins_after-code run line = refl
 

@@ -58,7 +58,7 @@ module _ {L : Type 0} where
   marks_so_far_same kept (open_section ns h t) =
       rw (nodes_same kept ns, head_same kept h, marks_so_far_same (kept && is_inside_kept h) t)
 
-  groups_so_far-complete : (kept : Bool) (h : Head L) (b : Nodes L) →
+  pub groups_so_far-complete : (kept : Bool) (h : Head L) (b : Nodes L) →
       groups_so_far kept (complete h b) ≡ head_so_far kept h ++ nodes_so_far (kept && is_inside_kept h) b
   groups_so_far-complete kept (if_head o) b = refl
   groups_so_far-complete kept (elif_head es o) b = refl

@@ -30,3 +30,5 @@ pub mod CommandLine
 pub mod Messages
 pub mod Runs
 pub mod Answer
+pub mod Pruned
+pub mod Rereading

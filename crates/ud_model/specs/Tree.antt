@@ -7,6 +7,7 @@
 --   Tree L       a text: nodes, and at its end perhaps a section that lacks its `#endif`, in which the text goes on
 --   lines t      the lines of a text, in order; a list of lines has the tree t where `lines t` is that list
 --   depth t      how many sections are open at the end of the text
+--   with_lines f ns   the same nodes with another line in place of each
 --
 -- Each type is written from left to right, so a longer text adds to the end: nodes and then a line, groups and then a group.
 use Rattle.std.specs.Prelude.{◌≡◌, ℕ, suc, List, [], ◌∷◌, ◌++◌, Bool, false, ◌||◌, Option, Some, None}
@@ -108,3 +109,30 @@ module _ {L : Type 0} where
   innermost (closed ns) = None
   innermost (open_section ns h (closed b)) = Some (opener_of_head h)
   innermost (open_section ns h (open_section ms k t)) = innermost (open_section ms k t)
+
+-- the same opener, and the same item, with another line
+abbrev pub opener_with_line : {L M : Type 0} → (L → M) → Opener L → Opener M
+opener_with_line f o = record { line = f o.line; cond = o.cond; ignoring = o.ignoring }
+
+abbrev pub item_with : {L M : Type 0} → (L → M) → Item L → Item M
+item_with f (text_line l) = text_line (f l)
+item_with f (if_line o) = if_line (opener_with_line f o)
+item_with f (elif_line o) = elif_line (opener_with_line f o)
+item_with f (else_line l) = else_line (f l)
+item_with f (endif_line l) = endif_line (f l)
+
+module _ {L M : Type 0} (f : L → M) where
+  abbrev mutual
+    -- the same nodes with each line changed
+    pub with_lines : Nodes L → Nodes M
+    with_lines nothing = nothing
+    with_lines (text ns l) = text (with_lines ns) (f l)
+    with_lines (section ns gs e) = section (with_lines ns) (groups_with_lines gs) (f e)
+
+    pub groups_with_lines : Groups L → Groups M
+    groups_with_lines (conditional es) = conditional (elifs_with_lines es)
+    groups_with_lines (otherwise es l ns) = otherwise (elifs_with_lines es) (f l) (with_lines ns)
+
+    pub elifs_with_lines : Elifs L → Elifs M
+    elifs_with_lines (first o ns) = first (opener_with_line f o) (with_lines ns)
+    elifs_with_lines (elif es o ns) = elif (elifs_with_lines es) (opener_with_line f o) (with_lines ns)

@@ -3,6 +3,7 @@
 --
 --   World L           the truth of each opener with a condition, by its line
 --   selected w t      the text lines that are processed in the world w, in order
+--   openers ns        the lines of the openers with a condition, in order
 --   Agrees w t        the world has true for each Yes and false for each No, where these count: in sections of kept
 --                     places, up to the first true group
 --
@@ -101,3 +102,19 @@ module _ {L : Type 0} (w : World L) where
   -- the text itself is a kept place
   abbrev pub Agrees : Tree L → Type 0
   Agrees t = TreeAgrees true t
+
+module _ {L : Type 0} where
+  abbrev mutual
+    -- the lines of the openers with a condition, in order
+    pub openers : Nodes L → List L
+    openers nothing = []
+    openers (tree.text ns l) = openers ns
+    openers (section ns gs e) = openers ns ++ openers_of_groups gs
+
+    pub openers_of_groups : Groups L → List L
+    openers_of_groups (conditional es) = openers_of_elifs es
+    openers_of_groups (otherwise es l ns) = openers_of_elifs es ++ openers ns
+
+    pub openers_of_elifs : Elifs L → List L
+    openers_of_elifs (first o ns) = o.line ∷ openers ns
+    openers_of_elifs (elif es o ns) = (openers_of_elifs es ++ o.line ∷ []) ++ openers ns

@@ -10,6 +10,7 @@ mod kind;
 pub mod laws;
 mod limits;
 mod operator;
+pub mod output_laws;
 mod settings;
 mod verdict;
 

@@ -4,6 +4,7 @@ ghost use Rattle.std.specs.Prelude.{IsTrue};
 ghost use Rattle.ud_model.specs.Lines.{NoFeed};
 
 use crate::worked::owned;
+use memchr::memchr;
 use std::alloc::Global;
 use std::process::Abort;
 use std::test::Fail;
@@ -91,12 +92,10 @@ impl Stepper {
 fn is_one_line(body: &[u8]) -> bool
     ensures { IsTrue result → NoFeed body.now }
 {
-    for byte in body {
-        if *byte == b'\n' {
-            return false;
-        }
+    match memchr(b'\n', body) {
+        Some(_) => false,
+        None => true,
     }
-    true
 }
 
 /// A verdict in one letter.

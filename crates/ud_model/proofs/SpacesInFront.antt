@@ -1,0 +1,37 @@
+-- White space in front of an expression says nothing.
+use Rattle.std.proofs.Common.{◌≡◌, ℕ, List, [], ◌∷◌, Option, Some, None, Bool, true, if◌then◌else◌, refl, sym, ◌∙◌, ap}
+use Rattle.ud_model.specs.Bytes.{is_white, past_white}
+use Rattle.ud_model.specs.Table.{Argument}
+use Rattle.ud_model.specs.Tokens.{Token, next_token, token_in_front, AreTokens}
+use Rattle.ud_model.specs.Parsing.{tokens_of, reads, run_all, itself, needs, expression_of}
+use Rattle.ud_model.specs.Conditions.{Rules, expression_cond, tree_cond_if}
+use Rattle.ud_model.proofs.TokenLemmas.{tokens_of_only, tokens_of_are}
+
+past_one : (b : ℕ) (t : List ℕ) → is_white b ≡ true → past_white (b ∷ t) ≡ past_white t
+past_one b t e = ap (λ (w : Bool). if w then past_white t else b ∷ t) e
+
+token_past : (b : ℕ) (t : List ℕ) → is_white b ≡ true → next_token (b ∷ t) ≡ next_token t
+unfolding next_token
+token_past b t e = ap token_in_front (past_one b t e)
+
+tokens_past : (b : ℕ) (t : List ℕ) (ts : List Token) → is_white b ≡ true → AreTokens (b ∷ t) ts → AreTokens t ts
+tokens_past b t [] e h = sym (token_past b t e) ∙ h
+tokens_past b t (k ∷ ts) e h = (h.0, sym (token_past b t e) ∙ h.1, h.2)
+
+tokens_before : (b : ℕ) (t : List ℕ) (ts : List Token) → is_white b ≡ true → AreTokens t ts → AreTokens (b ∷ t) ts
+tokens_before b t [] e h = token_past b t e ∙ h
+tokens_before b t (k ∷ ts) e h = (h.0, token_past b t e ∙ h.1, h.2)
+
+-- the tokens of a text are those with white space in front
+tokens_same : (b : ℕ) (t : List ℕ) → is_white b ≡ true → tokens_of (b ∷ t) ≡ tokens_of t
+tokens_same b t e = go (tokens_of (b ∷ t)) (tokens_of t) refl refl
+  where
+    go : (p q : Option (List Token)) → tokens_of (b ∷ t) ≡ p → tokens_of t ≡ q → p ≡ q
+    go None None c d = refl
+    go (Some ts) q c d = sym (tokens_of_only t ts (tokens_past b t ts e (tokens_of_are (b ∷ t) ts c))) ∙ d
+    go None (Some ts) c d = sym c ∙ tokens_of_only (b ∷ t) ts (tokens_before b t ts e (tokens_of_are t ts d))
+
+-- the condition of an expression is the same with white space in front
+pub cond_past : (b : ℕ) (t : List ℕ) (table : List Argument) (rules : Rules) → is_white b ≡ true → expression_cond (b ∷ t) table rules ≡ expression_cond t table rules
+unfolding expression_cond expression_of reads
+cond_past b t table rules e = ap (λ (ts : Option (List Token)). tree_cond_if (run_all itself (needs []) ts) table rules) (tokens_same b t e)
