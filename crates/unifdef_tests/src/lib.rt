@@ -32,6 +32,8 @@ mod printed;
 mod printers;
 mod printing;
 #[cfg(test)]
+mod rereading;
+#[cfg(test)]
 mod scanning;
 #[cfg(test)]
 mod scans;
