@@ -4,6 +4,7 @@
 # make install    installs ./unifdef and its manual under DESTDIR and PREFIX; make uninstall takes them away
 # make bench      measures ./unifdef on a large text, and how fast conditions are decided (bench/README.md)
 # make trees      runs ./unifdef over real trees beside the released program (bench/README.md)
+# make selects    compares what a C compiler selects of real files before and after ./unifdef (bench/README.md)
 # make clean      removes what was built
 
 PREFIX ?= /usr/local
@@ -21,7 +22,7 @@ SOURCES := crates.txt HANDLES \
 	$(shell find crates -name out -prune -o \( -name '*.rt' -o -name '*.antt' \) -print)
 
 .DELETE_ON_ERROR:
-.PHONY: all build check examples install uninstall bench bench-text bench-conditions trees clean
+.PHONY: all build check examples install uninstall bench bench-text bench-conditions trees selects clean
 
 all: build
 
@@ -57,6 +58,9 @@ bench-conditions:
 
 trees: unifdef
 	bench/trees.sh
+
+selects: unifdef
+	bench/selects.py $(SELECTS)
 
 clean:
 	rm -f unifdef
