@@ -1,4 +1,4 @@
--- Blocks: bytes inside a block comment, new-lines and all.
+-- Blocks: bytes in a block comment, their line feeds among them.
 use Rattle.std.proofs.Common.{◌≡◌, ℕ, ◌+◌, ◌<◌, ◌≤◌, ◌==◌, List, [], ◌∷◌, ◌++◌, length, take, drop, Bool, true, false, not, ◌&&◌, ◌||◌, if◌then◌else◌, refl, sym, ◌∙◌, ap, subst, append_assoc, arith, length-append, ne_eqb}
 use Rattle.std.proofs.lemmas.List.{take-append-drop, length-take-le}
 use Rattle.ud_model.specs.Lines.{NoFeed}
@@ -16,7 +16,7 @@ abbrev pub star_before : Bool → List ℕ → List ℕ
 star_before true bytes = star ∷ bytes
 star_before false bytes = bytes
 
--- bytes that stay inside a block comment
+-- the bytes lead from in a block comment to in it, after a star or not
 pub record BlockSpan (starred white : Bool) (bytes : List ℕ) : Type 0 where
   pub now : Bool
   pub leads : state_after (inside_state starred white) bytes ≡ inside_state now white
@@ -71,6 +71,7 @@ pair_star b bytes h = by_star (b == star) refl bytes h
     by_star true e (x ∷ bytes) h = (ap (λ (s : Bool). s && ((x == slash) || (x == backslash))) (sym e) ∙ h.0, h.1)
     by_star false e (x ∷ bytes) h = h.1
 
+-- bytes without a star before a slash or a backslash do
 pub block_on : (bytes : List ℕ) (starred white : Bool) → NoPair (star_before starred bytes) → BlockSpan starred white bytes
 block_on [] starred white h = record { now = starred; leads = refl; quiet = tt }
 block_on (b ∷ bytes) starred white h =
@@ -103,6 +104,7 @@ closing_keeps : (starred white : Bool) → NoFeedInBlock (inside_state starred w
 closing_keeps true white = (refl, (refl, tt))
 closing_keeps false white = (refl, (refl, tt))
 
+-- nor has a front of the bytes such a pair
 pub pair_front : (p q : List ℕ) → NoPair (p ++ q) → NoPair p
 pair_front [] q h = tt
 pair_front (a ∷ []) q h = tt
@@ -111,10 +113,11 @@ pair_front (a ∷ b ∷ p) q h = (h.0, pair_front (b ∷ p) q h.1)
 module _ {start : State} {bytes : List ℕ} {line : ℕ} {kept : State} {at : ℕ} {u : Bool}
     (r : ReadTo start bytes line kept at (block_state u)) (count : ℕ) (fits : count ≤ length (drop at bytes))
     (free : NoPair (take count (drop at bytes))) where
+  -- such bytes, from a place in a block comment
   pub on : BlockSpan false u (take count (drop at bytes))
   on = block_on (take count (drop at bytes)) false u free
 
-  -- on the same line
+  -- they lie on one line
   pub block_same : NoFeed (take count (drop at bytes)) → ReadTo start bytes line kept (at + count) (inside_state on.now u)
   unfolding on
   block_same h = read_on r count (take count (drop at bytes)) refl fits on.quiet (keeps_one_line (take count (drop at bytes)) (block_state u) h) (inside_state on.now u) on.leads
@@ -158,18 +161,18 @@ module _ {start : State} {bytes : List ℕ} {line : ℕ} {kept : State} {at : �
             ∙ ap (λ (l : List ℕ). state_after (block_state u) l) (sym split) ∙ on.leads;
       }
 
-  -- on a later line
+  -- they end on a later line, which is the last one then
   pub block_later : (n : ℕ) → LastBegins (take count (drop at bytes)) n → 0 < n → ReadTo start bytes (at + n) (block_state u) (at + count) (inside_state on.now u)
   block_later n h z = later_at n (take n (take count (drop at bytes))) h.begins refl h.one_line h.within z
 
--- the end of a comment
+-- the two bytes that close a block comment
 pub block_closed : {start : State} {bytes : List ℕ} {line : ℕ} {kept : State} {at : ℕ} (starred u : Bool) →
     ReadTo start bytes line kept at (inside_state starred u) → 2 ≤ length (drop at bytes) → star ∷ slash ∷ [] ≡ take 2 (drop at bytes) →
     ReadOutside start bytes line kept (at + 2) false (at + 2)
 block_closed starred u r h e = read_base false (λ f. cc)
     (read_on r 2 (star ∷ slash ∷ []) e h (closing_quiet starred u) (closing_keeps starred u) (text_state u) (closing starred u))
 
--- the beginning of a comment
+-- the two bytes that open one
 pub block_opened : {start : State} {bytes : List ℕ} {line : ℕ} {kept : State} {at : ℕ} (u : Bool) →
     ReadTo start bytes line kept at (text_state u) → 2 ≤ length (drop at bytes) → slash ∷ star ∷ [] ≡ take 2 (drop at bytes) →
     ReadTo start bytes line kept (at + 2) (block_state u)

@@ -1,4 +1,4 @@
--- Looks: whether the logical line is white, seen by looking back over white space.
+-- Looks: looking back over white space tells whether the logical line is white.
 use Rattle.std.proofs.Common.{◌≡◌, ℕ, ◌==◌, List, [], ◌∷◌, ◌++◌, Bool, true, false, ◌&&◌, ◌||◌, if◌then◌else◌, ◌⊎◌, inl, inr, refl, sym, ◌∙◌, ap, subst}
 use Rattle.std.proofs.lemmas.Bool.{eqb-true}
 use Rattle.ud_model.specs.Bytes.{is_quote, is_white, are_white, slash, line_feed, carriage_return, star, backslash}
@@ -9,7 +9,7 @@ use Rattle.ud_text.proofs.TextLemmas.{Class, class_of, a_slash, a_sign, a_white,
 use Rattle.ud_text.specs.Spans.{black, NoComment, all_white, SeenWhite, new_line}
 use Rattle.std.proofs.Math.Bool.{and-false}
 
--- outside comments
+-- a place outside comments
 abbrev pub outside : Place → Bool
 outside in_text = true
 outside at_slash = true
@@ -133,7 +133,7 @@ black_on (b ∷ bytes) s e h =
     let w : (is_white b ≡ true) × (are_white bytes ≡ true) = white_tests b bytes h in
     black_on bytes (next_state s b) (ap (λ (v : Bool). whitens s.place v b) e ∙ white_false s.place b (white_parts b w.0).2) w.1
 
--- behind a byte that isn't white the line isn't white, unless that is a slash
+-- after a byte that isn't white the line isn't white, unless the byte is a slash, which may begin a comment
 black_step : (w : Place) (white : Bool) (b : ℕ) → outside w ≡ true → opens w b ≡ false → is_white b ≡ false → (b == line_feed) ≡ false →
     (whitens w white b ≡ false) ⊎ (next w b ≡ at_slash)
 black_step in_text white b o f w i = by_slash (b == slash) refl
@@ -154,7 +154,7 @@ black_step in_line white b o f w i = cc
 black_step (in_literal q) white b o f w i = inl (rw (i, w) (and-false white))
 black_step (at_backslash q) white b o f w i = inl (rw (i, w) (and-false white))
 
--- white space behind a slash
+-- white space after a slash makes it a byte of the line
 slash_on : (bytes : List ℕ) (s : State) (u : Bool) → s.place ≡ at_slash → are_white bytes ≡ true → state_after s bytes ≡ text_state u → u ≡ false
 slash_on [] s u p h e = let q : at_slash ≡ in_text = sym p ∙ ap (λ (t : State). t.place) e in cc
 slash_on (b ∷ bytes) s u p h e =
@@ -162,25 +162,25 @@ slash_on (b ∷ bytes) s u p h e =
     let n : ((b == slash) ≡ false) × (is_quote b ≡ false) × ((b == line_feed) ≡ false) × ((b == star) ≡ false) × ((b == backslash) ≡ false) = white_parts b w.0 in
     sym (ap (λ (t : State). t.white) e) ∙ black_on bytes (next_state s b) (ap (λ (v : Place). whitens v s.white b) p ∙ rw (n.3, n.0, n.2) refl) w.1
 
--- what looking back shows is so
+-- what is seen by looking back is so
 pub shows_white : (plain : List ℕ) (begins v base now : Bool) → NoComment in_text plain → state_after (text_state base) plain ≡ text_state now →
     (begins ≡ true → base ≡ true) → SeenWhite plain begins v → now ≡ v
 shows_white plain begins _ base now c e f (all_white b w) =
     ap (λ (s : State). s.white) (sym e ∙ ap (λ (u : Bool). state_after (text_state u) plain) (f b) ∙ white_on plain w)
-shows_white plain begins _ base now c e f (new_line front behind is w) =
-    let out : (outside (state_after (text_state base) front).place ≡ true) × NoComment (state_after (text_state base) front).place (line_feed ∷ behind) =
-    outside_on (text_state base) front (line_feed ∷ behind) refl (subst (λ (l : List ℕ). NoComment in_text l) is c) in
+shows_white plain begins _ base now c e f (new_line front rest is w) =
+    let out : (outside (state_after (text_state base) front).place ≡ true) × NoComment (state_after (text_state base) front).place (line_feed ∷ rest) =
+    outside_on (text_state base) front (line_feed ∷ rest) refl (subst (λ (l : List ℕ). NoComment in_text l) is c) in
     ap (λ (s : State). s.white)
-    (sym e ∙ ap (λ (l : List ℕ). state_after (text_state base) l) is ∙ state_after-append (text_state base) front (line_feed ∷ behind)
-    ∙ ap (λ (s : State). state_after s behind) (feed_step (state_after (text_state base) front) out.0) ∙ white_on behind w)
-shows_white plain begins _ base now c e f (black front b behind is k i w) =
+    (sym e ∙ ap (λ (l : List ℕ). state_after (text_state base) l) is ∙ state_after-append (text_state base) front (line_feed ∷ rest)
+    ∙ ap (λ (s : State). state_after s rest) (feed_step (state_after (text_state base) front) out.0) ∙ white_on rest w)
+shows_white plain begins _ base now c e f (black front b rest is k i w) =
     let s : State = state_after (text_state base) front in
-    let out : (outside (state_after (text_state base) front).place ≡ true) × NoComment (state_after (text_state base) front).place (b ∷ behind) =
-    outside_on (text_state base) front (b ∷ behind) refl (subst (λ (l : List ℕ). NoComment in_text l) is c) in
-    let there : state_after (next_state (state_after (text_state base) front) b) behind ≡ text_state now =
-    sym (ap (λ (l : List ℕ). state_after (text_state base) l) is ∙ state_after-append (text_state base) front (b ∷ behind)) ∙ e in
+    let out : (outside (state_after (text_state base) front).place ≡ true) × NoComment (state_after (text_state base) front).place (b ∷ rest) =
+    outside_on (text_state base) front (b ∷ rest) refl (subst (λ (l : List ℕ). NoComment in_text l) is c) in
+    let there : state_after (next_state (state_after (text_state base) front) b) rest ≡ text_state now =
+    sym (ap (λ (l : List ℕ). state_after (text_state base) l) is ∙ state_after-append (text_state base) front (b ∷ rest)) ∙ e in
     by_step (state_after (text_state base) front) there (black_step (state_after (text_state base) front).place (state_after (text_state base) front).white b out.0 out.1.0 k i)
   where
-    by_step : (s : State) → state_after (next_state s b) behind ≡ text_state now → (whitens s.place s.white b ≡ false) ⊎ (next s.place b ≡ at_slash) → now ≡ false
-    by_step s t (inl h) = sym (ap (λ (x : State). x.white) t) ∙ black_on behind (next_state s b) h w
-    by_step s t (inr h) = slash_on behind (next_state s b) now h w t
+    by_step : (s : State) → state_after (next_state s b) rest ≡ text_state now → (whitens s.place s.white b ≡ false) ⊎ (next s.place b ≡ at_slash) → now ≡ false
+    by_step s t (inl h) = sym (ap (λ (x : State). x.white) t) ∙ black_on rest (next_state s b) h w
+    by_step s t (inr h) = slash_on rest (next_state s b) now h w t

@@ -1,4 +1,4 @@
--- Passes: runs of bytes on the way through whole lines.
+-- Plain text: runs of bytes without one that may matter, and where lines begin.
 use Rattle.std.proofs.Common.{◌≡◌, ℕ, zero, suc, ◌+◌, ◌<◌, ◌==◌, List, [], ◌∷◌, ◌++◌, length, take, drop, get_or, Bool, true, false, not, cond, ◌&&◌, ◌||◌, if◌then◌else◌, refl, sym, ◌∙◌, ap, subst, arith, one-add}
 use Rattle.std.specs.List.{position_or_len}
 use Rattle.std.proofs.lemmas.Bool.{eqb-true}
@@ -19,10 +19,11 @@ no_feed_back s zero none = subst NoFeed (take_all (length s) s (omega arith)) (n
 no_feed_back [] (suc n) none = tt
 no_feed_back (b ∷ bs) (suc n) none = no_feed_back bs n (λ k low high. none (suc k) (omega arith) (omega arith))
 
--- the last line feed that a search finds
+-- where no line feed is found, the last line begins at the start
 pub last_begins-none : (s : List ℕ) → Nowhere (Passes (is_byte line_feed) s) 0 (length s) → LastBegins s 0
 last_begins-none s h = record { within = omega arith; begins = at_start; one_line = no_feed_back s 0 h }
 
+-- the last line feed that a search finds stands before the last line
 pub last_begins-found : (s : List ℕ) (k : ℕ) → NoneAfter (Passes (is_byte line_feed) s) 0 (length s) k → Passes (is_byte line_feed) s k → LastBegins s (k + 1)
 last_begins-found s k h is = record {
   within = (let l : k < length s = h.high in omega arith);
@@ -30,7 +31,7 @@ last_begins-found s k h is = record {
   one_line = no_feed_back s (k + 1) h.after;
 }
 
--- bytes behind which a line begins end a line
+-- bytes after which a line begins end with a line feed, or are none
 pub begins_ends : (bytes : List ℕ) → BeginsLine bytes → EndsLine bytes
 unfolding parts_of
 begins_ends _ at_start = refl
@@ -43,10 +44,11 @@ or4 false true c d e = cc
 or4 false false true d e = cc
 or4 false false false true e = cc
 
+-- what a byte is not that may not matter
 pub not_special : (b : ℕ) → is_special b ≡ false → ((b == slash) ≡ false) × (is_quote b ≡ false) × ((b == backslash) ≡ false) × ((b == number_sign) ≡ false)
 not_special b e = or4 (b == slash) (is_quote b) (b == backslash) (b == number_sign) e
 
-pub step_plain : (b : ℕ) (white : Bool) → is_special b ≡ false → next_state (text_state white) b ≡ text_state (whitens in_text white b)
+step_plain : (b : ℕ) (white : Bool) → is_special b ≡ false → next_state (text_state white) b ≡ text_state (whitens in_text white b)
 step_plain b white e = by_tests (b == slash) (is_quote b) (b == backslash) (b == carriage_return) (not_special b e).0 (not_special b e).1 (not_special b e).2
   where
     by_tests : (s q t r : Bool) → s ≡ false → q ≡ false → t ≡ false →
@@ -66,6 +68,7 @@ stops_plain b white rest e = by_tests (b == line_feed) (b == number_sign) (not_s
     by_tests false false g = refl
     by_tests false true g = cc
 
+-- plain text leads from outside comments and literals to outside them
 pub plain_read : (bytes : List ℕ) (white : Bool) → NoSpecial bytes → TextSpan white bytes
 plain_read [] white h = record { now_white = white; leads = refl; quiet = tt; no_feed = tt; no_comment = tt }
 plain_read (b ∷ bytes) white h =
@@ -80,7 +83,7 @@ plain_read (b ∷ bytes) white h =
       no_comment = (refl, subst (λ (w : Place). NoComment w bytes) (ap (λ (s : State). s.place) there) more.no_comment);
     }
 
--- the bytes in front of the first special one have none
+-- the bytes before the first special one have none
 pub no_special_before : (bytes : List ℕ) → NoSpecial (take (position_or_len is_special bytes) bytes)
 no_special_before [] = tt
 no_special_before (b ∷ bytes) = by_special (is_special b) (position_or_len is_special bytes) refl (no_special_before bytes)
@@ -89,6 +92,6 @@ no_special_before (b ∷ bytes) = by_special (is_special b) (position_or_len is_
     by_special true n e h = tt
     by_special false n e h = let P : ℕ → Type 0 = λ k. NoSpecial (take k (b ∷ bytes)) in subst P (sym (one-add n)) (e, h)
 
--- where nothing is passed, all stays
+-- no bytes lead nowhere else
 pub passed_none : (start : State) → Passed start [] start
 passed_none start = record { ends = begins_ends [] at_start; quiet = tt; leads = refl }

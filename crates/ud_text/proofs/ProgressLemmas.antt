@@ -1,4 +1,4 @@
--- Rans: from what is known up to a place to what is known further on.
+-- Progress: from what is known up to a place to what is known further on.
 use Rattle.std.proofs.Common.{◌≡◌, ℕ, ◌+◌, ◌-◌, ◌<◌, ◌≤◌, List, [], ◌∷◌, ◌++◌, length, take, drop, Bool, true, false, refl, sym, ◌∙◌, ap, subst, append_assoc, append-nil, arith, length-append}
 use Rattle.std.proofs.lemmas.List.{take-append-drop, length-take-le}
 use Rattle.ud_model.specs.Scanning.{is_block}
@@ -18,6 +18,7 @@ drop_front p q n e = ap (λ (k : ℕ). drop k (p ++ q)) e ∙ drop-append_seam p
 take_front : (p q : List ℕ) (n : ℕ) → n ≡ length p → take n (p ++ q) ≡ p
 take_front p q n e = ap (λ (k : ℕ). take k (p ++ q)) e ∙ take-append_seam p q
 
+-- a line begins after bytes that end with a line feed, whatever stands before them
 pub begins-append : (p q : List ℕ) → BeginsLine (q ++ line_feed ∷ []) → BeginsLine (p ++ (q ++ line_feed ∷ []))
 begins-append p q h = subst BeginsLine (append_assoc p q (line_feed ∷ [])) (after_feed (p ++ q))
 
@@ -33,7 +34,7 @@ feed_open s e = by_place s.place e
     by_place (in_literal q) e = refl
     by_place (at_backslash q) e = refl
 
--- lines passed, and further ones
+-- lines that are passed, and further ones
 pub Passed-append : {start now later : State} (p q : List ℕ) → Passed start p now → BeginsLine (p ++ q) → IsQuiet now q →
     state_after now q ≡ later → Passed start (p ++ q) later
 Passed-append {start} p q h b k e = record {
@@ -44,22 +45,22 @@ Passed-append {start} p q h b k e = record {
 
 module _ {start : State} {bytes : List ℕ} {line : ℕ} {kept : State} {at : ℕ} {now : State}
     (r : ReadTo start bytes line kept at now) where
-  -- what follows
+  -- the bytes from the place on
   pub rest_of : drop at bytes ≡ r.rest
   rest_of = ap (λ (l : List ℕ). drop at l) (r.is ∙ sym (append_assoc r.front r.mid r.rest))
       ∙ drop_front (r.front ++ r.mid) r.rest at (r.at_is ∙ sym (length-append r.front r.mid))
 
-  -- what stands behind the line's beginning
+  -- the bytes from the beginning of the line up to the place
   pub mid_of : take (at - line) (drop line bytes) ≡ r.mid
   mid_of = ap (λ (l : List ℕ). take (at - line) l) (ap (λ (l : List ℕ). drop line l) r.is ∙ drop_front r.front (r.mid ++ r.rest) line r.line_is)
       ∙ take_front r.mid r.rest (at - line) (let e : at ≡ length r.front + length r.mid = r.at_is in let f : line ≡ length r.front = r.line_is in omega arith)
 
-  -- the lines before are passed
+  -- the lines before that beginning are passed
   pub passed_of : Passed start (take line bytes) kept
   passed_of = subst (λ (l : List ℕ). Passed start l kept)
       (sym (ap (λ (l : List ℕ). take line l) r.is ∙ take_front r.front (r.mid ++ r.rest) line r.line_is)) r.passed
 
-  -- further bytes
+  -- further bytes are read
   pub read_on : (k : ℕ) (run : List ℕ) → run ≡ take k (drop at bytes) → k ≤ length (drop at bytes) → IsQuiet now run → NoFeedInBlock now run →
       (v : State) → state_after now run ≡ v → ReadTo start bytes line kept (at + k) v
   unfolding rest_of
@@ -80,7 +81,7 @@ module _ {start : State} {bytes : List ℕ} {line : ℕ} {kept : State} {at : �
     leads = state_after-append kept r.mid run ∙ ap (λ (s : State). state_after s run) r.leads ∙ there;
   }
 
-  -- from the beginning of a later line
+  -- the same, said from the beginning of a later line
   settled_at : (n : ℕ) (m : List ℕ) → BeginsLine m → m ≡ take n r.mid → n ≤ length r.mid → 0 < n → ReadTo start bytes (line + n) (text_state true) at now
   settled_at n _ at_start e h k = absurd (let f : 0 ≡ n = ap length e ∙ length-take-le n r.mid h in omega arith)
   settled_at n _ (after_feed x) e h k =
@@ -108,7 +109,7 @@ module _ {start : State} {bytes : List ℕ} {line : ℕ} {kept : State} {at : �
         leads = ap (λ (t : State). state_after t y) (sym there) ∙ sym (state_after-append kept (x ++ line_feed ∷ []) y) ∙ ap (λ (l : List ℕ). state_after kept l) (sym split) ∙ r.leads;
       }
 
-  -- from the beginning of the last line
+  -- and from the beginning of the last line
   pub settled : (n : ℕ) → LastBegins (take (at - line) (drop line bytes)) n → 0 < n → ReadTo start bytes (line + n) (text_state true) at now
   unfolding mid_of
   settled n h k =
@@ -146,7 +147,7 @@ read_start bytes = record {
   no_comment = tt;
 }
 
--- a base at the place where the bytes are read to
+-- the place itself is a base
 pub read_base : {start : State} {bytes : List ℕ} {line : ℕ} {kept : State} {at : ℕ} {now : Bool} (begins : Bool) →
     (begins ≡ true → now ≡ true) → ReadTo start bytes line kept at (text_state now) → ReadOutside start bytes line kept at begins at
 read_base {now = now} begins b r = record {
@@ -164,12 +165,12 @@ read_base {now = now} begins b r = record {
 
 module _ {start : State} {bytes : List ℕ} {line : ℕ} {kept : State} {base : ℕ} {begins : Bool} {at : ℕ}
     (r : ReadOutside start bytes line kept base begins at) where
-  -- where the bytes behind the base lead
+  -- where the bytes after the base lead
   pub plain_leads : state_after (text_state r.base_white) r.plain ≡ text_state r.now_white
   plain_leads = ap (λ (s : State). state_after s r.plain) (sym r.base_leads) ∙ sym (state_after-append kept r.before r.plain)
       ∙ ap (λ (l : List ℕ). state_after kept l) (sym r.mid_is) ∙ r.so_far.leads
 
-  -- the bytes behind the base
+  -- the bytes after the base
   pub plain_of : take (at - base) (drop base bytes) ≡ r.plain
   plain_of = ap (λ (l : List ℕ). take (at - base) l)
       (ap (λ (l : List ℕ). drop base l) (r.so_far.is ∙ ap (λ (l : List ℕ). r.so_far.front ++ (l ++ r.so_far.rest)) r.mid_is
@@ -181,7 +182,7 @@ module _ {start : State} {bytes : List ℕ} {line : ℕ} {kept : State} {base : 
       let g : length r.so_far.mid ≡ length r.before + length r.plain = ap length r.mid_is ∙ length-append r.before r.plain in
       omega arith)
 
-  -- further bytes outside comments
+  -- further bytes are read outside comments
   pub read_text : (k : ℕ) → k ≤ length (drop at bytes) → TextSpan r.now_white (take k (drop at bytes)) → ReadOutside start bytes line kept base begins (at + k)
   unfolding read_on
   read_text k h t = record {
@@ -198,7 +199,7 @@ module _ {start : State} {bytes : List ℕ} {line : ℕ} {kept : State} {base : 
         (subst (λ (x : State). NoComment x.place (take k (drop at bytes))) (sym plain_leads) t.no_comment);
   }
 
-  -- further bytes up to the beginning of a line
+  -- further bytes are read up to the beginning of a line, where there is a new base
   pub read_line : (k : ℕ) → k ≤ length (drop at bytes) → LineSpan r.now_white (take k (drop at bytes)) → ReadOutside start bytes line kept (at + k) true (at + k)
   read_line k h t = read_base true (λ e. refl)
       (read_on r.so_far k (take k (drop at bytes)) refl h t.quiet t.no_feed (text_state true) t.leads)

@@ -1,4 +1,4 @@
--- Lines that are read quietly: where each leads, and that it is text.
+-- Quiet lines: a whole line that is read quietly is text, and what is carried from it; many of them at once.
 use Rattle.std.proofs.Common.{◌≡◌, ◌≤◌, ℕ, suc, ◌-◌, ◌==◌, nat_eq, List, [], ◌∷◌, ◌++◌, length, take, Bool, true, false, not, ◌&&◌, ◌||◌, if◌then◌else◌, refl, sym, ◌∙◌, ap, subst, append_assoc, append-nil, arith, length-append}
 use Rattle.std.specs.List.{concat, ends_with}
 use Rattle.std.proofs.lemmas.Bool.Decides.{Decides-eqb}
@@ -45,7 +45,7 @@ pub data IsTail : Bool → List ℕ → Type 0 where
   splice_feed : IsTail true (backslash ∷ line_feed ∷ [])
   splice_return_feed : IsTail true (backslash ∷ carriage_return ∷ line_feed ∷ [])
 
--- how a whole line is made up
+-- a whole line is its content and a tail
 pub record Shape (line : Line) (bytes : List ℕ) : Type 0 where
   pub tail : List ℕ
   pub is : bytes ≡ content line ++ tail
@@ -101,7 +101,7 @@ tail_kind true _ two = splice_return_feed
 tail_kind false _ one = feed
 tail_kind false _ two = return_feed
 
--- each whole line is made up so
+-- each whole line is so made up
 pub shape_of : (n : ℕ) (l : List ℕ) → IsWhole l → Shape (line_at n l) l
 shape_of n l whole =
     let line : Line = line_at n l in
@@ -150,7 +150,7 @@ after_feed in_line = refl
 after_feed (in_literal q) = refl
 after_feed (at_backslash q) = refl
 
--- where a line's content leaves off, and where the line leads
+-- the state after a line is that of the definitions, by where its content leaves off and whether it is spliced
 pub record Leads (v : Place) (white : Bool) (spliced : Bool) (now : State) : Type 0 where
   pub place : now.place ≡ closed_place spliced v
   pub white_is : now.white ≡ closed_white spliced v white
@@ -195,7 +195,7 @@ tail_names _ _ return_feed = (refl, refl)
 tail_names _ _ splice_feed = (refl, refl)
 tail_names _ _ splice_return_feed = (refl, refl)
 
--- what carries over a line that is read quietly, and that it is text
+-- a line that is read quietly is text, and leaves this state
 pub record QuietLine (w : Place) (white : Bool) (before : List Reading) (line : Line) (now : State) : Type 0 where
   pub stands : Carries (carried_at now.place now.white) (before ++ next_reading before C line ∷ [])
   pub is_text : content_of (scan_after before C line) ≡ text
@@ -297,11 +297,12 @@ module _ (w : Place) (white : Bool) (before : List Reading) (line : Line) (bytes
     begins = led.begins;
   }
 
--- what carries over lines that are read quietly, and that they are text
+-- lines that are read quietly are text, and leave this state
 pub record QuietLines (before : List Reading) (n : ℕ) (ls : List (List ℕ)) (now : State) : Type 0 where
   pub stands : Carries (carried_at now.place now.white) (readings_after before (coded n ls))
   pub texts : AreText before (numbered_from n ls)
 
+-- lines that are read quietly, one after another
 pub lines_read : (ls : List (List ℕ)) (n : ℕ) (w : Place) (white : Bool) (before : List Reading) → AreWhole ls → begins_line w ≡ true →
     IsQuiet (line_state w white) (concat ls) → Carries (carried_at w white) before → QuietLines before n ls (state_after (line_state w white) (concat ls))
 lines_read [] n w white before whole at quiet carried = record { stands = carried; texts = tt }
@@ -344,11 +345,12 @@ passes_text w white bytes now now_white at p =
       texts = λ n before h. (lines_read ls n w white before (are_whole bytes) at quiet h).texts;
     }
 
--- where there are no lines, all stays
+-- no lines change nothing
 pub passes_none : (c : Carried) → PassesText c c []
 unfolding parts_of
 passes_none c = record { stands = λ n before h. h; texts = λ n before h. tt }
 
+-- a line may begin where lines can be read
 pub starts_begins : (w : Place) (white : Bool) → can_start w white ≡ true → begins_line w ≡ true
 starts_begins in_text white e = refl
 starts_begins in_block white e = refl

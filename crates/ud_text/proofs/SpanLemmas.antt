@@ -1,4 +1,4 @@
--- Spans: what is read at once where a special byte stands.
+-- Spans: where a slash, a backslash, a `#`, a literal and a line comment lead.
 use Rattle.std.proofs.Common.{◌≡◌, ℕ, ◌==◌, List, [], ◌∷◌, ◌++◌, Bool, true, false, not, ◌&&◌, ◌||◌, if◌then◌else◌, ◌⊎◌, inl, inr, refl, sym, ◌∙◌, ap, subst, suc, zero, take, arith}
 use Rattle.std.proofs.lemmas.Bool.{eqb-true}
 use Rattle.ud_model.specs.Bytes.{is_quote, slash, number_sign, line_feed, carriage_return, star, backslash}
@@ -10,6 +10,7 @@ use Rattle.memchr.specs.Find.{is_byte2, Passes, Nowhere}
 use Rattle.ud_text.specs.Spans.{NoSpecial, LineSpan, NoComment, TextSpan, is_special}
 use Rattle.std.proofs.Math.Bool.{and-false}
 
+-- two runs without a comment, one after another
 pub NoComment-append : (s : State) (p q : List ℕ) → NoComment s.place p → NoComment (state_after s p).place q → NoComment s.place (p ++ q)
 NoComment-append s [] q h k = k
 NoComment-append s (b ∷ p) q h k = (h.0, NoComment-append (next_state s b) p q h.1 k)
@@ -43,7 +44,7 @@ slash_read x white e f =
     by_feed true = refl
     by_feed false = refl
 
--- a backslash that makes no splice, and the byte behind it
+-- a backslash that belongs to no splice, and the byte after it
 pub backslash_read : (x : ℕ) (white : Bool) → is_special x ≡ false → (x == line_feed) ≡ false → (x == carriage_return) ≡ false → TextSpan white (backslash ∷ x ∷ [])
 backslash_read x white e f g =
     let n : ((x == slash) ≡ false) × (is_quote x ≡ false) × ((x == backslash) ≡ false) × ((x == number_sign) ≡ false) = not_special x e in
@@ -55,7 +56,7 @@ backslash_read x white e f g =
       no_comment = (refl, (refl, tt));
     }
 
--- a sign that makes no directive, and plain text behind it
+-- a `#` that belongs to no directive, and the plain text after it
 pub sign_read : (bytes : List ℕ) (white : Bool) → NoSpecial bytes → (is_other_name bytes ≡ true) ⊎ (white ≡ false) → TextSpan white (number_sign ∷ bytes)
 sign_read bytes white h why =
     let more : TextSpan (white && false) bytes = plain_read bytes (white && false) h in
@@ -89,7 +90,7 @@ stops_white p c b rest e = rw e (by_sign (b == number_sign) p)
     by_sign true p = ap (λ (o : Bool). o && not (is_other_name rest)) (and-false (shows_sign p))
     by_sign false p = refl
 
--- a byte more of a literal
+-- one byte more of a literal
 pub literal_byte : (white : Bool) (q : ℕ) (bytes : List ℕ) (b : ℕ) → LiteralFront white q bytes → (b == line_feed) ≡ false → (b == q) ≡ false → (b == backslash) ≡ false →
     LiteralFront white q (bytes ++ b ∷ [])
 literal_byte white q bytes b r e f g =
@@ -102,7 +103,7 @@ literal_byte white q bytes b r e f g =
       no_comment = NoComment-append (text_state white) bytes (b ∷ []) r.no_comment (subst (λ (s : State). NoComment s.place (b ∷ [])) (sym r.leads) (refl, tt));
     }
 
--- a backslash and the byte that it takes along
+-- a backslash of a literal, and the byte that it takes along
 pub literal_pair : (white : Bool) (q : ℕ) (bytes : List ℕ) (b : ℕ) → LiteralFront white q bytes → is_quote q ≡ true → (b == line_feed) ≡ false →
     LiteralFront white q (bytes ++ backslash ∷ b ∷ [])
 literal_pair white q bytes b r k e =

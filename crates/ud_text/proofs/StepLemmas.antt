@@ -1,4 +1,4 @@
--- Steps: the lemmas on places and slices by which the program goes on.
+-- Steps: what one step of the program reads, in the places and slices that it has.
 use Rattle.std.proofs.Common.{◌≡◌, ℕ, zero, suc, ◌+◌, ◌-◌, ◌<◌, ◌≤◌, ◌==◌, List, [], ◌∷◌, ◌++◌, length, take, drop, get_or, Bool, true, false, ◌&&◌, ◌||◌, ◌⊎◌, inl, inr, refl, sym, ◌∙◌, ap, ap₂, subst, append_assoc, arith, add-one}
 use Rattle.std.specs.List.{position_or_len}
 use Rattle.std.proofs.lemmas.Bool.{eqb-true}
@@ -18,7 +18,7 @@ use Rattle.ud_text.proofs.BlockLemmas.{pair_front, block_same, block_later, bloc
 use Rattle.ud_text.specs.Spans.{black, NoPair, NoSpecial, is_pair, LineSpan, all_white, LastBegins, TextSpan, is_special, SeenWhite, new_line}
 use Rattle.ud_text.specs.Progress.{ReadTo, ReadOutside}
 
-pub take_two : (l : List ℕ) → 2 ≤ length l → take 2 l ≡ get_or l 0 0 ∷ get_or l 1 0 ∷ []
+take_two : (l : List ℕ) → 2 ≤ length l → take 2 l ≡ get_or l 0 0 ∷ get_or l 1 0 ∷ []
 take_two [] h = absurd (omega arith)
 take_two (a ∷ []) h = absurd (omega arith)
 take_two (a ∷ b ∷ l) h = refl
@@ -26,25 +26,29 @@ take_two (a ∷ b ∷ l) h = refl
 two_are : (l : List ℕ) (a b : ℕ) → 2 ≤ length l → get_or l 0 0 ≡ a → get_or l 1 0 ≡ b → take 2 l ≡ a ∷ b ∷ []
 two_are l a b h e f = take_two l h ∙ ap₂ (λ (x y : ℕ). x ∷ y ∷ []) e f
 
-pub slash_spans : (l : List ℕ) → 2 ≤ length l → get_or l 0 0 ≡ slash → is_special (get_or l 1 0) ≡ false → (get_or l 1 0 == star) ≡ false →
+-- a slash that begins no comment, and the byte after it, are in front
+pub slash_spans : (l : List ℕ) (b : ℕ) → 2 ≤ length l → get_or l 0 0 ≡ slash → b ≡ get_or l 1 0 → is_special b ≡ false → (b == star) ≡ false →
     (white : Bool) → TextSpan white (take 2 l)
-slash_spans l h e f g white = subst (λ (x : List ℕ). TextSpan white x) (sym (two_are l slash (get_or l 1 0) h e refl)) (slash_read (get_or l 1 0) white f g)
+slash_spans l b h e i f g white = subst (λ (x : List ℕ). TextSpan white x) (sym (two_are l slash b h e (sym i))) (slash_read b white f g)
 
-pub backslash_spans : (l : List ℕ) → 2 ≤ length l → get_or l 0 0 ≡ backslash → is_special (get_or l 1 0) ≡ false → (get_or l 1 0 == line_feed) ≡ false →
-    (get_or l 1 0 == carriage_return) ≡ false → (white : Bool) → TextSpan white (take 2 l)
-backslash_spans l h e f g i white = subst (λ (x : List ℕ). TextSpan white x) (sym (two_are l backslash (get_or l 1 0) h e refl)) (backslash_read (get_or l 1 0) white f g i)
+-- a backslash that belongs to no splice, and the byte after it, are in front
+pub backslash_spans : (l : List ℕ) (b : ℕ) → 2 ≤ length l → get_or l 0 0 ≡ backslash → b ≡ get_or l 1 0 → is_special b ≡ false →
+    (b == line_feed) ≡ false → (b == carriage_return) ≡ false → (white : Bool) → TextSpan white (take 2 l)
+backslash_spans l b h e i f g k white = subst (λ (x : List ℕ). TextSpan white x) (sym (two_are l backslash b h e (sym i))) (backslash_read b white f g k)
 
+-- one byte more of a literal
 pub literal_more : (l : List ℕ) (q at : ℕ) → at < length l → (get_or l at 0 == line_feed) ≡ false → (get_or l at 0 == q) ≡ false → (get_or l at 0 == backslash) ≡ false →
     (white : Bool) → LiteralFront white q (take at l) → LiteralFront white q (take (at + 1) l)
 literal_more l q at h e f g white r =
     subst (λ (x : List ℕ). LiteralFront white q x) (sym (take_more l at 0 h)) (literal_byte white q (take at l) (get_or l at 0) r e f g)
 
-pub take_more_two : (l : List ℕ) (at : ℕ) → at + 1 < length l → take (at + 2) l ≡ take at l ++ get_or l at 0 ∷ get_or l (at + 1) 0 ∷ []
+take_more_two : (l : List ℕ) (at : ℕ) → at + 1 < length l → take (at + 2) l ≡ take at l ++ get_or l at 0 ∷ get_or l (at + 1) 0 ∷ []
 take_more_two l at h =
     let two : at + 2 ≡ at + 1 + 1 = omega arith in
     ap (λ (n : ℕ). take n l) two ∙ take_more l (at + 1) 0 h ∙ ap (λ (x : List ℕ). x ++ get_or l (at + 1) 0 ∷ []) (take_more l at 0 (omega arith))
     ∙ append_assoc (take at l) (get_or l at 0 ∷ []) (get_or l (at + 1) 0 ∷ [])
 
+-- a backslash of a literal, and the byte that it takes along
 pub literal_two : (l : List ℕ) (q at : ℕ) → at + 1 < length l → is_quote q ≡ true → (get_or l at 0 == backslash) ≡ true → (get_or l (at + 1) 0 == line_feed) ≡ false →
     (white : Bool) → LiteralFront white q (take at l) → LiteralFront white q (take (at + 2) l)
 literal_two l q at h k e f white r =
@@ -52,13 +56,14 @@ literal_two l q at h k e f white r =
     (sym (take_more_two l at h ∙ ap (λ (n : ℕ). take at l ++ n ∷ get_or l (at + 1) 0 ∷ []) (eqb-true (get_or l at 0) backslash e)))
     (literal_pair white q (take at l) (get_or l (at + 1) 0) r k f)
 
+-- the quote that closes a literal
 pub literal_ends : (l : List ℕ) (q at : ℕ) → at < length l → is_quote q ≡ true → (get_or l at 0 == q) ≡ true → (white : Bool) → LiteralFront white q (take at l) →
     TextSpan white (take (at + 1) l)
 literal_ends l q at h k e white r =
     subst (λ (x : List ℕ). TextSpan white x) (sym (take_more l at 0 h ∙ ap (λ (n : ℕ). take at l ++ n ∷ []) (eqb-true (get_or l at 0) q e)))
     (literal_closed white q (take at l) r k)
 
--- a line comment in front, up to its line feed
+-- a line comment is in front, up to its line feed
 pub comment_spans : (l : List ℕ) (k : ℕ) → take 2 l ≡ slash ∷ slash ∷ [] → NoBreak (take k (drop 2 l)) → k < length (drop 2 l) → (get_or l (2 + k) 0 == line_feed) ≡ true →
     (white : Bool) → LineSpan white (take (2 + k + 1) l)
 comment_spans [] k e f h g white = absurd (omega arith)
@@ -77,20 +82,20 @@ comment_spans (a ∷ b ∷ l) k e f h g white =
         ∙ ap (λ (x : List ℕ). a ∷ b ∷ x) (take_more l k 0 (omega arith) ∙ ap (λ (n : ℕ). take k l ++ n ∷ []) (eqb-true (get_or l k 0) line_feed (ap (λ (n : ℕ). n == line_feed) (sym (there (2 + k) k (omega arith))) ∙ g)))
         ∙ (let x : a ≡ slash = cc in let y : b ≡ slash = cc in cc)
 
--- the first pair
 pair_more_suc : (l : List ℕ) (at : ℕ) → suc at < length l → NoPair (take (suc at) l) → is_pair (get_or l at 0) (get_or l (suc at) 0) ≡ false → NoPair (take (suc (suc at)) l)
 pair_more_suc [] at h f e = absurd (omega arith)
 pair_more_suc (a ∷ []) at h f e = absurd (omega arith)
 pair_more_suc (a ∷ b ∷ l) zero h f e = (e, tt)
 pair_more_suc (a ∷ b ∷ l) (suc at) h f e = (f.0, pair_more_suc (b ∷ l) at (omega arith) f.1 e)
 
+-- one byte more that makes no pair with the one before it
 pub pair_more : (l : List ℕ) (at : ℕ) → at + 1 < length l → NoPair (take (at + 1) l) → is_pair (get_or l at 0) (get_or l (at + 1) 0) ≡ false → NoPair (take (at + 1 + 1) l)
 pair_more l at h f e =
     let two : suc (suc at) ≡ at + 1 + 1 = omega arith in
     subst (λ (n : ℕ). NoPair (take n l)) two
     (pair_more_suc l at (omega arith) (subst (λ (n : ℕ). NoPair (take n l)) (add-one at) f) (ap (λ (n : ℕ). is_pair (get_or l at 0) (get_or l n 0)) (sym (add-one at)) ∙ e))
 
--- looking back
+-- a byte that isn't white, and white space after it, tell whether the line is white
 pub shows_found : (bytes : List ℕ) (at : ℕ) (begins : Bool) → 0 < at → at ≤ length bytes → are_white (drop at bytes) ≡ true →
     is_white (get_or bytes (at - 1) 0) ≡ false → SeenWhite bytes begins (get_or bytes (at - 1) 0 == line_feed)
 shows_found bytes at begins z h w k = by_feed (get_or bytes (at - 1) 0 == line_feed) refl
@@ -105,6 +110,7 @@ shows_found bytes at begins z h w k = by_feed (get_or bytes (at - 1) 0 == line_f
     by_feed true e = new_line (take (at - 1) bytes) (drop at bytes) (split ∙ ap (λ (n : ℕ). take (at - 1) bytes ++ n ∷ drop at bytes) (eqb-true (get_or bytes (at - 1) 0) line_feed e)) w
     by_feed false e = black (take (at - 1) bytes) (get_or bytes (at - 1) 0) (drop at bytes) split k e w
 
+-- bytes that are left out in two goes
 pub drop_both : (l : List ℕ) (n m : ℕ) → drop (n + m) l ≡ drop m (drop n l)
 drop_both l zero m = let e : 0 + m ≡ m = omega arith in ap (λ (k : ℕ). drop k l) e
 drop_both [] (suc n) m = drop-nil (suc n + m) ∙ sym (drop-nil m)
@@ -126,32 +132,34 @@ pair_is a b e = by_star (a == star) refl e
     by_star true f g = eqb-true a star f
     by_star false f g = cc
 
--- steps
 module _ {start : State} {bytes : List ℕ} {line : ℕ} {kept : State} {base : ℕ} {begins : Bool} {at : ℕ}
     (r : ReadOutside start bytes line kept base begins at) where
+  -- a span outside comments
   pub text_step_read : (k : ℕ) → k ≤ length (take (length bytes - at) (drop at bytes)) →
       ((u : Bool) → TextSpan u (take k (take (length bytes - at) (drop at bytes)))) → ReadOutside start bytes line kept base begins (at + k)
   text_step_read k h t =
       read_text r k (subst (λ (l : List ℕ). k ≤ length l) (take_rest bytes at) h)
       (subst (λ (l : List ℕ). TextSpan r.now_white (take k l)) (take_rest bytes at) (t r.now_white))
 
+  -- a span up to the beginning of a line
   pub line_step_read : (k : ℕ) → k ≤ length (take (length bytes - at) (drop at bytes)) →
       ((u : Bool) → LineSpan u (take k (take (length bytes - at) (drop at bytes)))) → ReadOutside start bytes line kept (at + k) true (at + k)
   line_step_read k h t =
       read_line r k (subst (λ (l : List ℕ). k ≤ length l) (take_rest bytes at) h)
       (subst (λ (l : List ℕ). LineSpan r.now_white (take k l)) (take_rest bytes at) (t r.now_white))
 
+  -- plain text up to the next byte that may matter
   pub plain_step_read : (k : ℕ) → k ≡ position_or_len is_special (take (length bytes - at) (drop at bytes)) → ReadOutside start bytes line kept base begins (at + k)
   plain_step_read k e =
       text_step_read k (subst (λ (n : ℕ). n ≤ length (take (length bytes - at) (drop at bytes))) (sym e) (position_or_len-bound is_special (take (length bytes - at) (drop at bytes))))
       (λ u. plain_read (take k (take (length bytes - at) (drop at bytes))) u
       (subst (λ (n : ℕ). NoSpecial (take n (take (length bytes - at) (drop at bytes)))) (sym e) (no_special_before (take (length bytes - at) (drop at bytes)))))
 
-  -- what looking back from here shows
+  -- what is seen by looking back as far as the base is so
   pub looked : (v : Bool) → SeenWhite (take (at - base) (drop base bytes)) begins v → r.now_white ≡ v
   looked v h = shows_white r.plain begins v r.base_white r.now_white r.no_comment (plain_leads r) r.base_begins (subst (λ (l : List ℕ). SeenWhite l begins v) (plain_of r) h)
 
-  -- a sign
+  -- a `#` that belongs to no directive, and the plain text after it
   pub sign_step_read : take 1 (drop at bytes) ≡ number_sign ∷ [] → (k : ℕ) → k ≡ position_or_len is_special (take (length bytes - (at + 1)) (drop (at + 1) bytes)) →
       (is_other_name (take k (take (length bytes - (at + 1)) (drop (at + 1) bytes))) ≡ true) ⊎ SeenWhite (take (at - base) (drop base bytes)) begins false →
       ReadOutside start bytes line kept base begins (at + 1 + k)
@@ -187,13 +195,15 @@ module _ {start : State} {bytes : List ℕ} {line : ℕ} {kept : State} {at : �
   the_run : LastBegins (take count (drop at bytes)) n
   the_run = let e : at + count - at ≡ count = omega arith in subst (λ (k : ℕ). LastBegins (take k (drop at bytes)) n) e begins
 
+  -- bytes in a block comment that lie on one line
   pub held_same : n ≡ 0 → (s : Bool) × ReadTo start bytes line kept (at + count) (inside_state s u)
   held_same e = (_, block_same r count within free (subst (λ (k : ℕ). NoFeed (drop k (take count (drop at bytes)))) e the_run.one_line))
 
+  -- bytes in a block comment that end on a later line
   pub held_later : 0 < n → (s : Bool) × ReadTo start bytes (at + n) (block_state u) (at + count) (inside_state s u)
   held_later h = (_, block_later r count within free n the_run h)
 
--- the end of a comment
+-- a star and a slash, which close a block comment
 pub closed_read : {start : State} {bytes : List ℕ} {line : ℕ} {kept : State} (at count : ℕ) (starred u : Bool) →
     ReadTo start bytes line kept (at + count) (inside_state starred u) → count + 1 < length (take (length bytes - at) (drop at bytes)) →
     is_pair (get_or (take (length bytes - at) (drop at bytes)) count 0) (get_or (take (length bytes - at) (drop at bytes)) (count + 1) 0) ≡ true →
@@ -208,7 +218,7 @@ closed_read {bytes = bytes} at count starred u r h e f =
     let long : 2 ≤ length (drop (at + count) bytes) = subst (λ (l : List ℕ). 2 ≤ length l) there (omega (arith, length-drop count rest)) in
     block_closed starred u r long (sym two ∙ ap (λ (l : List ℕ). take 2 l) there)
 
--- at the start
+-- nothing is read yet, outside comments
 pub start_read : (bytes : List ℕ) (w : Place) (white : Bool) → w ≡ in_text → can_start w white ≡ true →
     ReadOutside (line_state w white) bytes 0 (line_state w white) 0 true 0
 start_read bytes w white e s =
@@ -226,6 +236,7 @@ start_block bytes w white e =
 pub all_before : (bytes : List ℕ) (at : ℕ) (begins : Bool) → at ≡ 0 → are_white (drop at bytes) ≡ true → begins ≡ true → SeenWhite bytes begins true
 all_before bytes at begins e w b = all_white b (subst (λ (n : ℕ). are_white (drop n bytes) ≡ true) e w)
 
+-- the bytes before the first pair have none
 pub free_front : (bytes : List ℕ) (at count : ℕ) → NoPair (take (count + 1) (take (length bytes - at) (drop at bytes))) → NoPair (take count (drop at bytes))
 free_front bytes at count h =
     let l : List ℕ = drop at bytes in

@@ -1,4 +1,4 @@
--- Text: a line that is read quietly carries no directive.
+-- Text: what is shown of a line that is read quietly has no `#` that belongs to a directive.
 use Rattle.std.proofs.Common.{◌≡◌, ℕ, ◌==◌, List, [], ◌∷◌, ◌++◌, Bool, true, false, not, ◌&&◌, ◌||◌, if◌then◌else◌, refl, sym, ◌∙◌, ap, subst, ne_eqb, Option, Some, None, bytes_eq}
 use Rattle.std.proofs.lemmas.Bool.{eqb-true, not-true}
 use Rattle.ud_model.specs.Bytes.{is_white, is_quote, is_word_byte, past_white, word_in_front, slash, number_sign, line_feed, space, carriage_return, star}
@@ -17,12 +17,12 @@ pub record IsOther (bytes : List ℕ) : Type 0 where
   pub is : past_white bytes ≡ first ∷ more
   pub none : kind_of (word_in_front (first ∷ more)) ≡ None
 
--- there is no `#`, or another name behind it
+-- no `#` comes first, or another name follows it
 pub data Unsigned : Option (List ℕ) → Type 0 where
   no_sign : Unsigned None
   other_sign : (rest : List ℕ) → IsOther rest → Unsigned (Some rest)
 
--- a scan that isn't fresh is text
+-- a scan that isn't fresh, and so can carry no directive, is text
 pub text_not_fresh : (scan : Scan) → scan.fresh ≡ false → content_of scan ≡ text
 text_not_fresh scan e = by_sign (past_sign scan.masked) scan.fresh e
   where
@@ -32,7 +32,7 @@ text_not_fresh scan e = by_sign (past_sign scan.masked) scan.fresh e
     by_sign (Some rest) true h = cc
     by_sign (Some rest) false h = refl
 
--- a scan without a sign is text, if it isn't cut off
+-- a scan without such a `#` is text, unless a continuation cuts it off
 pub text_unsigned : (scan : Scan) → Unsigned (past_sign scan.masked) → is_cut_off scan ≡ false → content_of scan ≡ text
 text_unsigned scan u e = by_sign (past_sign scan.masked) u
   where
@@ -56,7 +56,7 @@ text_unsigned scan u e = by_sign (past_sign scan.masked) u
         (kind_of (word_in_front (past_white rest))) (stays (past_white rest) i.first i.more i.is)
         (ap (λ (w : List ℕ). kind_of (word_in_front w)) i.is ∙ i.none)
 
--- a slash at the end doesn't wait for the next byte, or more stands in front of it
+-- what is shown doesn't begin with a slash that waits for the next byte
 abbrev pub Settled : Place → List ℕ → Type 0
 Settled at_slash [] = ⊥
 Settled at_slash (x ∷ m) = Unit {0}
@@ -119,7 +119,7 @@ white_first x m w bytes h e u = subst (λ (l : List ℕ). Unsigned (past_sign l)
     by_white true g = u
     by_white false g = cc
 
--- what the classes of bytes are that count here
+-- the classes of bytes that count here
 pub data Class : ℕ → Type 0 where
   a_slash : Class slash
   a_sign : Class number_sign
@@ -127,6 +127,7 @@ pub data Class : ℕ → Type 0 where
   a_quote : (b : ℕ) → is_quote b ≡ true → is_white b ≡ false → (b == slash) ≡ false → (b == number_sign) ≡ false → (b == line_feed) ≡ false → is_word_byte b ≡ false → Class b
   another : (b : ℕ) → is_white b ≡ false → (b == slash) ≡ false → is_quote b ≡ false → (b == number_sign) ≡ false → Class b
 
+-- each byte is of one of them
 pub class_of : (b : ℕ) → Class b
 class_of b = by_slash (b == slash) refl
   where
@@ -282,6 +283,7 @@ name_shown (b ∷ bytes) tail e f n = by_class b (class_of b) e (λ g. name_show
     by_class _ (another b w e f s) g more =
         subst IsOther (sym (shown_plain b bytes e f)) (word_shown b bytes tail (black b w g) n)
 
+-- a place outside literals
 abbrev pub NotLiteral : Place → Type 0
 NotLiteral in_text = Unit {0}
 NotLiteral at_slash = Unit {0}
@@ -291,7 +293,7 @@ NotLiteral in_line = Unit {0}
 NotLiteral (in_literal q) = ⊥
 NotLiteral (at_backslash q) = ⊥
 
--- what is shown and not settled
+-- what is shown of the last byte, if it waits for the next one
 abbrev pub pending : Place → List ℕ
 pending at_slash = slash ∷ []
 pending in_text = []
@@ -301,6 +303,7 @@ pending in_line = []
 pending (in_literal q) = []
 pending (at_backslash q) = []
 
+-- the state at this place on a line that is white so far
 abbrev pub white_at : Place → Bool → State
 white_at w c = record { place = w; white = true; spliced = c }
 
@@ -387,7 +390,7 @@ module _ (bytes tail : List ℕ) (later : (w : Place) (c : Bool) → NotLiteral 
       by_feed true e k = cc
       by_feed false e k = spaces in_line refl tt (later in_line _ tt k)
 
--- what is shown of a line that is read quietly carries no sign, but perhaps in front of a name that is no keyword
+-- what is shown of a line that is read quietly begins with no `#`, but perhaps with one before another name
 pub unsigned : (bytes tail : List ℕ) (w : Place) (c : Bool) → NotLiteral w → NoFeed bytes → IsQuiet (white_at w c) (bytes ++ tail) →
     is_other_name tail ≡ false → NoWord tail → Unsigned (past_sign (masked_after w (pending w) bytes))
 unsigned [] tail in_text c l o h f n = no_sign

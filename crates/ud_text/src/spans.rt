@@ -3,19 +3,18 @@
 //! A span ends before the bytes do, and on its line. Where that isn't seen from the bytes, or a backslash may belong to a
 //! splice, there is no answer: the line is then read by itself.
 
-ghost use Rattle.std.specs.Prelude.{◌≡◌, ◌≤◌, ◌<◌, Bool, [], ◌∷◌, length, take, slice_index, true, IfSome};
+ghost use Rattle.std.specs.Prelude.{◌≡◌, ◌≤◌, ◌<◌, Bool, [], ◌∷◌, length, take, slice_index, true, false, IfSome, OnSome};
 ghost use Rattle.ud_model.specs.Bytes.{slash, backslash, is_quote};
-ghost use Rattle.ud_text.specs.Spans.{TextSpan, LineSpan};
+ghost use Rattle.ud_text.specs.Spans.{is_special, TextSpan, LineSpan};
 
 use crate::searching::is_special;
 use memchr::memchr2;
 
-/// A slash that begins no comment, with the byte after it. No answer if that byte may matter by itself.
-fn slash_span(rest: &[u8]) -> Option<usize>
-    requires some { 0 < length rest.now }
-    requires first { slice_index rest.now 0 ≡ slash }
-    ensures bound { IfSome result (λ n. (0 < n) × (n ≤ length rest.now)) }
-    ensures read { IfSome result (λ n. (white : Bool) → TextSpan white (take n rest.now)) }
+/// The second byte, if it can't matter by itself outside comments and literals.
+fn plain_second(rest: &[u8]) -> Option<u8>
+    ensures within { OnSome result (2 ≤ length rest.now) }
+    ensures second { IfSome result (λ byte. byte ≡ slice_index rest.now 1) }
+    ensures plain { IfSome result (λ byte. is_special byte ≡ false) }
 {
     if rest.len() < 2 {
         return None;
@@ -24,6 +23,18 @@ fn slash_span(rest: &[u8]) -> Option<usize>
     if is_special(byte) {
         return None;
     }
+    Some(byte)
+}
+
+/// A slash that begins no comment, with the byte after it. No answer if that byte may matter by itself.
+fn slash_span(rest: &[u8]) -> Option<usize>
+    requires first { slice_index rest.now 0 ≡ slash }
+    ensures bound { IfSome result (λ n. (0 < n) × (n ≤ length rest.now)) }
+    ensures read { IfSome result (λ n. (white : Bool) → TextSpan white (take n rest.now)) }
+{
+    let Some(byte) = plain_second(rest) else {
+        return None;
+    };
     if byte == b'*' {
         return None;
     }
@@ -32,18 +43,13 @@ fn slash_span(rest: &[u8]) -> Option<usize>
 
 /// A backslash that belongs to no splice, with the byte after it. No answer if that byte may matter by itself.
 fn backslash_span(rest: &[u8]) -> Option<usize>
-    requires some { 0 < length rest.now }
     requires first { slice_index rest.now 0 ≡ backslash }
     ensures bound { IfSome result (λ n. (0 < n) × (n ≤ length rest.now)) }
     ensures read { IfSome result (λ n. (white : Bool) → TextSpan white (take n rest.now)) }
 {
-    if rest.len() < 2 {
+    let Some(byte) = plain_second(rest) else {
         return None;
-    }
-    let byte = rest[1];
-    if is_special(byte) {
-        return None;
-    }
+    };
     if byte == b'\n' {
         return None;
     }

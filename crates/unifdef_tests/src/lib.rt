@@ -21,6 +21,8 @@ mod lines;
 #[cfg(test)]
 mod listing;
 #[cfg(test)]
+mod passing;
+#[cfg(test)]
 mod plain;
 #[cfg(test)]
 mod plans;

@@ -1,4 +1,4 @@
--- By what stands behind the star.
+-- By the byte after the star.
 use Rattle.std.proofs.Common.{arith}
 use Rattle.ud_text.proofs.ProgressLemmas.{passed_of}
 use Rattle.ud_text.proofs.StepLemmas.{closed_read, free_front}

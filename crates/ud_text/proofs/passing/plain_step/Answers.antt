@@ -1,3 +1,4 @@
+-- Up to the first byte that may matter.
 use Rattle.ud_text.proofs.StepLemmas.{plain_step_read}
 use Rattle.ud_text.proofs.passing.plain_step.Goals as goal
 

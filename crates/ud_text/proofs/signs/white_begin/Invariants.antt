@@ -1,4 +1,4 @@
--- The bytes behind the place are white.
+-- The bytes from the place on are white.
 use Rattle.std.proofs.Common.{◌≡◌, ◌≤◌, length, drop, true}
 use Rattle.ud_model.specs.Bytes.{are_white}
 use Rattle.ud_text.proofs.signs.white_begin.Given as goal
