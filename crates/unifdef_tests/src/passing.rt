@@ -158,22 +158,25 @@ fn read_alike(
 
 /// Reads these whole lines one by one, and sees that they are text. Answers how many they are.
 fn read_text(rt: &impl Abort, scanner: &mut Scanner, lines: &[u8]) -> Result<usize, Fail> {
-    let mut at = 0;
-    let mut count = 0;
-    while at < lines.len() {
-        let rest = &lines[at..];
+    let mut rest = lines;
+    let mut count: usize = 0;
+    for _ in 0..lines.len() {
+        if rest.is_empty() {
+            break;
+        }
         let end = body_len(rest);
         if end > LINE_BYTES {
             return Err(Fail::new("a line is short"));
         }
-        let ending = ending_len(&rest[end..]);
+        let tail = &rest[end..];
+        let ending = ending_len(tail);
         if ending == 0 {
             return Err(Fail::new("each line that is passed has its line feed"));
         }
         let scan = scanner.read(Mode::C, &line_with(&rest[..end], ending));
         assert!(rt; matches!(directive(&scan), Ok(None)));
-        at += end + ending;
-        count += 1;
+        rest = &tail[ending..];
+        count = count.saturating_add(1);
     }
     Ok(count)
 }
@@ -183,18 +186,22 @@ fn read_text(rt: &impl Abort, scanner: &mut Scanner, lines: &[u8]) -> Result<usi
 fn walk(rt: &impl Abort, numbers: &mut Numbers, text: &[u8]) -> Result<usize, Fail> {
     let mut passing = Scanner::new();
     let mut reading = Scanner::new();
-    let mut at = 0;
-    let mut passed = 0;
-    while at < text.len() {
-        for _ in 0..numbers.below(3) {
-            at += read_alike(rt, &mut passing, &mut reading, &text[at..])?;
+    let mut rest = text;
+    let mut passed: usize = 0;
+    for _ in 0..text.len() {
+        if rest.is_empty() {
+            break;
         }
-        let lines = &text[at..];
-        let count = passing.pass(lines);
-        passed += read_text(rt, &mut reading, &lines[..count])?;
+        for _ in 0..numbers.below(3) {
+            let line = read_alike(rt, &mut passing, &mut reading, rest)?;
+            rest = &rest[line..];
+        }
+        let count = passing.pass(rest);
+        passed = passed.saturating_add(read_text(rt, &mut reading, &rest[..count])?);
         assert_eq!(rt; passing.in_comment(), reading.in_comment());
-        at += count;
-        at += read_alike(rt, &mut passing, &mut reading, &text[at..])?;
+        rest = &rest[count..];
+        let line = read_alike(rt, &mut passing, &mut reading, rest)?;
+        rest = &rest[line..];
     }
     Ok(passed)
 }
@@ -202,10 +209,10 @@ fn walk(rt: &impl Abort, numbers: &mut Numbers, text: &[u8]) -> Result<usize, Fa
 #[test]
 fn a_pass_sees_what_reading_sees(rt: HostRuntime) -> Result<(), Fail> {
     let mut numbers = Numbers { state: 1 };
-    let mut passed = 0;
+    let mut passed: usize = 0;
     for _ in 0..400 {
         let text = random_text(rt.alloc(), &mut numbers, 300)?;
-        passed += walk(&rt, &mut numbers, text.as_slice())?;
+        passed = passed.saturating_add(walk(&rt, &mut numbers, text.as_slice())?);
     }
     assert!(rt; passed > 1000);
     Ok(())
