@@ -22,6 +22,7 @@ mod lines;
 mod listing;
 #[cfg(test)]
 mod machines;
+mod passing;
 #[cfg(test)]
 mod plain;
 #[cfg(test)]
