@@ -15,7 +15,7 @@ use Rattle.unifdef.specs.declared.held.Held.{Held}
 use Rattle.unifdef.specs.declared.intake.End.{End}
 use Rattle.unifdef.specs.declared.intake.End.TheVariants.{Ended, Failed, Broken}
 use Rattle.unifdef.specs.declared.outcome.Outcome.{Outcome}
-use Rattle.unifdef.specs.declared.usage.Usage.{Usage}
+use Rattle.ud_words.specs.declared.usage.Usage.{Usage}
 use Rattle.unifdef.specs.declared.seen.Seen.{Seen}
 use Rattle.unifdef.specs.Limits.{Breaks, ended, broken}
 use Rattle.unifdef.specs.Intake.{HeldOf, text_fault_told}
@@ -27,7 +27,7 @@ use Rattle.unifdef.specs.Watching.{Says}
 use Rattle.unifdef.specs.Outcomes.{output_told, differs_told}
 use Rattle.unifdef.specs.Ending.{message_told, status_told}
 use Rattle.unifdef.specs.Refusals.{refusal_text}
-use Rattle.unifdef.specs.Saying.{IsUsageOf}
+use Rattle.ud_words.specs.Saying.{IsUsageOf}
 use Rattle.unifdef.proofs.RefusalLemmas.{TellsFault, tells-IsUsageOf}
 use Rattle.unifdef.proofs.HeldLemmas.{are_seen}
 use Rattle.unifdef.proofs.ReadLemmas.{length_items}

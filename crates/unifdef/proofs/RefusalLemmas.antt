@@ -3,9 +3,9 @@ use Rattle.std.proofs.Common.{◌≡◌, ◌⊎◌, inl, inr, refl, Option, Some
 use Rattle.ud_model.specs.CommandLine.{UsageFault, unknown_option, missing_argument, bad_symbol_in, bad_mode_in, too_many_files, usage_message}
 use Rattle.ud_model.specs.Messages.{out_of_memory}
 use Rattle.unifdef.specs.Refusals.{refusal_text}
-use Rattle.unifdef.specs.Saying.{IsUsageOf}
-use Rattle.unifdef.specs.declared.usage.Usage.{Usage}
-use Rattle.unifdef.specs.declared.usage.Usage.TheVariants.{UnknownOption, MissingArgument, BadSymbol, BadMode, TooManyFiles, OutOfMemory}
+use Rattle.ud_words.specs.Saying.{IsUsageOf}
+use Rattle.ud_words.specs.declared.usage.Usage.{Usage}
+use Rattle.ud_words.specs.declared.usage.Usage.TheVariants.{UnknownOption, MissingArgument, BadSymbol, BadMode, TooManyFiles, OutOfMemory}
 
 -- the words have this fault, and the text is its message
 pub record TellsFault (fault : Option UsageFault) (u : Usage) : Type 0 where

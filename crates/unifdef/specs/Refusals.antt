@@ -4,8 +4,8 @@
 use Rattle.std.specs.Prelude.{ℕ, List}
 use Rattle.ud_model.specs.CommandLine.{unknown_option, missing_argument, bad_symbol_in, bad_mode_in, too_many_files, usage_message}
 use Rattle.ud_model.specs.Messages.{out_of_memory}
-use Rattle.unifdef.specs.declared.usage.Usage.{Usage}
-use Rattle.unifdef.specs.declared.usage.Usage.TheVariants.{UnknownOption, MissingArgument, BadSymbol, BadMode, TooManyFiles, OutOfMemory}
+use Rattle.ud_words.specs.declared.usage.Usage.{Usage}
+use Rattle.ud_words.specs.declared.usage.Usage.TheVariants.{UnknownOption, MissingArgument, BadSymbol, BadMode, TooManyFiles, OutOfMemory}
 
 abbrev pub refusal_text : Usage → List ℕ
 refusal_text (UnknownOption letter) = usage_message (unknown_option letter)

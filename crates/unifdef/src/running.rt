@@ -24,7 +24,6 @@ use crate::listing::list_held;
 use crate::mark::Mark;
 use crate::messages::{report_out_of_memory, report_write_error};
 use crate::outcome::{Outcome, TROUBLE, outcome_of, tell};
-use crate::planning::{input_name, plan};
 use crate::printing::print_held;
 use crate::refusals::report_refusal;
 use crate::spoiled::first_spoiled;
@@ -34,6 +33,7 @@ use std::alloc::Global;
 use std::io::{Read, Write};
 use ud_model::{Listing, Settings};
 use ud_sections::Printer;
+use ud_words::{input_name, plan};
 
 /// Runs unifdef(1): reads the words, and the text from `reader`; prints what is left of it to `out`, and what is wrong
 /// with either to `err`; and answers the status.

@@ -1,0 +1,4 @@
+pub mod Letters
+pub mod Given
+pub mod Saying
+pub mod Planning
