@@ -1,5 +1,5 @@
 -- Plans, with what is given behind it.
-use Rattle.std.proofs.Common.{◌≡◌, ◌∙◌, ap, sym, refl, ℕ, List, [], ◌∷◌, ◌++◌, Option, Some, None, is_some, append-nil, option_map}
+use Rattle.std.proofs.Common.{◌≡◌, ◌∙◌, ap, sym, refl, ℕ, List, [], ◌∷◌, ◌++◌, Bool, Option, Some, None, is_some, append-nil, option_map, IsSome}
 use Rattle.std.proofs.lemmas.List.Elements.{filter_map-append}
 use Rattle.std.specs.List.{filter_map}
 use Rattle.ud_cond.specs.Standing.{StandsFor}
@@ -7,7 +7,8 @@ use Rattle.ud_model.specs.Table.{Argument}
 use Rattle.ud_model.specs.declared.settings.Settings.{Settings}
 use Rattle.ud_model.specs.declared.settings.ExitMode.{ExitMode}
 use Rattle.ud_model.specs.declared.settings.ExitMode.TheVariants.{Zero}
-use Rattle.ud_model.specs.CommandLine.{UsageFault, Given, flag, option, operand, first_fault, settings_in, argument_in, operand_in, place_of, Operand, mode_in, mode_from}
+use Rattle.ud_model.specs.CommandLine.{Given, flag, option, operand, first_fault, settings_in, argument_in, operand_in, place_of, Operand, mode_in, mode_from}
+use Rattle.ud_words.specs.Storing.{PutsSymbol}
 use Rattle.ud_words.specs.Saying.{with_flag, SaysOfSymbol, IsSaid, IsFaultOf, IsUsageOf}
 use Rattle.ud_words.specs.declared.options.Said.{Said}
 use Rattle.ud_words.specs.declared.options.Said.TheVariants as said
@@ -21,9 +22,14 @@ place_none None h = refl
 place_none (Some o) h = cc
 
 -- an operand has a place
-pub is_some-place_of : (o : Option Operand) → is_some (place_of o) ≡ is_some o
+is_some-place_of : (o : Option Operand) → is_some (place_of o) ≡ is_some o
 is_some-place_of None = refl
 is_some-place_of (Some o) = refl
+
+-- a plan has an operand as far as one was given
+pub is_some-operand_in : (plan : Planned) (gs : List Given) (o : Option ℕ) (found : Bool) → PlansFor plan gs → o ≡ plan.operand → found ≡ is_some o
+    → is_some (operand_in gs) ≡ found
+is_some-operand_in plan gs o found p e f = sym (is_some-place_of (operand_in gs)) ∙ ap is_some (sym p.place) ∙ ap is_some (sym e) ∙ sym f
 
 exit_mode_of : (s t : Settings) (mode : ExitMode) → s ≡ t → record s { exit_mode = mode } ≡ record t { exit_mode = mode }
 exit_mode_of s t mode e = rw e refl
@@ -87,21 +93,35 @@ plans_operand old new gs n name p free said same place =
     said ∙ p.said ∙ sym (settings_in-last gs (operand n name) (mode_from Zero gs) (λ ls. refl) refl) in
     plans_same old new gs (operand n name) p free refl refl settings same place
 
--- a fault of the words is what a plan may answer
-pub IsUsageOf-fault : (fault : Option UsageFault) (u : Usage) → IsFaultOf fault u → IsUsageOf fault u
-IsUsageOf-fault fault (UnknownOption letter) h = h
-IsUsageOf-fault fault (MissingArgument letter) h = h
-IsUsageOf-fault fault (BadSymbol word) h = h
-IsUsageOf-fault fault (BadMode word) h = h
-IsUsageOf-fault fault TooManyFiles h = h
-IsUsageOf-fault fault OutOfMemory h = tt
-
 -- what is said rightly has no fault
 pub first_fault-said : (g : Given) (s : Said) → IsSaid g s → first_fault (g ∷ []) ≡ None
 first_fault-said g (said.Flag letter) h = rw h refl
 first_fault-said g (said.Mode mode) h = rw (h.2, h.3) refl
 first_fault-said g (said.Symbol a) h = rw (h.is, h.other, h.says) refl
 first_fault-said g (said.Operand place name) h = rw h refl
+
+-- a fault of the words is what a plan may answer
+pub IsUsageOf-fault : (gs : List Given) (u : Usage) → IsFaultOf (first_fault gs) u → IsUsageOf gs u
+IsUsageOf-fault gs (UnknownOption letter) h = h
+IsUsageOf-fault gs (MissingArgument letter) h = h
+IsUsageOf-fault gs (BadSymbol word) h = h
+IsUsageOf-fault gs (BadMode word) h = h
+IsUsageOf-fault gs TooManyFiles h = h
+IsUsageOf-fault gs OutOfMemory h = absurd h
+
+-- so is want of memory at a symbol that stands after what is right
+pub IsUsageOf-memory : (gs more : List Given) (g : Given) (s : Said) (u : Usage) → first_fault gs ≡ None → operand_in gs ≡ None → IsSaid g s
+    → (u ≡ OutOfMemory) × IsSome (argument_in g) → IsUsageOf (gs ++ g ∷ more) u
+IsUsageOf-memory gs more g s u right none is h =
+    let puts : PutsSymbol (gs ++ g ∷ more) = record {
+      before = gs;
+      symbol = g;
+      more = more;
+      is = refl;
+      right = first_fault-append gs (g ∷ []) right none ∙ first_fault-said g s is;
+      says = h.1;
+    } in
+    rw h.0 puts
 
 -- a thing is there as far as what it is turned into is
 pub is_some-turned : {A B : Type 0} (f : A → B) (o : Option A) → is_some (option_map f o) ≡ is_some o

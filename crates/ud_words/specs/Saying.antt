@@ -3,7 +3,8 @@
 --   as_argument symbol    what is said of a symbol, as the definitions have it
 --   IsSaid g said         what is given says this, and is right
 --   IsFaultOf fault u     the code's fault is this one of the words; want of memory is none
---   IsUsageOf fault u     the same, or memory was refused, which says nothing of the words
+--   IsUsageOf gs u        the code's fault is the first one of what is given; or memory was refused, which is asked for
+--                         only as a symbol is put into the table
 --   with_flag s c         the settings with one more flag
 --   behind_first bytes    what stands behind the first of some bytes
 use Rattle.std.specs.Prelude.{◌≡◌, ℕ, List, [], ◌∷◌, false, ◌||◌, Option, Some, None, option_map, codes, if◌then◌else◌}
@@ -11,8 +12,9 @@ use Rattle.ud_model.specs.Table.{Argument}
 use Rattle.ud_model.specs.declared.settings.Settings.{Settings}
 use Rattle.ud_model.specs.declared.settings.Listing.{Listing}
 use Rattle.ud_model.specs.declared.settings.Listing.TheVariants.{Off, Names, Depths}
-use Rattle.ud_model.specs.CommandLine.{flag, option, operand, is_among, symbol_in, mode_in, UsageFault, unknown_option, missing_argument, bad_symbol_in, bad_mode_in, too_many_files}
+use Rattle.ud_model.specs.CommandLine.{flag, option, operand, is_among, symbol_in, mode_in, first_fault, UsageFault, unknown_option, missing_argument, bad_symbol_in, bad_mode_in, too_many_files}
 use Rattle.ud_model.specs.CommandLine.{Given as GivenInWords}
+use Rattle.ud_words.specs.Storing.{PutsSymbol}
 use Rattle.ud_words.specs.declared.options.Symbol.{Symbol}
 use Rattle.ud_words.specs.declared.options.Said.{Said}
 use Rattle.ud_words.specs.declared.options.Said.TheVariants as said
@@ -45,9 +47,9 @@ IsFaultOf fault (BadMode word) = fault ≡ Some (bad_mode_in word)
 IsFaultOf fault TooManyFiles = fault ≡ Some too_many_files
 IsFaultOf fault OutOfMemory = ⊥
 
-abbrev pub IsUsageOf : Option UsageFault → Usage → Type 0
-IsUsageOf fault OutOfMemory = Unit {0}
-IsUsageOf fault u = IsFaultOf fault u
+abbrev pub IsUsageOf : List GivenInWords → Usage → Type 0
+IsUsageOf gs OutOfMemory = PutsSymbol gs
+IsUsageOf gs u = IsFaultOf (first_fault gs) u
 
 abbrev pub with_names : Listing → Listing
 with_names Off = Names

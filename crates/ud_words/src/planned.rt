@@ -1,10 +1,10 @@
 //! The plan of a run: what the words of a command line say.
 
-ghost use Rattle.std.specs.Prelude.{◌≡◌, ◌++◌, ◌∷◌, [], List, None, OnOk, IfErr};
+ghost use Rattle.std.specs.Prelude.{◌≡◌, ◌++◌, ◌∷◌, [], List, None, IsSome, OnOk, IfErr};
 ghost use Rattle.ud_model.specs.Table.{Argument};
 ghost use Rattle.ud_cond.specs.Standing.{StandsFor};
 ghost use Rattle.ud_model.specs.CommandLine.{Given as GivenInWords};
-ghost use Rattle.ud_model.specs.CommandLine.{first_fault};
+ghost use Rattle.ud_model.specs.CommandLine.{argument_in};
 ghost use Rattle.ud_words.specs.Given.{told};
 ghost use Rattle.ud_words.specs.Saying.{IsSaid, IsUsageOf, as_argument};
 ghost use Rattle.ud_words.specs.Planning.{PlansFor};
@@ -81,11 +81,12 @@ impl Plan {
     /// Takes what is given next into the plan.
     ///
     /// # Errors
-    /// What is wrong with it, or that memory for a symbol was refused. The plan is then of no use.
+    /// What is wrong with it, or, where it is right and says something of a symbol, that memory for that was refused. The
+    /// plan is then of no use.
     pub(crate) fn take(&mut self, given: Given<'_>) -> Result<(), Usage>
         ensures ok { (gs : List GivenInWords) → PlansFor self.old gs → OnOk result (PlansFor self.new (gs ++ told given.entry ∷ [])) }
         ensures err { (gs : List GivenInWords) → PlansFor self.old gs → (more : List GivenInWords)
-            → IfErr result (IsUsageOf (first_fault (gs ++ told given.entry ∷ more))) }
+            → IfErr result (IsUsageOf (gs ++ told given.entry ∷ more)) }
     {
         match accept(given, self.operand.is_some()) {
             Err(fault) => Err(fault),
@@ -100,7 +101,7 @@ impl Plan {
     fn add(&mut self, said: Said<'_>) -> Result<(), Usage>
         ensures ok { (gs : List GivenInWords) → (g : GivenInWords) → PlansFor self.old gs → self.old.operand ≡ None → IsSaid g said.entry
             → OnOk result (PlansFor self.new (gs ++ g ∷ [])) }
-        ensures err { IfErr result (λ u. u ≡ Usage.OutOfMemory) }
+        ensures err { (g : GivenInWords) → IsSaid g said.entry → IfErr result (λ u. (u ≡ Usage.OutOfMemory) × IsSome (argument_in g)) }
     {
         match said {
             Said::Flag { letter } => {

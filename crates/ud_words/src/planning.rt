@@ -18,11 +18,12 @@ use std::alloc::Global;
 ///
 /// # Errors
 /// The first fault in reading order: `UnknownOption`, `MissingArgument`, `BadSymbol`, `BadMode`, or `TooManyFiles` at
-/// the word behind an operand. `OutOfMemory` where memory is refused as a symbol is put into the table; the words behind
-/// it aren't read then.
+/// the word behind an operand. `OutOfMemory` if memory is refused as a symbol is put into the table; the words after it
+/// aren't read then, and those up to it have no fault. Words without a right `-D`, `-U` or `-i` before their first fault
+/// never have this answer.
 pub fn plan(alloc: Global, words: &[String]) -> Result<Plan, Usage>
     ensures ok { IfOk result (IsPlanOf (map string_bytes words.now)) }
-    ensures err { IfErr result (IsUsageOf (usage_fault (map string_bytes words.now))) }
+    ensures err { IfErr result (IsUsageOf (given_in (map string_bytes words.now))) }
 {
     let mut plan = Plan::new(alloc);
     let mut line = CommandLine::new(words);
