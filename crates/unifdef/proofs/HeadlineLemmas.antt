@@ -6,7 +6,7 @@ use Rattle.std.proofs.lemmas.List.{length-map}
 use Rattle.ud_model.specs.Lines.{Line, lines_of, numbered_from}
 use Rattle.ud_model.specs.Items.{Options}
 use Rattle.ud_model.specs.Table.{entry_in}
-use Rattle.ud_model.specs.CommandLine.{usage_fault, options_of, input_name}
+use Rattle.ud_model.specs.CommandLine.{given_in, usage_fault, options_of, input_name}
 use Rattle.ud_model.specs.Answer.{usage_answer, memory_answer, refused, ran}
 use Rattle.ud_model.specs.declared.limits.TheConstants.{TEXT_LINES}
 use Rattle.ud_model.proofs.LinesLemmas.{length-numbered_from}
@@ -15,7 +15,7 @@ use Rattle.unifdef.specs.declared.held.Held.{Held}
 use Rattle.unifdef.specs.declared.intake.End.{End}
 use Rattle.unifdef.specs.declared.intake.End.TheVariants.{Ended, Failed, Broken}
 use Rattle.unifdef.specs.declared.outcome.Outcome.{Outcome}
-use Rattle.unifdef.specs.declared.usage.Usage.{Usage}
+use Rattle.ud_words.specs.declared.usage.Usage.{Usage}
 use Rattle.unifdef.specs.declared.seen.Seen.{Seen}
 use Rattle.unifdef.specs.Limits.{Breaks, ended, broken}
 use Rattle.unifdef.specs.Intake.{HeldOf, text_fault_told}
@@ -27,7 +27,8 @@ use Rattle.unifdef.specs.Watching.{Says}
 use Rattle.unifdef.specs.Outcomes.{output_told, differs_told}
 use Rattle.unifdef.specs.Ending.{message_told, status_told}
 use Rattle.unifdef.specs.Refusals.{refusal_text}
-use Rattle.unifdef.specs.Saying.{IsUsageOf}
+use Rattle.ud_words.specs.Saying.{IsUsageOf}
+use Rattle.ud_words.specs.Storing.{PutsSymbol}
 use Rattle.unifdef.proofs.RefusalLemmas.{TellsFault, tells-IsUsageOf}
 use Rattle.unifdef.proofs.HeldLemmas.{are_seen}
 use Rattle.unifdef.proofs.ReadLemmas.{length_items}
@@ -129,12 +130,12 @@ comes_gives o name input texts ms outcome uo um un p e eo en s d c works printed
 
 -- the words have a fault, or memory for them was refused, and nothing is written to `out`
 pub usage_answers : (words : List (List ℕ)) (u : Usage) (before uo : Option (List ℕ)) (e : Bool) (eo en : Option (List ℕ)) (s : ℕ) →
-    IsUsageOf (usage_fault words) u → Says e eo en (refusal_text u) → s ≡ 2 →
+    IsUsageOf (given_in words) u → Says e eo en (refusal_text u) → s ≡ 2 →
     IfSome before (λ input. GivesAnswer words input uo uo e eo en s ⊎ Gave uo uo e eo en s memory_answer)
 usage_answers words u None uo e eo en s wrong said status = tt
-usage_answers words u (Some input) uo e eo en s wrong said status = by_case (tells-IsUsageOf (usage_fault words) u wrong)
+usage_answers words u (Some input) uo e eo en s wrong said status = by_case (tells-IsUsageOf (given_in words) u wrong)
   where
-    by_case : TellsFault (usage_fault words) u ⊎ (refusal_text u ≡ memory_answer.message) →
+    by_case : TellsFault (usage_fault words) u ⊎ (PutsSymbol (given_in words) × (refusal_text u ≡ memory_answer.message)) →
         GivesAnswer words input uo uo e eo en s ⊎ Gave uo uo e eo en s memory_answer
     by_case (inl t) =
         inl (
@@ -146,7 +147,7 @@ usage_answers words u (Some input) uo e eo en s wrong said status = by_case (tel
             answered = status;
           },
         )
-    by_case (inr t) = inr (memory_gave uo e eo en s (subst (λ (x : List ℕ). Says e eo en x) t said) status)
+    by_case (inr t) = inr (memory_gave uo e eo en s (subst (λ (x : List ℕ). Says e eo en x) t.1 said) status)
 
 -- a run under what the words say is their answer
 pub run_answers : (words : List (List ℕ)) (o : Options) (name : List ℕ) (before uo un : Option (List ℕ)) (e : Bool) (eo en : Option (List ℕ)) (s : ℕ) →

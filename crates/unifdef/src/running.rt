@@ -1,9 +1,10 @@
 //! The tool: words, a text, what is left of it, and what is said of it.
 
-ghost use Rattle.std.specs.Prelude.{◌≡◌, ◌≢◌, ◌≤◌, ℕ, List, length, take, map, string_bytes, false, true, is_none, IfSome, Option, Some, None, ◌⊎◌};
+ghost use Rattle.std.specs.Prelude.{◌≡◌, ◌≢◌, ◌≤◌, ℕ, List, length, take, map, string_bytes, false, true, is_none, IfSome, IsSome, Option, Some, None, ◌⊎◌};
 ghost use Rattle.ud_model.specs.Lines.{numbered_from};
 ghost use Rattle.ud_model.specs.Items.{Options};
 ghost use Rattle.ud_model.specs.Answer.{memory_answer};
+ghost use Rattle.ud_model.specs.CommandLine.{given_in, usage_fault};
 ghost use Rattle.ud_model.specs.Listing.{listed};
 ghost use Rattle.unifdef.specs.Counting.{counted};
 ghost use Rattle.ud_model.specs.declared.limits.TheConstants.{TEXT_LINES};
@@ -11,6 +12,7 @@ ghost use Rattle.unifdef.specs.Asked.{options_by};
 ghost use Rattle.unifdef.specs.Inside.{items_in};
 ghost use Rattle.unifdef.specs.Held.{Holds};
 ghost use Rattle.unifdef.specs.Outcomes.{output_told, differs_told};
+ghost use Rattle.unifdef.specs.Refusals.{TellsUsage};
 ghost use Rattle.unifdef.specs.Shapes.{mark_of};
 ghost use Rattle.unifdef.specs.Gave.{Gave, GivesAnswer, GivesRun, HeldInput, Comes};
 ghost use Rattle.unifdef.specs.Walking.{BeginsBefore, WalkEnds};
@@ -24,7 +26,6 @@ use crate::listing::list_held;
 use crate::mark::Mark;
 use crate::messages::{report_out_of_memory, report_write_error};
 use crate::outcome::{Outcome, TROUBLE, outcome_of, tell};
-use crate::planning::{input_name, plan};
 use crate::printing::print_held;
 use crate::refusals::report_refusal;
 use crate::spoiled::first_spoiled;
@@ -34,6 +35,7 @@ use std::alloc::Global;
 use std::io::{Read, Write};
 use ud_model::{Listing, Settings};
 use ud_sections::Printer;
+use ud_words::{input_name, plan};
 
 /// Runs unifdef(1): reads the words, and the text from `reader`; prints what is left of it to `out`, and what is wrong
 /// with either to `err`; and answers the status.
@@ -65,6 +67,11 @@ pub fn tool<R: Read, W: Write, E: Write>(
     ensures headline { reader.new.failed ≡ false → out.new.failed ≡ false → IfSome (R.remaining reader.old.inner) (λ input.
         GivesAnswer (map string_bytes words.now) input (W.contents out.old.inner) (W.contents out.new.inner) err.new.failed (E.contents err.old.inner) (E.contents err.new.inner) result
         ⊎ Gave (W.contents out.old.inner) (W.contents out.new.inner) err.new.failed (E.contents err.old.inner) (E.contents err.new.inner) result memory_answer) }
+    // At a fault of the words nothing is read, nothing is done with `out`, and the fault is told, or that memory for a
+    // symbol before it was refused.
+    ensures untouched { IsSome (usage_fault (map string_bytes words.now)) → (reader.new ≡ reader.old) × (out.new ≡ out.old) }
+    ensures refused { IfSome (usage_fault (map string_bytes words.now)) (λ fault.
+        TellsUsage (given_in (map string_bytes words.now)) fault err.new.failed (E.contents err.old.inner) (E.contents err.new.inner) result) }
     // A failing read or write has status 2.
     ensures read_fails { reader.new.failed ≡ true → result ≡ 2 }
     ensures write_fails { out.new.failed ≡ true → result ≡ 2 }

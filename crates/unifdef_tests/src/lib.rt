@@ -3,9 +3,13 @@
 #![tactic(auto)]
 
 #[cfg(test)]
+mod calls;
+#[cfg(test)]
 mod command_line;
 #[cfg(test)]
 mod conditions;
+#[cfg(test)]
+mod counted;
 #[cfg(test)]
 mod deciding;
 #[cfg(test)]
