@@ -12,7 +12,7 @@ use Rattle.ud_model.specs.Items.{Options, reading_of, line_of, next_item}
 use Rattle.ud_model.specs.Faults.{Fault, AreSound, no_lines, one_more, end_fault, end_by, ends_in_comment, last_number}
 use Rattle.ud_model.specs.Printing.{Judged, judged_lines, piece_by, piece_behind, pieces_by, style_of, some_other, keyword_in, printed_by}
 use Rattle.ud_model.specs.Runs.{Outcome, Runs, stops, ends, GoesThrough, output_by, differs_by}
-use Rattle.ud_model.specs.Worlds.{World, selected_nodes, NodesAgree, openers}
+use Rattle.ud_model.specs.Worlds.{World, selected, Agrees, openers}
 use Rattle.ud_model.specs.Pruned.{Edited, edited, pruned, printed, left_item, IsUndecided, GroupsUndecided, ElifsUndecided}
 use Rattle.ud_model.specs.Rereading.{IsPlain, AreRead, no_items, one_item, IsTreeOf, LinesFit, line_bytes, edited_bytes}
 use Rattle.ud_model.specs.declared.settings.Listing.{Listing}
@@ -185,13 +185,13 @@ module _ (o : Options) (p : IsPlain o) (input : List ℕ) where
 
   -- what is selected of the output is what is selected of the input
   pub selected_again : {r : Outcome} → Runs o input r → r.fault ≡ None → (ns : Nodes Reading) → IsTreeOf o input (closed ns) → (us : Nodes Reading) → IsTreeOf o r.output (closed us) →
-      (w v : World Reading) → NodesAgree w true ns → map v (openers us) ≡ map (λ e. w e.line) (openers (pruned ns)) →
-      map line_bytes (selected_nodes v us) ≡ map line_bytes (selected_nodes w ns)
+      (w v : World Reading) → Agrees w ns → map v (openers us) ≡ map (λ e. w e.line) (openers (pruned ns)) →
+      map line_bytes (selected v us) ≡ map line_bytes (selected w ns)
   selected_again {r} d e ns a us b w v g t =
       let z : Result r ns = reread d e ns a in
       let q : us ≡ z.tree = same_nodes us z.tree (one_tree_of o r.output (closed us) (closed z.tree) b z.is_tree) in
       same_selected line_bytes edited_bytes v (λ (x : Edited Reading). w x.line) us (pruned ns) (ap (with_lines line_bytes) q ∙ z.same) t
-      ∙ ap (λ (l : List (Edited Reading)). map edited_bytes l) (sym (selected-pruned w ns g)) ∙ kept_bytes (selected_nodes w ns)
+      ∙ ap (λ (l : List (Edited Reading)). map edited_bytes l) (sym (selected-pruned w ns g)) ∙ kept_bytes (selected w ns)
 
 module _ {L M : Type 0} (f : L → M) where
   mutual

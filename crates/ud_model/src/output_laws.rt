@@ -4,7 +4,7 @@ ghost use Rattle.std.specs.Prelude.{◌≡◌, ℕ, List, map, not, true, false,
 ghost use Rattle.ud_model.specs.Items.{Options};
 ghost use Rattle.ud_model.specs.Tree.{Nodes, closed, lines_of_nodes, with_lines};
 ghost use Rattle.ud_model.specs.Pruning.{marks};
-ghost use Rattle.ud_model.specs.Worlds.{World, NodesAgree, Agrees, selected, selected_nodes, openers};
+ghost use Rattle.ud_model.specs.Worlds.{World, Agrees, selected, openers};
 ghost use Rattle.ud_model.specs.Pruned.{Edited, edited, pruned, printed, IsUndecided};
 ghost use Rattle.ud_model.specs.declared.verdict.Verdict.{Verdict};
 ghost use Rattle.ud_model.specs.Scans.{Reading};
@@ -21,7 +21,7 @@ pub fn law_changed()
 
 /// In a world that agrees with what is decided, what is selected of the pruned nodes is what is selected of the nodes.
 pub fn law_selected_tree()
-    ensures { (w : World Reading) → (ns : Nodes Reading) → NodesAgree w true ns → selected_nodes (λ e. w e.line) (pruned ns) ≡ map (edited Verdict.Keep) (selected_nodes w ns) }
+    ensures { (w : World Reading) → (ns : Nodes Reading) → Agrees w ns → selected (λ e. w e.line) (pruned ns) ≡ map (edited Verdict.Keep) (selected w ns) }
 {}
 
 /// The lines that are left are those of the pruned nodes.
@@ -40,5 +40,5 @@ pub fn law_reread()
 /// In each world that agrees with what is decided of the input, the lines that are selected of the output are those that
 /// are selected of the input, byte by byte; a line of the output that comes from an opener has that opener's truth.
 pub fn law_selected()
-    ensures { (o : Options) → IsPlain o → (input : List ℕ) → (r : Outcome) → Runs o input r → r.fault ≡ None → (ns : Nodes Reading) → IsTreeOf o input (closed ns) → (us : Nodes Reading) → IsTreeOf o r.output (closed us) → (w : World Reading) → (v : World Reading) → Agrees w (closed ns) → map v (openers us) ≡ map (λ e. w e.line) (openers (pruned ns)) → map line_bytes (selected v (closed us)) ≡ map line_bytes (selected w (closed ns)) }
+    ensures { (o : Options) → IsPlain o → (input : List ℕ) → (r : Outcome) → Runs o input r → r.fault ≡ None → (ns : Nodes Reading) → IsTreeOf o input (closed ns) → (us : Nodes Reading) → IsTreeOf o r.output (closed us) → (w : World Reading) → (v : World Reading) → Agrees w ns → map v (openers us) ≡ map (λ e. w e.line) (openers (pruned ns)) → map line_bytes (selected v us) ≡ map line_bytes (selected w ns) }
 {}
