@@ -70,3 +70,5 @@ pub mod SoundBounds
 pub mod SoundAgain
 pub mod LeavesOff
 pub mod OutputPieces
+pub mod CConditions
+pub mod CSelected

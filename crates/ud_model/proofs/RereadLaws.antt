@@ -15,6 +15,7 @@ use Rattle.ud_model.specs.Runs.{Outcome, Runs, stops, ends, GoesThrough, output_
 use Rattle.ud_model.specs.Worlds.{World, selected, Agrees, openers}
 use Rattle.ud_model.specs.Pruned.{Edited, edited, pruned, printed, left_item, IsUndecided, GroupsUndecided, ElifsUndecided}
 use Rattle.ud_model.specs.Rereading.{IsPlain, AreRead, no_items, one_item, IsTreeOf, LinesFit, line_bytes, edited_bytes}
+use Rattle.ud_model.specs.CSelection.{IsCWorld}
 use Rattle.ud_model.specs.declared.settings.Listing.{Listing}
 use Rattle.ud_model.specs.declared.verdict.Verdict.{Verdict}
 use Rattle.ud_model.specs.declared.verdict.Verdict.TheVariants.{Keep, Remove, ToIf, ToElse, ToEndif}
@@ -27,7 +28,7 @@ use Rattle.ud_model.proofs.SelectedPruned.{selected-pruned}
 use Rattle.ud_model.proofs.SameShape.{same_selected}
 use Rattle.ud_model.proofs.TreeAlong.{AlongNodes, nodes_along}
 use Rattle.ud_model.proofs.Undecided.{Stays, pruned_undecided, undecided_stay}
-use Rattle.ud_model.proofs.Each.{Each}
+use Rattle.ud_model.proofs.Each.{Each, Pairwise}
 use Rattle.ud_model.proofs.Sizes.{whole}
 use Rattle.ud_model.proofs.Stays.{length_marks}
 use Rattle.std.proofs.lemmas.Slice.Eq.{bytes_eq-Decides}
@@ -41,6 +42,7 @@ use Rattle.ud_model.specs.Height.{height, height_of_nodes}
 use Rattle.ud_model.specs.declared.limits.TheConstants.{OPEN_SECTIONS}
 use Rattle.ud_model.proofs.RereadChain.{AllButLast, lines_end, again}
 use Rattle.ud_model.proofs.LinesLemmas.{lines_exist}
+use Rattle.ud_model.proofs.CSelected.{Clear, sound_clear, c_agrees}
 
 sound_read : {o : Options} {xs : List (Item Reading)} {t : Tree Reading} → AreSound o xs t → AreRead o xs t
 sound_read no_lines = no_items
@@ -192,6 +194,17 @@ module _ (o : Options) (p : IsPlain o) (input : List ℕ) where
       let q : us ≡ z.tree = same_nodes us z.tree (one_tree_of o r.output (closed us) (closed z.tree) b z.is_tree) in
       same_selected line_bytes edited_bytes v (λ (x : Edited Reading). w x.line) us (pruned ns) (ap (with_lines line_bytes) q ∙ z.same) t
       ∙ ap (λ (l : List (Edited Reading)). map edited_bytes l) (sym (selected-pruned w ns g)) ∙ kept_bytes (selected w ns)
+
+  -- so it is in each world that C may give the input
+  pub c_selected_again : {r : Outcome} → Runs o input r → r.fault ≡ None → (ns : Nodes Reading) → IsTreeOf o input (closed ns) → (us : Nodes Reading) → IsTreeOf o r.output (closed us) →
+      (w v : World Reading) → IsCWorld o.table w ns → map v (openers us) ≡ map (λ e. w e.line) (openers (pruned ns)) → map line_bytes (selected v us) ≡ map line_bytes (selected w ns)
+  c_selected_again (stops xs t f s) e ns a us b w v g h = cc
+  c_selected_again (ends xs t g) e ns a us b w v c h =
+      let same : t ≡ closed ns = one_tree_of o input t (closed ns) (record { items = xs; read = sound_read g.sound; are = g.are }) a in
+      let k : Pairwise (Clear o) (lines (closed ns)) (marks (closed ns)) =
+      subst (λ (u : Tree Reading). Pairwise (Clear o) (lines u) (marks u)) same
+      (subst (λ (zs : List (Item Reading)). Pairwise (Clear o) zs (marks t)) (sym (sound_lines g.sound)) (sound_clear o xs t g.sound)) in
+      selected_again (ends xs t g) e ns a us b w v (c_agrees o w ns k c) h
 
 module _ {L M : Type 0} (f : L → M) where
   mutual

@@ -10,6 +10,7 @@ ghost use Rattle.ud_model.specs.declared.verdict.Verdict.{Verdict};
 ghost use Rattle.ud_model.specs.Scans.{Reading};
 ghost use Rattle.ud_model.specs.Lines.{lines_of};
 ghost use Rattle.ud_model.specs.Rereading.{IsPlain, IsTreeOf, LinesFit, line_bytes, edited_bytes};
+ghost use Rattle.ud_model.specs.CSelection.{IsCWorld};
 ghost use Rattle.ud_model.specs.Runs.{Outcome, Runs};
 ghost use Rattle.ud_model.specs.declared.settings.Listing.{Listing};
 
@@ -41,4 +42,10 @@ pub fn law_reread()
 /// are selected of the input, byte by byte; a line of the output that comes from an opener has that opener's truth.
 pub fn law_selected()
     ensures { (o : Options) → IsPlain o → (input : List ℕ) → (r : Outcome) → Runs o input r → r.fault ≡ None → (ns : Nodes Reading) → IsTreeOf o input (closed ns) → (us : Nodes Reading) → IsTreeOf o r.output (closed us) → (w : World Reading) → (v : World Reading) → Agrees w ns → map v (openers us) ≡ map (λ e. w e.line) (openers (pruned ns)) → map line_bytes (selected v us) ≡ map line_bytes (selected w ns) }
+{}
+
+/// Whatever C makes of each condition that it evaluates, each symbol that the options don't name being any number: the
+/// lines that it selects of the output are those that it selects of the input, byte by byte (C11 6.10.1p6).
+pub fn law_c_selects()
+    ensures { (o : Options) → IsPlain o → (input : List ℕ) → (r : Outcome) → Runs o input r → r.fault ≡ None → (ns : Nodes Reading) → IsTreeOf o input (closed ns) → (us : Nodes Reading) → IsTreeOf o r.output (closed us) → (w : World Reading) → (v : World Reading) → IsCWorld o.table w ns → map v (openers us) ≡ map (λ e. w e.line) (openers (pruned ns)) → map line_bytes (selected v us) ≡ map line_bytes (selected w ns) }
 {}
