@@ -8,7 +8,7 @@ use Rattle.ud_model.specs.Directives.{cut_keyword, directive, content_of}
 use Rattle.ud_model.specs.Directives.{text as no_directive}
 use Rattle.ud_model.specs.Table.{Argument}
 use Rattle.ud_model.specs.Conditions.{Rules, condition_of, undecided}
-use Rattle.ud_model.specs.Tree.{Opener, Tree, HasTree, text_line, if_line, elif_line, else_line, endif_line, nothing, text, section, conditional, otherwise, first, elif, else_head, closed, open_section, lines, depth}
+use Rattle.ud_model.specs.Tree.{Opener, Nodes, Tree, HasTree, text_line, if_line, elif_line, else_line, endif_line, nothing, text, section, conditional, otherwise, first, elif, else_head, closed, open_section, lines, depth}
 use Rattle.ud_model.specs.Pruning.{Mark, marks}
 use Rattle.ud_model.specs.Worlds.{selected, Agrees}
 use Rattle.ud_model.specs.Faults.{inappropriate_elif, inappropriate_else, inappropriate_endif, premature_eof}

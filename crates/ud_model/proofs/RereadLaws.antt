@@ -14,7 +14,7 @@ use Rattle.ud_model.specs.Printing.{Judged, judged_lines, piece_by, piece_behind
 use Rattle.ud_model.specs.Runs.{Outcome, Runs, stops, ends, GoesThrough, output_by, differs_by}
 use Rattle.ud_model.specs.Worlds.{World, selected, Agrees, openers}
 use Rattle.ud_model.specs.Pruned.{Edited, edited, pruned, printed, left_item, IsUndecided, GroupsUndecided, ElifsUndecided}
-use Rattle.ud_model.specs.Rereading.{IsPlain, AreRead, no_items, one_item, IsTreeOf, LinesFit, line_bytes, edited_bytes}
+use Rattle.ud_model.specs.Rereading.{IsPlain, AreRead, no_items, one_item, IsTreeOf, HasTrees, KeepsTruths, LinesFit, line_bytes, edited_bytes}
 use Rattle.ud_model.specs.CSelection.{IsCWorld}
 use Rattle.ud_model.specs.declared.settings.Listing.{Listing}
 use Rattle.ud_model.specs.declared.verdict.Verdict.{Verdict}
@@ -182,29 +182,35 @@ module _ (o : Options) (p : IsPlain o) (input : List ℕ) where
         calm = z.1.ends (end_parts (ends_in_comment xs) (last_number xs) (innermost t) e).0;
       }
 
-  same_nodes : (ns ms : Nodes Reading) → ◌≡◌ {A = Tree Reading} (closed ns) (closed ms) → ns ≡ ms
-  same_nodes ns ms e = cc
+same_nodes : (ns ms : Nodes Reading) → ◌≡◌ {A = Tree Reading} (closed ns) (closed ms) → ns ≡ ms
+same_nodes ns ms e = cc
+
+module _ {o : Options} {input : List ℕ} {r : Outcome} {ns us : Nodes Reading} (k : HasTrees o input r ns us) where
+  -- what the output has is what is left of the input
+  abbrev result : Result o k.clean.plain input r ns
+  result = reread o k.clean.plain input k.clean.runs k.clean.faultless ns k.of_input
+
+  -- and its tree is the one that it has
+  same_tree : us ≡ result.tree
+  same_tree = same_nodes us result.tree (one_tree_of o r.output (closed us) (closed result.tree) k.of_output result.is_tree)
 
   -- what is selected of the output is what is selected of the input
-  pub selected_again : {r : Outcome} → Runs o input r → r.fault ≡ None → (ns : Nodes Reading) → IsTreeOf o input (closed ns) → (us : Nodes Reading) → IsTreeOf o r.output (closed us) →
-      (w v : World Reading) → Agrees w ns → map v (openers us) ≡ map (λ e. w e.line) (openers (pruned ns)) →
-      map line_bytes (selected v us) ≡ map line_bytes (selected w ns)
-  selected_again {r} d e ns a us b w v g t =
-      let z : Result r ns = reread d e ns a in
-      let q : us ≡ z.tree = same_nodes us z.tree (one_tree_of o r.output (closed us) (closed z.tree) b z.is_tree) in
-      same_selected line_bytes edited_bytes v (λ (x : Edited Reading). w x.line) us (pruned ns) (ap (with_lines line_bytes) q ∙ z.same) t
+  pub selected_again : (w v : World Reading) → Agrees w ns → KeepsTruths w ns v us → map line_bytes (selected v us) ≡ map line_bytes (selected w ns)
+  selected_again w v g t =
+      same_selected line_bytes edited_bytes v (λ (x : Edited Reading). w x.line) us (pruned ns) (ap (with_lines line_bytes) same_tree ∙ result.same) t
       ∙ ap (λ (l : List (Edited Reading)). map edited_bytes l) (sym (selected-pruned w ns g)) ∙ kept_bytes (selected w ns)
 
-  -- so it is in each world that C may give the input
-  pub c_selected_again : {r : Outcome} → Runs o input r → r.fault ≡ None → (ns : Nodes Reading) → IsTreeOf o input (closed ns) → (us : Nodes Reading) → IsTreeOf o r.output (closed us) →
-      (w v : World Reading) → IsCWorld o.table w ns → map v (openers us) ≡ map (λ e. w e.line) (openers (pruned ns)) → map line_bytes (selected v us) ≡ map line_bytes (selected w ns)
-  c_selected_again (stops xs t f s) e ns a us b w v g h = cc
-  c_selected_again (ends xs t g) e ns a us b w v c h =
-      let same : t ≡ closed ns = one_tree_of o input t (closed ns) (record { items = xs; read = sound_read g.sound; are = g.are }) a in
-      let k : Pairwise (Clear o) (lines (closed ns)) (marks (closed ns)) =
-      subst (λ (u : Tree Reading). Pairwise (Clear o) (lines u) (marks u)) same
-      (subst (λ (zs : List (Item Reading)). Pairwise (Clear o) zs (marks t)) (sym (sound_lines g.sound)) (sound_clear o xs t g.sound)) in
-      selected_again (ends xs t g) e ns a us b w v (c_agrees o w ns k c) h
+clear_run : {o : Options} {input : List ℕ} {r : Outcome} → Runs o input r → r.fault ≡ None → (ns : Nodes Reading) → IsTreeOf o input (closed ns) →
+    Pairwise (Clear o) (lines (closed ns)) (marks (closed ns))
+clear_run (stops xs t f s) e ns a = cc
+clear_run {o = o} {input = input} (ends xs t g) e ns a =
+    subst (λ (u : Tree Reading). Pairwise (Clear o) (lines u) (marks u)) (one_tree_of o input t (closed ns) (record { items = xs; read = sound_read g.sound; are = g.are }) a)
+    (subst (λ (zs : List (Item Reading)). Pairwise (Clear o) zs (marks t)) (sym (sound_lines g.sound)) (sound_clear o xs t g.sound))
+
+-- so it is in each world that C may give the input
+pub c_selected_again : {o : Options} {input : List ℕ} {r : Outcome} {ns us : Nodes Reading} → HasTrees o input r ns us → (w v : World Reading) → IsCWorld o.table w ns →
+    KeepsTruths w ns v us → map line_bytes (selected v us) ≡ map line_bytes (selected w ns)
+c_selected_again {o = o} {ns = ns} k w v g t = selected_again k w v (c_agrees o w ns (clear_run k.clean.runs k.clean.faultless ns k.of_input) g) t
 
 module _ {L M : Type 0} (f : L → M) where
   mutual
