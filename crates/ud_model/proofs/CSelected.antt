@@ -175,7 +175,7 @@ module _ (o : Options) (w : World Reading) where
         let r : ElifsReached w Right es × (selected_elifs w es ≡ None → any_true (conds_of_elifs es) ≡ false) = elifs_right es q.0 h.0 in
         (r.0, λ e. nodes_right ns (at_kept (is_kept (conds_of_elifs es) Yes) ns (ap not (r.1 e)) p.1) (h.1 e))
 
-    -- where no group is processed, none is true
+    -- if no group is processed, none is true
     elifs_right : (es : Elifs Reading) → Pairwise (Clear o) (lines_of_elifs es) (elifs_so_far true es) → ElifsReached w Possible es →
         ElifsReached w Right es × (selected_elifs w es ≡ None → any_true (conds_of_elifs es) ≡ false)
     elifs_right (first p ns) k h =

@@ -12,7 +12,7 @@ module _ {A : Type 0} (P : A → Type 0) where
   each_parts [] ys h = (tt, h)
   each_parts (x ∷ xs) ys h = let r : Each xs × Each ys = each_parts xs ys h.1 in ((h.0, r.0), r.1)
 
-  -- and where each of both parts has it, each of all has it
+  -- and if each of both parts has it, each of all has it
   pub each_both : (xs ys : List A) → Each xs → Each ys → Each (xs ++ ys)
   each_both [] ys a b = b
   each_both (x ∷ xs) ys a b = (a.0, each_both xs ys a.1 b)
@@ -24,14 +24,14 @@ module _ {A B : Type 0} (P : A → B → Type 0) where
   Pairwise (x ∷ xs) [] = ⊥
   Pairwise (x ∷ xs) (y ∷ ys) = P x y × Pairwise xs ys
 
-  -- so they do where both parts do
+  -- so they do if both parts do
   pub pairwise_both : (xs : List A) (ys : List B) (later : List A) (more : List B) → length xs ≡ length ys → Pairwise xs ys → Pairwise later more → Pairwise (xs ++ later) (ys ++ more)
   pairwise_both [] [] later more l p q = q
   pairwise_both [] (y ∷ ys) later more l p q = absurd (omega arith)
   pairwise_both (x ∷ xs) [] later more l p q = absurd p
   pairwise_both (x ∷ xs) (y ∷ ys) later more l p q = (p.0, pairwise_both xs ys later more (omega arith) p.1 q)
 
-  -- and both parts do where all do
+  -- and both parts do if all do
   pub pairwise_parts : (xs : List A) (ys : List B) (later : List A) (more : List B) → length xs ≡ length ys → Pairwise (xs ++ later) (ys ++ more) → Pairwise xs ys × Pairwise later more
   pairwise_parts [] [] later more l p = (tt, p)
   pairwise_parts [] (y ∷ ys) later more l p = absurd (omega arith)

@@ -72,3 +72,5 @@ pub mod LeavesOff
 pub mod OutputPieces
 pub mod CConditions
 pub mod CSelected
+pub mod SeenLines
+pub mod PrunedOpeners

@@ -1,4 +1,4 @@
--- Trees that differ in their lines alone: the same is selected of them where their openers have the same truths.
+-- Trees that differ in their lines alone: the same is selected of them if their openers have the same truths.
 use Rattle.std.proofs.Common.{◌≡◌, List, [], ◌∷◌, ◌++◌, length, map, Bool, true, false, Option, Some, None, option_map, refl, sym, ◌∙◌, ap, ap₂, arith}
 use Rattle.std.proofs.lemmas.List.{map-append, length-map}
 use Rattle.ud_model.specs.Tree.{Opener, Nodes, Groups, Elifs, nothing, text, section, conditional, otherwise, first, elif, opener_with_line, with_lines, groups_with_lines, elifs_with_lines}
@@ -71,7 +71,7 @@ module _ {L K M : Type 0} (f : L → M) (g : K → M) (v : World L) (w : World K
   lines_same (Some a) None ls ks e h = cc
 
   mutual
-    -- trees that differ in their lines alone: the same is selected where their openers have the same truths
+    -- trees that differ in their lines alone: the same is selected if their openers have the same truths
     pub same_selected : (ns : Nodes L) (ms : Nodes K) → with_lines f ns ≡ with_lines g ms → map v (openers ns) ≡ map w (openers ms) →
         map f (selected v ns) ≡ map g (selected w ms)
     same_selected nothing nothing e t = refl

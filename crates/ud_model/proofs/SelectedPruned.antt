@@ -1,4 +1,4 @@
--- What a world selects of the pruned nodes is what it selects of the nodes, where it agrees with what is decided.
+-- What a world selects of the pruned nodes is what it selects of the nodes, if it agrees with what is decided.
 use Rattle.std.proofs.Common.{◌≡◌, List, [], ◌∷◌, ◌++◌, map, Bool, true, false, not, Option, Some, None, option_map, refl, sym, ◌∙◌, ap, ap₂, subst, append-nil, append_assoc}
 use Rattle.std.proofs.lemmas.List.{map-append}
 use Rattle.ud_model.specs.declared.cond.Cond.{Cond}
@@ -27,12 +27,12 @@ module _ {L : Type 0} (w : World L) where
   later_group : (s : Option (List L)) (b : Bool) (ls more : List L) → s ≡ Some ls → or_else s (where_true b more) ≡ Some ls
   later_group s b ls more e = ap (λ (q : Option (List L)). or_else q (where_true b more)) e
 
-  -- a group by its truth, where none before it is processed
+  -- a group by its truth, if none before it is processed
   new_group : (b : Bool) (ls : List L) (ks : List (Edited L)) → (b ≡ true → map kept ls ≡ ks) → option_map (map kept) (where_true b ls) ≡ where_true b ks
   new_group true ls ks h = ap (λ (q : List (Edited L)). Some q) (h refl)
   new_group false ls ks h = refl
 
-  -- the same behind groups
+  -- the same after groups
   more_group : (s : Option (List L)) (r : Option (List (Edited L))) (b : Bool) (ls : List L) (ks : List (Edited L)) → option_map (map kept) s ≡ r →
       (s ≡ None → b ≡ true → map kept ls ≡ ks) → option_map (map kept) (or_else s (where_true b ls)) ≡ or_else r (where_true b ks)
   more_group None r b ls ks e h = new_group b ls ks (h refl) ∙ ap (λ (q : Option (List (Edited L))). or_else q (where_true b ks)) e
