@@ -1,13 +1,13 @@
 -- A condition that is decided has the truth that C gives it.
-use Rattle.std.proofs.Common.{◌≡◌, ◌≢◌, ℕ, List, Bool, true, false, not, ◌&&◌, Option, Some, None, is_some, option_map, if◌then◌else◌, refl, sym, ◌∙◌, ap, subst, ℤ, pos}
-use Rattle.ud_model.specs.Scans.{Scan, Reading}
-use Rattle.ud_model.specs.Directives.{Content, Directive, cut_keyword, directive, text, content_of}
+use Rattle.std.proofs.Common.{◌≡◌, ◌≢◌, ℕ, List, Bool, true, false, not, ◌&&◌, Option, Some, None, is_some, option_map, if◌then◌else◌, refl, ap, subst, pos}
+use Rattle.ud_model.specs.Scans.{Reading}
+use Rattle.ud_model.specs.Directives.{Content, cut_keyword, directive, text, content_of}
 use Rattle.ud_model.specs.Table.{Argument, Entry, entry_in}
 use Rattle.ud_model.specs.Expressions.{Expression, is_defined, unary}
 use Rattle.ud_model.specs.Parsing.{expression_of}
 use Rattle.ud_model.specs.Values.{truth, is_zero, change, alter, defined_value, defined_value_by, value_of}
 use Rattle.ud_model.specs.Conditions.{Decision, Rules, undecided, sole_name, ifdef_by, ifdef_decision, negated, tree_cond, tree_cond_if, expression_cond, condition_of, decision_on}
-use Rattle.ud_model.specs.CValues.{Number, number, IsZero, IsCValue}
+use Rattle.ud_model.specs.CValues.{Number, number}
 use Rattle.ud_model.specs.CSelection.{condition_after, condition_by, condition_in, HasTruth, MayBe}
 use Rattle.ud_model.specs.Tree.{Item, text_line, if_line, elif_line, else_line, endif_line}
 use Rattle.ud_model.specs.Items.{Options, rules_of, directive_item, item_by, item_of}

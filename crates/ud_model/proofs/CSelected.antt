@@ -2,16 +2,15 @@
 --
 -- A directive whose section lies in a kept place, and whose condition is decided, is edited or removed; so it joins no
 -- other line, and its condition ends on its line.
-use Rattle.std.proofs.Common.{◌≡◌, ℕ, List, [], ◌∷◌, ◌++◌, length, Bool, true, false, not, ◌&&◌, ◌||◌, Option, Some, None, IsTrue, refl, sym, ◌∙◌, ap, ap₂, subst, length-append, arith}
-use Rattle.ud_model.specs.Scans.{Reading, is_spanning}
+use Rattle.std.proofs.Common.{◌≡◌, List, [], ◌∷◌, ◌++◌, length, Bool, true, false, not, ◌&&◌, ◌||◌, Option, Some, None, IsTrue, refl, sym, ◌∙◌, ap, subst, length-append, arith}
+use Rattle.ud_model.specs.Scans.{Reading}
 use Rattle.ud_model.specs.declared.cond.Cond.{Cond}
 use Rattle.ud_model.specs.declared.cond.Cond.TheVariants.{Yes, No, Unknown}
-use Rattle.ud_model.specs.Table.{Argument}
 use Rattle.ud_model.specs.Tree.{Item, Opener, Nodes, Groups, Elifs, Tree, text_line, if_line, elif_line, else_line, endif_line, nothing, text, section, conditional, otherwise, first, elif, closed, lines, lines_of_nodes, lines_of_groups, lines_of_elifs}
-use Rattle.ud_model.specs.Pruning.{Mark, marked, any_true, is_kept, is_false, an_if, an_elif, an_else, marks, conds_of_elifs, conds_of_groups, endif_verdict, later_verdict}
+use Rattle.ud_model.specs.Pruning.{Mark, marked, any_true, is_kept, an_if, an_elif, an_else, marks, conds_of_elifs, conds_of_groups, endif_verdict}
 use Rattle.ud_model.specs.SoFar.{verdict_so_far, nodes_so_far, groups_so_far, elifs_so_far}
 use Rattle.ud_model.specs.Items.{Options, reading_of, item_of, mode_after, read_after, next_item}
-use Rattle.ud_model.specs.Faults.{AreSound, no_lines, one_more, NoneHolds, cases, ends_removed, is_spoiled_behind, is_directive, keeps_rest}
+use Rattle.ud_model.specs.Faults.{AreSound, no_lines, one_more, ends_removed, is_spoiled_behind, is_directive, keeps_rest}
 use Rattle.ud_model.specs.Worlds.{World, or_else, where_true, selected, selected_elifs, EachReached, GroupsReached, ElifsReached, AgreesWith, Agrees}
 use Rattle.ud_model.specs.CSelection.{condition_in, MayBe, IsCWorld}
 use Rattle.ud_model.specs.declared.verdict.Verdict.{Verdict}
@@ -167,7 +166,7 @@ module _ (o : Options) (w : World Reading) where
     groups_right (otherwise es l ns) k h =
         let v : Verdict = verdict_so_far (conds_of_elifs es) an_else Yes in
         let p : Pairwise (Clear o) (lines_of_elifs es ++ else_line l ∷ []) (elifs_so_far true es ++ marked true v ∷ [])
-            × Pairwise (Clear o) (lines_of_nodes ns) (nodes_so_far (is_kept (conds_of_elifs es) Yes) ns) =
+        × Pairwise (Clear o) (lines_of_nodes ns) (nodes_so_far (is_kept (conds_of_elifs es) Yes) ns) =
         pairwise_parts (Clear o) (lines_of_elifs es ++ else_line l ∷ []) (elifs_so_far true es ++ marked true v ∷ []) (lines_of_nodes ns)
         (nodes_so_far (is_kept (conds_of_elifs es) Yes) ns) (many_both (lines_of_elifs es) (else_line l ∷ []) (elifs_so_far true es) (marked true v ∷ []) (as_many_elifs true es) refl) k in
         let q : Pairwise (Clear o) (lines_of_elifs es) (elifs_so_far true es) × Pairwise (Clear o) (else_line l ∷ []) (marked true v ∷ []) =
@@ -180,22 +179,24 @@ module _ (o : Options) (w : World Reading) where
         ElifsReached w Right es × (selected_elifs w es ≡ None → any_true (conds_of_elifs es) ≡ false)
     elifs_right (first p ns) k h =
         let q : Pairwise (Clear o) (lines_of_nodes ns) (nodes_so_far (is_kept [] p.cond) ns) = k.1 in
-        let a : Right p = if_right p k.0 h.0 in
-        ((a, λ t. nodes_right ns (at_kept (is_kept [] p.cond) ns (kept_by [] p.cond p.line refl a t) q) (h.1 t)),
-        λ e. not_any [] p.cond refl (not_yes p.cond p.line a (where_none (w p.line) (selected w ns) e)))
+        let a : Right p = if_right p k.0 h.0 in (
+          (a, λ t. nodes_right ns (at_kept (is_kept [] p.cond) ns (kept_by [] p.cond p.line refl a t) q) (h.1 t)),
+          λ e. not_any [] p.cond refl (not_yes p.cond p.line a (where_none (w p.line) (selected w ns) e)),
+        )
     elifs_right (elif es p ns) k h =
         let v : Verdict = verdict_so_far (conds_of_elifs es) an_elif p.cond in
         let q : Pairwise (Clear o) (lines_of_elifs es ++ elif_line p ∷ []) (elifs_so_far true es ++ marked true v ∷ [])
-            × Pairwise (Clear o) (lines_of_nodes ns) (nodes_so_far (is_kept (conds_of_elifs es) p.cond) ns) =
+        × Pairwise (Clear o) (lines_of_nodes ns) (nodes_so_far (is_kept (conds_of_elifs es) p.cond) ns) =
         pairwise_parts (Clear o) (lines_of_elifs es ++ elif_line p ∷ []) (elifs_so_far true es ++ marked true v ∷ []) (lines_of_nodes ns)
         (nodes_so_far (is_kept (conds_of_elifs es) p.cond) ns) (many_both (lines_of_elifs es) (elif_line p ∷ []) (elifs_so_far true es) (marked true v ∷ []) (as_many_elifs true es) refl) k in
         let f : Pairwise (Clear o) (lines_of_elifs es) (elifs_so_far true es) × Pairwise (Clear o) (elif_line p ∷ []) (marked true v ∷ []) =
         pairwise_parts (Clear o) (lines_of_elifs es) (elifs_so_far true es) (elif_line p ∷ []) (marked true v ∷ []) (as_many_elifs true es) q.0 in
         let r : ElifsReached w Right es × (selected_elifs w es ≡ None → any_true (conds_of_elifs es) ≡ false) = elifs_right es f.0 h.0 in
-        let a : selected_elifs w es ≡ None → Right p = λ e. elif_right (conds_of_elifs es) p f.1.0 (h.1 e).0 in
-        ((r.0, λ e. (a e, λ t. nodes_right ns (at_kept (is_kept (conds_of_elifs es) p.cond) ns (kept_by (conds_of_elifs es) p.cond p.line (r.1 e) (a e) t) q.1) ((h.1 e).1 t))),
-        λ e. let n : (selected_elifs w es ≡ None) × (where_true (w p.line) (selected w ns) ≡ None) = or_none (selected_elifs w es) (where_true (w p.line) (selected w ns)) e in
-        not_any (conds_of_elifs es) p.cond (r.1 n.0) (not_yes p.cond p.line (a n.0) (where_none (w p.line) (selected w ns) n.1)))
+        let a : selected_elifs w es ≡ None → Right p = λ e. elif_right (conds_of_elifs es) p f.1.0 (h.1 e).0 in (
+          (r.0, λ e. (a e, λ t. nodes_right ns (at_kept (is_kept (conds_of_elifs es) p.cond) ns (kept_by (conds_of_elifs es) p.cond p.line (r.1 e) (a e) t) q.1) ((h.1 e).1 t))),
+          λ e. let n : (selected_elifs w es ≡ None) × (where_true (w p.line) (selected w ns) ≡ None) = or_none (selected_elifs w es) (where_true (w p.line) (selected w ns)) e in
+              not_any (conds_of_elifs es) p.cond (r.1 n.0) (not_yes p.cond p.line (a n.0) (where_none (w p.line) (selected w ns) n.1)),
+        )
 
   -- a world that C may give these nodes agrees with what is decided of them
   pub c_agrees : (ns : Nodes Reading) → Pairwise (Clear o) (lines (closed ns)) (marks (closed ns)) → IsCWorld o.table w ns → Agrees w ns

@@ -25,6 +25,7 @@ pub mod ConditionLemmas
 pub mod KnownNumbers
 pub mod KnownStays
 pub mod KnownExamples
+pub mod CSelectionExamples
 pub mod WrongRules
 pub mod ParsingComplete
 pub mod ParsingSound

@@ -1,5 +1,5 @@
 -- The openers of a pruned tree stay as they are, or become an `#if`.
-use Rattle.std.proofs.Common.{◌≡◌, List, [], ◌∷◌, ◌++◌, Option, Some, None, refl}
+use Rattle.std.proofs.Common.{[], ◌∷◌, ◌++◌, Some, None}
 use Rattle.ud_model.specs.declared.cond.Cond.{Cond}
 use Rattle.ud_model.specs.declared.cond.Cond.TheVariants.{Yes, No, Unknown}
 use Rattle.ud_model.specs.declared.verdict.Verdict.{Verdict}
@@ -7,7 +7,7 @@ use Rattle.ud_model.specs.declared.verdict.Verdict.TheVariants.{Keep, Remove, To
 use Rattle.ud_model.specs.Tree.{Opener, Nodes, Groups, Elifs, nothing, text, section, conditional, otherwise, first, elif}
 use Rattle.ud_model.specs.Pruning.{Part, an_if, an_elif, an_else, first_kept_verdict}
 use Rattle.ud_model.specs.Worlds.{openers, openers_of_groups, openers_of_elifs}
-use Rattle.ud_model.specs.Pruned.{Edited, edited, edited_opener, Left, none_kept, replaced, kept_groups, ended, then_nodes, with_group, with_else, then_left, pruned, left_of_groups, left_of_elifs}
+use Rattle.ud_model.specs.Pruned.{Edited, edited, Left, none_kept, replaced, kept_groups, ended, then_nodes, with_group, with_else, then_left, pruned, left_of_groups, left_of_elifs}
 use Rattle.ud_model.proofs.Each.{Each, each_parts, each_both}
 
 -- an opener with this verdict keeps its condition

@@ -2,7 +2,7 @@
 use Rattle.std.proofs.Common.{◌≡◌, ℕ, List, [], ◌∷◌, map, Option, None, refl, ap, ap₂}
 use Rattle.ud_model.specs.Scans.{Reading}
 use Rattle.ud_model.specs.Expressions.{Expression}
-use Rattle.ud_model.specs.Tree.{Opener, Nodes, Groups, Elifs, nothing, text, section, conditional, otherwise, first, elif, opener_with_line, with_lines, groups_with_lines, elifs_with_lines}
+use Rattle.ud_model.specs.Tree.{Nodes, Groups, Elifs, nothing, text, section, conditional, otherwise, first, elif, opener_with_line, with_lines, groups_with_lines, elifs_with_lines}
 use Rattle.ud_model.specs.Pruned.{Edited}
 use Rattle.ud_model.specs.Rereading.{line_bytes, edited_bytes}
 use Rattle.ud_model.specs.CSelection.{condition_in}

@@ -1,11 +1,11 @@
 -- What a world selects of the pruned nodes is what it selects of the nodes, if it agrees with what is decided.
-use Rattle.std.proofs.Common.{◌≡◌, List, [], ◌∷◌, ◌++◌, map, Bool, true, false, not, Option, Some, None, option_map, refl, sym, ◌∙◌, ap, ap₂, subst, append-nil, append_assoc}
+use Rattle.std.proofs.Common.{◌≡◌, List, [], ◌∷◌, ◌++◌, map, Bool, true, false, Option, Some, None, option_map, refl, sym, ◌∙◌, ap, ap₂, append-nil, append_assoc}
 use Rattle.std.proofs.lemmas.List.{map-append}
 use Rattle.ud_model.specs.declared.cond.Cond.{Cond}
 use Rattle.ud_model.specs.declared.cond.Cond.TheVariants.{Yes, No, Unknown}
 use Rattle.ud_model.specs.declared.verdict.Verdict.TheVariants.{Keep}
 use Rattle.ud_model.specs.Tree.{Opener, Nodes, Groups, Elifs, nothing, text, section, conditional, otherwise, first, elif}
-use Rattle.ud_model.specs.Pruning.{Part, an_if, an_elif, any_true, is_kept, conds_of_elifs}
+use Rattle.ud_model.specs.Pruning.{Part, an_if, an_elif}
 use Rattle.ud_model.specs.Worlds.{World, or_else, lines_or, where_true, selected, selected_groups, selected_elifs, EachReached, GroupsReached, ElifsReached, AgreesWith}
 use Rattle.ud_model.specs.Pruned.{Edited, edited, Left, none_kept, replaced, kept_groups, ended, then_nodes, with_group, with_else, then_left, pruned, left_of_groups, left_of_elifs}
 
