@@ -1,4 +1,4 @@
--- Changed: some line of a text differs exactly where the output isn't the input.
+-- Changed: some line of a text differs exactly if the output isn't the input.
 use Rattle.std.proofs.Common.{◌≡◌, ℕ, ◌+◌, ◌≤◌, List, [], ◌∷◌, ◌++◌, length, map, Bool, true, false, not, ◌&&◌, bytes_eq, Option, Some, None, refl, sym, ◌∙◌, ap, ap₂, subst, arith, append-nil, append_assoc, length-append}
 use Rattle.std.specs.List.{concat}
 use Rattle.ud_model.specs.Lines.{Line, text_of, texts_of, lines_of}
@@ -106,7 +106,7 @@ module _ (blank : Bool) where
   to_held false xs ms a = a
   to_held true xs ms a = fits_to_loose (judged_lines xs ms) a
 
-  -- an opener behind the first
+  -- an opener after the first
   opener_step : (xs : List (Item Reading)) (ms : List Mark) (x : Item Reading) (was now : Bool) (v : Verdict) → length xs ≡ length ms → HasWord (reading_of x) 4 →
       Moves was v now → Held was xs ms → Held now (xs ++ x ∷ []) (ms ++ marked true v ∷ [])
   opener_step xs ms x true true Remove e w m a = held_then true xs (x ∷ []) ms (marked true Remove ∷ []) e a (one_fits x true Remove tt)
@@ -146,7 +146,7 @@ module _ (blank : Bool) where
   more_long : (xs : List (Item Reading)) (ms : List Mark) (x : Item Reading) (m : Mark) → length xs ≡ length ms → length (xs ++ x ∷ []) ≡ length (ms ++ m ∷ [])
   more_long xs ms x m e = simp length-append (omega (arith, e))
 
-  -- a group behind others
+  -- a group after others
   group_held : (kept : Bool) (cs : List Cond) (part : Part) (c : Cond) (xs : List (Item Reading)) (ms : List Mark) (x : Item Reading) (ys : List (Item Reading)) (ns : List Mark) →
       length xs ≡ length ms → HasWord (reading_of x) 4 → Held (kept && is_past cs) xs ms → ItemsFit ys ns →
       Held (kept && is_past (cs ++ c ∷ [])) ((xs ++ x ∷ []) ++ ys) ((ms ++ marked kept (verdict_so_far cs part c) ∷ []) ++ ns)
@@ -216,7 +216,7 @@ piece_lone b c true before j e = cc
 piece_lone b true false before j e = refl
 piece_lone b false false before j e = refl
 
--- where lines aren't numbered, each is printed by itself
+-- if lines aren't numbered, each is printed by itself
 pub pieces_lone : (b c n : Bool) (before js : List Judged) → n ≡ false → pieces_by (piece_behind (record { blank = b; complement = c; renumber = n })) before js ≡ map (lone b c) js
 pieces_lone b c n before [] e = refl
 pieces_lone b c n before (j ∷ js) e =
@@ -272,7 +272,7 @@ pub no_innermost : (ns : Nodes Reading) (t : Tree Reading) (h : Head Reading) �
 no_innermost ns (closed b) h e = cc
 no_innermost ns (open_section ms t k) h e = no_innermost ms k t e
 
--- where a text ends without a fault, it ends in no comment, and no section is open
+-- if a text ends without a fault, it ends in no comment, and no section is open
 pub end_parts : (c : Bool) (n : ℕ) (o : Option (Opener Reading)) → end_by c n o ≡ None → (c ≡ false) × (o ≡ None)
 end_parts true n o e = cc
 end_parts false n (Some o) e = cc
@@ -286,7 +286,7 @@ module _ (o : Options) (n : o.settings.renumber ≡ false) (off : o.settings.lis
       subst (λ (ys : List (Item Reading)). some_differ_by o.settings ys (marks (closed ns)) ≡ not (bytes_eq (printed_by o.settings ys (marks (closed ns))) input)) l
       (closed_differs o.settings n input ns (subst (λ (ys : List (Item Reading)). Each HasKeyword ys) (sym l) k) (ap (λ (ys : List (Item Reading)). map line_of ys) l ∙ m))
 
-  -- some line differs exactly where the output isn't the input
+  -- some line differs exactly if the output isn't the input
   pub changed : {r : Outcome} → Runs o input r → r.fault ≡ None → r.differs ≡ not (bytes_eq r.output input)
   changed (stops xs t f s) e = cc
   changed (ends xs t g) e =

@@ -98,7 +98,7 @@ module _ (scan : Scan) where
   directive_front d e =
       at_sign (past_sign scan.masked) d refl (unless_cut (has_cut_keyword scan (past_sign scan.masked)) (found_behind scan (past_sign scan.masked)) d e)
 
--- where one of two holds, the first or the second does
+-- if one of two holds, the first or the second does
 pub either : (a b : Bool) → (a || b) ≡ true → (a ≡ true) ⊎ (b ≡ true)
 either true b e = inl refl
 either false b e = inr e

@@ -21,7 +21,7 @@ pub white_after-append : (w : Place) (white : Bool) (a b : List ℕ) → white_a
 white_after-append w white [] b = refl
 white_after-append w white (x ∷ a) b = white_after-append (next w x) (whitens w white x) a b
 
--- the last byte, as it is shown where a comment begins with it or not
+-- the last byte, as it is shown by whether a comment begins with it
 abbrev blanked : Bool → ℕ → ℕ
 blanked o c = if o then space else c
 
@@ -79,7 +79,7 @@ slash-last [] b = refl
 slash-last (c ∷ []) b = refl
 slash-last (c ∷ d ∷ m) b = slash-last (d ∷ m) b
 
--- where a literal is open, its quote is shown
+-- if a literal is open, its quote is shown
 abbrev pub Quoted : Place → List ℕ → Type 0
 Quoted in_text m = Unit {0}
 Quoted at_slash m = Unit {0}
@@ -89,7 +89,7 @@ Quoted in_line m = Unit {0}
 Quoted (in_literal q) m = has_quote m ≡ true
 Quoted (at_backslash q) m = has_quote m ≡ true
 
--- and where a text ends in a slash, that is shown
+-- and if a text ends in a slash, that is shown
 abbrev pub Shown : Place → List ℕ → Type 0
 Shown in_text m = Unit {0}
 Shown at_slash m = ends_in_slash m ≡ true
@@ -168,7 +168,7 @@ quoted_all (b ∷ bytes) w m h =
     let n : List ℕ = (if opens w b then blank_last m else m) ++ shows w b ∷ [] in
     quoted_all bytes (next w b) n (shown_quoted (next w b) n (shown_step w m b h))
 
--- behind a byte at least, what is open is shown
+-- after a byte at least, what is open is shown
 pub shown_all : (b : ℕ) (bytes : List ℕ) (w : Place) (m : List ℕ) → Quoted w m → Shown (place_after w (b ∷ bytes)) (masked_after w m (b ∷ bytes))
 shown_all b [] w m h = shown_step w m b h
 shown_all b (c ∷ bytes) w m h =

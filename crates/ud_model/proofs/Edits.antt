@@ -11,11 +11,11 @@ use Rattle.ud_model.specs.declared.verdict.Verdict.{Verdict}
 use Rattle.ud_model.specs.declared.verdict.Verdict.TheVariants.{Keep, Remove, ToIf, ToElse, ToEndif}
 use Rattle.ud_model.proofs.Sizes.{whole}
 
--- a group behind the first true one has come, behind the one that became the `#endif`
+-- a group after the first true one has come, after the one that became the `#endif`
 abbrev pub is_past : List Cond → Bool
 is_past cs = not (gives_way cs) && any_true cs && not (ends_with_first_true cs)
 
--- an opener behind such a group goes; one that becomes the `#endif` is such a group
+-- an opener after such a group goes; one that becomes the `#endif` is such a group
 abbrev pub Moves : Bool → Verdict → Bool → Type 0
 Moves true v now = (v ≡ Remove) × (now ≡ true)
 Moves false Keep now = Unit {0}
@@ -62,7 +62,7 @@ past_by false true true h = cc
 past_by false true false h = refl
 past_by false false e h = cc
 
--- behind such a group the `#endif` goes
+-- after such a group the `#endif` goes
 pub endif_past : (cs : List Cond) → is_past cs ≡ true → endif_verdict cs ≡ Remove
 endif_past cs h = past_by (gives_way cs) (any_true cs) (ends_with_first_true cs) h
 

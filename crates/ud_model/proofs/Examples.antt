@@ -8,7 +8,7 @@ use Rattle.ud_model.specs.Directives.{cut_keyword, directive, content_of}
 use Rattle.ud_model.specs.Directives.{text as no_directive}
 use Rattle.ud_model.specs.Table.{Argument}
 use Rattle.ud_model.specs.Conditions.{Rules, condition_of, undecided}
-use Rattle.ud_model.specs.Tree.{Opener, Tree, HasTree, text_line, if_line, elif_line, else_line, endif_line, nothing, text, section, conditional, otherwise, first, elif, else_head, closed, open_section, lines, depth}
+use Rattle.ud_model.specs.Tree.{Opener, Nodes, Tree, HasTree, text_line, if_line, elif_line, else_line, endif_line, nothing, text, section, conditional, otherwise, first, elif, else_head, closed, open_section, lines, depth}
 use Rattle.ud_model.specs.Pruning.{Mark, marks}
 use Rattle.ud_model.specs.Worlds.{selected, Agrees}
 use Rattle.ud_model.specs.Faults.{inappropriate_elif, inappropriate_else, inappropriate_endif, premature_eof}
@@ -263,8 +263,8 @@ abbrev pub some_world : ℕ → Bool
 some_world l = (l == 1) || (l == 5)
 
 -- `#if` on line 1, text on 2, `#else` on 3, text on 4
-abbrev pub with_else : ℕ → Tree ℕ
-with_else n = closed (section nothing (otherwise (first (opener_on n Unknown) (text nothing 2)) 3 (text nothing 4)) 6)
+abbrev pub with_else : ℕ → Nodes ℕ
+with_else n = section nothing (otherwise (first (opener_on n Unknown) (text nothing 2)) 3 (text nothing 4)) 6
 
 -- the first group is selected where its condition is true, else that of `#else`
 pub first_selected : selected some_world (with_else 1) ≡ 2 ∷ []
@@ -273,9 +273,9 @@ first_selected = refl
 pub else_selected : selected some_world (with_else 7) ≡ 4 ∷ []
 else_selected = refl
 
--- a world agrees with what is decided, up to the first true group
-pub agrees_with_true : Agrees some_world (closed (section nothing (conditional (elif (first (opener_on 1 Yes) nothing) (opener_on 2 Yes) nothing)) 3))
-agrees_with_true = (tt, ((refl, tt), tt, tt))
+-- a world agrees with what is decided of each opener that is reached: the one on line 2 isn't
+pub agrees_with_true : Agrees some_world (section nothing (conditional (elif (first (opener_on 1 Yes) nothing) (opener_on 2 Yes) nothing)) 3)
+agrees_with_true = (tt, ((refl, λ e. tt), λ e. cc))
 
-pub differs_from_false : ¬ (Agrees some_world (closed (section nothing (conditional (first (opener_on 1 No) nothing)) 2)))
+pub differs_from_false : ¬ (Agrees some_world (section nothing (conditional (first (opener_on 1 No) nothing)) 2))
 differs_from_false h = cc

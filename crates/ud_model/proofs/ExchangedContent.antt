@@ -17,7 +17,7 @@ past_all : (ws t : List ℕ) → Each IsWhite ws → StartsDark t → past_white
 past_all [] t h d = past_dark t d
 past_all (b ∷ ws) t h d = ap (λ (w : Bool). if w then past_white (ws ++ t) else b ∷ (ws ++ t)) h.0 ∙ past_all ws t h.1 d
 
--- the keyword isn't cut: nothing joins the line behind, or what is behind the sign settles it
+-- the keyword isn't cut: the line joins no next one, or what follows the sign settles it
 abbrev pub Settled : Scan → List ℕ → Type 0
 Settled now tail = (now.joins_after ≡ false) ⊎ (leaves_keyword now tail ≡ false)
 
@@ -66,7 +66,7 @@ unsettled : (b : Bool) → (b && false) ≡ false
 unsettled true = refl
 unsettled false = refl
 
--- `#elif X` with two spaces behind an `if` in place of its keyword is an `#if` with the same text behind two spaces
+-- `#elif X` with two spaces after an `if` in place of its keyword is an `#if` with the same text after two spaces
 pub to_if_content : (scan now : Scan) (d : Directive) → content_of scan ≡ directive d → now.masked ≡ take d.keyword.at scan.masked ++ (codes "if  " ++ d.after) →
     now.fresh ≡ scan.fresh → is_cut_off now ≡ is_cut_off scan →
     content_of now ≡ directive (record { kind = If; keyword = record { at = d.keyword.at; len = 2 }; after = 32 ∷ 32 ∷ d.after; broken = d.broken })
@@ -78,7 +78,7 @@ to_if_content scan now d e m f c =
     (inr (unsettled (is_cut_off now))) refl
     ∙ ap₂ (λ (n : ℕ) (b : Bool). directive (record { kind = If; keyword = record { at = n; len = 2 }; after = 32 ∷ 32 ∷ d.after; broken = b })) (sym p.at_is) (c ∙ sym p.broken_is)
 
--- a line that ends behind `else` or `endif` in place of its keyword, and joins no other
+-- a line that ends after `else` or `endif` in place of its keyword, and joins no other
 pub cut_content : (scan now : Scan) (d : Directive) (word : List ℕ) (k : Kind) → content_of scan ≡ directive d → now.masked ≡ take d.keyword.at scan.masked ++ word →
     now.fresh ≡ scan.fresh → now.joins_after ≡ false → is_cut_off now ≡ false → StartsDark word → word_in_front word ≡ word → past_word word ≡ [] → kind_of word ≡ Some k →
     content_of now ≡ directive (record { kind = k; keyword = record { at = d.keyword.at; len = length word }; after = []; broken = false })

@@ -22,7 +22,7 @@ Sane in_line white = Unit {0}
 Sane (in_literal q) white = white ≡ false
 Sane (at_backslash q) white = white ≡ false
 
--- where a line is fresh no literal is open before it
+-- if a line is fresh no literal is open before it
 fresh_quoted : (w : Place) (white : Bool) (t : List ℕ) → Sane w white → fresh_at w white t ≡ true → Quoted w []
 fresh_quoted in_text white t s f = tt
 fresh_quoted at_slash white t s f = tt
@@ -43,7 +43,7 @@ fresh_first in_line white (y ∷ a) t u n e = refl
 fresh_first (in_literal q) white (y ∷ a) t u n e = refl
 fresh_first (at_backslash q) white (y ∷ a) t u n e = refl
 
--- where a keyword is seen, the text before it is between pieces
+-- if a keyword is seen, the text before it is between pieces
 keyword_place : (w : Place) (bytes front : List ℕ) (c : ℕ) (rest : List ℕ) (n : ℕ) → has_quote front ≡ false → ends_in_slash front ≡ false → c ≢ space → c ≢ line_feed →
     Quoted w [] → length front ≡ suc n → masked_after w [] bytes ≡ front ++ c ∷ rest → Found w bytes front c rest
 keyword_place w [] front c rest n u s p q k l e =
@@ -123,7 +123,7 @@ pub record Exchanged (w : Place) (white before : Bool) (l k : Line) (d : Directi
   pub place_is : place_after w (content k) ≡ place_after w (content l)
   pub white_is : white_after w white (content k) ≡ white_after w white (content l)
 
--- where the new keyword begins nothing either, a line is seen so
+-- if the new keyword begins nothing either, a line is seen so
 pub exchanged_scan : (w : Place) (white before : Bool) (l k : Line) (d : Directive) (c : ℕ) (word : List ℕ) → Sane w white →
     content_of (scan_from w white before l) ≡ directive d → Each IsInert (c ∷ word) → is_white c ≡ false →
     content k ≡ take d.keyword.at (content l) ++ ((c ∷ word) ++ drop (d.keyword.at + d.keyword.len) (content l)) →
@@ -154,13 +154,13 @@ exchanged_scan w white before l k d c word s e i n are =
           ∙ white_other w p.before p.more p.front d.after p.place p.masks p.ends white p.first p.word p.inert p.dark);
     }
 
--- a line that ends behind its new keyword is seen up to there, and leaves off between pieces
+-- a line that ends after its new keyword is seen up to there, and leaves off between pieces
 pub record CutOff (w : Place) (white before : Bool) (l k : Line) (d : Directive) (word : List ℕ) : Type 0 where
   pub masked_is : (scan_from w white before k).masked ≡ take d.keyword.at (scan_from w white before l).masked ++ word
   pub fresh_is : (scan_from w white before k).fresh ≡ (scan_from w white before l).fresh
   pub place_is : place_after w (content k) ≡ in_text
 
--- where that begins nothing, a line is seen so
+-- if that begins nothing, a line is seen so
 pub cut_scan : (w : Place) (white before : Bool) (l k : Line) (d : Directive) (word : List ℕ) → Sane w white →
     content_of (scan_from w white before l) ≡ directive d → Each IsInert word → content k ≡ take d.keyword.at (content l) ++ word → CutOff w white before l k d word
 unfolding scan_from

@@ -171,7 +171,7 @@ pub record IsOther (q : ℕ) : Type 0 where
   pub no_else : (101 == q) ≡ false
   pub no_endif : (102 == q) ≡ false
 
--- an edited body ends in such a byte only where the body does
+-- an edited body ends in such a byte only if the body does
 pub edited_end : (q : ℕ) → IsOther q → (v : Verdict) (k : Span) (b : List ℕ) → EndsIn q (edited_body v k b) → EndsIn q b
 unfolding edited_body
 edited_end q o Keep k b h = h

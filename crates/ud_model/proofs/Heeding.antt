@@ -1,4 +1,4 @@
--- Where no argument has plain sections, no section ignores, and every line is read in one mode.
+-- If no argument has plain sections, no section ignores, and every line is read in one mode.
 use Rattle.std.proofs.Common.{◌≡◌, ℕ, List, [], ◌∷◌, ◌++◌, Bool, true, false, not, ◌&&◌, ◌||◌, Option, Some, None, bytes_eq, if◌then◌else◌, refl, sym, ◌∙◌, ap, ap₂, subst}
 use Rattle.ud_model.specs.Lines.{Line}
 use Rattle.ud_model.specs.Scans.{Reading}
@@ -16,7 +16,7 @@ use Rattle.ud_model.proofs.Each.{Each, each_parts, each_both}
 use Rattle.ud_model.proofs.Growth.{Adds}
 use Rattle.ud_model.proofs.Unique.{unique, tree_before}
 
--- these items, each of a line that is read in this mode behind those before
+-- these items, each of a line that is read in this mode after those before
 pub data ReadIn (o : Options) (m : Mode) : List (Item Reading) → Type 0 where
   none_read : ReadIn o m []
   one_read : (ys : List (Item Reading)) → ReadIn o m ys → (l : Line) → ReadIn o m (ys ++ item_of o (read_after ys m l) ∷ [])
@@ -107,7 +107,7 @@ or_false true = refl
 or_false false = refl
 
 module _ (o : Options) (n : NoneIgnores o.table) where
-  -- behind lines none of which ignores the mode is the one mode
+  -- after lines none of which ignores the mode is the one mode
   pub one_mode : (xs : List (Item Reading)) (t : Tree Reading) → lines t ≡ xs → Each Heeds xs → mode_after o t ≡ the_mode o
   one_mode xs t e h =
       ap (λ (b : Bool). mode_by (o.settings.plain || b)) (tree_heeds t (subst (Each Heeds) (sym e) h)) ∙ ap mode_by (or_false o.settings.plain)

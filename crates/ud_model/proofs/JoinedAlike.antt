@@ -1,7 +1,7 @@
 -- Of two lines that are joined both go or both stay, in a text without a fault.
 --
--- A line's place counts as kept before and behind it: `before` tells whether the text before the line ends in a kept
--- place, `behind` the same of the text with it.
+-- A line's place counts as kept before and after it: `before` tells whether the text before the line ends in a kept
+-- place, `after` the same of the text with it.
 use Rattle.std.proofs.Common.{◌≡◌, List, [], ◌∷◌, ◌++◌, Bool, true, false, not, ◌&&◌, ◌||◌, IsTrue, refl, sym, ◌∙◌, ap, subst, append-nil, append_assoc}
 use Rattle.ud_model.specs.declared.cond.Cond.{Cond}
 use Rattle.ud_model.specs.declared.cond.Cond.TheVariants.{Yes, No, Unknown}
@@ -19,12 +19,12 @@ use Rattle.ud_model.proofs.Suited.{Suits, suits_marked, suits_if, suits_elif, su
 use Rattle.ud_model.proofs.Stages.{Stage, leading, given, going, at_true, past, stage, verdict_at, kept_at, verdict_by_stage, kept_by_stage}
 
 module _ {L : Type 0} where
-  -- the text ends in a kept place, where it begins in one or not
+  -- the text ends in a kept place, by whether it begins in one
   abbrev pub ends_kept : Bool → Tree L → Bool
   ends_kept kept (closed ns) = kept
   ends_kept kept (open_section ns h t) = ends_kept (kept && is_inside_kept h) t
 
--- what a line does: the mark that it gets, by the place before it, and the place behind it
+-- what a line does: the mark that it gets, by the place before it, and the place after it
 pub data Does {L : Type 0} : Item L → Bool → Mark → Bool → Type 0 where
   does_text : (l : L) (before : Bool) → Does (text_line l) before (marked before Keep) before
   -- in the place before, a section opens
@@ -105,7 +105,7 @@ module _ {L : Type 0} where
       let g : Grows (kept && is_inside_kept h) t u _ = grows (kept && is_inside_kept h) a in
       record { mark = g.mark; more = rw g.more simp append_assoc; does = g.does; suits = g.suits }
 
--- a line that joins the next one goes exactly where the place behind it isn't kept
+-- a line that joins the next one goes exactly if the place after it isn't kept
 abbrev pub Carried : Item Reading → Mark → Bool → Type 0
 Carried x m behind = (reading_of x).scan.joins_after ≡ true → is_removed m.verdict ≡ not behind
 
@@ -155,7 +155,7 @@ inside_not : (v : Verdict) (inside : Bool) → (IsTrue (keeps_rest v) → inside
 inside_not v inside k h = keeps_stays v h ∙ ap (λ (b : Bool). not b) (sym (k h))
 
 module _ (removed : Bool) where
-  -- what is known behind a line that isn't spoiled and joins the next one
+  -- what is known after a line that isn't spoiled and joins the next one
   pub carried_step : {x : Item Reading} {before behind : Bool} {m : Mark} → Does x before m behind → is_spoiled_behind removed x m ≡ false → Carried x m behind
   carried_step (does_text l before) e j = marked_text before
   carried_step (does_if o false v inside k) e j = refl

@@ -21,7 +21,7 @@ length-masked_after (b ∷ bytes) w m =
     let c : length (n ++ shows w b ∷ []) ≡ length n + 1 = length-append n (shows w b ∷ []) in
     length-masked_after bytes (next w b) (n ++ shows w b ∷ []) ∙ omega (arith, a, c)
 
--- where the masked line goes on with this byte behind these, the text before the byte is between pieces
+-- if the masked line goes on with this byte after these, the text before the byte is between pieces
 pub record Found (w : Place) (content front : List ℕ) (c : ℕ) (rest : List ℕ) : Type 0 where
   pub before : List ℕ
   pub behind : List ℕ
@@ -48,7 +48,7 @@ module _ (c : ℕ) (front : List ℕ) (unquoted : has_quote front ≡ false) (un
   line_by true x e g = no_feed (sym g ∙ eqb-true x line_feed e)
   line_by false x e g = no_space (sym g)
 
-  -- where it goes on so, the text is between pieces
+  -- if it goes on so, the text is between pieces
   is_text : (p : Place) (m : List ℕ) (x : ℕ) → Shown p m → (if opens p x then blank_last m else m) ≡ front → shows p x ≡ c → (p ≡ in_text) × (m ≡ front)
   is_text in_text m x h e g = (refl, e)
   is_text at_slash m x h e g = absurd (slash_by (x == star) (x == slash) m x h e g)
@@ -96,7 +96,7 @@ pub record IsInert (c : ℕ) : Type 0 where
 next_inert : (c : ℕ) → IsInert c → next in_text c ≡ in_text
 next_inert c i = ap₂ (λ (s q : Bool). if s then at_slash else if q then in_literal c else in_text) i.no_slash i.no_quote
 
--- behind bytes that begin nothing the text is between pieces
+-- after bytes that begin nothing the text is between pieces
 pub place_inert : (word : List ℕ) → Each IsInert word → place_after in_text word ≡ in_text
 place_inert [] h = refl
 place_inert (c ∷ word) h = ap (λ (v : Place). place_after v word) (next_inert c h.0) ∙ place_inert word h.1

@@ -104,6 +104,6 @@ by_content o r cut_keyword e s h = tt
 by_content o r text e s h = tt
 by_content o r (directive d) e s h = item_keyword r d.kind (decision_on r.scan d o.table (rules_of o.settings)) (ap (λ (c : Content). (keyword_in c).len) e ∙ s) h
 
--- the keyword of an item lies in its line, where what is seen of the line isn't longer
+-- the keyword of an item lies in its line, if what is seen of the line isn't longer
 pub has_keyword : (o : Options) (r : Reading) → length r.scan.masked ≤ length r.line.body → HasKeyword (item_of o r)
 has_keyword o r h = by_content o r (content_of r.scan) refl (content_size r.scan) h

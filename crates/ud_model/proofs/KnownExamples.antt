@@ -28,7 +28,7 @@ module _ (u : Bool) where
   a_is_five = of_known_name {z = pos 5} refl
 
   -- an undefined A is 0
-  a_is_nought : CValue without u (named (codes "A") false) (signed (pos 0))
+  pub a_is_nought : CValue without u (named (codes "A") false) (signed (pos 0))
   unfolding suffix_sign name_value name_has_u end_of
   a_is_nought = of_known_name {z = pos 0} refl
 

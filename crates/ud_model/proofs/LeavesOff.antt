@@ -1,4 +1,4 @@
--- Where lines in C mode leave off: what a line behind them is seen by.
+-- Where lines in C mode leave off: what a line after them is seen by.
 use Rattle.std.proofs.Common.{◌≡◌, ◌≢◌, ℕ, List, [], ◌∷◌, ◌++◌, map, Bool, true, false, refl, sym, ◌∙◌, ap, ap₂, subst, if◌then◌else◌, ◌==◌, ◌&&◌, ◌⊎◌, inl, inr, eqb-true}
 use Rattle.std.proofs.lemmas.List.{map-append}
 use Rattle.ud_model.specs.Bytes.{is_white, is_quote, slash, star, line_feed, backslash}
@@ -69,7 +69,7 @@ sane_backslash : (q : ℕ) (f w white : Bool) → white ≡ false → Sane (if f
 sane_backslash q true w white e = tt
 sane_backslash q false w white e = ap (λ (b : Bool). b && w) e
 
--- so it is behind one byte more
+-- so it is after one byte more
 pub sane_step : (w : Place) (white : Bool) (b : ℕ) → Sane w white → Sane (next w b) (whitens w white b)
 sane_step in_text white b s = sane_text (b == slash) (is_quote b) white b refl refl
 sane_step at_slash white b s = sane_slash (b == star) (b == slash) (is_quote b) white b refl
@@ -101,7 +101,7 @@ joins_none : joins [] ≡ false
 unfolding joins
 joins_none = ap is_block (kind_at_place Reads-nil)
 
--- where no line in C mode stands before them, lines leave off between lines
+-- if no line in C mode stands before them, lines leave off between lines
 pub nowhere : (xs : List (Item Reading)) → run_of (map reading_of xs) ≡ [] → LeavesOff xs in_text true false
 nowhere xs e = record {
   reads = subst (λ (run : List Line). Reads (joined run) in_text true) (sym e) Reads-nil;
@@ -131,7 +131,7 @@ pub readings_last : (o : Options) (xs ys : List (Item Reading)) (m : Mode) (l : 
 readings_last o xs ys m l =
     map-append reading_of ys (item_of o (read_after xs m l) ∷ []) ∙ ap (λ (r : Reading). map reading_of ys ++ r ∷ []) (reading_of-item_of o (read_after xs m l))
 
--- lines with one more join the next one where that line does
+-- lines with one more join the next one if that line does
 pub joins_next : (o : Options) (xs : List (Item Reading)) (l : Line) →
     (scan_after (map reading_of xs) C l).joins_after ≡ joins (run_of (map reading_of (xs ++ item_of o (read_after xs C l) ∷ [])))
 joins_next o xs l =
@@ -150,7 +150,7 @@ leaves_next o xs w white on l a = record {
   joins_on = joins_next o xs l;
 }
 
--- where it joins nothing and has an ending, they leave off between lines
+-- if it joins nothing and has an ending, they leave off between lines
 pub leaves_anew : (o : Options) (xs : List (Item Reading)) (l : Line) → (scan_after (map reading_of xs) C l).joins_after ≡ false → HasEnd l →
     LeavesOff (xs ++ item_of o (read_after xs C l) ∷ []) in_text true false
 leaves_anew o xs l j e =

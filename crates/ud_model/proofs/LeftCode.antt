@@ -1,4 +1,4 @@
--- What is left of a line in C mode, read again where the lines before and what is left of them leave off alike.
+-- What is left of a line in C mode, read again if the lines before and what is left of them leave off alike.
 use Rattle.std.proofs.Common.{◌≡◌, ◌≢◌, ℕ, List, [], ◌∷◌, ◌++◌, map, take, Bool, true, false, ◌||◌, codes, refl, sym, ◌∙◌, ap, ap₂, subst}
 use Rattle.ud_model.specs.Bytes.{backslash}
 use Rattle.ud_model.specs.Lines.{Line, text_of}
@@ -67,7 +67,7 @@ module _ (o : Options) where
   abbrev with_line : List (Item Reading) → Line → List (Item Reading)
   with_line xs l = xs ++ item_of o (read_after xs C l) ∷ []
 
-  -- behind a line that joins nothing, these leave off between lines
+  -- after a line that joins nothing, these leave off between lines
   anew_rests : (ys : List (Item Reading)) (k : Line) → (scan_after (map reading_of ys) C k).joins_after ≡ false → HasEnd k → Rests (ys ++ item_of o (read_after ys C k) ∷ [])
   anew_rests ys k e h = record {
     off = leaves_anew o ys k e h;
@@ -79,7 +79,7 @@ module _ (o : Options) where
     has_end : HasEnd l → HasEnd k
     has_end h = subst (λ (e : List ℕ). e ≢ []) (sym ending) h
 
-    -- behind a line that goes on as before
+    -- after a line that goes on as before
     kept_carry : NextAlike w white l k → (scan_after (map reading_of ys) C k).joins_after ≡ (scan_after (map reading_of xs) C l).joins_after → HasEnd l →
         Carry false (with_line xs l) (with_line ys k)
     kept_carry n j h =
@@ -93,7 +93,7 @@ module _ (o : Options) where
         (scan_after (map reading_of xs) C l).joins_after (leaves_next o xs w white on l a) (leaves_as p q j (leaves_next o ys w white on k c)) (λ e. refl)
         (λ e. anew_rests ys k (j ∙ e) (has_end h))
 
-    -- behind a line that joins nothing, before and now
+    -- after a line that joins nothing, before and now
     cut_carry : (scan_after (map reading_of xs) C l).joins_after ≡ false → (scan_after (map reading_of ys) C k).joins_after ≡ false → HasEnd l →
         Carry false (with_line xs l) (with_line ys k)
     cut_carry e f h =

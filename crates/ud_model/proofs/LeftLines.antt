@@ -104,7 +104,7 @@ module _ (keyword : Span) (l k : Line) (within : keyword.at + keyword.len ≤ le
   if_line_content h = if_by (is_spliced l) refl h
 
   module _ (word : List ℕ) (ends : EndsIn backslash (take keyword.at l.body ++ word) → ⊥) (b : k.body ≡ take keyword.at l.body ++ word) where
-    -- a line that ends behind its new keyword isn't spliced
+    -- a line that ends after its new keyword isn't spliced
     pub cut_splice : is_spliced k ≡ false
     unfolding EndsIn
     cut_splice = go (is_spliced k) refl

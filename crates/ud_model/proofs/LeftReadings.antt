@@ -33,19 +33,19 @@ module _ (o : Options) (r q : Reading) where
   left_if d e k s b =
       let c = to_if_content r.scan q.scan d e s.masked_is s.fresh_is s.cut_is in
       record {
-        item = if_item o r q d e k c b;
+        item = if_item o r q d e k c s.joins_is b;
         uncut = ap is_cut c;
         ends = λ h. ap is_in_block s.comment_is ∙ h;
       }
 
-  -- an `#elif` that ends behind `else`
+  -- an `#elif` that ends after `else`
   pub left_else : (d : Directive) → content_of r.scan ≡ directive d → d.kind ≡ Elif → SeenCut r.scan q.scan d (codes "else") →
       line_bytes q ≡ edited_bytes (edited ToElse r) → Left o ToElse r q
   left_else d e k s b =
       let c = cut_content r.scan q.scan d (codes "else") Else e s.masked_is s.fresh_is s.joins_is s.cut_is refl refl refl refl in
       record { item = else_item o r q d _ e k c refl b; uncut = ap is_cut c; ends = λ h. s.calm }
 
-  -- an `#elif` or `#else` that ends behind `endif`
+  -- an `#elif` or `#else` that ends after `endif`
   pub left_endif : (d : Directive) → content_of r.scan ≡ directive d → (d.kind ≡ Elif) ⊎ (d.kind ≡ Else) → SeenCut r.scan q.scan d (codes "endif") →
       line_bytes q ≡ edited_bytes (edited ToEndif r) → Left o ToEndif r q
   left_endif d e k s b =

@@ -29,7 +29,7 @@ pub record SeenAsIf (s now : Scan) (d : Directive) : Type 0 where
   pub joins_is : now.joins_after ≡ s.joins_after
   pub comment_is : now.comment ≡ s.comment
 
--- a line that ends behind its new keyword is seen up to there, and joins nothing
+-- a line that ends after its new keyword is seen up to there, and joins nothing
 pub record SeenCut (s now : Scan) (d : Directive) (word : List ℕ) : Type 0 where
   pub masked_is : now.masked ≡ take d.keyword.at s.masked ++ word
   pub fresh_is : now.fresh ≡ s.fresh
@@ -37,7 +37,7 @@ pub record SeenCut (s now : Scan) (d : Directive) (word : List ℕ) : Type 0 whe
   pub joins_is : now.joins_after ≡ false
   pub calm : is_in_block now.comment ≡ false
 
--- two lines leave off alike behind a text that leaves off there
+-- two lines leave off alike after a text that leaves off there
 pub record NextAlike (w : Place) (white : Bool) (l k : Line) : Type 0 where
   pub stays_is : stays_open k ≡ stays_open l
   pub place_is : place_after w (content k) ≡ place_after w (content l)
@@ -63,7 +63,7 @@ plain_if l k d e h = record {
   comment_is = refl;
 }
 
--- and so is one that ends behind its new keyword
+-- and so is one that ends after its new keyword
 pub plain_cut : (l k : Line) (d : Directive) (word : List ℕ) → k.body ≡ take d.keyword.at l.body ++ word → SeenCut (plain_scan l) (plain_scan k) d word
 plain_cut l k d word b = record { masked_is = b; fresh_is = refl; cut_is = refl; joins_is = refl; calm = refl }
 
@@ -127,7 +127,7 @@ calm_in_text : (t : Bool) → place_kind (closed_place t in_text) ≡ single
 calm_in_text true = refl
 calm_in_text false = refl
 
--- a line that ends behind its new keyword
+-- a line that ends after its new keyword
 pub cut_seen : (w : Place) (white on : Bool) (l k : Line) (d : Directive) (word : List ℕ) → Sane w white → content_of (scan_from w white on l) ≡ directive d →
     Each IsInert word → (EndsIn backslash (take d.keyword.at l.body ++ word) → ⊥) → k.body ≡ take d.keyword.at l.body ++ word →
     SeenCut (scan_from w white on l) (scan_from w white on k) d word

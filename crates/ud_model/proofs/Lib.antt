@@ -25,6 +25,7 @@ pub mod ConditionLemmas
 pub mod KnownNumbers
 pub mod KnownStays
 pub mod KnownExamples
+pub mod CSelectionExamples
 pub mod WrongRules
 pub mod ParsingComplete
 pub mod ParsingSound
@@ -70,3 +71,7 @@ pub mod SoundBounds
 pub mod SoundAgain
 pub mod LeavesOff
 pub mod OutputPieces
+pub mod CConditions
+pub mod CSelected
+pub mod SeenLines
+pub mod PrunedOpeners

@@ -169,7 +169,7 @@ module _ {L : Type 0} where
   by_place true ns h = h
   by_place false ns h = nodes_gone ns
 
-  -- what is left of a group behind others
+  -- what is left of a group after others
   elif_has : (cs : List Cond) (left : Left L) (o : Opener L) (ns : Nodes L) (xs : List (Item L)) (ms : List Mark) → length xs ≡ length ms → Has cs left (printed xs ms) →
       printed (lines_of_nodes ns) (nodes_so_far true ns) ≡ lines_of_nodes (pruned ns) →
       Has (cs ++ o.cond ∷ []) (with_group left an_elif o o.cond (pruned ns))

@@ -12,9 +12,11 @@ use Rattle.ud_model.specs.Items.{Options, reading_of, line_of, next_item}
 use Rattle.ud_model.specs.Faults.{Fault, AreSound, no_lines, one_more, end_fault, end_by, ends_in_comment, last_number}
 use Rattle.ud_model.specs.Printing.{Judged, judged_lines, piece_by, piece_behind, pieces_by, style_of, some_other, keyword_in, printed_by}
 use Rattle.ud_model.specs.Runs.{Outcome, Runs, stops, ends, GoesThrough, output_by, differs_by}
-use Rattle.ud_model.specs.Worlds.{World, selected_nodes, NodesAgree, openers}
+use Rattle.ud_model.specs.Worlds.{World, selected, Agrees, openers}
 use Rattle.ud_model.specs.Pruned.{Edited, edited, pruned, printed, left_item, IsUndecided, GroupsUndecided, ElifsUndecided}
-use Rattle.ud_model.specs.Rereading.{IsPlain, AreRead, no_items, one_item, IsTreeOf, LinesFit, line_bytes, edited_bytes}
+use Rattle.ud_model.specs.Rereading.{IsPlain, AreRead, no_items, one_item, IsTreeOf, HasTrees, KeepsTruths, LinesFit, line_bytes, edited_bytes}
+use Rattle.ud_model.specs.Expressions.{Expression}
+use Rattle.ud_model.specs.CSelection.{condition_in, IsCWorld}
 use Rattle.ud_model.specs.declared.settings.Listing.{Listing}
 use Rattle.ud_model.specs.declared.verdict.Verdict.{Verdict}
 use Rattle.ud_model.specs.declared.verdict.Verdict.TheVariants.{Keep, Remove, ToIf, ToElse, ToEndif}
@@ -24,10 +26,12 @@ use Rattle.ud_model.proofs.Soundness.{sound_lines, reading_of-next}
 use Rattle.ud_model.proofs.Changed.{whole_lines_are, lines_join, lone, pieces_lone, no_innermost, end_parts}
 use Rattle.ud_model.proofs.PrintedPruned.{printed-pruned}
 use Rattle.ud_model.proofs.SelectedPruned.{selected-pruned}
-use Rattle.ud_model.proofs.SameShape.{same_selected}
+use Rattle.ud_model.proofs.SameShape.{same_selected, openers-with}
+use Rattle.ud_model.proofs.SeenLines.{Seen, seen, left_condition, left_seen, with_lines-twice, map-twice}
+use Rattle.ud_model.proofs.PrunedOpeners.{KeepsCondition, Keeps, pruned_keeps}
 use Rattle.ud_model.proofs.TreeAlong.{AlongNodes, nodes_along}
 use Rattle.ud_model.proofs.Undecided.{Stays, pruned_undecided, undecided_stay}
-use Rattle.ud_model.proofs.Each.{Each}
+use Rattle.ud_model.proofs.Each.{Each, Pairwise}
 use Rattle.ud_model.proofs.Sizes.{whole}
 use Rattle.ud_model.proofs.Stays.{length_marks}
 use Rattle.std.proofs.lemmas.Slice.Eq.{bytes_eq-Decides}
@@ -41,6 +45,7 @@ use Rattle.ud_model.specs.Height.{height, height_of_nodes}
 use Rattle.ud_model.specs.declared.limits.TheConstants.{OPEN_SECTIONS}
 use Rattle.ud_model.proofs.RereadChain.{AllButLast, lines_end, again}
 use Rattle.ud_model.proofs.LinesLemmas.{lines_exist}
+use Rattle.ud_model.proofs.CSelected.{Clear, sound_clear, c_agrees}
 
 sound_read : {o : Options} {xs : List (Item Reading)} {t : Tree Reading} → AreSound o xs t → AreRead o xs t
 sound_read no_lines = no_items
@@ -123,9 +128,13 @@ map_readings : (ys : List (Item Reading)) → map (λ y. line_bytes (reading_of 
 map_readings [] = refl
 map_readings (y ∷ ys) = ap₂ (λ (a : List ℕ) (b : List (List ℕ)). a ∷ b) (ap line_bytes (line_read y)) (map_readings ys)
 
-item_bytes : (ys : List (Item Reading)) (zs : List (Item (Edited Reading))) → map (item_with line_bytes) ys ≡ map (item_with edited_bytes) zs →
+item_bytes : (ys : List (Item Reading)) (zs : List (Item (Edited Reading))) → map (item_with seen) ys ≡ map (item_with left_seen) zs →
     map (λ y. line_bytes (reading_of y)) ys ≡ map left_piece zs
-item_bytes ys zs e = map_readings ys ∙ sym (map_lines line_bytes ys) ∙ ap (λ (l : List (Item (List ℕ))). map line_in l) e ∙ map_lines edited_bytes zs
+item_bytes ys zs e =
+    let bytes : List Seen → List (List ℕ) = map (λ (s : Seen). s.bytes) in
+    map_readings ys ∙ sym (map-twice (λ (y : Item Reading). seen (line_in y)) (λ (s : Seen). s.bytes) ys)
+    ∙ ap bytes (sym (map_lines seen ys) ∙ ap (λ (l : List (Item Seen)). map line_in l) e ∙ map_lines left_seen zs)
+    ∙ map-twice (λ (z : Item (Edited Reading)). left_seen (line_in z)) (λ (s : Seen). s.bytes) zs
 
 kept_bytes : (ls : List Reading) → map edited_bytes (map (edited Keep) ls) ≡ map line_bytes ls
 kept_bytes [] = refl
@@ -144,6 +153,7 @@ module _ (o : Options) (p : IsPlain o) (input : List ℕ) where
   pub record Result (r : Outcome) (ns : Nodes Reading) : Type 0 where
     pub tree : Nodes Reading
     pub is_tree : IsTreeOf o r.output (closed tree)
+    pub alike : with_lines seen tree ≡ with_lines left_seen (pruned ns)
     pub same : with_lines line_bytes tree ≡ with_lines edited_bytes (pruned ns)
     pub uncut : Each IsUncut is_tree.items
     pub few : Each IsFew is_tree.items
@@ -158,8 +168,11 @@ module _ (o : Options) (p : IsPlain o) (input : List ℕ) where
       let z : (ys : List (Item Reading)) × Again o (the_mode o) xs t ys = again o p xs t g.sound (subst AllButLast g.are (lines_end 1 (texts_of input) (lines_exist input).formed)) in
       let left : printed xs (marks t) ≡ lines_of_nodes (pruned ns) =
       ap₂ (λ (ys : List (Item Reading)) (u : Tree Reading). printed ys (marks u)) (sym (sound_lines g.sound) ∙ ap (λ (u : Tree Reading). lines u) same) same ∙ printed-pruned ns in
-      let along : AlongNodes edited_bytes line_bytes (pruned ns) z.0 =
-      nodes_along edited_bytes line_bytes (pruned ns) z.0 (z.1.same ∙ ap (λ (l : List (Item (Edited Reading))). map (item_with edited_bytes) l) left) in
+      let along : AlongNodes left_seen seen (pruned ns) z.0 =
+      nodes_along left_seen seen (pruned ns) z.0 (z.1.same ∙ ap (λ (l : List (Item (Edited Reading))). map (item_with left_seen) l) left) in
+      let bytes : with_lines line_bytes along.tree ≡ with_lines edited_bytes (pruned ns) =
+      sym (with_lines-twice seen (λ (q : Seen). q.bytes) along.tree) ∙ ap (λ (m : Nodes Seen). with_lines (λ (q : Seen). q.bytes) m) along.same
+      ∙ with_lines-twice left_seen (λ (q : Seen). q.bytes) (pruned ns) in
       let formed : AreFormed (map left_piece (printed xs (marks t))) =
       subst (λ (u : Tree Reading). AreFormed (map left_piece (printed xs (marks u)))) (sym same)
       (pieces_formed o input xs ns (subst (λ (u : Tree Reading). GoesThrough o (lines_of input) xs u) same g)) in
@@ -173,25 +186,62 @@ module _ (o : Options) (p : IsPlain o) (input : List ℕ) where
           are = ap lines_of out ∙ output_lines (map left_piece (printed xs (marks t))) formed
               ∙ ap (λ (l : List (List ℕ)). numbered_from 1 l) (sym (item_bytes z.0 (printed xs (marks t)) z.1.same)) ∙ sym z.1.numbered;
         };
-        same = along.same;
+        alike = along.same;
+        same = bytes;
         uncut = z.1.uncut;
         few = again_few o (the_mode o) xs t z.0 z.1 (sound_few o xs t (texts_of input) g.sound (sym g.are));
-        low = low_left along.tree ns along.same (subst (λ (u : Tree Reading). height u ≤ OPEN_SECTIONS) same (sound_low o xs t g.sound));
+        low = low_left along.tree ns bytes (subst (λ (u : Tree Reading). height u ≤ OPEN_SECTIONS) same (sound_low o xs t g.sound));
         calm = z.1.ends (end_parts (ends_in_comment xs) (last_number xs) (innermost t) e).0;
       }
 
-  same_nodes : (ns ms : Nodes Reading) → ◌≡◌ {A = Tree Reading} (closed ns) (closed ms) → ns ≡ ms
-  same_nodes ns ms e = cc
+same_nodes : (ns ms : Nodes Reading) → ◌≡◌ {A = Tree Reading} (closed ns) (closed ms) → ns ≡ ms
+same_nodes ns ms e = cc
+
+kept_condition : (v : Verdict) (l : Reading) → KeepsCondition v → left_condition v l ≡ condition_in l
+kept_condition Keep l h = refl
+kept_condition Remove l h = absurd h
+kept_condition ToIf l h = refl
+kept_condition ToElse l h = absurd h
+kept_condition ToEndif l h = absurd h
+
+kept_conditions : (es : List (Edited Reading)) → Each Keeps es → map (λ (e : Edited Reading). (left_seen e).condition) es ≡ map (λ (e : Edited Reading). condition_in e.line) es
+kept_conditions [] h = refl
+kept_conditions (e ∷ es) h = ap₂ (λ (x : Option Expression) (xs : List (Option Expression)). x ∷ xs) (kept_condition e.verdict e.line h.0) (kept_conditions es h.1)
+
+module _ {o : Options} {input : List ℕ} {r : Outcome} {ns us : Nodes Reading} (k : HasTrees o input r ns us) where
+  -- what the output has is what is left of the input
+  abbrev result : Result o k.clean.plain input r ns
+  result = reread o k.clean.plain input k.clean.runs k.clean.faultless ns k.of_input
+
+  -- and its tree is the one that it has
+  same_tree : us ≡ result.tree
+  same_tree = same_nodes us result.tree (one_tree_of o r.output (closed us) (closed result.tree) k.of_output result.is_tree)
 
   -- what is selected of the output is what is selected of the input
-  pub selected_again : {r : Outcome} → Runs o input r → r.fault ≡ None → (ns : Nodes Reading) → IsTreeOf o input (closed ns) → (us : Nodes Reading) → IsTreeOf o r.output (closed us) →
-      (w v : World Reading) → NodesAgree w true ns → map v (openers us) ≡ map (λ e. w e.line) (openers (pruned ns)) →
-      map line_bytes (selected_nodes v us) ≡ map line_bytes (selected_nodes w ns)
-  selected_again {r} d e ns a us b w v g t =
-      let z : Result r ns = reread d e ns a in
-      let q : us ≡ z.tree = same_nodes us z.tree (one_tree_of o r.output (closed us) (closed z.tree) b z.is_tree) in
-      same_selected line_bytes edited_bytes v (λ (x : Edited Reading). w x.line) us (pruned ns) (ap (with_lines line_bytes) q ∙ z.same) t
-      ∙ ap (λ (l : List (Edited Reading)). map edited_bytes l) (sym (selected-pruned w ns g)) ∙ kept_bytes (selected_nodes w ns)
+  pub selected_again : (w v : World Reading) → Agrees w ns → KeepsTruths w ns v us → map line_bytes (selected v us) ≡ map line_bytes (selected w ns)
+  selected_again w v g t =
+      same_selected line_bytes edited_bytes v (λ (x : Edited Reading). w x.line) us (pruned ns) (ap (with_lines line_bytes) same_tree ∙ result.same) t
+      ∙ ap (λ (l : List (Edited Reading)). map edited_bytes l) (sym (selected-pruned w ns g)) ∙ kept_bytes (selected w ns)
+
+  -- each opener of the output has the condition of the opener from which it comes
+  pub conditions_same : map condition_in (openers us) ≡ map (λ (e : Edited Reading). condition_in e.line) (openers (pruned ns))
+  conditions_same =
+      sym (map-twice seen (λ (q : Seen). q.condition) (openers us))
+      ∙ ap (λ (l : List Seen). map (λ (q : Seen). q.condition) l)
+      (sym (openers-with seen us) ∙ ap (λ (m : Nodes Seen). openers m) (ap (with_lines seen) same_tree ∙ result.alike) ∙ openers-with left_seen (pruned ns))
+      ∙ map-twice left_seen (λ (q : Seen). q.condition) (openers (pruned ns)) ∙ kept_conditions (openers (pruned ns)) (pruned_keeps ns)
+
+clear_run : {o : Options} {input : List ℕ} {r : Outcome} → Runs o input r → r.fault ≡ None → (ns : Nodes Reading) → IsTreeOf o input (closed ns) →
+    Pairwise (Clear o) (lines (closed ns)) (marks (closed ns))
+clear_run (stops xs t f s) e ns a = cc
+clear_run {o = o} {input = input} (ends xs t g) e ns a =
+    subst (λ (u : Tree Reading). Pairwise (Clear o) (lines u) (marks u)) (one_tree_of o input t (closed ns) (record { items = xs; read = sound_read g.sound; are = g.are }) a)
+    (subst (λ (zs : List (Item Reading)). Pairwise (Clear o) zs (marks t)) (sym (sound_lines g.sound)) (sound_clear o xs t g.sound))
+
+-- so it is in each world that C may give the input
+pub c_selected_again : {o : Options} {input : List ℕ} {r : Outcome} {ns us : Nodes Reading} → HasTrees o input r ns us → (w v : World Reading) → IsCWorld o.table w ns →
+    KeepsTruths w ns v us → map line_bytes (selected v us) ≡ map line_bytes (selected w ns)
+c_selected_again {o = o} {ns = ns} k w v g t = selected_again k w v (c_agrees o w ns (clear_run k.clean.runs k.clean.faultless ns k.of_input) g) t
 
 module _ {L M : Type 0} (f : L → M) where
   mutual
@@ -227,7 +277,7 @@ pub output_undecided : (us ns : Nodes Reading) → with_lines line_bytes us ≡ 
 output_undecided us ns e =
     undecided_back line_bytes us (subst IsUndecided (sym e) (undecided_with edited_bytes (pruned ns) (pruned_undecided ns)))
 
--- where each line stays, the pieces are the lines
+-- if each line stays, the pieces are the lines
 whole_pieces : (ys : List (Item Reading)) (ms : List Mark) → Each Stays ms → map (lone false false) (judged_lines ys ms) ≡ map whole (judged_lines ys ms)
 whole_pieces [] ms h = refl
 whole_pieces (y ∷ ys) [] h = refl
@@ -280,7 +330,7 @@ output_sound o p input ns z f = (
   ap (λ (c : Bool). end_by c (last_number z.is_tree.items) None) z.calm,
 )
 
--- an output whose lines fit is printed as it is, where the input has this tree
+-- an output whose lines fit is printed as it is, if the input has this tree
 again_law : (o : Options) → IsPlain o → (input : List ℕ) → {r : Outcome} → Runs o input r → r.fault ≡ None → LinesFit (lines_of r.output) →
     (ns : Nodes Reading) → IsTreeOf o input (closed ns) → Runs o r.output (record { output = r.output; fault = None; differs = false })
 again_law o p input {r} d e f ns t =

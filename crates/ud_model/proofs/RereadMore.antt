@@ -1,4 +1,4 @@
--- What is left of lines with one more, read again: where that line goes, and where it is left.
+-- What is left of lines with one more, read again: if that line goes, and if it is left.
 use Rattle.std.proofs.Common.{◌≡◌, ℕ, suc, List, [], ◌∷◌, ◌++◌, length, map, false, refl, sym, ◌∙◌, ap, ap₂, append-nil}
 use Rattle.std.proofs.lemmas.List.{map-append}
 use Rattle.ud_model.specs.Lines.{Line, line_at, numbered_from}
@@ -9,7 +9,7 @@ use Rattle.ud_model.specs.Pruning.{Mark, marks, is_removed}
 use Rattle.ud_model.specs.Items.{Options, reading_of, line_of, item_of, read_after}
 use Rattle.ud_model.specs.Faults.{ends_removed, is_cut, is_in_block, ends_in_comment}
 use Rattle.ud_model.specs.Pruned.{Edited, left_item, printed}
-use Rattle.ud_model.specs.Rereading.{line_bytes, edited_bytes}
+use Rattle.ud_model.specs.Rereading.{line_bytes}
 use Rattle.ud_model.specs.declared.kind.Mode.{Mode}
 use Rattle.ud_model.specs.declared.verdict.Verdict.{Verdict}
 use Rattle.ud_model.specs.declared.verdict.Verdict.TheVariants.{Remove}
@@ -20,8 +20,9 @@ use Rattle.ud_model.proofs.PrintedPruned.{printed-append}
 use Rattle.ud_model.proofs.Soundness.{reading_of-item_of}
 use Rattle.ud_model.proofs.LeftReadings.{Left}
 use Rattle.ud_model.proofs.Rereads.{Again, IsUncut}
+use Rattle.ud_model.proofs.SeenLines.{Seen, seen, left_seen}
 
--- lines with one more end in a comment where that does
+-- lines with one more end in a comment if that does
 pub last_comment : (xs : List (Item Reading)) (x : Item Reading) → ends_in_comment (xs ++ x ∷ []) ≡ is_in_block (reading_of x).scan.comment
 last_comment [] x = refl
 last_comment (y ∷ []) x = refl
@@ -36,7 +37,7 @@ last_removed (n ∷ k ∷ ms) m = last_removed (k ∷ ms) m
 bytes_read : List (Item Reading) → List (List ℕ)
 bytes_read ys = map (λ y. line_bytes (reading_of y)) ys
 
--- the line that this piece is behind these
+-- the line that this piece is after these
 abbrev pub piece_behind_all : List (Item Reading) → List ℕ → Line
 piece_behind_all ys piece = line_at (suc (length (map (λ (y : Item Reading). line_bytes (reading_of y)) ys))) piece
 
@@ -52,7 +53,7 @@ module _ (o : Options) (m : Mode) (xs : List (Item Reading)) (t u : Tree Reading
   gone_again e c = record {
     read = a.read;
     same = a.same
-        ∙ sym (ap (λ (zs : List (Item (Edited Reading))). map (item_with edited_bytes) zs)
+        ∙ sym (ap (λ (zs : List (Item (Edited Reading))). map (item_with left_seen) zs)
         (printed_next ∙ ap (λ (v : Verdict). printed xs (marks t) ++ left_item v x) e ∙ append-nil (printed xs (marks t))));
     numbered = a.numbered;
     uncut = a.uncut;
@@ -72,10 +73,10 @@ module _ (o : Options) (m : Mode) (xs : List (Item Reading)) (t u : Tree Reading
       ∙ ap (λ (p : List ℕ). bytes_read ys ++ p ∷ []) (ap line_bytes q_is ∙ text_of-line_at (suc (length (bytes_read ys))) piece) in
       record {
         read = one_read ys a.read (piece_behind_all ys piece);
-        same = map-append (item_with line_bytes) ys (y ∷ [])
-            ∙ ap₂ (λ (p s : List (Item (List ℕ))). p ++ s) a.same (h.item ∙ ap (λ (z : Item Reading). map (item_with edited_bytes) (left_item mark.verdict z)) (sym is))
-            ∙ sym (map-append (item_with edited_bytes) (printed xs (marks t)) (left_item mark.verdict x))
-            ∙ sym (ap (λ (zs : List (Item (Edited Reading))). map (item_with edited_bytes) zs) printed_next);
+        same = map-append (item_with seen) ys (y ∷ [])
+            ∙ ap₂ (λ (p s : List (Item Seen)). p ++ s) a.same (h.item ∙ ap (λ (z : Item Reading). map (item_with left_seen) (left_item mark.verdict z)) (sym is))
+            ∙ sym (map-append (item_with left_seen) (printed xs (marks t)) (left_item mark.verdict x))
+            ∙ sym (ap (λ (zs : List (Item (Edited Reading))). map (item_with left_seen) zs) printed_next);
         numbered = map-append line_of ys (y ∷ [])
             ∙ ap₂ (λ (p s : List Line). p ++ s) a.numbered (ap (λ (z : Reading). z.line ∷ []) q_is)
             ∙ sym (ap (λ (ps : List (List ℕ)). numbered_from 1 ps) bytes ∙ numbered_from-next (bytes_read ys) piece []);

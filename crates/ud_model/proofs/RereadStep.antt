@@ -162,7 +162,7 @@ module _ (o : Options) (xs : List (Item Reading)) (t : Tree Reading) (ys : List 
   line_reading : reading_of line_new ≡ read_after xs C l
   line_reading = reading_of-item_of o (read_after xs C l)
 
-  -- where the line before joins this one, both go or both stay
+  -- if the line before joins this one, both go or both stay
   both_alike : joins (run_of (map reading_of xs)) ≡ true → is_removed k.grown.mark.verdict ≡ ends_removed (marks t)
   both_alike j =
       joined_alike (ends_removed (marks t)) k.grown.does k.unspoiled
@@ -215,7 +215,7 @@ module _ (o : Options) (xs : List (Item Reading)) (t : Tree Reading) (ys : List 
         ),
       )
 
-  -- where this line goes, the one before joins nothing or has gone
+  -- if this line goes, the one before joins nothing or has gone
   stayed_alone : (w : Place) (white on : Bool) → LeavesOff xs w white on → (on ≡ true → ends_removed (marks t) ≡ false) → k.grown.mark.verdict ≡ Remove → on ≡ false
   stayed_alone w white false a f e = refl
   stayed_alone w white true a f e =

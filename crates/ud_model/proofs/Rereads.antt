@@ -11,20 +11,21 @@ use Rattle.ud_model.specs.Pruning.{marks}
 use Rattle.ud_model.specs.Items.{Options, reading_of, line_of}
 use Rattle.ud_model.specs.Faults.{ends_removed, is_cut, ends_in_comment}
 use Rattle.ud_model.specs.Pruned.{printed}
-use Rattle.ud_model.specs.Rereading.{line_bytes, edited_bytes}
+use Rattle.ud_model.specs.Rereading.{line_bytes}
 use Rattle.ud_model.specs.declared.kind.Mode.{Mode}
 use Rattle.ud_model.proofs.Each.{Each}
 use Rattle.ud_model.proofs.Heeding.{ReadIn, none_read}
 use Rattle.ud_model.proofs.JoinedAlike.{ends_kept}
 use Rattle.ud_model.proofs.LeavesOff.{LeavesOff, nowhere, joins_nothing}
+use Rattle.ud_model.proofs.SeenLines.{seen, left_seen}
 
 -- these leave off between lines, and not in a comment
 pub record Rests (ys : List (Item Reading)) : Type 0 where
   pub off : LeavesOff ys in_text true false
   pub calm : ends_in_comment ys ≡ false
 
--- What the lines so far and those that are left of them carry to the next line, where the last line was removed or not:
--- the same, and then a last line that joins the next one has stayed; or the last line has gone and joins the next one. Where
+-- What the lines so far and those that are left of them carry to the next line, by whether the last line was removed:
+-- the same, and then a last line that joins the next one has stayed; or the last line has gone and joins the next one. If
 -- the last line joins nothing or has gone, what is left leaves off between lines.
 pub data Carry (removed : Bool) (xs ys : List (Item Reading)) : Type 0 where
   alike : (w : Place) (white on : Bool) → LeavesOff xs w white on → LeavesOff ys w white on → (on ≡ true → removed ≡ false) →
@@ -36,16 +37,16 @@ abbrev pub IsUncut : Item Reading → Type 0
 IsUncut y = is_cut (content_of (reading_of y).scan) ≡ false
 
 -- These are what is left of the lines, read in this mode: none of them has a cut keyword, and they end in a comment only
--- where the lines do.
+-- if the lines do.
 pub record Again (o : Options) (m : Mode) (xs : List (Item Reading)) (t : Tree Reading) (ys : List (Item Reading)) : Type 0 where
   pub read : ReadIn o m ys
-  pub same : map (item_with line_bytes) ys ≡ map (item_with edited_bytes) (printed xs (marks t))
+  pub same : map (item_with seen) ys ≡ map (item_with left_seen) (printed xs (marks t))
   pub numbered : map line_of ys ≡ numbered_from 1 (map (λ y. line_bytes (reading_of y)) ys)
   pub uncut : Each IsUncut ys
   pub ends : ends_in_comment xs ≡ false → ends_in_comment ys ≡ false
 
 -- What is known between two lines, the last of which has an ending: besides, what they carry; and a last line that joins
--- the next one goes exactly where the place behind it isn't kept.
+-- the next one goes exactly if the place after it isn't kept.
 pub record Between (o : Options) (m : Mode) (xs : List (Item Reading)) (t : Tree Reading) (ys : List (Item Reading)) : Type 0 where
   pub again : Again o m xs t ys
   pub carry : Carry (ends_removed (marks t)) xs ys

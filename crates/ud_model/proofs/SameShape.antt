@@ -1,8 +1,8 @@
--- Trees that differ in their lines alone: the same is selected of them where their openers have the same truths.
+-- Trees that differ in their lines alone: the same is selected of them if their openers have the same truths.
 use Rattle.std.proofs.Common.{◌≡◌, List, [], ◌∷◌, ◌++◌, length, map, Bool, true, false, Option, Some, None, option_map, refl, sym, ◌∙◌, ap, ap₂, arith}
 use Rattle.std.proofs.lemmas.List.{map-append, length-map}
 use Rattle.ud_model.specs.Tree.{Opener, Nodes, Groups, Elifs, nothing, text, section, conditional, otherwise, first, elif, opener_with_line, with_lines, groups_with_lines, elifs_with_lines}
-use Rattle.ud_model.specs.Worlds.{World, or_else, lines_or, where_true, selected_nodes, selected_groups, selected_elifs, openers, openers_of_groups, openers_of_elifs}
+use Rattle.ud_model.specs.Worlds.{World, or_else, lines_or, where_true, selected, selected_groups, selected_elifs, openers, openers_of_groups, openers_of_elifs}
 
 module _ {L M : Type 0} (f : L → M) where
   mutual
@@ -71,21 +71,21 @@ module _ {L K M : Type 0} (f : L → M) (g : K → M) (v : World L) (w : World K
   lines_same (Some a) None ls ks e h = cc
 
   mutual
-    -- trees that differ in their lines alone: the same is selected where their openers have the same truths
+    -- trees that differ in their lines alone: the same is selected if their openers have the same truths
     pub same_selected : (ns : Nodes L) (ms : Nodes K) → with_lines f ns ≡ with_lines g ms → map v (openers ns) ≡ map w (openers ms) →
-        map f (selected_nodes v ns) ≡ map g (selected_nodes w ms)
+        map f (selected v ns) ≡ map g (selected w ms)
     same_selected nothing nothing e t = refl
     same_selected (text ns l) (text ms k) e t =
         let p : with_lines f ns ≡ with_lines g ms = cc in
         let q : f l ≡ g k = cc in
-        map-append f (selected_nodes v ns) (l ∷ []) ∙ ap₂ (λ (a : List M) (b : M). a ++ b ∷ []) (same_selected ns ms p t) q ∙ sym (map-append g (selected_nodes w ms) (k ∷ []))
+        map-append f (selected v ns) (l ∷ []) ∙ ap₂ (λ (a : List M) (b : M). a ++ b ∷ []) (same_selected ns ms p t) q ∙ sym (map-append g (selected w ms) (k ∷ []))
     same_selected (section ns gs l) (section ms hs k) e t =
         let p : with_lines f ns ≡ with_lines g ms = cc in
         let q : groups_with_lines f gs ≡ groups_with_lines g hs = cc in
         let r : (map v (openers ns) ≡ map w (openers ms)) × (map v (openers_of_groups gs) ≡ map w (openers_of_groups hs)) =
         openers_apart (openers ns) (openers_of_groups gs) (openers ms) (openers_of_groups hs) (long_with ns ms p) t in
-        map-append f (selected_nodes v ns) (selected_groups v gs)
-        ∙ ap₂ (λ (a b : List M). a ++ b) (same_selected ns ms p r.0) (same_groups gs hs q r.1) ∙ sym (map-append g (selected_nodes w ms) (selected_groups w hs))
+        map-append f (selected v ns) (selected_groups v gs)
+        ∙ ap₂ (λ (a b : List M). a ++ b) (same_selected ns ms p r.0) (same_groups gs hs q r.1) ∙ sym (map-append g (selected w ms) (selected_groups w hs))
     same_selected nothing (text ms k) e t = cc
     same_selected nothing (section ms hs k) e t = cc
     same_selected (text ns l) nothing e t = cc
@@ -102,7 +102,7 @@ module _ {L K M : Type 0} (f : L → M) (g : K → M) (v : World L) (w : World K
         let q : with_lines f ns ≡ with_lines g ms = cc in
         let r : (map v (openers_of_elifs es) ≡ map w (openers_of_elifs ds)) × (map v (openers ns) ≡ map w (openers ms)) =
         openers_apart (openers_of_elifs es) (openers ns) (openers_of_elifs ds) (openers ms) (long_elifs es ds p) t in
-        lines_same (selected_elifs v es) (selected_elifs w ds) (selected_nodes v ns) (selected_nodes w ms) (same_elifs es ds p r.0) (same_selected ns ms q r.1)
+        lines_same (selected_elifs v es) (selected_elifs w ds) (selected v ns) (selected w ms) (same_elifs es ds p r.0) (same_selected ns ms q r.1)
     same_groups (conditional es) (otherwise ds k ms) e t = cc
     same_groups (otherwise es l ns) (conditional ds) e t = cc
 
@@ -112,7 +112,7 @@ module _ {L K M : Type 0} (f : L → M) (g : K → M) (v : World L) (w : World K
         let q : with_lines f ns ≡ with_lines g ms = cc in
         let a : v o.line ≡ w p.line = cc in
         let r : map v (openers ns) ≡ map w (openers ms) = cc in
-        where_same (v o.line) (w p.line) (selected_nodes v ns) (selected_nodes w ms) a (same_selected ns ms q r)
+        where_same (v o.line) (w p.line) (selected v ns) (selected w ms) a (same_selected ns ms q r)
     same_elifs (elif es o ns) (elif ds p ms) e t =
         let h : elifs_with_lines f es ≡ elifs_with_lines g ds = cc in
         let q : with_lines f ns ≡ with_lines g ms = cc in
@@ -125,7 +125,7 @@ module _ {L K M : Type 0} (f : L → M) (g : K → M) (v : World L) (w : World K
         let s : (map v (openers_of_elifs es) ≡ map w (openers_of_elifs ds)) × (v o.line ∷ [] ≡ w p.line ∷ []) =
         openers_apart (openers_of_elifs es) (o.line ∷ []) (openers_of_elifs ds) (p.line ∷ []) (long_elifs es ds h) r.0 in
         let a : v o.line ≡ w p.line = cc (s.1) in
-        or_same (selected_elifs v es) (selected_elifs w ds) (where_true (v o.line) (selected_nodes v ns)) (where_true (w p.line) (selected_nodes w ms)) (same_elifs es ds h s.0)
-        (where_same (v o.line) (w p.line) (selected_nodes v ns) (selected_nodes w ms) a (same_selected ns ms q r.1))
+        or_same (selected_elifs v es) (selected_elifs w ds) (where_true (v o.line) (selected v ns)) (where_true (w p.line) (selected w ms)) (same_elifs es ds h s.0)
+        (where_same (v o.line) (w p.line) (selected v ns) (selected w ms) a (same_selected ns ms q r.1))
     same_elifs (first o ns) (elif ds p ms) e t = cc
     same_elifs (elif es o ns) (first p ms) e t = cc

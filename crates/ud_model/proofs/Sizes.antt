@@ -60,13 +60,13 @@ module _ (f : Judged → List ℕ) (js ks : List Judged) where
       let b : length (out whole (js ++ ks)) ≡ length (out whole js) + length (out whole ks) = out-append whole js ks in
       record { bound = omega arith }
 
--- lines that fit, one behind another
+-- lines that fit, one after another
 pub fits-append : (f : Judged → List ℕ) (js ks : List Judged) → Fits f js → Fits f ks → Fits f (js ++ ks)
 fits-append f js ks (alike a) (alike b) = alike (sizes-append f js ks a b)
 fits-append f js ks (alike a) (less h) = let m : length (out f js) ≤ length (out whole js) = fits_most (alike a) in less_together f js ks (omega arith)
 fits-append f js ks (less h) b = let m : length (out f ks) ≤ length (out whole ks) = fits_most b in less_together f js ks (omega arith)
 
--- and where one byte more may be printed of the first ones
+-- and if one byte more may be printed of the first ones
 pub loose_fits : (f : Judged → List ℕ) (js ks : List Judged) → Loose f js → Fits f ks → Loose f (js ++ ks)
 loose_fits f js ks a b = let m : length (out f ks) ≤ length (out whole ks) = fits_most b in let n = a.bound in loose_together f js ks (omega arith)
 
@@ -103,7 +103,7 @@ loose_one f j h =
     let q : length (whole j ++ []) ≡ length (whole j) = ap (λ (l : List ℕ). length l) (append-nil (whole j)) in
     record { bound = omega arith }
 
--- where there are no lines, they fit
+-- if there are no lines, they fit
 pub fits_none : (f : Judged → List ℕ) → Fits f []
 fits_none f = alike tt
 
@@ -127,7 +127,7 @@ or_false_parts true false e = (refl, refl)
 or_false_parts true true e = cc
 or_false_parts false b e = cc
 
--- where no line differs, what is printed are the lines
+-- if no line differs, what is printed are the lines
 none_other : (f : Judged → List ℕ) (js : List Judged) → some_other (map f js) js ≡ false → out f js ≡ out whole js
 none_other f [] e = refl
 none_other f (j ∷ js) e =
@@ -138,7 +138,7 @@ and_assoc : (a b c : Bool) → ((a && b) && c) ≡ (a && (b && c))
 and_assoc true b c = refl
 and_assoc false b c = refl
 
--- texts are compared part by part, where the parts in front are of one length
+-- texts are compared part by part, if the parts in front are of one length
 bytes_eq-append : (a b c d : List ℕ) → length a ≡ length b → bytes_eq (a ++ c) (b ++ d) ≡ (bytes_eq a b && bytes_eq c d)
 bytes_eq-append [] [] c d e = refl
 bytes_eq-append [] (y ∷ b) c d e = absurd (omega arith)
@@ -157,7 +157,7 @@ alike_differs f (j ∷ js) k =
     ∙ not_and (bytes_eq (f j) (whole j)) (bytes_eq (out f js) (out whole js))
     ∙ ap (λ (b : Bool). not b) (sym (bytes_eq-append (f j) (whole j) (out f js) (out whole js) k.0))
 
--- Where lines fit, some line differs exactly where what is printed isn't the lines.
+-- If lines fit, some line differs exactly if what is printed isn't the lines.
 pub fits_differs : (f : Judged → List ℕ) (js : List Judged) → Fits f js → some_other (map f js) js ≡ not (bytes_eq (out f js) (out whole js))
 fits_differs f js (alike k) = alike_differs f js k
 fits_differs f js (less h) = go (some_other (map f js) js) (λ e. none_other f js e) ∙ ap (λ (b : Bool). not b) (sym (unequal (out f js) (out whole js) h))

@@ -1,4 +1,4 @@
--- Lines that were read are sound where they keep the limits, none has a cut keyword, and each stays as it is.
+-- Lines that were read are sound if they keep the limits, none has a cut keyword, and each stays as it is.
 use Rattle.std.proofs.Common.{◌≡◌, ◌<◌, ◌≤◌, List, [], ◌∷◌, ◌++◌, length, Bool, true, false, ◌&&◌, refl, sym, ◌∙◌, ap, ap₂, subst, arith}
 use Rattle.ud_model.specs.Lines.{text_of}
 use Rattle.ud_model.specs.Scans.{Reading, is_spanning}

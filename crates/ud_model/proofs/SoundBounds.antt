@@ -9,7 +9,8 @@ use Rattle.ud_model.specs.Height.{height}
 use Rattle.ud_model.specs.Items.{Options, reading_of, line_of, next_item}
 use Rattle.ud_model.specs.Faults.{AreSound, no_lines, one_more}
 use Rattle.ud_model.specs.Pruned.{printed}
-use Rattle.ud_model.specs.Rereading.{LinesFit, line_bytes, edited_bytes}
+use Rattle.ud_model.specs.Rereading.{LinesFit, line_bytes}
+use Rattle.ud_model.proofs.SeenLines.{Seen, seen, left_seen}
 use Rattle.ud_model.specs.declared.kind.Mode.{Mode}
 use Rattle.ud_model.specs.declared.limits.TheConstants.{LINE_BYTES, TEXT_LINES, OPEN_SECTIONS}
 use Rattle.ud_model.proofs.Each.{Each}
@@ -72,9 +73,9 @@ numbered_few n (t ∷ ts) (y ∷ ys) e h =
 -- and neither has what is left of it
 pub again_few : (o : Options) (m : Mode) (xs : List (Item Reading)) (t : Tree Reading) (ys : List (Item Reading)) → Again o m xs t ys → length xs ≤ TEXT_LINES → Each IsFew ys
 again_few o m xs t ys a h =
-    let b : length (map (item_with line_bytes) ys) ≡ length (map (item_with edited_bytes) (printed xs (marks t))) = ap (λ (l : List (Item (List ℕ))). length l) a.same in
-    let c : length (map (item_with line_bytes) ys) ≡ length ys = length-map ys (item_with line_bytes) in
-    let d : length (map (item_with edited_bytes) (printed xs (marks t))) ≡ length (printed xs (marks t)) = length-map (printed xs (marks t)) (item_with edited_bytes) in
+    let b : length (map (item_with seen) ys) ≡ length (map (item_with left_seen) (printed xs (marks t))) = ap (λ (l : List (Item Seen)). length l) a.same in
+    let c : length (map (item_with seen) ys) ≡ length ys = length-map ys (item_with seen) in
+    let d : length (map (item_with left_seen) (printed xs (marks t))) ≡ length (printed xs (marks t)) = length-map (printed xs (marks t)) (item_with left_seen) in
     let e : length (printed xs (marks t)) ≤ length xs = printed_most xs (marks t) in
     let f : length (map (λ (y : Item Reading). line_bytes (reading_of y)) ys) ≡ length ys = length-map ys (λ (y : Item Reading). line_bytes (reading_of y)) in
     numbered_few 1 (map (λ (y : Item Reading). line_bytes (reading_of y)) ys) ys a.numbered (omega (arith, b, c, d, e, f, h))

@@ -2,6 +2,7 @@
 use Rattle.std.proofs.Common.{◌≡◌, ℕ, List, [], ◌∷◌, Option, Some, None, Bool, true, if◌then◌else◌, refl, sym, ◌∙◌, ap}
 use Rattle.ud_model.specs.Bytes.{is_white, past_white}
 use Rattle.ud_model.specs.Table.{Argument}
+use Rattle.ud_model.specs.Expressions.{Expression}
 use Rattle.ud_model.specs.Tokens.{Token, next_token, token_in_front, AreTokens}
 use Rattle.ud_model.specs.Parsing.{tokens_of, reads, run_all, itself, needs, expression_of}
 use Rattle.ud_model.specs.Conditions.{Rules, expression_cond, tree_cond_if}
@@ -31,7 +32,12 @@ tokens_same b t e = go (tokens_of (b ∷ t)) (tokens_of t) refl refl
     go (Some ts) q c d = sym (tokens_of_only t ts (tokens_past b t ts e (tokens_of_are (b ∷ t) ts c))) ∙ d
     go None (Some ts) c d = sym c ∙ tokens_of_only (b ∷ t) ts (tokens_before b t ts e (tokens_of_are t ts d))
 
--- the condition of an expression is the same with white space in front
+-- the expression of a text is that with white space in front
+pub expression_past : (b : ℕ) (t : List ℕ) → is_white b ≡ true → expression_of (b ∷ t) ≡ expression_of t
+unfolding expression_of reads
+expression_past b t e = ap (λ (ts : Option (List Token)). run_all itself (needs []) ts) (tokens_same b t e)
+
+-- and so is its condition
 pub cond_past : (b : ℕ) (t : List ℕ) (table : List Argument) (rules : Rules) → is_white b ≡ true → expression_cond (b ∷ t) table rules ≡ expression_cond t table rules
-unfolding expression_cond expression_of reads
-cond_past b t table rules e = ap (λ (ts : Option (List Token)). tree_cond_if (run_all itself (needs []) ts) table rules) (tokens_same b t e)
+unfolding expression_cond
+cond_past b t table rules e = ap (λ (o : Option Expression). tree_cond_if o table rules) (expression_past b t e)

@@ -16,10 +16,10 @@ pub data Stage : Type 0 where
   going : Stage
   -- the last group is the first true one, and some group before it is kept
   at_true : Stage
-  -- an opener has come behind that one
+  -- an opener has come after that one
   past : Stage
 
--- the stage behind further groups, where some group before them is kept and none is true
+-- the stage after further groups, if some group before them is kept and none is true
 abbrev pub stage_inside : List Cond → Stage
 stage_inside [] = going
 stage_inside (Yes ∷ []) = at_true
@@ -27,7 +27,7 @@ stage_inside (Yes ∷ c ∷ cs) = past
 stage_inside (No ∷ cs) = stage_inside cs
 stage_inside (Unknown ∷ cs) = stage_inside cs
 
--- the stage behind groups with these conditions
+-- the stage after groups with these conditions
 abbrev pub stage : List Cond → Stage
 stage [] = leading
 stage (Yes ∷ cs) = given

@@ -1,4 +1,4 @@
--- In a pruned tree nothing is decided, and where nothing is decided each line stays as it is.
+-- In a pruned tree nothing is decided, and if nothing is decided each line stays as it is.
 use Rattle.std.proofs.Common.{◌≡◌, List, [], ◌∷◌, ◌++◌, Bool, true, Some, None, refl, sym, ◌∙◌, ap, ap₂, subst}
 use Rattle.ud_model.specs.declared.cond.Cond.{Cond}
 use Rattle.ud_model.specs.declared.cond.Cond.TheVariants.{Yes, No, Unknown}
@@ -119,6 +119,6 @@ module _ {L : Type 0} where
         ))
         (place_stays (is_kept (conds_of_elifs es) o.cond) ns (kept_by_stage (conds_of_elifs es) o.cond ∙ ap₂ (λ (t : Stage) (c : Cond). kept_at t c) s h.1) (nodes_stay ns h.2))
 
-  -- where nothing is decided, each line stays as it is
+  -- if nothing is decided, each line stays as it is
   pub undecided_stay : (ns : Nodes L) → IsUndecided ns → Each Stays (marks (closed ns))
   undecided_stay ns h = subst (Each Stays) (sym (marks_so_far_same true (closed ns))) (nodes_stay ns h)

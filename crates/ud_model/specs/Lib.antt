@@ -32,3 +32,4 @@ pub mod Runs
 pub mod Answer
 pub mod Pruned
 pub mod Rereading
+pub mod CSelection

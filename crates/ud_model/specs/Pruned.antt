@@ -18,7 +18,7 @@ use Rattle.ud_model.specs.declared.cond.Cond.{Cond}
 use Rattle.ud_model.specs.declared.cond.Cond.TheVariants.{Yes, No, Unknown}
 use Rattle.ud_model.specs.declared.verdict.Verdict.{Verdict}
 use Rattle.ud_model.specs.declared.verdict.Verdict.TheVariants.{Keep, Remove, ToIf, ToElse, ToEndif}
-use Rattle.ud_model.specs.Tree.{item_with, Item, Opener, Nodes, Groups, Elifs, text_line, if_line, elif_line, else_line, endif_line, nothing, text, section, conditional, otherwise, first, elif}
+use Rattle.ud_model.specs.Tree.{item_with, Item, Opener, Nodes, Groups, Elifs, if_line, elif_line, else_line, endif_line, nothing, text, section, conditional, otherwise, first, elif}
 use Rattle.ud_model.specs.Pruning.{Part, an_if, an_elif, Mark, first_kept_verdict}
 
 -- a line of the output: the line that it comes from, and what became of that

@@ -1,0 +1,9 @@
+-- A world that C may give the input agrees with what is decided.
+use Rattle.ud_model.proofs.RereadLaws.{c_selected_again, conditions_same}
+use Rattle.ud_model.proofs.output_laws.law_c_selects.Goals as goal
+
+pub returns-clause-selected : goal.returns-clause-selected
+returns-clause-selected c = λ o input r ns us k w v a t. c_selected_again k w v a t
+
+pub returns-clause-conditions : goal.returns-clause-conditions
+returns-clause-conditions c = λ o input r ns us k. conditions_same k
