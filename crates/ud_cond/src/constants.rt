@@ -1,11 +1,11 @@
 //! Integer constants, and the numbers that they are.
 //!
-//! What a constant is stands in ud_model, specs/Constants.antt (C11 6.4.4.1).
+//! What a constant is stands in ud_model, specs/conditions/Constants.antt (C11 6.4.4.1).
 
 ghost use Rattle.std.specs.Prelude.{◌≡◌, ◌≤◌, ◌<◌, length, map};
 ghost use Rattle.std.specs.List.{prefix_len};
-ghost use Rattle.ud_model.specs.Constants as spec;
-ghost use Rattle.ud_model.specs.Values.{limited, constant_value};
+ghost use Rattle.ud_model.specs.conditions.Constants as spec;
+ghost use Rattle.ud_model.specs.conditions.Values.{limited, constant_value};
 ghost use Rattle.ud_cond.specs.Viewing.{as_parts, base_of, is_digit_of};
 
 use crate::bytes::is_digit;

@@ -2,7 +2,7 @@
 
 ghost use Rattle.std.specs.Prelude.{◌≡◌, List, ℕ, is_some, option_map, true, IfNone, IfSome, [], ◌∷◌, Some, None};
 ghost use Rattle.std.specs.Iterator.{YieldsFirstRef, item_count};
-ghost use Rattle.ud_model.specs.Parsing.{tokens_of};
+ghost use Rattle.ud_model.specs.aids.Parsing.{tokens_of};
 ghost use Rattle.ud_cond.specs.Naming.{name_in, names_in_text, names_listed};
 ghost use Rattle.ud_cond.specs.Viewing.{as_token};
 
@@ -20,7 +20,7 @@ pub struct Names<'a> {
 
 impl<'a> Model for Names<'a> {
     ghost use Rattle.std.specs.Prelude.{◌≡◌, List, ℕ, is_some, option_map, true};
-    ghost use Rattle.ud_model.specs.Parsing.{tokens_of};
+    ghost use Rattle.ud_model.specs.aids.Parsing.{tokens_of};
     ghost use Rattle.ud_cond.specs.Naming.{names_listed};
 
     ghost Value = { List (List ℕ) };

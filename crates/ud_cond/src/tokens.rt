@@ -1,11 +1,11 @@
 //! The token at the front of a text.
 //!
-//! What the tokens of an expression are stands in ud_model, specs/Tokens.antt (C11 6.4).
+//! What the tokens of an expression are stands in ud_model, specs/conditions/Tokens.antt (C11 6.4).
 
 ghost use Rattle.std.specs.Prelude.{◌≡◌, drop, length, option_map, slice_index, ◌-◌};
-ghost use Rattle.ud_model.specs.Tokens as spec;
-ghost use Rattle.ud_model.specs.Constants as texts;
-ghost use Rattle.ud_model.specs.Bytes as bytes;
+ghost use Rattle.ud_model.specs.conditions.Tokens as spec;
+ghost use Rattle.ud_model.specs.conditions.Constants as texts;
+ghost use Rattle.ud_model.specs.text.Bytes as bytes;
 ghost use Rattle.ud_cond.specs.Viewing.{as_next};
 
 use crate::bytes::{is_digit, is_word_byte, past_white, word_len};

@@ -1,11 +1,11 @@
 //! What an expression is worth, part by part.
 //!
-//! Numbers are those of ud_model, specs/Values.antt (C11 6.10.1p4 and 6.5); `specs/Worth.antt` says what is kept beside them.
+//! Numbers are those of ud_model, specs/conditions/Values.antt (C11 6.10.1p4 and 6.5); `specs/Worth.antt` says what is kept beside them.
 
 ghost use Rattle.std.specs.Prelude.{◌≡◌, option_and_then, option_map};
-ghost use Rattle.ud_model.specs.Table.{entry_in};
-ghost use Rattle.ud_model.specs.Symbols.{end_of};
-ghost use Rattle.ud_model.specs.Values as spec;
+ghost use Rattle.ud_model.specs.conditions.Table.{entry_in};
+ghost use Rattle.ud_model.specs.conditions.Symbols.{end_of};
+ghost use Rattle.ud_model.specs.conditions.Values as spec;
 ghost use Rattle.ud_cond.specs.Viewing.{as_entry};
 ghost use Rattle.ud_cond.specs.Worth.{table_in, constant_worth, name_worth, defined_worth, unary_worth, binary_worth};
 

@@ -1,16 +1,16 @@
 //! Laws of the output: what a text means after it was pruned and printed.
 
 ghost use Rattle.std.specs.Prelude.{◌≡◌, ℕ, List, map, not, true, false, Bool, bytes_eq, None};
-ghost use Rattle.ud_model.specs.Lines.{lines_of};
-ghost use Rattle.ud_model.specs.Scans.{Reading};
-ghost use Rattle.ud_model.specs.Tree.{Nodes, Tree, closed, lines_of_nodes, with_lines};
-ghost use Rattle.ud_model.specs.Pruning.{marks};
-ghost use Rattle.ud_model.specs.Items.{Options};
-ghost use Rattle.ud_model.specs.Runs.{Outcome, Runs};
-ghost use Rattle.ud_model.specs.Worlds.{World, Agrees, selected, openers};
-ghost use Rattle.ud_model.specs.Pruned.{Edited, edited, pruned, printed, IsUndecided};
-ghost use Rattle.ud_model.specs.Rereading.{IsTreeOf, IsClean, HasTrees, LinesFit, line_bytes, edited_bytes, KeepsTruths};
-ghost use Rattle.ud_model.specs.CSelection.{IsCWorld, condition_in};
+ghost use Rattle.ud_model.specs.text.Lines.{lines_of};
+ghost use Rattle.ud_model.specs.text.Scans.{Reading};
+ghost use Rattle.ud_model.specs.sections.Tree.{Nodes, Tree, closed, lines_of_nodes, with_lines};
+ghost use Rattle.ud_model.specs.sections.Pruning.{marks};
+ghost use Rattle.ud_model.specs.sections.Items.{Options};
+ghost use Rattle.ud_model.specs.answer.Runs.{Outcome, Runs};
+ghost use Rattle.ud_model.specs.output.Worlds.{World, Agrees, selected, openers};
+ghost use Rattle.ud_model.specs.output.Pruned.{Edited, edited, pruned, printed, IsUndecided};
+ghost use Rattle.ud_model.specs.output.Rereading.{IsTreeOf, IsClean, HasTrees, LinesFit, line_bytes, edited_bytes, KeepsTruths};
+ghost use Rattle.ud_model.specs.output.CSelection.{IsCWorld, condition_in};
 ghost use Rattle.ud_model.specs.declared.settings.Listing.{Listing};
 ghost use Rattle.ud_model.specs.declared.verdict.Verdict.{Verdict};
 

@@ -1,15 +1,15 @@
 -- Blocks: bytes in a block comment, their line feeds among them.
 use Rattle.std.proofs.Common.{◌≡◌, ℕ, ◌+◌, ◌<◌, ◌≤◌, ◌==◌, List, [], ◌∷◌, ◌++◌, length, take, drop, Bool, true, false, not, ◌&&◌, ◌||◌, if◌then◌else◌, refl, sym, ◌∙◌, ap, subst, append_assoc, arith, length-append, ne_eqb}
 use Rattle.std.proofs.lemmas.List.{take-append-drop, length-take-le}
-use Rattle.ud_model.specs.Lines.{NoFeed}
-use Rattle.ud_model.specs.Scanning.{is_block}
-use Rattle.ud_model.specs.Places.{in_block, at_star, place_kind}
+use Rattle.ud_model.specs.text.Lines.{NoFeed}
+use Rattle.ud_model.specs.text.Scanning.{is_block}
+use Rattle.ud_model.specs.aids.Places.{in_block, at_star, place_kind}
 use Rattle.ud_text.specs.States.{next_state, State, text_state, stops, NoFeedInBlock, state_after, shows_sign, is_other_name, inside_state, block_state, IsQuiet}
 use Rattle.ud_text.proofs.QuietLemmas.{state_after-append, IsQuiet-append, IsQuiet-feed}
 use Rattle.ud_text.proofs.ProgressLemmas.{Passed-append, begins-append, rest_of, read_on, read_base}
 use Rattle.ud_text.specs.Spans.{after_feed, NoPair, at_start, LastBegins, BeginsLine}
 use Rattle.ud_text.specs.Progress.{ReadTo, ReadOutside}
-use Rattle.ud_model.specs.Bytes.{slash, number_sign, line_feed, carriage_return, star, backslash}
+use Rattle.ud_model.specs.text.Bytes.{slash, number_sign, line_feed, carriage_return, star, backslash}
 
 -- the star that stands before
 abbrev pub star_before : Bool → List ℕ → List ℕ

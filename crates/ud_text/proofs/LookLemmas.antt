@@ -1,8 +1,8 @@
 -- Looks: looking back over white space tells whether the logical line is white.
 use Rattle.std.proofs.Common.{◌≡◌, ℕ, ◌==◌, List, [], ◌∷◌, ◌++◌, Bool, true, false, ◌&&◌, ◌||◌, if◌then◌else◌, ◌⊎◌, inl, inr, refl, sym, ◌∙◌, ap, subst}
 use Rattle.std.proofs.lemmas.Bool.{eqb-true}
-use Rattle.ud_model.specs.Bytes.{is_quote, is_white, are_white, slash, line_feed, carriage_return, star, backslash}
-use Rattle.ud_model.specs.Places.{Place, in_text, at_slash, in_block, at_star, in_line, in_literal, at_backslash, next, opens, whitens}
+use Rattle.ud_model.specs.text.Bytes.{is_quote, is_white, are_white, slash, line_feed, carriage_return, star, backslash}
+use Rattle.ud_model.specs.aids.Places.{Place, in_text, at_slash, in_block, at_star, in_line, in_literal, at_backslash, next, opens, whitens}
 use Rattle.ud_text.specs.States.{next_state, State, text_state, state_after}
 use Rattle.ud_text.proofs.QuietLemmas.{state_after-append}
 use Rattle.ud_text.proofs.TextLemmas.{Class, class_of, a_slash, a_sign, a_white, a_quote, another}

@@ -4,10 +4,10 @@ use Rattle.std.specs.List.{position_or_len}
 use Rattle.std.proofs.lemmas.Bool.{eqb-true}
 use Rattle.std.proofs.lemmas.List.{take_more, take_all}
 use Rattle.memchr.specs.Find.{Nowhere, NoneAfter, Passes, is_byte}
-use Rattle.ud_model.specs.Bytes.{is_quote, slash, number_sign, line_feed, carriage_return, backslash}
-use Rattle.ud_model.specs.Lines.{NoFeed, parts_of, Parts}
-use Rattle.ud_model.specs.Places.{Place, in_text, at_slash, in_literal, whitens}
-use Rattle.ud_model.proofs.LinesLemmas.{parts_of-append-line}
+use Rattle.ud_model.specs.text.Bytes.{is_quote, slash, number_sign, line_feed, carriage_return, backslash}
+use Rattle.ud_model.specs.text.Lines.{NoFeed, parts_of, Parts}
+use Rattle.ud_model.specs.aids.Places.{Place, in_text, at_slash, in_literal, whitens}
+use Rattle.ud_model.proofs.text.LinesLemmas.{parts_of-append-line}
 use Rattle.ud_text.specs.Passing.{EndsLine}
 use Rattle.ud_text.specs.States.{next_state, State, text_state, stops, NoFeedInBlock, state_after, is_other_name, Passed, IsQuiet}
 use Rattle.ud_text.proofs.FeedLemmas.{no_feed_front}

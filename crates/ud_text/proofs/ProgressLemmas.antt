@@ -1,8 +1,8 @@
 -- Progress: from what is known up to a place to what is known further on.
 use Rattle.std.proofs.Common.{◌≡◌, ℕ, ◌+◌, ◌-◌, ◌<◌, ◌≤◌, List, [], ◌∷◌, ◌++◌, length, take, drop, Bool, true, false, refl, sym, ◌∙◌, ap, subst, append_assoc, append-nil, arith, length-append}
 use Rattle.std.proofs.lemmas.List.{take-append-drop, length-take-le}
-use Rattle.ud_model.specs.Scanning.{is_block}
-use Rattle.ud_model.specs.Places.{Place, in_text, at_slash, in_block, at_star, in_line, in_literal, at_backslash, next, whitens, place_kind}
+use Rattle.ud_model.specs.text.Scanning.{is_block}
+use Rattle.ud_model.specs.aids.Places.{Place, in_text, at_slash, in_block, at_star, in_line, in_literal, at_backslash, next, whitens, place_kind}
 use Rattle.ud_text.specs.States.{next_state, State, text_state, NoFeedInBlock, state_after, Passed, IsQuiet}
 use Rattle.ud_text.proofs.QuietLemmas.{state_after-append, IsQuiet-append, IsQuiet-feed, NoFeedInBlock-append, NoFeedInBlock-rest}
 use Rattle.ud_text.proofs.PlainLemmas.{begins_ends, passed_none}
@@ -10,7 +10,7 @@ use Rattle.ud_text.proofs.SpanLemmas.{NoComment-append}
 use Rattle.ud_text.specs.Spans.{after_feed, at_start, LineSpan, NoComment, LastBegins, TextSpan, BeginsLine}
 use Rattle.ud_text.specs.Progress.{ReadTo, ReadOutside}
 use Rattle.std.proofs.Math.Seq.{drop-append_seam, take-append_seam}
-use Rattle.ud_model.specs.Bytes.{line_feed}
+use Rattle.ud_model.specs.text.Bytes.{line_feed}
 
 drop_front : (p q : List ℕ) (n : ℕ) → n ≡ length p → drop n (p ++ q) ≡ q
 drop_front p q n e = ap (λ (k : ℕ). drop k (p ++ q)) e ∙ drop-append_seam p q

@@ -1,8 +1,8 @@
 -- Quiet: bytes that are read quietly, one run after another, and cut at a line feed.
 use Rattle.std.proofs.Common.{◌≡◌, ℕ, ◌==◌, List, [], ◌∷◌, ◌++◌, Bool, true, false, not, ◌&&◌, if◌then◌else◌, refl, sym, ◌∙◌, ap}
-use Rattle.ud_model.specs.Bytes.{is_white, past_white, line_feed, number_sign}
+use Rattle.ud_model.specs.text.Bytes.{is_white, past_white, line_feed, number_sign}
 use Rattle.ud_text.specs.States.{next_state, stops, NoFeedInBlock, state_after, State, shows_sign, IsQuiet, is_other_name, starts_other}
-use Rattle.ud_model.proofs.ScanLaws.{place_after, white_after}
+use Rattle.ud_model.proofs.text.ScanLaws.{place_after, white_after}
 
 -- bytes lead on from where those before them lead
 pub state_after-append : (s : State) (p q : List ℕ) → state_after s (p ++ q) ≡ state_after (state_after s p) q

@@ -4,16 +4,16 @@ use Rattle.std.specs.List.{concat, ends_with}
 use Rattle.std.proofs.lemmas.Bool.Decides.{Decides-eqb}
 use Rattle.std.proofs.lemmas.Slice.Eq.{ends_is}
 use Rattle.std.proofs.lemmas.List.{take-append-le}
-use Rattle.ud_model.specs.Lines.{NoFeed, IsWhole, ending_of, Line, line_at, numbered_from, whole_lines, parts_of}
-use Rattle.ud_model.specs.Scans.{Scan, Reading}
-use Rattle.ud_model.specs.Splicing.{is_spliced, is_empty, content, stays_open, joined, run_of}
-use Rattle.ud_model.specs.Scanning.{is_block, comment_at, scan_after, next_reading, readings_after}
-use Rattle.ud_model.specs.Places.{Place, in_text, at_slash, in_block, at_star, in_line, in_literal, at_backslash, next, whitens, place_kind, fresh_at, closed_place, closed_white, Masks}
-use Rattle.ud_model.specs.Directives.{content_of, text, is_cut_off, is_outside, past_sign}
+use Rattle.ud_model.specs.text.Lines.{NoFeed, IsWhole, ending_of, Line, line_at, numbered_from, whole_lines, parts_of}
+use Rattle.ud_model.specs.text.Scans.{Scan, Reading}
+use Rattle.ud_model.specs.text.Splicing.{is_spliced, is_empty, content, stays_open, joined, run_of}
+use Rattle.ud_model.specs.text.Scanning.{is_block, comment_at, scan_after, next_reading, readings_after}
+use Rattle.ud_model.specs.aids.Places.{Place, in_text, at_slash, in_block, at_star, in_line, in_literal, at_backslash, next, whitens, place_kind, fresh_at, closed_place, closed_white, Masks}
+use Rattle.ud_model.specs.sections.Directives.{content_of, text, is_cut_off, is_outside, past_sign}
 use Rattle.ud_model.specs.declared.kind.Mode.TheVariants.{C}
-use Rattle.ud_model.proofs.LinesLemmas.{AreWhole, body-ending, parts_joined, are_whole}
-use Rattle.ud_model.proofs.ScanLaws.{place_after, white_after, masked_after, Masks-append}
-use Rattle.ud_model.proofs.ScanLemmas.{Masks-start}
+use Rattle.ud_model.proofs.text.LinesLemmas.{AreWhole, body-ending, parts_joined, are_whole}
+use Rattle.ud_model.proofs.text.ScanLaws.{place_after, white_after, masked_after, Masks-append}
+use Rattle.ud_model.proofs.text.ScanLemmas.{Masks-start}
 use Rattle.ud_text.specs.Carrying.{Carried, Carries}
 use Rattle.ud_text.specs.Passing.{coded, AreText, EndsLine, PassesText}
 use Rattle.ud_text.specs.States.{line_state, State, state_after, is_other_name, Passed, IsQuiet, can_start, ignores_splice}
@@ -21,7 +21,7 @@ use Rattle.ud_text.proofs.RunLemmas.{no_feed-take}
 use Rattle.ud_text.proofs.CarryLemmas.{scan_carried, carries_code, no_feed-content}
 use Rattle.ud_text.proofs.QuietLemmas.{state_after-append, state_after-place, state_after-white, IsQuiet-feed, IsQuiet-rest}
 use Rattle.ud_text.proofs.TextLemmas.{Unsigned, text_not_fresh, text_unsigned, unsigned, NoWord}
-use Rattle.ud_model.specs.Bytes.{line_feed, carriage_return, backslash}
+use Rattle.ud_model.specs.text.Bytes.{line_feed, carriage_return, backslash}
 use Rattle.std.proofs.Math.Bool.{or-false}
 
 -- a place at which a line may begin: outside comments, or in a block comment

@@ -1,8 +1,8 @@
 -- Spans: where a slash, a backslash, a `#`, a literal and a line comment lead.
 use Rattle.std.proofs.Common.{◌≡◌, ℕ, ◌==◌, List, [], ◌∷◌, ◌++◌, Bool, true, false, not, ◌&&◌, ◌||◌, if◌then◌else◌, ◌⊎◌, inl, inr, refl, sym, ◌∙◌, ap, subst, suc, zero, take, arith}
 use Rattle.std.proofs.lemmas.Bool.{eqb-true}
-use Rattle.ud_model.specs.Bytes.{is_quote, slash, number_sign, line_feed, carriage_return, star, backslash}
-use Rattle.ud_model.specs.Places.{Place, in_text, at_slash, in_line, in_literal, at_backslash, whitens}
+use Rattle.ud_model.specs.text.Bytes.{is_quote, slash, number_sign, line_feed, carriage_return, star, backslash}
+use Rattle.ud_model.specs.aids.Places.{Place, in_text, at_slash, in_line, in_literal, at_backslash, whitens}
 use Rattle.ud_text.specs.States.{next_state, State, text_state, stops, NoFeedInBlock, state_after, shows_sign, spliced_after, is_other_name, IsQuiet}
 use Rattle.ud_text.proofs.QuietLemmas.{state_after-append, IsQuiet-append, NoFeedInBlock-append}
 use Rattle.ud_text.proofs.PlainLemmas.{not_special, plain_read}

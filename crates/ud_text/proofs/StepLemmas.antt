@@ -5,9 +5,9 @@ use Rattle.std.proofs.lemmas.Bool.{eqb-true}
 use Rattle.std.proofs.lemmas.List.{take_more, take_rest, take-append-drop, take-take}
 use Rattle.std.proofs.Math.ListN.{length-drop}
 use Rattle.std.proofs.Math.Seq.{drop-cons, drop-nil}
-use Rattle.ud_model.specs.Bytes.{is_quote, is_white, are_white, slash, number_sign, line_feed, carriage_return, star, backslash}
-use Rattle.ud_model.specs.Lines.{NoFeed}
-use Rattle.ud_model.specs.Places.{Place, in_text, in_block}
+use Rattle.ud_model.specs.text.Bytes.{is_quote, is_white, are_white, slash, number_sign, line_feed, carriage_return, star, backslash}
+use Rattle.ud_model.specs.text.Lines.{NoFeed}
+use Rattle.ud_model.specs.aids.Places.{Place, in_text, in_block}
 use Rattle.ud_text.specs.States.{line_state, State, text_state, is_other_name, inside_state, block_state, can_start}
 use Rattle.ud_text.proofs.MarkLemmas.{position_or_len-bound}
 use Rattle.ud_text.proofs.PlainLemmas.{plain_read, no_special_before}

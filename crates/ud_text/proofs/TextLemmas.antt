@@ -1,14 +1,14 @@
 -- Text: what is shown of a line that is read quietly has no `#` that belongs to a directive.
 use Rattle.std.proofs.Common.{◌≡◌, ℕ, ◌==◌, List, [], ◌∷◌, ◌++◌, Bool, true, false, not, ◌&&◌, ◌||◌, if◌then◌else◌, refl, sym, ◌∙◌, ap, subst, ne_eqb, Option, Some, None, bytes_eq}
 use Rattle.std.proofs.lemmas.Bool.{eqb-true, not-true}
-use Rattle.ud_model.specs.Bytes.{is_white, is_quote, is_word_byte, past_white, word_in_front, slash, number_sign, line_feed, space, carriage_return, star}
-use Rattle.ud_model.specs.Lines.{NoFeed}
-use Rattle.ud_model.specs.Scans.{Scan}
-use Rattle.ud_model.specs.Places.{Place, in_text, at_slash, in_block, at_star, in_line, in_literal, at_backslash, next, opens, shows, blank_last}
-use Rattle.ud_model.specs.Directives.{cut_keyword, text, content_of, past_sign, past_sign_of, has_cut_keyword, found_behind, directive_at, leaves_keyword, is_cut_off, is_in_line, kind_of, is_keyword_front}
+use Rattle.ud_model.specs.text.Bytes.{is_white, is_quote, is_word_byte, past_white, word_in_front, slash, number_sign, line_feed, space, carriage_return, star}
+use Rattle.ud_model.specs.text.Lines.{NoFeed}
+use Rattle.ud_model.specs.text.Scans.{Scan}
+use Rattle.ud_model.specs.aids.Places.{Place, in_text, at_slash, in_block, at_star, in_line, in_literal, at_backslash, next, opens, shows, blank_last}
+use Rattle.ud_model.specs.sections.Directives.{cut_keyword, text, content_of, past_sign, past_sign_of, has_cut_keyword, found_behind, directive_at, leaves_keyword, is_cut_off, is_in_line, kind_of, is_keyword_front}
 use Rattle.ud_model.specs.declared.kind.Kind.{Kind}
 use Rattle.ud_text.specs.States.{next_state, letter_f, State, letter_i, starts_other, letter_e, spliced_after, is_other_word, is_other_name, letter_l, letter_n, IsQuiet}
-use Rattle.ud_model.proofs.ScanLaws.{masked_after}
+use Rattle.ud_model.proofs.text.ScanLaws.{masked_after}
 
 -- no keyword stands in front of these bytes, but a byte does
 pub record IsOther (bytes : List ℕ) : Type 0 where

@@ -11,10 +11,10 @@
 -- Example: a scanner that passes `a` line feed `/* b` line feed stands for two readings more, and the next line begins in
 -- a block comment.
 use Rattle.std.specs.Prelude.{◌≡◌, ℕ, List, [], ◌∷◌, ◌++◌, map}
-use Rattle.ud_model.specs.Lines.{whole_lines, open_rest, numbered_from, Line}
-use Rattle.ud_model.specs.Scans.{Reading}
-use Rattle.ud_model.specs.Scanning.{scan_after, next_reading, readings_after}
-use Rattle.ud_model.specs.Directives.{content_of, text}
+use Rattle.ud_model.specs.text.Lines.{whole_lines, open_rest, numbered_from, Line}
+use Rattle.ud_model.specs.text.Scans.{Reading}
+use Rattle.ud_model.specs.text.Scanning.{scan_after, next_reading, readings_after}
+use Rattle.ud_model.specs.sections.Directives.{content_of, text}
 use Rattle.ud_model.specs.declared.kind.Mode.{Mode}
 use Rattle.ud_model.specs.declared.kind.Mode.TheVariants.{C}
 use Rattle.ud_text.specs.Carrying.{Carried, Carries}

@@ -14,7 +14,7 @@
 --
 -- Example: in `a` line feed `b /* c` with `at` before the `/`, `line` may be 0 or 2.
 use Rattle.std.specs.Prelude.{◌≡◌, ◌≤◌, ℕ, ◌+◌, List, ◌++◌, length, take, Bool, true, Result, MatchResult}
-use Rattle.ud_model.specs.Places.{in_text}
+use Rattle.ud_model.specs.aids.Places.{in_text}
 use Rattle.ud_text.specs.States.{State, state_after, IsQuiet, NoFeedInBlock, line_state, text_state, inside_state, Passed}
 use Rattle.ud_text.specs.Spans.{NoComment}
 use Rattle.ud_text.specs.Viewing.{place_of}

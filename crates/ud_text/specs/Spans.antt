@@ -11,9 +11,9 @@
 --
 -- Example: `"a\"b"` is a `TextSpan`, and `// a` with its line feed a `LineSpan`.
 use Rattle.std.specs.Prelude.{◌≡◌, ◌≤◌, ℕ, ◌==◌, List, [], ◌∷◌, ◌++◌, length, take, drop, Bool, true, false, ◌&&◌, ◌||◌}
-use Rattle.ud_model.specs.Bytes.{line_feed, backslash, number_sign, slash, star, is_quote, is_white, are_white}
-use Rattle.ud_model.specs.Lines.{NoFeed}
-use Rattle.ud_model.specs.Places.{Place, in_text, next, opens}
+use Rattle.ud_model.specs.text.Bytes.{line_feed, backslash, number_sign, slash, star, is_quote, is_white, are_white}
+use Rattle.ud_model.specs.text.Lines.{NoFeed}
+use Rattle.ud_model.specs.aids.Places.{Place, in_text, next, opens}
 use Rattle.ud_text.specs.States.{state_after, IsQuiet, NoFeedInBlock, text_state}
 
 -- a byte that may matter outside comments and literals

@@ -17,9 +17,9 @@
 --
 -- Example: `x /* c` with its line feed leads from `text_state true` quietly to `block_state false`.
 use Rattle.std.specs.Prelude.{◌≡◌, ℕ, ◌==◌, List, [], ◌∷◌, Bool, true, false, not, ◌&&◌, if◌then◌else◌}
-use Rattle.ud_model.specs.Bytes.{line_feed, carriage_return, backslash, number_sign, past_white, is_word_byte}
-use Rattle.ud_model.specs.Scanning.{is_block}
-use Rattle.ud_model.specs.Places.{Place, in_text, at_slash, in_block, at_star, in_line, in_literal, at_backslash, next, whitens, place_kind}
+use Rattle.ud_model.specs.text.Bytes.{line_feed, carriage_return, backslash, number_sign, past_white, is_word_byte}
+use Rattle.ud_model.specs.text.Scanning.{is_block}
+use Rattle.ud_model.specs.aids.Places.{Place, in_text, at_slash, in_block, at_star, in_line, in_literal, at_backslash, next, whitens, place_kind}
 use Rattle.ud_text.specs.Passing.{EndsLine}
 
 -- how far bytes are read

@@ -1,7 +1,7 @@
 //! Bytes that are white space, and bytes of words (C11 5.2.1 and 6.4.2.1, in ASCII).
 
 ghost use Rattle.std.specs.Prelude.{◌≡◌};
-ghost use Rattle.ud_model.specs.Bytes.{is_white, is_word_byte};
+ghost use Rattle.ud_model.specs.text.Bytes.{is_white, is_word_byte};
 
 /// Whether a byte is white space within a line.
 pub(crate) fn is_white(byte: u8) -> bool

@@ -7,10 +7,10 @@
 ghost use Rattle.std.specs.Prelude.{◌≡◌, ◌≤◌, ◌<◌, ◌+◌, ◌&&◌, ℕ, List, [], ◌∷◌, ◌++◌, length, take, replicate};
 ghost use Rattle.std.specs.List.{list_all};
 ghost use Rattle.arrayvec.specs.ArrayVec.{array_vec_len};
-ghost use Rattle.ud_model.specs.Bytes.{is_white};
-ghost use Rattle.ud_model.specs.Lines.{NoFeed};
-ghost use Rattle.ud_model.specs.Scanning.{is_block};
-ghost use Rattle.ud_model.specs.Places.{Reads, Masks, next, opens, shows, whitens, blank_last, place_kind, fresh_at};
+ghost use Rattle.ud_model.specs.text.Bytes.{is_white};
+ghost use Rattle.ud_model.specs.text.Lines.{NoFeed};
+ghost use Rattle.ud_model.specs.text.Scanning.{is_block};
+ghost use Rattle.ud_model.specs.aids.Places.{Reads, Masks, next, opens, shows, whitens, blank_last, place_kind, fresh_at};
 ghost use Rattle.ud_text.specs.Viewing.{place_of};
 
 use crate::bytes::is_white;

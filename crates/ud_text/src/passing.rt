@@ -6,7 +6,7 @@
 //! A new kind of span needs a function in spans.rt and its lemma.
 
 ghost use Rattle.std.specs.Prelude.{◌≡◌, ◌≤◌, ◌<◌, ◌+◌, Bool, [], ◌∷◌, length, take, drop, true, IfOk, IfErr, MatchResult};
-ghost use Rattle.ud_model.specs.Bytes.{slash, star, number_sign};
+ghost use Rattle.ud_model.specs.text.Bytes.{slash, star, number_sign};
 ghost use Rattle.ud_text.specs.States.{State, block_state, can_start};
 ghost use Rattle.ud_text.specs.Spans.{NoPair};
 ghost use Rattle.ud_text.specs.Progress.{ReadTo, state_of, InOrder, ReadBy, PassedBy, InBlock, Steps};

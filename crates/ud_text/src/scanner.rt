@@ -5,19 +5,19 @@
 
 ghost use Rattle.std.specs.Prelude.{◌≡◌, ◌≤◌, ◌||◌, List, [], ◌∷◌, ◌++◌, length, true, false, take};
 ghost use Rattle.std.specs.Borrow.{sem};
-ghost use Rattle.ud_model.specs.Lines.{NoFeed};
-ghost use Rattle.ud_model.specs.Lines.{Line as TextLine};
+ghost use Rattle.ud_model.specs.text.Lines.{NoFeed};
+ghost use Rattle.ud_model.specs.text.Lines.{Line as TextLine};
 ghost use Rattle.ud_model.specs.declared.kind.Mode.{Mode};
-ghost use Rattle.ud_model.specs.Splicing.{is_spliced, content, stays_open};
-ghost use Rattle.ud_model.specs.Scans.{Reading};
-ghost use Rattle.ud_model.specs.Scanning.{comment_at, scan_after, next_reading};
-ghost use Rattle.ud_model.specs.Places.{place_kind, closed_place, closed_white};
+ghost use Rattle.ud_model.specs.text.Splicing.{is_spliced, content, stays_open};
+ghost use Rattle.ud_model.specs.text.Scans.{Reading};
+ghost use Rattle.ud_model.specs.text.Scanning.{comment_at, scan_after, next_reading};
+ghost use Rattle.ud_model.specs.aids.Places.{place_kind, closed_place, closed_white};
 ghost use Rattle.ud_text.specs.Viewing.{as_line, as_scan, place_of};
 ghost use Rattle.ud_text.specs.Carrying.{Carried, Carries, carried_by, nothing_carried, scan_with, ends_in_block};
 ghost use Rattle.ud_text.specs.Lending.{ReadsLine};
 ghost use Rattle.ud_text.specs.Passing.{EndsLine, PassesText};
 ghost use Rattle.ud_text.specs.States.{can_start};
-ghost use Rattle.ud_model.specs.Scanning.{is_block};
+ghost use Rattle.ud_model.specs.text.Scanning.{is_block};
 
 use crate::line::Line;
 use crate::masking::{

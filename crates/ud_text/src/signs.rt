@@ -3,7 +3,7 @@
 //! It doesn't where a word that is no keyword follows, nor where its logical line isn't white before it (C11 6.10).
 
 ghost use Rattle.std.specs.Prelude.{◌≡◌, ◌≤◌, ◌<◌, ◌-◌, ◌⊎◌, length, drop, slice_index, true, false, IfSome};
-ghost use Rattle.ud_model.specs.Bytes.{is_white, are_white, past_white};
+ghost use Rattle.ud_model.specs.text.Bytes.{is_white, are_white, past_white};
 ghost use Rattle.ud_text.specs.States.{is_other_word, is_other_name};
 ghost use Rattle.ud_text.specs.Spans.{SeenWhite};
 

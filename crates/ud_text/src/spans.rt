@@ -4,7 +4,7 @@
 //! splice, there is no answer: the line is then read by itself.
 
 ghost use Rattle.std.specs.Prelude.{◌≡◌, ◌≤◌, ◌<◌, Bool, [], ◌∷◌, length, take, slice_index, true, false, IfSome, OnSome};
-ghost use Rattle.ud_model.specs.Bytes.{slash, backslash, is_quote};
+ghost use Rattle.ud_model.specs.text.Bytes.{slash, backslash, is_quote};
 ghost use Rattle.ud_text.specs.Spans.{is_special, TextSpan, LineSpan};
 
 use crate::searching::is_special;

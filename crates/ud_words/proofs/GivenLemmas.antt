@@ -3,7 +3,7 @@ use Rattle.std.proofs.Common.{◌≡◌, ◌∙◌, ap, refl, ℕ, List, [], ◌
 use Rattle.ud_model.specs.declared.settings.Listing.TheVariants.{Depths}
 use Rattle.ud_model.specs.declared.settings.ExitMode.{ExitMode}
 use Rattle.ud_model.specs.declared.settings.ExitMode.TheVariants.{Zero}
-use Rattle.ud_model.specs.CommandLine.{Given, flag, option, operand, unknown, lacking, UsageFault, too_many_files, is_among, first_fault, argument_fault, fault_or, has_flag, listing_by, mode_from, mode_or, mode_in, settings_in, operand_in, Operand}
+use Rattle.ud_model.specs.answer.CommandLine.{Given, flag, option, operand, unknown, lacking, UsageFault, too_many_files, is_among, first_fault, argument_fault, fault_or, has_flag, listing_by, mode_from, mode_or, mode_in, settings_in, operand_in, Operand}
 use Rattle.ud_words.specs.Saying.{with_flag, with_names}
 
 or_none : (a b : Option UsageFault) → fault_or a b ≡ None → (a ≡ None) × (b ≡ None)

@@ -4,7 +4,7 @@ use Rattle.std.specs.Str.{IsUtf8, encode_utf8_all}
 use Rattle.std.specs.Char.{encode_utf8}
 use Rattle.std.proofs.lemmas.Grind.{common_steps}
 use Rattle.std.proofs.lemmas.Str.{chars-nil, encodes-chars, char_from_byte}
-use Rattle.ud_model.specs.CommandLine.{Given, option, option_given, letters_in, letters_given, given_from, given_behind}
+use Rattle.ud_model.specs.answer.CommandLine.{Given, option, option_given, letters_in, letters_given, given_from, given_behind}
 
 -- a text of no bytes has no letters
 pub chars-empty : (bytes : List ℕ) → length bytes ≡ 0 → chars bytes ≡ []

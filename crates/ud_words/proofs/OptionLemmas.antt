@@ -1,7 +1,7 @@
 -- The argument of an option that names a symbol, cut at its first `=`.
 use Rattle.std.proofs.Common.{◌≡◌, ℕ, ◌+◌, List, [], ◌∷◌, take, drop, Bool, true, false, not, cond, Option, Some, refl, ap, one-add, ◌==◌, if◌then◌else◌}
 use Rattle.std.specs.List.{position_or_len}
-use Rattle.ud_model.specs.Arguments.{name_in, value_in}
+use Rattle.ud_model.specs.answer.Arguments.{name_in, value_in}
 use Rattle.ud_words.specs.Saying.{behind_first}
 
 -- the position of the first `=`

@@ -3,11 +3,11 @@ use Rattle.std.proofs.Common.{◌≡◌, ◌∙◌, ap, sym, refl, ℕ, List, []
 use Rattle.std.proofs.lemmas.List.Elements.{filter_map-append}
 use Rattle.std.specs.List.{filter_map}
 use Rattle.ud_cond.specs.Standing.{StandsFor}
-use Rattle.ud_model.specs.Table.{Argument}
+use Rattle.ud_model.specs.conditions.Table.{Argument}
 use Rattle.ud_model.specs.declared.settings.Settings.{Settings}
 use Rattle.ud_model.specs.declared.settings.ExitMode.{ExitMode}
 use Rattle.ud_model.specs.declared.settings.ExitMode.TheVariants.{Zero}
-use Rattle.ud_model.specs.CommandLine.{Given, flag, option, operand, first_fault, settings_in, argument_in, operand_in, place_of, Operand, mode_in, mode_from}
+use Rattle.ud_model.specs.answer.CommandLine.{Given, flag, option, operand, first_fault, settings_in, argument_in, operand_in, place_of, Operand, mode_in, mode_from}
 use Rattle.ud_words.specs.Storing.{PutsSymbol}
 use Rattle.ud_words.specs.Saying.{with_flag, SaysOfSymbol, IsSaid, IsFaultOf, IsUsageOf}
 use Rattle.ud_words.specs.declared.options.Said.{Said}

@@ -4,8 +4,8 @@
 --   left line         all that a command line of the code still gives
 --   given_then next   what its next call gives, and all that is given behind it
 use Rattle.std.specs.Prelude.{ℕ, List, [], ◌∷◌, map, chars, string_bytes, Option, Some, None, if◌then◌else◌}
-use Rattle.ud_model.specs.CommandLine.{flag, option, operand, unknown, lacking, operands_from, letters_given, given_from, given_behind}
-use Rattle.ud_model.specs.CommandLine.{Given as GivenInWords}
+use Rattle.ud_model.specs.answer.CommandLine.{flag, option, operand, unknown, lacking, operands_from, letters_given, given_from, given_behind}
+use Rattle.ud_model.specs.answer.CommandLine.{Given as GivenInWords}
 use Rattle.ud_words.specs.declared.command_line.CommandLine.{CommandLine}
 use Rattle.ud_words.specs.declared.command_line.Given.{Given}
 use Rattle.ud_words.specs.declared.command_line.Given.TheVariants.{Flag, WithArgument, Operand, Unknown, Lacking}

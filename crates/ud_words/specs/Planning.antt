@@ -7,8 +7,8 @@
 use Rattle.std.specs.Prelude.{◌≡◌, ℕ, List, Option, None}
 use Rattle.std.specs.List.{filter_map}
 use Rattle.ud_model.specs.declared.settings.Settings.{Settings}
-use Rattle.ud_model.specs.Table.{Argument}
-use Rattle.ud_model.specs.CommandLine.{Given, Operand, first_fault, settings_in, argument_in, operand_in, place_of, usage_fault, options_of, operand_of}
+use Rattle.ud_model.specs.conditions.Table.{Argument}
+use Rattle.ud_model.specs.answer.CommandLine.{Given, Operand, first_fault, settings_in, argument_in, operand_in, place_of, usage_fault, options_of, operand_of}
 use Rattle.ud_cond.specs.Standing.{StandsFor}
 use Rattle.ud_words.specs.declared.planning.Operand as declared
 

@@ -8,12 +8,12 @@
 --   with_flag s c         the settings with one more flag
 --   behind_first bytes    what stands behind the first of some bytes
 use Rattle.std.specs.Prelude.{◌≡◌, ℕ, List, [], ◌∷◌, false, ◌||◌, Option, Some, None, option_map, codes, if◌then◌else◌}
-use Rattle.ud_model.specs.Table.{Argument}
+use Rattle.ud_model.specs.conditions.Table.{Argument}
 use Rattle.ud_model.specs.declared.settings.Settings.{Settings}
 use Rattle.ud_model.specs.declared.settings.Listing.{Listing}
 use Rattle.ud_model.specs.declared.settings.Listing.TheVariants.{Off, Names, Depths}
-use Rattle.ud_model.specs.CommandLine.{flag, option, operand, is_among, symbol_in, mode_in, first_fault, UsageFault, unknown_option, missing_argument, bad_symbol_in, bad_mode_in, too_many_files}
-use Rattle.ud_model.specs.CommandLine.{Given as GivenInWords}
+use Rattle.ud_model.specs.answer.CommandLine.{flag, option, operand, is_among, symbol_in, mode_in, first_fault, UsageFault, unknown_option, missing_argument, bad_symbol_in, bad_mode_in, too_many_files}
+use Rattle.ud_model.specs.answer.CommandLine.{Given as GivenInWords}
 use Rattle.ud_words.specs.Storing.{PutsSymbol}
 use Rattle.ud_words.specs.declared.options.Symbol.{Symbol}
 use Rattle.ud_words.specs.declared.options.Said.{Said}

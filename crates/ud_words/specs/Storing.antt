@@ -2,7 +2,7 @@
 --
 --   PutsSymbol gs   among what is given an option says something of a symbol, and up to it nothing is wrong
 use Rattle.std.specs.Prelude.{◌≡◌, List, [], ◌∷◌, ◌++◌, None, IsSome}
-use Rattle.ud_model.specs.CommandLine.{Given, first_fault, argument_in}
+use Rattle.ud_model.specs.answer.CommandLine.{Given, first_fault, argument_in}
 
 pub record PutsSymbol (gs : List Given) : Type 0 where
   pub before : List Given

@@ -4,7 +4,7 @@
 //! told by `options`. Reading takes no memory.
 
 ghost use Rattle.std.specs.Prelude.{◌≡◌, ◌∷◌, ◌+◌, ◌<◌, ◌^◌, length, map, chars, string_bytes};
-ghost use Rattle.ud_model.specs.CommandLine.{is_flag, takes_argument, letters_in, operands_from, option_given, letters_given, given_from, given_behind, given_in};
+ghost use Rattle.ud_model.specs.answer.CommandLine.{is_flag, takes_argument, letters_in, operands_from, option_given, letters_given, given_from, given_behind, given_in};
 ghost use Rattle.ud_words.specs.Letters.{letters_then, bytes_then};
 
 /// What is given in the words.

@@ -1,9 +1,9 @@
 //! What options and operands say, and what is wrong with them (unifdef(1)).
 
 ghost use Rattle.std.specs.Prelude.{◌≡◌, ◌≤◌, ◌++◌, ◌∷◌, List, length, take, drop, None, false, is_some, option_map, IfOk, IfErr};
-ghost use Rattle.ud_model.specs.CommandLine.{option, mode_in, symbol_in, ignoring_symbol, defining, undefining, named, first_fault, operand_in};
-ghost use Rattle.ud_model.specs.CommandLine.{Given as GivenInWords};
-ghost use Rattle.ud_model.specs.Arguments.{name_in, value_in, is_name};
+ghost use Rattle.ud_model.specs.answer.CommandLine.{option, mode_in, symbol_in, ignoring_symbol, defining, undefining, named, first_fault, operand_in};
+ghost use Rattle.ud_model.specs.answer.CommandLine.{Given as GivenInWords};
+ghost use Rattle.ud_model.specs.answer.Arguments.{name_in, value_in, is_name};
 ghost use Rattle.ud_words.specs.Given.{told};
 ghost use Rattle.ud_words.specs.Saying.{IsSaid, IsFaultOf, as_argument, with_flag, with_names, behind_first};
 

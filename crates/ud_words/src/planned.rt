@@ -1,10 +1,10 @@
 //! The plan of a run: what the words of a command line say.
 
 ghost use Rattle.std.specs.Prelude.{◌≡◌, ◌++◌, ◌∷◌, [], List, None, IsSome, OnOk, IfErr};
-ghost use Rattle.ud_model.specs.Table.{Argument};
+ghost use Rattle.ud_model.specs.conditions.Table.{Argument};
 ghost use Rattle.ud_cond.specs.Standing.{StandsFor};
-ghost use Rattle.ud_model.specs.CommandLine.{Given as GivenInWords};
-ghost use Rattle.ud_model.specs.CommandLine.{argument_in};
+ghost use Rattle.ud_model.specs.answer.CommandLine.{Given as GivenInWords};
+ghost use Rattle.ud_model.specs.answer.CommandLine.{argument_in};
 ghost use Rattle.ud_words.specs.Given.{told};
 ghost use Rattle.ud_words.specs.Saying.{IsSaid, IsUsageOf, as_argument};
 ghost use Rattle.ud_words.specs.Planning.{PlansFor};

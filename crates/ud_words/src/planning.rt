@@ -1,7 +1,7 @@
 //! Reading the words of a command line: what they say, and where they are faulty.
 
 ghost use Rattle.std.specs.Prelude.{◌≡◌, ◌∷◌, [], None, Some, map, string_bytes, option_map, IfOk, IfErr};
-ghost use Rattle.ud_model.specs.CommandLine.{Given, usage_fault, given_in, operand_in, input_of, input_name};
+ghost use Rattle.ud_model.specs.answer.CommandLine.{Given, usage_fault, given_in, operand_in, input_of, input_name};
 ghost use Rattle.ud_words.specs.Saying.{IsSaid, IsFaultOf, IsUsageOf};
 ghost use Rattle.ud_words.specs.Planning.{IsPlanOf, as_operand};
 
@@ -67,7 +67,7 @@ pub(crate) struct Operand<'a> {
 }
 
 impl<'a> Operand<'a> {
-    ghost use Rattle.ud_model.specs.CommandLine.{is_standard, file_place, name_or_stdin};
+    ghost use Rattle.ud_model.specs.answer.CommandLine.{is_standard, file_place, name_or_stdin};
 
     /// Whether it is `-`, the standard input.
     fn is_standard(&self) -> bool

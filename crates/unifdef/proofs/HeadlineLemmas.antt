@@ -3,13 +3,13 @@ use Rattle.std.proofs.Common.{◌≡◌, ℕ, suc, List, [], ◌∷◌, ◌++◌
 use Rattle.std.specs.Prelude.{IfSome}
 use Rattle.std.specs.Io.KnownBytes.{Appends, Keeps}
 use Rattle.std.proofs.lemmas.List.{length-map}
-use Rattle.ud_model.specs.Lines.{Line, lines_of, numbered_from}
-use Rattle.ud_model.specs.Items.{Options}
-use Rattle.ud_model.specs.Table.{entry_in}
-use Rattle.ud_model.specs.CommandLine.{given_in, usage_fault, options_of, input_name}
-use Rattle.ud_model.specs.Answer.{usage_answer, memory_answer, refused, ran}
+use Rattle.ud_model.specs.text.Lines.{Line, lines_of, numbered_from}
+use Rattle.ud_model.specs.sections.Items.{Options}
+use Rattle.ud_model.specs.conditions.Table.{entry_in}
+use Rattle.ud_model.specs.answer.CommandLine.{given_in, usage_fault, options_of, input_name}
+use Rattle.ud_model.specs.answer.Answer.{usage_answer, memory_answer, refused, ran}
 use Rattle.ud_model.specs.declared.limits.TheConstants.{TEXT_LINES}
-use Rattle.ud_model.proofs.LinesLemmas.{length-numbered_from}
+use Rattle.ud_model.proofs.text.LinesLemmas.{length-numbered_from}
 use Rattle.ud_model.specs.declared.settings.Settings.{Settings}
 use Rattle.unifdef.specs.declared.held.Held.{Held}
 use Rattle.unifdef.specs.declared.intake.End.{End}

@@ -1,8 +1,8 @@
 -- What is told of the words of a command line, and what it tells.
 use Rattle.std.proofs.Common.{◌≡◌, ◌⊎◌, inl, inr, refl, subst, ℕ, List, Bool, Option, Some, None}
 use Rattle.std.specs.Prelude.{IfSome, IsSome}
-use Rattle.ud_model.specs.CommandLine.{Given, UsageFault, first_fault, unknown_option, missing_argument, bad_symbol_in, bad_mode_in, too_many_files, usage_message}
-use Rattle.ud_model.specs.Messages.{out_of_memory}
+use Rattle.ud_model.specs.answer.CommandLine.{Given, UsageFault, first_fault, unknown_option, missing_argument, bad_symbol_in, bad_mode_in, too_many_files, usage_message}
+use Rattle.ud_model.specs.answer.Messages.{out_of_memory}
 use Rattle.unifdef.specs.Refusals.{refusal_text, TellsUsage}
 use Rattle.unifdef.specs.Watching.{Says}
 use Rattle.ud_words.specs.Storing.{PutsSymbol}

@@ -7,12 +7,12 @@
 use Rattle.std.specs.Prelude.{◌≡◌, ℕ, List, [], ◌++◌, Bool, true, Option, Some, None}
 use Rattle.std.specs.List.{AllByRecursion}
 use Rattle.std.specs.Io.KnownBytes.{Appends}
-use Rattle.ud_model.specs.Lines.{Line, lines_of, numbered_from}
-use Rattle.ud_model.specs.Items.{Options}
-use Rattle.ud_model.specs.Faults as model
-use Rattle.ud_model.specs.Runs as runs
-use Rattle.ud_model.specs.Answer.{Answer, IsAnswer, run_answer, status_of, message_or_none}
-use Rattle.ud_model.specs.Pruning.{Mark}
+use Rattle.ud_model.specs.text.Lines.{Line, lines_of, numbered_from}
+use Rattle.ud_model.specs.sections.Items.{Options}
+use Rattle.ud_model.specs.sections.Faults as model
+use Rattle.ud_model.specs.answer.Runs as runs
+use Rattle.ud_model.specs.answer.Answer.{Answer, IsAnswer, run_answer, status_of, message_or_none}
+use Rattle.ud_model.specs.sections.Pruning.{Mark}
 use Rattle.unifdef.specs.Watching.{Says}
 use Rattle.unifdef.specs.Limits.{Rest, IsWithin}
 use Rattle.unifdef.specs.Inside.{items_in}

@@ -3,8 +3,8 @@
 --   refusal_text u                                 the message of this fault of the words, or of want of memory
 --   TellsUsage gs fault failed old new status      of what is given, at fault so, this was said, and this status given back
 use Rattle.std.specs.Prelude.{◌≡◌, ◌⊎◌, ℕ, List, Bool, Option}
-use Rattle.ud_model.specs.CommandLine.{Given, UsageFault, unknown_option, missing_argument, bad_symbol_in, bad_mode_in, too_many_files, usage_message}
-use Rattle.ud_model.specs.Messages.{out_of_memory}
+use Rattle.ud_model.specs.answer.CommandLine.{Given, UsageFault, unknown_option, missing_argument, bad_symbol_in, bad_mode_in, too_many_files, usage_message}
+use Rattle.ud_model.specs.answer.Messages.{out_of_memory}
 use Rattle.ud_words.specs.Storing.{PutsSymbol}
 use Rattle.ud_words.specs.declared.usage.Usage.{Usage}
 use Rattle.ud_words.specs.declared.usage.Usage.TheVariants.{UnknownOption, MissingArgument, BadSymbol, BadMode, TooManyFiles, OutOfMemory}

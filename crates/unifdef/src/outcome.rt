@@ -2,7 +2,7 @@
 
 ghost use Rattle.std.specs.Prelude.{◌≡◌, ◌≢◌, ◌+◌, ◌<◌, ◌≤◌, length, Option, IfSome, [], false};
 ghost use Rattle.ud_model.specs.declared.limits.TheConstants.{TEXT_LINES};
-ghost use Rattle.ud_model.specs.Answer.{status_by, status_under};
+ghost use Rattle.ud_model.specs.answer.Answer.{status_by, status_under};
 ghost use Rattle.unifdef.specs.Ending.{outcome_by, stopped_by, at_end, message_told, status_told};
 ghost use Rattle.unifdef.specs.Told.{limit_fault, misplaced_by};
 ghost use Rattle.unifdef.specs.Walking.{BeginsBefore};

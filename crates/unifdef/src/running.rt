@@ -1,11 +1,11 @@
 //! The tool: words, a text, what is left of it, and what is said of it.
 
 ghost use Rattle.std.specs.Prelude.{◌≡◌, ◌≢◌, ◌≤◌, ℕ, List, length, take, map, string_bytes, false, true, is_none, IfSome, IsSome, Option, Some, None, ◌⊎◌};
-ghost use Rattle.ud_model.specs.Lines.{numbered_from};
-ghost use Rattle.ud_model.specs.Items.{Options};
-ghost use Rattle.ud_model.specs.Answer.{memory_answer};
-ghost use Rattle.ud_model.specs.CommandLine.{given_in, usage_fault};
-ghost use Rattle.ud_model.specs.Listing.{listed};
+ghost use Rattle.ud_model.specs.text.Lines.{numbered_from};
+ghost use Rattle.ud_model.specs.sections.Items.{Options};
+ghost use Rattle.ud_model.specs.answer.Answer.{memory_answer};
+ghost use Rattle.ud_model.specs.answer.CommandLine.{given_in, usage_fault};
+ghost use Rattle.ud_model.specs.answer.Listing.{listed};
 ghost use Rattle.unifdef.specs.Counting.{counted};
 ghost use Rattle.ud_model.specs.declared.limits.TheConstants.{TEXT_LINES};
 ghost use Rattle.unifdef.specs.Asked.{options_by};
@@ -45,7 +45,7 @@ use ud_words::{input_name, plan};
 /// from 1, words too.
 ///
 /// Where memory isn't refused and neither `reader` nor `out` fails, what is appended to `out` and to `err` and the
-/// status are those of the one answer of the definitions (ud_model, specs/Answer.antt). `out` is flushed once at the end
+/// status are those of the one answer of the definitions (ud_model, specs/answer/Answer.antt). `out` is flushed once at the end
 /// of a run.
 ///
 /// # Errors

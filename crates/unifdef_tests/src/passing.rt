@@ -1,7 +1,7 @@
 //! Many lines at once: against the same lines read one by one, and how far it goes, of which no clause speaks.
 
 ghost use Rattle.std.specs.Prelude.{◌≡◌, ◌<◌, ◌≤◌, length, take, IfOk};
-ghost use Rattle.ud_model.specs.Lines.{NoFeed};
+ghost use Rattle.ud_model.specs.text.Lines.{NoFeed};
 
 use std::alloc::{AllocError, Global};
 use std::process::Abort;

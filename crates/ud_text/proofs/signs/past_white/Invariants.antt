@@ -1,6 +1,6 @@
 -- The bytes before the place are white.
 use Rattle.std.proofs.Common.{◌≡◌, length}
-use Rattle.ud_model.specs.Bytes.{past_white}
+use Rattle.ud_model.specs.text.Bytes.{past_white}
 use Rattle.ud_text.proofs.signs.past_white.Given as goal
 
 abbrev pub invariant-loop-first : goal.invariant-loop-first

@@ -1,6 +1,6 @@
 -- The bytes from the place on are white.
 use Rattle.std.proofs.Common.{◌≡◌, ◌≤◌, length, drop, true}
-use Rattle.ud_model.specs.Bytes.{are_white}
+use Rattle.ud_model.specs.text.Bytes.{are_white}
 use Rattle.ud_text.proofs.signs.white_begin.Given as goal
 
 abbrev pub invariant-loop-at : goal.invariant-loop-at

@@ -1,5 +1,5 @@
 use Rattle.std.proofs.Common.{◌∙◌, ◌∷◌}
-use Rattle.ud_model.specs.CommandLine.{operand_in}
+use Rattle.ud_model.specs.answer.CommandLine.{operand_in}
 use Rattle.ud_words.specs.Given.{told}
 use Rattle.ud_words.proofs.GivenLemmas.{first_fault-append, first_fault-behind_operand, operand_in-none}
 use Rattle.ud_words.proofs.options.accept.Goals as goal

@@ -1,6 +1,6 @@
 use Rattle.std.proofs.Common.{◌≡◌, ◌∙◌, ◌++◌, ◌∷◌, [], List, None, append_assoc, ap, sym, is_some, map, string_bytes}
 use Rattle.std.proofs.lemmas.Result.{err_from_is_err_and}
-use Rattle.ud_model.specs.CommandLine.{Given, given_in, operand_in}
+use Rattle.ud_model.specs.answer.CommandLine.{Given, given_in, operand_in}
 use Rattle.ud_words.specs.Given.{left, told}
 use Rattle.ud_words.specs.Planning.{as_operand}
 use Rattle.ud_words.proofs.GivenLemmas.{first_fault-append, operand_in-append, operand_in-none}

@@ -1,5 +1,5 @@
 use Rattle.std.proofs.Common.{◌≡◌, ◌++◌, List, None, length, map, string_bytes, option_map}
-use Rattle.ud_model.specs.CommandLine.{Given, given_in, first_fault, operand_in}
+use Rattle.ud_model.specs.answer.CommandLine.{Given, given_in, first_fault, operand_in}
 use Rattle.ud_words.specs.Given.{left}
 use Rattle.ud_words.specs.Planning.{as_operand}
 use Rattle.ud_words.proofs.planning.operand_in.Given as goal

@@ -1,6 +1,6 @@
 use Rattle.std.proofs.Common.{◌≡◌, ◌∙◌, ◌++◌, ◌∷◌, List, ap, map, string_bytes}
 use Rattle.std.proofs.lemmas.Result.{err_from_is_err_and}
-use Rattle.ud_model.specs.CommandLine.{Given, given_in}
+use Rattle.ud_model.specs.answer.CommandLine.{Given, given_in}
 use Rattle.ud_words.specs.Given.{left, told}
 use Rattle.ud_words.proofs.planning.plan.Goals as goal
 

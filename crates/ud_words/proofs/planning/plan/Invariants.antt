@@ -1,5 +1,5 @@
 use Rattle.std.proofs.Common.{◌≡◌, ◌++◌, List, length, map, string_bytes}
-use Rattle.ud_model.specs.CommandLine.{Given, given_in}
+use Rattle.ud_model.specs.answer.CommandLine.{Given, given_in}
 use Rattle.ud_words.specs.Given.{left}
 use Rattle.ud_words.specs.Planning.{PlansFor}
 use Rattle.ud_words.proofs.planning.plan.Given as goal

@@ -1,5 +1,5 @@
 use Rattle.std.proofs.Common.{rules, ◌≡◌, ◌<◌, ◌+◌, List, false, length, take, map, sym, ap, ◌∙◌, subst, ap₂, Some, None, arith}
-use Rattle.ud_model.specs.Lines.{numbered_from}
+use Rattle.ud_model.specs.text.Lines.{numbered_from}
 use Rattle.unifdef.specs.Asked.{options_by}
 use Rattle.unifdef.specs.Shapes.{first_shape, mark_of}
 use Rattle.unifdef.specs.Spoiled.{spoiled_from}

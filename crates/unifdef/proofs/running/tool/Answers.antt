@@ -1,6 +1,6 @@
 use Rattle.std.proofs.Common.{refl, ap, map, string_bytes, ◌∙◌}
-use Rattle.ud_model.specs.CommandLine.{given_in, usage_fault}
-use Rattle.ud_model.specs.Table.{entry_in}
+use Rattle.ud_model.specs.answer.CommandLine.{given_in, usage_fault}
+use Rattle.ud_model.specs.conditions.Table.{entry_in}
 use Rattle.unifdef.proofs.HeadlineLemmas.{usage_answers, run_answers}
 use Rattle.unifdef.proofs.RefusalLemmas.{right_is_no_fault, usage_tells}
 use Rattle.unifdef.proofs.running.tool.Goals as goal

@@ -1,8 +1,8 @@
 -- One byte more.
 use Rattle.std.proofs.Common.{sym, subst, take, get_or, [], ◌∷◌, arith}
 use Rattle.std.proofs.lemmas.List.{take_more}
-use Rattle.ud_model.specs.Lines.{NoFeed}
-use Rattle.ud_model.proofs.LinesLemmas.{no_feed-append}
+use Rattle.ud_model.specs.text.Lines.{NoFeed}
+use Rattle.ud_model.proofs.text.LinesLemmas.{no_feed-append}
 use Rattle.unifdef_tests.proofs.passing.body_len.Goals as goal
 
 pub loop-at-preserved : goal.loop-at-preserved

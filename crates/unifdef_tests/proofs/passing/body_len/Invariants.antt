@@ -1,6 +1,6 @@
 -- The bytes before the place have no line feed.
 use Rattle.std.proofs.Common.{◌≤◌, ◌-◌, length, take}
-use Rattle.ud_model.specs.Lines.{NoFeed}
+use Rattle.ud_model.specs.text.Lines.{NoFeed}
 use Rattle.unifdef_tests.proofs.passing.body_len.Given as goal
 
 abbrev pub invariant-loop-at : goal.invariant-loop-at

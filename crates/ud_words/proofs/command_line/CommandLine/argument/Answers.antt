@@ -1,7 +1,7 @@
 use Rattle.std.proofs.Common.{◌≡◌, refl, arith, add-one, ◌<◌, length, chars, map, string_bytes, List, [], ◌∷◌, ℕ}
 use Rattle.std.proofs.lemmas.Grind.{common_steps}
 use Rattle.std.proofs.lemmas.Str.{chars-nil}
-use Rattle.ud_model.specs.CommandLine.{given_behind, given_from}
+use Rattle.ud_model.specs.answer.CommandLine.{given_behind, given_from}
 use Rattle.ud_words.proofs.LetterLemmas.{option_given-bytes, chars-empty}
 use Rattle.ud_words.proofs.command_line.CommandLine.argument.Goals as goal
 

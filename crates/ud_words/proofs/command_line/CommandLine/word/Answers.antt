@@ -1,6 +1,6 @@
 use Rattle.std.proofs.Common.{◌≡◌, ◌∙◌, sym, arith, bytes_eq, codes, false, map, string_bytes, ◌∷◌, chars, ap}
 use Rattle.std.proofs.lemmas.Grind.{common_steps}
-use Rattle.ud_model.specs.CommandLine.{letters_in, given_from}
+use Rattle.ud_model.specs.answer.CommandLine.{letters_in, given_from}
 use Rattle.ud_words.proofs.LetterLemmas.{given_from-letters}
 use Rattle.ud_words.proofs.command_line.CommandLine.word.Goals as goal
 

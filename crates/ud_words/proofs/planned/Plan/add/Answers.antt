@@ -1,5 +1,5 @@
 use Rattle.std.proofs.Common.{◌≡◌, refl}
-use Rattle.ud_model.specs.CommandLine.{flag, operand, argument_in}
+use Rattle.ud_model.specs.answer.CommandLine.{flag, operand, argument_in}
 use Rattle.std.specs.List.{filter_map}
 use Rattle.ud_words.specs.Saying.{SaysOfSymbol, as_argument}
 use Rattle.ud_words.proofs.PlanLemmas.{plans_flag, plans_mode, plans_symbol, plans_operand}

@@ -1,6 +1,6 @@
 use Rattle.std.proofs.Common.{◌≡◌, ◌∙◌, ap, ◌++◌, ◌∷◌, is_some, None, IsSome}
 use Rattle.std.proofs.lemmas.Result.{IfErr-weaker}
-use Rattle.ud_model.specs.CommandLine.{operand_in, argument_in}
+use Rattle.ud_model.specs.answer.CommandLine.{operand_in, argument_in}
 use Rattle.ud_words.specs.Given.{told}
 use Rattle.ud_words.specs.Planning.{Planned}
 use Rattle.ud_words.specs.Saying.{IsUsageOf}
