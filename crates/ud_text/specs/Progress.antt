@@ -9,8 +9,8 @@
 --   Steps bytes p result                  a step leads to a further place, or stops at the beginning of a line
 --
 -- Two places move on together: `at`, up to where the bytes are read, and `line`, the last beginning of a line at which it
--- was noted what is carried there. `line` may lag behind by many lines, since every line begun after it begins outside
--- comments; it catches up where the reading stops or a block comment begins.
+-- was noted what is carried there. `line` may be many lines late, since every line begun after it begins outside
+-- comments; it catches up when the reading stops or a block comment begins.
 --
 -- Example: in `a` line feed `b /* c` with `at` before the `/`, `line` may be 0 or 2.
 use Rattle.std.specs.Prelude.{◌≡◌, ◌≤◌, ℕ, ◌+◌, List, ◌++◌, length, take, Bool, true, Result, MatchResult}

@@ -65,8 +65,8 @@ pub record LineSpan (white : Bool) (bytes : List ℕ) : Type 0 where
   pub quiet : IsQuiet (text_state white) bytes
   pub no_feed : NoFeedInBlock (text_state white) bytes
 
--- looking back over bytes without a comment tells whether the logical line is white after them; where they are all white,
--- only if it is known to be white before them
+-- looking back over bytes without a comment tells whether the logical line is white after them; if they are all white,
+-- only when it is known to be white before them
 pub data SeenWhite (bytes : List ℕ) (begins : Bool) : Bool → Type 0 where
   all_white : begins ≡ true → are_white bytes ≡ true → SeenWhite bytes begins true
   new_line : (front rest : List ℕ) → bytes ≡ front ++ line_feed ∷ rest → are_white rest ≡ true → SeenWhite bytes begins true

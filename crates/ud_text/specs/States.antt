@@ -68,19 +68,23 @@ abbrev pub state_after : State → List ℕ → State
 state_after s [] = s
 state_after s (b ∷ bytes) = state_after (next_state s b) bytes
 
--- the letters of `if`, `el` and `en`, of which each keyword begins with one
+-- `i`; each keyword begins with `if`, `el` or `en`
 abbrev pub letter_i : ℕ
 letter_i = 105
 
+-- `f`
 abbrev pub letter_f : ℕ
 letter_f = 102
 
+-- `e`
 abbrev pub letter_e : ℕ
 letter_e = 101
 
+-- `l`
 abbrev pub letter_l : ℕ
 letter_l = 108
 
+-- `n`
 abbrev pub letter_n : ℕ
 letter_n = 110
 

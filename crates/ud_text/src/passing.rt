@@ -246,8 +246,8 @@ fn pass_from(lines: &[u8], begun: Progress) -> LineStart
     last_line(lines, p.line, p.at)
 }
 
-/// Reads as many of these lines as are seen to be text, where the text is read so far before them. Answers the beginning
-/// of the first line that isn't read.
+/// Reads as many of these lines as are seen to be text, from what the lines before them leave. Answers the beginning of
+/// the first line that isn't read.
 pub(crate) fn pass_run(reached: Reached, lines: &[u8]) -> LineStart
     requires starts { can_start (place_of reached.place) reached.white ≡ true }
     ensures bound { result.at ≤ length lines.now }

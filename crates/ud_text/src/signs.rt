@@ -1,6 +1,6 @@
 //! Whether a `#` may belong to a directive, by the bytes before it and after it.
 //!
-//! It doesn't where a word that is no keyword follows, nor where its logical line isn't white before it (C11 6.10).
+//! It doesn't if a word that is no keyword follows, nor if its logical line isn't white before it (C11 6.10).
 
 ghost use Rattle.std.specs.Prelude.{◌≡◌, ◌≤◌, ◌<◌, ◌-◌, ◌⊎◌, length, drop, slice_index, true, false, IfSome};
 ghost use Rattle.ud_model.specs.text.Bytes.{is_white, are_white, past_white};

@@ -1,7 +1,7 @@
 //! Spans of bytes outside block comments that are read in one go, each begun by a byte that may matter.
 //!
-//! A span ends before the bytes do, and on its line. Where that isn't seen from the bytes, or a backslash may belong to a
-//! splice, there is no answer: the line is then read by itself.
+//! A span ends on the line on which it begins. If its end isn't seen in the bytes, or a backslash may belong to a splice,
+//! there is no answer: the line is then read by itself.
 
 ghost use Rattle.std.specs.Prelude.{◌≡◌, ◌≤◌, ◌<◌, Bool, [], ◌∷◌, length, take, slice_index, true, false, IfSome, OnSome};
 ghost use Rattle.ud_model.specs.text.Bytes.{slash, backslash, is_quote};
