@@ -38,3 +38,4 @@ pub mod CConditions
 pub mod CSelected
 pub mod SeenLines
 pub mod PrunedOpeners
+pub mod AnswerLaws

@@ -2,6 +2,7 @@
 --
 --   Answer                     output, message and status
 --   IsAnswer words input a     a is the answer to these words and this input; there is one at most
+--   copy_answer words text     the answer of a run that copies this text
 --
 -- The words are read (CommandLine). The input is cut into lines (Lines); each is scanned (Scans), read as text or a
 -- directive (Directives) with its condition (Conditions), and so they have a tree (Tree). The tree is pruned (Pruning)
@@ -51,6 +52,11 @@ usage_answer f = record { output = []; message = usage_message f; status = 2 }
 -- the answer of a run under these settings over the input of this name
 abbrev pub run_answer : Settings → List ℕ → Outcome → Answer
 run_answer s name r = record { output = r.output; message = message_or_none name r.fault; status = status_of s r.differs r.fault }
+
+-- the answer of a run whose output is a copy of its input
+abbrev pub copy_answer : List (List ℕ) → List ℕ → Answer
+copy_answer words text =
+    run_answer (options_of words).settings (input_name words) (record { output = text; fault = None; differs = false })
 
 pub data IsAnswer (words : List (List ℕ)) (input : List ℕ) : Answer → Type 0 where
   refused : (f : UsageFault) → usage_fault words ≡ Some f → IsAnswer words input (usage_answer f)
