@@ -41,7 +41,7 @@ run_command() {
 
 # The block that $work/block holds: each command with the lines behind it.
 run_block() {
-  local line command= first=yes
+  local line command="" first=yes
   rm -rf "$work/folder"
   mkdir "$work/folder"
   ln -s "$program" "$work/folder/unifdef"
