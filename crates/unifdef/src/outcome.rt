@@ -34,7 +34,7 @@ pub(crate) enum Outcome {
 
 /// What comes of a text of which so many lines were read, by why the walk over it stopped, if it did, what comes next
 /// behind it, whether a comment is open at the end, and why the reading stopped. Want of memory says nothing of a text.
-pub(crate) fn outcome_of(
+pub(crate) fn outcome_by(
     stop: Option<Stop>,
     next: Option<Shape>,
     count: u32,

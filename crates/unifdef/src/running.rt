@@ -25,7 +25,7 @@ use crate::intake::{End, read_text};
 use crate::listing::list_held;
 use crate::mark::Mark;
 use crate::messages::{report_out_of_memory, report_write_error};
-use crate::outcome::{Outcome, TROUBLE, outcome_of, tell};
+use crate::outcome::{Outcome, TROUBLE, outcome_by, tell};
 use crate::printing::print_held;
 use crate::refusals::report_refusal;
 use crate::spoiled::first_spoiled;
@@ -185,7 +185,7 @@ fn settle<W: Write, E: Write>(
             conclude(held, &marks[..count], outcome, asked, out, err)
         }
         None => {
-            let outcome = outcome_of(stop, walk.next(), marks.len() as u32, held.in_comment, end);
+            let outcome = outcome_by(stop, walk.next(), marks.len() as u32, held.in_comment, end);
             conclude(held, marks, outcome, asked, out, err)
         }
     }
