@@ -14,7 +14,7 @@ ghost use Rattle.unifdef.specs.Held.{Holds};
 ghost use Rattle.unifdef.specs.Outcomes.{output_told, differs_told};
 ghost use Rattle.unifdef.specs.Refusals.{TellsUsage};
 ghost use Rattle.unifdef.specs.Shapes.{mark_of};
-ghost use Rattle.unifdef.specs.Gave.{Gave, GivesAnswer, GivesRun, HeldInput, Comes};
+ghost use Rattle.unifdef.specs.Gave.{Streams, streams, Gave, GivesAnswer, GivesRun, HeldInput, Comes};
 ghost use Rattle.unifdef.specs.Walking.{BeginsBefore, WalkEnds};
 ghost use Rattle.unifdef.specs.Watching.{Says};
 
@@ -64,9 +64,11 @@ pub fn tool<R: Read, W: Write, E: Write>(
     requires out { out.old.failed ≡ false }
     requires err { err.old.failed ≡ false }
     // Where neither reading nor writing fails, this is the definition's answer, or memory was refused.
-    ensures headline { reader.new.failed ≡ false → out.new.failed ≡ false → IfSome (R.remaining reader.old.inner) (λ input.
-        GivesAnswer (map string_bytes words.now) input (W.contents out.old.inner) (W.contents out.new.inner) err.new.failed (E.contents err.old.inner) (E.contents err.new.inner) result
-        ⊎ Gave (W.contents out.old.inner) (W.contents out.new.inner) err.new.failed (E.contents err.old.inner) (E.contents err.new.inner) result memory_answer) }
+    ensures headline { let before : Streams = streams (W.contents out.old.inner) (E.contents err.old.inner) in
+        let after : Streams = streams (W.contents out.new.inner) (E.contents err.new.inner) in
+        reader.new.failed ≡ false → out.new.failed ≡ false → IfSome (R.remaining reader.old.inner) (λ input.
+        GivesAnswer (map string_bytes words.now) input before after err.new.failed result
+        ⊎ Gave before after err.new.failed result memory_answer) }
     // At a fault of the words nothing is read, nothing is done with `out`, and the fault is told, or that memory for a
     // symbol before it was refused.
     ensures untouched { IsSome (usage_fault (map string_bytes words.now)) → (reader.new ≡ reader.old) × (out.new ≡ out.old) }
@@ -103,9 +105,11 @@ fn run<R: Read, W: Write, E: Write>(
     requires reader { reader.old.failed ≡ false }
     requires out { out.old.failed ≡ false }
     requires err { err.old.failed ≡ false }
-    ensures gives { reader.new.failed ≡ false → out.new.failed ≡ false → IfSome (R.remaining reader.old.inner) (λ input.
-        GivesRun (options_by asked.entry) asked.entry.name.now input (W.contents out.old.inner) (W.contents out.new.inner) err.new.failed (E.contents err.old.inner) (E.contents err.new.inner) result
-        ⊎ Gave (W.contents out.old.inner) (W.contents out.new.inner) err.new.failed (E.contents err.old.inner) (E.contents err.new.inner) result memory_answer) }
+    ensures gives { let before : Streams = streams (W.contents out.old.inner) (E.contents err.old.inner) in
+        let after : Streams = streams (W.contents out.new.inner) (E.contents err.new.inner) in
+        reader.new.failed ≡ false → out.new.failed ≡ false → IfSome (R.remaining reader.old.inner) (λ input.
+        GivesRun (options_by asked.entry) asked.entry.name.now input before after err.new.failed result
+        ⊎ Gave before after err.new.failed result memory_answer) }
     ensures read_fails { reader.new.failed ≡ true → result ≡ 2 }
     ensures write_fails { out.new.failed ≡ true → result ≡ 2 }
 {
@@ -131,9 +135,11 @@ fn finish<W: Write, E: Write>(
     requires err { err.old.failed ≡ false }
     requires count { length held.now.seen.items ≤ TEXT_LINES }
     requires lines { (o : Options) × (texts : List (List ℕ)) × Holds o held.now (numbered_from 1 texts) }
-    ensures gives { out.new.failed ≡ false → (input : List ℕ) → HeldInput (options_by asked.entry) input held.now end →
-        GivesRun (options_by asked.entry) asked.entry.name.now input (W.contents out.old.inner) (W.contents out.new.inner) err.new.failed (E.contents err.old.inner) (E.contents err.new.inner) result
-        ⊎ Gave (W.contents out.old.inner) (W.contents out.new.inner) err.new.failed (E.contents err.old.inner) (E.contents err.new.inner) result memory_answer }
+    ensures gives { let before : Streams = streams (W.contents out.old.inner) (E.contents err.old.inner) in
+        let after : Streams = streams (W.contents out.new.inner) (E.contents err.new.inner) in
+        out.new.failed ≡ false → (input : List ℕ) → HeldInput (options_by asked.entry) input held.now end →
+        GivesRun (options_by asked.entry) asked.entry.name.now input before after err.new.failed result
+        ⊎ Gave before after err.new.failed result memory_answer }
     ensures read_fails { end ≡ End.Failed → result ≡ 2 }
     ensures write_fails { out.new.failed ≡ true → result ≡ 2 }
 {
@@ -171,9 +177,11 @@ fn settle<W: Write, E: Write>(
     requires opener { IfSome stop (BeginsBefore (length walk.now.marks.items)) }
     requires text { IfSome stop (λ s. s ≢ Stop.OutOfMemory) }
     requires lines { (o : Options) × (texts : List (List ℕ)) × Holds o held.now (numbered_from 1 texts) }
-    ensures gives { out.new.failed ≡ false → (input : List ℕ) → (h : HeldInput (options_by asked.entry) input held.now end) →
+    ensures gives { let before : Streams = streams (W.contents out.old.inner) (E.contents err.old.inner) in
+        let after : Streams = streams (W.contents out.new.inner) (E.contents err.new.inner) in
+        out.new.failed ≡ false → (input : List ℕ) → (h : HeldInput (options_by asked.entry) input held.now end) →
         WalkEnds walk.now (items_in (options_by asked.entry) (numbered_from 1 h.texts)) stop →
-        GivesRun (options_by asked.entry) asked.entry.name.now input (W.contents out.old.inner) (W.contents out.new.inner) err.new.failed (E.contents err.old.inner) (E.contents err.new.inner) result }
+        GivesRun (options_by asked.entry) asked.entry.name.now input before after err.new.failed result }
     ensures read_fails { end ≡ End.Failed → result ≡ 2 }
     ensures write_fails { out.new.failed ≡ true → result ≡ 2 }
 {
@@ -204,9 +212,11 @@ fn conclude<W: Write, E: Write>(
     requires err { err.old.failed ≡ false }
     requires count { length held.now.seen.items ≤ TEXT_LINES }
     requires lines { (o : Options) × (texts : List (List ℕ)) × Holds o held.now (numbered_from 1 texts) }
-    ensures gives { out.new.failed ≡ false → (input : List ℕ) → (texts : List (List ℕ)) → Holds (options_by asked.entry) held.now (numbered_from 1 texts) →
+    ensures gives { let before : Streams = streams (W.contents out.old.inner) (E.contents err.old.inner) in
+        let after : Streams = streams (W.contents out.new.inner) (E.contents err.new.inner) in
+        out.new.failed ≡ false → (input : List ℕ) → (texts : List (List ℕ)) → Holds (options_by asked.entry) held.now (numbered_from 1 texts) →
         Comes (options_by asked.entry) asked.entry.name.now input (numbered_from 1 texts) (map mark_of marks.now) outcome →
-        GivesRun (options_by asked.entry) asked.entry.name.now input (W.contents out.old.inner) (W.contents out.new.inner) err.new.failed (E.contents err.old.inner) (E.contents err.new.inner) result }
+        GivesRun (options_by asked.entry) asked.entry.name.now input before after err.new.failed result }
     ensures fault { outcome ≢ Outcome.Done → result ≡ 2 }
     ensures write_fails { out.new.failed ≡ true → result ≡ 2 }
 {
