@@ -56,7 +56,7 @@ def class_of(ours, theirs):
     if theirs.fault:
         return f"there alone: {theirs.fault}"
     if theirs.output == ours.output + b"\n":
-        return "there a line feed behind the last line"
+        return "there a line feed after the last line"
     line = first_other_line(ours.output, theirs.output)
     if re.match(rb"\s*#\s*(el)?if\b.*(\b\d+\W*(&&|\|\|)|(&&|\|\|)[\s(]*\d+)", line):
         return "there a constant operand decides"
