@@ -11,7 +11,7 @@ use Rattle.ud_model.specs.declared.kind.Mode.{Mode}
 use Rattle.ud_model.proofs.Each.{Each, each_parts}
 use Rattle.ud_model.proofs.Formed.{whole_ending}
 use Rattle.ud_model.proofs.Heeding.{the_mode, one_mode, sound_heed}
-use Rattle.ud_model.proofs.Soundness.{sound_lines, reading_of-next}
+use Rattle.ud_model.proofs.Soundness.{reading_of-next, sound_lines}
 use Rattle.ud_model.proofs.LeavesOff.{HasEnd}
 use Rattle.ud_model.proofs.Rereads.{Again, Between, IsLine, start}
 use Rattle.ud_model.proofs.RereadStep.{step}

@@ -1,28 +1,26 @@
 -- The laws of the output, from the chain of lemmas.
 use Rattle.std.proofs.Common.{◌≡◌, ℕ, ◌≤◌, List, [], ◌∷◌, ◌++◌, length, map, Bool, true, false, not, ◌||◌, Option, None, refl, sym, ◌∙◌, ap, ap₂, subst, append-nil, arith}
 use Rattle.std.specs.List.{concat}
-use Rattle.std.proofs.lemmas.List.{map-append, same_from_push}
+use Rattle.std.proofs.lemmas.List.{map-append}
 use Rattle.std.proofs.lemmas.List.Folds.{concat-append}
 use Rattle.ud_model.specs.Lines.{Line, text_of, texts_of, lines_of, numbered_from, AreFormed}
 use Rattle.ud_model.specs.Scans.{Reading}
 use Rattle.ud_model.specs.Directives.{content_of}
 use Rattle.ud_model.specs.Tree.{Item, Nodes, Groups, Elifs, Tree, text, section, conditional, otherwise, first, elif, text_line, if_line, elif_line, else_line, endif_line, closed, open_section, nothing, lines, lines_of_nodes, innermost, item_with, with_lines, groups_with_lines, elifs_with_lines}
 use Rattle.ud_model.specs.Pruning.{Mark, marks}
-use Rattle.ud_model.specs.Items.{Options, reading_of, line_of, next_item}
-use Rattle.ud_model.specs.Faults.{Fault, AreSound, no_lines, one_more, end_fault, end_by, ends_in_comment, last_number}
+use Rattle.ud_model.specs.Items.{Options, reading_of, line_of}
+use Rattle.ud_model.specs.Faults.{Fault, end_fault, end_by, ends_in_comment, last_number}
 use Rattle.ud_model.specs.Printing.{Judged, judged_lines, piece_by, piece_behind, pieces_by, style_of, some_other, keyword_in, printed_by}
 use Rattle.ud_model.specs.Runs.{Outcome, Runs, stops, ends, GoesThrough, output_by, differs_by}
 use Rattle.ud_model.specs.Worlds.{World, selected, Agrees, openers}
 use Rattle.ud_model.specs.Pruned.{Edited, edited, pruned, printed, left_item, IsUndecided, GroupsUndecided, ElifsUndecided}
-use Rattle.ud_model.specs.Rereading.{IsPlain, AreRead, no_items, one_item, IsTreeOf, HasTrees, KeepsTruths, LinesFit, line_bytes, edited_bytes}
+use Rattle.ud_model.specs.Rereading.{IsPlain, AreRead, IsTreeOf, HasTrees, KeepsTruths, LinesFit, line_bytes, edited_bytes}
 use Rattle.ud_model.specs.Expressions.{Expression}
 use Rattle.ud_model.specs.CSelection.{condition_in, IsCWorld}
 use Rattle.ud_model.specs.declared.settings.Listing.{Listing}
 use Rattle.ud_model.specs.declared.verdict.Verdict.{Verdict}
 use Rattle.ud_model.specs.declared.verdict.Verdict.TheVariants.{Keep, Remove, ToIf, ToElse, ToEndif}
-use Rattle.ud_model.proofs.Pushes.{push_not_nil}
-use Rattle.ud_model.proofs.Unique.{unique}
-use Rattle.ud_model.proofs.Soundness.{sound_lines, reading_of-next}
+use Rattle.ud_model.proofs.Soundness.{sound_read, one_tree_of, sound_lines}
 use Rattle.ud_model.proofs.Changed.{whole_lines_are, lines_join, lone, pieces_lone, no_innermost, end_parts}
 use Rattle.ud_model.proofs.PrintedPruned.{printed-pruned}
 use Rattle.ud_model.proofs.SelectedPruned.{selected-pruned}
@@ -38,7 +36,7 @@ use Rattle.std.proofs.lemmas.Slice.Eq.{bytes_eq-Decides}
 use Rattle.ud_model.proofs.Heeding.{the_mode, are_read}
 use Rattle.ud_model.proofs.OutputPieces.{line_in, pieces_formed, output_lines}
 use Rattle.ud_model.proofs.Rereads.{Again, IsUncut}
-use Rattle.ud_model.proofs.SoundAgain.{read_lines, sound_again}
+use Rattle.ud_model.proofs.SoundAgain.{sound_again}
 use Rattle.ud_model.proofs.SoundBounds.{IsFew, fit_short, sound_low, sound_few, again_few}
 use Rattle.ud_model.proofs.PrunedHeights.{pruned_height, height-with}
 use Rattle.ud_model.specs.Height.{height, height_of_nodes}
@@ -46,32 +44,6 @@ use Rattle.ud_model.specs.declared.limits.TheConstants.{OPEN_SECTIONS}
 use Rattle.ud_model.proofs.RereadChain.{AllButLast, lines_end, again}
 use Rattle.ud_model.proofs.LinesLemmas.{lines_exist}
 use Rattle.ud_model.proofs.CSelected.{Clear, sound_clear, c_agrees}
-
-sound_read : {o : Options} {xs : List (Item Reading)} {t : Tree Reading} → AreSound o xs t → AreRead o xs t
-sound_read no_lines = no_items
-sound_read (one_more xs t s l u e n) = one_item xs t (sound_read s) l u e
-
-module _ (o : Options) where
-  lines_next : (xs : List (Item Reading)) (t : Tree Reading) (l : Line) → map line_of (xs ++ next_item o xs t l ∷ []) ≡ map line_of xs ++ l ∷ []
-  lines_next xs t l = map-append line_of xs (next_item o xs t l ∷ []) ∙ ap (λ k. map line_of xs ++ k ∷ []) (reading_of-next o xs t l)
-
-  read_once : {xs ys : List (Item Reading)} {t u : Tree Reading} → AreRead o xs t → AreRead o ys u → xs ≡ ys → t ≡ u
-  read_once {t = t} {u = u} a b e = unique t u (read_lines a ∙ e ∙ sym (read_lines b))
-
-  -- items that are read of the same lines are the same
-  read_same : (xs ys : List (Item Reading)) (t u : Tree Reading) → AreRead o xs t → AreRead o ys u → map line_of xs ≡ map line_of ys → xs ≡ ys
-  read_same _ _ _ _ no_items no_items e = refl
-  read_same _ _ _ _ no_items (one_item ys u b k v d) e = absurd (push_not_nil (map line_of ys) k (sym (lines_next ys u k) ∙ sym e))
-  read_same _ _ _ _ (one_item xs t a l w c) no_items e = absurd (push_not_nil (map line_of xs) l (sym (lines_next xs t l) ∙ e))
-  read_same _ _ _ _ (one_item xs t a l w c) (one_item ys u b k v d) e =
-      let s : (map line_of xs ≡ map line_of ys) × (l ≡ k) = same_from_push (map line_of xs) (map line_of ys) l k (sym (lines_next xs t l) ∙ e ∙ lines_next ys u k) in
-      let q : xs ≡ ys = read_same xs ys t u a b s.0 in
-      let p : t ≡ u = read_once a b q in
-      rw (q, p, s.1)
-
-  -- a text has one tree at most
-  pub one_tree_of : (input : List ℕ) (t u : Tree Reading) → IsTreeOf o input t → IsTreeOf o input u → t ≡ u
-  one_tree_of input t u a b = read_once a.read b.read (read_same a.items b.items t u a.read b.read (sym a.are ∙ b.are))
 
 -- what is printed of a line is what is left of it
 left_bytes : (v : Verdict) (x : Item Reading) →

@@ -13,11 +13,11 @@ use Rattle.ud_model.specs.Rereading.{line_bytes}
 use Rattle.ud_model.specs.declared.kind.Mode.{Mode}
 use Rattle.ud_model.specs.declared.verdict.Verdict.{Verdict}
 use Rattle.ud_model.specs.declared.verdict.Verdict.TheVariants.{Remove}
+use Rattle.ud_model.proofs.Soundness.{reading_of-item_of}
 use Rattle.ud_model.proofs.Each.{each_both}
 use Rattle.ud_model.proofs.Heeding.{one_read}
 use Rattle.ud_model.proofs.LinesLemmas.{text_of-line_at, numbered_from-next}
 use Rattle.ud_model.proofs.PrintedPruned.{printed-append}
-use Rattle.ud_model.proofs.Soundness.{reading_of-item_of}
 use Rattle.ud_model.proofs.LeftReadings.{Left}
 use Rattle.ud_model.proofs.Rereads.{Again, IsUncut}
 use Rattle.ud_model.proofs.SeenLines.{Seen, seen, left_seen}
