@@ -75,3 +75,4 @@ pub mod CConditions
 pub mod CSelected
 pub mod SeenLines
 pub mod PrunedOpeners
+pub mod WorldsExist

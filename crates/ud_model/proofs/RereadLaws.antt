@@ -1,7 +1,7 @@
 -- The laws of the output, from the chain of lemmas.
 use Rattle.std.proofs.Common.{◌≡◌, ℕ, ◌≤◌, List, [], ◌∷◌, ◌++◌, length, map, Bool, true, false, not, ◌||◌, Option, None, refl, sym, ◌∙◌, ap, ap₂, subst, append-nil, arith}
 use Rattle.std.specs.List.{concat}
-use Rattle.std.proofs.lemmas.List.{map-append}
+use Rattle.std.proofs.lemmas.List.{map-append, length-map}
 use Rattle.std.proofs.lemmas.List.Folds.{concat-append}
 use Rattle.ud_model.specs.Lines.{Line, text_of, texts_of, lines_of, numbered_from, AreFormed}
 use Rattle.ud_model.specs.Scans.{Reading}
@@ -20,12 +20,13 @@ use Rattle.ud_model.specs.CSelection.{condition_in, IsCWorld}
 use Rattle.ud_model.specs.declared.settings.Listing.{Listing}
 use Rattle.ud_model.specs.declared.verdict.Verdict.{Verdict}
 use Rattle.ud_model.specs.declared.verdict.Verdict.TheVariants.{Keep, Remove, ToIf, ToElse, ToEndif}
-use Rattle.ud_model.proofs.Soundness.{sound_read, one_tree_of, sound_lines}
+use Rattle.ud_model.proofs.Soundness.{sound_read, one_tree_of, sound_lines, read_lines}
 use Rattle.ud_model.proofs.Changed.{whole_lines_are, lines_join, lone, pieces_lone, no_innermost, end_parts}
 use Rattle.ud_model.proofs.PrintedPruned.{printed-pruned}
 use Rattle.ud_model.proofs.SelectedPruned.{selected-pruned}
 use Rattle.ud_model.proofs.SameShape.{same_selected, openers-with}
 use Rattle.ud_model.proofs.SeenLines.{Seen, seen, left_condition, left_seen, with_lines-twice, map-twice}
+use Rattle.ud_model.proofs.WorldsExist.{world_of}
 use Rattle.ud_model.proofs.PrunedOpeners.{KeepsCondition, Keeps, pruned_keeps}
 use Rattle.ud_model.proofs.TreeAlong.{AlongNodes, nodes_along}
 use Rattle.ud_model.proofs.Undecided.{Stays, pruned_undecided, undecided_stay}
@@ -202,6 +203,14 @@ module _ {o : Options} {input : List ℕ} {r : Outcome} {ns us : Nodes Reading} 
       ∙ ap (λ (l : List Seen). map (λ (q : Seen). q.condition) l)
       (sym (openers-with seen us) ∙ ap (λ (m : Nodes Seen). openers m) (ap (with_lines seen) same_tree ∙ result.alike) ∙ openers-with left_seen (pruned ns))
       ∙ map-twice left_seen (λ (q : Seen). q.condition) (openers (pruned ns)) ∙ kept_conditions (openers (pruned ns)) (pruned_keeps ns)
+
+  -- the openers of the output can be given the truths of those from which they come
+  pub truths_kept : (w : World Reading) → (v : World Reading) × KeepsTruths w ns v us
+  truths_kept w =
+      world_of r.output us (map (λ (e : Edited Reading). w e.line) (openers (pruned ns)))
+      (ap (λ (ys : List (Item Reading)). map line_of ys) (read_lines k.of_output.read) ∙ sym k.of_output.are)
+      (length-map (openers (pruned ns)) (λ (e : Edited Reading). w e.line) ∙ sym (length-map (openers (pruned ns)) (λ (e : Edited Reading). condition_in e.line))
+      ∙ ap (λ (l : List (Option Expression)). length l) (sym conditions_same) ∙ length-map (openers us) condition_in)
 
 clear_run : {o : Options} {input : List ℕ} {r : Outcome} → Runs o input r → r.fault ≡ None → (ns : Nodes Reading) → IsTreeOf o input (closed ns) →
     Pairwise (Clear o) (lines (closed ns)) (marks (closed ns))

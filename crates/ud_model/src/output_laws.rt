@@ -45,10 +45,12 @@ pub fn law_reread()
     ensures again { (o : Options) → (input : List ℕ) → (r : Outcome) → IsClean o input r → LinesFit (lines_of r.output) → Runs o r.output (record { output = r.output; fault = None; differs = false }) }
 {}
 
-/// In each world that agrees with what is decided of the input, the lines that are selected of the output are those that
-/// are selected of the input, byte by byte (C11 6.10.1p6).
+/// Each opener of the output can be given the truth of the opener from which it comes. If the world agrees with what is
+/// decided of the input, the lines that are selected of the output are then those that are selected of the input, byte by
+/// byte (C11 6.10.1p6).
 pub fn law_selected()
-    ensures { (o : Options) → (input : List ℕ) → (r : Outcome) → (ns : Nodes Reading) → (us : Nodes Reading) → HasTrees o input r ns us → (w : World Reading) → (v : World Reading) → Agrees w ns → KeepsTruths w ns v us → map line_bytes (selected v us) ≡ map line_bytes (selected w ns) }
+    ensures truths { (o : Options) → (input : List ℕ) → (r : Outcome) → (ns : Nodes Reading) → (us : Nodes Reading) → HasTrees o input r ns us → (w : World Reading) → (v : World Reading) × KeepsTruths w ns v us }
+    ensures same { (o : Options) → (input : List ℕ) → (r : Outcome) → (ns : Nodes Reading) → (us : Nodes Reading) → HasTrees o input r ns us → (w : World Reading) → (v : World Reading) → Agrees w ns → KeepsTruths w ns v us → map line_bytes (selected v us) ≡ map line_bytes (selected w ns) }
 {}
 
 /// Whatever C makes of each condition that it evaluates, where each symbol that the options don't name is any number: the
