@@ -76,3 +76,5 @@ pub mod CSelected
 pub mod SeenLines
 pub mod PrunedOpeners
 pub mod WorldsExist
+pub mod ReachedPruned
+pub mod ReachedAlike

@@ -7,7 +7,7 @@ use Rattle.ud_model.specs.Lines.{Line, text_of, texts_of, lines_of, numbered_fro
 use Rattle.ud_model.specs.Scans.{Reading}
 use Rattle.ud_model.specs.Directives.{content_of}
 use Rattle.ud_model.specs.Tree.{Item, Nodes, Groups, Elifs, Tree, text, section, conditional, otherwise, first, elif, text_line, if_line, elif_line, else_line, endif_line, closed, open_section, nothing, lines, lines_of_nodes, innermost, item_with, with_lines, groups_with_lines, elifs_with_lines}
-use Rattle.ud_model.specs.Pruning.{Mark, marks}
+use Rattle.ud_model.specs.Pruning.{Mark, marks, Part, an_if, an_elif, an_else, first_kept_verdict}
 use Rattle.ud_model.specs.Items.{Options, reading_of, line_of}
 use Rattle.ud_model.specs.Faults.{Fault, end_fault, end_by, ends_in_comment, last_number}
 use Rattle.ud_model.specs.Printing.{Judged, judged_lines, piece_by, piece_behind, pieces_by, style_of, some_other, keyword_in, printed_by}
@@ -16,7 +16,7 @@ use Rattle.ud_model.specs.Worlds.{World, selected, Agrees, openers}
 use Rattle.ud_model.specs.Pruned.{Edited, edited, pruned, printed, left_item, IsUndecided, GroupsUndecided, ElifsUndecided}
 use Rattle.ud_model.specs.Rereading.{IsPlain, AreRead, IsTreeOf, HasTrees, KeepsTruths, LinesFit, line_bytes, edited_bytes}
 use Rattle.ud_model.specs.Expressions.{Expression}
-use Rattle.ud_model.specs.CSelection.{condition_in, IsCWorld}
+use Rattle.ud_model.specs.CSelection.{condition_in, MayBe, IsCWorld}
 use Rattle.ud_model.specs.declared.settings.Listing.{Listing}
 use Rattle.ud_model.specs.declared.verdict.Verdict.{Verdict}
 use Rattle.ud_model.specs.declared.verdict.Verdict.TheVariants.{Keep, Remove, ToIf, ToElse, ToEndif}
@@ -26,6 +26,8 @@ use Rattle.ud_model.proofs.PrintedPruned.{printed-pruned}
 use Rattle.ud_model.proofs.SelectedPruned.{selected-pruned}
 use Rattle.ud_model.proofs.SameShape.{same_selected, openers-with}
 use Rattle.ud_model.proofs.SeenLines.{Seen, seen, left_condition, left_seen, with_lines-twice, map-twice}
+use Rattle.ud_model.proofs.ReachedPruned.{pruned_reached}
+use Rattle.ud_model.proofs.ReachedAlike.{reached_alike}
 use Rattle.ud_model.proofs.WorldsExist.{world_of}
 use Rattle.ud_model.proofs.PrunedOpeners.{KeepsCondition, Keeps, pruned_keeps}
 use Rattle.ud_model.proofs.TreeAlong.{AlongNodes, nodes_along}
@@ -219,10 +221,26 @@ clear_run {o = o} {input = input} (ends xs t g) e ns a =
     subst (λ (u : Tree Reading). Pairwise (Clear o) (lines u) (marks u)) (one_tree_of o input t (closed ns) (record { items = xs; read = sound_read g.sound; are = g.are }) a)
     (subst (λ (zs : List (Item Reading)). Pairwise (Clear o) zs (marks t)) (sym (sound_lines g.sound)) (sound_clear o xs t g.sound))
 
+-- such a world agrees with what is decided
+c_world_agrees : {o : Options} {input : List ℕ} {r : Outcome} {ns us : Nodes Reading} → HasTrees o input r ns us → (w : World Reading) → IsCWorld o.table w ns → Agrees w ns
+c_world_agrees {o = o} {ns = ns} k w g = c_agrees o w ns (clear_run k.clean.runs k.clean.faultless ns k.of_input) g
+
+-- C may give the output the world that keeps its truths
+pub c_world_again : {o : Options} {input : List ℕ} {r : Outcome} {ns us : Nodes Reading} → HasTrees o input r ns us → (w v : World Reading) → IsCWorld o.table w ns →
+    KeepsTruths w ns v us → IsCWorld o.table v us
+c_world_again {o = o} {input = input} {r = r} {ns = ns} {us = us} k w v g t =
+    reached_alike seen left_seen v (λ (e : Edited Reading). w e.line) (λ (s : Seen) (b : Bool). MayBe o.table s.condition b) us (pruned ns) (ap (with_lines seen) (same_tree k) ∙ (result k).alike) t
+    (pruned_reached w (λ (l : Reading). MayBe o.table (condition_in l) (w l)) (λ (e : Edited Reading). MayBe o.table (left_seen e).condition (w e.line)) still ns (c_world_agrees k w g) g)
+  where
+    still : (part : Part) (l : Reading) → MayBe o.table (condition_in l) (w l) → MayBe o.table (left_condition (first_kept_verdict part) l) (w l)
+    still an_if l h = h
+    still an_elif l h = h
+    still an_else l h = h
+
 -- so it is in each world that C may give the input
 pub c_selected_again : {o : Options} {input : List ℕ} {r : Outcome} {ns us : Nodes Reading} → HasTrees o input r ns us → (w v : World Reading) → IsCWorld o.table w ns →
     KeepsTruths w ns v us → map line_bytes (selected v us) ≡ map line_bytes (selected w ns)
-c_selected_again {o = o} {ns = ns} k w v g t = selected_again k w v (c_agrees o w ns (clear_run k.clean.runs k.clean.faultless ns k.of_input) g) t
+c_selected_again k w v g t = selected_again k w v (c_world_agrees k w g) t
 
 module _ {L M : Type 0} (f : L → M) where
   mutual

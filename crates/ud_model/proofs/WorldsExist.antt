@@ -1,5 +1,5 @@
 -- The lines of a text have numbers of their own, so its openers can be given any truths.
-use Rattle.std.proofs.Common.{◌≡◌, ℕ, suc, ◌+◌, ◌≤◌, ◌<◌, ◌==◌, List, [], ◌∷◌, ◌++◌, length, map, Bool, true, false, if◌then◌else◌, refl, sym, ◌∙◌, ap, ap₂, arith, ne_eqb}
+use Rattle.std.proofs.Common.{◌≡◌, ℕ, suc, ◌≤◌, ◌<◌, ◌==◌, List, [], ◌∷◌, ◌++◌, length, map, Bool, true, false, if◌then◌else◌, refl, sym, ◌∙◌, ap, ap₂, arith, ne_eqb}
 use Rattle.std.proofs.lemmas.Bool.{eq-eqb}
 use Rattle.ud_model.specs.Lines.{Line, line_at, numbered_from, lines_of, texts_of}
 use Rattle.ud_model.specs.Scans.{Reading}

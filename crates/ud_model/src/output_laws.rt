@@ -54,9 +54,11 @@ pub fn law_selected()
 {}
 
 /// Whatever C makes of each condition that it evaluates, where each symbol that the options don't name is any number: the
-/// lines that it selects of the output are those that it selects of the input, byte by byte (C11 6.10.1p4, p6). And each
-/// opener of the output has the very condition of the opener from which it comes, so C may make the same of both.
+/// lines that it selects of the output are those that it selects of the input, byte by byte (C11 6.10.1p4, p6). Each opener
+/// of the output has the very condition of the opener from which it comes, so C may make of the output what it makes of the
+/// input.
 pub fn law_c_selects()
     ensures selected { (o : Options) → (input : List ℕ) → (r : Outcome) → (ns : Nodes Reading) → (us : Nodes Reading) → HasTrees o input r ns us → (w : World Reading) → (v : World Reading) → IsCWorld o.table w ns → KeepsTruths w ns v us → map line_bytes (selected v us) ≡ map line_bytes (selected w ns) }
     ensures conditions { (o : Options) → (input : List ℕ) → (r : Outcome) → (ns : Nodes Reading) → (us : Nodes Reading) → HasTrees o input r ns us → map condition_in (openers us) ≡ map (λ e. condition_in e.line) (openers (pruned ns)) }
+    ensures world { (o : Options) → (input : List ℕ) → (r : Outcome) → (ns : Nodes Reading) → (us : Nodes Reading) → HasTrees o input r ns us → (w : World Reading) → (v : World Reading) → IsCWorld o.table w ns → KeepsTruths w ns v us → IsCWorld o.table v us }
 {}
