@@ -14,7 +14,7 @@ use Rattle.ud_model.specs.Printing.{Judged, judged_lines, piece_by, piece_behind
 use Rattle.ud_model.specs.Runs.{Outcome, Runs, stops, ends, GoesThrough, output_by, differs_by}
 use Rattle.ud_model.specs.Worlds.{World, selected, Agrees, openers}
 use Rattle.ud_model.specs.Pruned.{Edited, edited, pruned, printed, left_item, IsUndecided, GroupsUndecided, ElifsUndecided}
-use Rattle.ud_model.specs.Rereading.{IsPlain, AreRead, IsTreeOf, HasTrees, KeepsTruths, LinesFit, line_bytes, edited_bytes}
+use Rattle.ud_model.specs.Rereading.{IsPlain, AreRead, IsTreeOf, CleanRun, KeepsTruths, LinesFit, line_bytes, edited_bytes}
 use Rattle.ud_model.specs.Expressions.{Expression}
 use Rattle.ud_model.specs.CSelection.{condition_in, MayBe, IsCWorld}
 use Rattle.ud_model.specs.declared.settings.Listing.{Listing}
@@ -183,36 +183,36 @@ kept_conditions : (es : List (Edited Reading)) → Each Keeps es → map (λ (e 
 kept_conditions [] h = refl
 kept_conditions (e ∷ es) h = ap₂ (λ (x : Option Expression) (xs : List (Option Expression)). x ∷ xs) (kept_condition e.verdict e.line h.0) (kept_conditions es h.1)
 
-module _ {o : Options} {input : List ℕ} {r : Outcome} {ns us : Nodes Reading} (k : HasTrees o input r ns us) where
+module _ (k : CleanRun) where
   -- what the output has is what is left of the input
-  abbrev result : Result o k.clean.plain input r ns
-  result = reread o k.clean.plain input k.clean.runs k.clean.faultless ns k.of_input
+  abbrev result : Result k.options k.clean.plain k.input k.outcome k.before
+  result = reread k.options k.clean.plain k.input k.clean.runs k.clean.faultless k.before k.of_input
 
   -- and its tree is the one that it has
-  same_tree : us ≡ result.tree
-  same_tree = same_nodes us result.tree (one_tree_of o r.output (closed us) (closed result.tree) k.of_output result.is_tree)
+  same_tree : k.after ≡ result.tree
+  same_tree = same_nodes k.after result.tree (one_tree_of k.options k.outcome.output (closed k.after) (closed result.tree) k.of_output result.is_tree)
 
   -- what is selected of the output is what is selected of the input
-  pub selected_again : (w v : World Reading) → Agrees w ns → KeepsTruths w ns v us → map line_bytes (selected v us) ≡ map line_bytes (selected w ns)
+  pub selected_again : (w v : World Reading) → Agrees w k.before → KeepsTruths k w v → map line_bytes (selected v k.after) ≡ map line_bytes (selected w k.before)
   selected_again w v g t =
-      same_selected line_bytes edited_bytes v (λ (x : Edited Reading). w x.line) us (pruned ns) (ap (with_lines line_bytes) same_tree ∙ result.same) t
-      ∙ ap (λ (l : List (Edited Reading)). map edited_bytes l) (sym (selected-pruned w ns g)) ∙ kept_bytes (selected w ns)
+      same_selected line_bytes edited_bytes v (λ (x : Edited Reading). w x.line) k.after (pruned k.before) (ap (with_lines line_bytes) same_tree ∙ result.same) t
+      ∙ ap (λ (l : List (Edited Reading)). map edited_bytes l) (sym (selected-pruned w k.before g)) ∙ kept_bytes (selected w k.before)
 
   -- each opener of the output has the condition of the opener from which it comes
-  pub conditions_same : map condition_in (openers us) ≡ map (λ (e : Edited Reading). condition_in e.line) (openers (pruned ns))
+  pub conditions_same : map condition_in (openers k.after) ≡ map (λ (e : Edited Reading). condition_in e.line) (openers (pruned k.before))
   conditions_same =
-      sym (map-twice seen (λ (q : Seen). q.condition) (openers us))
+      sym (map-twice seen (λ (q : Seen). q.condition) (openers k.after))
       ∙ ap (λ (l : List Seen). map (λ (q : Seen). q.condition) l)
-      (sym (openers-with seen us) ∙ ap (λ (m : Nodes Seen). openers m) (ap (with_lines seen) same_tree ∙ result.alike) ∙ openers-with left_seen (pruned ns))
-      ∙ map-twice left_seen (λ (q : Seen). q.condition) (openers (pruned ns)) ∙ kept_conditions (openers (pruned ns)) (pruned_keeps ns)
+      (sym (openers-with seen k.after) ∙ ap (λ (m : Nodes Seen). openers m) (ap (with_lines seen) same_tree ∙ result.alike) ∙ openers-with left_seen (pruned k.before))
+      ∙ map-twice left_seen (λ (q : Seen). q.condition) (openers (pruned k.before)) ∙ kept_conditions (openers (pruned k.before)) (pruned_keeps k.before)
 
   -- the openers of the output can be given the truths of those from which they come
-  pub truths_kept : (w : World Reading) → (v : World Reading) × KeepsTruths w ns v us
+  pub truths_kept : (w : World Reading) → (v : World Reading) × KeepsTruths k w v
   truths_kept w =
-      world_of r.output us (map (λ (e : Edited Reading). w e.line) (openers (pruned ns)))
+      world_of k.outcome.output k.after (map (λ (e : Edited Reading). w e.line) (openers (pruned k.before)))
       (ap (λ (ys : List (Item Reading)). map line_of ys) (read_lines k.of_output.read) ∙ sym k.of_output.are)
-      (length-map (openers (pruned ns)) (λ (e : Edited Reading). w e.line) ∙ sym (length-map (openers (pruned ns)) (λ (e : Edited Reading). condition_in e.line))
-      ∙ ap (λ (l : List (Option Expression)). length l) (sym conditions_same) ∙ length-map (openers us) condition_in)
+      (length-map (openers (pruned k.before)) (λ (e : Edited Reading). w e.line) ∙ sym (length-map (openers (pruned k.before)) (λ (e : Edited Reading). condition_in e.line))
+      ∙ ap (λ (l : List (Option Expression)). length l) (sym conditions_same) ∙ length-map (openers k.after) condition_in)
 
 clear_run : {o : Options} {input : List ℕ} {r : Outcome} → Runs o input r → r.fault ≡ None → (ns : Nodes Reading) → IsTreeOf o input (closed ns) →
     Pairwise (Clear o) (lines (closed ns)) (marks (closed ns))
@@ -221,26 +221,27 @@ clear_run {o = o} {input = input} (ends xs t g) e ns a =
     subst (λ (u : Tree Reading). Pairwise (Clear o) (lines u) (marks u)) (one_tree_of o input t (closed ns) (record { items = xs; read = sound_read g.sound; are = g.are }) a)
     (subst (λ (zs : List (Item Reading)). Pairwise (Clear o) zs (marks t)) (sym (sound_lines g.sound)) (sound_clear o xs t g.sound))
 
--- such a world agrees with what is decided
-c_world_agrees : {o : Options} {input : List ℕ} {r : Outcome} {ns us : Nodes Reading} → HasTrees o input r ns us → (w : World Reading) → IsCWorld o.table w ns → Agrees w ns
-c_world_agrees {o = o} {ns = ns} k w g = c_agrees o w ns (clear_run k.clean.runs k.clean.faultless ns k.of_input) g
+module _ (k : CleanRun) (w : World Reading) (g : IsCWorld k.options.table w k.before) where
+  -- a world that C may give the input agrees with what is decided
+  c_world_agrees : Agrees w k.before
+  c_world_agrees = c_agrees k.options w k.before (clear_run k.clean.runs k.clean.faultless k.before k.of_input) g
 
--- C may give the output the world that keeps its truths
-pub c_world_again : {o : Options} {input : List ℕ} {r : Outcome} {ns us : Nodes Reading} → HasTrees o input r ns us → (w v : World Reading) → IsCWorld o.table w ns →
-    KeepsTruths w ns v us → IsCWorld o.table v us
-c_world_again {o = o} {input = input} {r = r} {ns = ns} {us = us} k w v g t =
-    reached_alike seen left_seen v (λ (e : Edited Reading). w e.line) (λ (s : Seen) (b : Bool). MayBe o.table s.condition b) us (pruned ns) (ap (with_lines seen) (same_tree k) ∙ (result k).alike) t
-    (pruned_reached w (λ (l : Reading). MayBe o.table (condition_in l) (w l)) (λ (e : Edited Reading). MayBe o.table (left_seen e).condition (w e.line)) still ns (c_world_agrees k w g) g)
-  where
-    still : (part : Part) (l : Reading) → MayBe o.table (condition_in l) (w l) → MayBe o.table (left_condition (first_kept_verdict part) l) (w l)
-    still an_if l h = h
-    still an_elif l h = h
-    still an_else l h = h
+  -- C may give the output the world that keeps its truths
+  pub c_world_again : (v : World Reading) → KeepsTruths k w v → IsCWorld k.options.table v k.after
+  c_world_again v t =
+      reached_alike seen left_seen v (λ (e : Edited Reading). w e.line) (λ (s : Seen) (b : Bool). MayBe k.options.table s.condition b) k.after (pruned k.before)
+      (ap (with_lines seen) (same_tree k) ∙ (result k).alike) t
+      (pruned_reached w (λ (l : Reading). MayBe k.options.table (condition_in l) (w l)) (λ (e : Edited Reading). MayBe k.options.table (left_seen e).condition (w e.line)) still k.before
+      c_world_agrees g)
+    where
+      still : (part : Part) (l : Reading) → MayBe k.options.table (condition_in l) (w l) → MayBe k.options.table (left_condition (first_kept_verdict part) l) (w l)
+      still an_if l h = h
+      still an_elif l h = h
+      still an_else l h = h
 
--- so it is in each world that C may give the input
-pub c_selected_again : {o : Options} {input : List ℕ} {r : Outcome} {ns us : Nodes Reading} → HasTrees o input r ns us → (w v : World Reading) → IsCWorld o.table w ns →
-    KeepsTruths w ns v us → map line_bytes (selected v us) ≡ map line_bytes (selected w ns)
-c_selected_again k w v g t = selected_again k w v (c_world_agrees k w g) t
+  -- and the same is selected
+  pub c_selected_again : (v : World Reading) → KeepsTruths k w v → map line_bytes (selected v k.after) ≡ map line_bytes (selected w k.before)
+  c_selected_again v t = selected_again k w v c_world_agrees t
 
 module _ {L M : Type 0} (f : L → M) where
   mutual

@@ -9,7 +9,7 @@ ghost use Rattle.ud_model.specs.Items.{Options};
 ghost use Rattle.ud_model.specs.Runs.{Outcome, Runs};
 ghost use Rattle.ud_model.specs.Worlds.{World, Agrees, selected, openers};
 ghost use Rattle.ud_model.specs.Pruned.{Edited, edited, pruned, printed, IsUndecided};
-ghost use Rattle.ud_model.specs.Rereading.{IsTreeOf, IsClean, HasTrees, LinesFit, line_bytes, edited_bytes, KeepsTruths};
+ghost use Rattle.ud_model.specs.Rereading.{IsTreeOf, IsClean, CleanRun, LinesFit, line_bytes, edited_bytes, KeepsTruths};
 ghost use Rattle.ud_model.specs.CSelection.{IsCWorld, condition_in};
 ghost use Rattle.ud_model.specs.declared.settings.Listing.{Listing};
 ghost use Rattle.ud_model.specs.declared.verdict.Verdict.{Verdict};
@@ -49,8 +49,8 @@ pub fn law_reread()
 /// decided of the input, the lines that are selected of the output are then those that are selected of the input, byte by
 /// byte (C11 6.10.1p6).
 pub fn law_selected()
-    ensures truths { (o : Options) → (input : List ℕ) → (r : Outcome) → (ns : Nodes Reading) → (us : Nodes Reading) → HasTrees o input r ns us → (w : World Reading) → (v : World Reading) × KeepsTruths w ns v us }
-    ensures same { (o : Options) → (input : List ℕ) → (r : Outcome) → (ns : Nodes Reading) → (us : Nodes Reading) → HasTrees o input r ns us → (w : World Reading) → (v : World Reading) → Agrees w ns → KeepsTruths w ns v us → map line_bytes (selected v us) ≡ map line_bytes (selected w ns) }
+    ensures truths { (k : CleanRun) → (w : World Reading) → (v : World Reading) × KeepsTruths k w v }
+    ensures same { (k : CleanRun) → (w : World Reading) → (v : World Reading) → Agrees w k.before → KeepsTruths k w v → map line_bytes (selected v k.after) ≡ map line_bytes (selected w k.before) }
 {}
 
 /// Whatever C makes of each condition that it evaluates, where each symbol that the options don't name is any number: the
@@ -58,7 +58,7 @@ pub fn law_selected()
 /// of the output has the very condition of the opener from which it comes, so C may make of the output what it makes of the
 /// input.
 pub fn law_c_selects()
-    ensures selected { (o : Options) → (input : List ℕ) → (r : Outcome) → (ns : Nodes Reading) → (us : Nodes Reading) → HasTrees o input r ns us → (w : World Reading) → (v : World Reading) → IsCWorld o.table w ns → KeepsTruths w ns v us → map line_bytes (selected v us) ≡ map line_bytes (selected w ns) }
-    ensures conditions { (o : Options) → (input : List ℕ) → (r : Outcome) → (ns : Nodes Reading) → (us : Nodes Reading) → HasTrees o input r ns us → map condition_in (openers us) ≡ map (λ e. condition_in e.line) (openers (pruned ns)) }
-    ensures world { (o : Options) → (input : List ℕ) → (r : Outcome) → (ns : Nodes Reading) → (us : Nodes Reading) → HasTrees o input r ns us → (w : World Reading) → (v : World Reading) → IsCWorld o.table w ns → KeepsTruths w ns v us → IsCWorld o.table v us }
+    ensures selected { (k : CleanRun) → (w : World Reading) → (v : World Reading) → IsCWorld k.options.table w k.before → KeepsTruths k w v → map line_bytes (selected v k.after) ≡ map line_bytes (selected w k.before) }
+    ensures conditions { (k : CleanRun) → map condition_in (openers k.after) ≡ map (λ e. condition_in e.line) (openers (pruned k.before)) }
+    ensures world { (k : CleanRun) → (w : World Reading) → (v : World Reading) → IsCWorld k.options.table w k.before → KeepsTruths k w v → IsCWorld k.options.table v k.after }
 {}
