@@ -192,10 +192,14 @@ module _ (k : CleanRun) where
   same_tree : k.after ≡ result.tree
   same_tree = same_nodes k.after result.tree (one_tree_of k.options k.outcome.output (closed k.after) (closed result.tree) k.of_output result.is_tree)
 
+  -- which is what is left of the input's
+  pub what_is_left : with_lines line_bytes k.after ≡ with_lines edited_bytes (pruned k.before)
+  what_is_left = ap (with_lines line_bytes) same_tree ∙ result.same
+
   -- what is selected of the output is what is selected of the input
   pub selected_again : (w v : World Reading) → Agrees w k.before → KeepsTruths k w v → map line_bytes (selected v k.after) ≡ map line_bytes (selected w k.before)
   selected_again w v g t =
-      same_selected line_bytes edited_bytes v (λ (x : Edited Reading). w x.line) k.after (pruned k.before) (ap (with_lines line_bytes) same_tree ∙ result.same) t
+      same_selected line_bytes edited_bytes v (λ (x : Edited Reading). w x.line) k.after (pruned k.before) what_is_left t
       ∙ ap (λ (l : List (Edited Reading)). map edited_bytes l) (sym (selected-pruned w k.before g)) ∙ kept_bytes (selected w k.before)
 
   -- each opener of the output has the condition of the opener from which it comes
@@ -273,9 +277,13 @@ module _ {L M : Type 0} (f : L → M) where
     elifs_back (elif es o ns) h = (elifs_back es h.0, h.1, undecided_back ns h.2)
 
 -- nothing is decided of the output
-pub output_undecided : (us ns : Nodes Reading) → with_lines line_bytes us ≡ with_lines edited_bytes (pruned ns) → IsUndecided us
+output_undecided : (us ns : Nodes Reading) → with_lines line_bytes us ≡ with_lines edited_bytes (pruned ns) → IsUndecided us
 output_undecided us ns e =
     undecided_back line_bytes us (subst IsUndecided (sym e) (undecided_with edited_bytes (pruned ns) (pruned_undecided ns)))
+
+-- so it is of a clean run
+pub after_undecided : (k : CleanRun) → IsUndecided k.after
+after_undecided k = output_undecided k.after k.before (what_is_left k)
 
 -- if each line stays, the pieces are the lines
 whole_pieces : (ys : List (Item Reading)) (ms : List Mark) → Each Stays ms → map (lone false false) (judged_lines ys ms) ≡ map whole (judged_lines ys ms)

@@ -37,11 +37,13 @@ pub fn law_tree_of()
     ensures only { (o : Options) → (text : List ℕ) → (t : Tree Reading) → (u : Tree Reading) → IsTreeOf o text t → IsTreeOf o text u → t ≡ u }
 {}
 
-/// The output has a tree: the pruned tree of the input, each line as it is printed. Of the openers in it with a condition
-/// none is decided. Unless a line of the output is too long, the output is printed as it is, without a fault: unifdef(1) has
-/// nothing more to do.
+/// The output has a tree whose sections are all closed: the pruned tree of the input, each line as it is printed. Of the
+/// openers in it with a condition none is decided. Unless a line of the output is too long, the output is printed as it is,
+/// without a fault: unifdef(1) has nothing more to do.
 pub fn law_reread()
-    ensures tree { (o : Options) → (input : List ℕ) → (r : Outcome) → IsClean o input r → (ns : Nodes Reading) → IsTreeOf o input (closed ns) → (us : Nodes Reading) × IsTreeOf o r.output (closed us) × (with_lines line_bytes us ≡ with_lines edited_bytes (pruned ns)) × IsUndecided us }
+    ensures tree { (o : Options) → (input : List ℕ) → (r : Outcome) → IsClean o input r → (ns : Nodes Reading) → IsTreeOf o input (closed ns) → (us : Nodes Reading) × IsTreeOf o r.output (closed us) }
+    ensures left { (k : CleanRun) → with_lines line_bytes k.after ≡ with_lines edited_bytes (pruned k.before) }
+    ensures undecided { (k : CleanRun) → IsUndecided k.after }
     ensures again { (o : Options) → (input : List ℕ) → (r : Outcome) → IsClean o input r → LinesFit (lines_of r.output) → Runs o r.output (record { output = r.output; fault = None; differs = false }) }
 {}
 
