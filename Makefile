@@ -1,9 +1,10 @@
 # make            proves the crates, builds the program and copies it to ./unifdef
 # make check      the merge gate: every proof from nothing, the edits that must be refused, the tests, the stored run
-# make examples   runs the examples of README.md with ./unifdef
+# make examples   runs the examples of README.md and docs/EXAMPLES.md with ./unifdef
 # make install    installs ./unifdef and its manual under DESTDIR and PREFIX; make uninstall takes them away
 # make bench      measures ./unifdef on a large text, and how fast conditions are decided (bench/README.md)
 # make trees      runs ./unifdef over real trees beside the released program (bench/README.md)
+# make selects    compares what a C compiler selects of real files before and after ./unifdef (bench/README.md)
 # make clean      removes what was built
 
 PREFIX ?= /usr/local
@@ -11,32 +12,35 @@ BINDIR ?= $(PREFIX)/bin
 MANDIR ?= $(PREFIX)/share/man
 INSTALL ?= install
 
-# Rattle's command: the one on PATH, else the kit's usual place.
-ifeq ($(origin RT),undefined)
-RT := $(or $(shell command -v rt 2>/dev/null),$(wildcard /opt/rattle/bin/rt),rt)
-endif
+# Rattle's command: the one on PATH, or `make RT=PLACE`.
+RT ?= rt
 
 CRATE := crates/unifdef_cli
 SOURCES := crates.txt HANDLES \
 	$(shell find crates -name out -prune -o \( -name '*.rt' -o -name '*.antt' \) -print)
 
 .DELETE_ON_ERROR:
-.PHONY: all build check examples install uninstall bench bench-text bench-conditions trees clean
+.PHONY: all build kit check examples install uninstall bench bench-text bench-conditions trees selects clean
 
 all: build
+
+# A clear message if the command isn't there.
+kit:
+	@command -v $(RT) > /dev/null || { echo "make: Rattle's command $(RT) is not there: put it on PATH, or say make RT=PLACE" >&2; exit 1; }
 
 build: unifdef
 
 # `rt run` proves and builds before it runs. An empty input is printed as it is, with status 0.
-unifdef: $(SOURCES)
+unifdef: $(SOURCES) | kit
 	cd $(CRATE) && $(RT) run < /dev/null
 	cp $(CRATE)/out/unifdef_cli $@
 
-check:
+check: kit
 	@$(RT) ci
 
 examples: unifdef
-	@examples/run.sh
+	@examples/run.sh README.md
+	@examples/run.sh docs/EXAMPLES.md
 
 install: unifdef
 	$(INSTALL) -d $(DESTDIR)$(BINDIR) $(DESTDIR)$(MANDIR)/man1
@@ -51,12 +55,15 @@ bench: bench-text bench-conditions
 bench-text: unifdef
 	bench/run.sh
 
-bench-conditions:
+bench-conditions: kit
 	cd crates/conditions_bench && $(RT) run -- conditions 1 < /dev/null > /dev/null
 	bench/conditions.sh
 
 trees: unifdef
 	bench/trees.sh
+
+selects: unifdef
+	bench/selects.py $(SELECTS)
 
 clean:
 	rm -f unifdef

@@ -1,7 +1,7 @@
 #!/usr/bin/env bash
-# Runs the examples of README.md with ./unifdef, and compares what they print with what is written there.
+# Runs the examples of a page with ./unifdef, and compares what they print with what is written there.
 #
-# run.sh [TEXT] [PROGRAM]: another text in place of README.md, and another program.
+# run.sh [PAGE] [PROGRAM]: README.md by default, and the program beside this folder.
 #
 # An example is a fenced block that begins with ```console. A line that begins with "$ " is a command, and the lines up to
 # the next command are what it prints, on either stream. The commands of a block run in order in a folder of their own, in
@@ -41,7 +41,7 @@ run_command() {
 
 # The block that $work/block holds: each command with the lines behind it.
 run_block() {
-  local line command= first=yes
+  local line command="" first=yes
   rm -rf "$work/folder"
   mkdir "$work/folder"
   ln -s "$program" "$work/folder/unifdef"
@@ -73,5 +73,5 @@ while IFS= read -r line; do
   fi
 done < "$page"
 
-echo "examples: $right commands print what is written, $wrong don't, $left_out left out"
+echo "examples of $(basename "$page"): $right commands print what is written, $wrong don't, $left_out left out"
 [ "$wrong" -eq 0 ] && [ "$right" -gt 0 ]

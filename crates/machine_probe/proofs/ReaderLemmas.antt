@@ -1,11 +1,11 @@
 -- What a reader stands for once it has read a line.
 use Rattle.std.proofs.Common.{◌≡◌, List, [], ◌∷◌, ◌++◌, map, Result, Ok, Err, None, OnOk, IfOk, IfErr, refl, sym, ◌∙◌, ap, subst, append_assoc}
-use Rattle.ud_model.specs.Lines.{Line}
-use Rattle.ud_model.specs.Scans.{Reading}
-use Rattle.ud_model.specs.Scanning.{next_reading}
-use Rattle.ud_model.specs.Tree.{Item, Tree}
-use Rattle.ud_model.specs.Items.{Options, reading_of, line_of, mode_after, next_item}
-use Rattle.ud_model.specs.Faults.{FaultOf}
+use Rattle.ud_model.specs.text.Lines.{Line}
+use Rattle.ud_model.specs.text.Scans.{Reading}
+use Rattle.ud_model.specs.text.Scanning.{next_reading}
+use Rattle.ud_model.specs.sections.Tree.{Item, Tree}
+use Rattle.ud_model.specs.sections.Items.{Options, reading_of, line_of, mode_after, next_item}
+use Rattle.ud_model.specs.sections.Faults.{FaultOf}
 use Rattle.ud_model.specs.declared.kind.Mode.{Mode}
 use Rattle.ud_text.specs.Carrying.{Carried, Carries}
 use Rattle.ud_sections.specs.declared.fault.SectionFault.{SectionFault}

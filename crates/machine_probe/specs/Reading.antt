@@ -1,11 +1,11 @@
 -- Reading: what a reader stands for.
 use Rattle.std.specs.Prelude.{◌≡◌, List, [], ◌∷◌, ◌++◌, map, Option, None}
-use Rattle.ud_model.specs.Lines.{Line}
-use Rattle.ud_model.specs.Scans.{Reading}
-use Rattle.ud_model.specs.Tree.{Item, Tree}
-use Rattle.ud_model.specs.Items.{Options, reading_of}
-use Rattle.ud_model.specs.Faults.{Fault, end_fault}
-use Rattle.ud_model.specs.Runs.{GoesThrough, StopsAt}
+use Rattle.ud_model.specs.text.Lines.{Line}
+use Rattle.ud_model.specs.text.Scans.{Reading}
+use Rattle.ud_model.specs.sections.Tree.{Item, Tree}
+use Rattle.ud_model.specs.sections.Items.{Options, reading_of}
+use Rattle.ud_model.specs.sections.Faults.{Fault, end_fault}
+use Rattle.ud_model.specs.answer.Runs.{GoesThrough, StopsAt}
 use Rattle.ud_text.specs.Carrying.{Carries}
 use Rattle.ud_sections.specs.declared.fault.SectionFault.{SectionFault}
 use Rattle.ud_sections.specs.Sections.{HasRead, refusal, fault_of}

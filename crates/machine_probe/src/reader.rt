@@ -1,9 +1,9 @@
 //! Lines read one after another, by a scanner and a machine.
 
 ghost use Rattle.std.specs.Prelude.{◌≡◌, ◌∷◌, [], ◌++◌, List, IfOk, IfErr, OnOk, None, Some};
-ghost use Rattle.ud_model.specs.Lines.{NoFeed};
-ghost use Rattle.ud_model.specs.Lines as model;
-ghost use Rattle.ud_model.specs.Items.{Options};
+ghost use Rattle.ud_model.specs.text.Lines.{NoFeed};
+ghost use Rattle.ud_model.specs.text.Lines as model;
+ghost use Rattle.ud_model.specs.sections.Items.{Options};
 ghost use Rattle.ud_cond.specs.Standing.{StandsFor};
 ghost use Rattle.ud_text.specs.Viewing.{as_line};
 ghost use Rattle.ud_sections.specs.Limits.{IsWithin};

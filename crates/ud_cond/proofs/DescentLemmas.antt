@@ -2,17 +2,17 @@
 use Rattle.std.proofs.Common.{Bor, ◌≡◌, ℕ, ◌≤◌, ◌<◌, ◌+◌, List, [], ◌∷◌, length, Bool, true, false, if◌then◌else◌, leb, Option, Some, None, refl, sym, ◌∙◌, ap, subst, arith}
 use Rattle.std.proofs.lemmas.Option.{none-some, same_Some}
 use Rattle.std.proofs.lemmas.Bool.{lt-leb, le-leb}
-use Rattle.ud_model.specs.Tokens.{Token, number, name, defined, operator, opening, closing, Next, at_end, unreadable, found, next_token}
-use Rattle.ud_model.specs.Expressions.{level, is_prefix}
-use Rattle.ud_model.specs.Parsing.{Meaning, Frame, Below, left, before, paren, needs, has, asks, asks_inside, asks_end, stuck, reduce, close, wait, step, alone, reads}
+use Rattle.ud_model.specs.conditions.Tokens.{Token, number, name, defined, operator, opening, closing, Next, at_end, unreadable, found, next_token}
+use Rattle.ud_model.specs.conditions.Expressions.{level, is_prefix}
+use Rattle.ud_model.specs.aids.Parsing.{Meaning, Frame, Below, left, before, paren, needs, has, asks, asks_inside, asks_end, stuck, reduce, close, wait, step, alone, reads}
 use Rattle.ud_model.specs.declared.operator.Operator.{Operator}
 use Rattle.ud_cond.specs.Viewing.{as_next, as_token}
 use Rattle.ud_cond.specs.declared.tokens.Token as token
 use Rattle.ud_cond.specs.declared.tokens.Next as front
 use Rattle.ud_cond.specs.declared.tokens.Next.TheVariants as comes
 use Rattle.ud_cond.specs.Descent.{Stops, plain_name, behind_opening, behind_closing, next_operator, Begun, Parsed, Parses, Asked, Asks}
-use Rattle.ud_model.proofs.ParsingComplete.{level_most}
-use Rattle.ud_model.proofs.TokenLemmas.{shorter}
+use Rattle.ud_model.proofs.conditions.ParsingComplete.{level_most}
+use Rattle.ud_model.proofs.conditions.TokenLemmas.{shorter}
 use Rattle.ud_cond.proofs.ReadingLemmas.{reads_on, reads-on, reads-stuck, reads-found}
 
 -- no operator is of level 10

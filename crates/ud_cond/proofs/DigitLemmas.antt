@@ -1,8 +1,8 @@
 -- Numbers grow with their digits, so one that is too large stays so.
 use Rattle.std.proofs.Common.{◌≡◌, ℕ, ◌≤◌, ◌<◌, ◌+◌, ◌*◌, ◌^◌, List, [], ◌∷◌, length, get_or, None, nat_lt, false, arith}
 use Rattle.std.proofs.lemmas.Bool.{le-ltb}
-use Rattle.ud_model.specs.Constants.{continued, digit_value}
-use Rattle.ud_model.specs.Values.{limited}
+use Rattle.ud_model.specs.conditions.Constants.{continued, digit_value}
+use Rattle.ud_model.specs.conditions.Values.{limited}
 use Rattle.ud_cond.specs.declared.constants.Base.{Base}
 use Rattle.ud_cond.specs.declared.constants.Base.TheVariants.{Octal, Decimal, Hexadecimal}
 use Rattle.ud_cond.specs.Viewing.{base_of}

@@ -1,13 +1,13 @@
 -- A text that is an expression has the names of its tree.
 use Rattle.std.proofs.Common.{◌≡◌, ℕ, List, [], ◌∷◌, ◌++◌, append_assoc, append-nil, true, false, Option, Some, None, is_some, option_map, refl, sym, ◌∙◌, ap, ap₂}
 use Rattle.std.specs.Option.{option_to_list}
-use Rattle.ud_model.specs.Tokens.{Token, at_end, unreadable, found, next_token}
-use Rattle.ud_model.specs.Expressions.{Expression, constant, named, is_defined, unary, binary, parens, spelling}
-use Rattle.ud_model.specs.Parsing.{cut, tokens_of, reads, needs, Meaning, meaning, expression_of}
-use Rattle.ud_model.specs.Names.{names_in, names_in_tree}
-use Rattle.ud_model.proofs.Readings.{reads_meaning}
-use Rattle.ud_model.proofs.TokenLemmas.{tokens_of_only}
-use Rattle.ud_model.proofs.OneExpression.{expression_is}
+use Rattle.ud_model.specs.conditions.Tokens.{Token, at_end, unreadable, found, next_token}
+use Rattle.ud_model.specs.conditions.Expressions.{Expression, constant, named, is_defined, unary, binary, parens, spelling}
+use Rattle.ud_model.specs.aids.Parsing.{cut, tokens_of, reads, needs, Meaning, meaning, expression_of}
+use Rattle.ud_model.specs.conditions.Names.{names_in, names_in_tree}
+use Rattle.ud_model.proofs.conditions.Readings.{reads_meaning}
+use Rattle.ud_model.proofs.conditions.TokenLemmas.{tokens_of_only}
+use Rattle.ud_model.proofs.conditions.OneExpression.{expression_is}
 use Rattle.ud_cond.specs.Naming.{name_in, names_in_tokens, names_in_all, names_in_text}
 use Rattle.ud_cond.proofs.ReadingLemmas.{tokens_of-cut}
 

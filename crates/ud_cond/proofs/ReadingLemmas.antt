@@ -1,8 +1,8 @@
 -- Reading a text token by token: each token has a byte at least, and the text behind it goes on in the state that it makes.
 use Rattle.std.proofs.Common.{◌≡◌, ℕ, zero, suc, ◌<◌, List, [], ◌∷◌, length, Option, Some, None, option_map, refl, ◌∙◌, ap, arith}
-use Rattle.ud_model.specs.Tokens.{Token, Next, at_end, unreadable, found, next_token}
-use Rattle.ud_model.specs.Parsing.{Meaning, State, stuck, step, finish, run, run_all, cut, tokens_in, tokens_of, reads}
-use Rattle.ud_model.proofs.TokenLemmas.{shorter}
+use Rattle.ud_model.specs.conditions.Tokens.{Token, Next, at_end, unreadable, found, next_token}
+use Rattle.ud_model.specs.aids.Parsing.{Meaning, State, stuck, step, finish, run, run_all, cut, tokens_in, tokens_of, reads}
+use Rattle.ud_model.proofs.conditions.TokenLemmas.{shorter}
 
 -- what is left behind a token has fewer bytes than this
 abbrev pub Leaves : ℕ → Next → Type 0

@@ -2,7 +2,7 @@
 use Rattle.std.proofs.Common.{◌≡◌, ◌<◌, ℕ, zero, suc, List, [], ◌∷◌, ◌++◌, length, get_or, Bool, true, false, Option, Some, None, bytes_eq, refl, sym, ◌∙◌, ap, subst, arith, if◌then◌else◌}
 use Rattle.std.proofs.Math.ListN.{set}
 use Rattle.std.proofs.lemmas.Slice.Eq.{bytes_eq-Decides}
-use Rattle.ud_model.specs.Table.{Argument, Entry, entry_from, entry_in}
+use Rattle.ud_model.specs.conditions.Table.{Argument, Entry, entry_from, entry_in}
 use Rattle.ud_cond.specs.Standing.{StandsFor, Changes, NoneFrom, IsLastRow, nobody}
 
 -- one call more, behind the others

@@ -1,12 +1,12 @@
 -- What is kept of an expression while it is read is what the definitions say of its tree.
 use Rattle.std.proofs.Common.{◌≡◌, ℕ, List, [], Bool, false, Option, Some, None, option_map, refl, sym, ◌∙◌, ap, ap₂, subst}
 use Rattle.std.proofs.lemmas.Option.{none-some, same_Some}
-use Rattle.ud_model.specs.Table.{Argument}
-use Rattle.ud_model.specs.Expressions.{Expression, constant, named, is_defined, unary, binary, parens}
-use Rattle.ud_model.specs.Parsing.{meaning, reads, needs, expression_of}
-use Rattle.ud_model.specs.Conditions.{Rules, tree_cond_if, expression_cond}
+use Rattle.ud_model.specs.conditions.Table.{Argument}
+use Rattle.ud_model.specs.conditions.Expressions.{Expression, constant, named, is_defined, unary, binary, parens}
+use Rattle.ud_model.specs.aids.Parsing.{meaning, reads, needs, expression_of}
+use Rattle.ud_model.specs.conditions.Conditions.{Rules, tree_cond_if, expression_cond}
 use Rattle.ud_model.specs.declared.cond.Cond.TheVariants.{Unknown}
-use Rattle.ud_model.proofs.Readings.{reads_meaning}
+use Rattle.ud_model.proofs.conditions.Readings.{reads_meaning}
 use Rattle.ud_cond.specs.declared.values.Value.{Value}
 use Rattle.ud_cond.specs.Worth.{worth, worth_of, unary_worth, binary_worth, decided}
 

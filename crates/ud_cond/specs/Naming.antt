@@ -1,5 +1,5 @@
 -- Naming: the names of a text, token by token.
--- ud_model, specs/Names.antt, says what the names of a tree are. A text that has a tree has the same ones, in the order of
+-- ud_model, specs/conditions/Names.antt, says what the names of a tree are. A text that has a tree has the same ones, in the order of
 -- its tokens.
 --
 --   name_in t            the name that a token is, if it is one
@@ -7,8 +7,8 @@
 --   Named                names that are listed: one alone, and then those of a text
 use Rattle.std.specs.Prelude.{ℕ, List, [], ◌∷◌, ◌++◌, Option, Some, None}
 use Rattle.std.specs.Option.{option_to_list}
-use Rattle.ud_model.specs.Tokens.{Token, name}
-use Rattle.ud_model.specs.Parsing.{tokens_of}
+use Rattle.ud_model.specs.conditions.Tokens.{Token, name}
+use Rattle.ud_model.specs.aids.Parsing.{tokens_of}
 
 -- the name that a token is, if it is one
 abbrev pub name_in : Token → Option (List ℕ)

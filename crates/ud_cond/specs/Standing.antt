@@ -1,12 +1,12 @@
 -- Standing: what a table of symbols stands for.
--- unifdef(1), `-D`, `-U`, `-iD`, `-iU`. What a list of calls says of a name is said in ud_model, specs/Table.antt.
+-- unifdef(1), `-D`, `-U`, `-iD`, `-iU`. What a list of calls says of a name is said in ud_model, specs/conditions/Table.antt.
 --
 --   StandsFor table calls   the table says of every name what the accepted calls so far say
 --   Changes old new a       a table says this of one name, and of every other name what it said before
 --   NoneFrom rows i name    no row from place i on names it
 --   IsLastRow rows i name   row i is the last that names it
 use Rattle.std.specs.Prelude.{◌≡◌, ℕ, ◌<◌, ◌≤◌, ◌+◌, List, [], length, get_or, None, Some, bytes_eq, false, if◌then◌else◌}
-use Rattle.ud_model.specs.Table.{Argument, entry_in}
+use Rattle.ud_model.specs.conditions.Table.{Argument, entry_in}
 
 -- the table says of every name what the accepted calls so far say
 abbrev pub StandsFor : List Argument → List Argument → Type 0

@@ -10,11 +10,11 @@ use Rattle.ud_cond.specs.declared.tokens.Next.TheVariants as comes
 use Rattle.ud_cond.specs.declared.constants.Base as base
 use Rattle.ud_cond.specs.declared.constants.Base.TheVariants.{Octal, Decimal, Hexadecimal}
 use Rattle.ud_cond.specs.declared.constants.Parts as parts
-use Rattle.ud_model.specs.Bytes.{is_digit}
-use Rattle.ud_model.specs.Constants.{Parts, is_octal_digit, is_hex_digit}
-use Rattle.ud_model.specs.Tokens.{Token, number, name, defined, operator, opening, closing, Next, at_end, unreadable, found}
-use Rattle.ud_model.specs.Table.{Argument, Entry}
-use Rattle.ud_model.specs.Conditions.{Rules, Decision}
+use Rattle.ud_model.specs.text.Bytes.{is_digit}
+use Rattle.ud_model.specs.conditions.Constants.{Parts, is_octal_digit, is_hex_digit}
+use Rattle.ud_model.specs.conditions.Tokens.{Token, number, name, defined, operator, opening, closing, Next, at_end, unreadable, found}
+use Rattle.ud_model.specs.conditions.Table.{Argument, Entry}
+use Rattle.ud_model.specs.conditions.Conditions.{Rules, Decision}
 
 -- an entry that the table lends
 abbrev pub as_entry : entry.Entry → Entry

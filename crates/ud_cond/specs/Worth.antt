@@ -7,12 +7,12 @@
 --   decided rules v        what a value decides
 use Rattle.std.specs.Prelude.{ℕ, List, [], Option, Some, None, Bool, false, ◌||◌, ◌&&◌, not, if◌then◌else◌}
 use Rattle.std.specs.Borrow.{Bor}
-use Rattle.ud_model.specs.Table.{Argument, entry_in}
-use Rattle.ud_model.specs.Constants.{has_u}
-use Rattle.ud_model.specs.Expressions.{Expression}
-use Rattle.ud_model.specs.Parsing.{Meaning}
-use Rattle.ud_model.specs.Values.{constant_value, name_value, name_has_u, defined_value, alter, combine, number_of, has_unsigned}
-use Rattle.ud_model.specs.Conditions.{Rules, is_listed, undefined_by, names_listed, calls_undefined, truth_of}
+use Rattle.ud_model.specs.conditions.Table.{Argument, entry_in}
+use Rattle.ud_model.specs.conditions.Constants.{has_u}
+use Rattle.ud_model.specs.conditions.Expressions.{Expression}
+use Rattle.ud_model.specs.aids.Parsing.{Meaning}
+use Rattle.ud_model.specs.conditions.Values.{constant_value, name_value, name_has_u, defined_value, alter, combine, number_of, has_unsigned}
+use Rattle.ud_model.specs.conditions.Conditions.{Rules, is_listed, undefined_by, names_listed, calls_undefined, truth_of}
 use Rattle.ud_model.specs.declared.operator.Operator.{Operator}
 use Rattle.ud_model.specs.declared.cond.Cond.{Cond}
 use Rattle.ud_model.specs.declared.cond.Cond.TheVariants.{Unknown}

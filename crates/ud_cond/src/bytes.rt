@@ -1,10 +1,10 @@
 //! Bytes with a meaning: white space, and the words that they make up.
 //!
 //! The meaning is that of ASCII; bytes from 128 on and NUL belong to no word. Which byte is which is said in
-//! ud_model, specs/Bytes.antt.
+//! ud_model, specs/text/Bytes.antt.
 
 ghost use Rattle.std.specs.Prelude.{◌≡◌, ◌≤◌, take, drop, length};
-ghost use Rattle.ud_model.specs.Bytes.{is_white, is_digit, is_word_byte, is_identifier, are_white, past_white, word_in_front, past_word};
+ghost use Rattle.ud_model.specs.text.Bytes.{is_white, is_digit, is_word_byte, is_identifier, are_white, past_white, word_in_front, past_word};
 
 /// Whether a byte is white space within a line: space, tab, vertical tab, form feed or carriage return.
 pub fn is_white(byte: u8) -> bool

@@ -1,8 +1,8 @@
 //! What the table decides of a directive.
 
 ghost use Rattle.std.specs.Prelude.{◌≡◌, ◌≤◌, List, length, option_map};
-ghost use Rattle.ud_model.specs.Table.{Argument};
-ghost use Rattle.ud_model.specs.Conditions as spec;
+ghost use Rattle.ud_model.specs.conditions.Table.{Argument};
+ghost use Rattle.ud_model.specs.conditions.Conditions as spec;
 ghost use Rattle.ud_model.specs.declared.limits.TheConstants.{LINE_BYTES};
 ghost use Rattle.ud_cond.specs.Standing.{StandsFor};
 ghost use Rattle.ud_cond.specs.Viewing.{as_rules, as_decision};

@@ -1,11 +1,11 @@
 //! Integer constants, and the numbers that they are.
 //!
-//! What a constant is stands in ud_model, specs/Constants.antt (C11 6.4.4.1).
+//! What a constant is stands in ud_model, specs/conditions/Constants.antt (C11 6.4.4.1).
 
 ghost use Rattle.std.specs.Prelude.{◌≡◌, ◌≤◌, ◌<◌, length, map};
 ghost use Rattle.std.specs.List.{prefix_len};
-ghost use Rattle.ud_model.specs.Constants as spec;
-ghost use Rattle.ud_model.specs.Values.{limited, constant_value};
+ghost use Rattle.ud_model.specs.conditions.Constants as spec;
+ghost use Rattle.ud_model.specs.conditions.Values.{limited, constant_value};
 ghost use Rattle.ud_cond.specs.Viewing.{as_parts, base_of, is_digit_of};
 
 use crate::bytes::is_digit;
@@ -115,7 +115,7 @@ fn is_among(mut words: &[&[u8]], text: &[u8]) -> bool
 }
 
 /// Whether a suffix has a `u`, if it is a suffix.
-#[tactic(auto, unfolding(ud_model::specs::Constants::suffix_sign))]
+#[tactic(auto, unfolding(ud_model::specs::conditions::Constants::suffix_sign))]
 fn suffix_sign(suffix: &[u8]) -> Option<bool>
     ensures { result ≡ spec.suffix_sign suffix.now }
 {

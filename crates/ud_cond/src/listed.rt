@@ -2,7 +2,7 @@
 
 ghost use Rattle.std.specs.Prelude.{◌≡◌, List, ℕ, is_some, option_map, true, IfNone, IfSome, [], ◌∷◌, Some, None};
 ghost use Rattle.std.specs.Iterator.{YieldsFirstRef, item_count};
-ghost use Rattle.ud_model.specs.Parsing.{tokens_of};
+ghost use Rattle.ud_model.specs.aids.Parsing.{tokens_of};
 ghost use Rattle.ud_cond.specs.Naming.{name_in, names_in_text, names_listed};
 ghost use Rattle.ud_cond.specs.Viewing.{as_token};
 
@@ -20,7 +20,7 @@ pub struct Names<'a> {
 
 impl<'a> Model for Names<'a> {
     ghost use Rattle.std.specs.Prelude.{◌≡◌, List, ℕ, is_some, option_map, true};
-    ghost use Rattle.ud_model.specs.Parsing.{tokens_of};
+    ghost use Rattle.ud_model.specs.aids.Parsing.{tokens_of};
     ghost use Rattle.ud_cond.specs.Naming.{names_listed};
 
     ghost Value = { List (List ℕ) };
@@ -32,7 +32,7 @@ impl<'a> Model for Names<'a> {
 
 impl<'a> Names<'a> {
     /// No names.
-    #[tactic(auto, unfolding(ud_model::specs::Parsing::tokens_of, ud_model::specs::Tokens::next_token))]
+    #[tactic(auto, unfolding(ud_model::specs::aids::Parsing::tokens_of, ud_model::specs::conditions::Tokens::next_token))]
     pub(crate) fn none() -> Names<'a>
         ensures { result ≡ [] }
     {
@@ -43,7 +43,7 @@ impl<'a> Names<'a> {
     }
 
     /// One name.
-    #[tactic(auto, unfolding(ud_model::specs::Parsing::tokens_of, ud_model::specs::Tokens::next_token))]
+    #[tactic(auto, unfolding(ud_model::specs::aids::Parsing::tokens_of, ud_model::specs::conditions::Tokens::next_token))]
     pub(crate) fn one(name: &'a [u8]) -> Names<'a>
         ensures { result ≡ name.now ∷ [] }
     {

@@ -1,9 +1,9 @@
 //! The names of a directive's text.
 
 ghost use Rattle.std.specs.Prelude.{◌≡◌, ◌≤◌, length, is_some, option_map, None};
-ghost use Rattle.ud_model.specs.Parsing.{expression_of};
-ghost use Rattle.ud_model.specs.Names.{names_of, names_in_tree, name_alone};
-ghost use Rattle.ud_model.specs.Conditions.{sole_name};
+ghost use Rattle.ud_model.specs.aids.Parsing.{expression_of};
+ghost use Rattle.ud_model.specs.conditions.Names.{names_of, names_in_tree, name_alone};
+ghost use Rattle.ud_model.specs.conditions.Conditions.{sole_name};
 ghost use Rattle.ud_model.specs.declared.limits.TheConstants.{LINE_BYTES};
 
 use crate::conditions::sole_name;

@@ -5,9 +5,9 @@
 //! `specs/Descent.antt` says what the front of a text is read as; an operator of another level needs a `level` alone.
 
 ghost use Rattle.std.specs.Prelude.{◌≡◌, ◌≤◌, option_map, []};
-ghost use Rattle.ud_model.specs.Tokens.{next_token as token_of};
-ghost use Rattle.ud_model.specs.Expressions as trees;
-ghost use Rattle.ud_model.specs.Parsing as spec;
+ghost use Rattle.ud_model.specs.conditions.Tokens.{next_token as token_of};
+ghost use Rattle.ud_model.specs.conditions.Expressions as trees;
+ghost use Rattle.ud_model.specs.aids.Parsing as spec;
 ghost use Rattle.ud_cond.specs.Descent as descent;
 ghost use Rattle.ud_cond.specs.Descent.{Parses, Asks};
 ghost use Rattle.ud_cond.specs.Worth.{worth_in};

@@ -4,9 +4,9 @@
 //! before anything changes, so a refused call leaves the table as it was.
 
 ghost use Rattle.std.specs.Prelude.{◌≡◌, ◌<◌, ◌++◌, ◌∷◌, [], List, ℕ, option_map, OnOk, OnErr, IfOk, IfSome, IfNone, IsErrOf, IsTrue, Some, None, ◌↔◌, false, length};
-ghost use Rattle.ud_model.specs.Table.{Argument, entry_in};
-ghost use Rattle.ud_model.specs.Arguments as names;
-ghost use Rattle.ud_model.specs.Symbols as ends;
+ghost use Rattle.ud_model.specs.conditions.Table.{Argument, entry_in};
+ghost use Rattle.ud_model.specs.answer.Arguments as names;
+ghost use Rattle.ud_model.specs.conditions.Symbols as ends;
 ghost use Rattle.ud_cond.specs.Standing.{StandsFor, Changes, IsLastRow};
 ghost use Rattle.ud_cond.specs.Viewing.{as_entry, said};
 
@@ -37,7 +37,7 @@ struct Row {
 
 impl Model for Row {
     ghost use Rattle.std.specs.Prelude.{option_map};
-    ghost use Rattle.ud_model.specs.Table.{Argument};
+    ghost use Rattle.ud_model.specs.conditions.Table.{Argument};
     ghost use Rattle.ud_cond.specs.Viewing.{said};
 
     ghost Value = { Argument };
@@ -78,7 +78,7 @@ pub struct Symbols {
 
 impl Model for Symbols {
     ghost use Rattle.std.specs.Prelude.{List};
-    ghost use Rattle.ud_model.specs.Table.{Argument};
+    ghost use Rattle.ud_model.specs.conditions.Table.{Argument};
 
     ghost Value = { List Argument };
 

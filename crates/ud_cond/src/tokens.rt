@@ -1,11 +1,11 @@
 //! The token at the front of a text.
 //!
-//! What the tokens of an expression are stands in ud_model, specs/Tokens.antt (C11 6.4).
+//! What the tokens of an expression are stands in ud_model, specs/conditions/Tokens.antt (C11 6.4).
 
 ghost use Rattle.std.specs.Prelude.{◌≡◌, drop, length, option_map, slice_index, ◌-◌};
-ghost use Rattle.ud_model.specs.Tokens as spec;
-ghost use Rattle.ud_model.specs.Constants as texts;
-ghost use Rattle.ud_model.specs.Bytes as bytes;
+ghost use Rattle.ud_model.specs.conditions.Tokens as spec;
+ghost use Rattle.ud_model.specs.conditions.Constants as texts;
+ghost use Rattle.ud_model.specs.text.Bytes as bytes;
 ghost use Rattle.ud_cond.specs.Viewing.{as_next};
 
 use crate::bytes::{is_digit, is_word_byte, past_white, word_len};
@@ -178,7 +178,7 @@ fn sign_token(byte: u8, rest: &[u8]) -> Next<'_>
 }
 
 /// The token at the front of a text, and the text behind it.
-#[tactic(auto, unfolding(ud_model::specs::Tokens::next_token))]
+#[tactic(auto, unfolding(ud_model::specs::conditions::Tokens::next_token))]
 pub(crate) fn next_token(text: &[u8]) -> Next<'_>
     ensures { as_next result ≡ spec.next_token text.now }
 {

@@ -1,28 +1,28 @@
 //! Laws over the definitions: functions without a body, whose contracts are theorems.
 
 ghost use Rattle.std.specs.Prelude.{◌≡◌, ◌≢◌, ◌++◌, ℕ, List, [], ◌∷◌, length, map, true, false, Bool, Some, ℤ, pos};
-ghost use Rattle.ud_model.specs.Lines.{Line, AreLines, texts_of};
-ghost use Rattle.ud_model.specs.Scans.{Reading};
-ghost use Rattle.ud_model.specs.Splicing.{content, run_of};
-ghost use Rattle.ud_model.specs.Pieces.{Piece, Cell, IsCut, cells_of, cut, shown};
-ghost use Rattle.ud_model.specs.Scanning.{own_cells, scan_after, next_reading, readings_after, readings_of};
+ghost use Rattle.ud_model.specs.text.Lines.{Line, AreLines, texts_of};
+ghost use Rattle.ud_model.specs.text.Scans.{Reading};
+ghost use Rattle.ud_model.specs.text.Splicing.{content, run_of};
+ghost use Rattle.ud_model.specs.text.Pieces.{Piece, Cell, IsCut, cells_of, cut, shown};
+ghost use Rattle.ud_model.specs.text.Scanning.{own_cells, scan_after, next_reading, readings_after, readings_of};
 ghost use Rattle.ud_model.specs.declared.kind.Mode.{Mode};
-ghost use Rattle.ud_model.specs.Tree.{Item, Tree, lines};
-ghost use Rattle.ud_model.specs.Pruning.{Mark, marks, marks_in};
-ghost use Rattle.ud_model.specs.SoFar.{marks_so_far};
-ghost use Rattle.ud_model.specs.Items.{Options};
-ghost use Rattle.ud_model.specs.Faults.{Fault, FaultOf, NoneHolds, cases};
-ghost use Rattle.ud_model.specs.Runs.{Outcome, Runs, RunsSoFar};
-ghost use Rattle.ud_model.specs.Answer.{Answer, IsAnswer};
-ghost use Rattle.ud_model.specs.Table.{Argument, entry_in};
-ghost use Rattle.ud_model.specs.Expressions.{Expression, IsWritten};
-ghost use Rattle.ud_model.specs.Parsing.{expression_of};
-ghost use Rattle.ud_model.specs.Values.{value_of};
-ghost use Rattle.ud_model.specs.Conditions.{Rules, tree_cond, expression_cond, condition_of};
-ghost use Rattle.ud_model.specs.Names.{names_in, names_of};
+ghost use Rattle.ud_model.specs.sections.Tree.{Item, Tree, lines};
+ghost use Rattle.ud_model.specs.sections.Pruning.{Mark, marks, marks_in};
+ghost use Rattle.ud_model.specs.aids.SoFar.{marks_so_far};
+ghost use Rattle.ud_model.specs.sections.Items.{Options};
+ghost use Rattle.ud_model.specs.sections.Faults.{Fault, FaultOf, NoneHolds, cases};
+ghost use Rattle.ud_model.specs.answer.Runs.{Outcome, Runs, RunsSoFar};
+ghost use Rattle.ud_model.specs.answer.Answer.{Answer, IsAnswer};
+ghost use Rattle.ud_model.specs.conditions.Table.{Argument, entry_in};
+ghost use Rattle.ud_model.specs.conditions.Expressions.{Expression, IsWritten};
+ghost use Rattle.ud_model.specs.aids.Parsing.{expression_of};
+ghost use Rattle.ud_model.specs.conditions.Values.{value_of};
+ghost use Rattle.ud_model.specs.conditions.Conditions.{Rules, tree_cond, expression_cond, condition_of};
+ghost use Rattle.ud_model.specs.conditions.Names.{names_in, names_of};
 ghost use Rattle.ud_model.specs.declared.cond.Cond.{Cond};
 ghost use Rattle.ud_model.specs.declared.kind.Kind.{Kind};
-ghost use Rattle.ud_model.specs.CValues.{Number, number, IsCValue};
+ghost use Rattle.ud_model.specs.conditions.CValues.{Number, number, IsCValue};
 
 /// A text has lines, and has them in one way only.
 pub fn law_lines()

@@ -1,10 +1,11 @@
 //! The definition of unifdef: what a text is, which of its lines are kept, and what is printed.
 //!
-//! The definitions stand in `specs/`, one file a subject; `specs/Answer.antt` puts them together.
+//! The definitions stand in `specs/`, one room and file a subject; `specs/answer/Answer.antt` puts them together.
 //! This crate has the plain types that they and the other crates speak of, the limits, and laws
 //! over the definitions: functions without a body whose contracts are theorems.
 #![tactic(auto)]
 
+pub mod answer_laws;
 mod cond;
 mod kind;
 pub mod laws;

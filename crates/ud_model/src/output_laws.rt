@@ -1,16 +1,16 @@
 //! Laws of the output: what a text means after it was pruned and printed.
 
 ghost use Rattle.std.specs.Prelude.{◌≡◌, ℕ, List, map, not, true, false, Bool, bytes_eq, None};
-ghost use Rattle.ud_model.specs.Lines.{lines_of};
-ghost use Rattle.ud_model.specs.Scans.{Reading};
-ghost use Rattle.ud_model.specs.Tree.{Nodes, Tree, closed, lines_of_nodes, with_lines};
-ghost use Rattle.ud_model.specs.Pruning.{marks};
-ghost use Rattle.ud_model.specs.Items.{Options};
-ghost use Rattle.ud_model.specs.Runs.{Outcome, Runs};
-ghost use Rattle.ud_model.specs.Worlds.{World, Agrees, selected, openers};
-ghost use Rattle.ud_model.specs.Pruned.{Edited, edited, pruned, printed, IsUndecided};
-ghost use Rattle.ud_model.specs.Rereading.{IsTreeOf, IsClean, CleanRun, LinesFit, line_bytes, edited_bytes, KeepsTruths};
-ghost use Rattle.ud_model.specs.CSelection.{IsCWorld, condition_in};
+ghost use Rattle.ud_model.specs.text.Lines.{lines_of};
+ghost use Rattle.ud_model.specs.text.Scans.{Reading};
+ghost use Rattle.ud_model.specs.sections.Tree.{Nodes, Tree, closed, lines_of_nodes, with_lines};
+ghost use Rattle.ud_model.specs.sections.Pruning.{marks};
+ghost use Rattle.ud_model.specs.sections.Items.{Options};
+ghost use Rattle.ud_model.specs.answer.Runs.{Outcome, Runs};
+ghost use Rattle.ud_model.specs.output.Worlds.{World, Agrees, selected, openers};
+ghost use Rattle.ud_model.specs.output.Pruned.{Edited, edited, pruned, printed, IsUndecided};
+ghost use Rattle.ud_model.specs.output.Rereading.{IsTreeOf, IsClean, CleanRun, LinesFit, line_bytes, edited_bytes, KeepsTruths};
+ghost use Rattle.ud_model.specs.output.CSelection.{IsCWorld, condition_in};
 ghost use Rattle.ud_model.specs.declared.settings.Listing.{Listing};
 ghost use Rattle.ud_model.specs.declared.verdict.Verdict.{Verdict};
 
@@ -51,8 +51,8 @@ pub fn law_reread()
 /// decided of the input, the lines that are selected of the output are then those that are selected of the input, byte by
 /// byte (C11 6.10.1p6).
 pub fn law_selected()
-    ensures truths { (k : CleanRun) → (w : World Reading) → (v : World Reading) × KeepsTruths k w v }
-    ensures same { (k : CleanRun) → (w : World Reading) → (v : World Reading) → Agrees w k.before → KeepsTruths k w v → map line_bytes (selected v k.after) ≡ map line_bytes (selected w k.before) }
+    ensures truths { (k : CleanRun) → (w : World Reading) → (v : World Reading) × KeepsTruths w k.before v k.after }
+    ensures same { (k : CleanRun) → (w : World Reading) → (v : World Reading) → Agrees w k.before → KeepsTruths w k.before v k.after → map line_bytes (selected v k.after) ≡ map line_bytes (selected w k.before) }
 {}
 
 /// Whatever C makes of each condition that it evaluates, where each symbol that the options don't name is any number: the
@@ -60,7 +60,7 @@ pub fn law_selected()
 /// of the output has the very condition of the opener from which it comes, so C may make of the output what it makes of the
 /// input.
 pub fn law_c_selects()
-    ensures selected { (k : CleanRun) → (w : World Reading) → (v : World Reading) → IsCWorld k.options.table w k.before → KeepsTruths k w v → map line_bytes (selected v k.after) ≡ map line_bytes (selected w k.before) }
+    ensures selected { (k : CleanRun) → (w : World Reading) → (v : World Reading) → IsCWorld k.options.table w k.before → KeepsTruths w k.before v k.after → map line_bytes (selected v k.after) ≡ map line_bytes (selected w k.before) }
     ensures conditions { (k : CleanRun) → map condition_in (openers k.after) ≡ map (λ e. condition_in e.line) (openers (pruned k.before)) }
-    ensures world { (k : CleanRun) → (w : World Reading) → (v : World Reading) → IsCWorld k.options.table w k.before → KeepsTruths k w v → IsCWorld k.options.table v k.after }
+    ensures world { (k : CleanRun) → (w : World Reading) → (v : World Reading) → IsCWorld k.options.table w k.before → KeepsTruths w k.before v k.after → IsCWorld k.options.table v k.after }
 {}

@@ -1,8 +1,8 @@
 -- What stands behind the `#` of a line is no longer than the line.
 use Rattle.std.proofs.Common.{◌≡◌, ◌≤◌, ◌==◌, ◌+◌, ◌-◌, ℕ, List, [], ◌∷◌, length, take, drop, Bool, true, false, Some, None, if◌then◌else◌, ap, arith}
 use Rattle.std.proofs.lemmas.List.{length-drop, length-take-le}
-use Rattle.ud_model.specs.Bytes.{past_white}
-use Rattle.ud_model.specs.Directives.{past_sign, past_sign_of}
+use Rattle.ud_model.specs.text.Bytes.{past_white}
+use Rattle.ud_model.specs.sections.Directives.{past_sign, past_sign_of}
 use Rattle.ud_cond.proofs.ByteLemmas.{length-past_white}
 
 one_sign : (is : Bool) (b : ℕ) (bs rest : List ℕ) → (if is then Some bs else None) ≡ Some rest → length rest ≤ length (b ∷ bs)

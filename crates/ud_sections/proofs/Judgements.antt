@@ -1,15 +1,15 @@
 -- Judgements: what a judgement of a line says of the line after sound ones.
 use Rattle.std.proofs.Common.{◌≡◌, ◌≢◌, ℕ, suc, ◌<◌, ◌≤◌, ◌==◌, [], ◌∷◌, ◌++◌, length, Bool, true, false, ◌&&◌, if◌then◌else◌, Option, Some, None, Ok, Err, refl, sym, ◌∙◌, ap, subst, arith}
 use Rattle.std.proofs.lemmas.Bool.{eqb-true}
-use Rattle.ud_model.specs.Scans.{Reading, is_spanning}
-use Rattle.ud_model.specs.Tree.{Item, Tree, text_line, if_line, elif_line, else_line, endif_line, lines, depth}
-use Rattle.ud_model.specs.Pruning.{marks}
-use Rattle.ud_model.specs.Items.{reading_of, line_of}
-use Rattle.ud_model.specs.Faults.{FaultOf, is_spoiled, is_directive, misplaced, ends_removed, NoneHolds, cases}
+use Rattle.ud_model.specs.text.Scans.{Reading, is_spanning}
+use Rattle.ud_model.specs.sections.Tree.{Item, Tree, text_line, if_line, elif_line, else_line, endif_line, lines, depth}
+use Rattle.ud_model.specs.sections.Pruning.{marks}
+use Rattle.ud_model.specs.sections.Items.{reading_of, line_of}
+use Rattle.ud_model.specs.sections.Faults.{FaultOf, is_spoiled, is_directive, misplaced, ends_removed, NoneHolds, cases}
 use Rattle.ud_model.specs.declared.limits.TheConstants.{OPEN_SECTIONS}
-use Rattle.ud_model.proofs.Growth.{Adds, lines-add}
-use Rattle.ud_model.proofs.Unique.{grows}
-use Rattle.ud_model.proofs.Stays.{marks_so_far_same}
+use Rattle.ud_model.proofs.sections.Growth.{Adds, lines-add}
+use Rattle.ud_model.proofs.sections.Unique.{grows}
+use Rattle.ud_model.proofs.sections.Stays.{marks_so_far_same}
 use Rattle.ud_sections.specs.declared.fault.SectionFault.{SectionFault}
 use Rattle.ud_sections.specs.declared.fault.SectionFault.TheVariants.{TooManyLevels, Obfuscated}
 use Rattle.ud_sections.specs.declared.judging.Before.{Before}

@@ -1,15 +1,15 @@
 -- LineFaults: when a line after sound ones is sound, and which fault it has otherwise.
 use Rattle.std.proofs.Common.{◌≡◌, ◌<◌, ◌≤◌, List, [], ◌∷◌, ◌++◌, length, Bool, true, false, IsTrue, Some, refl, sym, ◌∙◌, ap, subst, arith}
 use Rattle.std.proofs.lemmas.List.{same_from_push}
-use Rattle.ud_model.specs.Scans.{Reading}
-use Rattle.ud_model.specs.Lines.{text_of}
-use Rattle.ud_model.specs.Directives.{content_of}
-use Rattle.ud_model.specs.Tree.{Item, Tree, lines, depth}
-use Rattle.ud_model.specs.Pruning.{Mark, marks}
-use Rattle.ud_model.specs.Items.{reading_of, line_of}
-use Rattle.ud_model.specs.Faults.{Fault, FaultOf, Case, past_last, too_long, cut, out_of_place, too_deep, spoiled, is_cut, is_spoiled, misplaced, NoneHolds, cases, obfuscated, too_many_levels}
+use Rattle.ud_model.specs.text.Scans.{Reading}
+use Rattle.ud_model.specs.text.Lines.{text_of}
+use Rattle.ud_model.specs.sections.Directives.{content_of}
+use Rattle.ud_model.specs.sections.Tree.{Item, Tree, lines, depth}
+use Rattle.ud_model.specs.sections.Pruning.{Mark, marks}
+use Rattle.ud_model.specs.sections.Items.{reading_of, line_of}
+use Rattle.ud_model.specs.sections.Faults.{Fault, FaultOf, Case, past_last, too_long, cut, out_of_place, too_deep, spoiled, is_cut, is_spoiled, misplaced, NoneHolds, cases, obfuscated, too_many_levels}
 use Rattle.ud_model.specs.declared.limits.TheConstants.{LINE_BYTES, TEXT_LINES, OPEN_SECTIONS}
-use Rattle.ud_model.proofs.Unique.{unique}
+use Rattle.ud_model.proofs.sections.Unique.{unique}
 use Rattle.ud_sections.specs.Limits.{IsWithin}
 
 not_true : (b : Bool) → b ≡ false → IsTrue b → ⊥

@@ -1,9 +1,9 @@
 -- Listing: the depth of a line's names, by how many sections are open after the line.
 use Rattle.std.proofs.Common.{◌≡◌, ℕ, suc, ◌+◌, [], ◌∷◌, ◌++◌, Bool, true, false, refl, append_assoc, append-nil, arith}
-use Rattle.ud_model.specs.Scans.{Reading}
-use Rattle.ud_model.specs.Tree.{Item, Nodes, Head, Tree, text_line, if_line, elif_line, else_line, endif_line, if_head, elif_head, else_head, depth}
-use Rattle.ud_model.specs.Listing.{levels_of_nodes, levels_of_groups, levels_of_head, levels_from}
-use Rattle.ud_model.proofs.Growth.{Adds, adds_text, adds_if, elif_after_if, elif_after_elif, else_after_if, else_after_elif, adds_endif, adds_under, complete}
+use Rattle.ud_model.specs.text.Scans.{Reading}
+use Rattle.ud_model.specs.sections.Tree.{Item, Nodes, Head, Tree, text_line, if_line, elif_line, else_line, endif_line, if_head, elif_head, else_head, depth}
+use Rattle.ud_model.specs.answer.Listing.{levels_of_nodes, levels_of_groups, levels_of_head, levels_from}
+use Rattle.ud_model.proofs.sections.Growth.{Adds, adds_text, adds_if, elif_after_if, elif_after_elif, else_after_if, else_after_elif, adds_endif, adds_under, complete}
 
 -- a directive with a condition: other lines have no names
 abbrev pub has_condition : Item Reading → Bool

@@ -3,13 +3,13 @@ use Rattle.std.proofs.Common.{◌≡◌, ◌≤◌, ℕ, suc, ◌+◌, ◌-◌, 
 use Rattle.std.proofs.Math.Seq.{take-append_seam}
 use Rattle.ud_model.specs.declared.cond.Cond.{Cond}
 use Rattle.ud_model.specs.declared.cond.Cond.TheVariants.{Yes}
-use Rattle.ud_model.specs.Scans.{Reading}
-use Rattle.ud_model.specs.Tree.{Item, Opener, Nodes, Head, Tree, text_line, if_line, elif_line, else_line, endif_line, nothing, first, elif, if_head, elif_head, else_head, closed, open_section, opener_of_head, is_ignoring, innermost, depth}
-use Rattle.ud_model.specs.Faults.{Fault, eof_in_comment, premature_eof, end_by}
-use Rattle.ud_model.specs.Pruning.{Part, an_if, an_elif, an_else, Mark, marked, is_inside_kept, endif_verdict, conds_of_elifs, conds_of_head}
-use Rattle.ud_model.specs.SoFar.{verdict_so_far, nodes_so_far, groups_so_far, head_so_far, marks_so_far}
-use Rattle.ud_model.specs.Items.{line_of}
-use Rattle.ud_model.proofs.Growth.{Adds, adds_text, adds_if, elif_after_if, elif_after_elif, else_after_if, else_after_elif, adds_endif, adds_under, complete, conds-complete}
+use Rattle.ud_model.specs.text.Scans.{Reading}
+use Rattle.ud_model.specs.sections.Tree.{Item, Opener, Nodes, Head, Tree, text_line, if_line, elif_line, else_line, endif_line, nothing, first, elif, if_head, elif_head, else_head, closed, open_section, opener_of_head, is_ignoring, innermost, depth}
+use Rattle.ud_model.specs.sections.Faults.{Fault, eof_in_comment, premature_eof, end_by}
+use Rattle.ud_model.specs.sections.Pruning.{Part, an_if, an_elif, an_else, Mark, marked, is_inside_kept, endif_verdict, conds_of_elifs, conds_of_head}
+use Rattle.ud_model.specs.aids.SoFar.{verdict_so_far, nodes_so_far, groups_so_far, head_so_far, marks_so_far}
+use Rattle.ud_model.specs.sections.Items.{line_of}
+use Rattle.ud_model.proofs.sections.Growth.{Adds, adds_text, adds_if, elif_after_if, elif_after_elif, else_after_if, else_after_elif, adds_endif, adds_under, complete, conds-complete}
 use Rattle.ud_sections.specs.declared.level.Level.{Level}
 use Rattle.ud_sections.specs.declared.level.Change.{Change}
 use Rattle.ud_sections.specs.declared.level.Change.TheVariants.{Stay, Push, Replace, Pop}

@@ -1,13 +1,13 @@
 -- Next: what a scanner and a list of lines have of the item that comes next.
 use Rattle.std.proofs.Common.{◌≡◌, List, [], ◌∷◌, ◌++◌, map, refl, ◌∙◌, ap}
 use Rattle.std.proofs.lemmas.List.{map-append}
-use Rattle.ud_model.specs.Lines.{Line}
-use Rattle.ud_model.specs.Scans.{Reading}
-use Rattle.ud_model.specs.Scanning.{next_reading}
-use Rattle.ud_model.specs.Tree.{Item, Tree}
-use Rattle.ud_model.specs.Items.{Options, reading_of, line_of, mode_after, read_after, next_item}
-use Rattle.ud_model.specs.Faults.{ends_in_comment}
-use Rattle.ud_model.proofs.Soundness.{reading_of-item_of, reading_of-next}
+use Rattle.ud_model.specs.text.Lines.{Line}
+use Rattle.ud_model.specs.text.Scans.{Reading}
+use Rattle.ud_model.specs.text.Scanning.{next_reading}
+use Rattle.ud_model.specs.sections.Tree.{Item, Tree}
+use Rattle.ud_model.specs.sections.Items.{Options, reading_of, line_of, mode_after, read_after, next_item}
+use Rattle.ud_model.specs.sections.Faults.{ends_in_comment}
+use Rattle.ud_model.proofs.sections.Soundness.{reading_of-item_of, reading_of-next}
 use Rattle.ud_text.specs.Carrying.{ends_in_block}
 
 -- the readings are one more

@@ -3,8 +3,8 @@ use Rattle.std.proofs.Common.{◌≡◌, List, [], ◌∷◌, ◌++◌, Bool, tr
 use Rattle.ud_model.specs.declared.cond.Cond.{Cond}
 use Rattle.ud_model.specs.declared.cond.Cond.TheVariants.{Yes, No, Unknown}
 use Rattle.ud_model.specs.declared.verdict.Verdict.TheVariants.{Keep, Remove, ToEndif}
-use Rattle.ud_model.specs.Pruning.{Part, marked, any_true, all_false, gives_way, ends_with_first_true, is_false, is_kept, first_kept_verdict, later_verdict, endif_verdict}
-use Rattle.ud_model.specs.SoFar.{verdict_so_far}
+use Rattle.ud_model.specs.sections.Pruning.{Part, marked, any_true, all_false, gives_way, ends_with_first_true, is_false, is_kept, first_kept_verdict, later_verdict, endif_verdict}
+use Rattle.ud_model.specs.aids.SoFar.{verdict_so_far}
 use Rattle.ud_sections.specs.declared.phase.Phase.{Phase}
 use Rattle.ud_sections.specs.declared.phase.Phase.TheVariants.{Dead, Seek, Live, Skip, Over}
 use Rattle.ud_sections.specs.Phases.{begun, next_phase, phase_after, opener_verdict_in, endif_verdict_in, is_kept_in, is_dead}

@@ -1,9 +1,9 @@
 -- What is printed of a line with numbers put in, by whether it is numbered.
 use Rattle.std.proofs.Common.{◌≡◌, ◌∙◌, List, ℕ, [], ◌++◌, Bool, true, false, not, ◌&&◌, if◌then◌else◌, refl, sym, ap, ap₂}
-use Rattle.ud_model.specs.Printing.{Judged, last_removed, number_line, piece_by, piece_behind}
-use Rattle.ud_model.specs.Pruning.{is_removed}
-use Rattle.ud_model.specs.Lines.{Line}
-use Rattle.ud_model.specs.Directives.{Span}
+use Rattle.ud_model.specs.answer.Printing.{Judged, last_removed, number_line, piece_by, piece_behind}
+use Rattle.ud_model.specs.sections.Pruning.{is_removed}
+use Rattle.ud_model.specs.text.Lines.{Line}
+use Rattle.ud_model.specs.sections.Directives.{Span}
 use Rattle.ud_model.specs.declared.verdict.Verdict.{Verdict}
 use Rattle.ud_model.specs.declared.verdict.Verdict.TheVariants.{Keep, Remove, ToIf, ToElse, ToEndif}
 use Rattle.ud_sections.specs.Styles.{renumber_style}

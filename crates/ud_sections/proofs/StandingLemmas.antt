@@ -1,15 +1,15 @@
 -- Standing: what a machine stands for once it has read a line, or a run of text lines; and what it then tells.
 use Rattle.std.proofs.Common.{◌≡◌, ◌≤◌, List, [], ◌∷◌, ◌++◌, length, map, Bool, true, ◌||◌, None, refl, sym, ◌∙◌, ap, ap₂, subst, append_assoc, append-nil, arith}
-use Rattle.ud_model.specs.Lines.{Line}
-use Rattle.ud_model.specs.Scans.{Reading}
-use Rattle.ud_model.specs.Directives.{text, content_of}
-use Rattle.ud_model.specs.Tree.{Item, Tree, text_line, lines, depth, is_ignoring}
-use Rattle.ud_model.specs.Pruning.{Mark, marks, is_removed}
-use Rattle.ud_model.specs.Items.{Options, item_of, item_by, mode_after, mode_by, read_after, next_item}
-use Rattle.ud_model.specs.Faults.{AreSound, one_more, is_cut, ends_removed, last_number, ends_in_comment, end_fault, NoneHolds, cases}
+use Rattle.ud_model.specs.text.Lines.{Line}
+use Rattle.ud_model.specs.text.Scans.{Reading}
+use Rattle.ud_model.specs.sections.Directives.{text, content_of}
+use Rattle.ud_model.specs.sections.Tree.{Item, Tree, text_line, lines, depth, is_ignoring}
+use Rattle.ud_model.specs.sections.Pruning.{Mark, marks, is_removed}
+use Rattle.ud_model.specs.sections.Items.{Options, item_of, item_by, mode_after, mode_by, read_after, next_item}
+use Rattle.ud_model.specs.sections.Faults.{AreSound, one_more, is_cut, ends_removed, last_number, ends_in_comment, end_fault, NoneHolds, cases}
 use Rattle.ud_model.specs.declared.limits.TheConstants.{OPEN_SECTIONS}
 use Rattle.ud_model.specs.declared.verdict.Verdict.{Verdict}
-use Rattle.ud_model.proofs.Soundness.{reading_of-next, sound_lines}
+use Rattle.ud_model.proofs.sections.Soundness.{reading_of-next, sound_lines}
 use Rattle.ud_sections.specs.declared.machine.Machine.{Machine}
 use Rattle.ud_sections.specs.declared.machine.Turn.{Turn}
 use Rattle.ud_sections.specs.Acting.{kept_at, plain_at, text_action}

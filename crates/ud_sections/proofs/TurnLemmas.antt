@@ -1,20 +1,20 @@
 -- Turns: what the machine answers to the line that comes next.
 use Rattle.std.proofs.Common.{◌≡◌, ◌≤◌, List, [], ◌∷◌, ◌++◌, length, true, false, Result, Ok, Err, refl, sym, ◌∙◌, ap, ap₂, subst, arith}
-use Rattle.ud_model.specs.Lines.{Line}
-use Rattle.ud_model.specs.Scans.{Scan, Reading, is_spanning}
-use Rattle.ud_model.specs.Directives.{Span, Content, cut_keyword, directive, text, content_of}
-use Rattle.ud_model.specs.Conditions.{Decision, decision_on}
-use Rattle.ud_model.specs.Table.{Argument}
-use Rattle.ud_model.specs.Tree.{Item, Tree, lines, depth}
-use Rattle.ud_model.specs.Pruning.{Mark, marks, is_removed}
-use Rattle.ud_model.specs.Items.{Options, reading_of, line_of, item_by, directive_item, rules_of, mode_after, read_after, next_item}
-use Rattle.ud_model.specs.Faults.{FaultOf, NoneHolds, cases, is_cut, ends_removed, last_number, obfuscated}
-use Rattle.ud_model.specs.Printing.{keyword_in, judged}
+use Rattle.ud_model.specs.text.Lines.{Line}
+use Rattle.ud_model.specs.text.Scans.{Scan, Reading, is_spanning}
+use Rattle.ud_model.specs.sections.Directives.{Span, Content, cut_keyword, directive, text, content_of}
+use Rattle.ud_model.specs.conditions.Conditions.{Decision, decision_on}
+use Rattle.ud_model.specs.conditions.Table.{Argument}
+use Rattle.ud_model.specs.sections.Tree.{Item, Tree, lines, depth}
+use Rattle.ud_model.specs.sections.Pruning.{Mark, marks, is_removed}
+use Rattle.ud_model.specs.sections.Items.{Options, reading_of, line_of, item_by, directive_item, rules_of, mode_after, read_after, next_item}
+use Rattle.ud_model.specs.sections.Faults.{FaultOf, NoneHolds, cases, is_cut, ends_removed, last_number, obfuscated}
+use Rattle.ud_model.specs.answer.Printing.{keyword_in, judged}
 use Rattle.ud_model.specs.declared.kind.Kind as kinds
 use Rattle.ud_model.specs.declared.kind.Kind.TheVariants as kind
 use Rattle.ud_model.specs.declared.limits.TheConstants.{OPEN_SECTIONS}
-use Rattle.ud_model.proofs.FaultStays.{reading_of-item_by}
-use Rattle.ud_model.proofs.Soundness.{reading_of-item_of, reading_of-next, sound_lines}
+use Rattle.ud_model.proofs.sections.FaultStays.{reading_of-item_by}
+use Rattle.ud_model.proofs.sections.Soundness.{reading_of-item_of, reading_of-next, sound_lines}
 use Rattle.ud_sections.specs.declared.fault.SectionFault.{SectionFault}
 use Rattle.ud_sections.specs.declared.fault.SectionFault.TheVariants.{Obfuscated}
 use Rattle.ud_sections.specs.declared.found.Cut.{Cut}

@@ -7,7 +7,7 @@ use Rattle.std.specs.Prelude.{◌≡◌, ℕ, List, [], ◌∷◌, ◌++◌, Boo
 use Rattle.ud_model.specs.declared.cond.Cond.{Cond}
 use Rattle.ud_model.specs.declared.cond.Cond.TheVariants.{Yes}
 use Rattle.ud_model.specs.declared.verdict.Verdict.TheVariants.{Keep, Remove}
-use Rattle.ud_model.specs.Pruning as table
+use Rattle.ud_model.specs.sections.Pruning as table
 use Rattle.ud_sections.specs.declared.level.Level.{Level}
 use Rattle.ud_sections.specs.declared.level.Change.{Change}
 use Rattle.ud_sections.specs.declared.level.Change.TheVariants.{Stay, Push, Replace, Pop}

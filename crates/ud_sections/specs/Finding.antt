@@ -4,8 +4,8 @@
 --
 -- Example: where the program finds no directive, the line is text.
 use Rattle.std.specs.Prelude.{Option, Some, None, Result, Ok, Err}
-use Rattle.ud_model.specs.Directives.{Content, cut_keyword, text}
-use Rattle.ud_model.specs.Directives as model
+use Rattle.ud_model.specs.sections.Directives.{Content, cut_keyword, text}
+use Rattle.ud_model.specs.sections.Directives as model
 use Rattle.ud_sections.specs.declared.found.Directive.{Directive}
 use Rattle.ud_sections.specs.declared.found.Cut.{Cut}
 use Rattle.ud_sections.specs.Showing.{as_span}

@@ -3,7 +3,7 @@
 --   judged_by before seen n      what becomes of a line of number n of which this is kept, or why it is faulty
 --   judged before n seen         the same; if its keyword is cut, it is faulty
 use Rattle.std.specs.Prelude.{ℕ, ◌==◌, Bool, true, false, not, ◌&&◌, ◌||◌, if◌then◌else◌, Option, Some, None, Result, Ok, Err}
-use Rattle.ud_model.specs.Faults.{keeps_rest}
+use Rattle.ud_model.specs.sections.Faults.{keeps_rest}
 use Rattle.ud_model.specs.declared.limits.TheConstants.{OPEN_SECTIONS}
 use Rattle.ud_sections.specs.declared.fault.SectionFault.{SectionFault}
 use Rattle.ud_sections.specs.declared.fault.SectionFault.TheVariants.{InappropriateElif, InappropriateElse, InappropriateEndif, TooManyLevels, Obfuscated}

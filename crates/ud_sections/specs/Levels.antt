@@ -6,9 +6,9 @@
 --   last_or d ls             the last of these, and d if there is none
 use Rattle.std.specs.Prelude.{ℕ, List, [], ◌∷◌, Bool, true, false, ◌||◌, ◌&&◌, Option, Some}
 use Rattle.ud_model.specs.declared.cond.Cond.{Cond}
-use Rattle.ud_model.specs.Scans.{Reading}
-use Rattle.ud_model.specs.Tree.{Head, Tree, if_head, elif_head, else_head, closed, open_section, opener_of_head}
-use Rattle.ud_model.specs.Pruning.{Part, an_if, an_elif, an_else, conds_of_head, is_inside_kept}
+use Rattle.ud_model.specs.text.Scans.{Reading}
+use Rattle.ud_model.specs.sections.Tree.{Head, Tree, if_head, elif_head, else_head, closed, open_section, opener_of_head}
+use Rattle.ud_model.specs.sections.Pruning.{Part, an_if, an_elif, an_else, conds_of_head, is_inside_kept}
 use Rattle.ud_sections.specs.declared.level.Level.{Level}
 use Rattle.ud_sections.specs.Phases.{begun, next_phase, phase_after}
 

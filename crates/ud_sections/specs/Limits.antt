@@ -1,6 +1,6 @@
 -- Limits: lines within the limits of a text.
 use Rattle.std.specs.Prelude.{◌≤◌, length}
-use Rattle.ud_model.specs.Lines.{Line, text_of}
+use Rattle.ud_model.specs.text.Lines.{Line, text_of}
 use Rattle.ud_model.specs.declared.limits.TheConstants.{LINE_BYTES, TEXT_LINES}
 
 -- a line within the limits

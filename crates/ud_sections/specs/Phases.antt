@@ -14,7 +14,7 @@ use Rattle.ud_model.specs.declared.cond.Cond.{Cond}
 use Rattle.ud_model.specs.declared.cond.Cond.TheVariants.{Yes, No, Unknown}
 use Rattle.ud_model.specs.declared.verdict.Verdict.{Verdict}
 use Rattle.ud_model.specs.declared.verdict.Verdict.TheVariants.{Keep, Remove, ToEndif}
-use Rattle.ud_model.specs.Pruning as table
+use Rattle.ud_model.specs.sections.Pruning as table
 use Rattle.ud_sections.specs.declared.phase.Part.{Part}
 use Rattle.ud_sections.specs.declared.phase.Part.TheVariants.{AnIf, AnElif, AnElse}
 use Rattle.ud_sections.specs.declared.phase.Phase.{Phase}

@@ -5,7 +5,7 @@
 --
 -- Example: for `-c -n` it is the complement of `Renumber`, and stands for lines where that stands for their complements.
 use Rattle.std.specs.Prelude.{List, ℕ, map}
-use Rattle.ud_model.specs.Printing.{Judged, plain_style, piece_behind, complemented}
+use Rattle.ud_model.specs.answer.Printing.{Judged, plain_style, piece_behind, complemented}
 use Rattle.ud_sections.specs.Styles.{blank_style, renumber_style, delete_stands, blank_stands, renumber_stands, inner_of}
 use Rattle.ud_sections.specs.declared.printer.Printer.{Printer}
 use Rattle.ud_sections.specs.declared.printer.Printer.TheVariants.{Deletes, Blanks, Renumbers, ComplementDeletes, ComplementBlanks, ComplementRenumbers}

@@ -12,16 +12,16 @@
 --
 -- Example: a machine that has read `#if X` alone has one section open, and the line was no text.
 use Rattle.std.specs.Prelude.{◌≡◌, List, [], ◌∷◌, ◌++◌, map, true, Option, Some, None, Result, Ok, Err}
-use Rattle.ud_model.specs.Lines.{Line}
-use Rattle.ud_model.specs.Scans.{Scan, Reading}
-use Rattle.ud_model.specs.Scanning.{scan_after}
-use Rattle.ud_model.specs.Directives.{text, content_of}
-use Rattle.ud_model.specs.Table.{Argument}
-use Rattle.ud_model.specs.Tree.{Item, Tree, text_line}
-use Rattle.ud_model.specs.Pruning.{Mark, marks}
-use Rattle.ud_model.specs.Items.{Options, reading_of, mode_after, read_after, next_item}
-use Rattle.ud_model.specs.Faults.{Fault, AreSound, last_number, ends_removed, obfuscated, inappropriate_elif, inappropriate_else, inappropriate_endif, too_many_levels, eof_in_comment, premature_eof}
-use Rattle.ud_model.specs.Printing.{judged}
+use Rattle.ud_model.specs.text.Lines.{Line}
+use Rattle.ud_model.specs.text.Scans.{Scan, Reading}
+use Rattle.ud_model.specs.text.Scanning.{scan_after}
+use Rattle.ud_model.specs.sections.Directives.{text, content_of}
+use Rattle.ud_model.specs.conditions.Table.{Argument}
+use Rattle.ud_model.specs.sections.Tree.{Item, Tree, text_line}
+use Rattle.ud_model.specs.sections.Pruning.{Mark, marks}
+use Rattle.ud_model.specs.sections.Items.{Options, reading_of, mode_after, read_after, next_item}
+use Rattle.ud_model.specs.sections.Faults.{Fault, AreSound, last_number, ends_removed, obfuscated, inappropriate_elif, inappropriate_else, inappropriate_endif, too_many_levels, eof_in_comment, premature_eof}
+use Rattle.ud_model.specs.answer.Printing.{judged}
 use Rattle.ud_model.specs.declared.kind.Mode.{Mode}
 use Rattle.ud_model.specs.declared.verdict.Verdict.{Verdict}
 use Rattle.ud_cond.specs.Standing.{StandsFor}

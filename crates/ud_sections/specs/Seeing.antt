@@ -4,12 +4,12 @@
 --   seen_on scan table rules c    what is kept of the line with this scan, which carries this
 --   shape_of x                    what an item is among the sections
 use Rattle.std.specs.Prelude.{List, Result, Ok, Err}
-use Rattle.ud_model.specs.Scans.{Scan, Reading, is_spanning}
-use Rattle.ud_model.specs.Directives.{Content, cut_keyword, directive, text}
-use Rattle.ud_model.specs.Directives.{Span as TextSpan}
-use Rattle.ud_model.specs.Conditions.{Decision, Rules, decision_on}
-use Rattle.ud_model.specs.Table.{Argument}
-use Rattle.ud_model.specs.Tree.{Item, text_line, if_line, elif_line, else_line, endif_line}
+use Rattle.ud_model.specs.text.Scans.{Scan, Reading, is_spanning}
+use Rattle.ud_model.specs.sections.Directives.{Content, cut_keyword, directive, text}
+use Rattle.ud_model.specs.sections.Directives.{Span as TextSpan}
+use Rattle.ud_model.specs.conditions.Conditions.{Decision, Rules, decision_on}
+use Rattle.ud_model.specs.conditions.Table.{Argument}
+use Rattle.ud_model.specs.sections.Tree.{Item, text_line, if_line, elif_line, else_line, endif_line}
 use Rattle.ud_model.specs.declared.kind.Kind as kinds
 use Rattle.ud_model.specs.declared.kind.Kind.TheVariants as kind
 use Rattle.ud_sections.specs.declared.found.Cut.{Cut}

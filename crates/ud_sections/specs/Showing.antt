@@ -5,8 +5,8 @@
 --
 -- Example: a text line that is kept is judged as itself, Keep, with a keyword of 0 bytes at 0.
 use Rattle.std.specs.Prelude.{ℕ, ◌+◌, ◌≤◌, List, length}
-use Rattle.ud_model.specs.Directives.{Span as TextSpan}
-use Rattle.ud_model.specs.Printing.{Judged}
+use Rattle.ud_model.specs.sections.Directives.{Span as TextSpan}
+use Rattle.ud_model.specs.answer.Printing.{Judged}
 use Rattle.ud_model.specs.declared.verdict.Verdict.{Verdict}
 use Rattle.ud_model.specs.declared.verdict.Verdict.TheVariants.{Keep, Remove, ToIf, ToElse, ToEndif}
 use Rattle.ud_text.specs.declared.line.Line.{Line}

@@ -4,7 +4,7 @@
 --   delete_stands printer before   the printer was given these lines; so for each printer
 --   inner_of complement            the printer whose complement it is
 use Rattle.std.specs.Prelude.{◌≡◌, List, true, false}
-use Rattle.ud_model.specs.Printing.{Judged, Style, last_removed}
+use Rattle.ud_model.specs.answer.Printing.{Judged, Style, last_removed}
 use Rattle.ud_sections.specs.declared.delete.Delete.{Delete}
 use Rattle.ud_sections.specs.declared.blank.Blank.{Blank}
 use Rattle.ud_sections.specs.declared.renumber.Renumber.{Renumber}

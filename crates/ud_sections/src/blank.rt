@@ -22,7 +22,7 @@ impl Blank {
 }
 
 impl Show for Blank {
-    ghost use Rattle.ud_model.specs.Printing.{piece_behind};
+    ghost use Rattle.ud_model.specs.answer.Printing.{piece_behind};
     ghost use Rattle.ud_sections.specs.Styles.{blank_stands, blank_style};
 
     ghost stands = { blank_stands };

@@ -1,7 +1,7 @@
 //! Printing what would be removed.
 
 ghost use Rattle.std.specs.Prelude.{◌≡◌};
-ghost use Rattle.ud_model.specs.Printing.{turned};
+ghost use Rattle.ud_model.specs.answer.Printing.{turned};
 
 use crate::pieces::Pieces;
 use crate::show::Show;
@@ -29,7 +29,7 @@ impl<S: Show> Complement<S> {
 
 impl<S: Show> Show for Complement<S> {
     ghost use Rattle.std.specs.Prelude.{map};
-    ghost use Rattle.ud_model.specs.Printing.{complemented};
+    ghost use Rattle.ud_model.specs.answer.Printing.{complemented};
 
     ghost stands = { λ c before. S.stands c.inner (map complemented before) };
 

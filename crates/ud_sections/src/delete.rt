@@ -22,7 +22,7 @@ impl Delete {
 }
 
 impl Show for Delete {
-    ghost use Rattle.ud_model.specs.Printing.{piece_behind, plain_style};
+    ghost use Rattle.ud_model.specs.answer.Printing.{piece_behind, plain_style};
     ghost use Rattle.ud_sections.specs.Styles.{delete_stands};
 
     ghost stands = { delete_stands };

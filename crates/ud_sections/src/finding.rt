@@ -1,8 +1,8 @@
 //! The directive that a line carries.
 
 ghost use Rattle.std.specs.Prelude.{◌≡◌, ◌+◌, length, IsTrue, IfOk, IfSome, MatchOption, Some, None};
-ghost use Rattle.ud_model.specs.Bytes.{are_word_bytes};
-ghost use Rattle.ud_model.specs.Directives.{text, content_of, past_sign, kind_of, is_cut_off, begins_keyword, is_keyword_front, leaves_keyword, has_cut_keyword, found_behind};
+ghost use Rattle.ud_model.specs.text.Bytes.{are_word_bytes};
+ghost use Rattle.ud_model.specs.sections.Directives.{text, content_of, past_sign, kind_of, is_cut_off, begins_keyword, is_keyword_front, leaves_keyword, has_cut_keyword, found_behind};
 ghost use Rattle.ud_text.specs.Viewing.{as_scan};
 ghost use Rattle.ud_sections.specs.Finding.{content_found, directive_or_text};
 

@@ -1,8 +1,8 @@
 //! The judgement of a line, by the open sections and by the line before.
 
 ghost use Rattle.std.specs.Prelude.{◌≡◌};
-ghost use Rattle.ud_model.specs.Faults.{keeps_rest};
-ghost use Rattle.ud_model.specs.Pruning.{is_removed};
+ghost use Rattle.ud_model.specs.sections.Faults.{keeps_rest};
+ghost use Rattle.ud_model.specs.sections.Pruning.{is_removed};
 ghost use Rattle.ud_sections.specs.Judging.{is_directive_shape, is_push, is_spoiled_by, misplaced_by, judged_by};
 
 use crate::fault::SectionFault;

@@ -1,7 +1,7 @@
 //! Names of conditions, in place of the text.
 
 ghost use Rattle.std.specs.Prelude.{◌≡◌, ◌+◌, ◌≤◌, ◌++◌, length, Bool};
-ghost use Rattle.ud_model.specs.Listing.{depth_prefix};
+ghost use Rattle.ud_model.specs.answer.Listing.{depth_prefix};
 
 use crate::finding::directive;
 use arrayvec::ArrayVec;
@@ -34,8 +34,8 @@ impl Model for Lister {
 
 impl Lister {
     ghost use Rattle.std.specs.Borrow.{sem};
-    ghost use Rattle.ud_model.specs.Directives.{content_of};
-    ghost use Rattle.ud_model.specs.Listing.{names_in_content};
+    ghost use Rattle.ud_model.specs.sections.Directives.{content_of};
+    ghost use Rattle.ud_model.specs.answer.Listing.{names_in_content};
     ghost use Rattle.ud_model.specs.declared.limits.TheConstants.{LINE_BYTES};
     ghost use Rattle.ud_text.specs.Viewing.{as_scan};
     ghost use Rattle.ud_sections.specs.Listing.{StaysSame};

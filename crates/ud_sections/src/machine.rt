@@ -6,19 +6,19 @@
 
 ghost use Rattle.std.specs.Prelude.{◌≡◌, ◌≤◌, ◌<◌, ◌+◌, ◌∷◌, [], ◌++◌, List, length, map, IsTrue, IfOk, IfErr, OnOk, OnErr, None, Some};
 ghost use Rattle.arrayvec.specs.ArrayVec.{array_vec_len};
-ghost use Rattle.ud_model.specs.Scans.{Reading};
-ghost use Rattle.ud_model.specs.Tree.{Item, Tree, text_line, closed, nothing, depth};
-ghost use Rattle.ud_model.specs.Directives.{content_of};
-ghost use Rattle.ud_model.specs.Table.{Argument};
-ghost use Rattle.ud_model.specs.Items.{Options, mode_after, next_item, rules_of};
-ghost use Rattle.ud_model.specs.Faults.{FaultOf, ends_in_comment, end_fault, last_number};
+ghost use Rattle.ud_model.specs.text.Scans.{Reading};
+ghost use Rattle.ud_model.specs.sections.Tree.{Item, Tree, text_line, closed, nothing, depth};
+ghost use Rattle.ud_model.specs.sections.Directives.{content_of};
+ghost use Rattle.ud_model.specs.conditions.Table.{Argument};
+ghost use Rattle.ud_model.specs.sections.Items.{Options, mode_after, next_item, rules_of};
+ghost use Rattle.ud_model.specs.sections.Faults.{FaultOf, ends_in_comment, end_fault, last_number};
 ghost use Rattle.ud_model.specs.declared.limits.TheConstants.{LINE_BYTES, OPEN_SECTIONS};
 ghost use Rattle.ud_cond.specs.Standing.{StandsFor};
 ghost use Rattle.ud_text.specs.Viewing.{as_line, as_scan};
 ghost use Rattle.ud_sections.specs.Limits.{IsWithin};
 ghost use Rattle.ud_sections.specs.Showing.{HoldsKeyword};
 ghost use Rattle.ud_sections.specs.Changing.{changed, last_of};
-ghost use Rattle.ud_model.specs.Pruning.{is_removed};
+ghost use Rattle.ud_model.specs.sections.Pruning.{is_removed};
 ghost use Rattle.ud_sections.specs.Judging.{is_push};
 
 use crate::fault::SectionFault;

@@ -1,7 +1,7 @@
 //! How far an open section is among its groups.
 
 ghost use Rattle.std.specs.Prelude.{◌≡◌};
-ghost use Rattle.ud_model.specs.Pruning.{first_kept_verdict, first_true_verdict};
+ghost use Rattle.ud_model.specs.sections.Pruning.{first_kept_verdict, first_true_verdict};
 ghost use Rattle.ud_sections.specs.Phases.{part_of, begun, next_phase, opener_verdict_in, endif_verdict_in, is_kept_in, is_dead};
 
 use ud_model::{Cond, Verdict};

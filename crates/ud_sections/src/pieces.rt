@@ -2,7 +2,7 @@
 
 ghost use Rattle.std.specs.Prelude.{◌≡◌, ◌≤◌, bytes_eq};
 ghost use Rattle.std.specs.List.{flat_map};
-ghost use Rattle.ud_model.specs.Lines.{text_of};
+ghost use Rattle.ud_model.specs.text.Lines.{text_of};
 ghost use Rattle.ud_text.specs.Viewing.{as_line};
 
 use crate::step::Step;
@@ -23,8 +23,8 @@ pub struct Pieces<'a> {
 
 impl<'a> Pieces<'a> {
     ghost use Rattle.std.specs.Prelude.{◌+◌, ◌++◌, length, take, if◌then◌else◌};
-    ghost use Rattle.ud_model.specs.Printing.{piece_by};
-    ghost use Rattle.ud_model.specs.Pruning.{is_removed};
+    ghost use Rattle.ud_model.specs.answer.Printing.{piece_by};
+    ghost use Rattle.ud_model.specs.sections.Pruning.{is_removed};
     ghost use Rattle.ud_sections.specs.Joining.{joined, count_of, is_same};
     ghost use Rattle.ud_sections.specs.Showing.{as_span, HoldsKeyword};
 

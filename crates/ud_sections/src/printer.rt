@@ -29,7 +29,7 @@ pub enum Printer {
 
 impl Printer {
     ghost use Rattle.std.specs.Prelude.{◌≡◌, [], List, ℕ};
-    ghost use Rattle.ud_model.specs.Printing.{Judged, piece_behind, style_of};
+    ghost use Rattle.ud_model.specs.answer.Printing.{Judged, piece_behind, style_of};
     ghost use Rattle.ud_sections.specs.Printers.{printer_stands, printer_piece};
 
     /// The printer for these settings, at the beginning of a text. Where removed lines are blanked, none is numbered.

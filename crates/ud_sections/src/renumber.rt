@@ -1,8 +1,8 @@
 //! Printing the numbers of lines behind removed ones.
 
 ghost use Rattle.std.specs.Prelude.{◌≡◌, ◌+◌, ◌≤◌, ◌++◌, length};
-ghost use Rattle.ud_model.specs.Printing.{number_line};
-ghost use Rattle.ud_model.specs.Pruning.{is_removed};
+ghost use Rattle.ud_model.specs.answer.Printing.{number_line};
+ghost use Rattle.ud_model.specs.sections.Pruning.{is_removed};
 ghost use Rattle.ud_text.specs.Viewing.{as_line};
 
 use crate::pieces::Pieces;
@@ -42,7 +42,7 @@ impl Renumber {
 }
 
 impl Show for Renumber {
-    ghost use Rattle.ud_model.specs.Printing.{piece_behind};
+    ghost use Rattle.ud_model.specs.answer.Printing.{piece_behind};
     ghost use Rattle.ud_sections.specs.Styles.{renumber_stands, renumber_style};
 
     ghost stands = { renumber_stands };

@@ -1,11 +1,11 @@
 //! What is kept of a line while it is judged.
 
 ghost use Rattle.std.specs.Prelude.{◌≡◌, ◌≤◌, ◌+◌, List, length, IfOk};
-ghost use Rattle.ud_model.specs.Scans.{is_spanning};
-ghost use Rattle.ud_model.specs.Directives.{content_of};
-ghost use Rattle.ud_model.specs.Conditions.{decision_on};
-ghost use Rattle.ud_model.specs.Items.{rules_of};
-ghost use Rattle.ud_model.specs.Table.{Argument};
+ghost use Rattle.ud_model.specs.text.Scans.{is_spanning};
+ghost use Rattle.ud_model.specs.sections.Directives.{content_of};
+ghost use Rattle.ud_model.specs.conditions.Conditions.{decision_on};
+ghost use Rattle.ud_model.specs.sections.Items.{rules_of};
+ghost use Rattle.ud_model.specs.conditions.Table.{Argument};
 ghost use Rattle.ud_model.specs.declared.limits.TheConstants.{LINE_BYTES};
 ghost use Rattle.ud_cond.specs.Standing.{StandsFor};
 ghost use Rattle.ud_cond.specs.Viewing.{as_decision, as_rules};

@@ -3,8 +3,8 @@
 ghost use Rattle.std.specs.Prelude.{◌≡◌, List, [], ◌∷◌, ◌++◌, bytes_eq, ℕ};
 ghost use Rattle.std.specs.Borrow.{sem};
 ghost use Rattle.std.specs.Io.BufRead.{Rests};
-ghost use Rattle.ud_model.specs.Lines.{text_of};
-ghost use Rattle.ud_model.specs.Printing.{Judged};
+ghost use Rattle.ud_model.specs.text.Lines.{text_of};
+ghost use Rattle.ud_model.specs.answer.Printing.{Judged};
 ghost use Rattle.ud_text.specs.Viewing.{as_line};
 ghost use Rattle.ud_sections.specs.Joining.{joined, is_same};
 ghost use Rattle.ud_sections.specs.Showing.{judged, HoldsKeyword};

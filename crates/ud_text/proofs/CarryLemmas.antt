@@ -1,20 +1,20 @@
 -- Carries: what is carried over a line, and what is seen of the line by it.
 use Rattle.std.proofs.Common.{◌≡◌, ℕ, ◌-◌, List, [], ◌∷◌, ◌++◌, length, take, map, Bool, true, false, ◌||◌, if◌then◌else◌, refl, sym, ◌∙◌, ap}
-use Rattle.ud_model.specs.Lines.{Line, NoFeed}
-use Rattle.ud_model.specs.Scans.{Scan, Reading}
-use Rattle.ud_model.specs.Splicing.{is_spliced, content, stays_open, share, joined, run_of}
-use Rattle.ud_model.specs.Pieces.{PieceKind, block_comment, line_comment, literal, single}
-use Rattle.ud_model.specs.Scanning.{is_block, joins, comment_at, scan_behind, scan_after, next_reading}
-use Rattle.ud_model.specs.Places.{Place, Reads, place_kind, fresh_at, closed_place, closed_white, Masks}
-use Rattle.ud_model.specs.Faults.{is_in_block, ends_in_comment}
+use Rattle.ud_model.specs.text.Lines.{Line, NoFeed}
+use Rattle.ud_model.specs.text.Scans.{Scan, Reading}
+use Rattle.ud_model.specs.text.Splicing.{is_spliced, content, stays_open, share, joined, run_of}
+use Rattle.ud_model.specs.text.Pieces.{PieceKind, block_comment, line_comment, literal, single}
+use Rattle.ud_model.specs.text.Scanning.{is_block, joins, comment_at, scan_behind, scan_after, next_reading}
+use Rattle.ud_model.specs.aids.Places.{Place, Reads, place_kind, fresh_at, closed_place, closed_white, Masks}
+use Rattle.ud_model.specs.sections.Faults.{is_in_block, ends_in_comment}
 use Rattle.ud_model.specs.declared.kind.Mode.{Mode}
 use Rattle.ud_model.specs.declared.kind.Mode.TheVariants.{C, Plain}
 use Rattle.ud_model.specs.declared.kind.CommentAt.{CommentAt}
-use Rattle.ud_model.specs.Tree.{Item}
-use Rattle.ud_model.specs.Items.{reading_of}
-use Rattle.ud_model.proofs.PlaceLemmas.{Reads-nil}
-use Rattle.ud_model.proofs.ScanLaws.{scan_behind-from}
-use Rattle.ud_model.proofs.ScanLemmas.{Reads-same, Reads-close, kind_at_place, joined_run_last, run_of_last, joins_last, scan_behind_is}
+use Rattle.ud_model.specs.sections.Tree.{Item}
+use Rattle.ud_model.specs.sections.Items.{reading_of}
+use Rattle.ud_model.proofs.text.PlaceLemmas.{Reads-nil}
+use Rattle.ud_model.proofs.text.ScanLaws.{scan_behind-from}
+use Rattle.ud_model.proofs.text.ScanLemmas.{Reads-same, Reads-close, kind_at_place, joined_run_last, run_of_last, joins_last, scan_behind_is}
 use Rattle.ud_text.specs.Carrying.{Carried, Carries, nothing_carried, ends_in_block}
 use Rattle.ud_text.proofs.RunLemmas.{no_feed-take}
 

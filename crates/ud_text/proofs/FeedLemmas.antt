@@ -4,7 +4,7 @@ use Rattle.std.proofs.lemmas.Bool.{eq-eqb, eqb-true}
 use Rattle.std.proofs.lemmas.List.{take_more, take_all, length-append}
 use Rattle.std.proofs.Math.ListN.{length-take}
 use Rattle.memchr.specs.Find.{Nowhere, NoneBefore, Passes, is_byte}
-use Rattle.ud_model.specs.Lines.{NoFeed}
+use Rattle.ud_model.specs.text.Lines.{NoFeed}
 use Rattle.ud_text.specs.Holding.{UpToFeed}
 
 -- bytes among which a search finds no line feed have none

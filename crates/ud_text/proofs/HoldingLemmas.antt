@@ -2,8 +2,8 @@
 use Rattle.std.proofs.Common.{◌≡◌, ℕ, suc, ◌+◌, ◌<◌, ◌≤◌, Bool, true, false, List, [], ◌∷◌, ◌++◌, length, take, refl, sym, ◌∙◌, ap, subst, append-nil, if◌then◌else◌, arith}
 use Rattle.std.proofs.lemmas.List.{take_all, length-append}
 use Rattle.std.proofs.Math.ListN.{length-take}
-use Rattle.ud_model.specs.Lines.{NoFeed, Parts, parts_of, whole_lines, open_rest, last_line, texts_of, line_at, numbered_from}
-use Rattle.ud_model.proofs.LinesLemmas.{parts_of-append-open, parts_of-append-line, last_line-some, numbered_from-next}
+use Rattle.ud_model.specs.text.Lines.{NoFeed, Parts, parts_of, whole_lines, open_rest, last_line, texts_of, line_at, numbered_from}
+use Rattle.ud_model.proofs.text.LinesLemmas.{parts_of-append-open, parts_of-append-line, last_line-some, numbered_from-next}
 use Rattle.ud_text.specs.Holding.{Holding, Took, UpToFeed, IsLastLine}
 
 -- of a text of no bytes nothing is held

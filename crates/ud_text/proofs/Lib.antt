@@ -5,10 +5,10 @@ pub mod RunLemmas
 pub mod CarryLemmas
 pub mod QuietLemmas
 pub mod TextLemmas
-pub mod LineRunLemmas
-pub mod PassLemmas
+pub mod QuietLineLemmas
+pub mod PlainLemmas
 pub mod SpanLemmas
 pub mod LookLemmas
-pub mod RanLemmas
+pub mod ProgressLemmas
 pub mod BlockLemmas
 pub mod StepLemmas

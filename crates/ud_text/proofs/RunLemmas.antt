@@ -4,10 +4,10 @@ use Rattle.std.specs.List.{list_all, position_or_len}
 use Rattle.std.proofs.lemmas.List.{take_more, take_rest, length-take-le, drop-take, take-take, take-append-drop}
 use Rattle.std.specs.Option.{option_to_list}
 use Rattle.memchr.specs.Find.{IsFirstByte, is_byte}
-use Rattle.ud_model.specs.Bytes.{slash, star, space, backslash, is_quote, is_mark, is_white}
-use Rattle.ud_model.specs.Lines.{NoFeed}
-use Rattle.ud_model.specs.Places.{Place, in_text, at_slash, in_literal, in_block, at_star, next, opens, shows, whitens, blank_last, Masks}
-use Rattle.ud_model.proofs.PlaceLemmas.{Masks-step, blank_last-last}
+use Rattle.ud_model.specs.text.Bytes.{slash, star, space, backslash, is_quote, is_mark, is_white}
+use Rattle.ud_model.specs.text.Lines.{NoFeed}
+use Rattle.ud_model.specs.aids.Places.{Place, in_text, at_slash, in_literal, in_block, at_star, next, opens, shows, whitens, blank_last, Masks}
+use Rattle.ud_model.proofs.text.PlaceLemmas.{Masks-step, blank_last-last}
 
 -- facts of how a text is shown, under other names of the same things
 pub Masks-same : {n : ℕ} {t u : List ℕ} {w x : Place} {b c : Bool} {m k : List ℕ} → t ≡ u → w ≡ x → b ≡ c → m ≡ k → Masks n t w b m → Masks n u x c k

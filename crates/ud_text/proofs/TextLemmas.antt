@@ -1,14 +1,14 @@
--- Text: a line that is read quietly carries no directive.
+-- Text: what is shown of a line that is read quietly has no `#` that belongs to a directive.
 use Rattle.std.proofs.Common.{◌≡◌, ℕ, ◌==◌, List, [], ◌∷◌, ◌++◌, Bool, true, false, not, ◌&&◌, ◌||◌, if◌then◌else◌, refl, sym, ◌∙◌, ap, subst, ne_eqb, Option, Some, None, bytes_eq}
-use Rattle.std.proofs.lemmas.Bool.{eqb-true}
-use Rattle.ud_model.specs.Bytes.{is_white, is_quote, is_word_byte, past_white, word_in_front}
-use Rattle.ud_model.specs.Lines.{NoFeed}
-use Rattle.ud_model.specs.Scans.{Scan}
-use Rattle.ud_model.specs.Places.{Place, in_text, at_slash, in_block, at_star, in_line, in_literal, at_backslash, next, opens, shows, blank_last}
-use Rattle.ud_model.specs.Directives.{cut_keyword, text, content_of, past_sign, past_sign_of, has_cut_keyword, found_behind, directive_at, leaves_keyword, is_cut_off, is_in_line, kind_of, is_keyword_front}
+use Rattle.std.proofs.lemmas.Bool.{eqb-true, not-true}
+use Rattle.ud_model.specs.text.Bytes.{is_white, is_quote, is_word_byte, past_white, word_in_front, slash, number_sign, line_feed, space, carriage_return, star}
+use Rattle.ud_model.specs.text.Lines.{NoFeed}
+use Rattle.ud_model.specs.text.Scans.{Scan}
+use Rattle.ud_model.specs.aids.Places.{Place, in_text, at_slash, in_block, at_star, in_line, in_literal, at_backslash, next, opens, shows, blank_last}
+use Rattle.ud_model.specs.sections.Directives.{cut_keyword, text, content_of, past_sign, past_sign_of, has_cut_keyword, found_behind, directive_at, leaves_keyword, is_cut_off, is_in_line, kind_of, is_keyword_front}
 use Rattle.ud_model.specs.declared.kind.Kind.{Kind}
-use Rattle.ud_text.specs.Running.{Stand, step, is_other_word, starts_other, is_other_name, cut_behind, Quiet}
-use Rattle.ud_model.proofs.ScanLaws.{masked_after}
+use Rattle.ud_text.specs.States.{next_state, letter_f, State, letter_i, starts_other, letter_e, spliced_after, is_other_word, is_other_name, letter_l, letter_n, IsQuiet}
+use Rattle.ud_model.proofs.text.ScanLaws.{masked_after}
 
 -- no keyword stands in front of these bytes, but a byte does
 pub record IsOther (bytes : List ℕ) : Type 0 where
@@ -17,12 +17,12 @@ pub record IsOther (bytes : List ℕ) : Type 0 where
   pub is : past_white bytes ≡ first ∷ more
   pub none : kind_of (word_in_front (first ∷ more)) ≡ None
 
--- there is no `#`, or another name behind it
+-- no `#` comes first, or another name follows it
 pub data Unsigned : Option (List ℕ) → Type 0 where
   no_sign : Unsigned None
   other_sign : (rest : List ℕ) → IsOther rest → Unsigned (Some rest)
 
--- a scan that isn't fresh is text
+-- a scan that isn't fresh, and so can carry no directive, is text
 pub text_not_fresh : (scan : Scan) → scan.fresh ≡ false → content_of scan ≡ text
 text_not_fresh scan e = by_sign (past_sign scan.masked) scan.fresh e
   where
@@ -32,7 +32,7 @@ text_not_fresh scan e = by_sign (past_sign scan.masked) scan.fresh e
     by_sign (Some rest) true h = cc
     by_sign (Some rest) false h = refl
 
--- a scan without a sign is text, if it isn't cut off
+-- a scan without such a `#` is text, unless a continuation cuts it off
 pub text_unsigned : (scan : Scan) → Unsigned (past_sign scan.masked) → is_cut_off scan ≡ false → content_of scan ≡ text
 text_unsigned scan u e = by_sign (past_sign scan.masked) u
   where
@@ -47,7 +47,7 @@ text_unsigned scan u e = by_sign (past_sign scan.masked) u
 
     stays : (word : List ℕ) (a : ℕ) (more : List ℕ) → word ≡ a ∷ more → leaves_keyword scan word ≡ false
     stays word a more i = ap (λ (w : List ℕ). leaves_keyword scan w) i
-        ∙ ap (λ (c : Bool). c && (bytes_eq (a ∷ more) (47 ∷ []) || is_keyword_front (a ∷ more))) e
+        ∙ ap (λ (c : Bool). c && (bytes_eq (a ∷ more) (slash ∷ []) || is_keyword_front (a ∷ more))) e
 
     by_sign : (o : Option (List ℕ)) → Unsigned o → (if has_cut_keyword scan o then cut_keyword else found_behind scan o) ≡ text
     by_sign None v = refl
@@ -56,7 +56,7 @@ text_unsigned scan u e = by_sign (past_sign scan.masked) u
         (kind_of (word_in_front (past_white rest))) (stays (past_white rest) i.first i.more i.is)
         (ap (λ (w : List ℕ). kind_of (word_in_front w)) i.is ∙ i.none)
 
--- a slash at the end doesn't wait for the next byte, or more stands in front of it
+-- what is shown doesn't begin with a slash that waits for the next byte
 abbrev pub Settled : Place → List ℕ → Type 0
 Settled at_slash [] = ⊥
 Settled at_slash (x ∷ m) = Unit {0}
@@ -101,9 +101,9 @@ front_stays x m w (b ∷ bytes) h =
     ∙ front_stays x (now ++ shows w b ∷ []) (next w b) bytes (settled_some (next w b) now (shows w b))
 
 -- a byte that is neither white space nor `#` comes first
-pub black_first : (x : ℕ) (m : List ℕ) (w : Place) (bytes : List ℕ) → Settled w m → is_white x ≡ false → (x == 35) ≡ false →
+pub black_first : (x : ℕ) (m : List ℕ) (w : Place) (bytes : List ℕ) → Settled w m → is_white x ≡ false → (x == number_sign) ≡ false →
     Unsigned (past_sign (masked_after w (x ∷ m) bytes))
-black_first x m w bytes h e f = subst (λ (l : List ℕ). Unsigned (past_sign l)) (sym (front_stays x m w bytes h)) (by_tests (is_white x) (x == 35) e f)
+black_first x m w bytes h e f = subst (λ (l : List ℕ). Unsigned (past_sign l)) (sym (front_stays x m w bytes h)) (by_tests (is_white x) (x == number_sign) e f)
   where
     by_tests : (t s : Bool) → t ≡ false → s ≡ false →
         Unsigned (past_sign_of (if t then past_white (masked_after w m bytes) else x ∷ masked_after w m bytes))
@@ -119,23 +119,24 @@ white_first x m w bytes h e u = subst (λ (l : List ℕ). Unsigned (past_sign l)
     by_white true g = u
     by_white false g = cc
 
--- what the classes of bytes are that count here
+-- the classes of bytes that count here
 pub data Class : ℕ → Type 0 where
-  a_slash : Class 47
-  a_sign : Class 35
-  a_white : (b : ℕ) → is_white b ≡ true → (b == 47) ≡ false → is_quote b ≡ false → (b == 35) ≡ false → (b == 10) ≡ false → is_word_byte b ≡ false → Class b
-  a_quote : (b : ℕ) → is_quote b ≡ true → is_white b ≡ false → (b == 47) ≡ false → (b == 35) ≡ false → (b == 10) ≡ false → is_word_byte b ≡ false → Class b
-  another : (b : ℕ) → is_white b ≡ false → (b == 47) ≡ false → is_quote b ≡ false → (b == 35) ≡ false → Class b
+  a_slash : Class slash
+  a_sign : Class number_sign
+  a_white : (b : ℕ) → is_white b ≡ true → (b == slash) ≡ false → is_quote b ≡ false → (b == number_sign) ≡ false → (b == line_feed) ≡ false → is_word_byte b ≡ false → Class b
+  a_quote : (b : ℕ) → is_quote b ≡ true → is_white b ≡ false → (b == slash) ≡ false → (b == number_sign) ≡ false → (b == line_feed) ≡ false → is_word_byte b ≡ false → Class b
+  another : (b : ℕ) → is_white b ≡ false → (b == slash) ≡ false → is_quote b ≡ false → (b == number_sign) ≡ false → Class b
 
+-- each byte is of one of them
 pub class_of : (b : ℕ) → Class b
-class_of b = by_slash (b == 47) refl
+class_of b = by_slash (b == slash) refl
   where
-    white_is : (t u v w x : Bool) → (b == 32) ≡ t → (b == 9) ≡ u → (b == 11) ≡ v → (b == 12) ≡ w → (b == 13) ≡ x → (t || u || v || w || x) ≡ true → is_white b ≡ true → Class b
-    white_is true u v w x e f g h i j k = subst Class (sym (eqb-true b 32 e)) (a_white 32 refl refl refl refl refl refl)
+    white_is : (t u v w x : Bool) → (b == space) ≡ t → (b == 9) ≡ u → (b == 11) ≡ v → (b == 12) ≡ w → (b == carriage_return) ≡ x → (t || u || v || w || x) ≡ true → is_white b ≡ true → Class b
+    white_is true u v w x e f g h i j k = subst Class (sym (eqb-true b space e)) (a_white space refl refl refl refl refl refl)
     white_is false true v w x e f g h i j k = subst Class (sym (eqb-true b 9 f)) (a_white 9 refl refl refl refl refl refl)
     white_is false false true w x e f g h i j k = subst Class (sym (eqb-true b 11 g)) (a_white 11 refl refl refl refl refl refl)
     white_is false false false true x e f g h i j k = subst Class (sym (eqb-true b 12 h)) (a_white 12 refl refl refl refl refl refl)
-    white_is false false false false true e f g h i j k = subst Class (sym (eqb-true b 13 i)) (a_white 13 refl refl refl refl refl refl)
+    white_is false false false false true e f g h i j k = subst Class (sym (eqb-true b carriage_return i)) (a_white carriage_return refl refl refl refl refl refl)
     white_is false false false false false e f g h i j k = cc
 
     quote_is : (t u : Bool) → (b == 34) ≡ t → (b == 39) ≡ u → (t || u) ≡ true → Class b
@@ -143,24 +144,24 @@ class_of b = by_slash (b == 47) refl
     quote_is false true e f g = subst Class (sym (eqb-true b 39 f)) (a_quote 39 refl refl refl refl refl refl)
     quote_is false false e f g = cc
 
-    by_white : (t : Bool) → is_white b ≡ t → (b == 47) ≡ false → is_quote b ≡ false → (b == 35) ≡ false → Class b
-    by_white true e f g h = white_is (b == 32) (b == 9) (b == 11) (b == 12) (b == 13) refl refl refl refl refl e e
+    by_white : (t : Bool) → is_white b ≡ t → (b == slash) ≡ false → is_quote b ≡ false → (b == number_sign) ≡ false → Class b
+    by_white true e f g h = white_is (b == space) (b == 9) (b == 11) (b == 12) (b == carriage_return) refl refl refl refl refl e e
     by_white false e f g h = another b e f g h
 
-    by_quote : (t : Bool) → is_quote b ≡ t → (b == 47) ≡ false → (b == 35) ≡ false → Class b
+    by_quote : (t : Bool) → is_quote b ≡ t → (b == slash) ≡ false → (b == number_sign) ≡ false → Class b
     by_quote true e f g = quote_is (b == 34) (b == 39) refl refl e
     by_quote false e f g = by_white (is_white b) refl f e g
 
-    by_sign : (t : Bool) → (b == 35) ≡ t → (b == 47) ≡ false → Class b
-    by_sign true e f = subst Class (sym (eqb-true b 35 e)) a_sign
+    by_sign : (t : Bool) → (b == number_sign) ≡ t → (b == slash) ≡ false → Class b
+    by_sign true e f = subst Class (sym (eqb-true b number_sign e)) a_sign
     by_sign false e f = by_quote (is_quote b) refl f e
 
-    by_slash : (t : Bool) → (b == 47) ≡ t → Class b
-    by_slash true e = subst Class (sym (eqb-true b 47 e)) a_slash
-    by_slash false e = by_sign (b == 35) refl e
+    by_slash : (t : Bool) → (b == slash) ≡ t → Class b
+    by_slash true e = subst Class (sym (eqb-true b slash e)) a_slash
+    by_slash false e = by_sign (b == number_sign) refl e
 
-next_plain : (b : ℕ) → (b == 47) ≡ false → is_quote b ≡ false → next in_text b ≡ in_text
-next_plain b e f = by_tests (b == 47) (is_quote b) e f
+next_plain : (b : ℕ) → (b == slash) ≡ false → is_quote b ≡ false → next in_text b ≡ in_text
+next_plain b e f = by_tests (b == slash) (is_quote b) e f
   where
     by_tests : (s q : Bool) → s ≡ false → q ≡ false → (if s then at_slash else if q then in_literal b else in_text) ≡ in_text
     by_tests true q g h = cc
@@ -168,14 +169,14 @@ next_plain b e f = by_tests (b == 47) (is_quote b) e f
     by_tests false false g h = refl
 
 -- a byte of no meaning is shown as it is
-shown_plain : (b : ℕ) (bytes : List ℕ) → (b == 47) ≡ false → is_quote b ≡ false → masked_after in_text [] (b ∷ bytes) ≡ b ∷ masked_after in_text [] bytes
+shown_plain : (b : ℕ) (bytes : List ℕ) → (b == slash) ≡ false → is_quote b ≡ false → masked_after in_text [] (b ∷ bytes) ≡ b ∷ masked_after in_text [] bytes
 shown_plain b bytes e f =
     ap (λ (w : Place). masked_after w (b ∷ []) bytes) (next_plain b e f) ∙ front_stays b [] in_text bytes tt
 
-word_is_plain : (b : ℕ) → is_word_byte b ≡ true → (is_white b ≡ false) × ((b == 47) ≡ false) × (is_quote b ≡ false)
+word_is_plain : (b : ℕ) → is_word_byte b ≡ true → (is_white b ≡ false) × ((b == slash) ≡ false) × (is_quote b ≡ false)
 word_is_plain b h = by_class b (class_of b) h
   where
-    by_class : (b : ℕ) → Class b → is_word_byte b ≡ true → (is_white b ≡ false) × ((b == 47) ≡ false) × (is_quote b ≡ false)
+    by_class : (b : ℕ) → Class b → is_word_byte b ≡ true → (is_white b ≡ false) × ((b == slash) ≡ false) × (is_quote b ≡ false)
     by_class _ a_slash h = cc
     by_class _ a_sign h = cc
     by_class _ (a_white b w e f g i n) h = cc
@@ -187,41 +188,37 @@ and_parts true true e = (refl, refl)
 and_parts true false e = cc
 and_parts false b e = cc
 
-no_keyword : (b : ℕ) (w : List ℕ) → (b == 105) ≡ false → (b == 101) ≡ false → kind_of (b ∷ w) ≡ None
+no_keyword : (b : ℕ) (w : List ℕ) → (b == letter_i) ≡ false → (b == letter_e) ≡ false → kind_of (b ∷ w) ≡ None
 no_keyword b w e f = rw (e, f) refl
 
-no_keyword_i : (b : ℕ) (w : List ℕ) → (b == 102) ≡ false → kind_of (105 ∷ b ∷ w) ≡ None
+no_keyword_i : (b : ℕ) (w : List ℕ) → (b == letter_f) ≡ false → kind_of (letter_i ∷ b ∷ w) ≡ None
 no_keyword_i b w e = rw e refl
 
-no_keyword_e : (b : ℕ) (w : List ℕ) → (b == 108) ≡ false → (b == 110) ≡ false → kind_of (101 ∷ b ∷ w) ≡ None
+no_keyword_e : (b : ℕ) (w : List ℕ) → (b == letter_l) ≡ false → (b == letter_n) ≡ false → kind_of (letter_e ∷ b ∷ w) ≡ None
 no_keyword_e b w e f = rw (e, f) refl
-
-not_true : (a : Bool) → not a ≡ true → a ≡ false
-not_true true e = cc
-not_true false e = refl
 
 -- a word that begins with two such bytes is no keyword
 other_word : (b c : ℕ) (w v : List ℕ) → is_other_word b c ≡ true → (is_word_byte c ≡ true → w ≡ c ∷ v) → kind_of (b ∷ w) ≡ None
-other_word b c w v e f = by_i (b == 105) refl
+other_word b c w v e f = by_i (b == letter_i) refl
   where
-    begins_i : is_other_word 105 c ≡ true → kind_of (105 ∷ w) ≡ None
+    begins_i : is_other_word letter_i c ≡ true → kind_of (letter_i ∷ w) ≡ None
     begins_i g =
-        let p : (is_word_byte c ≡ true) × (not (c == 102) ≡ true) = and_parts (is_word_byte c) (not (c == 102)) g in
-        subst (λ (x : List ℕ). kind_of (105 ∷ x) ≡ None) (sym (f p.0)) (no_keyword_i c v (not_true (c == 102) p.1))
+        let p : (is_word_byte c ≡ true) × (not (c == letter_f) ≡ true) = and_parts (is_word_byte c) (not (c == letter_f)) g in
+        subst (λ (x : List ℕ). kind_of (letter_i ∷ x) ≡ None) (sym (f p.0)) (no_keyword_i c v (not-true (c == letter_f) p.1))
 
-    begins_e : is_other_word 101 c ≡ true → kind_of (101 ∷ w) ≡ None
+    begins_e : is_other_word letter_e c ≡ true → kind_of (letter_e ∷ w) ≡ None
     begins_e g =
-        let p : ((is_word_byte c && not (c == 108)) ≡ true) × (not (c == 110) ≡ true) = and_parts (is_word_byte c && not (c == 108)) (not (c == 110)) g in
-        let q : (is_word_byte c ≡ true) × (not (c == 108) ≡ true) = and_parts (is_word_byte c) (not (c == 108)) p.0 in
-        subst (λ (x : List ℕ). kind_of (101 ∷ x) ≡ None) (sym (f q.0)) (no_keyword_e c v (not_true (c == 108) q.1) (not_true (c == 110) p.1))
+        let p : ((is_word_byte c && not (c == letter_l)) ≡ true) × (not (c == letter_n) ≡ true) = and_parts (is_word_byte c && not (c == letter_l)) (not (c == letter_n)) g in
+        let q : (is_word_byte c ≡ true) × (not (c == letter_l) ≡ true) = and_parts (is_word_byte c) (not (c == letter_l)) p.0 in
+        subst (λ (x : List ℕ). kind_of (letter_e ∷ x) ≡ None) (sym (f q.0)) (no_keyword_e c v (not-true (c == letter_l) q.1) (not-true (c == letter_n) p.1))
 
-    by_e : (t : Bool) → (b == 101) ≡ t → (b == 105) ≡ false → kind_of (b ∷ w) ≡ None
-    by_e true g h = subst (λ (n : ℕ). is_other_word n c ≡ true → kind_of (n ∷ w) ≡ None) (sym (eqb-true b 101 g)) begins_e e
+    by_e : (t : Bool) → (b == letter_e) ≡ t → (b == letter_i) ≡ false → kind_of (b ∷ w) ≡ None
+    by_e true g h = subst (λ (n : ℕ). is_other_word n c ≡ true → kind_of (n ∷ w) ≡ None) (sym (eqb-true b letter_e g)) begins_e e
     by_e false g h = no_keyword b w h g
 
-    by_i : (t : Bool) → (b == 105) ≡ t → kind_of (b ∷ w) ≡ None
-    by_i true g = subst (λ (n : ℕ). is_other_word n c ≡ true → kind_of (n ∷ w) ≡ None) (sym (eqb-true b 105 g)) begins_i e
-    by_i false g = by_e (b == 101) refl g
+    by_i : (t : Bool) → (b == letter_i) ≡ t → kind_of (b ∷ w) ≡ None
+    by_i true g = subst (λ (n : ℕ). is_other_word n c ≡ true → kind_of (n ∷ w) ≡ None) (sym (eqb-true b letter_i g)) begins_i e
+    by_i false g = by_e (b == letter_e) refl g
 
 -- no byte of a word comes first
 abbrev pub NoWord : List ℕ → Type 0
@@ -234,8 +231,8 @@ word_front b w e = rw e refl
 is_other_word-first : (b c : ℕ) → is_other_word b c ≡ true → is_word_byte b ≡ true
 is_other_word-first b c e =
     (and_parts (is_word_byte b)
-    (if b == 105 then is_word_byte c && not (c == 102)
-    else if b == 101 then is_word_byte c && not (c == 108) && not (c == 110) else true) e).0
+    (if b == letter_i then is_word_byte c && not (c == letter_f)
+    else if b == letter_e then is_word_byte c && not (c == letter_l) && not (c == letter_n) else true) e).0
 
 word_shown : (b : ℕ) (bytes tail : List ℕ) → starts_other (b ∷ (bytes ++ tail)) ≡ true → NoWord tail → IsOther (b ∷ masked_after in_text [] bytes)
 word_shown b [] [] e n = cc
@@ -276,8 +273,8 @@ name_shown (b ∷ bytes) tail e f n = by_class b (class_of b) e (λ g. name_show
 
     by_class : (b : ℕ) → Class b → is_other_name (b ∷ (bytes ++ tail)) ≡ true →
         (is_other_name (bytes ++ tail) ≡ true → IsOther (masked_after in_text [] bytes)) → IsOther (masked_after in_text [] (b ∷ bytes))
-    by_class _ a_slash g more = let h : is_word_byte 47 ≡ true = first_word 47 (bytes ++ tail) g in cc
-    by_class _ a_sign g more = let h : is_word_byte 35 ≡ true = first_word 35 (bytes ++ tail) g in cc
+    by_class _ a_slash g more = let h : is_word_byte slash ≡ true = first_word slash (bytes ++ tail) g in cc
+    by_class _ a_sign g more = let h : is_word_byte number_sign ≡ true = first_word number_sign (bytes ++ tail) g in cc
     by_class _ (a_white b w e f s i n) g more =
         subst IsOther (sym (shown_plain b bytes e f))
         (white_other b (masked_after in_text [] bytes) w
@@ -286,6 +283,7 @@ name_shown (b ∷ bytes) tail e f n = by_class b (class_of b) e (λ g. name_show
     by_class _ (another b w e f s) g more =
         subst IsOther (sym (shown_plain b bytes e f)) (word_shown b bytes tail (black b w g) n)
 
+-- a place outside literals
 abbrev pub NotLiteral : Place → Type 0
 NotLiteral in_text = Unit {0}
 NotLiteral at_slash = Unit {0}
@@ -295,9 +293,9 @@ NotLiteral in_line = Unit {0}
 NotLiteral (in_literal q) = ⊥
 NotLiteral (at_backslash q) = ⊥
 
--- what is shown and not settled
+-- what is shown of the last byte, if it waits for the next one
 abbrev pub pending : Place → List ℕ
-pending at_slash = 47 ∷ []
+pending at_slash = slash ∷ []
 pending in_text = []
 pending in_block = []
 pending at_star = []
@@ -305,22 +303,23 @@ pending in_line = []
 pending (in_literal q) = []
 pending (at_backslash q) = []
 
-abbrev pub white_at : Place → Bool → Stand
-white_at w c = record { place = w; white = true; cut = c }
+-- the state at this place on a line that is white so far
+abbrev pub white_at : Place → Bool → State
+white_at w c = record { place = w; white = true; spliced = c }
 
-step_white : (b : ℕ) (c : Bool) → is_white b ≡ true → (b == 47) ≡ false → is_quote b ≡ false → (b == 10) ≡ false →
-    step (white_at in_text c) b ≡ white_at in_text (cut_behind in_text c b)
+step_white : (b : ℕ) (c : Bool) → is_white b ≡ true → (b == slash) ≡ false → is_quote b ≡ false → (b == line_feed) ≡ false →
+    next_state (white_at in_text c) b ≡ white_at in_text (spliced_after in_text c b)
 step_white b c w e f i = rw (e, f, i, w) refl
 
-next_quote : (b : ℕ) → (b == 47) ≡ false → is_quote b ≡ true → next in_text b ≡ in_literal b
+next_quote : (b : ℕ) → (b == slash) ≡ false → is_quote b ≡ true → next in_text b ≡ in_literal b
 next_quote b e q = rw (e, q) refl
 
-module _ (bytes tail : List ℕ) (later : (w : Place) (c : Bool) → NotLiteral w → Quiet (white_at w c) (bytes ++ tail) → Unsigned (past_sign (masked_after w (pending w) bytes)))
+module _ (bytes tail : List ℕ) (later : (w : Place) (c : Bool) → NotLiteral w → IsQuiet (white_at w c) (bytes ++ tail) → Unsigned (past_sign (masked_after w (pending w) bytes)))
     (f : is_other_name tail ≡ false) (n : NoWord tail) where
-  from_text : (b : ℕ) (c : Bool) → Class b → (b == 10) ≡ false → Quiet (white_at in_text c) (b ∷ (bytes ++ tail)) → Unsigned (past_sign (masked_after in_text [] (b ∷ bytes)))
+  from_text : (b : ℕ) (c : Bool) → Class b → (b == line_feed) ≡ false → IsQuiet (white_at in_text c) (b ∷ (bytes ++ tail)) → Unsigned (past_sign (masked_after in_text [] (b ∷ bytes)))
   from_text _ c a_slash i h = later at_slash _ tt h.1
   from_text _ c a_sign i h =
-      subst (λ (l : List ℕ). Unsigned (past_sign l)) (sym (front_stays 35 [] in_text bytes tt))
+      subst (λ (l : List ℕ). Unsigned (past_sign l)) (sym (front_stays number_sign [] in_text bytes tt))
       (other_sign (masked_after in_text [] bytes) (name_shown bytes tail (is_other h.0) f n))
     where
       is_other : not (is_other_name (bytes ++ tail)) ≡ false → is_other_name (bytes ++ tail) ≡ true
@@ -332,7 +331,7 @@ module _ (bytes tail : List ℕ) (later : (w : Place) (c : Bool) → NotLiteral 
   from_text _ c (a_white b w e q s i m) _ h =
       subst (λ (p : Place). Unsigned (past_sign (masked_after p (b ∷ []) bytes))) (sym (next_plain b e q))
       (white_first b [] in_text bytes tt w
-      (later in_text (cut_behind in_text c b) tt (subst (λ (s : Stand). Quiet s (bytes ++ tail)) (step_white b c w e q i) h.1)))
+      (later in_text (spliced_after in_text c b) tt (subst (λ (s : State). IsQuiet s (bytes ++ tail)) (step_white b c w e q i) h.1)))
   from_text _ c (a_quote b q w e s i m) _ h =
       subst (λ (p : Place). Unsigned (past_sign (masked_after p (b ∷ []) bytes))) (sym (next_quote b e q))
       (black_first b [] (in_literal b) bytes tt w s)
@@ -340,59 +339,59 @@ module _ (bytes tail : List ℕ) (later : (w : Place) (c : Bool) → NotLiteral 
       subst (λ (p : Place). Unsigned (past_sign (masked_after p (b ∷ []) bytes))) (sym (next_plain b e q))
       (black_first b [] in_text bytes tt w s)
 
-  spaces : (w : Place) → pending w ≡ [] → Settled w [] → Unsigned (past_sign (masked_after w (pending w) bytes)) → Unsigned (past_sign (masked_after w (32 ∷ []) bytes))
-  spaces w e s u = white_first 32 [] w bytes s refl (subst (λ (l : List ℕ). Unsigned (past_sign (masked_after w l bytes))) e u)
+  spaces : (w : Place) → pending w ≡ [] → Settled w [] → Unsigned (past_sign (masked_after w (pending w) bytes)) → Unsigned (past_sign (masked_after w (space ∷ []) bytes))
+  spaces w e s u = white_first space [] w bytes s refl (subst (λ (l : List ℕ). Unsigned (past_sign (masked_after w l bytes))) e u)
 
-  from_slash : (b : ℕ) (c : Bool) → Quiet (white_at at_slash c) (b ∷ (bytes ++ tail)) → Unsigned (past_sign (masked_after at_slash (47 ∷ []) (b ∷ bytes)))
-  from_slash b c h = by_star (b == 42) refl
+  from_slash : (b : ℕ) (c : Bool) → IsQuiet (white_at at_slash c) (b ∷ (bytes ++ tail)) → Unsigned (past_sign (masked_after at_slash (slash ∷ []) (b ∷ bytes)))
+  from_slash b c h = by_star (b == star) refl
     where
-      other : (o : Bool) (w : Place) (y : ℕ) → o ≡ false → Unsigned (past_sign (masked_after w ((if o then blank_last (47 ∷ []) else 47 ∷ []) ++ y ∷ []) bytes))
+      other : (o : Bool) (w : Place) (y : ℕ) → o ≡ false → Unsigned (past_sign (masked_after w ((if o then blank_last (slash ∷ []) else slash ∷ []) ++ y ∷ []) bytes))
       other true w y e = cc
-      other false w y e = black_first 47 (y ∷ []) w bytes (settled_some w [] y) refl refl
+      other false w y e = black_first slash (y ∷ []) w bytes (settled_some w [] y) refl refl
 
-      opens_block : Quiet (white_at at_slash c) (42 ∷ (bytes ++ tail)) → Unsigned (past_sign (masked_after at_slash (47 ∷ []) (42 ∷ bytes)))
-      opens_block k = white_first 32 (32 ∷ []) in_block bytes tt refl (spaces in_block refl tt (later in_block _ tt k.1))
+      opens_block : IsQuiet (white_at at_slash c) (star ∷ (bytes ++ tail)) → Unsigned (past_sign (masked_after at_slash (slash ∷ []) (star ∷ bytes)))
+      opens_block k = white_first space (space ∷ []) in_block bytes tt refl (spaces in_block refl tt (later in_block _ tt k.1))
 
-      opens_line : Quiet (white_at at_slash c) (47 ∷ (bytes ++ tail)) → Unsigned (past_sign (masked_after at_slash (47 ∷ []) (47 ∷ bytes)))
-      opens_line k = white_first 32 (32 ∷ []) in_line bytes tt refl (spaces in_line refl tt (later in_line _ tt k.1))
+      opens_line : IsQuiet (white_at at_slash c) (slash ∷ (bytes ++ tail)) → Unsigned (past_sign (masked_after at_slash (slash ∷ []) (slash ∷ bytes)))
+      opens_line k = white_first space (space ∷ []) in_line bytes tt refl (spaces in_line refl tt (later in_line _ tt k.1))
 
-      by_slash : (t : Bool) → (b == 47) ≡ t → (b == 42) ≡ false → Unsigned (past_sign (masked_after at_slash (47 ∷ []) (b ∷ bytes)))
+      by_slash : (t : Bool) → (b == slash) ≡ t → (b == star) ≡ false → Unsigned (past_sign (masked_after at_slash (slash ∷ []) (b ∷ bytes)))
       by_slash true e g =
-          subst (λ (x : ℕ). Quiet (white_at at_slash c) (x ∷ (bytes ++ tail)) → Unsigned (past_sign (masked_after at_slash (47 ∷ []) (x ∷ bytes)))) (sym (eqb-true b 47 e)) opens_line h
+          subst (λ (x : ℕ). IsQuiet (white_at at_slash c) (x ∷ (bytes ++ tail)) → Unsigned (past_sign (masked_after at_slash (slash ∷ []) (x ∷ bytes)))) (sym (eqb-true b slash e)) opens_line h
       by_slash false e g = other (opens at_slash b) (next at_slash b) (shows at_slash b) (rw (e, g) refl)
 
-      by_star : (t : Bool) → (b == 42) ≡ t → Unsigned (past_sign (masked_after at_slash (47 ∷ []) (b ∷ bytes)))
+      by_star : (t : Bool) → (b == star) ≡ t → Unsigned (past_sign (masked_after at_slash (slash ∷ []) (b ∷ bytes)))
       by_star true e =
-          subst (λ (x : ℕ). Quiet (white_at at_slash c) (x ∷ (bytes ++ tail)) → Unsigned (past_sign (masked_after at_slash (47 ∷ []) (x ∷ bytes)))) (sym (eqb-true b 42 e)) opens_block h
-      by_star false e = by_slash (b == 47) refl e
+          subst (λ (x : ℕ). IsQuiet (white_at at_slash c) (x ∷ (bytes ++ tail)) → Unsigned (past_sign (masked_after at_slash (slash ∷ []) (x ∷ bytes)))) (sym (eqb-true b star e)) opens_block h
+      by_star false e = by_slash (b == slash) refl e
 
-  from_block : (b : ℕ) (c : Bool) → Quiet (white_at in_block c) (b ∷ (bytes ++ tail)) → Unsigned (past_sign (masked_after in_block [] (b ∷ bytes)))
-  from_block b c h = by_star (b == 42) h.1
+  from_block : (b : ℕ) (c : Bool) → IsQuiet (white_at in_block c) (b ∷ (bytes ++ tail)) → Unsigned (past_sign (masked_after in_block [] (b ∷ bytes)))
+  from_block b c h = by_star (b == star) h.1
     where
-      by_star : (t : Bool) → Quiet (white_at (if t then at_star else in_block) (cut_behind in_block c b)) (bytes ++ tail) →
-          Unsigned (past_sign (masked_after (if t then at_star else in_block) (32 ∷ []) bytes))
+      by_star : (t : Bool) → IsQuiet (white_at (if t then at_star else in_block) (spliced_after in_block c b)) (bytes ++ tail) →
+          Unsigned (past_sign (masked_after (if t then at_star else in_block) (space ∷ []) bytes))
       by_star true k = spaces at_star refl tt (later at_star _ tt k)
       by_star false k = spaces in_block refl tt (later in_block _ tt k)
 
-  from_star : (b : ℕ) (c : Bool) → Quiet (white_at at_star c) (b ∷ (bytes ++ tail)) → Unsigned (past_sign (masked_after at_star [] (b ∷ bytes)))
-  from_star b c h = by_tests (b == 47) (b == 42) h.1
+  from_star : (b : ℕ) (c : Bool) → IsQuiet (white_at at_star c) (b ∷ (bytes ++ tail)) → Unsigned (past_sign (masked_after at_star [] (b ∷ bytes)))
+  from_star b c h = by_tests (b == slash) (b == star) h.1
     where
-      by_tests : (s t : Bool) → Quiet (white_at (if s then in_text else if t then at_star else in_block) (cut_behind at_star c b)) (bytes ++ tail) →
-          Unsigned (past_sign (masked_after (if s then in_text else if t then at_star else in_block) (32 ∷ []) bytes))
+      by_tests : (s t : Bool) → IsQuiet (white_at (if s then in_text else if t then at_star else in_block) (spliced_after at_star c b)) (bytes ++ tail) →
+          Unsigned (past_sign (masked_after (if s then in_text else if t then at_star else in_block) (space ∷ []) bytes))
       by_tests true t k = spaces in_text refl tt (later in_text _ tt k)
       by_tests false true k = spaces at_star refl tt (later at_star _ tt k)
       by_tests false false k = spaces in_block refl tt (later in_block _ tt k)
 
-  from_line : (b : ℕ) (c : Bool) → (b == 10) ≡ false → Quiet (white_at in_line c) (b ∷ (bytes ++ tail)) → Unsigned (past_sign (masked_after in_line [] (b ∷ bytes)))
-  from_line b c i h = by_feed (b == 10) i h.1
+  from_line : (b : ℕ) (c : Bool) → (b == line_feed) ≡ false → IsQuiet (white_at in_line c) (b ∷ (bytes ++ tail)) → Unsigned (past_sign (masked_after in_line [] (b ∷ bytes)))
+  from_line b c i h = by_feed (b == line_feed) i h.1
     where
-      by_feed : (t : Bool) → t ≡ false → Quiet (record { place = if t then in_text else in_line; white = if t then true else true; cut = cut_behind in_line c b }) (bytes ++ tail) →
-          Unsigned (past_sign (masked_after (if t then in_text else in_line) ((if t then b else 32) ∷ []) bytes))
+      by_feed : (t : Bool) → t ≡ false → IsQuiet (record { place = if t then in_text else in_line; white = if t then true else true; spliced = spliced_after in_line c b }) (bytes ++ tail) →
+          Unsigned (past_sign (masked_after (if t then in_text else in_line) ((if t then b else space) ∷ []) bytes))
       by_feed true e k = cc
       by_feed false e k = spaces in_line refl tt (later in_line _ tt k)
 
--- what is shown of a line that is read quietly carries no sign, but perhaps in front of a name that is no keyword
-pub unsigned : (bytes tail : List ℕ) (w : Place) (c : Bool) → NotLiteral w → NoFeed bytes → Quiet (white_at w c) (bytes ++ tail) →
+-- what is shown of a line that is read quietly begins with no `#`, but perhaps with one before another name
+pub unsigned : (bytes tail : List ℕ) (w : Place) (c : Bool) → NotLiteral w → NoFeed bytes → IsQuiet (white_at w c) (bytes ++ tail) →
     is_other_name tail ≡ false → NoWord tail → Unsigned (past_sign (masked_after w (pending w) bytes))
 unsigned [] tail in_text c l o h f n = no_sign
 unsigned [] tail at_slash c l o h f n = no_sign
@@ -401,10 +400,10 @@ unsigned [] tail at_star c l o h f n = no_sign
 unsigned [] tail in_line c l o h f n = no_sign
 unsigned [] tail (in_literal q) c l o h f n = absurd l
 unsigned [] tail (at_backslash q) c l o h f n = absurd l
-unsigned (b ∷ bytes) tail in_text c l o h f n = from_text bytes tail (λ w d m k. unsigned bytes tail w d m o.1 k f n) f n b c (class_of b) (ne_eqb b 10 o.0) h
+unsigned (b ∷ bytes) tail in_text c l o h f n = from_text bytes tail (λ w d m k. unsigned bytes tail w d m o.1 k f n) f n b c (class_of b) (ne_eqb b line_feed o.0) h
 unsigned (b ∷ bytes) tail at_slash c l o h f n = from_slash bytes tail (λ w d m k. unsigned bytes tail w d m o.1 k f n) f n b c h
 unsigned (b ∷ bytes) tail in_block c l o h f n = from_block bytes tail (λ w d m k. unsigned bytes tail w d m o.1 k f n) f n b c h
 unsigned (b ∷ bytes) tail at_star c l o h f n = from_star bytes tail (λ w d m k. unsigned bytes tail w d m o.1 k f n) f n b c h
-unsigned (b ∷ bytes) tail in_line c l o h f n = from_line bytes tail (λ w d m k. unsigned bytes tail w d m o.1 k f n) f n b c (ne_eqb b 10 o.0) h
+unsigned (b ∷ bytes) tail in_line c l o h f n = from_line bytes tail (λ w d m k. unsigned bytes tail w d m o.1 k f n) f n b c (ne_eqb b line_feed o.0) h
 unsigned (b ∷ bytes) tail (in_literal q) c l o h f n = absurd l
 unsigned (b ∷ bytes) tail (at_backslash q) c l o h f n = absurd l

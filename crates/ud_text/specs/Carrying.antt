@@ -10,13 +10,13 @@
 -- Example: a scanner that has read the line `x /* c` in C mode carries that the text leaves off in a block comment, and
 -- that the line joins the next one.
 use Rattle.std.specs.Prelude.{◌≡◌, ℕ, List, [], ◌∷◌, Bool, true, false}
-use Rattle.ud_model.specs.Splicing.{joined, run_of}
-use Rattle.ud_model.specs.Scans.{Reading}
-use Rattle.ud_model.specs.Scans.{Scan as LineScan}
-use Rattle.ud_model.specs.Scanning.{is_block, joins}
-use Rattle.ud_model.specs.Places.{Reads, in_text, place_kind}
-use Rattle.ud_model.specs.Places.{Place as TextPlace}
-use Rattle.ud_model.specs.Faults.{is_in_block}
+use Rattle.ud_model.specs.text.Splicing.{joined, run_of}
+use Rattle.ud_model.specs.text.Scans.{Reading}
+use Rattle.ud_model.specs.text.Scans.{Scan as LineScan}
+use Rattle.ud_model.specs.text.Scanning.{is_block, joins}
+use Rattle.ud_model.specs.aids.Places.{Reads, in_text, place_kind}
+use Rattle.ud_model.specs.aids.Places.{Place as TextPlace}
+use Rattle.ud_model.specs.sections.Faults.{is_in_block}
 use Rattle.ud_text.specs.Viewing.{place_of}
 use Rattle.ud_text.specs.declared.scanner.Carry.{Carry}
 use Rattle.ud_text.specs.declared.scanner.Facts.{Facts}

@@ -1,5 +1,5 @@
 -- Holding: what is held of a text whose bytes come in pieces.
--- POSIX XBD 3.206: a line ends with its line feed. The lines are those of ud_model, specs/Lines.antt.
+-- POSIX XBD 3.206: a line ends with its line feed. The lines are those of ud_model, specs/text/Lines.antt.
 --
 --   Took lines text               these bytes were taken so far: they are the lines given up, and what is held
 --   UpToFeed piece used whole     so many bytes stand in front of the piece up to its first line feed
@@ -9,7 +9,7 @@
 --
 -- Example: behind "a\nb" with the first line given up, "b" is held and 1 line stands before it.
 use Rattle.std.specs.Prelude.{◌≡◌, ℕ, ◌+◌, ◌<◌, ◌≤◌, List, [], ◌∷◌, ◌++◌, length, take, Bool, true, false, Option, Some, if◌then◌else◌, ◌⊎◌}
-use Rattle.ud_model.specs.Lines.{NoFeed, parts_of, Line, lines_of}
+use Rattle.ud_model.specs.text.Lines.{NoFeed, parts_of, Line, lines_of}
 use Rattle.ud_model.specs.declared.limits.TheConstants.{LINE_BYTES}
 use Rattle.ud_text.specs.declared.fault.TextFault.{TextFault}
 use Rattle.ud_text.specs.declared.fault.TextFault.TheVariants.{TooManyLines, LineTooLong}

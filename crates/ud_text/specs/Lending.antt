@@ -6,9 +6,9 @@
 use Rattle.std.specs.Prelude.{List, [], ◌∷◌, ◌++◌}
 use Rattle.std.specs.Borrow.{MutBor, Fml}
 use Rattle.std.specs.Io.BufRead.{Rests}
-use Rattle.ud_model.specs.Lines.{Line as TextLine}
-use Rattle.ud_model.specs.Scans.{Reading}
-use Rattle.ud_model.specs.Scanning.{next_reading}
+use Rattle.ud_model.specs.text.Lines.{Line as TextLine}
+use Rattle.ud_model.specs.text.Scans.{Reading}
+use Rattle.ud_model.specs.text.Scanning.{next_reading}
 use Rattle.ud_model.specs.declared.kind.Mode.{Mode}
 use Rattle.ud_text.specs.Carrying.{Carried, Carries}
 use Rattle.ud_text.specs.contracts.scanner.Scanner.{the_row}

@@ -3,5 +3,6 @@ pub mod Viewing
 pub mod Carrying
 pub mod Lending
 pub mod Passing
-pub mod Running
-pub mod Along
+pub mod States
+pub mod Spans
+pub mod Progress

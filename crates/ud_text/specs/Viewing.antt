@@ -5,9 +5,9 @@
 --   place_of place    where a text leaves off
 --
 -- Example: the scan of a line in plain mode, as `as_scan` gives it, is `plain_scan` of the line.
-use Rattle.ud_model.specs.Lines.{Line as TextLine}
-use Rattle.ud_model.specs.Scans.{Scan as LineScan}
-use Rattle.ud_model.specs.Places.{Place as TextPlace, in_text, at_slash, in_block, at_star, in_line, in_literal, at_backslash}
+use Rattle.ud_model.specs.text.Lines.{Line as TextLine}
+use Rattle.ud_model.specs.text.Scans.{Scan as LineScan}
+use Rattle.ud_model.specs.aids.Places.{Place as TextPlace, in_text, at_slash, in_block, at_star, in_line, in_literal, at_backslash}
 use Rattle.ud_text.specs.declared.line.Line.{Line}
 use Rattle.ud_text.specs.declared.scan.Scan.{Scan}
 use Rattle.ud_text.specs.declared.masking.Place.{Place}

@@ -1,19 +1,22 @@
 //! The lines of a text, from bytes that come in pieces, and what is seen of them.
 //!
-//! What a line is stands in ud_model, specs/Lines.antt, and what is seen of it in specs/Scanning.antt.
-//! `specs/Holding.antt` says what a `Lines` stands for, `specs/Carrying.antt` what a `Scanner` carries.
+//! What a line is stands in ud_model, specs/text/Lines.antt, and what is seen of it in specs/Scanning.antt.
+//! `specs/Holding.antt` says what a `Lines` stands for, `specs/Carrying.antt` what a `Scanner` carries, and
+//! `specs/Passing.antt` what it is to pass many lines at once.
 #![tactic(auto)]
 
+mod bytes;
 mod fault;
 mod line;
 mod lines;
 mod marks;
 mod masking;
 mod passing;
-#[cfg(test)]
-mod progress;
 mod scan;
 mod scanner;
+mod searching;
+mod signs;
+mod spans;
 
 pub use fault::TextFault;
 pub use line::Line;

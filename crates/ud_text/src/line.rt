@@ -1,7 +1,7 @@
 //! A line of a text.
 
 ghost use Rattle.std.specs.Prelude.{IsTrue};
-ghost use Rattle.ud_model.specs.Lines.{is_ending};
+ghost use Rattle.ud_model.specs.text.Lines.{is_ending};
 
 /// A line of a text (POSIX XBD 3.206): its bytes are those of the body, then those of the ending.
 ///

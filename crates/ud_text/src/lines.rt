@@ -1,12 +1,12 @@
 //! Lines of a text, from bytes that come in pieces.
 //!
 //! One line is held at a time, at most `LINE_BYTES` bytes with its ending. However the bytes are cut into pieces,
-//! the lines are those of the definitions (ud_model, specs/Lines.antt). States: nothing held; part of a line; a
+//! the lines are those of the definitions (ud_model, specs/text/Lines.antt). States: nothing held; part of a line; a
 //! whole line, until `clear`; closed; refused, for good.
 //! A new way in which a line may end needs another `lines_of` and another `front`.
 
 ghost use Rattle.std.specs.Prelude.{◌≡◌, ℕ, suc, ◌+◌, ◌<◌, ◌≤◌, ◌↔◌, List, [], ◌∷◌, ◌++◌, length, take, true, false, Some, None, IfOk, IfErr, OnOk, OnErr, IfSome, IfNone, Ok, Err, IsTrue, MatchResult};
-ghost use Rattle.ud_model.specs.Lines.{whole_lines, open_rest, line_at, is_ending};
+ghost use Rattle.ud_model.specs.text.Lines.{whole_lines, open_rest, line_at, is_ending};
 ghost use Rattle.ud_text.specs.Holding.{Took, UpToFeed, Refuses, refused_with, IsComplete, IsLastLine, IsLineOf};
 ghost use Rattle.ud_text.specs.Viewing.{as_line};
 

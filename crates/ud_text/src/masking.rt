@@ -7,12 +7,13 @@
 ghost use Rattle.std.specs.Prelude.{◌≡◌, ◌≤◌, ◌<◌, ◌+◌, ◌&&◌, ℕ, List, [], ◌∷◌, ◌++◌, length, take, replicate};
 ghost use Rattle.std.specs.List.{list_all};
 ghost use Rattle.arrayvec.specs.ArrayVec.{array_vec_len};
-ghost use Rattle.ud_model.specs.Bytes.{is_white};
-ghost use Rattle.ud_model.specs.Lines.{NoFeed};
-ghost use Rattle.ud_model.specs.Scanning.{is_block};
-ghost use Rattle.ud_model.specs.Places.{Reads, Masks, next, opens, shows, whitens, blank_last, place_kind, fresh_at};
+ghost use Rattle.ud_model.specs.text.Bytes.{is_white};
+ghost use Rattle.ud_model.specs.text.Lines.{NoFeed};
+ghost use Rattle.ud_model.specs.text.Scanning.{is_block};
+ghost use Rattle.ud_model.specs.aids.Places.{Reads, Masks, next, opens, shows, whitens, blank_last, place_kind, fresh_at};
 ghost use Rattle.ud_text.specs.Viewing.{place_of};
 
+use crate::bytes::is_white;
 use crate::marks::first_mark;
 use arrayvec::ArrayVec;
 use memchr::memchr;
@@ -45,13 +46,6 @@ pub(crate) struct Reached {
     /// Whether all that is shown of its last logical line is white space, but for a slash at its end that may begin
     /// a comment.
     pub(crate) white: bool,
-}
-
-/// Whether a byte is white space within a line.
-fn is_white(byte: u8) -> bool
-    ensures { result ≡ is_white byte }
-{
-    matches!(byte, b' ' | b'\t' | b'\x0b' | b'\x0c' | b'\r')
 }
 
 /// Where a text that leaves off outside comments and literals leaves off with one more byte.

@@ -5,19 +5,19 @@
 
 ghost use Rattle.std.specs.Prelude.{◌≡◌, ◌≤◌, ◌||◌, List, [], ◌∷◌, ◌++◌, length, true, false, take};
 ghost use Rattle.std.specs.Borrow.{sem};
-ghost use Rattle.ud_model.specs.Lines.{NoFeed};
-ghost use Rattle.ud_model.specs.Lines.{Line as TextLine};
+ghost use Rattle.ud_model.specs.text.Lines.{NoFeed};
+ghost use Rattle.ud_model.specs.text.Lines.{Line as TextLine};
 ghost use Rattle.ud_model.specs.declared.kind.Mode.{Mode};
-ghost use Rattle.ud_model.specs.Splicing.{is_spliced, content, stays_open};
-ghost use Rattle.ud_model.specs.Scans.{Reading};
-ghost use Rattle.ud_model.specs.Scanning.{comment_at, scan_after, next_reading};
-ghost use Rattle.ud_model.specs.Places.{place_kind, closed_place, closed_white};
+ghost use Rattle.ud_model.specs.text.Splicing.{is_spliced, content, stays_open};
+ghost use Rattle.ud_model.specs.text.Scans.{Reading};
+ghost use Rattle.ud_model.specs.text.Scanning.{comment_at, scan_after, next_reading};
+ghost use Rattle.ud_model.specs.aids.Places.{place_kind, closed_place, closed_white};
 ghost use Rattle.ud_text.specs.Viewing.{as_line, as_scan, place_of};
 ghost use Rattle.ud_text.specs.Carrying.{Carried, Carries, carried_by, nothing_carried, scan_with, ends_in_block};
 ghost use Rattle.ud_text.specs.Lending.{ReadsLine};
 ghost use Rattle.ud_text.specs.Passing.{EndsLine, PassesText};
-ghost use Rattle.ud_text.specs.Running.{starts_at};
-ghost use Rattle.ud_model.specs.Scanning.{is_block};
+ghost use Rattle.ud_text.specs.States.{can_start};
+ghost use Rattle.ud_model.specs.text.Scanning.{is_block};
 
 use crate::line::Line;
 use crate::masking::{
@@ -183,6 +183,18 @@ fn scan_line(
     }
 }
 
+/// Whether many lines can be read from here: the next one begins a logical line, or goes on with a block comment.
+fn can_pass(carry: Carry) -> bool
+    ensures starts { result ≡ true → can_start (place_of carry.reached.place) carry.reached.white ≡ true }
+    ensures joins { result ≡ true → carry.joins ≡ is_block (place_kind (place_of carry.reached.place)) }
+{
+    match carry.reached.place {
+        Place::Text => carry.reached.white && !carry.joins,
+        Place::Block => carry.joins,
+        _ => false,
+    }
+}
+
 /// Reads as many of these lines as are seen to be text. Answers how many bytes they have, and what they leave.
 fn pass_lines(carry: Carry, lines: &[u8]) -> (usize, Carry)
     ensures bound { result.0 ≤ length lines.now }
@@ -192,21 +204,13 @@ fn pass_lines(carry: Carry, lines: &[u8]) -> (usize, Carry)
     if !can_pass(carry) {
         return (0, carry);
     }
-    let (count, reached) = pass_run(carry.reached, lines);
-    let joins = is_in_block(reached.place);
-    (count, Carry { reached, joins })
-}
-
-/// Whether the next line begins outside comments or in a block comment, and not behind a splice.
-fn can_pass(carry: Carry) -> bool
-    ensures starts { result ≡ true → starts_at (place_of carry.reached.place) carry.reached.white ≡ true }
-    ensures joins { result ≡ true → carry.joins ≡ is_block (place_kind (place_of carry.reached.place)) }
-{
-    match carry.reached.place {
-        Place::Text => carry.reached.white && !carry.joins,
-        Place::Block => carry.joins,
-        _ => false,
-    }
+    let next = pass_run(carry.reached, lines);
+    let joins = is_in_block(next.reached.place);
+    let left = Carry {
+        reached: next.reached,
+        joins,
+    };
+    (next.at, left)
 }
 
 impl Model for Scanner {
@@ -252,11 +256,14 @@ impl Scanner {
         }
     }
 
-    /// Reads in C mode as many of these lines as it sees to be text. Answers how many bytes they have: 0, or up to the
-    /// end of a line.
+    /// Reads in C mode, all at once, as many of the next lines as it sees to be text. Answers how many bytes of `lines`
+    /// they have: 0, or up to the end of a line.
     ///
-    /// The scanner then stands for one more reading in C mode for each of these lines, as `read` would have it, with
-    /// whatever numbers; none of them carries a directive or a cut keyword. Nothing is said of how far it goes.
+    /// `lines` may have any length and any bytes, and end in the middle of a line. Limits aren't looked at: a line may have
+    /// more than 4,096 bytes, and lines aren't counted. The scanner then stands for one more reading in C mode for each of
+    /// the lines up to there, as `read` would have it, whatever numbers they have; none of them carries a directive or a
+    /// cut keyword (C11 5.1.1.2, phases 2 and 3, 6.4.9 and 6.10). Nothing is said of how far it goes: if the answer is
+    /// less than all lines, the next one is to be read by `read`.
     pub fn pass(&mut self, lines: &[u8]) -> usize
         ensures bound { result ≤ length lines.now }
         ensures ends { EndsLine (take result lines.now) }

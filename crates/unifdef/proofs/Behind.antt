@@ -1,9 +1,9 @@
 -- Behind: a text behind the nodes of a place.
 use Rattle.std.proofs.Common.{◌≡◌, ◌≤◌, List, [], ◌∷◌, ◌++◌, max, Bool, refl, sym, ap, append_assoc, arith}
-use Rattle.ud_model.specs.Tree.{Item, Nodes, Head, Tree, nothing, text, section, closed, open_section, lines, lines_of_nodes, depth, innermost}
-use Rattle.ud_model.specs.SoFar.{nodes_so_far, marks_so_far}
-use Rattle.ud_model.specs.Height.{height, height_of_nodes}
-use Rattle.ud_model.proofs.Growth.{Adds, elif_after_if, elif_after_elif, else_after_if, else_after_elif, adds_endif, adds_under}
+use Rattle.ud_model.specs.sections.Tree.{Item, Nodes, Head, Tree, nothing, text, section, closed, open_section, lines, lines_of_nodes, depth, innermost}
+use Rattle.ud_model.specs.aids.SoFar.{nodes_so_far, marks_so_far}
+use Rattle.ud_model.specs.aids.Height.{height, height_of_nodes}
+use Rattle.ud_model.proofs.sections.Growth.{Adds, elif_after_if, elif_after_elif, else_after_if, else_after_elif, adds_endif, adds_under}
 
 module _ {L : Type 0} where
   -- these nodes, and then those

@@ -1,8 +1,8 @@
 -- Counting: where lines have a tree, the count tells the depths that the tree does.
 use Rattle.std.proofs.Common.{◌≡◌, ℕ, suc, List, [], ◌∷◌, ◌++◌, length, refl, sym, ◌∙◌, ap, append_assoc, length-append, arith}
-use Rattle.ud_model.specs.Scans.{Reading}
-use Rattle.ud_model.specs.Tree.{Item, Nodes, Groups, Elifs, Head, Tree, text_line, elif_line, else_line, endif_line, nothing, text, section, conditional, otherwise, first, elif, if_head, elif_head, else_head, closed, open_section, lines, lines_of_nodes, lines_of_groups, lines_of_elifs, lines_of_head}
-use Rattle.ud_model.specs.Listing.{levels_of_nodes, levels_of_groups, levels_of_elifs, levels_of_head, levels_from, levels}
+use Rattle.ud_model.specs.text.Scans.{Reading}
+use Rattle.ud_model.specs.sections.Tree.{Item, Nodes, Groups, Elifs, Head, Tree, text_line, elif_line, else_line, endif_line, nothing, text, section, conditional, otherwise, first, elif, if_head, elif_head, else_head, closed, open_section, lines, lines_of_nodes, lines_of_groups, lines_of_elifs, lines_of_head}
+use Rattle.ud_model.specs.answer.Listing.{levels_of_nodes, levels_of_groups, levels_of_elifs, levels_of_head, levels_from, levels}
 use Rattle.unifdef.specs.Counting.{counted}
 
 abbrev Items : Type 0

@@ -1,7 +1,7 @@
 -- Cutting: a line that is held, as its ends cut it from the text.
 use Rattle.std.proofs.Common.{arith, ◌≡◌, ℕ, ◌+◌, ◌-◌, ◌≤◌, List, ◌++◌, length, take, drop, sym, ap, ap₂, ◌∙◌, append_assoc, length-append}
 use Rattle.std.proofs.Math.Seq.{drop-append_seam, take-append_seam}
-use Rattle.ud_model.specs.Lines.{Line, text_of}
+use Rattle.ud_model.specs.text.Lines.{Line, text_of}
 use Rattle.unifdef.specs.Showing.{line_between}
 use Rattle.unifdef.specs.declared.held.LineEnd.{LineEnd}
 

@@ -2,8 +2,8 @@
 use Rattle.std.proofs.Common.{◌≡◌, refl, ap, ◌∙◌, List, [], ◌∷◌, ◌++◌, false}
 use Rattle.ud_model.specs.declared.cond.Cond.{Cond}
 use Rattle.ud_model.specs.declared.cond.Cond.TheVariants.{Yes, No, Unknown}
-use Rattle.ud_model.specs.Pruning.{Part, gives_way}
-use Rattle.ud_model.specs.SoFar.{verdict_so_far}
+use Rattle.ud_model.specs.sections.Pruning.{Part, gives_way}
+use Rattle.ud_model.specs.aids.SoFar.{verdict_so_far}
 use Rattle.unifdef.specs.declared.groups.Groups.{Groups}
 use Rattle.unifdef.specs.Groups.{groups_of, with_group, gives_way_with, opener_by_table}
 

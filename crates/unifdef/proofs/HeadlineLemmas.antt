@@ -3,23 +3,23 @@ use Rattle.std.proofs.Common.{◌≡◌, ℕ, suc, List, [], ◌∷◌, ◌++◌
 use Rattle.std.specs.Prelude.{IfSome}
 use Rattle.std.specs.Io.KnownBytes.{Appends, Keeps}
 use Rattle.std.proofs.lemmas.List.{length-map}
-use Rattle.ud_model.specs.Lines.{Line, lines_of, numbered_from}
-use Rattle.ud_model.specs.Items.{Options}
-use Rattle.ud_model.specs.Table.{entry_in}
-use Rattle.ud_model.specs.CommandLine.{usage_fault, options_of, input_name}
-use Rattle.ud_model.specs.Answer.{usage_answer, memory_answer, refused, ran}
+use Rattle.ud_model.specs.text.Lines.{Line, lines_of, numbered_from}
+use Rattle.ud_model.specs.sections.Items.{Options}
+use Rattle.ud_model.specs.conditions.Table.{entry_in}
+use Rattle.ud_model.specs.answer.CommandLine.{given_in, usage_fault, options_of, input_name}
+use Rattle.ud_model.specs.answer.Answer.{usage_answer, memory_answer, refused, ran}
 use Rattle.ud_model.specs.declared.limits.TheConstants.{TEXT_LINES}
-use Rattle.ud_model.proofs.LinesLemmas.{length-numbered_from}
+use Rattle.ud_model.proofs.text.LinesLemmas.{length-numbered_from}
 use Rattle.ud_model.specs.declared.settings.Settings.{Settings}
 use Rattle.unifdef.specs.declared.held.Held.{Held}
 use Rattle.unifdef.specs.declared.intake.End.{End}
 use Rattle.unifdef.specs.declared.intake.End.TheVariants.{Ended, Failed, Broken}
 use Rattle.unifdef.specs.declared.outcome.Outcome.{Outcome}
-use Rattle.unifdef.specs.declared.usage.Usage.{Usage}
+use Rattle.ud_words.specs.declared.usage.Usage.{Usage}
 use Rattle.unifdef.specs.declared.seen.Seen.{Seen}
 use Rattle.unifdef.specs.Limits.{Breaks, ended, broken}
 use Rattle.unifdef.specs.Intake.{HeldOf, text_fault_told}
-use Rattle.unifdef.specs.Gave.{Gave, GivesAnswer, HeldInput, GivesRun, Comes}
+use Rattle.unifdef.specs.Gave.{streams, Gave, GivesAnswer, HeldInput, GivesRun, Comes}
 use Rattle.unifdef.specs.Held.{Holds}
 use Rattle.unifdef.specs.Inside.{items_in}
 use Rattle.unifdef.specs.Shapes.{AreSeen}
@@ -27,7 +27,8 @@ use Rattle.unifdef.specs.Watching.{Says}
 use Rattle.unifdef.specs.Outcomes.{output_told, differs_told}
 use Rattle.unifdef.specs.Ending.{message_told, status_told}
 use Rattle.unifdef.specs.Refusals.{refusal_text}
-use Rattle.unifdef.specs.Saying.{IsUsageOf}
+use Rattle.ud_words.specs.Saying.{IsUsageOf}
+use Rattle.ud_words.specs.Storing.{PutsSymbol}
 use Rattle.unifdef.proofs.RefusalLemmas.{TellsFault, tells-IsUsageOf}
 use Rattle.unifdef.proofs.HeldLemmas.{are_seen}
 use Rattle.unifdef.proofs.ReadLemmas.{length_items}
@@ -46,7 +47,7 @@ appends_keeps (Some xs) (Some ys) (Some zs) x h k = k ∙ h
 
 -- memory is refused, and nothing is written to `out`
 pub memory_gave : (uo : Option (List ℕ)) (e : Bool) (eo en : Option (List ℕ)) (s : ℕ) → Says e eo en memory_answer.message → s ≡ 2 →
-    Gave uo uo e eo en s memory_answer
+    Gave (streams uo eo) (streams uo en) e s memory_answer
 memory_gave uo e eo en s said status = record { output = nothing_written uo; message = said; answered = status }
 
 read_all : (given left : List ℕ) (input : List ℕ) → input ≡ given ++ left → left ≡ [] → input ≡ given
@@ -114,7 +115,7 @@ pub comes_gives : (o : Options) (name input : List ℕ) (texts : List (List ℕ)
     Comes o name input (numbered_from 1 texts) ms outcome → p ≡ false →
     Says p uo um (output_told o.settings.listing o.settings (items_in o (numbered_from 1 texts)) ms) → Keeps um un →
     d ≡ differs_told o.settings.listing o.settings (items_in o (numbered_from 1 texts)) ms →
-    Says e eo en (message_told name outcome true) → s ≡ status_told o.settings outcome d true → GivesRun o name input uo un e eo en s
+    Says e eo en (message_told name outcome true) → s ≡ status_told o.settings outcome d true → GivesRun o name input (streams uo eo) (streams un en) e s
 comes_gives o name input texts ms outcome uo um un p e eo en s d c works printed kept differs said status = (
   c.run,
   c.runs,
@@ -129,13 +130,13 @@ comes_gives o name input texts ms outcome uo um un p e eo en s d c works printed
 
 -- the words have a fault, or memory for them was refused, and nothing is written to `out`
 pub usage_answers : (words : List (List ℕ)) (u : Usage) (before uo : Option (List ℕ)) (e : Bool) (eo en : Option (List ℕ)) (s : ℕ) →
-    IsUsageOf (usage_fault words) u → Says e eo en (refusal_text u) → s ≡ 2 →
-    IfSome before (λ input. GivesAnswer words input uo uo e eo en s ⊎ Gave uo uo e eo en s memory_answer)
+    IsUsageOf (given_in words) u → Says e eo en (refusal_text u) → s ≡ 2 →
+    IfSome before (λ input. GivesAnswer words input (streams uo eo) (streams uo en) e s ⊎ Gave (streams uo eo) (streams uo en) e s memory_answer)
 usage_answers words u None uo e eo en s wrong said status = tt
-usage_answers words u (Some input) uo e eo en s wrong said status = by_case (tells-IsUsageOf (usage_fault words) u wrong)
+usage_answers words u (Some input) uo e eo en s wrong said status = by_case (tells-IsUsageOf (given_in words) u wrong)
   where
-    by_case : TellsFault (usage_fault words) u ⊎ (refusal_text u ≡ memory_answer.message) →
-        GivesAnswer words input uo uo e eo en s ⊎ Gave uo uo e eo en s memory_answer
+    by_case : TellsFault (usage_fault words) u ⊎ (PutsSymbol (given_in words) × (refusal_text u ≡ memory_answer.message)) →
+        GivesAnswer words input (streams uo eo) (streams uo en) e s ⊎ Gave (streams uo eo) (streams uo en) e s memory_answer
     by_case (inl t) =
         inl (
           usage_answer t.told,
@@ -146,24 +147,24 @@ usage_answers words u (Some input) uo e eo en s wrong said status = by_case (tel
             answered = status;
           },
         )
-    by_case (inr t) = inr (memory_gave uo e eo en s (subst (λ (x : List ℕ). Says e eo en x) t said) status)
+    by_case (inr t) = inr (memory_gave uo e eo en s (subst (λ (x : List ℕ). Says e eo en x) t.1 said) status)
 
 -- a run under what the words say is their answer
 pub run_answers : (words : List (List ℕ)) (o : Options) (name : List ℕ) (before uo un : Option (List ℕ)) (e : Bool) (eo en : Option (List ℕ)) (s : ℕ) →
     usage_fault words ≡ None → o.settings ≡ (options_of words).settings → ((n : List ℕ) → entry_in o.table n ≡ entry_in (options_of words).table n) →
     name ≡ input_name words →
-    IfSome before (λ input. GivesRun o name input uo un e eo en s ⊎ Gave uo un e eo en s memory_answer) →
-    IfSome before (λ input. GivesAnswer words input uo un e eo en s ⊎ Gave uo un e eo en s memory_answer)
+    IfSome before (λ input. GivesRun o name input (streams uo eo) (streams un en) e s ⊎ Gave (streams uo eo) (streams un en) e s memory_answer) →
+    IfSome before (λ input. GivesAnswer words input (streams uo eo) (streams un en) e s ⊎ Gave (streams uo eo) (streams un en) e s memory_answer)
 run_answers words o name None uo un e eo en s right settings table called gives = tt
 run_answers words o name (Some input) uo un e eo en s right settings table called (inr m) = inr m
 run_answers words o name (Some input) uo un e eo en s right settings table called (inl r) = inl (from_run (same_settings settings table r))
   where
-    from_run : GivesRun (options_of words) name input uo un e eo en s → GivesAnswer words input uo un e eo en s
-    from_run r = subst (λ n. GivesRun (options_of words) n input uo un e eo en s → GivesAnswer words input uo un e eo en s) (sym called) (λ q. (_, ran q.0 right q.1, q.2)) r
+    from_run : GivesRun (options_of words) name input (streams uo eo) (streams un en) e s → GivesAnswer words input (streams uo eo) (streams un en) e s
+    from_run r = subst (λ n. GivesRun (options_of words) n input (streams uo eo) (streams un en) e s → GivesAnswer words input (streams uo eo) (streams un en) e s) (sym called) (λ q. (_, ran q.0 right q.1, q.2)) r
 
     same_settings : o.settings ≡ (options_of words).settings → ((n : List ℕ) → entry_in o.table n ≡ entry_in (options_of words).table n) →
-        GivesRun o name input uo un e eo en s → GivesRun (options_of words) name input uo un e eo en s
+        GivesRun o name input (streams uo eo) (streams un en) e s → GivesRun (options_of words) name input (streams uo eo) (streams un en) e s
     same_settings p q r =
-        let k : GivesRun (record { settings = (options_of words).settings; table = o.table }) name input uo un e eo en s =
-        subst (λ (w : Settings). GivesRun (record { settings = w; table = o.table }) name input uo un e eo en s) p r in
+        let k : GivesRun (record { settings = (options_of words).settings; table = o.table }) name input (streams uo eo) (streams un en) e s =
+        subst (λ (w : Settings). GivesRun (record { settings = w; table = o.table }) name input (streams uo eo) (streams un en) e s) p r in
         (k.0, runs_same (options_of words).settings o.table (options_of words).table q k.1, k.2)

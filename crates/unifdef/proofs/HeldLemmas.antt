@@ -3,12 +3,12 @@ use Rattle.std.proofs.Common.{◌≡◌, ℕ, suc, ◌+◌, List, [], ◌∷◌,
 use Rattle.std.specs.List.{concat, AllByRecursion}
 use Rattle.std.proofs.lemmas.List.{map-append, length-map}
 use Rattle.std.proofs.lemmas.List.Folds.{concat-append}
-use Rattle.ud_model.specs.Lines.{Line, text_of, line_at, numbered_from}
-use Rattle.ud_model.specs.Scans.{Reading}
-use Rattle.ud_model.specs.Tree.{Item}
-use Rattle.ud_model.specs.Items.{Options, reading_of, item_of, mode_by, read_after}
-use Rattle.ud_model.specs.Faults.{ends_in_comment, is_in_block}
-use Rattle.ud_model.proofs.Soundness.{reading_of-item_of}
+use Rattle.ud_model.specs.text.Lines.{Line, text_of, line_at, numbered_from}
+use Rattle.ud_model.specs.text.Scans.{Reading}
+use Rattle.ud_model.specs.sections.Tree.{Item}
+use Rattle.ud_model.specs.sections.Items.{Options, reading_of, item_of, mode_by, read_after}
+use Rattle.ud_model.specs.sections.Faults.{ends_in_comment, is_in_block}
+use Rattle.ud_model.proofs.sections.Soundness.{reading_of-item_of}
 use Rattle.ud_text.specs.Carrying.{Carries}
 use Rattle.unifdef.specs.Shapes.{seen_of, is_plain, AreSeen}
 use Rattle.unifdef.specs.Inside.{is_inside, inside_after, inside_by, item_at, items_behind, items_in}

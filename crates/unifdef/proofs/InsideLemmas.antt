@@ -1,13 +1,13 @@
 -- Inside: where lines have a tree, the count tells what the tree does.
 use Rattle.std.proofs.Common.{◌≡◌, ℕ, zero, suc, List, [], ◌∷◌, ◌++◌, length, map, Bool, true, false, ◌||◌, refl, sym, ◌∙◌, ap, ap₂, subst, append_assoc, append-nil, ◌≤◌, ◌+◌, arith, ◌⊎◌, inl, inr, if◌then◌else◌}
-use Rattle.ud_model.specs.Lines.{Line}
-use Rattle.ud_model.specs.Scans.{Reading}
-use Rattle.ud_model.specs.Tree.{Item, Nodes, Groups, Elifs, Head, Tree, Opener, text_line, if_line, elif_line, else_line, endif_line, nothing, text, section, conditional, otherwise, first, elif, if_head, elif_head, else_head, closed, open_section, lines, lines_of_nodes, lines_of_groups, lines_of_elifs, lines_of_head, opener_of_elifs, opener_of_head, is_ignoring}
-use Rattle.ud_model.specs.Directives.{Content, cut_keyword, directive, content_of}
-use Rattle.ud_model.specs.Directives as directives
-use Rattle.ud_model.specs.Items.{Options, line_of, item_of, item_by, mode_by, read_after, next_item}
-use Rattle.ud_model.specs.Faults.{is_cut}
-use Rattle.ud_model.proofs.Soundness.{reading_of-item_of}
+use Rattle.ud_model.specs.text.Lines.{Line}
+use Rattle.ud_model.specs.text.Scans.{Reading}
+use Rattle.ud_model.specs.sections.Tree.{Item, Nodes, Groups, Elifs, Head, Tree, Opener, text_line, if_line, elif_line, else_line, endif_line, nothing, text, section, conditional, otherwise, first, elif, if_head, elif_head, else_head, closed, open_section, lines, lines_of_nodes, lines_of_groups, lines_of_elifs, lines_of_head, opener_of_elifs, opener_of_head, is_ignoring}
+use Rattle.ud_model.specs.sections.Directives.{Content, cut_keyword, directive, content_of}
+use Rattle.ud_model.specs.sections.Directives as directives
+use Rattle.ud_model.specs.sections.Items.{Options, line_of, item_of, item_by, mode_by, read_after, next_item}
+use Rattle.ud_model.specs.sections.Faults.{is_cut}
+use Rattle.ud_model.proofs.sections.Soundness.{reading_of-item_of}
 use Rattle.unifdef.specs.Inside.{opened, ended, inside_with, inside_by, inside_after, is_inside, item_at, items_behind, items_in}
 use Rattle.unifdef.specs.Shapes.{seen_of, shape_by, is_cut_item}
 use Rattle.unifdef.specs.declared.shape.Shape.TheVariants.{Cut}

@@ -5,11 +5,11 @@ use Rattle.std.specs.Io.KnownBytes.{Consumes}
 use Rattle.std.proofs.Math.ListN.{length-take}
 use Rattle.std.proofs.lemmas.List.{take-append-le}
 use Rattle.std.proofs.lemmas.Bool.Decides.{Decides-eqb}
-use Rattle.ud_model.specs.Lines.{NoFeed, IsWhole, ending_of, Parts, parts_of, whole_lines, open_rest, last_line, texts_of, line_at, numbered_from}
-use Rattle.ud_model.specs.Items.{Options}
-use Rattle.ud_model.specs.Faults as model
+use Rattle.ud_model.specs.text.Lines.{NoFeed, IsWhole, ending_of, Parts, parts_of, whole_lines, open_rest, last_line, texts_of, line_at, numbered_from}
+use Rattle.ud_model.specs.sections.Items.{Options}
+use Rattle.ud_model.specs.sections.Faults as model
 use Rattle.ud_model.specs.declared.limits.TheConstants.{LINE_BYTES, TEXT_LINES}
-use Rattle.ud_model.proofs.LinesLemmas.{AreWhole, are_whole, open_rest-open, parts_of-append-open, parts_of-append-line, last_line-some, texts_of_grows, texts_of-whole, Growth, stays_open, ends_line, grows, text_of-line_at, numbered_from-next, length-numbered_from}
+use Rattle.ud_model.proofs.text.LinesLemmas.{AreWhole, are_whole, open_rest-open, parts_of-append-open, parts_of-append-line, last_line-some, texts_of_grows, texts_of-whole, Growth, stays_open, ends_line, grows, text_of-line_at, numbered_from-next, length-numbered_from}
 use Rattle.ud_text.specs.Holding.{Holding, Took, UpToFeed, Refuses}
 use Rattle.ud_text.proofs.HoldingLemmas.{took_before, took_rest}
 use Rattle.ud_text.proofs.RunLemmas.{no_feed-take}

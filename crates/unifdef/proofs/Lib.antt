@@ -17,10 +17,6 @@ pub mod CountingLemmas
 pub mod ReadLemmas
 pub mod OutcomeLemmas
 pub mod WalkLemmas
-mod LetterLemmas
-mod GivenLemmas
-mod OptionLemmas
-mod PlanLemmas
 pub mod SeeingLemmas
 pub mod CuttingLemmas
 pub mod PrintLemmas

@@ -1,14 +1,14 @@
 -- LineFaults: the fault of a line, by the first way in which it is faulty.
 use Rattle.std.proofs.Common.{◌≡◌, ℕ, ◌<◌, ◌≤◌, List, [], ◌∷◌, ◌++◌, length, true, false, Some, refl, sym, ◌∙◌, ap, subst, arith}
-use Rattle.ud_model.specs.Lines.{Line, text_of}
-use Rattle.ud_model.specs.Scans.{Reading}
-use Rattle.ud_model.specs.Tree.{Item, Opener, Tree, text_line, if_line, elif_line, else_line, endif_line, closed, open_section, lines, depth}
-use Rattle.ud_model.specs.Pruning.{Mark, marks}
-use Rattle.ud_model.specs.Items.{line_of}
-use Rattle.ud_model.specs.Faults.{Fault, FaultOf, past_last, too_long, cut, out_of_place, too_deep, spoiled, is_spoiled, misplaced, too_many_lines, line_too_long, obfuscated, inappropriate_elif, inappropriate_else, inappropriate_endif, too_many_levels}
+use Rattle.ud_model.specs.text.Lines.{Line, text_of}
+use Rattle.ud_model.specs.text.Scans.{Reading}
+use Rattle.ud_model.specs.sections.Tree.{Item, Opener, Tree, text_line, if_line, elif_line, else_line, endif_line, closed, open_section, lines, depth}
+use Rattle.ud_model.specs.sections.Pruning.{Mark, marks}
+use Rattle.ud_model.specs.sections.Items.{line_of}
+use Rattle.ud_model.specs.sections.Faults.{Fault, FaultOf, past_last, too_long, cut, out_of_place, too_deep, spoiled, is_spoiled, misplaced, too_many_lines, line_too_long, obfuscated, inappropriate_elif, inappropriate_else, inappropriate_endif, too_many_levels}
 use Rattle.ud_model.specs.declared.limits.TheConstants.{LINE_BYTES, TEXT_LINES, OPEN_SECTIONS}
-use Rattle.ud_model.proofs.Growth.{Adds, adds_text, adds_if, adds_under, lines-add}
-use Rattle.ud_model.proofs.Unique.{unique}
+use Rattle.ud_model.proofs.sections.Growth.{Adds, adds_text, adds_if, adds_under, lines-add}
+use Rattle.ud_model.proofs.sections.Unique.{unique}
 use Rattle.unifdef.specs.declared.shape.Shape.{Shape}
 use Rattle.unifdef.specs.declared.seen.Seen.{Seen}
 use Rattle.unifdef.specs.Shapes.{AreSeen, shape_by, is_cut_item, first_shape}

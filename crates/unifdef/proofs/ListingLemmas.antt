@@ -2,15 +2,15 @@
 use Rattle.std.proofs.Common.{arith, inl, inr, ◌⊎◌, ◌≡◌, ℕ, suc, ◌+◌, ◌-◌, ◌≤◌, List, [], ◌∷◌, ◌++◌, length, map, take, drop, Bool, true, false, ◌||◌, codes, Option, IsTrue, if◌then◌else◌, refl, sym, ap, ap₂, subst, ◌∙◌, append_assoc, add-one, length-append}
 use Rattle.std.specs.List.{concat, AllByRecursion}
 use Rattle.std.proofs.lemmas.List.{map-append}
-use Rattle.ud_model.specs.Lines.{Line, text_of, line_at, numbered_from, is_ending}
-use Rattle.ud_model.specs.Scans.{Reading}
-use Rattle.ud_model.specs.Scanning.{next_reading, scan_after}
-use Rattle.ud_model.specs.Directives.{content_of}
-use Rattle.ud_model.specs.Tree.{Item, text_line, if_line, elif_line, else_line, endif_line}
-use Rattle.ud_model.specs.Items.{Options, reading_of, item_of, mode_by, read_after}
-use Rattle.ud_model.specs.Listing.{listed, listed_names, depth_prefix, names_at, names_in_content}
+use Rattle.ud_model.specs.text.Lines.{Line, text_of, line_at, numbered_from, is_ending}
+use Rattle.ud_model.specs.text.Scans.{Reading}
+use Rattle.ud_model.specs.text.Scanning.{next_reading, scan_after}
+use Rattle.ud_model.specs.sections.Directives.{content_of}
+use Rattle.ud_model.specs.sections.Tree.{Item, text_line, if_line, elif_line, else_line, endif_line}
+use Rattle.ud_model.specs.sections.Items.{Options, reading_of, item_of, mode_by, read_after}
+use Rattle.ud_model.specs.answer.Listing.{listed, listed_names, depth_prefix, names_at, names_in_content}
 use Rattle.ud_model.specs.declared.kind.Mode.{Mode}
-use Rattle.ud_model.proofs.Soundness.{reading_of-item_of}
+use Rattle.ud_model.proofs.sections.Soundness.{reading_of-item_of}
 use Rattle.ud_text.specs.Carrying.{Carried, Carries}
 use Rattle.unifdef.specs.Counting.{open_with, level_at, counted, open_by, level_by}
 use Rattle.unifdef.specs.Held.{ends_from, Holds, IsReadable}

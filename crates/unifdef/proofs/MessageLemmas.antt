@@ -1,7 +1,7 @@
 -- Messages from their parts.
 use Rattle.std.proofs.Common.{◌≡◌, ℕ, List, [], ◌++◌, ap, ◌∙◌, append_assoc, append-nil, codes, decimal}
-use Rattle.ud_model.specs.Messages.{about, about_line, message_of}
-use Rattle.ud_model.specs.Faults.{premature_eof}
+use Rattle.ud_model.specs.answer.Messages.{about, about_line, message_of}
+use Rattle.ud_model.specs.sections.Faults.{premature_eof}
 
 -- a message about the input, from its five parts
 pub about_joined : (name text : List ℕ) → codes "unifdef: " ++ (name ++ (codes ": " ++ (text ++ (codes "\n" ++ [])))) ≡ about name text

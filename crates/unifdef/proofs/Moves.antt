@@ -1,15 +1,15 @@
 -- Moves: how what a walk has read is put together from its parts.
 use Rattle.std.proofs.Common.{◌≡◌, ℕ, ◌≤◌, List, [], ◌∷◌, ◌++◌, map, Bool, ◌&&◌, Some, refl, sym, ◌∙◌, ap, subst, append_assoc, append-nil, arith}
 use Rattle.std.proofs.lemmas.List.{map-append}
-use Rattle.ud_model.specs.Scans.{Reading}
+use Rattle.ud_model.specs.text.Scans.{Reading}
 use Rattle.ud_model.specs.declared.limits.TheConstants.{OPEN_SECTIONS}
-use Rattle.ud_model.specs.Tree.{Item, Nodes, Tree, nothing, text, section, text_line, closed, open_section, lines, lines_of_nodes, lines_of_groups}
-use Rattle.ud_model.specs.Pruning.{Mark, marked, Part, is_kept}
-use Rattle.ud_model.specs.SoFar.{verdict_so_far, nodes_so_far, groups_so_far}
+use Rattle.ud_model.specs.sections.Tree.{Item, Nodes, Tree, nothing, text, section, text_line, closed, open_section, lines, lines_of_nodes, lines_of_groups}
+use Rattle.ud_model.specs.sections.Pruning.{Mark, marked, Part, is_kept}
+use Rattle.ud_model.specs.aids.SoFar.{verdict_so_far, nodes_so_far, groups_so_far}
 use Rattle.ud_model.specs.declared.cond.Cond.{Cond}
 use Rattle.ud_model.specs.declared.verdict.Verdict.TheVariants.{Keep}
-use Rattle.ud_model.proofs.Growth.{Adds, lines-add}
-use Rattle.ud_model.proofs.Unique.{grows}
+use Rattle.ud_model.proofs.sections.Growth.{Adds, lines-add}
+use Rattle.ud_model.proofs.sections.Unique.{grows}
 use Rattle.unifdef.specs.declared.shape.Shape.TheVariants.{Text}
 use Rattle.unifdef.specs.Shapes.{first_shape, code_mark}
 use Rattle.unifdef.specs.declared.mark.Mark as kept_marks

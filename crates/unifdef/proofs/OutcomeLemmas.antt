@@ -1,14 +1,14 @@
 -- OutcomeLemmas: what a walk over the lines that are held gives is what comes of the text.
 use Rattle.std.proofs.Common.{◌≡◌, ℕ, suc, ◌+◌, List, [], ◌∷◌, ◌++◌, length, Bool, true, false, Option, Some, if◌then◌else◌, refl, sym, ◌∙◌, ap, ap₂, subst, append_assoc, append-nil, arith}
-use Rattle.ud_model.specs.Lines.{Line, lines_of, line_at, numbered_from}
-use Rattle.ud_model.specs.Scans.{Reading}
-use Rattle.ud_model.specs.Tree.{Item, Tree, Opener, lines, innermost}
-use Rattle.ud_model.specs.Pruning.{Mark}
-use Rattle.ud_model.specs.Items.{Options}
-use Rattle.ud_model.specs.Faults.{Fault, FaultOf, end_fault, end_by, last_number, eof_in_comment}
-use Rattle.ud_model.specs.Messages.{message_of}
-use Rattle.ud_model.specs.Runs.{outcome_of, stops, ends}
-use Rattle.ud_model.specs.Answer.{status_of, message_or_none}
+use Rattle.ud_model.specs.text.Lines.{Line, lines_of, line_at, numbered_from}
+use Rattle.ud_model.specs.text.Scans.{Reading}
+use Rattle.ud_model.specs.sections.Tree.{Item, Tree, Opener, lines, innermost}
+use Rattle.ud_model.specs.sections.Pruning.{Mark}
+use Rattle.ud_model.specs.sections.Items.{Options}
+use Rattle.ud_model.specs.sections.Faults.{Fault, FaultOf, end_fault, end_by, last_number, eof_in_comment}
+use Rattle.ud_model.specs.answer.Messages.{message_of}
+use Rattle.ud_model.specs.answer.Runs.{outcome_of, stops, ends}
+use Rattle.ud_model.specs.answer.Answer.{status_of, message_or_none}
 use Rattle.ud_model.specs.declared.settings.Settings.{Settings}
 use Rattle.unifdef.specs.declared.held.Held as held_text
 use Rattle.unifdef.specs.declared.intake.End.{End}

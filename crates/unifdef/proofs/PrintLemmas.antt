@@ -6,17 +6,17 @@ use Rattle.std.proofs.Math.Seq.{drop-length}
 use Rattle.std.proofs.lemmas.List.{drop-append-le, length-drop, length-take-le}
 use Rattle.std.proofs.lemmas.Slice.Eq.{bytes_eq-Decides}
 use Rattle.std.specs.Io.KnownBytes.{Appends}
-use Rattle.ud_model.specs.Lines.{Line, text_of, line_at, numbered_from, is_ending}
-use Rattle.ud_model.specs.Scans.{Reading}
-use Rattle.ud_model.specs.Directives.{content_of}
-use Rattle.ud_model.specs.Tree.{Item}
-use Rattle.ud_model.specs.Items.{Options, reading_of, line_of, mode_by, read_after}
-use Rattle.ud_model.specs.Printing.{Judged, judged_lines, pieces_by, some_other, keyword_in}
-use Rattle.ud_model.specs.Printing as printing
+use Rattle.ud_model.specs.text.Lines.{Line, text_of, line_at, numbered_from, is_ending}
+use Rattle.ud_model.specs.text.Scans.{Reading}
+use Rattle.ud_model.specs.sections.Directives.{content_of}
+use Rattle.ud_model.specs.sections.Tree.{Item}
+use Rattle.ud_model.specs.sections.Items.{Options, reading_of, line_of, mode_by, read_after}
+use Rattle.ud_model.specs.answer.Printing.{Judged, judged_lines, pieces_by, some_other, keyword_in}
+use Rattle.ud_model.specs.answer.Printing as printing
 use Rattle.ud_model.specs.declared.verdict.Verdict.{Verdict}
 use Rattle.ud_model.specs.declared.verdict.Verdict.TheVariants.{Keep, Remove, ToIf, ToElse, ToEndif}
-use Rattle.ud_model.proofs.KeywordLies.{keyword_lies}
-use Rattle.ud_model.proofs.Soundness.{reading_of-item_of}
+use Rattle.ud_model.proofs.sections.KeywordLies.{keyword_lies}
+use Rattle.ud_model.proofs.sections.Soundness.{reading_of-item_of}
 use Rattle.ud_sections.specs.declared.step.Span.{Span}
 use Rattle.ud_sections.specs.Showing.{as_span, IsWithin}
 use Rattle.unifdef.specs.Held.{ends_from, Holds}

@@ -2,21 +2,21 @@
 use Rattle.std.proofs.Common.{◌≡◌, ℕ, suc, ◌≤◌, List, [], ◌∷◌, ◌++◌, length, take, Bool, true, false, refl, sym, ◌∙◌, ap, ap₂, subst, append_assoc, append-nil, arith}
 use Rattle.std.specs.List.{AllByRecursion, concat}
 use Rattle.std.proofs.lemmas.List.{take-append-le, take_all}
-use Rattle.ud_model.specs.Lines.{Line}
-use Rattle.ud_model.specs.Scans.{Reading}
-use Rattle.ud_model.specs.Tree.{Item, Tree, lines}
-use Rattle.ud_model.specs.Height.{height}
-use Rattle.ud_model.specs.Pruning.{Mark, marks}
-use Rattle.ud_model.specs.Items.{Options}
-use Rattle.ud_model.specs.Faults.{AreSound}
-use Rattle.ud_model.specs.Printing.{Judged, judged_lines, piece_behind, style_of, pieces_by, some_other}
-use Rattle.ud_model.specs.Listing.{levels, listed, listed_names, depth_prefix, names_at}
-use Rattle.ud_model.specs.Runs.{output_by, differs_by}
+use Rattle.ud_model.specs.text.Lines.{Line}
+use Rattle.ud_model.specs.text.Scans.{Reading}
+use Rattle.ud_model.specs.sections.Tree.{Item, Tree, lines}
+use Rattle.ud_model.specs.aids.Height.{height}
+use Rattle.ud_model.specs.sections.Pruning.{Mark, marks}
+use Rattle.ud_model.specs.sections.Items.{Options}
+use Rattle.ud_model.specs.sections.Faults.{AreSound}
+use Rattle.ud_model.specs.answer.Printing.{Judged, judged_lines, piece_behind, style_of, pieces_by, some_other}
+use Rattle.ud_model.specs.answer.Listing.{levels, listed, listed_names, depth_prefix, names_at}
+use Rattle.ud_model.specs.answer.Runs.{output_by, differs_by}
 use Rattle.ud_model.specs.declared.settings.Settings.{Settings}
 use Rattle.ud_model.specs.declared.settings.Listing.{Listing}
 use Rattle.ud_model.specs.declared.settings.Listing.TheVariants.{Off, Names, Depths}
 use Rattle.ud_model.specs.declared.limits.TheConstants.{OPEN_SECTIONS}
-use Rattle.ud_model.proofs.Stays.{length_marks}
+use Rattle.ud_model.proofs.sections.Stays.{length_marks}
 use Rattle.unifdef.specs.Limits.{IsWithin}
 use Rattle.unifdef.specs.Shapes.{AllWhole}
 use Rattle.unifdef.specs.Spoiled.{Unspoiled}

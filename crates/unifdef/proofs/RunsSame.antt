@@ -1,16 +1,16 @@
 -- Runs: options that say the same of every name have the same runs.
 use Rattle.std.proofs.Common.{◌≡◌, ℕ, List, [], ◌∷◌, ◌++◌, refl, sym, ◌∙◌, ap, subst}
-use Rattle.ud_model.specs.Lines.{Line}
-use Rattle.ud_model.specs.Scans.{Reading, Scan}
-use Rattle.ud_model.specs.Directives.{Content, Directive, cut_keyword, directive, text, content_of}
-use Rattle.ud_model.specs.Table.{Argument, entry_in}
-use Rattle.ud_model.specs.Conditions.{decision_on}
-use Rattle.ud_model.specs.Tree.{Item, Tree}
-use Rattle.ud_model.specs.Items.{Options, mode_after, read_after, rules_of, directive_item, item_by, next_item}
-use Rattle.ud_model.specs.Faults.{FaultOf, Fault, NoneHolds, cases, AreSound, no_lines, one_more}
-use Rattle.ud_model.specs.Runs.{Outcome, StopsAt, Runs, stops, ends}
+use Rattle.ud_model.specs.text.Lines.{Line}
+use Rattle.ud_model.specs.text.Scans.{Reading, Scan}
+use Rattle.ud_model.specs.sections.Directives.{Content, Directive, cut_keyword, directive, text, content_of}
+use Rattle.ud_model.specs.conditions.Table.{Argument, entry_in}
+use Rattle.ud_model.specs.conditions.Conditions.{decision_on}
+use Rattle.ud_model.specs.sections.Tree.{Item, Tree}
+use Rattle.ud_model.specs.sections.Items.{Options, mode_after, read_after, rules_of, directive_item, item_by, next_item}
+use Rattle.ud_model.specs.sections.Faults.{FaultOf, Fault, NoneHolds, cases, AreSound, no_lines, one_more}
+use Rattle.ud_model.specs.answer.Runs.{Outcome, StopsAt, Runs, stops, ends}
 use Rattle.ud_model.specs.declared.settings.Settings.{Settings}
-use Rattle.ud_model.proofs.ConditionLemmas.{condition_of_same}
+use Rattle.ud_model.proofs.conditions.ConditionLemmas.{condition_of_same}
 
 module _ (s : Settings) (t u : List Argument) (same : (name : List ℕ) → entry_in t name ≡ entry_in u name) where
   abbrev here : Options

@@ -1,15 +1,15 @@
 -- Sections: how a walk reads a section, group for group.
 use Rattle.std.proofs.Common.{◌≡◌, ℕ, suc, ◌+◌, ◌≤◌, List, [], ◌∷◌, ◌++◌, length, max, Bool, true, false, ◌&&◌, Some, refl, sym, ◌∙◌, ap, subst, append_assoc, arith}
-use Rattle.ud_model.specs.Scans.{Reading}
-use Rattle.ud_model.specs.Tree.{Item, Nodes, Groups, Elifs, Head, Tree, Opener, nothing, if_line, elif_line, else_line, endif_line, first, elif, closed, open_section, if_head, elif_head, else_head, lines, lines_of_nodes, lines_of_groups, lines_of_elifs, lines_of_head, opener_of_head, opener_of_elifs}
-use Rattle.ud_model.specs.Pruning.{Mark, marked, Part, an_if, an_elif, an_else, is_kept, is_inside_kept, endif_verdict, conds_of_groups, conds_of_elifs, conds_of_head}
-use Rattle.ud_model.specs.SoFar.{verdict_so_far, nodes_so_far, groups_so_far, elifs_so_far, head_so_far}
-use Rattle.ud_model.specs.Height.{height_of_nodes, height_of_groups, height_of_elifs, height_of_head}
-use Rattle.ud_model.specs.Items.{line_of}
+use Rattle.ud_model.specs.text.Scans.{Reading}
+use Rattle.ud_model.specs.sections.Tree.{Item, Nodes, Groups, Elifs, Head, Tree, Opener, nothing, if_line, elif_line, else_line, endif_line, first, elif, closed, open_section, if_head, elif_head, else_head, lines, lines_of_nodes, lines_of_groups, lines_of_elifs, lines_of_head, opener_of_head, opener_of_elifs}
+use Rattle.ud_model.specs.sections.Pruning.{Mark, marked, Part, an_if, an_elif, an_else, is_kept, is_inside_kept, endif_verdict, conds_of_groups, conds_of_elifs, conds_of_head}
+use Rattle.ud_model.specs.aids.SoFar.{verdict_so_far, nodes_so_far, groups_so_far, elifs_so_far, head_so_far}
+use Rattle.ud_model.specs.aids.Height.{height_of_nodes, height_of_groups, height_of_elifs, height_of_head}
+use Rattle.ud_model.specs.sections.Items.{line_of}
 use Rattle.ud_model.specs.declared.cond.Cond.{Cond}
 use Rattle.ud_model.specs.declared.cond.Cond.TheVariants.{Yes}
-use Rattle.ud_model.proofs.Growth.{Adds, adds_under, lines-add, complete, lines-complete, conds-complete}
-use Rattle.ud_model.proofs.Unique.{grows}
+use Rattle.ud_model.proofs.sections.Growth.{Adds, adds_under, lines-add, complete, lines-complete, conds-complete}
+use Rattle.ud_model.proofs.sections.Unique.{grows}
 use Rattle.unifdef.specs.declared.shape.Shape.TheVariants.{If, Elif, Else, Endif}
 use Rattle.unifdef.specs.declared.groups.Groups as kept_groups
 use Rattle.unifdef.specs.declared.walk.Walk.{Walk}

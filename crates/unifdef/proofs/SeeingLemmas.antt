@@ -1,21 +1,21 @@
 -- Seeing: what is kept of an item is told by what its line carries.
 use Rattle.std.proofs.Common.{◌≡◌, ◌≤◌, List, length, Bool, if◌then◌else◌, refl, ◌∙◌, ap, ap₂, arith, length-append}
-use Rattle.ud_model.specs.Lines.{Line}
-use Rattle.ud_model.specs.Scans.{Reading, is_spanning}
-use Rattle.ud_model.specs.Splicing.{content}
-use Rattle.ud_model.specs.Scanning.{scan_after}
-use Rattle.ud_model.specs.Directives.{Content, cut_keyword, directive, text, content_of}
-use Rattle.ud_model.specs.Conditions.{Decision, decision_on}
-use Rattle.ud_model.specs.Tree.{Item}
-use Rattle.ud_model.specs.Items.{Options, item_of, item_by, directive_item, rules_of}
-use Rattle.ud_model.specs.Faults.{is_cut}
-use Rattle.ud_model.specs.Printing.{keyword_in}
+use Rattle.ud_model.specs.text.Lines.{Line}
+use Rattle.ud_model.specs.text.Scans.{Reading, is_spanning}
+use Rattle.ud_model.specs.text.Splicing.{content}
+use Rattle.ud_model.specs.text.Scanning.{scan_after}
+use Rattle.ud_model.specs.sections.Directives.{Content, cut_keyword, directive, text, content_of}
+use Rattle.ud_model.specs.conditions.Conditions.{Decision, decision_on}
+use Rattle.ud_model.specs.sections.Tree.{Item}
+use Rattle.ud_model.specs.sections.Items.{Options, item_of, item_by, directive_item, rules_of}
+use Rattle.ud_model.specs.sections.Faults.{is_cut}
+use Rattle.ud_model.specs.answer.Printing.{keyword_in}
 use Rattle.ud_model.specs.declared.kind.Kind as kinds
 use Rattle.ud_model.specs.declared.kind.Kind.TheVariants as kind
 use Rattle.ud_model.specs.declared.kind.Mode.{Mode}
 use Rattle.ud_model.specs.declared.kind.Mode.TheVariants.{C, Plain}
-use Rattle.ud_model.proofs.Soundness.{reading_of-item_of}
-use Rattle.ud_model.proofs.ScanBytes.{length-masked, content-front}
+use Rattle.ud_model.proofs.sections.Soundness.{reading_of-item_of}
+use Rattle.ud_model.proofs.text.ScanBytes.{length-masked, content-front}
 use Rattle.unifdef.specs.Shapes.{shape_by, is_ignoring_item, seen_of, is_plain, span_of}
 use Rattle.unifdef.specs.Seeing.{shape_in, opens_ignoring, shape_carried, ignoring_carried, seen_by}
 use Rattle.unifdef.specs.declared.shape.Shape.{Shape}

@@ -1,9 +1,9 @@
 -- What the shapes of lines tell of the items.
 use Rattle.std.proofs.Common.{◌≡◌, ℕ, suc, List, [], ◌∷◌, ◌++◌, length, Bool, true, false, if◌then◌else◌, refl, sym, ◌∙◌, ap, subst, length-append, add-one, take, drop, ◌-◌, arith, Some, None}
 use Rattle.std.proofs.lemmas.List.{take_all}
-use Rattle.ud_model.specs.Scans.{Reading}
-use Rattle.ud_model.specs.Tree.{Item, Opener, text_line, if_line, elif_line, else_line, endif_line}
-use Rattle.ud_model.specs.Items.{line_of}
+use Rattle.ud_model.specs.text.Scans.{Reading}
+use Rattle.ud_model.specs.sections.Tree.{Item, Opener, text_line, if_line, elif_line, else_line, endif_line}
+use Rattle.ud_model.specs.sections.Items.{line_of}
 use Rattle.ud_model.specs.declared.cond.Cond.{Cond}
 use Rattle.unifdef.specs.Shapes.{shape_by, shape_of, is_cut_item, AreSeen, AllWhole, starts_whole, is_whole, first_shape, seen_of}
 use Rattle.unifdef.specs.declared.seen.Seen.{Seen}

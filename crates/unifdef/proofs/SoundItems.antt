@@ -3,19 +3,19 @@
 use Rattle.std.proofs.Common.{◌≡◌, ◌<◌, ◌≤◌, List, [], ◌∷◌, ◌++◌, length, Bool, true, false, IsTrue, sym, ◌∙◌, ap, subst, arith}
 use Rattle.std.specs.List.{AllByRecursion}
 use Rattle.std.proofs.lemmas.List.{same_from_push}
-use Rattle.ud_model.specs.Lines.{Line, text_of}
-use Rattle.ud_model.specs.Scans.{Reading}
-use Rattle.ud_model.specs.Tree.{Item, Tree, closed, nothing, lines, depth}
-use Rattle.ud_model.specs.Height.{height}
-use Rattle.ud_model.specs.Pruning.{Mark, marks}
-use Rattle.ud_model.specs.Items.{Options, line_of, next_item}
-use Rattle.ud_model.specs.Faults.{Case, past_last, too_long, cut, out_of_place, too_deep, spoiled, is_spoiled, is_spoiled_behind, NoneHolds, cases, AreSound, no_lines, one_more}
+use Rattle.ud_model.specs.text.Lines.{Line, text_of}
+use Rattle.ud_model.specs.text.Scans.{Reading}
+use Rattle.ud_model.specs.sections.Tree.{Item, Tree, closed, nothing, lines, depth}
+use Rattle.ud_model.specs.aids.Height.{height}
+use Rattle.ud_model.specs.sections.Pruning.{Mark, marks}
+use Rattle.ud_model.specs.sections.Items.{Options, line_of, next_item}
+use Rattle.ud_model.specs.sections.Faults.{Case, past_last, too_long, cut, out_of_place, too_deep, spoiled, is_spoiled, is_spoiled_behind, NoneHolds, cases, AreSound, no_lines, one_more}
 use Rattle.ud_model.specs.declared.limits.TheConstants.{LINE_BYTES, TEXT_LINES, OPEN_SECTIONS}
-use Rattle.ud_model.proofs.Pushes.{ByPush, none, push, by_push}
-use Rattle.ud_model.proofs.Growth.{Adds}
-use Rattle.ud_model.proofs.Unique.{unique, tree_before}
-use Rattle.ud_model.proofs.Heights.{depth_height, height_add}
-use Rattle.ud_model.proofs.Stays.{marks_more, length_marks}
+use Rattle.ud_model.proofs.text.Pushes.{ByPush, none, push, by_push}
+use Rattle.ud_model.proofs.sections.Growth.{Adds}
+use Rattle.ud_model.proofs.sections.Unique.{unique, tree_before}
+use Rattle.ud_model.proofs.sections.Heights.{depth_height, height_add}
+use Rattle.ud_model.proofs.sections.Stays.{marks_more, length_marks}
 use Rattle.unifdef.specs.Limits.{IsWithin}
 use Rattle.unifdef.specs.Shapes.{is_cut_item, AllWhole}
 use Rattle.unifdef.specs.Spoiled.{Unspoiled, last_removed}

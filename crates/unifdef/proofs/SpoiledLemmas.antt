@@ -1,10 +1,10 @@
 -- Spoiled: what the search for a spoiled directive finds among items.
 use Rattle.std.proofs.Common.{◌≡◌, ℕ, suc, ◌+◌, ◌<◌, List, [], ◌∷◌, ◌++◌, length, map, Bool, true, false, not, ◌&&◌, ◌||◌, Option, Some, None, if◌then◌else◌, refl, sym, ◌∙◌, ap, arith, add-one, ◌⊎◌, inl, inr}
-use Rattle.ud_model.specs.Scans.{Reading}
-use Rattle.ud_model.specs.Tree.{Item, text_line, if_line, elif_line, else_line, endif_line}
-use Rattle.ud_model.specs.Pruning.{Mark}
-use Rattle.ud_model.specs.Faults.{keeps_rest, is_directive, ends_removed, is_spoiled_behind}
-use Rattle.ud_model.specs.Pruning.{is_removed}
+use Rattle.ud_model.specs.text.Scans.{Reading}
+use Rattle.ud_model.specs.sections.Tree.{Item, text_line, if_line, elif_line, else_line, endif_line}
+use Rattle.ud_model.specs.sections.Pruning.{Mark}
+use Rattle.ud_model.specs.sections.Faults.{keeps_rest, is_directive, ends_removed, is_spoiled_behind}
+use Rattle.ud_model.specs.sections.Pruning.{is_removed}
 use Rattle.unifdef.specs.Shapes.{shape_by, seen_of, is_cut_item, AllWhole, code_mark}
 use Rattle.unifdef.specs.Spoiled.{is_directive_shape, is_spoiled_by, spoiled_from, Unspoiled, last_removed, SpoiledAt}
 use Rattle.unifdef.specs.declared.shape.Shape.{Shape}

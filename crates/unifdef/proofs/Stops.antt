@@ -1,10 +1,10 @@
 -- Stops: how a walk stops in a section, and in the nodes around it.
 use Rattle.std.proofs.Common.{◌≡◌, ℕ, ◌+◌, List, [], ◌∷◌, length, Bool, true, false, ◌&&◌, Some, None, refl, sym, ◌∙◌, ap, arith}
-use Rattle.ud_model.specs.Scans.{Reading}
+use Rattle.ud_model.specs.text.Scans.{Reading}
 use Rattle.ud_model.specs.declared.limits.TheConstants.{OPEN_SECTIONS}
-use Rattle.ud_model.specs.Tree.{Item, Opener, nothing, if_line, elif_line, else_line, closed, open_section, if_head, elif_head, else_head, lines}
-use Rattle.ud_model.specs.Pruning.{marked, Part, an_if, an_elif, an_else, is_kept, conds_of_head}
-use Rattle.ud_model.specs.SoFar.{verdict_so_far, marks_so_far}
+use Rattle.ud_model.specs.sections.Tree.{Item, Opener, nothing, if_line, elif_line, else_line, closed, open_section, if_head, elif_head, else_head, lines}
+use Rattle.ud_model.specs.sections.Pruning.{marked, Part, an_if, an_elif, an_else, is_kept, conds_of_head}
+use Rattle.ud_model.specs.aids.SoFar.{verdict_so_far, marks_so_far}
 use Rattle.ud_model.specs.declared.cond.Cond.{Cond}
 use Rattle.ud_model.specs.declared.cond.Cond.TheVariants.{Yes}
 use Rattle.unifdef.specs.declared.shape.Shape.TheVariants.{If, Elif, Else, Cut}

@@ -2,18 +2,18 @@
 use Rattle.std.proofs.Common.{◌≡◌, ◌≢◌, ℕ, suc, ◌+◌, ◌≤◌, List, [], ◌∷◌, ◌++◌, length, take, map, true, false, Option, Some, None, refl, sym, ◌∙◌, ap, ap₂, subst, append_assoc, append-nil, arith, add-one, length-append}
 use Rattle.std.specs.List.{AllByRecursion}
 use Rattle.std.proofs.lemmas.List.{length-map, map-append, take-append-le, take_all}
-use Rattle.ud_model.specs.Lines.{Line, line_at, numbered_from}
-use Rattle.ud_model.specs.Scans.{Reading}
-use Rattle.ud_model.specs.Tree.{Item, Tree, Opener, closed, lines, innermost, depth}
-use Rattle.ud_model.specs.Height.{height}
-use Rattle.ud_model.specs.Pruning.{Mark, marks}
-use Rattle.ud_model.specs.Items.{Options, line_of}
-use Rattle.ud_model.specs.Faults.{Fault, FaultOf, end_by, obfuscated, premature_eof, is_spoiled_behind, too_many_levels}
+use Rattle.ud_model.specs.text.Lines.{Line, line_at, numbered_from}
+use Rattle.ud_model.specs.text.Scans.{Reading}
+use Rattle.ud_model.specs.sections.Tree.{Item, Tree, Opener, closed, lines, innermost, depth}
+use Rattle.ud_model.specs.aids.Height.{height}
+use Rattle.ud_model.specs.sections.Pruning.{Mark, marks}
+use Rattle.ud_model.specs.sections.Items.{Options, line_of}
+use Rattle.ud_model.specs.sections.Faults.{Fault, FaultOf, end_by, obfuscated, premature_eof, is_spoiled_behind, too_many_levels}
 use Rattle.ud_model.specs.declared.limits.TheConstants.{OPEN_SECTIONS}
-use Rattle.ud_model.proofs.LinesLemmas.{length-numbered_from}
-use Rattle.ud_model.proofs.Stays.{marks_so_far_same, length_marks, marks_stay}
-use Rattle.ud_model.proofs.Heights.{height_front, depth_front}
-use Rattle.ud_model.proofs.Unique.{has_front}
+use Rattle.ud_model.proofs.text.LinesLemmas.{length-numbered_from}
+use Rattle.ud_model.proofs.sections.Stays.{marks_so_far_same, length_marks, marks_stay}
+use Rattle.ud_model.proofs.sections.Heights.{height_front, depth_front}
+use Rattle.ud_model.proofs.sections.Unique.{has_front}
 use Rattle.unifdef.specs.declared.held.Held as held_text
 use Rattle.unifdef.specs.declared.intake.End.{End}
 use Rattle.unifdef.specs.declared.walk.Walk.{Walk}

@@ -1,9 +1,9 @@
 -- WholeWalk: a walk over a whole text.
 use Rattle.std.proofs.Common.{◌≡◌, List, [], ◌∷◌, ◌++◌, length, map, true, false, Some, None, is_some, Option, refl, ◌∙◌, ap, subst, arith}
-use Rattle.ud_model.specs.Scans.{Reading}
-use Rattle.ud_model.specs.Tree.{Item, Nodes, Tree, closed, text_line, if_line, elif_line, else_line, endif_line}
-use Rattle.ud_model.proofs.Growth.{Adds}
-use Rattle.ud_model.proofs.Unique.{grows}
+use Rattle.ud_model.specs.text.Scans.{Reading}
+use Rattle.ud_model.specs.sections.Tree.{Item, Nodes, Tree, closed, text_line, if_line, elif_line, else_line, endif_line}
+use Rattle.ud_model.proofs.sections.Growth.{Adds}
+use Rattle.ud_model.proofs.sections.Unique.{grows}
 use Rattle.unifdef.specs.declared.shape.Shape.{Shape}
 use Rattle.unifdef.specs.declared.shape.Shape.TheVariants.{Text, If, Elif, Else, Endif, Cut}
 use Rattle.unifdef.specs.declared.walk.Walk.{Walk}
@@ -12,7 +12,7 @@ use Rattle.unifdef.specs.declared.walk.Stop.TheVariants as stops
 use Rattle.unifdef.specs.Shapes.{shape_of, shape_by, is_cut_item, is_closer, starts_with_closer, first_shape, code_mark}
 use Rattle.unifdef.specs.declared.seen.Seen.{Seen}
 use Rattle.unifdef.specs.Walking.{ReadsNodes, HaltsWell, Halts, StopsWell, Stuck, StopsFor, HaltsFor}
-use Rattle.ud_model.specs.SoFar.{nodes_so_far, marks_so_far}
+use Rattle.ud_model.specs.aids.SoFar.{nodes_so_far, marks_so_far}
 use Rattle.unifdef.proofs.ShapesLemmas.{first_at, item_whole, shape_own}
 
 halts_for : (stop : Stop) (t : Tree Reading) (ys : List (Item Reading)) → StopsFor stop t ys 0 → HaltsFor stop t ys

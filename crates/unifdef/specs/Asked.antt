@@ -1,5 +1,5 @@
 -- Asked: what the words ask for, as the definitions have it.
-use Rattle.ud_model.specs.Items.{Options}
+use Rattle.ud_model.specs.sections.Items.{Options}
 use Rattle.unifdef.specs.declared.asked.Asked.{Asked}
 
 -- the options

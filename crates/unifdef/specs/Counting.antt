@@ -6,8 +6,8 @@
 --   counted n xs       that of each of these items
 --   open_by n s        the count behind a line of this shape, and level_by n s the one around its section
 use Rattle.std.specs.Prelude.{ℕ, suc, List, [], ◌∷◌}
-use Rattle.ud_model.specs.Scans.{Reading}
-use Rattle.ud_model.specs.Tree.{Item, text_line, if_line, elif_line, else_line, endif_line}
+use Rattle.ud_model.specs.text.Scans.{Reading}
+use Rattle.ud_model.specs.sections.Tree.{Item, text_line, if_line, elif_line, else_line, endif_line}
 use Rattle.unifdef.specs.Inside.{ended}
 use Rattle.unifdef.specs.declared.shape.Shape.{Shape}
 use Rattle.unifdef.specs.declared.shape.Shape.TheVariants.{Text, If, Elif, Else, Endif, Cut}

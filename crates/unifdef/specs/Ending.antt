@@ -4,8 +4,8 @@
 --                                         whether a comment is open at the end, and why the reading stopped
 --   message_told, status_told             what is said of an outcome, and its status, where `out` was flushed or couldn't be
 use Rattle.std.specs.Prelude.{ℕ, ◌+◌, List, [], Bool, true, false, Option, Some, None, if◌then◌else◌}
-use Rattle.ud_model.specs.Messages.{message_of, read_error, write_error}
-use Rattle.ud_model.specs.Answer.{status_under}
+use Rattle.ud_model.specs.answer.Messages.{message_of, read_error, write_error}
+use Rattle.ud_model.specs.answer.Answer.{status_under}
 use Rattle.ud_model.specs.declared.settings.Settings.{Settings}
 use Rattle.unifdef.specs.declared.faults.Fault.TheVariants as kinds
 use Rattle.unifdef.specs.declared.shape.Shape.{Shape}

@@ -1,18 +1,19 @@
 -- Gave: what the tool wrote, said and gave back, against the answers of the definitions.
 --
---   Gave out out' failed err err' status a     these contents of `out` and `err`, before and behind, and this status are the answer a
---   GivesAnswer words input ..                 they are the answer that the definitions give to the words and the input
---   GivesRun o name input ..                   they are the answer of a run of the definitions
+--   Streams                                    what the output and the error stream hold, as far as they tell it
+--   Gave before after err_failed status a      what was written between these, and this status, are the answer a
+--   GivesAnswer words input before after ..    they are the answer that the definitions give to the words and the input
+--   GivesRun o name input before after ..      they are the answer of a run of the definitions
 --   HeldInput o input held end                 what is held is the input, as far as it goes before a limit is broken
 use Rattle.std.specs.Prelude.{◌≡◌, ℕ, List, [], ◌++◌, Bool, true, Option, Some, None}
 use Rattle.std.specs.List.{AllByRecursion}
 use Rattle.std.specs.Io.KnownBytes.{Appends}
-use Rattle.ud_model.specs.Lines.{Line, lines_of, numbered_from}
-use Rattle.ud_model.specs.Items.{Options}
-use Rattle.ud_model.specs.Faults as model
-use Rattle.ud_model.specs.Runs as runs
-use Rattle.ud_model.specs.Answer.{Answer, IsAnswer, run_answer, status_of, message_or_none}
-use Rattle.ud_model.specs.Pruning.{Mark}
+use Rattle.ud_model.specs.text.Lines.{Line, lines_of, numbered_from}
+use Rattle.ud_model.specs.sections.Items.{Options}
+use Rattle.ud_model.specs.sections.Faults as model
+use Rattle.ud_model.specs.answer.Runs as runs
+use Rattle.ud_model.specs.answer.Answer.{Answer, IsAnswer, run_answer, status_of, message_or_none}
+use Rattle.ud_model.specs.sections.Pruning.{Mark}
 use Rattle.unifdef.specs.Watching.{Says}
 use Rattle.unifdef.specs.Limits.{Rest, IsWithin}
 use Rattle.unifdef.specs.Inside.{items_in}
@@ -25,15 +26,23 @@ use Rattle.unifdef.specs.declared.held.Held.{Held}
 use Rattle.unifdef.specs.declared.intake.End.{End}
 use Rattle.unifdef.specs.declared.intake.End.TheVariants.{Ended, Failed, Broken}
 
--- this was written, said and given back
-pub record Gave (out_old out_new : Option (List ℕ)) (err_failed : Bool) (err_old err_new : Option (List ℕ)) (status : ℕ) (a : Answer) : Type 0 where
-  pub output : Appends out_old out_new a.output
-  pub message : Says err_failed err_old err_new a.message
+-- what the output and the error stream hold, as far as they tell it
+pub record Streams : Type 0 where
+  pub out : Option (List ℕ)
+  pub err : Option (List ℕ)
+
+abbrev pub streams : Option (List ℕ) → Option (List ℕ) → Streams
+streams out err = record { out = out; err = err }
+
+-- this was written, said and given back; if the error stream has failed, a front of the message was said
+pub record Gave (before after : Streams) (err_failed : Bool) (status : ℕ) (a : Answer) : Type 0 where
+  pub output : Appends before.out after.out a.output
+  pub message : Says err_failed before.err after.err a.message
   pub answered : status ≡ a.status
 
-abbrev pub GivesAnswer : List (List ℕ) → List ℕ → Option (List ℕ) → Option (List ℕ) → Bool → Option (List ℕ) → Option (List ℕ) → ℕ → Type 0
-GivesAnswer words input out_old out_new err_failed err_old err_new status =
-    (a : Answer) × IsAnswer words input a × Gave out_old out_new err_failed err_old err_new status a
+abbrev pub GivesAnswer : List (List ℕ) → List ℕ → Streams → Streams → Bool → ℕ → Type 0
+GivesAnswer words input before after err_failed status =
+    (a : Answer) × IsAnswer words input a × Gave before after err_failed status a
 
 -- the limit that the next line breaks, if the reading stopped there; a failed read tells nothing of the text
 abbrev pub EndsAs : End → Option model.Fault → Type 0
@@ -54,9 +63,9 @@ pub record HeldInput (o : Options) (input : List ℕ) (held : Held) (end : End) 
   pub holds : Holds o held (numbered_from 1 texts)
 
 -- what was written, said and given back is the answer of a run of the definitions
-abbrev pub GivesRun : Options → List ℕ → List ℕ → Option (List ℕ) → Option (List ℕ) → Bool → Option (List ℕ) → Option (List ℕ) → ℕ → Type 0
-GivesRun o name input out_old out_new err_failed err_old err_new status =
-    (r : runs.Outcome) × runs.Runs o input r × Gave out_old out_new err_failed err_old err_new status (run_answer o.settings name r)
+abbrev pub GivesRun : Options → List ℕ → List ℕ → Streams → Streams → Bool → ℕ → Type 0
+GivesRun o name input before after err_failed status =
+    (r : runs.Outcome) × runs.Runs o input r × Gave before after err_failed status (run_answer o.settings name r)
 
 -- of a text of which these lines are held, what is printed of them with these marks, and this outcome, are a run of the definitions
 pub record Comes (o : Options) (name input : List ℕ) (ls : List Line) (ms : List Mark) (outcome : Outcome) : Type 0 where

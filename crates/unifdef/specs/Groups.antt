@@ -4,7 +4,7 @@ use Rattle.ud_model.specs.declared.cond.Cond.{Cond}
 use Rattle.ud_model.specs.declared.cond.Cond.TheVariants.{Yes, No, Unknown}
 use Rattle.ud_model.specs.declared.verdict.Verdict.{Verdict}
 use Rattle.ud_model.specs.declared.verdict.Verdict.TheVariants.{Remove, ToEndif}
-use Rattle.ud_model.specs.Pruning.{Part, all_false, any_true, gives_way, ends_with_first_true, is_false, first_kept_verdict, later_verdict}
+use Rattle.ud_model.specs.sections.Pruning.{Part, all_false, any_true, gives_way, ends_with_first_true, is_false, first_kept_verdict, later_verdict}
 use Rattle.unifdef.specs.declared.groups.Groups.{Groups}
 
 abbrev pub groups_of : List Cond → Groups

@@ -4,9 +4,9 @@
 --   Holds o held ls     the code holds these lines, read under these options
 use Rattle.std.specs.Prelude.{◌≡◌, ◌≤◌, ℕ, ◌+◌, List, [], ◌∷◌, length, map}
 use Rattle.std.specs.List.{concat, AllByRecursion}
-use Rattle.ud_model.specs.Lines.{Line, NoFeed, text_of}
-use Rattle.ud_model.specs.Items.{Options, reading_of}
-use Rattle.ud_model.specs.Faults.{ends_in_comment}
+use Rattle.ud_model.specs.text.Lines.{Line, NoFeed, text_of}
+use Rattle.ud_model.specs.sections.Items.{Options, reading_of}
+use Rattle.ud_model.specs.sections.Faults.{ends_in_comment}
 use Rattle.ud_text.specs.Carrying.{Carries}
 use Rattle.ud_model.specs.declared.limits.TheConstants.{LINE_BYTES}
 use Rattle.unifdef.specs.Shapes.{seen_of}

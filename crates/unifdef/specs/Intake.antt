@@ -7,9 +7,9 @@
 use Rattle.std.specs.Prelude.{◌≡◌, ℕ, suc, ◌+◌, ◌-◌, ◌*◌, ◌<◌, ◌≤◌, List, [], ◌∷◌, ◌++◌, length, Bool, true, false, Option, None}
 use Rattle.std.specs.List.{AllByRecursion}
 use Rattle.std.specs.Io.KnownBytes.{Consumes, IsAtEnd}
-use Rattle.ud_model.specs.Lines.{Line, lines_of, whole_lines, numbered_from}
-use Rattle.ud_model.specs.Items.{Options}
-use Rattle.ud_model.specs.Faults as model
+use Rattle.ud_model.specs.text.Lines.{Line, lines_of, whole_lines, numbered_from}
+use Rattle.ud_model.specs.sections.Items.{Options}
+use Rattle.ud_model.specs.sections.Faults as model
 use Rattle.ud_model.specs.declared.limits.TheConstants.{LINE_BYTES, TEXT_LINES}
 use Rattle.ud_text.specs.Holding.{Holding, Took}
 use Rattle.ud_text.specs.declared.fault.TextFault.{TextFault}

@@ -14,10 +14,6 @@ pub mod Intake
 pub mod Outcomes
 pub mod Ending
 pub mod Gave
-pub mod Letters
-pub mod Given
-pub mod Saying
-pub mod Planning
 pub mod Refusals
 pub mod Seeing
 pub mod Showing

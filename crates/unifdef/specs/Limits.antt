@@ -4,8 +4,8 @@
 --   Breaks l f           it breaks a limit, which is the fault f
 --   Rest ls more f       behind the lines ls the input has ended, or its next line breaks a limit, which is the fault f
 use Rattle.std.specs.Prelude.{◌<◌, ◌≤◌, List, [], ◌∷◌, length, Option, Some, None}
-use Rattle.ud_model.specs.Lines.{Line, text_of}
-use Rattle.ud_model.specs.Faults as model
+use Rattle.ud_model.specs.text.Lines.{Line, text_of}
+use Rattle.ud_model.specs.sections.Faults as model
 use Rattle.ud_model.specs.declared.limits.TheConstants.{LINE_BYTES, TEXT_LINES}
 
 -- a line within the limits

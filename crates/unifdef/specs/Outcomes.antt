@@ -3,12 +3,12 @@
 --   output_told, differs_told    what is printed of these items with these marks, and whether some line differs
 --   stop_fault stop ..           the fault of the line at which a walk stops, or the one behind all lines
 use Rattle.std.specs.Prelude.{ℕ, suc, List, length, take, Bool, true, false, Option, Some, None, if◌then◌else◌}
-use Rattle.ud_model.specs.Scans.{Reading}
-use Rattle.ud_model.specs.Tree.{Item}
-use Rattle.ud_model.specs.Pruning.{Mark}
-use Rattle.ud_model.specs.Printing.{printed_by, some_differ_by}
-use Rattle.ud_model.specs.Listing.{listed}
-use Rattle.ud_model.specs.Faults as model
+use Rattle.ud_model.specs.text.Scans.{Reading}
+use Rattle.ud_model.specs.sections.Tree.{Item}
+use Rattle.ud_model.specs.sections.Pruning.{Mark}
+use Rattle.ud_model.specs.answer.Printing.{printed_by, some_differ_by}
+use Rattle.ud_model.specs.answer.Listing.{listed}
+use Rattle.ud_model.specs.sections.Faults as model
 use Rattle.ud_model.specs.declared.settings.Settings.{Settings}
 use Rattle.ud_model.specs.declared.settings.Listing.{Listing}
 use Rattle.ud_model.specs.declared.settings.Listing.TheVariants.{Off, Names, Depths}

@@ -1,5 +1,5 @@
 -- What opens a group, in the words of the definitions.
-use Rattle.ud_model.specs.Pruning as table
+use Rattle.ud_model.specs.sections.Pruning as table
 use Rattle.unifdef.specs.declared.groups.Part.{Part}
 use Rattle.unifdef.specs.declared.groups.Part.TheVariants.{AnIf, AnElif, AnElse}
 

@@ -4,11 +4,11 @@
 --   opens_ignoring kind b     it opens a section that is plain text
 --   seen_by o r c             what is kept of the reading's line, which carries this
 use Rattle.std.specs.Prelude.{Bool, false}
-use Rattle.ud_model.specs.Scans.{Reading, is_spanning}
-use Rattle.ud_model.specs.Directives.{Content, cut_keyword, directive, text}
-use Rattle.ud_model.specs.Conditions.{decision_on}
-use Rattle.ud_model.specs.Items.{Options, rules_of}
-use Rattle.ud_model.specs.Printing.{keyword_in}
+use Rattle.ud_model.specs.text.Scans.{Reading, is_spanning}
+use Rattle.ud_model.specs.sections.Directives.{Content, cut_keyword, directive, text}
+use Rattle.ud_model.specs.conditions.Conditions.{decision_on}
+use Rattle.ud_model.specs.sections.Items.{Options, rules_of}
+use Rattle.ud_model.specs.answer.Printing.{keyword_in}
 use Rattle.ud_model.specs.declared.cond.Cond.{Cond}
 use Rattle.ud_model.specs.declared.kind.Kind as kinds
 use Rattle.ud_model.specs.declared.kind.Kind.TheVariants as kind

@@ -5,14 +5,14 @@
 --   AreSeen n ss xs       of these items, behind n others, this is kept
 --   mark_of m             a mark as the definitions have it
 use Rattle.std.specs.Prelude.{◌≡◌, ℕ, suc, List, [], ◌∷◌, Bool, true, false, Option, Some, None, if◌then◌else◌}
-use Rattle.ud_model.specs.Scans.{Reading, is_spanning}
-use Rattle.ud_model.specs.Directives.{content_of}
-use Rattle.ud_model.specs.Directives.{Span as ModelSpan}
-use Rattle.ud_model.specs.Tree.{Item, text_line, if_line, elif_line, else_line, endif_line}
-use Rattle.ud_model.specs.Items.{reading_of, line_of}
-use Rattle.ud_model.specs.Faults.{is_cut}
-use Rattle.ud_model.specs.Printing.{keyword_in}
-use Rattle.ud_model.specs.Pruning as table
+use Rattle.ud_model.specs.text.Scans.{Reading, is_spanning}
+use Rattle.ud_model.specs.sections.Directives.{content_of}
+use Rattle.ud_model.specs.sections.Directives.{Span as ModelSpan}
+use Rattle.ud_model.specs.sections.Tree.{Item, text_line, if_line, elif_line, else_line, endif_line}
+use Rattle.ud_model.specs.sections.Items.{reading_of, line_of}
+use Rattle.ud_model.specs.sections.Faults.{is_cut}
+use Rattle.ud_model.specs.answer.Printing.{keyword_in}
+use Rattle.ud_model.specs.sections.Pruning as table
 use Rattle.ud_model.specs.declared.kind.Mode.{Mode}
 use Rattle.ud_model.specs.declared.kind.Mode.TheVariants.{C, Plain}
 use Rattle.ud_sections.specs.declared.step.Span.{Span}

@@ -4,7 +4,7 @@
 --   Shown shown old new run piece t  a line's piece was printed behind a run of bytes where it isn't the line t itself
 use Rattle.std.specs.Prelude.{◌≡◌, ℕ, ◌-◌, List, ◌++◌, take, drop, Bool, true, false, not, Option, bytes_eq}
 use Rattle.std.specs.Io.KnownBytes.{Appends}
-use Rattle.ud_model.specs.Lines.{Line}
+use Rattle.ud_model.specs.text.Lines.{Line}
 use Rattle.unifdef.specs.declared.held.LineEnd.{LineEnd}
 
 abbrev pub line_between : List ℕ → ℕ → LineEnd → ℕ → Line

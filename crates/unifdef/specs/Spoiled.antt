@@ -6,11 +6,11 @@
 --   Unspoiled removed xs ms       none of these items with these marks is such a directive
 --   SpoiledAt n removed xs ms k   the item of place k is, and none before it
 use Rattle.std.specs.Prelude.{◌≡◌, ℕ, suc, ◌+◌, List, [], ◌∷◌, ◌++◌, length, Bool, true, false, not, ◌&&◌, ◌||◌, Option, Some, None, if◌then◌else◌}
-use Rattle.ud_model.specs.Scans.{Reading}
-use Rattle.ud_model.specs.Tree.{Item}
-use Rattle.ud_model.specs.Pruning.{Mark}
-use Rattle.ud_model.specs.Faults.{keeps_rest, is_spoiled_behind}
-use Rattle.ud_model.specs.Pruning.{is_removed}
+use Rattle.ud_model.specs.text.Scans.{Reading}
+use Rattle.ud_model.specs.sections.Tree.{Item}
+use Rattle.ud_model.specs.sections.Pruning.{Mark}
+use Rattle.ud_model.specs.sections.Faults.{keeps_rest, is_spoiled_behind}
+use Rattle.ud_model.specs.sections.Pruning.{is_removed}
 use Rattle.unifdef.specs.declared.shape.Shape.{Shape}
 use Rattle.unifdef.specs.declared.shape.Shape.TheVariants.{Text, If, Elif, Else, Endif, Cut}
 use Rattle.unifdef.specs.declared.seen.Seen.{Seen}

@@ -8,7 +8,7 @@ use Rattle.ud_text.specs.declared.fault.TextFault.{TextFault as LimitFault}
 use Rattle.ud_text.specs.declared.fault.TextFault.TheVariants as limits
 use Rattle.unifdef.specs.declared.shape.Shape.{Shape}
 use Rattle.unifdef.specs.declared.shape.Shape.TheVariants.{Text, If, Elif, Else, Endif, Cut}
-use Rattle.ud_model.specs.Faults.{Fault as TextFault, too_many_lines, line_too_long, obfuscated, inappropriate_elif, inappropriate_else, inappropriate_endif, too_many_levels, eof_in_comment, premature_eof}
+use Rattle.ud_model.specs.sections.Faults.{Fault as TextFault, too_many_lines, line_too_long, obfuscated, inappropriate_elif, inappropriate_else, inappropriate_endif, too_many_levels, eof_in_comment, premature_eof}
 use Rattle.unifdef.specs.declared.faults.Fault.{Fault}
 use Rattle.unifdef.specs.declared.faults.Fault.TheVariants.{TooManyLines, LineTooLong, Obfuscated, InappropriateElif, InappropriateElse, InappropriateEndif, TooManyLevels, EofInComment, PrematureEof}
 

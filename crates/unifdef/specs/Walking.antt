@@ -1,13 +1,13 @@
 -- What a walk over the lines of a text has read.
 use Rattle.std.specs.Prelude.{◌≡◌, ◌≢◌, Option, None, ℕ, suc, ◌+◌, ◌<◌, ◌≤◌, List, [], ◌∷◌, ◌++◌, length, map, max, Bool, true, false, ◌&&◌, Some}
-use Rattle.ud_model.specs.Scans.{Reading}
+use Rattle.ud_model.specs.text.Scans.{Reading}
 use Rattle.ud_model.specs.declared.limits.TheConstants.{OPEN_SECTIONS}
-use Rattle.ud_model.specs.Tree.{Item, Nodes, Groups, Head, Tree, Opener, closed, open_section, lines, lines_of_nodes, lines_of_groups, lines_of_head, depth, innermost, opener_of_head, endif_line, if_head, elif_head, else_head}
-use Rattle.ud_model.specs.Pruning.{Part, Mark, marked, is_kept, is_inside_kept, endif_verdict, conds_of_groups, conds_of_head}
-use Rattle.ud_model.specs.SoFar.{verdict_so_far, nodes_so_far, groups_so_far, head_so_far, marks_so_far}
-use Rattle.ud_model.specs.Height.{height, height_of_nodes, height_of_groups, height_of_head}
+use Rattle.ud_model.specs.sections.Tree.{Item, Nodes, Groups, Head, Tree, Opener, closed, open_section, lines, lines_of_nodes, lines_of_groups, lines_of_head, depth, innermost, opener_of_head, endif_line, if_head, elif_head, else_head}
+use Rattle.ud_model.specs.sections.Pruning.{Part, Mark, marked, is_kept, is_inside_kept, endif_verdict, conds_of_groups, conds_of_head}
+use Rattle.ud_model.specs.aids.SoFar.{verdict_so_far, nodes_so_far, groups_so_far, head_so_far, marks_so_far}
+use Rattle.ud_model.specs.aids.Height.{height, height_of_nodes, height_of_groups, height_of_head}
 use Rattle.ud_model.specs.declared.cond.Cond.{Cond}
-use Rattle.ud_model.specs.Items.{line_of}
+use Rattle.ud_model.specs.sections.Items.{line_of}
 use Rattle.unifdef.specs.declared.shape.Shape.{Shape}
 use Rattle.unifdef.specs.Shapes.{AreSeen, AllWhole, is_cut_item, shape_by, first_shape, code_mark}
 use Rattle.unifdef.specs.Groups.{groups_of}

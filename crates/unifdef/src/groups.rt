@@ -2,9 +2,9 @@
 
 ghost use Rattle.std.specs.Prelude.{◌≡◌, List, [], ◌∷◌, ◌++◌, ◌&&◌};
 ghost use Rattle.ud_model.specs.declared.cond.Cond.{Cond};
-ghost use Rattle.ud_model.specs.Pruning.{is_kept, endif_verdict};
-ghost use Rattle.ud_model.specs.SoFar.{verdict_so_far};
-ghost use Rattle.ud_model.specs.Pruning.{later_verdict, first_kept_verdict, is_false};
+ghost use Rattle.ud_model.specs.sections.Pruning.{is_kept, endif_verdict};
+ghost use Rattle.ud_model.specs.aids.SoFar.{verdict_so_far};
+ghost use Rattle.ud_model.specs.sections.Pruning.{later_verdict, first_kept_verdict, is_false};
 ghost use Rattle.unifdef.specs.Parts.{part_of};
 
 use ud_model::{Cond, Verdict};

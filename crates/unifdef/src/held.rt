@@ -3,10 +3,10 @@
 //! Interim: the text is held until its last line is read, and printed then.
 
 ghost use Rattle.std.specs.Prelude.{◌≡◌, ◌≤◌, ◌++◌, ◌∷◌, ◌||◌, [], List, OnOk, length};
-ghost use Rattle.ud_model.specs.Lines.{NoFeed};
-ghost use Rattle.ud_model.specs.Lines as model;
-ghost use Rattle.ud_model.specs.Items.{Options, mode_by};
-ghost use Rattle.ud_model.specs.Faults.{is_in_block};
+ghost use Rattle.ud_model.specs.text.Lines.{NoFeed};
+ghost use Rattle.ud_model.specs.text.Lines as model;
+ghost use Rattle.ud_model.specs.sections.Items.{Options, mode_by};
+ghost use Rattle.ud_model.specs.sections.Faults.{is_in_block};
 ghost use Rattle.ud_model.specs.declared.limits.TheConstants.{LINE_BYTES};
 ghost use Rattle.ud_text.specs.Viewing.{as_line};
 ghost use Rattle.unifdef.specs.Asked.{options_by};

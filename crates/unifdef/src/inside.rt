@@ -1,8 +1,8 @@
 //! How many sections are open within one that is plain text.
 
 ghost use Rattle.std.specs.Prelude.{◌≡◌, ◌<◌};
-ghost use Rattle.ud_model.specs.Scans.{Reading};
-ghost use Rattle.ud_model.specs.Tree.{Item};
+ghost use Rattle.ud_model.specs.text.Scans.{Reading};
+ghost use Rattle.ud_model.specs.sections.Tree.{Item};
 ghost use Rattle.unifdef.specs.Inside.{inside_with, opened, ended, inside_by, most};
 
 use crate::seen::Seen;

@@ -1,12 +1,11 @@
 //! The tool as a library: unifdef(1) over a reader and two writers.
 //!
-//! `tool` is the whole of it. Its words are read by `command_line` and `planning`; the text comes through `intake` into
-//! `held`, each line with what `reading` sees of it; `walk` gives each line its mark, `spoiled` looks for directives that
-//! can't be changed; `printing` prints what is left, or `listing` the names, and `messages` tells what is wrong.
+//! `tool` is the whole of it. Its words are read by ud_words; the text comes through `intake` into `held`, each line with
+//! what `reading` sees of it; `walk` gives each line its mark, `spoiled` looks for directives that can't be changed;
+//! `printing` prints what is left, or `listing` the names, and `messages` tells what is wrong.
 #![tactic(auto)]
 
 mod asked;
-mod command_line;
 mod emit;
 mod faults;
 mod groups;
@@ -16,10 +15,7 @@ mod intake;
 mod listing;
 mod mark;
 mod messages;
-mod options;
 mod outcome;
-mod planned;
-mod planning;
 mod printing;
 mod reading;
 mod refusals;
@@ -27,12 +23,9 @@ mod running;
 mod seen;
 mod shape;
 mod spoiled;
-mod usage;
 mod walk;
 mod watched;
 
-pub use planned::Plan;
-pub use planning::{input_of, plan};
 pub use running::tool;
-pub use usage::Usage;
+pub use ud_words::{Plan, Usage, input_of, plan};
 pub use watched::Watched;

@@ -1,12 +1,12 @@
 //! Listing the names of the lines that are held.
 
 ghost use Rattle.std.specs.Prelude.{◌≡◌, ◌≤◌, ◌<◌, ◌++◌, ◌∷◌, [], codes, length, take, false, not, List, ℕ};
-ghost use Rattle.ud_model.specs.Lines.{NoFeed, numbered_from};
-ghost use Rattle.ud_model.specs.Scans.{Reading};
-ghost use Rattle.ud_model.specs.Scanning.{next_reading, scan_after};
-ghost use Rattle.ud_model.specs.Directives.{content_of};
-ghost use Rattle.ud_model.specs.Items.{Options, mode_by};
-ghost use Rattle.ud_model.specs.Listing.{listed, listed_names, names_in_content};
+ghost use Rattle.ud_model.specs.text.Lines.{NoFeed, numbered_from};
+ghost use Rattle.ud_model.specs.text.Scans.{Reading};
+ghost use Rattle.ud_model.specs.text.Scanning.{next_reading, scan_after};
+ghost use Rattle.ud_model.specs.sections.Directives.{content_of};
+ghost use Rattle.ud_model.specs.sections.Items.{Options, mode_by};
+ghost use Rattle.ud_model.specs.answer.Listing.{listed, listed_names, names_in_content};
 ghost use Rattle.ud_model.specs.declared.limits.TheConstants.{LINE_BYTES, TEXT_LINES};
 ghost use Rattle.ud_text.specs.Carrying.{Carries};
 ghost use Rattle.ud_text.specs.Viewing.{as_line};

@@ -1,8 +1,8 @@
 //! The text of each fault, which ends in a line feed, and goes to the error stream alone.
 
 ghost use Rattle.std.specs.Prelude.{◌≡◌, false};
-ghost use Rattle.ud_model.specs.Messages.{about, about_line, message_of, read_error, write_error, out_of_memory};
-ghost use Rattle.ud_model.specs.Faults.{premature_eof};
+ghost use Rattle.ud_model.specs.answer.Messages.{about, about_line, message_of, read_error, write_error, out_of_memory};
+ghost use Rattle.ud_model.specs.sections.Faults.{premature_eof};
 ghost use Rattle.unifdef.specs.Told.{fault_told};
 ghost use Rattle.unifdef.specs.Watching.{Says};
 

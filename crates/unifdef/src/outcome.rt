@@ -2,7 +2,7 @@
 
 ghost use Rattle.std.specs.Prelude.{◌≡◌, ◌≢◌, ◌+◌, ◌<◌, ◌≤◌, length, Option, IfSome, [], false};
 ghost use Rattle.ud_model.specs.declared.limits.TheConstants.{TEXT_LINES};
-ghost use Rattle.ud_model.specs.Answer.{status_by, status_under};
+ghost use Rattle.ud_model.specs.answer.Answer.{status_by, status_under};
 ghost use Rattle.unifdef.specs.Ending.{outcome_by, stopped_by, at_end, message_told, status_told};
 ghost use Rattle.unifdef.specs.Told.{limit_fault, misplaced_by};
 ghost use Rattle.unifdef.specs.Walking.{BeginsBefore};
@@ -34,7 +34,7 @@ pub(crate) enum Outcome {
 
 /// What comes of a text of which so many lines were read, by why the walk over it stopped, if it did, what comes next
 /// behind it, whether a comment is open at the end, and why the reading stopped. Want of memory says nothing of a text.
-pub(crate) fn outcome_of(
+pub(crate) fn outcome_by(
     stop: Option<Stop>,
     next: Option<Shape>,
     count: u32,

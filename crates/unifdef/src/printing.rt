@@ -2,9 +2,9 @@
 
 ghost use Rattle.std.specs.Prelude.{◌≡◌, ◌≤◌, ◌-◌, ◌++◌, ◌∷◌, length, map, take, drop, false, not, is_none, List, ℕ, [], Option, IfSome, IfNone, IsTrue};
 ghost use Rattle.std.specs.List.{concat};
-ghost use Rattle.ud_model.specs.Lines.{numbered_from, is_ending, text_of};
-ghost use Rattle.ud_model.specs.Items.{Options};
-ghost use Rattle.ud_model.specs.Printing.{Judged, judged_lines, pieces_by, some_other};
+ghost use Rattle.ud_model.specs.text.Lines.{numbered_from, is_ending, text_of};
+ghost use Rattle.ud_model.specs.sections.Items.{Options};
+ghost use Rattle.ud_model.specs.answer.Printing.{Judged, judged_lines, pieces_by, some_other};
 ghost use Rattle.ud_model.specs.declared.limits.TheConstants.{TEXT_LINES};
 ghost use Rattle.unifdef.specs.Inside.{items_in};
 ghost use Rattle.unifdef.specs.Held.{Holds};

@@ -1,11 +1,11 @@
 //! What is kept of a line that was scanned.
 
 ghost use Rattle.std.specs.Prelude.{◌≡◌, ◌≤◌, length};
-ghost use Rattle.ud_model.specs.Scans.{Reading, is_spanning};
-ghost use Rattle.ud_model.specs.Directives.{content_of};
-ghost use Rattle.ud_model.specs.Directives as directives;
-ghost use Rattle.ud_model.specs.Conditions.{decision_on};
-ghost use Rattle.ud_model.specs.Items.{item_of, rules_of};
+ghost use Rattle.ud_model.specs.text.Scans.{Reading, is_spanning};
+ghost use Rattle.ud_model.specs.sections.Directives.{content_of};
+ghost use Rattle.ud_model.specs.sections.Directives as directives;
+ghost use Rattle.ud_model.specs.conditions.Conditions.{decision_on};
+ghost use Rattle.ud_model.specs.sections.Items.{item_of, rules_of};
 ghost use Rattle.ud_model.specs.declared.limits.TheConstants.{LINE_BYTES};
 ghost use Rattle.ud_cond.specs.Viewing.{as_decision, as_rules};
 ghost use Rattle.ud_sections.specs.Finding.{as_directive};

@@ -5,10 +5,10 @@ ghost use Rattle.unifdef.specs.Refusals.{refusal_text};
 ghost use Rattle.unifdef.specs.Watching.{Says};
 
 use crate::emit::{emit, emit_parts};
-use crate::usage::Usage;
 use crate::watched::Watched;
 use itoa::Buffer;
 use std::io::Write;
+use ud_words::Usage;
 
 /// Says what is wrong with the words, or that memory was refused. Where a write fails, a front of the message is written.
 pub(crate) fn report_refusal<E: Write>(err: &mut Watched<E>, usage: Usage)

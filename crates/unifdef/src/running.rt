@@ -1,18 +1,20 @@
 //! The tool: words, a text, what is left of it, and what is said of it.
 
-ghost use Rattle.std.specs.Prelude.{◌≡◌, ◌≢◌, ◌≤◌, ℕ, List, length, take, map, string_bytes, false, true, is_none, IfSome, Option, Some, None, ◌⊎◌};
-ghost use Rattle.ud_model.specs.Lines.{numbered_from};
-ghost use Rattle.ud_model.specs.Items.{Options};
-ghost use Rattle.ud_model.specs.Answer.{memory_answer};
-ghost use Rattle.ud_model.specs.Listing.{listed};
+ghost use Rattle.std.specs.Prelude.{◌≡◌, ◌≢◌, ◌≤◌, ℕ, List, length, take, map, string_bytes, false, true, is_none, IfSome, IsSome, Option, Some, None, ◌⊎◌};
+ghost use Rattle.ud_model.specs.text.Lines.{numbered_from};
+ghost use Rattle.ud_model.specs.sections.Items.{Options};
+ghost use Rattle.ud_model.specs.answer.Answer.{memory_answer};
+ghost use Rattle.ud_model.specs.answer.CommandLine.{given_in, usage_fault};
+ghost use Rattle.ud_model.specs.answer.Listing.{listed};
 ghost use Rattle.unifdef.specs.Counting.{counted};
 ghost use Rattle.ud_model.specs.declared.limits.TheConstants.{TEXT_LINES};
 ghost use Rattle.unifdef.specs.Asked.{options_by};
 ghost use Rattle.unifdef.specs.Inside.{items_in};
 ghost use Rattle.unifdef.specs.Held.{Holds};
 ghost use Rattle.unifdef.specs.Outcomes.{output_told, differs_told};
+ghost use Rattle.unifdef.specs.Refusals.{TellsUsage};
 ghost use Rattle.unifdef.specs.Shapes.{mark_of};
-ghost use Rattle.unifdef.specs.Gave.{Gave, GivesAnswer, GivesRun, HeldInput, Comes};
+ghost use Rattle.unifdef.specs.Gave.{Streams, streams, Gave, GivesAnswer, GivesRun, HeldInput, Comes};
 ghost use Rattle.unifdef.specs.Walking.{BeginsBefore, WalkEnds};
 ghost use Rattle.unifdef.specs.Watching.{Says};
 
@@ -23,8 +25,7 @@ use crate::intake::{End, read_text};
 use crate::listing::list_held;
 use crate::mark::Mark;
 use crate::messages::{report_out_of_memory, report_write_error};
-use crate::outcome::{Outcome, TROUBLE, outcome_of, tell};
-use crate::planning::{input_name, plan};
+use crate::outcome::{Outcome, TROUBLE, outcome_by, tell};
 use crate::printing::print_held;
 use crate::refusals::report_refusal;
 use crate::spoiled::first_spoiled;
@@ -34,6 +35,7 @@ use std::alloc::Global;
 use std::io::{Read, Write};
 use ud_model::{Listing, Settings};
 use ud_sections::Printer;
+use ud_words::{input_name, plan};
 
 /// Runs unifdef(1): reads the words, and the text from `reader`; prints what is left of it to `out`, and what is wrong
 /// with either to `err`; and answers the status.
@@ -43,7 +45,7 @@ use ud_sections::Printer;
 /// from 1, words too.
 ///
 /// Where memory isn't refused and neither `reader` nor `out` fails, what is appended to `out` and to `err` and the
-/// status are those of the one answer of the definitions (ud_model, specs/Answer.antt). `out` is flushed once at the end
+/// status are those of the one answer of the definitions (ud_model, specs/answer/Answer.antt). `out` is flushed once at the end
 /// of a run.
 ///
 /// # Errors
@@ -62,9 +64,16 @@ pub fn tool<R: Read, W: Write, E: Write>(
     requires out { out.old.failed ≡ false }
     requires err { err.old.failed ≡ false }
     // Where neither reading nor writing fails, this is the definition's answer, or memory was refused.
-    ensures headline { reader.new.failed ≡ false → out.new.failed ≡ false → IfSome (R.remaining reader.old.inner) (λ input.
-        GivesAnswer (map string_bytes words.now) input (W.contents out.old.inner) (W.contents out.new.inner) err.new.failed (E.contents err.old.inner) (E.contents err.new.inner) result
-        ⊎ Gave (W.contents out.old.inner) (W.contents out.new.inner) err.new.failed (E.contents err.old.inner) (E.contents err.new.inner) result memory_answer) }
+    ensures headline { let before : Streams = streams (W.contents out.old.inner) (E.contents err.old.inner) in
+        let after : Streams = streams (W.contents out.new.inner) (E.contents err.new.inner) in
+        reader.new.failed ≡ false → out.new.failed ≡ false → IfSome (R.remaining reader.old.inner) (λ input.
+        GivesAnswer (map string_bytes words.now) input before after err.new.failed result
+        ⊎ Gave before after err.new.failed result memory_answer) }
+    // At a fault of the words nothing is read, nothing is done with `out`, and the fault is told, or that memory for a
+    // symbol before it was refused.
+    ensures untouched { IsSome (usage_fault (map string_bytes words.now)) → (reader.new ≡ reader.old) × (out.new ≡ out.old) }
+    ensures refused { IfSome (usage_fault (map string_bytes words.now)) (λ fault.
+        TellsUsage (given_in (map string_bytes words.now)) fault err.new.failed (E.contents err.old.inner) (E.contents err.new.inner) result) }
     // A failing read or write has status 2.
     ensures read_fails { reader.new.failed ≡ true → result ≡ 2 }
     ensures write_fails { out.new.failed ≡ true → result ≡ 2 }
@@ -96,9 +105,11 @@ fn run<R: Read, W: Write, E: Write>(
     requires reader { reader.old.failed ≡ false }
     requires out { out.old.failed ≡ false }
     requires err { err.old.failed ≡ false }
-    ensures gives { reader.new.failed ≡ false → out.new.failed ≡ false → IfSome (R.remaining reader.old.inner) (λ input.
-        GivesRun (options_by asked.entry) asked.entry.name.now input (W.contents out.old.inner) (W.contents out.new.inner) err.new.failed (E.contents err.old.inner) (E.contents err.new.inner) result
-        ⊎ Gave (W.contents out.old.inner) (W.contents out.new.inner) err.new.failed (E.contents err.old.inner) (E.contents err.new.inner) result memory_answer) }
+    ensures gives { let before : Streams = streams (W.contents out.old.inner) (E.contents err.old.inner) in
+        let after : Streams = streams (W.contents out.new.inner) (E.contents err.new.inner) in
+        reader.new.failed ≡ false → out.new.failed ≡ false → IfSome (R.remaining reader.old.inner) (λ input.
+        GivesRun (options_by asked.entry) asked.entry.name.now input before after err.new.failed result
+        ⊎ Gave before after err.new.failed result memory_answer) }
     ensures read_fails { reader.new.failed ≡ true → result ≡ 2 }
     ensures write_fails { out.new.failed ≡ true → result ≡ 2 }
 {
@@ -124,9 +135,11 @@ fn finish<W: Write, E: Write>(
     requires err { err.old.failed ≡ false }
     requires count { length held.now.seen.items ≤ TEXT_LINES }
     requires lines { (o : Options) × (texts : List (List ℕ)) × Holds o held.now (numbered_from 1 texts) }
-    ensures gives { out.new.failed ≡ false → (input : List ℕ) → HeldInput (options_by asked.entry) input held.now end →
-        GivesRun (options_by asked.entry) asked.entry.name.now input (W.contents out.old.inner) (W.contents out.new.inner) err.new.failed (E.contents err.old.inner) (E.contents err.new.inner) result
-        ⊎ Gave (W.contents out.old.inner) (W.contents out.new.inner) err.new.failed (E.contents err.old.inner) (E.contents err.new.inner) result memory_answer }
+    ensures gives { let before : Streams = streams (W.contents out.old.inner) (E.contents err.old.inner) in
+        let after : Streams = streams (W.contents out.new.inner) (E.contents err.new.inner) in
+        out.new.failed ≡ false → (input : List ℕ) → HeldInput (options_by asked.entry) input held.now end →
+        GivesRun (options_by asked.entry) asked.entry.name.now input before after err.new.failed result
+        ⊎ Gave before after err.new.failed result memory_answer }
     ensures read_fails { end ≡ End.Failed → result ≡ 2 }
     ensures write_fails { out.new.failed ≡ true → result ≡ 2 }
 {
@@ -164,9 +177,11 @@ fn settle<W: Write, E: Write>(
     requires opener { IfSome stop (BeginsBefore (length walk.now.marks.items)) }
     requires text { IfSome stop (λ s. s ≢ Stop.OutOfMemory) }
     requires lines { (o : Options) × (texts : List (List ℕ)) × Holds o held.now (numbered_from 1 texts) }
-    ensures gives { out.new.failed ≡ false → (input : List ℕ) → (h : HeldInput (options_by asked.entry) input held.now end) →
+    ensures gives { let before : Streams = streams (W.contents out.old.inner) (E.contents err.old.inner) in
+        let after : Streams = streams (W.contents out.new.inner) (E.contents err.new.inner) in
+        out.new.failed ≡ false → (input : List ℕ) → (h : HeldInput (options_by asked.entry) input held.now end) →
         WalkEnds walk.now (items_in (options_by asked.entry) (numbered_from 1 h.texts)) stop →
-        GivesRun (options_by asked.entry) asked.entry.name.now input (W.contents out.old.inner) (W.contents out.new.inner) err.new.failed (E.contents err.old.inner) (E.contents err.new.inner) result }
+        GivesRun (options_by asked.entry) asked.entry.name.now input before after err.new.failed result }
     ensures read_fails { end ≡ End.Failed → result ≡ 2 }
     ensures write_fails { out.new.failed ≡ true → result ≡ 2 }
 {
@@ -178,7 +193,7 @@ fn settle<W: Write, E: Write>(
             conclude(held, &marks[..count], outcome, asked, out, err)
         }
         None => {
-            let outcome = outcome_of(stop, walk.next(), marks.len() as u32, held.in_comment, end);
+            let outcome = outcome_by(stop, walk.next(), marks.len() as u32, held.in_comment, end);
             conclude(held, marks, outcome, asked, out, err)
         }
     }
@@ -197,9 +212,11 @@ fn conclude<W: Write, E: Write>(
     requires err { err.old.failed ≡ false }
     requires count { length held.now.seen.items ≤ TEXT_LINES }
     requires lines { (o : Options) × (texts : List (List ℕ)) × Holds o held.now (numbered_from 1 texts) }
-    ensures gives { out.new.failed ≡ false → (input : List ℕ) → (texts : List (List ℕ)) → Holds (options_by asked.entry) held.now (numbered_from 1 texts) →
+    ensures gives { let before : Streams = streams (W.contents out.old.inner) (E.contents err.old.inner) in
+        let after : Streams = streams (W.contents out.new.inner) (E.contents err.new.inner) in
+        out.new.failed ≡ false → (input : List ℕ) → (texts : List (List ℕ)) → Holds (options_by asked.entry) held.now (numbered_from 1 texts) →
         Comes (options_by asked.entry) asked.entry.name.now input (numbered_from 1 texts) (map mark_of marks.now) outcome →
-        GivesRun (options_by asked.entry) asked.entry.name.now input (W.contents out.old.inner) (W.contents out.new.inner) err.new.failed (E.contents err.old.inner) (E.contents err.new.inner) result }
+        GivesRun (options_by asked.entry) asked.entry.name.now input before after err.new.failed result }
     ensures fault { outcome ≢ Outcome.Done → result ≡ 2 }
     ensures write_fails { out.new.failed ≡ true → result ≡ 2 }
 {

@@ -1,8 +1,8 @@
 //! Directives that span lines and would have to be changed.
 
 ghost use Rattle.std.specs.Prelude.{◌≡◌, false};
-ghost use Rattle.ud_model.specs.Faults.{keeps_rest};
-ghost use Rattle.ud_model.specs.Pruning.{is_removed};
+ghost use Rattle.ud_model.specs.sections.Faults.{keeps_rest};
+ghost use Rattle.ud_model.specs.sections.Pruning.{is_removed};
 ghost use Rattle.unifdef.specs.Spoiled.{is_directive_shape, is_spoiled_by, spoiled_from};
 
 use crate::mark::Mark;

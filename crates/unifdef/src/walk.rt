@@ -4,9 +4,9 @@
 //! an `#if`, groups behind `#elif`, perhaps one behind `#else`, and an `#endif`.
 
 ghost use Rattle.std.specs.Prelude.{◌≡◌, ◌+◌, ◌<◌, ◌≤◌, ℕ, suc, List, [], length, true, false, IsTrue, IfErr, OnOk, ◌∷◌, ◌++◌, Some, None};
-ghost use Rattle.ud_model.specs.Scans.{Reading};
-ghost use Rattle.ud_model.specs.Tree.{Item};
-ghost use Rattle.ud_model.specs.Pruning.{marked};
+ghost use Rattle.ud_model.specs.text.Scans.{Reading};
+ghost use Rattle.ud_model.specs.sections.Tree.{Item};
+ghost use Rattle.ud_model.specs.sections.Pruning.{marked};
 ghost use Rattle.ud_model.specs.declared.cond.Cond.{Cond};
 ghost use Rattle.unifdef.specs.Parts.{part_of};
 ghost use Rattle.unifdef.specs.Shapes.{AreSeen, starts_whole, starts_with_closer, first_shape, code_mark};

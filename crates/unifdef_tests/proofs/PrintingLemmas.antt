@@ -2,8 +2,8 @@
 use Rattle.std.proofs.Common.{◌≡◌, ◌∙◌, ◌+◌, ◌<◌, ℕ, List, [], ◌∷◌, ◌++◌, length, map, drop, get_or, Bool, true, false, not, ◌||◌, ◌&&◌, bytes_eq, refl, ap, append_assoc}
 use Rattle.std.specs.List.{concat}
 use Rattle.std.proofs.lemmas.List.{at_drop_more}
-use Rattle.ud_model.specs.Lines.{text_of}
-use Rattle.ud_model.specs.Printing.{Judged, pieces_by, some_other}
+use Rattle.ud_model.specs.text.Lines.{text_of}
+use Rattle.ud_model.specs.answer.Printing.{Judged, pieces_by, some_other}
 use Rattle.unifdef_tests.specs.Ruling.{judged_of}
 use Rattle.unifdef_tests.specs.declared.printing.Ruled.{Ruled}
 

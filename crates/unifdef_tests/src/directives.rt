@@ -1,7 +1,7 @@
 //! Directives of a first line.
 
 ghost use Rattle.std.specs.Prelude.{◌≤◌, length};
-ghost use Rattle.ud_model.specs.Lines.{NoFeed};
+ghost use Rattle.ud_model.specs.text.Lines.{NoFeed};
 ghost use Rattle.ud_model.specs.declared.limits.TheConstants.{LINE_BYTES};
 
 use std::process::Abort;

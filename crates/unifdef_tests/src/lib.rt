@@ -3,9 +3,13 @@
 #![tactic(auto)]
 
 #[cfg(test)]
+mod calls;
+#[cfg(test)]
 mod command_line;
 #[cfg(test)]
 mod conditions;
+#[cfg(test)]
+mod counted;
 #[cfg(test)]
 mod deciding;
 #[cfg(test)]
@@ -22,6 +26,7 @@ mod lines;
 mod listing;
 #[cfg(test)]
 mod machines;
+mod passing;
 #[cfg(test)]
 mod plain;
 #[cfg(test)]
@@ -31,6 +36,8 @@ mod printed;
 #[cfg(test)]
 mod printers;
 mod printing;
+#[cfg(test)]
+mod rereading;
 #[cfg(test)]
 mod scanning;
 #[cfg(test)]

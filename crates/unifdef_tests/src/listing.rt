@@ -1,7 +1,7 @@
 //! Names: of first lines, what stands before them, and lists of the tool.
 
 ghost use Rattle.std.specs.Prelude.{◌≤◌, length};
-ghost use Rattle.ud_model.specs.Lines.{NoFeed};
+ghost use Rattle.ud_model.specs.text.Lines.{NoFeed};
 ghost use Rattle.ud_model.specs.declared.limits.TheConstants.{LINE_BYTES};
 
 use crate::worked::check;

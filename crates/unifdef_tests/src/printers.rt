@@ -1,7 +1,7 @@
 //! Printers: what each prints of lines with verdicts, called by what the trait says alone.
 
 ghost use Rattle.std.specs.Prelude.{All, IsTrue};
-ghost use Rattle.ud_model.specs.Lines.{is_ending};
+ghost use Rattle.ud_model.specs.text.Lines.{is_ending};
 ghost use Rattle.ud_sections.specs.Showing.{IsWithin};
 ghost use Rattle.unifdef_tests.specs.Ruling.{HoldsItsKeyword};
 

@@ -1,7 +1,7 @@
 //! Lines read by a scanner and a machine, held against what becomes of them.
 
 ghost use Rattle.std.specs.Prelude.{IsTrue};
-ghost use Rattle.ud_model.specs.Lines.{NoFeed};
+ghost use Rattle.ud_model.specs.text.Lines.{NoFeed};
 
 use crate::worked::owned;
 use memchr::memchr;

@@ -95,7 +95,7 @@ pub(crate) fn owned(alloc: Global, words: &[&str]) -> Result<Vec<String>, AllocE
 }
 
 /// A message with its line feed; nothing where there is none.
-fn with_feed(alloc: Global, message: &str) -> Result<Vec<u8>, AllocError> {
+pub(crate) fn with_feed(alloc: Global, message: &str) -> Result<Vec<u8>, AllocError> {
     let mut bytes = Vec::new(alloc);
     if !message.is_empty() {
         bytes.extend_from_slice(message.as_bytes())?;

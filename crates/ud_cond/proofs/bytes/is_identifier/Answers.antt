@@ -1,7 +1,7 @@
 use Rattle.std.proofs.Common.{rules, tests, ◌∙◌, ◌≡◌, sym}
 use Rattle.std.proofs.lemmas.Iterator.{YieldsList-from_slice}
 use Rattle.std.proofs.lemmas.Iterator.Search.{all_from_yields_List}
-use Rattle.ud_model.specs.Bytes.{is_word_byte, are_word_bytes}
+use Rattle.ud_model.specs.text.Bytes.{is_word_byte, are_word_bytes}
 use Rattle.ud_cond.proofs.ByteLemmas.{list_all-word, is_identifier-first}
 use Rattle.ud_cond.proofs.bytes.is_identifier.Goals as goal
 

@@ -1,5 +1,5 @@
 use Rattle.std.proofs.Common.{◌≡◌, length}
-use Rattle.ud_model.specs.Bytes.{past_white}
+use Rattle.ud_model.specs.text.Bytes.{past_white}
 use Rattle.ud_cond.proofs.bytes.past_white.Given as goal
 
 abbrev pub invariant-loop-first : goal.invariant-loop-first

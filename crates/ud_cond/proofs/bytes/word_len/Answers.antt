@@ -1,7 +1,7 @@
 use Rattle.std.proofs.Common.{rules, tests, ◌≡◌, ◌∙◌, not, length, unwrap_or, ap}
 use Rattle.std.proofs.lemmas.Iterator.{YieldsList-from_slice}
 use Rattle.std.proofs.lemmas.Iterator.Search.{position_from_yields_List}
-use Rattle.ud_model.specs.Bytes.{is_word_byte}
+use Rattle.ud_model.specs.text.Bytes.{is_word_byte}
 use Rattle.ud_cond.proofs.ByteLemmas.{front_len, unwrap_or-position, take-front_len, drop-front_len}
 use Rattle.ud_cond.proofs.bytes.word_len.Goals as goal
 use Rattle.ud_cond.proofs.bytes.word_len.Goals.{After-unwrap_or}

@@ -1,5 +1,5 @@
 use Rattle.std.proofs.Common.{◌≡◌, length, map}
-use Rattle.ud_model.specs.Constants.{is_among}
+use Rattle.ud_model.specs.conditions.Constants.{is_among}
 use Rattle.ud_cond.proofs.constants.is_among.Given as goal
 
 abbrev pub invariant-words : goal.invariant-words

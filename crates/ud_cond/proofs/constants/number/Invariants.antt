@@ -1,5 +1,5 @@
 use Rattle.std.proofs.Common.{◌≡◌, length}
-use Rattle.ud_model.specs.Constants.{continued}
+use Rattle.ud_model.specs.conditions.Constants.{continued}
 use Rattle.ud_cond.specs.Viewing.{base_of}
 use Rattle.ud_cond.proofs.constants.number.Given as goal
 

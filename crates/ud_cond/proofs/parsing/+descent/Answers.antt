@@ -1,7 +1,7 @@
 use Rattle.std.proofs.Common.{◌≡◌, ◌∙◌, sym, ◌<◌, length, arith}
-use Rattle.ud_model.specs.Tokens.{found, next_token, operator, opening}
+use Rattle.ud_model.specs.conditions.Tokens.{found, next_token, operator, opening}
 use Rattle.ud_cond.specs.Worth.{worth_in}
-use Rattle.ud_model.proofs.TokenLemmas.{shorter}
+use Rattle.ud_model.proofs.conditions.TokenLemmas.{shorter}
 use Rattle.ud_cond.proofs.DescentLemmas as step
 use Rattle.ud_cond.proofs.parsing.+descent.Goals as goal
 

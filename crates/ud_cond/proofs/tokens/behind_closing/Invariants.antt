@@ -1,5 +1,5 @@
 use Rattle.std.proofs.Common.{◌≡◌, ◌≤◌, ◌+◌, length}
-use Rattle.ud_model.specs.Tokens.{behind_closing}
+use Rattle.ud_model.specs.conditions.Tokens.{behind_closing}
 use Rattle.ud_cond.proofs.tokens.behind_closing.Given as goal
 
 abbrev pub invariant-inside : goal.invariant-inside

@@ -1,6 +1,6 @@
 -- By the size of a piece, which the text decides.
-use Rattle.ud_model.proofs.CutLemmas.{cut_cells, cut_unique}
-use Rattle.ud_model.proofs.CutExists.{cut_exists}
+use Rattle.ud_model.proofs.text.CutLemmas.{cut_cells, cut_unique}
+use Rattle.ud_model.proofs.text.CutExists.{cut_exists}
 use Rattle.ud_model.proofs.laws.law_cut.Goals as goal
 
 pub returns-clause-exists : goal.returns-clause-exists

@@ -1,5 +1,5 @@
 -- The computed tree is the one for which the text is written.
-use Rattle.ud_model.proofs.DecidedConditions.{cond_of_tree, cond_without_tree, names_of_tree, names_without_tree}
+use Rattle.ud_model.proofs.conditions.DecidedConditions.{cond_of_tree, cond_without_tree, names_of_tree, names_without_tree}
 use Rattle.ud_model.proofs.laws.law_expression_cond.Goals as goal
 
 pub returns-clause-cond : goal.returns-clause-cond

@@ -1,5 +1,5 @@
 -- The lines before the fault are the first lines of every longer text.
-use Rattle.ud_model.proofs.FaultStays.{fault_stays}
+use Rattle.ud_model.proofs.sections.FaultStays.{fault_stays}
 use Rattle.ud_model.proofs.laws.law_fault_stays.Goals as goal
 
 pub returns : goal.returns

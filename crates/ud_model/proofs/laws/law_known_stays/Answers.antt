@@ -1,6 +1,6 @@
 -- By the way in which the C value comes about.
-use Rattle.ud_model.proofs.DecidedConditions.{yes_is_true, no_is_false}
-use Rattle.ud_model.proofs.KnownStays.{known_stays}
+use Rattle.ud_model.proofs.conditions.DecidedConditions.{yes_is_true, no_is_false}
+use Rattle.ud_model.proofs.conditions.KnownStays.{known_stays}
 use Rattle.ud_model.proofs.laws.law_known_stays.Goals as goal
 
 pub returns-clause-value : goal.returns-clause-value

@@ -1,5 +1,5 @@
 -- The lines of a text are its whole lines and its rest.
-use Rattle.ud_model.proofs.LinesLemmas.{lines_exist, lines_are}
+use Rattle.ud_model.proofs.text.LinesLemmas.{lines_exist, lines_are}
 use Rattle.ud_model.proofs.laws.law_lines.Goals as goal
 
 pub returns-clause-exists : goal.returns-clause-exists

@@ -1,6 +1,6 @@
 -- By the lemmas over lines of any type.
 use Rattle.std.proofs.Common.{true}
-use Rattle.ud_model.proofs.Stays.{marks_so_far_same, marks_stay}
+use Rattle.ud_model.proofs.sections.Stays.{marks_so_far_same, marks_stay}
 use Rattle.ud_model.proofs.laws.law_marks_stay.Goals as goal
 
 pub returns-clause-table : goal.returns-clause-table

@@ -1,5 +1,5 @@
 -- A text has one run at most, and the answer follows from it.
-use Rattle.ud_model.proofs.Soundness.{one_answer}
+use Rattle.ud_model.proofs.sections.Soundness.{one_answer}
 use Rattle.ud_model.proofs.laws.law_one_answer.Goals as goal
 
 pub returns : goal.returns

@@ -1,5 +1,5 @@
 -- What is read is written so, and what is written is read so.
-use Rattle.ud_model.proofs.OneExpression.{one_expression, expression_only, expression_is}
+use Rattle.ud_model.proofs.conditions.OneExpression.{one_expression, expression_only, expression_is}
 use Rattle.ud_model.proofs.laws.law_one_expression.Goals as goal
 
 pub returns-clause-only : goal.returns-clause-only

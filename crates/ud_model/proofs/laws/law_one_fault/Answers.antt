@@ -1,5 +1,5 @@
 -- By the lemmas on the order of the cases.
-use Rattle.ud_model.proofs.Soundness.{one_fault, sound_or_faulty}
+use Rattle.ud_model.proofs.sections.Soundness.{one_fault, sound_or_faulty}
 use Rattle.ud_model.proofs.laws.law_one_fault.Goals as goal
 
 pub returns-clause-one : goal.returns-clause-one

@@ -1,5 +1,5 @@
 -- By the lemma over lines of any type.
-use Rattle.ud_model.proofs.Unique.{unique}
+use Rattle.ud_model.proofs.sections.Unique.{unique}
 use Rattle.ud_model.proofs.laws.law_one_tree.Goals as goal
 
 pub returns : goal.returns

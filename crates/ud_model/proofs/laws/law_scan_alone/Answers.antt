@@ -1,5 +1,5 @@
 -- Behind such a line the joined text leaves off between pieces.
-use Rattle.ud_model.proofs.ScanLaws.{scan_alone, readings_alone}
+use Rattle.ud_model.proofs.text.ScanLaws.{scan_alone, readings_alone}
 use Rattle.ud_model.proofs.laws.law_scan_alone.Goals as goal
 
 pub returns-clause-line : goal.returns-clause-line

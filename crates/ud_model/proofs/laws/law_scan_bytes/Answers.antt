@@ -1,5 +1,5 @@
 -- The cells of a text have its bytes.
-use Rattle.ud_model.proofs.ScanBytes.{masked-own_cells, bytes-own_cells, length-masked, content-front}
+use Rattle.ud_model.proofs.text.ScanBytes.{masked-own_cells, bytes-own_cells, length-masked, content-front}
 use Rattle.ud_model.proofs.laws.law_scan_bytes.Goals as goal
 
 pub returns-clause-shows : goal.returns-clause-shows

@@ -1,5 +1,5 @@
 -- Readings are added behind those before.
-use Rattle.ud_model.proofs.ScanLaws.{readings_grow}
+use Rattle.ud_model.proofs.text.ScanLaws.{readings_grow}
 use Rattle.ud_model.proofs.laws.law_scans_stay.Goals as goal
 
 pub returns : goal.returns

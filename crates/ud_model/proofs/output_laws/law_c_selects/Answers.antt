@@ -1,5 +1,5 @@
 -- A world that C may give the input agrees with what is decided.
-use Rattle.ud_model.proofs.RereadLaws.{c_selected_again, conditions_same, c_world_again}
+use Rattle.ud_model.proofs.output.RereadLaws.{c_selected_again, conditions_same, c_world_again}
 use Rattle.ud_model.proofs.output_laws.law_c_selects.Goals as goal
 
 pub returns-clause-selected : goal.returns-clause-selected

@@ -1,5 +1,5 @@
 -- Lines are as long as before, or the text gets shorter.
-use Rattle.ud_model.proofs.Changed.{changed}
+use Rattle.ud_model.proofs.output.Changed.{changed}
 use Rattle.ud_model.proofs.output_laws.law_changed.Goals as goal
 
 pub returns : goal.returns

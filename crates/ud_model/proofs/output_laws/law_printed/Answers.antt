@@ -1,5 +1,5 @@
 -- By the stage of each section.
-use Rattle.ud_model.proofs.PrintedPruned.{printed-pruned}
+use Rattle.ud_model.proofs.output.PrintedPruned.{printed-pruned}
 use Rattle.ud_model.proofs.output_laws.law_printed.Goals as goal
 
 pub returns : goal.returns

@@ -1,5 +1,5 @@
 -- The output has the pruned tree.
-use Rattle.ud_model.proofs.RereadLaws.{selected_again, truths_kept}
+use Rattle.ud_model.proofs.output.RereadLaws.{selected_again, truths_kept}
 use Rattle.ud_model.proofs.output_laws.law_selected.Goals as goal
 
 pub returns-clause-truths : goal.returns-clause-truths

@@ -1,6 +1,6 @@
 -- By what is left of the groups so far.
 use Rattle.std.proofs.Common.{sym}
-use Rattle.ud_model.proofs.SelectedPruned.{selected-pruned}
+use Rattle.ud_model.proofs.output.SelectedPruned.{selected-pruned}
 use Rattle.ud_model.proofs.output_laws.law_selected_tree.Goals as goal
 
 pub returns : goal.returns

@@ -2,7 +2,7 @@
 use Rattle.std.proofs.Common.{rules, tests, ◌∙◌, length, unwrap_or, ap}
 use Rattle.std.proofs.lemmas.Iterator.{YieldsList-from_slice}
 use Rattle.std.proofs.lemmas.Iterator.Search.{position_from_yields_List}
-use Rattle.ud_model.specs.Bytes.{is_mark}
+use Rattle.ud_model.specs.text.Bytes.{is_mark}
 use Rattle.ud_text.proofs.MarkLemmas.{unwrap_or-position}
 use Rattle.ud_text.proofs.marks.first_mark.Goals as goal
 

@@ -1,6 +1,6 @@
 -- A run and a byte more are read.
 use Rattle.std.proofs.Common.{◌+◌, ◌++◌, sym, ap, refl, append-nil, arith, take_all, length}
-use Rattle.ud_model.proofs.ScanLemmas.{Masks-start}
+use Rattle.ud_model.proofs.text.ScanLemmas.{Masks-start}
 use Rattle.ud_text.proofs.RunLemmas.{Masks-same, run_read, byte_read, no_feed-take, no_feed-drop}
 use Rattle.ud_text.proofs.masking.mask_content.Goals as goal
 

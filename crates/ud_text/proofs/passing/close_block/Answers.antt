@@ -1,19 +1,19 @@
--- By what stands behind the star.
+-- By the byte after the star.
 use Rattle.std.proofs.Common.{arith}
-use Rattle.ud_text.proofs.RanLemmas.{passed_of}
-use Rattle.ud_text.proofs.StepLemmas.{closed_ran, free_front}
+use Rattle.ud_text.proofs.ProgressLemmas.{passed_of}
+use Rattle.ud_text.proofs.StepLemmas.{closed_read, free_front}
 use Rattle.ud_text.proofs.passing.close_block.Goals as goal
 
-pub hold_block-line-requires-clause-free : goal.hold_block-line-requires-clause-free
-hold_block-line-requires-clause-free c = free_front c.args.lines.now c.args.at c.first_pair-count.result c.first_pair-count.ensures.free
+pub last_line_in_block-last-requires-clause-inside : goal.last_line_in_block-last-requires-clause-inside
+last_line_in_block-last-requires-clause-inside c = free_front c.args.lines.now c.args.at c.first_pair-count.result c.first_pair-count.ensures.before
 
-pub returns-then-count-rest-clause-ran : goal.returns-then-count-rest-clause-ran
-returns-then-count-rest-clause-ran c = λ w was r. passed_of (c.hold_block-line.ensures.ran w was r).1
+pub returns-then-count-rest-clause-read : goal.returns-then-count-rest-clause-read
+returns-then-count-rest-clause-read c = λ start r. passed_of (c.last_line_in_block-last.ensures.read start r).1
 
-pub returns-clause-ran : goal.returns-clause-ran
-returns-clause-ran c = λ w was r. passed_of (c.hold_block-line.ensures.ran w was r).1
+pub returns-clause-read : goal.returns-clause-read
+returns-clause-read c = λ start r. passed_of (c.last_line_in_block-last.ensures.read start r).1
 
-pub returns-then-rest-count-eq47-clause-ran : goal.returns-then-rest-count-eq47-clause-ran
-returns-then-rest-count-eq47-clause-ran c = λ w was r.
-    closed_ran c.args.at c.first_pair-count.result (c.hold_block-line.ensures.ran w was r).0 c.args.white (c.hold_block-line.ensures.ran w was r).1
-    (c.first_pair-count.ensures.star (omega arith)).0 (c.first_pair-count.ensures.star (omega arith)).1 c.if-rest-count-eq47.true
+pub returns-then-rest-count-eq47-clause-read : goal.returns-then-rest-count-eq47-clause-read
+returns-then-rest-count-eq47-clause-read c = λ start r.
+    closed_read c.args.at c.first_pair-count.result (c.last_line_in_block-last.ensures.read start r).0 c.args.white (c.last_line_in_block-last.ensures.read start r).1
+    (c.first_pair-count.ensures.whole (omega arith)) (c.first_pair-count.ensures.found (omega arith)) c.if-rest-count-eq47.true

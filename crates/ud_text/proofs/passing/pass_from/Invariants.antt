@@ -1,13 +1,13 @@
 -- The bytes up to the place are read.
-use Rattle.std.proofs.Common.{◌-◌, length, Bool}
-use Rattle.ud_model.specs.Places.{Place}
-use Rattle.ud_text.specs.Along.{Placed, RanBy}
+use Rattle.std.proofs.Common.{◌-◌, length}
+use Rattle.ud_text.specs.Progress.{InOrder, ReadBy}
+use Rattle.ud_text.specs.States.{State}
 use Rattle.ud_text.proofs.passing.pass_from.Given as goal
 
 abbrev pub invariant-loop-p : goal.invariant-loop-p
 invariant-loop-p l = record {
-  placed : Placed l.p l.lines;
-  ran : (w : Place) (white : Bool) → RanBy w white l.lines l.fn.start → RanBy w white l.lines l.p;
+  order : InOrder l.p l.lines;
+  read : (start : State) → ReadBy start l.lines l.fn.begun → ReadBy start l.lines l.p;
 }
 
 abbrev pub decreases-loop-p : goal.decreases-loop-p

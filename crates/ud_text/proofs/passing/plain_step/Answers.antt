@@ -1,5 +1,6 @@
-use Rattle.ud_text.proofs.StepLemmas.{plain_step_ran}
+-- Up to the first byte that may matter.
+use Rattle.ud_text.proofs.StepLemmas.{plain_step_read}
 use Rattle.ud_text.proofs.passing.plain_step.Goals as goal
 
-pub returns-clause-ran : goal.returns-clause-ran
-returns-clause-ran c = λ w white r. plain_step_ran r c.first_special.result c.first_special.ensures.value
+pub returns-clause-read : goal.returns-clause-read
+returns-clause-read c = λ start r. plain_step_read r c.first_special.result c.first_special.ensures.value

@@ -1,10 +1,11 @@
-use Rattle.ud_text.specs.Running.{text_at}
-use Rattle.ud_text.proofs.StepLemmas.{text_step_ran}
-use Rattle.ud_text.proofs.RanLemmas.{passed_of}
+-- The span is read; without one, the lines before the last one that begins are passed.
+use Rattle.ud_text.specs.States.{text_state}
+use Rattle.ud_text.proofs.StepLemmas.{text_step_read}
+use Rattle.ud_text.proofs.ProgressLemmas.{passed_of}
 use Rattle.ud_text.proofs.passing.text_step.Goals as goal
 
-pub returns-in-None-clause-ran : goal.returns-in-None-clause-ran
-returns-in-None-clause-ran c = λ w white r. passed_of (c.settle.ensures.ran w white (text_at r.now_white) r.run)
+pub returns-in-None-clause-read : goal.returns-in-None-clause-read
+returns-in-None-clause-read c = λ start r. passed_of (c.last_line.ensures.read start (text_state r.now_white) r.so_far)
 
-pub returns-in-Some-clause-ran : goal.returns-in-Some-clause-ran
-returns-in-Some-clause-ran c = λ w white r. text_step_ran r c.in-Some.count c.in-Some.ensures.bound.1 c.in-Some.ensures.ran
+pub returns-in-Some-clause-read : goal.returns-in-Some-clause-read
+returns-in-Some-clause-read c = λ start r. text_step_read r c.in-Some.count c.in-Some.ensures.bound.1 c.in-Some.ensures.read

@@ -1,10 +1,10 @@
 -- What is carried over the line, and what is seen of it, by the place at which its content leaves off.
 use Rattle.std.proofs.Common.{◌≡◌, ◌∙◌, sym, ap, ap₂, refl, subst, List, ℕ, Bool, true, false, ◌||◌, ◌++◌, length}
-use Rattle.ud_model.specs.Lines.{NoFeed}
-use Rattle.ud_model.specs.Scans.{Reading}
-use Rattle.ud_model.specs.Splicing.{is_spliced, content, joined, run_of}
-use Rattle.ud_model.specs.Scanning.{is_block, comment_at}
-use Rattle.ud_model.specs.Places.{Place, Masks, place_kind, fresh_at}
+use Rattle.ud_model.specs.text.Lines.{NoFeed}
+use Rattle.ud_model.specs.text.Scans.{Reading}
+use Rattle.ud_model.specs.text.Splicing.{is_spliced, content, joined, run_of}
+use Rattle.ud_model.specs.text.Scanning.{is_block, comment_at}
+use Rattle.ud_model.specs.aids.Places.{Place, Masks, place_kind, fresh_at}
 use Rattle.ud_text.specs.Viewing.{as_line, place_of}
 use Rattle.ud_text.specs.Carrying.{Carries, carried_by}
 use Rattle.ud_text.proofs.CarryLemmas.{carries_code, scan_carried, same_parts, no_feed-content}

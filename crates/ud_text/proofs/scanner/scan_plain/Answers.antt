@@ -1,6 +1,6 @@
 -- Nothing is carried over the line.
 use Rattle.std.proofs.Common.{◌++◌, ◌∷◌, [], sym, subst}
-use Rattle.ud_model.specs.Scanning.{next_reading}
+use Rattle.ud_model.specs.text.Scanning.{next_reading}
 use Rattle.ud_model.specs.declared.kind.Mode.TheVariants.{Plain}
 use Rattle.ud_text.specs.Viewing.{as_line}
 use Rattle.ud_text.specs.Carrying.{Carried, Carries}

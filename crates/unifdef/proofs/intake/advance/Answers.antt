@@ -1,6 +1,6 @@
 use Rattle.std.proofs.Common.{◌∷◌, [], sym, ◌≡◌, List, ℕ, ◌++◌, take, suc, rules, Option, IfNone, subst}
 use Rattle.unifdef.specs.Asked.{options_by}
-use Rattle.ud_model.specs.Lines.{Line, numbered_from, whole_lines}
+use Rattle.ud_model.specs.text.Lines.{Line, numbered_from, whole_lines}
 use Rattle.unifdef.specs.Held.{Holds, IsReadable}
 use Rattle.ud_text.specs.Holding.{Refuses}
 use Rattle.ud_text.specs.declared.fault.TextFault.{TextFault}

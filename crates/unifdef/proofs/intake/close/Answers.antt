@@ -1,7 +1,7 @@
 use Rattle.std.proofs.Common.{◌≤◌, length, ◌∷◌, [], ◌++◌, ◌∙◌, suc, refl, sym, ap, rules, subst}
 use Rattle.unifdef.specs.Asked.{options_by}
 use Rattle.unifdef.specs.Held.{Holds, IsReadable}
-use Rattle.ud_model.specs.Lines.{Line, line_at, numbered_from, whole_lines}
+use Rattle.ud_model.specs.text.Lines.{Line, line_at, numbered_from, whole_lines}
 use Rattle.ud_text.specs.Holding.{Holding}
 use Rattle.ud_model.specs.declared.limits.TheConstants.{LINE_BYTES}
 use Rattle.unifdef.proofs.IntakeLemmas.{readable_rest, fed_ended, fed_last}

@@ -1,5 +1,5 @@
 use Rattle.std.proofs.Common.{rules, ◌<◌, map, length, refl, ap, ◌∙◌, inl, inr, arith}
-use Rattle.ud_model.specs.Items.{reading_of}
+use Rattle.ud_model.specs.sections.Items.{reading_of}
 use Rattle.unifdef.specs.Inside.{most}
 use Rattle.unifdef.proofs.PrintLemmas.{one_empty}
 use Rattle.unifdef.proofs.CuttingLemmas.{Parts}

@@ -1,7 +1,7 @@
 use Rattle.std.proofs.Common.{◌≡◌, ◌≤◌, ◌+◌, length, take, false, List, ℕ}
-use Rattle.ud_model.specs.Lines.{numbered_from}
-use Rattle.ud_model.specs.Items.{Options}
-use Rattle.ud_model.specs.Listing.{listed}
+use Rattle.ud_model.specs.text.Lines.{numbered_from}
+use Rattle.ud_model.specs.sections.Items.{Options}
+use Rattle.ud_model.specs.answer.Listing.{listed}
 use Rattle.ud_model.specs.declared.limits.TheConstants.{TEXT_LINES}
 use Rattle.unifdef.specs.Counting.{counted}
 use Rattle.unifdef.specs.Held.{Holds}

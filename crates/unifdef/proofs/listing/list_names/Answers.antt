@@ -1,5 +1,5 @@
 use Rattle.std.proofs.Common.{rules, sym, subst}
-use Rattle.ud_model.specs.Listing.{listed_names}
+use Rattle.ud_model.specs.answer.Listing.{listed_names}
 use Rattle.unifdef.proofs.WatchingLemmas.{Sent, sent_none}
 use Rattle.unifdef.proofs.ListingLemmas.{name_sent, name_fails, names_end}
 use Rattle.unifdef.proofs.listing.list_names.Goals as goal

@@ -1,5 +1,5 @@
 use Rattle.std.proofs.Common.{◌≡◌, false}
-use Rattle.ud_model.specs.Listing.{listed_names}
+use Rattle.ud_model.specs.answer.Listing.{listed_names}
 use Rattle.unifdef.proofs.WatchingLemmas.{Sent}
 use Rattle.unifdef.proofs.listing.list_names.Given as goal
 

@@ -1,4 +1,4 @@
-use Rattle.ud_model.specs.Messages.{about}
+use Rattle.ud_model.specs.answer.Messages.{about}
 use Rattle.unifdef.proofs.WatchingLemmas.{says_same}
 use Rattle.unifdef.proofs.MessageLemmas.{about_joined}
 use Rattle.unifdef.proofs.messages.report_on.Goals as goal

@@ -1,8 +1,8 @@
 use Rattle.std.proofs.Common.{◌≡◌, ◌≤◌, ◌+◌, length, map, false, List, ℕ, []}
 use Rattle.std.specs.List.{concat}
-use Rattle.ud_model.specs.Lines.{numbered_from}
-use Rattle.ud_model.specs.Items.{Options}
-use Rattle.ud_model.specs.Printing.{Judged, judged_lines, pieces_by, some_other}
+use Rattle.ud_model.specs.text.Lines.{numbered_from}
+use Rattle.ud_model.specs.sections.Items.{Options}
+use Rattle.ud_model.specs.answer.Printing.{Judged, judged_lines, pieces_by, some_other}
 use Rattle.ud_model.specs.declared.limits.TheConstants.{TEXT_LINES}
 use Rattle.unifdef.specs.Inside.{items_in}
 use Rattle.unifdef.specs.Held.{Holds}

@@ -1,6 +1,6 @@
 use Rattle.std.proofs.Common.{length, subst, arith}
-use Rattle.ud_model.specs.Directives.{Content}
-use Rattle.ud_model.proofs.KeywordLies.{Lies, content_lies}
+use Rattle.ud_model.specs.sections.Directives.{Content}
+use Rattle.ud_model.proofs.sections.KeywordLies.{Lies, content_lies}
 use Rattle.ud_text.specs.Viewing.{as_scan}
 use Rattle.unifdef.proofs.reading.decide.Goals as goal
 

@@ -1,5 +1,5 @@
 use Rattle.std.proofs.Common.{rules, ◌≡◌, ◌<◌, ◌+◌, List, false, length, take, map, sym, ap, ◌∙◌, subst, ap₂, Some, None, arith}
-use Rattle.ud_model.specs.Lines.{numbered_from}
+use Rattle.ud_model.specs.text.Lines.{numbered_from}
 use Rattle.unifdef.specs.Asked.{options_by}
 use Rattle.unifdef.specs.Shapes.{first_shape, mark_of}
 use Rattle.unifdef.specs.Spoiled.{spoiled_from}
@@ -44,11 +44,11 @@ pub returns-in-None-clause-gives : goal.returns-in-None-clause-gives
 returns-in-None-clause-gives g c = λ works input h ends.
     let none : spoiled_from 0 false c.args.held.now.seen.items c.args.walk.now.marks.items ≡ None =
     sym (ap₂ (spoiled_from 0 false) c.as_slice.ensures.value c.as_slice-marks.ensures.value) ∙ sym c.in-None.ensures in
-    let outcome : c.outcome_of-outcome.result
+    let outcome : c.outcome_by-outcome.result
     ≡ outcome_by c.args.stop (first_shape c.args.walk.now.rest.now) (length c.args.walk.now.marks.items) c.args.held.now.in_comment c.args.end =
-    c.outcome_of-outcome.ensures ∙ ap₂ (λ t n. outcome_by c.args.stop t n c.args.held.now.in_comment c.args.end) c.next.ensures (ap length c.as_slice-marks.ensures.value) in
+    c.outcome_by-outcome.ensures ∙ ap₂ (λ t n. outcome_by c.args.stop t n c.args.held.now.in_comment c.args.end) c.next.ensures (ap length c.as_slice-marks.ensures.value) in
     c.conclude-in-None.ensures.gives works input h.texts h.holds
-    (subst (λ (ms : List kept_marks.Mark). Comes (options_by c.args.asked) c.args.asked.name.now input (numbered_from 1 h.texts) (map mark_of ms) c.outcome_of-outcome.result)
+    (subst (λ (ms : List kept_marks.Mark). Comes (options_by c.args.asked) c.args.asked.name.now input (numbered_from 1 h.texts) (map mark_of ms) c.outcome_by-outcome.result)
     (sym c.as_slice-marks.ensures.value)
     (subst (λ (r : Outcome). Comes (options_by c.args.asked) c.args.asked.name.now input (numbered_from 1 h.texts) (map mark_of c.args.walk.now.marks.items) r) (sym outcome)
     (unspoiled_comes (options_by c.args.asked) c.args.asked.name.now input c.args.held.now c.args.end h c.args.walk.now c.args.stop ends none)))

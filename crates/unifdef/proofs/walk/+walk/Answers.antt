@@ -1,6 +1,6 @@
 use Rattle.std.proofs.Common.{◌∙◌, sym, ap, refl, arith, [], Some}
 use Rattle.std.proofs.lemmas.Result.{err_from_is_err_and, IfErr-weaker, on_ok_weaker}
-use Rattle.ud_model.specs.Pruning.{marked, conds_of_head}
+use Rattle.ud_model.specs.sections.Pruning.{marked, conds_of_head}
 use Rattle.unifdef.specs.Parts.{part_of}
 use Rattle.unifdef.specs.Shapes.{code_mark}
 use Rattle.unifdef.specs.Walking.{ReadsNodes, ReadsLine, InSection, StopsWell, GroupStops}

@@ -1,7 +1,7 @@
 use Rattle.std.proofs.Common.{◌+◌, ◌*◌, ◌<◌, ◌≤◌, ◌≡◌, List, length, true}
 use Rattle.unifdef.specs.Shapes.{starts_with_closer}
-use Rattle.ud_model.specs.Scans.{Reading}
-use Rattle.ud_model.specs.Tree.{Item}
+use Rattle.ud_model.specs.text.Scans.{Reading}
+use Rattle.ud_model.specs.sections.Tree.{Item}
 use Rattle.unifdef.specs.Walking.{Left, ReadsNodes, InSection}
 use Rattle.unifdef.proofs.walk.+walk.Given as goal
 

@@ -1,6 +1,6 @@
 use Rattle.std.proofs.Common.{◌∙◌, ◌++◌, ◌∷◌, ◌+◌, List, ℕ, map, drop, ap, subst, sym, bytes_eq}
-use Rattle.ud_model.specs.Lines.{text_of}
-use Rattle.ud_model.specs.Printing.{Judged}
+use Rattle.ud_model.specs.text.Lines.{text_of}
+use Rattle.ud_model.specs.answer.Printing.{Judged}
 use Rattle.unifdef_tests.specs.Ruling.{judged_of}
 use Rattle.unifdef_tests.proofs.PrintingLemmas.{Goes, goes_on, next_line}
 use Rattle.unifdef_tests.proofs.printing.print_all.Goals as goal

@@ -1,5 +1,5 @@
 use Rattle.std.proofs.Common.{◌≡◌, List, drop, map}
-use Rattle.ud_model.specs.Printing.{Judged}
+use Rattle.ud_model.specs.answer.Printing.{Judged}
 use Rattle.unifdef_tests.specs.Ruling.{judged_of}
 use Rattle.unifdef_tests.proofs.PrintingLemmas.{Goes}
 use Rattle.unifdef_tests.proofs.printing.print_all.Given as goal

@@ -1,5 +1,5 @@
 use Rattle.std.proofs.Common.{map, ◌∙◌}
-use Rattle.ud_model.specs.Items.{reading_of}
+use Rattle.ud_model.specs.sections.Items.{reading_of}
 use Rattle.ud_sections.proofs.NextLemmas.{block_is_comment}
 use Rattle.machine_probe.proofs.reader.Reader.finish.Goals as goal
 

@@ -1,6 +1,6 @@
 use Rattle.std.proofs.Common.{refl, []}
-use Rattle.ud_model.specs.Faults.{no_lines}
-use Rattle.ud_model.specs.Tree.{closed, nothing}
+use Rattle.ud_model.specs.sections.Faults.{no_lines}
+use Rattle.ud_model.specs.sections.Tree.{closed, nothing}
 use Rattle.machine_probe.proofs.reader.Reader.new.Goals as goal
 
 pub returns : goal.returns

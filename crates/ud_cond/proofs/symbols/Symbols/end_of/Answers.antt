@@ -1,6 +1,6 @@
 use Rattle.std.proofs.Common.{◌≡◌, ◌∙◌, sym, ap, suc, ◌-◌, ◌+◌, length, arith}
-use Rattle.ud_model.specs.Symbols.{end_of, ends_in}
-use Rattle.ud_model.proofs.SymbolLemmas.{ends_behind}
+use Rattle.ud_model.specs.conditions.Symbols.{end_of, ends_in}
+use Rattle.ud_model.proofs.conditions.SymbolLemmas.{ends_behind}
 use Rattle.ud_cond.proofs.symbols.Symbols.end_of.Goals as goal
 
 pub steps-init : goal.steps-init

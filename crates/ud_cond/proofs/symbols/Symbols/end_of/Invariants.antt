@@ -1,5 +1,5 @@
 use Rattle.std.proofs.Common.{◌≡◌, ◌-◌}
-use Rattle.ud_model.specs.Symbols.{end_of, ends_in}
+use Rattle.ud_model.specs.conditions.Symbols.{end_of, ends_in}
 use Rattle.ud_cond.proofs.symbols.Symbols.end_of.Given as goal
 
 abbrev pub invariant-steps : goal.invariant-steps

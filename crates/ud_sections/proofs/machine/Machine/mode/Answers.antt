@@ -1,5 +1,5 @@
 use Rattle.std.proofs.Common.{◌∙◌, ap, sym}
-use Rattle.ud_model.specs.Items.{mode_by}
+use Rattle.ud_model.specs.sections.Items.{mode_by}
 use Rattle.ud_sections.specs.Acting.{plain_at}
 use Rattle.ud_sections.proofs.StandingLemmas.{plain_is}
 use Rattle.ud_sections.proofs.machine.Machine.mode.Goals as goal

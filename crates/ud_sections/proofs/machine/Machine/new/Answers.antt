@@ -1,5 +1,5 @@
 use Rattle.std.proofs.Common.{refl, sym}
-use Rattle.ud_model.specs.Faults.{no_lines}
+use Rattle.ud_model.specs.sections.Faults.{no_lines}
 use Rattle.ud_sections.proofs.machine.Machine.new.Goals as goal
 
 pub returns-clause-stands : goal.returns-clause-stands

@@ -1,5 +1,5 @@
 use Rattle.std.proofs.Common.{suc, ◌+◌, ◌<◌, length, inl, inr, sym, subst, ap, add-one}
-use Rattle.ud_model.specs.Lines.{Parts, line_at}
+use Rattle.ud_model.specs.text.Lines.{Parts, line_at}
 use Rattle.ud_text.specs.Holding.{Holding, IsLineOf, IsComplete}
 use Rattle.ud_text.specs.contracts.lines.Lines.{the_view, the_invariant}
 use Rattle.ud_text.specs.declared.lines.Lines.TheInside.{Inside}

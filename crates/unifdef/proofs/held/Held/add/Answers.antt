@@ -1,9 +1,9 @@
 use Rattle.std.proofs.Common.{rules, ◌≡◌, ◌++◌, ◌∷◌, ◌<◌, ◌||◌, [], map, length, sym, ap, subst, ◌∙◌, arith}
-use Rattle.ud_model.specs.Lines as model
-use Rattle.ud_model.specs.Scans.{Reading}
-use Rattle.ud_model.specs.Scanning.{next_reading, scan_after}
-use Rattle.ud_model.specs.Items.{reading_of, mode_by}
-use Rattle.ud_model.specs.Faults.{is_in_block}
+use Rattle.ud_model.specs.text.Lines as model
+use Rattle.ud_model.specs.text.Scans.{Reading}
+use Rattle.ud_model.specs.text.Scanning.{next_reading, scan_after}
+use Rattle.ud_model.specs.sections.Items.{reading_of, mode_by}
+use Rattle.ud_model.specs.sections.Faults.{is_in_block}
 use Rattle.ud_text.specs.Carrying.{Carries}
 use Rattle.ud_text.specs.Viewing.{as_line, as_scan}
 use Rattle.ud_model.specs.declared.kind.Mode.{Mode}

@@ -1,0 +1,141 @@
+#!/usr/bin/env python3
+"""Compares what a compiler selects of C files before and after ./unifdef.
+
+    bench/selects.py [--cc CC] [--unifdef PROGRAM] [--seed N] [--count N] [PATH...]
+
+Of each file (by default the headers of /usr/include) the conditional directives stay as they are, with their comments and
+continuations; the text of every other line becomes one word of its own. Then some symbols of its conditions are chosen
+at random for options, each other one is left undefined or given a number, and what `cc -E -P` makes of the text is
+compared with what it makes of the text that `unifdef` leaves. A text that the compiler refuses is left out: there some
+`#if` has no value. The status is 1 if any text is selected in another way.
+"""
+
+import argparse
+import multiprocessing
+import os
+import random
+import re
+import subprocess
+import sys
+
+CONDITIONAL = re.compile(rb"\s*#\s*(if|ifdef|ifndef|elif|else|endif)(?![A-Za-z0-9_])")
+# Comments, literals, splices and line feeds; what is between them is other text.
+PIECE = re.compile(
+    rb"""/\*.*?\*/|//(?:\\\r?\n|[^\n])*|"(?:\\\r?\n|\\.|[^"\\\n])*"?|'(?:\\\r?\n|\\.|[^'\\\n])*'?|\\\r?\n|\n|[^\n"'/\\]+|.""",
+    re.DOTALL,
+)
+NAME = re.compile(rb"[A-Za-z_][A-Za-z0-9_]*")
+# Their values change with the place of a line, or the compiler has them as operators.
+NOT_CHOSEN = re.compile(rb"defined$|__has_|__is_|__STDC|__LINE__|__FILE__|__COUNTER__|__INCLUDE_LEVEL__|__DATE__|__TIME__")
+
+
+def pieces(text):
+    return [m.group() for m in PIECE.finditer(text)]
+
+
+def is_comment(piece):
+    return piece.startswith((b"/*", b"//"))
+
+
+def logical_lines(text):
+    line = []
+    for piece in pieces(text):
+        line.append(piece)
+        if piece == b"\n":
+            yield line
+            line = []
+    if line:
+        yield line
+
+
+def neutral(text):
+    """The text with a word of its own in place of all but conditionals, comments and splices; and the conditions."""
+    out, conditions = [], []
+    for number, line in enumerate(logical_lines(text)):
+        code = b"".join(b" " if is_comment(p) else b"" if p.startswith(b"\\") and p.endswith(b"\n") else p for p in line)
+        if CONDITIONAL.match(code):
+            out += line
+            conditions.append(code)
+            continue
+        if code.strip():
+            out.append(b"line_%d " % number)
+        out += [p for p in line if is_comment(p) or p.endswith(b"\n")]
+    return b"".join(out), conditions
+
+
+def chosen(conditions, rng):
+    """Options for unifdef, and arguments for the compiler that agree with them."""
+    names = sorted({n for c in conditions for n in NAME.findall(CONDITIONAL.sub(b"", c)) if not NOT_CHOSEN.match(n)})
+    called = {m for c in conditions for m in re.findall(rb"([A-Za-z_][A-Za-z0-9_]*)\s*\(", c)}
+    options = rng.choice([[], [], ["-k"], ["-K"], ["-k", "-K"]])[:]
+    arguments = []
+    for name in names:
+        define = name + b"(...)" if name in called else name
+        value = rng.choice([b"0", b"1", b"2", b"7", b"201112L", b"0x10u", b"-1"])
+        what = rng.randrange(6)
+        if what == 0:
+            options.append(b"-U" + name)
+        elif what == 1:
+            options.append(b"-D" + name + b"=" + value)
+            arguments.append(b"-D" + define + b"=" + value)
+        elif what in (2, 3):
+            arguments.append(b"-D" + define + b"=" + value)
+    return options, arguments
+
+
+def selected(cc, arguments, text):
+    command = [cc, "-E", "-P", "-undef", "-nostdinc", "-w", "-x", "c", *arguments, "-"]
+    run = subprocess.run(command, input=text, capture_output=True)
+    return run.stdout.split() if run.returncode == 0 else None
+
+
+def compare(job):
+    path, seed, cc, unifdef = job
+    with open(path, "rb") as file:
+        text = file.read()
+    rng = random.Random(f"{seed} {path}")
+    source, conditions = neutral(text)
+    options, arguments = chosen(conditions, rng)
+    run = subprocess.run([unifdef, *options], input=source, capture_output=True)
+    if run.returncode == 2:
+        return "faulty", path, ""
+    before = selected(cc, arguments, source)
+    if before is None:
+        return "refused by the compiler", path, ""
+    if selected(cc, arguments, run.stdout) != before:
+        return "selected in another way", path, b" ".join(map(os.fsencode, options)).decode("latin-1")
+    return ("changed" if run.returncode else "left as they are"), path, ""
+
+
+def files(paths):
+    for path in paths:
+        if not os.path.isdir(path):
+            yield path
+        for folder, _, names in os.walk(path):
+            yield from (os.path.join(folder, n) for n in sorted(names) if n.endswith((".c", ".h")))
+
+
+def main():
+    parser = argparse.ArgumentParser(description="Compares what a compiler selects before and after unifdef.")
+    parser.add_argument("--cc", default=os.environ.get("CC", "cc"))
+    parser.add_argument("--unifdef", default="./unifdef")
+    parser.add_argument("--seed", type=int, default=1)
+    parser.add_argument("--count", type=int, default=0, help="that many files at random; 0 for all")
+    parser.add_argument("paths", nargs="*", default=["/usr/include"])
+    args = parser.parse_args()
+    found = [p for p in files(args.paths) if os.path.isfile(p)]
+    if args.count and args.count < len(found):
+        found = random.Random(args.seed).sample(found, args.count)
+    jobs = [(p, args.seed, args.cc, args.unifdef) for p in found]
+    counts = {}
+    with multiprocessing.Pool() as pool:
+        for how, path, options in pool.imap_unordered(compare, jobs, chunksize=16):
+            counts[how] = counts.get(how, 0) + 1
+            if how == "selected in another way":
+                print(f"{path}: selected in another way, seed {args.seed}: {options}", flush=True)
+    print(f"{len(jobs)} files: " + ", ".join(f"{n} {how}" for how, n in sorted(counts.items())))
+    sys.exit(1 if counts.get("selected in another way") else 0)
+
+
+if __name__ == "__main__":
+    main()

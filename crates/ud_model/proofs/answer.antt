@@ -1,0 +1,2 @@
+-- Lemmas on what is printed, and on runs.
+pub mod PrintingLemmas

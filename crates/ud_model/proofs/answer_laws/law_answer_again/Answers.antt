@@ -1,0 +1,5 @@
+use Rattle.ud_model.proofs.output.AnswerLaws.{answered_again}
+use Rattle.ud_model.proofs.answer_laws.law_answer_again.Goals as goal
+
+pub returns : goal.returns
+returns c = λ words input a h n p fit. answered_again h n p fit

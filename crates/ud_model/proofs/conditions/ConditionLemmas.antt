@@ -1,0 +1,92 @@
+-- Conditions: tables that say the same of every name decide the same.
+use Rattle.std.proofs.Common.{◌≡◌, ℕ, List, Bool, false, ◌&&◌, ◌||◌, Option, Some, None, is_some, refl, ◌∙◌, ap, ap₂}
+use Rattle.ud_model.specs.conditions.Table.{Argument, Entry}
+use Rattle.ud_model.specs.conditions.Expressions.{Expression, constant, named, is_defined, unary, binary, parens}
+use Rattle.ud_model.specs.aids.Parsing.{expression_of}
+use Rattle.ud_model.specs.conditions.Values.{alter, combine, name_value, name_value_by, name_has_u, end_has_u, defined_value, defined_value_by, number_of, has_unsigned, value_of}
+use Rattle.ud_model.specs.conditions.Conditions.{Rules, names_listed, undefined_by, calls_undefined, tree_cond, tree_cond_if, expression_cond, condition_of, Decision, sole_name, ifdef_by, ifdef_decision, negated}
+use Rattle.ud_model.specs.declared.cond.Cond.{Cond}
+use Rattle.ud_model.specs.declared.kind.Kind.{Kind}
+use Rattle.ud_model.specs.declared.kind.Kind.TheVariants.{If, Ifdef, Ifndef, Elif, Else, Endif}
+use Rattle.ud_model.proofs.conditions.SymbolLemmas.{SaySame, end_same}
+
+module _ (t u : List Argument) (same : SaySame t u) where
+  -- a name has the same value
+  pub name_value_same : (b : Bool) (n : List ℕ) → name_value t b n ≡ name_value u b n
+  unfolding name_value
+  name_value_same b n = ap₂ (name_value_by b) (end_same t u same n) (same n)
+
+  -- the constant at which it ends has a `u` or not
+  pub name_has_u_same : (n : List ℕ) → name_has_u t n ≡ name_has_u u n
+  unfolding name_has_u
+  name_has_u_same n = ap end_has_u (end_same t u same n)
+
+  -- `defined` and a name has the same value
+  pub defined_value_same : (n : List ℕ) → defined_value t n ≡ defined_value u n
+  unfolding defined_value
+  defined_value_same n = ap defined_value_by (same n)
+
+  -- a tree has the same value beside a `u`, and the same without one
+  pub number_of_same : (strict b : Bool) (e : Expression) → number_of t strict b e ≡ number_of u strict b e
+  number_of_same strict b (constant w) = refl
+  number_of_same strict b (named n a) = name_value_same b n
+  number_of_same strict b (is_defined n p) = defined_value_same n
+  number_of_same strict b (unary o x) = ap (alter b o) (number_of_same strict b x)
+  number_of_same strict b (binary o x y) = ap₂ (combine strict b o) (number_of_same strict b x) (number_of_same strict b y)
+  number_of_same strict b (parens x) = number_of_same strict b x
+
+  -- a `u` stands in it or not
+  pub has_unsigned_same : (e : Expression) → has_unsigned t e ≡ has_unsigned u e
+  has_unsigned_same (constant w) = refl
+  has_unsigned_same (named n a) = name_has_u_same n
+  has_unsigned_same (is_defined n p) = refl
+  has_unsigned_same (unary o x) = has_unsigned_same x
+  has_unsigned_same (binary o x y) = ap₂ (λ (a : Bool) (b : Bool). a || b) (has_unsigned_same x) (has_unsigned_same y)
+  has_unsigned_same (parens x) = has_unsigned_same x
+
+  -- a listed name stands in it or not
+  pub names_listed_same : (e : Expression) → names_listed t e ≡ names_listed u e
+  names_listed_same (constant w) = refl
+  names_listed_same (named n a) = ap is_some (same n)
+  names_listed_same (is_defined n p) = ap is_some (same n)
+  names_listed_same (unary o x) = names_listed_same x
+  names_listed_same (binary o x y) = ap₂ (λ (a : Bool) (b : Bool). a || b) (names_listed_same x) (names_listed_same y)
+  names_listed_same (parens x) = names_listed_same x
+
+  -- an undefined name with arguments stands in it or not
+  pub calls_undefined_same : (e : Expression) → calls_undefined t e ≡ calls_undefined u e
+  calls_undefined_same (constant w) = refl
+  calls_undefined_same (named n a) = ap (λ (o : Option Entry). a && undefined_by o) (same n)
+  calls_undefined_same (is_defined n p) = refl
+  calls_undefined_same (unary o x) = calls_undefined_same x
+  calls_undefined_same (binary o x y) = ap₂ (λ (a : Bool) (b : Bool). a || b) (calls_undefined_same x) (calls_undefined_same y)
+  calls_undefined_same (parens x) = calls_undefined_same x
+
+  -- a tree has the same value
+  pub value_of_same : (strict : Bool) (e : Expression) → value_of t strict e ≡ value_of u strict e
+  value_of_same strict e = ap (λ (b : Bool). number_of t strict b e) (has_unsigned_same e) ∙ number_of_same strict (has_unsigned u e) e
+
+  tree_cond_same : (e : Expression) (rules : Rules) → tree_cond e t rules ≡ tree_cond e u rules
+  tree_cond_same e rules = rw (calls_undefined_same e, names_listed_same e, value_of_same rules.strict e)
+
+  tree_cond_if_same : (o : Option Expression) (rules : Rules) → tree_cond_if o t rules ≡ tree_cond_if o u rules
+  tree_cond_if_same None rules = refl
+  tree_cond_if_same (Some e) rules = tree_cond_same e rules
+
+  -- the condition of a text is the same
+  pub expression_cond_same : (text : List ℕ) (rules : Rules) → expression_cond text t rules ≡ expression_cond text u rules
+  unfolding expression_cond
+  expression_cond_same text rules = tree_cond_if_same (expression_of text) rules
+
+  ifdef_decision_same : (o : Option (List ℕ)) → ifdef_decision o t ≡ ifdef_decision o u
+  ifdef_decision_same None = refl
+  ifdef_decision_same (Some n) = ap ifdef_by (same n)
+
+  -- each condition is decided alike
+  pub condition_of_same : (k : Kind) (text : List ℕ) (rules : Rules) → condition_of k text t rules ≡ condition_of k text u rules
+  condition_of_same If text rules = ap (λ (c : Cond). record { cond = c; ignoring = false }) (expression_cond_same text rules)
+  condition_of_same Elif text rules = ap (λ (c : Cond). record { cond = c; ignoring = false }) (expression_cond_same text rules)
+  condition_of_same Ifdef text rules = ifdef_decision_same (sole_name text)
+  condition_of_same Ifndef text rules = ap (λ (d : Decision). record d { cond = negated d.cond }) (ifdef_decision_same (sole_name text))
+  condition_of_same Else text rules = refl
+  condition_of_same Endif text rules = refl

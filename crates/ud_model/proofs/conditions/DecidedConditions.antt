@@ -1,0 +1,72 @@
+-- Decided conditions: what is decided of a text is decided of its tree, and a decided truth is C's.
+use Rattle.std.proofs.Common.{◌≡◌, ◌≢◌, ℕ, List, [], Bool, true, false, not, ◌||◌, if◌then◌else◌, Option, Some, None, refl, sym, ◌∙◌, ap, ℤ, pos}
+use Rattle.std.proofs.lemmas.Bool.{false≢true}
+use Rattle.ud_model.specs.conditions.Table.{Argument}
+use Rattle.ud_model.specs.conditions.Expressions.{Expression, IsWritten}
+use Rattle.ud_model.specs.aids.Parsing.{expression_of}
+use Rattle.ud_model.specs.conditions.Values.{is_zero, value_of}
+use Rattle.ud_model.specs.conditions.Conditions.{Rules, names_listed, calls_undefined, truth_of, tree_cond, tree_cond_if, expression_cond}
+use Rattle.ud_model.specs.conditions.Names.{names_in, names_in_tree, names_of}
+use Rattle.ud_model.specs.conditions.CValues.{Number, number, IsCValue}
+use Rattle.ud_model.specs.declared.cond.Cond.TheVariants.{Yes, No, Unknown}
+use Rattle.ud_model.specs.declared.kind.Kind.TheVariants.{If}
+use Rattle.ud_model.proofs.conditions.OneExpression.{expression_only, expression_is}
+use Rattle.ud_model.proofs.conditions.KnownNumbers.{zero_decides}
+use Rattle.ud_model.proofs.conditions.KnownStays.{known_stays}
+
+-- what is decided of a text is decided of its tree
+pub cond_of_tree : (text : List ℕ) (e : Expression) (table : List Argument) (rules : Rules) → IsWritten text e → expression_cond text table rules ≡ tree_cond e table rules
+unfolding expression_cond
+cond_of_tree text e table rules p = ap (λ o. tree_cond_if o table rules) (expression_only text e p)
+
+cond_of_none : (text : List ℕ) (table : List Argument) (rules : Rules) (o : Option Expression) → expression_of text ≡ o → ((e : Expression) → IsWritten text e → ⊥) →
+    tree_cond_if o table rules ≡ Unknown
+cond_of_none text table rules None d h = refl
+cond_of_none text table rules (Some e) d h = absurd (h e (expression_is text e d))
+
+-- nothing is decided of a text without a tree
+pub cond_without_tree : (text : List ℕ) (table : List Argument) (rules : Rules) → ((e : Expression) → IsWritten text e → ⊥) → expression_cond text table rules ≡ Unknown
+unfolding expression_cond
+cond_without_tree text table rules h = cond_of_none text table rules (expression_of text) refl h
+
+-- the names of a text are those of its tree
+pub names_of_tree : (text : List ℕ) (e : Expression) → IsWritten text e → names_of If text ≡ names_in e
+names_of_tree text e p = ap names_in_tree (expression_only text e p)
+
+names_of_none : (text : List ℕ) (o : Option Expression) → expression_of text ≡ o → ((e : Expression) → IsWritten text e → ⊥) → names_in_tree o ≡ []
+names_of_none text None d h = refl
+names_of_none text (Some e) d h = absurd (h e (expression_is text e d))
+
+-- a text without a tree has none
+pub names_without_tree : (text : List ℕ) → ((e : Expression) → IsWritten text e → ⊥) → names_of If text ≡ []
+names_without_tree text h = names_of_none text (expression_of text) refl h
+
+yes_by : (b : Bool) (o : Option ℤ) → (if b then Unknown else truth_of o) ≡ Yes → (z : ℤ) × (o ≡ Some z) × (is_zero z ≡ false)
+yes_by true o e = absurd (cc)
+yes_by false None e = absurd (cc)
+yes_by false (Some z) e = by (is_zero z) refl e
+  where
+    by : (b : Bool) → is_zero z ≡ b → (if b then No else Yes) ≡ Yes → (y : ℤ) × (Some z ≡ Some y) × (is_zero y ≡ false)
+    by true d f = absurd (cc)
+    by false d f = (z, refl, d)
+
+no_by : (b : Bool) (o : Option ℤ) → (if b then Unknown else truth_of o) ≡ No → (z : ℤ) × (o ≡ Some z) × (is_zero z ≡ true)
+no_by true o e = absurd (cc)
+no_by false None e = absurd (cc)
+no_by false (Some z) e = by (is_zero z) refl e
+  where
+    by : (b : Bool) → is_zero z ≡ b → (if b then No else Yes) ≡ No → (y : ℤ) × (Some z ≡ Some y) × (is_zero y ≡ true)
+    by true d f = (z, refl, d)
+    by false d f = absurd (cc)
+
+-- a condition that is true has no C value but such as aren't 0
+pub yes_is_true : (table : List Argument) (rules : Rules) (e : Expression) (c : Number) → tree_cond e table rules ≡ Yes → IsCValue table e c → number c ≢ pos 0
+yes_is_true table rules e c d v h =
+    let q : (z : ℤ) × (value_of table rules.strict e ≡ Some z) × (is_zero z ≡ false) = yes_by (calls_undefined table e || not (rules.constants || names_listed table e)) (value_of table rules.strict e) d in
+    false≢true (sym q.2 ∙ (zero_decides q.0).1 (sym (known_stays table rules.strict e q.0 c q.1 v) ∙ h))
+
+-- a condition that is false has the C value 0 at most
+pub no_is_false : (table : List Argument) (rules : Rules) (e : Expression) (c : Number) → tree_cond e table rules ≡ No → IsCValue table e c → number c ≡ pos 0
+no_is_false table rules e c d v =
+    let q : (z : ℤ) × (value_of table rules.strict e ≡ Some z) × (is_zero z ≡ true) = no_by (calls_undefined table e || not (rules.constants || names_listed table e)) (value_of table rules.strict e) d in
+    known_stays table rules.strict e q.0 c q.1 v ∙ (zero_decides q.0).0 q.2

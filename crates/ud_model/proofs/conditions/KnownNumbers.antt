@@ -1,0 +1,276 @@
+-- Known numbers: where whole numbers give a result in range, C's operators give the same number.
+--
+-- Between two numbers of intmax_t this is how C defines its results. Beside one of uintmax_t no known number lies below 0 or
+-- above 2^63-1, and modulo 2^64 such a result is itself. That is what the least number is for.
+use Rattle.std.proofs.Common.{◌≡◌, ◌≢◌, ℕ, zero, suc, ◌+◌, ◌-◌, ◌*◌, ◌/◌, ◌%◌, ◌^◌, ◌<◌, ◌≤◌, Bool, true, false, not, ◌&&◌, if◌then◌else◌, Option, Some, None, refl, sym, ◌∙◌, ap, subst, inl, inr, arith, ℤ, pos, negsuc, ◌-ℤ◌, neg_ℤ, ◌<ℤ◌, ◌≤ℤ◌, int_lt, int_le, int_div, bit_and, bit_or, bit_xor, Decides, T, leb, ltb, nat_eq, unsigned_abs}
+use Rattle.std.specs.Int.{cast_signed, cast_unsigned}
+use Rattle.std.proofs.lemmas.Option.{none-some, same_Some}
+use Rattle.std.proofs.lemmas.Bool.{false≢true}
+use Rattle.std.proofs.lemmas.Bool.Decides.{Decides-ltb, Decides-eqb, leb_tells}
+use Rattle.std.proofs.lemmas.Nat.{and_le_l, or_lt, xor_lt}
+use Rattle.std.proofs.lemmas.Int.{to_z_pos}
+use Rattle.std.proofs.Math.Nat.{mod-eq_of_lt, add-mul-mod_self_right}
+use Rattle.std.proofs.Math.Facts.{to_z-neg}
+use mir.Syntax.{w64}
+use Rattle.ud_model.specs.conditions.Values.{fits, fit, truth, is_zero, same, operate, change}
+use Rattle.ud_model.specs.conditions.CValues.{Changes, Number, signed, unsigned, number, IsTruth, GivesSigned, GivesUnsigned, Gives}
+use Rattle.ud_model.specs.declared.operator.Operator.{Operator}
+use Rattle.ud_model.specs.declared.operator.Operator.TheVariants.{Or, And, BitOr, BitXor, BitAnd, Equal, NotEqual, Less, LessEqual, Greater, GreaterEqual, Plus, Minus, Times, Over, Remainder, Not, Complement}
+
+-- a C value that may be had for a known one: the same number, in range, and of uintmax_t only beside a `u`
+abbrev pub Agrees : Bool → ℤ → Number → Type 0
+Agrees u n (signed z) = (z ≡ n) × (fits u n ≡ true)
+Agrees u n (unsigned k) = (pos k ≡ n) × (fits u n ≡ true) × (u ≡ true)
+
+-- it is the same number
+pub agrees_number : (u : Bool) (n : ℤ) (c : Number) → Agrees u n c → number c ≡ n
+agrees_number u n (signed z) a = a.0
+agrees_number u n (unsigned k) a = a.0
+
+-- it is in range
+pub agrees_fits : (u : Bool) (n : ℤ) (c : Number) → Agrees u n c → fits u n ≡ true
+agrees_fits u n (signed z) a = a.1
+agrees_fits u n (unsigned k) a = a.1
+
+fit_by : (b : Bool) (u : Bool) (z n : ℤ) → fits u z ≡ b → (if b then Some z else None) ≡ Some n → (z ≡ n) × (fits u n ≡ true)
+fit_by true u z n f e = let q : z ≡ n = same_Some z n e in (q, rw q at f)
+fit_by false u z n f e = absurd (none-some n e)
+
+-- a result in range is known as it is
+pub fit_is : (u : Bool) (z n : ℤ) → fit u z ≡ Some n → (z ≡ n) × (fits u n ≡ true)
+fit_is u z n e = fit_by (fits u z) u z n refl e
+
+as_signed : (u : Bool) (n : ℤ) (c : Number) (z : ℤ) → c ≡ signed z → (z ≡ n) × (fits u n ≡ true) → Agrees u n c
+as_signed u n c z e p = subst (λ x. Agrees u n x) (sym e) p
+
+as_natural : (n : ℤ) (c : Number) (k : ℕ) → c ≡ unsigned k → (pos k ≡ n) × (fits true n ≡ true) → Agrees true n c
+as_natural n c k e p = subst (λ x. Agrees true n x) (sym e) (p.0, p.1, refl)
+
+fits_one : (u : Bool) → fits u (pos 1) ≡ true
+fits_one u = refl
+
+fits_zero : (u : Bool) → fits u (pos 0) ≡ true
+fits_zero u = refl
+
+-- a test that decides a fact gives the truth of the fact
+pub truth_agrees : (Holds : Type 0) (u b : Bool) (n : ℤ) (c : Number) → Decides b Holds → Some (truth b) ≡ Some n → IsTruth Holds c → Agrees u n c
+truth_agrees Holds u true n c d e (inl h) = let q : pos 1 ≡ n = same_Some (pos 1) n e in as_signed u n c (pos 1) h.1 (q, ap (fits u) (sym q))
+truth_agrees Holds u true n c d e (inr h) = absurd (h.0 (d.0 refl))
+truth_agrees Holds u false n c d e (inl h) = absurd (false≢true (d.1 h.0))
+truth_agrees Holds u false n c d e (inr h) = let q : pos 0 ≡ n = same_Some (pos 0) n e in as_signed u n c (pos 0) h.1 (q, ap (fits u) (sym q))
+
+decides_by : {P : Type 0} (b : Bool) → (T b → P) → (P → T b) → Decides b P
+decides_by true f g = ((λ e. f tt), λ p. refl)
+decides_by false f g = ((λ e. absurd (false≢true e)), λ p. absurd (g p))
+
+-- the test for less decides
+pub less_decides : (a b : ℤ) → Decides (int_lt a b) (a <ℤ b)
+less_decides a b = decides_by (int_lt a b) (λ t. record { lt = t }) (λ p. p.lt)
+
+-- the test for at most decides
+pub at_most_decides : (a b : ℤ) → Decides (int_le a b) (a ≤ℤ b)
+at_most_decides a b = decides_by (int_le a b) (λ t. record { le = t }) (λ p. p.le)
+
+leb_decides : (a b : ℕ) → Decides (leb a b) (a ≤ b)
+leb_decides a b = elim (leb_tells a b) [ inl p ↦ ((λ e. p.1), λ h. p.0) | inr p ↦ ((λ e. absurd (false≢true (sym p.0 ∙ e))), λ h. absurd (omega arith)) ]
+
+both_ways : (a b : ℕ) → Decides (leb a b && leb b a) (a ≡ b)
+both_ways a b = elim (leb_tells a b) [
+  | inl p ↦ elim (leb_tells b a) [
+    | inl q ↦ ((λ e. omega arith), λ h. rw (p.0, q.0) refl)
+    | inr q ↦ ((λ e. absurd (false≢true (sym q.0 ∙ (rw p.0 at e)))), λ h. absurd (omega arith))
+  ]
+  | inr p ↦ ((λ e. absurd (false≢true (rw p.0 at e))), λ h. absurd (omega arith))
+]
+
+-- a test turned decides that the fact doesn't hold
+pub not_decides : {P : Type 0} (b : Bool) → Decides b P → Decides (not b) (P → ⊥)
+not_decides true d = ((λ e. absurd (false≢true e)), λ h. absurd (h (d.0 refl)))
+not_decides false d = ((λ e. λ p. false≢true (d.1 p)), λ h. refl)
+
+like_decides : {P Q : Type 0} (b : Bool) → (P → Q) → (Q → P) → Decides b P → Decides b Q
+like_decides b f g d = ((λ e. f (d.0 e)), λ q. d.1 (g q))
+
+pos_same : (a b : ℕ) → pos a ≡ pos b → a ≡ b
+pos_same a b e = ap unsigned_abs e
+
+negsuc_same : (a b : ℕ) → negsuc a ≡ negsuc b → a ≡ b
+negsuc_same a b e = let q : suc a ≡ suc b = ap unsigned_abs e in omega arith
+
+-- the test for equal numbers decides
+pub same_decides : (a b : ℤ) → Decides (same a b) (a ≡ b)
+same_decides (pos a) (pos b) = like_decides (leb a b && leb b a) (λ e. ap pos e) (pos_same a b) (both_ways a b)
+same_decides (pos a) (negsuc b) = ((λ e. absurd (false≢true e)), λ h. cc)
+same_decides (negsuc a) (pos b) = ((λ e. absurd (false≢true e)), λ h. cc)
+same_decides (negsuc a) (negsuc b) = like_decides (leb b a && leb a b) (λ e. ap negsuc (sym e)) (λ h. sym (negsuc_same a b h)) (both_ways b a)
+
+divided : (b : Bool) (o : Option ℤ) (n : ℤ) → (if b then None else o) ≡ Some n → o ≡ Some n
+divided true o n e = absurd (none-some n e)
+divided false o n e = e
+
+in_range : (b : Bool) (o : Option ℤ) (n : ℤ) → (if b then o else None) ≡ Some n → o ≡ Some n
+in_range true o n e = e
+in_range false o n e = absurd (none-some n e)
+
+-- two known operands of intmax_t
+pub signed_agrees : (u : Bool) (o : Operator) (a b n : ℤ) (c : Number) → operate u o a b ≡ Some n → GivesSigned o a b c → Agrees u n c
+unfolding operate
+signed_agrees u Or a b n c e g = absurd g
+signed_agrees u And a b n c e g = absurd g
+signed_agrees u BitOr a b n c e g = as_signed u n c _ g (fit_is u _ n e)
+signed_agrees u BitXor a b n c e g = as_signed u n c _ g (fit_is u _ n e)
+signed_agrees u BitAnd a b n c e g = as_signed u n c _ g (fit_is u _ n e)
+signed_agrees u Equal a b n c e g = truth_agrees (a ≡ b) u (same a b) n c (same_decides a b) e g
+signed_agrees u NotEqual a b n c e g = truth_agrees (a ≢ b) u (not (same a b)) n c (not_decides (same a b) (same_decides a b)) e g
+signed_agrees u Less a b n c e g = truth_agrees (a <ℤ b) u (int_lt a b) n c (less_decides a b) e g
+signed_agrees u LessEqual a b n c e g = truth_agrees (a ≤ℤ b) u (int_le a b) n c (at_most_decides a b) e g
+signed_agrees u Greater a b n c e g = truth_agrees (b <ℤ a) u (int_lt b a) n c (less_decides b a) e g
+signed_agrees u GreaterEqual a b n c e g = truth_agrees (b ≤ℤ a) u (int_le b a) n c (at_most_decides b a) e g
+signed_agrees u Plus a b n c e g = as_signed u n c _ g.1 (fit_is u _ n e)
+signed_agrees u Minus a b n c e g = as_signed u n c _ g.1 (fit_is u _ n e)
+signed_agrees u Times a b n c e g = as_signed u n c _ g.1 (fit_is u _ n e)
+signed_agrees u Over a b n c e g = as_signed u n c _ g.1.1 (fit_is u _ n (divided (is_zero b) _ n e))
+signed_agrees u Remainder a b n c e g = as_signed u n c _ g.2 (fit_is u _ n (in_range (fits u (int_div a b)) _ n (divided (is_zero b) _ n e)))
+signed_agrees u Not a b n c e g = absurd g
+signed_agrees u Complement a b n c e g = absurd g
+
+-- numbers from 0 to 2^63-1
+nat_fits : (a : ℕ) (n : ℤ) → pos a ≡ n → fits true n ≡ true → a < 2 ^ 63
+nat_fits a n e f = (Decides-ltb a (2 ^ 63)).0 (ap (fits true) e ∙ f)
+
+modulo_itself : (a : ℕ) (n : ℤ) → (pos a ≡ n) × (fits true n ≡ true) → a % 2 ^ 64 ≡ a
+modulo_itself a n p = let h : a < 2 ^ 63 = nat_fits a n p.0 p.1 in let k : a < 2 ^ 64 = omega arith in mod-eq_of_lt k
+
+-- a sum, a difference or a product in range is itself modulo 2^64
+as_modulo : (n : ℤ) (c : Number) (j k : ℕ) → c ≡ unsigned (j % 2 ^ 64) → j % 2 ^ 64 ≡ k → (pos k ≡ n) × (fits true n ≡ true) → Agrees true n c
+as_modulo n c j k e q p = as_natural n c k (e ∙ ap unsigned q) p
+
+bits_known : (x : ℕ) (n : ℤ) → x < 2 ^ 63 → fit true (cast_signed w64 x) ≡ Some n → (pos x ≡ n) × (fits true n ≡ true)
+bits_known x n l e = fit_is true (pos x) n (rw (to_z_pos w64 x l) at e)
+
+-- a difference that isn't negative
+sub_known : (b : Bool) (j k : ℕ) (n : ℤ) (c : Number) → ltb j (suc k) ≡ b → c ≡ unsigned ((j + (2 ^ 64 - suc k)) % 2 ^ 64) →
+    fit true (if b then negsuc (suc k - suc j) else pos (j - suc k)) ≡ Some n → suc k < 2 ^ 63 → Agrees true n c
+sub_known true j k n c q g e l = absurd (none-some n e)
+sub_known false j k n c q g e l =
+    let p : (pos (j - suc k) ≡ n) × (fits true n ≡ true) = fit_is true (pos (j - suc k)) n e in
+    let h : j - suc k < 2 ^ 63 = nat_fits (j - suc k) n p.0 p.1 in
+    let m : suc k ≤ j = elim (leb_tells (suc j) (suc k)) [ inl r ↦ absurd (false≢true (sym q ∙ r.0)) | inr r ↦ omega arith ] in
+    let d : j + (2 ^ 64 - suc k) ≡ (j - suc k) + 1 * 2 ^ 64 = omega arith in
+    let w : (j - suc k) % 2 ^ 64 ≡ j - suc k = modulo_itself (j - suc k) n p in
+    as_modulo n c (j + (2 ^ 64 - suc k)) (j - suc k) g (ap (λ (x : ℕ). x % 2 ^ 64) d ∙ add-mul-mod_self_right (j - suc k) 1 (2 ^ 64) ∙ w) p
+
+minus_known : (a b : ℕ) (n : ℤ) (c : Number) → b < 2 ^ 63 → fit true (pos a -ℤ pos b) ≡ Some n → c ≡ unsigned ((a + (2 ^ 64 - b)) % 2 ^ 64) → Agrees true n c
+minus_known a zero n c l e g =
+    let p : (pos (a + 0) ≡ n) × (fits true n ≡ true) = fit_is true (pos (a + 0)) n e in
+    let h : a + 0 ≡ a = omega arith in
+    let d : a + (2 ^ 64 - 0) ≡ (a + 0) + 1 * 2 ^ 64 = omega arith in
+    as_modulo n c (a + (2 ^ 64 - 0)) (a + 0) g (ap (λ (x : ℕ). x % 2 ^ 64) d ∙ add-mul-mod_self_right (a + 0) 1 (2 ^ 64) ∙ modulo_itself (a + 0) n p) p
+minus_known a (suc k) n c l e g = sub_known (ltb a (suc k)) a k n c refl g e l
+
+-- two known operands, one of them of uintmax_t
+pub unsigned_agrees : (o : Operator) (a b : ℕ) (n : ℤ) (c : Number) → a < 2 ^ 63 → b < 2 ^ 63 → operate true o (pos a) (pos b) ≡ Some n → GivesUnsigned o a b c →
+    Agrees true n c
+unfolding operate
+unsigned_agrees Or a b n c k l e g = absurd g
+unsigned_agrees And a b n c k l e g = absurd g
+unsigned_agrees BitOr a b n c k l e g = as_natural n c (bit_or a b) g (bits_known (bit_or a b) n (or_lt 63 a b k l) e)
+unsigned_agrees BitXor a b n c k l e g = as_natural n c (bit_xor a b) g (bits_known (bit_xor a b) n (xor_lt 63 a b k l) e)
+unsigned_agrees BitAnd a b n c k l e g =
+    let h : bit_and a b ≤ a = and_le_l a b in as_natural n c (bit_and a b) g (bits_known (bit_and a b) n (omega arith) e)
+unsigned_agrees Equal a b n c k l e g = truth_agrees (a ≡ b) true (leb a b && leb b a) n c (both_ways a b) e g
+unsigned_agrees NotEqual a b n c k l e g = truth_agrees (a ≢ b) true (not (leb a b && leb b a)) n c (not_decides (leb a b && leb b a) (both_ways a b)) e g
+unsigned_agrees Less a b n c k l e g = truth_agrees (a < b) true (ltb a b) n c (Decides-ltb a b) e g
+unsigned_agrees LessEqual a b n c k l e g = truth_agrees (a ≤ b) true (leb a b) n c (leb_decides a b) e g
+unsigned_agrees Greater a b n c k l e g = truth_agrees (b < a) true (ltb b a) n c (Decides-ltb b a) e g
+unsigned_agrees GreaterEqual a b n c k l e g = truth_agrees (b ≤ a) true (leb b a) n c (leb_decides b a) e g
+unsigned_agrees Plus a b n c k l e g =
+    let p : (pos (a + b) ≡ n) × (fits true n ≡ true) = fit_is true (pos (a + b)) n e in as_modulo n c (a + b) (a + b) g (modulo_itself (a + b) n p) p
+unsigned_agrees Minus a b n c k l e g = minus_known a b n c l e g
+unsigned_agrees Times a b n c k l e g =
+    let p : (pos (a * b) ≡ n) × (fits true n ≡ true) = fit_is true (pos (a * b)) n e in as_modulo n c (a * b) (a * b) g (modulo_itself (a * b) n p) p
+unsigned_agrees Over a b n c k l e g = as_natural n c (a / b) g.1 (fit_is true (pos (a / b)) n (divided (nat_eq b 0) _ n e))
+unsigned_agrees Remainder a b n c k l e g =
+    as_natural n c (a % b) g.1 (fit_is true (pos (a % b)) n (in_range (fits true (pos (a / b))) _ n (divided (nat_eq b 0) _ n e)))
+unsigned_agrees Not a b n c k l e g = absurd g
+unsigned_agrees Complement a b n c k l e g = absurd g
+
+-- a known number beside a `u`, as one of uintmax_t
+natural_of : (a : ℤ) → fits true a ≡ true → (j : ℕ) × (a ≡ pos j) × (j < 2 ^ 63)
+natural_of (pos j) f = (j, refl, (Decides-ltb j (2 ^ 63)).0 f)
+natural_of (negsuc j) f = absurd (false≢true f)
+
+gives_by : (u : Bool) (o : Operator) (a b n : ℤ) (c : Number) (j k : ℕ) → u ≡ true → fits u a ≡ true → fits u b ≡ true → j ≡ cast_unsigned w64 a → k ≡ cast_unsigned w64 b →
+    operate u o a b ≡ Some n → GivesUnsigned o j k c → Agrees u n c
+gives_by true o a b n c j k t f g p q e h =
+    let x : (i : ℕ) × (a ≡ pos i) × (i < 2 ^ 63) = natural_of a f in
+    let y : (i : ℕ) × (b ≡ pos i) × (i < 2 ^ 63) = natural_of b g in
+    let v : j ≡ x.0 = p ∙ ap (cast_unsigned w64) x.1 in
+    let w : k ≡ y.0 = q ∙ ap (cast_unsigned w64) y.1 in
+    unsigned_agrees o x.0 y.0 n c x.2 y.2 (rw (x.1, y.1) at e) (rw (v, w) at h)
+gives_by false o a b n c j k t f g p q e h = absurd (false≢true t)
+
+-- C's result agrees with the known one
+pub gives_agrees : (u : Bool) (o : Operator) (a b n : ℤ) (x y c : Number) → Agrees u a x → Agrees u b y → operate u o a b ≡ Some n → Gives o x y c → Agrees u n c
+gives_agrees u o a b n (signed s) (signed t) c p q e g = signed_agrees u o a b n c e (rw (p.0, q.0) at g)
+gives_agrees u o a b n (signed s) (unsigned t) c p q e g =
+    gives_by u o a b n c _ t q.2 p.1 q.1 (ap (cast_unsigned w64) p.0) (ap (cast_unsigned w64) q.0) e g
+gives_agrees u o a b n (unsigned s) (signed t) c p q e g =
+    gives_by u o a b n c s _ p.2 p.1 q.1 (ap (cast_unsigned w64) p.0) (ap (cast_unsigned w64) q.0) e g
+gives_agrees u o a b n (unsigned s) (unsigned t) c p q e g =
+    gives_by u o a b n c s t p.2 p.1 q.1 (ap (cast_unsigned w64) p.0) (ap (cast_unsigned w64) q.0) e g
+
+-- the test for 0 decides
+pub zero_decides : (a : ℤ) → Decides (is_zero a) (a ≡ pos 0)
+zero_decides (pos j) = like_decides (nat_eq j 0) (λ e. ap pos e) (pos_same j 0) (Decides-eqb j 0)
+zero_decides (negsuc j) = ((λ e. absurd (false≢true e)), λ h. cc)
+
+-- a known number is 0 exactly where C's is
+pub zero_agrees : (u : Bool) (a : ℤ) (x : Number) → Agrees u a x → Decides (is_zero a) (number x ≡ pos 0)
+zero_agrees u a x p = like_decides (is_zero a) (λ e. agrees_number u a x p ∙ e) (λ e. sym (agrees_number u a x p) ∙ e) (zero_decides a)
+
+below_zero_fits : (u : Bool) (j : ℕ) → fits u (negsuc j) ≡ true → j < 2 ^ 63
+below_zero_fits true j f = absurd (false≢true f)
+below_zero_fits false j f = (Decides-ltb j (2 ^ 63)).0 f
+
+minus_one : (j : ℕ) → neg_ℤ (pos j) -ℤ pos 1 ≡ negsuc j
+minus_one zero = refl
+minus_one (suc j) = ap negsuc (omega arith)
+
+minus_one_more : (j : ℕ) → neg_ℤ (negsuc j) -ℤ pos 1 ≡ pos j
+minus_one_more j = less (ltb (suc j) 1) refl
+  where
+    less : (b : Bool) → ltb (suc j) 1 ≡ b → (if b then negsuc (1 - suc (suc j)) else pos (suc j - 1)) ≡ pos j
+    less true e = let h : suc j < 1 = (Decides-ltb (suc j) 1).0 e in absurd (omega arith)
+    less false e = ap pos (omega arith)
+
+-- the bits of a number turned are those of -1 less the number
+turned : (u : Bool) (a : ℤ) → fits u a ≡ true → cast_signed w64 (2 ^ 64 - 1 - cast_unsigned w64 a) ≡ neg_ℤ a -ℤ pos 1
+turned u (pos j) f =
+    let h : j < 2 ^ 63 = (Decides-ltb j (2 ^ 63)).0 f in
+    let d : 2 ^ 64 - 1 - j ≡ 2 ^ 64 - suc j = omega arith in
+    ap (cast_signed w64) d ∙ to_z-neg w64 j h ∙ sym (minus_one j)
+turned u (negsuc j) f =
+    let h : j < 2 ^ 63 = below_zero_fits u j f in
+    let d : 2 ^ 64 - 1 - (2 ^ 64 - suc j) ≡ j = omega arith in
+    ap (cast_signed w64) d ∙ to_z_pos w64 j h ∙ sym (minus_one_more j)
+
+negated_natural : (j : ℕ) (n : ℤ) (c : Number) → fit true (neg_ℤ (pos j)) ≡ Some n → c ≡ unsigned ((2 ^ 64 - j) % 2 ^ 64) → Agrees true n c
+negated_natural zero n c e g = as_natural n c 0 g (fit_is true (pos 0) n e)
+negated_natural (suc j) n c e g = absurd (none-some n e)
+
+no_complement : (j : ℕ) (n : ℤ) → fit true (neg_ℤ (pos j) -ℤ pos 1) ≡ Some n → ⊥
+no_complement j n e = none-some n (rw (minus_one j) at e)
+
+-- C's result agrees with the known one
+pub changes_agrees : (u : Bool) (o : Operator) (a n : ℤ) (x c : Number) → Agrees u a x → change u o a ≡ Some n → Changes o x c → Agrees u n c
+unfolding change
+changes_agrees u Not a n x c p e g = truth_agrees (number x ≡ pos 0) u (is_zero a) n c (zero_agrees u a x p) e g
+changes_agrees u Minus a n (signed s) c p e g = as_signed u n c (neg_ℤ s) g.1 (fit_is u (neg_ℤ s) n (ap (λ z. fit u (neg_ℤ z)) p.0 ∙ e))
+changes_agrees true Minus a n (unsigned j) c p e g = negated_natural j n c (ap (λ z. fit true (neg_ℤ z)) p.0 ∙ e) g
+changes_agrees false Minus a n (unsigned j) c p e g = absurd (false≢true p.2)
+changes_agrees u Complement a n (signed s) c p e g =
+    as_signed u n c (neg_ℤ s -ℤ pos 1) (g ∙ ap signed (turned u s (ap (fits u) p.0 ∙ p.1))) (fit_is u (neg_ℤ s -ℤ pos 1) n (ap (λ z. fit u (neg_ℤ z -ℤ pos 1)) p.0 ∙ e))
+changes_agrees true Complement a n (unsigned j) c p e g = absurd (no_complement j n (ap (λ z. fit true (neg_ℤ z -ℤ pos 1)) p.0 ∙ e))
+changes_agrees false Complement a n (unsigned j) c p e g = absurd (false≢true p.2)
+changes_agrees u _ a n x c p e g = absurd (none-some n e)

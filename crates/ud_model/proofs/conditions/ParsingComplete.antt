@@ -1,0 +1,154 @@
+-- Complete: the tokens that a tree is written with are read as that tree.
+use Rattle.std.proofs.Common.{◌≡◌, ℕ, ◌+◌, ◌<◌, ◌≤◌, List, [], ◌∷◌, ◌++◌, Bool, true, false, IsTrue, if◌then◌else◌, leb, Some, refl, sym, ◌∙◌, ap, ap₂, append_assoc, append-nil, inl, inr, arith}
+use Rattle.std.proofs.lemmas.Bool.Decides.{leb_tells}
+use Rattle.ud_model.specs.conditions.Tokens.{Token, number, name, defined, operator, opening, closing}
+use Rattle.ud_model.specs.conditions.Expressions.{Expression, constant, named, is_defined, unary, binary, parens, level, is_prefix, spelling, IsOfLevel}
+use Rattle.ud_model.specs.aids.Parsing.{Meaning, meaning, Frame, left, before, paren, Below, needs, has, stuck, reduce, close, wait, alone, run, itself}
+use Rattle.ud_model.specs.declared.operator.Operator.{Operator}
+use Rattle.ud_model.specs.declared.operator.Operator.TheVariants.{Or, And, BitOr, BitXor, BitAnd, Equal, NotEqual, Less, LessEqual, Greater, GreaterEqual, Plus, Minus, Times, Over, Remainder, Not, Complement}
+
+-- no operator tighter than level k comes next
+abbrev pub Stops : ℕ → List Token → Type 0
+Stops k [] = Unit {0}
+Stops k (operator o ∷ ts) = level o ≤ k
+Stops k (number w ∷ ts) = Unit {0}
+Stops k (name n a ∷ ts) = Unit {0}
+Stops k (defined ∷ ts) = Unit {0}
+Stops k (opening ∷ ts) = Unit {0}
+Stops k (closing ∷ ts) = Unit {0}
+
+-- each level between two operands is below that of an operator before one
+pub level_most : (o : Operator) → level o ≤ 9
+level_most Or = omega arith
+level_most And = omega arith
+level_most BitOr = omega arith
+level_most BitXor = omega arith
+level_most BitAnd = omega arith
+level_most Equal = omega arith
+level_most NotEqual = omega arith
+level_most Less = omega arith
+level_most LessEqual = omega arith
+level_most Greater = omega arith
+level_most GreaterEqual = omega arith
+level_most Plus = omega arith
+level_most Minus = omega arith
+level_most Times = omega arith
+level_most Over = omega arith
+level_most Remainder = omega arith
+level_most Not = omega arith
+level_most Complement = omega arith
+
+-- the test for at most, where it holds
+pub leb_yes : (a b : ℕ) → a ≤ b → leb a b ≡ true
+leb_yes a b h = elim (leb_tells a b) [ inl p ↦ p.0 | inr p ↦ absurd (omega arith) ]
+
+-- the test for at most, where it doesn't
+pub leb_no : (a b : ℕ) → b < a → leb a b ≡ false
+leb_no a b h = elim (leb_tells a b) [ inl p ↦ absurd (omega arith) | inr p ↦ p.0 ]
+
+-- what takes no operand before level j takes none before a tighter one
+pub below_more : {A : Type 0} (j k : ℕ) (s : List (Frame A)) → j ≤ k → Below j s → Below k s
+below_more j k [] l b = tt
+below_more j k (left o a ∷ s) l b = omega arith
+below_more j k (before o ∷ s) l b = omega arith
+below_more j k (paren ∷ s) l b = tt
+
+-- where nothing tighter than level j comes next, nothing tighter than a tighter level does
+pub stops_more : (j k : ℕ) (ts : List Token) → j ≤ k → Stops j ts → Stops k ts
+stops_more j k [] l b = tt
+stops_more j k (operator o ∷ ts) l b = omega arith
+stops_more j k (number w ∷ ts) l b = tt
+stops_more j k (name n a ∷ ts) l b = tt
+stops_more j k (defined ∷ ts) l b = tt
+stops_more j k (opening ∷ ts) l b = tt
+stops_more j k (closing ∷ ts) l b = tt
+
+-- behind a prefix operator every operator stops
+stops_ten : (ts : List Token) → Stops 10 ts
+stops_ten [] = tt
+stops_ten (operator o ∷ ts) = let h : level o ≤ 9 = level_most o in omega arith
+stops_ten (number w ∷ ts) = tt
+stops_ten (name n a ∷ ts) = tt
+stops_ten (defined ∷ ts) = tt
+stops_ten (opening ∷ ts) = tt
+stops_ten (closing ∷ ts) = tt
+
+module _ {A : Type 0} (m : Meaning A) where
+  -- what waits further out takes nothing yet
+  reduce_below : (o : Operator) (x : A) (s : List (Frame A)) → Below (level o) s → reduce m (level o) x s ≡ (x, s)
+  reduce_below o x [] b = refl
+  reduce_below o x (left p a ∷ s) b =
+      ap (λ (t : Bool). if t then reduce m (level o) (m.binary p a x) s else (x, left p a ∷ s)) (leb_no (level o) (level p) b)
+  reduce_below o x (before p ∷ s) b = let h : level o ≤ 9 = level_most o in absurd (omega arith)
+  reduce_below o x (paren ∷ s) b = refl
+
+  -- a prefix operator takes its operand whatever comes next
+  take_before : (o : Operator) (x : A) (s : List (Frame A)) (ts : List Token) → run m (has x (before o ∷ s)) ts ≡ run m (has (m.unary o x) s) ts
+  take_before o x s [] = refl
+  take_before o x s (operator p ∷ ts) = refl
+  take_before o x s (number w ∷ ts) = refl
+  take_before o x s (name n a ∷ ts) = refl
+  take_before o x s (defined ∷ ts) = refl
+  take_before o x s (opening ∷ ts) = refl
+  take_before o x s (closing ∷ ts) = refl
+
+  reduce_left : (j : ℕ) (o : Operator) (a x : A) (s : List (Frame A)) → j ≤ level o → reduce m j x (left o a ∷ s) ≡ reduce m j (m.binary o a x) s
+  reduce_left j o a x s l =
+      ap (λ (t : Bool). if t then reduce m j (m.binary o a x) s else (x, left o a ∷ s)) (leb_yes j (level o) l)
+
+  -- an operator takes its right operand where no tighter one comes next
+  take_left : (o : Operator) (a x : A) (s : List (Frame A)) (ts : List Token) → Stops (level o) ts → run m (has x (left o a ∷ s)) ts ≡ run m (has (m.binary o a x) s) ts
+  take_left o a x s [] h = ap (alone m) (reduce_left 0 o a x s (omega arith))
+  take_left o a x s (operator p ∷ ts) h =
+      ap (λ r. run m (if leb 1 (level p) then wait m p r else stuck) ts) (reduce_left (level p) o a x s h)
+  take_left o a x s (number w ∷ ts) h = refl
+  take_left o a x s (name n b ∷ ts) h = refl
+  take_left o a x s (defined ∷ ts) h = refl
+  take_left o a x s (opening ∷ ts) h = refl
+  take_left o a x s (closing ∷ ts) h = ap (λ r. run m (close m r) ts) (reduce_left 0 o a x s (omega arith))
+
+  prefix_step : (o : Operator) (s : List (Frame A)) (ts : List Token) → IsTrue (is_prefix o) → run m (needs s) (operator o ∷ ts) ≡ run m (needs (before o ∷ s)) ts
+  prefix_step o s ts h = ap (λ (t : Bool). run m (if t then needs (before o ∷ s) else stuck) ts) h
+
+  wait_step : (o : Operator) (x : A) (s : List (Frame A)) (ts : List Token) → 1 ≤ level o → Below (level o) s →
+      run m (has x s) (operator o ∷ ts) ≡ run m (needs (left o x ∷ s)) ts
+  wait_step o x s ts l b =
+      ap (λ (t : Bool). run m (if t then wait m o (reduce m (level o) x s) else stuck) ts) (leb_yes 1 (level o) l)
+      ∙ ap (λ r. run m (wait m o r) ts) (reduce_below o x s b)
+
+  -- the tokens of a tree give what the tree means, whatever waits and whatever comes next
+  pub complete : (e : Expression) (k : ℕ) → 1 ≤ k → IsOfLevel k e → (s : List (Frame A)) → Below k s → (ts : List Token) → Stops k ts →
+      run m (needs s) (spelling e ++ ts) ≡ run m (has (meaning m e) s) ts
+  complete (constant w) k l i s b ts h = refl
+  complete (named n a) k l i s b ts h = refl
+  complete (is_defined n false) k l i s b ts h = refl
+  complete (is_defined n true) k l i s b ts h = refl
+  complete (unary o a) k l i s b ts h =
+      prefix_step o s (spelling a ++ ts) i.0
+      ∙ complete a 10 (omega arith) i.1 (before o ∷ s) (omega arith) ts (stops_ten ts)
+      ∙ take_before o (meaning m a) s ts
+  complete (binary o a b) k l i s f ts h =
+      let more : 1 ≤ level o = let d : k ≤ level o = i.0 in omega arith in
+      let under : Below (level o) s = below_more k (level o) s i.0 f in
+      let stop : Stops (level o) ts = stops_more k (level o) ts i.0 h in
+      ap (λ us. run m (needs s) us) (append_assoc (spelling a) (operator o ∷ spelling b) ts)
+      ∙ complete a (level o) more i.1 s under (operator o ∷ spelling b ++ ts) (omega arith)
+      ∙ wait_step o (meaning m a) s (spelling b ++ ts) more under
+      ∙ complete b (level o + 1) (omega arith) i.2 (left o (meaning m a) ∷ s) (omega arith) ts (stops_more (level o) (level o + 1) ts (omega arith) stop)
+      ∙ take_left o (meaning m a) (meaning m b) s ts stop
+  complete (parens a) k l i s b ts h =
+      ap (λ us. run m (needs (paren ∷ s)) us) (append_assoc (spelling a) (closing ∷ []) ts)
+      ∙ complete a 1 (omega arith) i (paren ∷ s) tt (closing ∷ ts) tt
+
+  -- the tokens of an expression alone give what it means
+  pub complete_alone : (e : Expression) → IsOfLevel 1 e → run m (needs []) (spelling e) ≡ Some (meaning m e)
+  complete_alone e i = ap (λ us. run m (needs []) us) (sym (append-nil (spelling e))) ∙ complete e 1 (omega arith) i [] tt [] tt
+
+-- each tree means itself
+pub meaning_itself : (e : Expression) → meaning itself e ≡ e
+meaning_itself (constant w) = refl
+meaning_itself (named n a) = refl
+meaning_itself (is_defined n p) = refl
+meaning_itself (unary o a) = ap (unary o) (meaning_itself a)
+meaning_itself (binary o a b) = ap₂ (binary o) (meaning_itself a) (meaning_itself b)
+meaning_itself (parens a) = ap parens (meaning_itself a)

@@ -1,0 +1,120 @@
+-- Readings: what a text means in a state is what the tree that is read in that state means.
+use Rattle.std.proofs.Common.{◌≡◌, ℕ, List, [], ◌∷◌, Bool, true, false, if◌then◌else◌, leb, Option, Some, None, option_map, refl, ◌∙◌, ap}
+use Rattle.ud_model.specs.conditions.Tokens.{Token, number, name, defined, operator, opening, closing}
+use Rattle.ud_model.specs.conditions.Expressions.{Expression, level, is_prefix}
+use Rattle.ud_model.specs.aids.Parsing.{Meaning, meaning, Frame, left, before, paren, State, needs, has, asks, asks_inside, asks_end, stuck, reduce, close, wait, step, alone, finish, run, run_all, tokens_of, reads, itself, expression_of}
+use Rattle.ud_model.specs.declared.operator.Operator.{Operator}
+
+module _ {A : Type 0} (m : Meaning A) where
+  -- what waits, each tree taken by its meaning
+  abbrev pub frames_meant : List (Frame Expression) → List (Frame A)
+  frames_meant [] = []
+  frames_meant (left o e ∷ s) = left o (meaning m e) ∷ frames_meant s
+  frames_meant (before o ∷ s) = before o ∷ frames_meant s
+  frames_meant (paren ∷ s) = paren ∷ frames_meant s
+
+  -- an operand and what waits, taken by their meaning
+  abbrev pub pair_meant : Expression × List (Frame Expression) → A × List (Frame A)
+  pair_meant (e, s) = (meaning m e, frames_meant s)
+
+  -- a state, taken by its meaning
+  abbrev pub state_meant : State Expression → State A
+  state_meant (needs s) = needs (frames_meant s)
+  state_meant (has e s) = has (meaning m e) (frames_meant s)
+  state_meant (asks s) = asks (frames_meant s)
+  state_meant (asks_inside s) = asks_inside (frames_meant s)
+  state_meant (asks_end n s) = asks_end n (frames_meant s)
+  state_meant stuck = stuck
+
+  on_either : (b : Bool) {x y : A × List (Frame A)} (p q : Expression × List (Frame Expression)) → x ≡ pair_meant p → y ≡ pair_meant q →
+      (if b then x else y) ≡ pair_meant (if b then p else q)
+  on_either true p q d e = d
+  on_either false p q d e = e
+
+  reduce_meant : (j : ℕ) (e : Expression) (s : List (Frame Expression)) → reduce m j (meaning m e) (frames_meant s) ≡ pair_meant (reduce itself j e s)
+  reduce_meant j e [] = refl
+  reduce_meant j e (left o a ∷ s) = on_either (leb j (level o)) _ _ (reduce_meant j (itself.binary o a e) s) refl
+  reduce_meant j e (before o ∷ s) = reduce_meant j (itself.unary o e) s
+  reduce_meant j e (paren ∷ s) = refl
+
+  close_meant : (r : Expression × List (Frame Expression)) → close m (pair_meant r) ≡ state_meant (close itself r)
+  close_meant (e, []) = refl
+  close_meant (e, left o a ∷ s) = refl
+  close_meant (e, before o ∷ s) = refl
+  close_meant (e, paren ∷ s) = refl
+
+  wait_meant : (o : Operator) (r : Expression × List (Frame Expression)) → wait m o (pair_meant r) ≡ state_meant (wait itself o r)
+  wait_meant o (e, s) = refl
+
+  alone_meant : (r : Expression × List (Frame Expression)) → alone m (pair_meant r) ≡ option_map (meaning m) (alone itself r)
+  alone_meant (e, []) = refl
+  alone_meant (e, left o a ∷ s) = refl
+  alone_meant (e, before o ∷ s) = refl
+  alone_meant (e, paren ∷ s) = refl
+
+  prefix_meant : (b : Bool) (o : Operator) (s : List (Frame Expression)) →
+      (if b then needs (before o ∷ frames_meant s) else stuck) ≡ state_meant (if b then needs (before o ∷ s) else stuck)
+  prefix_meant true o s = refl
+  prefix_meant false o s = refl
+
+  infix_meant : (b : Bool) (o : Operator) (e : Expression) (s : List (Frame Expression)) →
+      (if b then wait m o (reduce m (level o) (meaning m e) (frames_meant s)) else stuck) ≡ state_meant (if b then wait itself o (reduce itself (level o) e s) else stuck)
+  infix_meant true o e s = ap (wait m o) (reduce_meant (level o) e s) ∙ wait_meant o (reduce itself (level o) e s)
+  infix_meant false o e s = refl
+
+  step_meant : (s : State Expression) (t : Token) → step m (state_meant s) t ≡ state_meant (step itself s t)
+  step_meant (needs s) (number w) = refl
+  step_meant (needs s) (name n a) = refl
+  step_meant (needs s) defined = refl
+  step_meant (needs s) (operator o) = prefix_meant (is_prefix o) o s
+  step_meant (needs s) opening = refl
+  step_meant (needs s) closing = refl
+  step_meant (has e s) (number w) = refl
+  step_meant (has e s) (name n a) = refl
+  step_meant (has e s) defined = refl
+  step_meant (has e s) (operator o) = infix_meant (leb 1 (level o)) o e s
+  step_meant (has e s) opening = refl
+  step_meant (has e s) closing = ap (close m) (reduce_meant 0 e s) ∙ close_meant (reduce itself 0 e s)
+  step_meant (asks s) (number w) = refl
+  step_meant (asks s) (name n false) = refl
+  step_meant (asks s) (name n true) = refl
+  step_meant (asks s) defined = refl
+  step_meant (asks s) (operator o) = refl
+  step_meant (asks s) opening = refl
+  step_meant (asks s) closing = refl
+  step_meant (asks_inside s) (number w) = refl
+  step_meant (asks_inside s) (name n false) = refl
+  step_meant (asks_inside s) (name n true) = refl
+  step_meant (asks_inside s) defined = refl
+  step_meant (asks_inside s) (operator o) = refl
+  step_meant (asks_inside s) opening = refl
+  step_meant (asks_inside s) closing = refl
+  step_meant (asks_end n s) (number w) = refl
+  step_meant (asks_end n s) (name k a) = refl
+  step_meant (asks_end n s) defined = refl
+  step_meant (asks_end n s) (operator o) = refl
+  step_meant (asks_end n s) opening = refl
+  step_meant (asks_end n s) closing = refl
+  step_meant stuck t = refl
+
+  finish_meant : (s : State Expression) → finish m (state_meant s) ≡ option_map (meaning m) (finish itself s)
+  finish_meant (needs s) = refl
+  finish_meant (has e s) = ap (alone m) (reduce_meant 0 e s) ∙ alone_meant (reduce itself 0 e s)
+  finish_meant (asks s) = refl
+  finish_meant (asks_inside s) = refl
+  finish_meant (asks_end n s) = refl
+  finish_meant stuck = refl
+
+  -- tokens mean what their tree means
+  pub run_meant : (s : State Expression) (ts : List Token) → run m (state_meant s) ts ≡ option_map (meaning m) (run itself s ts)
+  run_meant s [] = finish_meant s
+  run_meant s (t ∷ ts) = ap (λ q. run m q ts) (step_meant s t) ∙ run_meant (step itself s t) ts
+
+  run_all_meant : (s : State Expression) (ts : Option (List Token)) → run_all m (state_meant s) ts ≡ option_map (meaning m) (run_all itself s ts)
+  run_all_meant s None = refl
+  run_all_meant s (Some ts) = run_meant s ts
+
+  -- a text means what its tree means
+  pub reads_meaning : (text : List ℕ) → reads m (needs []) text ≡ option_map (meaning m) (expression_of text)
+  unfolding reads expression_of
+  reads_meaning text = run_all_meant (needs []) (tokens_of text)

@@ -1,0 +1,43 @@
+-- White space in front of an expression says nothing.
+use Rattle.std.proofs.Common.{◌≡◌, ℕ, List, [], ◌∷◌, Option, Some, None, Bool, true, if◌then◌else◌, refl, sym, ◌∙◌, ap}
+use Rattle.ud_model.specs.text.Bytes.{is_white, past_white}
+use Rattle.ud_model.specs.conditions.Table.{Argument}
+use Rattle.ud_model.specs.conditions.Expressions.{Expression}
+use Rattle.ud_model.specs.conditions.Tokens.{Token, next_token, token_in_front, AreTokens}
+use Rattle.ud_model.specs.aids.Parsing.{tokens_of, reads, run_all, itself, needs, expression_of}
+use Rattle.ud_model.specs.conditions.Conditions.{Rules, expression_cond, tree_cond_if}
+use Rattle.ud_model.proofs.conditions.TokenLemmas.{tokens_of_only, tokens_of_are}
+
+past_one : (b : ℕ) (t : List ℕ) → is_white b ≡ true → past_white (b ∷ t) ≡ past_white t
+past_one b t e = ap (λ (w : Bool). if w then past_white t else b ∷ t) e
+
+token_past : (b : ℕ) (t : List ℕ) → is_white b ≡ true → next_token (b ∷ t) ≡ next_token t
+unfolding next_token
+token_past b t e = ap token_in_front (past_one b t e)
+
+tokens_past : (b : ℕ) (t : List ℕ) (ts : List Token) → is_white b ≡ true → AreTokens (b ∷ t) ts → AreTokens t ts
+tokens_past b t [] e h = sym (token_past b t e) ∙ h
+tokens_past b t (k ∷ ts) e h = (h.0, sym (token_past b t e) ∙ h.1, h.2)
+
+tokens_before : (b : ℕ) (t : List ℕ) (ts : List Token) → is_white b ≡ true → AreTokens t ts → AreTokens (b ∷ t) ts
+tokens_before b t [] e h = token_past b t e ∙ h
+tokens_before b t (k ∷ ts) e h = (h.0, token_past b t e ∙ h.1, h.2)
+
+-- the tokens of a text are those with white space in front
+tokens_same : (b : ℕ) (t : List ℕ) → is_white b ≡ true → tokens_of (b ∷ t) ≡ tokens_of t
+tokens_same b t e = go (tokens_of (b ∷ t)) (tokens_of t) refl refl
+  where
+    go : (p q : Option (List Token)) → tokens_of (b ∷ t) ≡ p → tokens_of t ≡ q → p ≡ q
+    go None None c d = refl
+    go (Some ts) q c d = sym (tokens_of_only t ts (tokens_past b t ts e (tokens_of_are (b ∷ t) ts c))) ∙ d
+    go None (Some ts) c d = sym c ∙ tokens_of_only (b ∷ t) ts (tokens_before b t ts e (tokens_of_are t ts d))
+
+-- the expression of a text is that with white space in front
+pub expression_past : (b : ℕ) (t : List ℕ) → is_white b ≡ true → expression_of (b ∷ t) ≡ expression_of t
+unfolding expression_of reads
+expression_past b t e = ap (λ (ts : Option (List Token)). run_all itself (needs []) ts) (tokens_same b t e)
+
+-- and so is its condition
+pub cond_past : (b : ℕ) (t : List ℕ) (table : List Argument) (rules : Rules) → is_white b ≡ true → expression_cond (b ∷ t) table rules ≡ expression_cond t table rules
+unfolding expression_cond
+cond_past b t table rules e = ap (λ (o : Option Expression). tree_cond_if o table rules) (expression_past b t e)

@@ -1,0 +1,230 @@
+-- Symbols: where the value of a name ends depends on what the table says of names, and not on how long it is.
+--
+-- A way that ends needn't come to a name twice. So behind its first name it goes over the arguments that name another, and
+-- these are fewer.
+use Rattle.std.proofs.Common.{◌≡◌, ℕ, zero, suc, ◌≤◌, ◌<◌, List, [], ◌∷◌, length, Bool, true, false, if◌then◌else◌, Option, Some, None, bytes_eq, refl, sym, ◌∙◌, ap, subst, ◌⊎◌, inl, inr, arith}
+use Rattle.std.proofs.lemmas.Slice.Eq.{bytes_eq-Decides}
+use Rattle.std.proofs.lemmas.Option.{none-some, same_Some}
+use Rattle.ud_model.specs.text.Bytes.{is_identifier}
+use Rattle.ud_model.specs.conditions.Table.{Argument, Entry, entry_from, entry_in}
+use Rattle.ud_model.specs.conditions.Symbols.{text_in, defined_text, on_text, ends_in, end_of}
+
+-- the tables say the same of every name
+abbrev pub SaySame : List Argument → List Argument → Type 0
+SaySame t u = (n : List ℕ) → entry_in t n ≡ entry_in u n
+
+-- a step: the text of a name is an end, or a name from which the way goes on
+pub record Goes (t : List Argument) (k : ℕ) (n v : List ℕ) : Type 0 where
+  pub text : List ℕ
+  pub says : defined_text t n ≡ Some text
+  pub on : ((is_identifier text ≡ false) × (text ≡ v)) ⊎ ((is_identifier text ≡ true) × (ends_in k t text ≡ Some v))
+
+goes_by : (f : List ℕ → Option (List ℕ)) (b : Bool) (w v : List ℕ) → (if b then f w else Some w) ≡ Some v →
+    ((b ≡ false) × (w ≡ v)) ⊎ ((b ≡ true) × (f w ≡ Some v))
+goes_by f true w v e = inr (refl, e)
+goes_by f false w v e = inl (refl, same_Some w v e)
+
+goes_on : (t : List Argument) (k : ℕ) (n v : List ℕ) (o : Option (List ℕ)) → defined_text t n ≡ o → on_text (λ w. ends_in k t w) o ≡ Some v → Goes t k n v
+goes_on t k n v None d e = absurd (none-some v e)
+goes_on t k n v (Some w) d e = record { text = w; says = d; on = goes_by (λ x. ends_in k t x) (is_identifier w) w v e }
+
+-- the first step of a way that ends
+pub goes : (t : List Argument) (k : ℕ) (n v : List ℕ) → ends_in (suc k) t n ≡ Some v → Goes t k n v
+goes t k n v e = goes_on t k n v (defined_text t n) refl e
+
+if_end : (f : List ℕ → Option (List ℕ)) (b : Bool) (w : List ℕ) → b ≡ false → (if b then f w else Some w) ≡ Some w
+if_end f b w e = rw e
+
+if_name : (f : List ℕ → Option (List ℕ)) (b : Bool) (w : List ℕ) → b ≡ true → (if b then f w else Some w) ≡ f w
+if_name f b w e = rw e
+
+-- the text is an end
+pub ends_here : (t : List Argument) (k : ℕ) (n w : List ℕ) → defined_text t n ≡ Some w → is_identifier w ≡ false → ends_in (suc k) t n ≡ Some w
+ends_here t k n w d e = ap (on_text (λ x. ends_in k t x)) d ∙ if_end (λ x. ends_in k t x) (is_identifier w) w e
+
+-- the way goes on from the text
+pub ends_behind : (t : List Argument) (k : ℕ) (n w : List ℕ) → defined_text t n ≡ Some w → is_identifier w ≡ true → ends_in (suc k) t n ≡ ends_in k t w
+ends_behind t k n w d e = ap (on_text (λ x. ends_in k t x)) d ∙ if_name (λ x. ends_in k t x) (is_identifier w) w e
+
+-- the way on which `u` goes as `t` does, wherever `t` has a text
+abbrev pub Follows : List Argument → List Argument → Type 0
+Follows t u = (n w : List ℕ) → defined_text t n ≡ Some w → defined_text u n ≡ Some w
+
+-- a step is taken over a table that follows, where the way behind it is
+step_follows : (j k : ℕ) (t u : List Argument) → Follows t u → (n v : List ℕ) → Goes t j n v →
+    ((w : List ℕ) → ends_in j t w ≡ Some v → ends_in k u w ≡ Some v) → ends_in (suc k) u n ≡ Some v
+step_follows j k t u f n v g further = by g.on
+  where
+    by : ((is_identifier g.text ≡ false) × (g.text ≡ v)) ⊎ ((is_identifier g.text ≡ true) × (ends_in j t g.text ≡ Some v)) → ends_in (suc k) u n ≡ Some v
+    by (inl p) = ends_here u k n g.text (f n g.text g.says) p.0 ∙ ap Some p.1
+    by (inr p) = ends_behind u k n g.text (f n g.text g.says) p.0 ∙ further g.text p.1
+
+-- more steps, over a table that follows, come to the same end
+pub ends_more : (j k : ℕ) (t u : List Argument) → Follows t u → (n v : List ℕ) → j ≤ k → ends_in j t n ≡ Some v → ends_in k u n ≡ Some v
+ends_more zero k t u f n v l e = absurd (none-some v e)
+ends_more (suc j) zero t u f n v l e = absurd (omega arith)
+ends_more (suc j) (suc k) t u f n v l e = step_follows j k t u f n v (goes t j n v e) (λ w h. ends_more j k t u f w v (omega arith) h)
+
+-- the arguments that name another
+abbrev pub without : List ℕ → List Argument → List Argument
+without n [] = []
+without n (a ∷ t) = if bytes_eq a.name n then without n t else a ∷ without n t
+
+without_other_by : (n m : List ℕ) → bytes_eq n m ≡ false → (a : Argument) (t : List Argument) (e : Option Entry) →
+    ((f : Option Entry) → entry_from f (without n t) m ≡ entry_from f t m) → (b : Bool) → bytes_eq a.name n ≡ b →
+    entry_from e (if b then without n t else a ∷ without n t) m ≡ entry_from (if bytes_eq a.name m then Some a.entry else e) t m
+without_other_by n m d a t e before true h =
+    let q : bytes_eq a.name m ≡ false = rw ((bytes_eq-Decides a.name n).0 h) d in
+    before e ∙ ap (λ (b : Bool). entry_from (if b then Some a.entry else e) t m) (sym q)
+without_other_by n m d a t e before false h = before (if bytes_eq a.name m then Some a.entry else e)
+
+-- they say of each other name what all say
+without_other : (n m : List ℕ) → bytes_eq n m ≡ false → (t : List Argument) (e : Option Entry) → entry_from e (without n t) m ≡ entry_from e t m
+without_other n m d [] e = refl
+without_other n m d (a ∷ t) e = without_other_by n m d a t e (λ f. without_other n m d t f) (bytes_eq a.name n) refl
+
+without_none_by : (n : List ℕ) (a : Argument) (t : List Argument) → entry_in (without n t) n ≡ None → (b : Bool) → bytes_eq a.name n ≡ b →
+    entry_in (if b then without n t else a ∷ without n t) n ≡ None
+without_none_by n a t before true h = before
+without_none_by n a t before false h = ap (λ (b : Bool). entry_from (if b then Some a.entry else None) (without n t) n) h ∙ before
+
+-- and nothing of the name
+without_none : (n : List ℕ) (t : List Argument) → entry_in (without n t) n ≡ None
+without_none n [] = refl
+without_none n (a ∷ t) = without_none_by n a t (without_none n t) (bytes_eq a.name n) refl
+
+most_by : (n : List ℕ) (a : Argument) (t : List Argument) → length (without n t) ≤ length t → (b : Bool) →
+    length (if b then without n t else a ∷ without n t) ≤ suc (length t)
+most_by n a t h true = omega arith
+most_by n a t h false = omega arith
+
+-- they are no more
+without_most : (n : List ℕ) (t : List Argument) → length (without n t) ≤ length t
+without_most n [] = omega arith
+without_most n (a ∷ t) = most_by n a t (without_most n t) (bytes_eq a.name n)
+
+fewer_by : (n : List ℕ) (a : Argument) (t : List Argument) (e : Option Entry) (x : Entry) → length (without n t) ≤ length t →
+    ((f : Option Entry) → entry_from f t n ≡ Some x → (f ≡ Some x) ⊎ (length (without n t) < length t)) →
+    (b : Bool) → entry_from (if b then Some a.entry else e) t n ≡ Some x →
+    (e ≡ Some x) ⊎ (length (if b then without n t else a ∷ without n t) < suc (length t))
+fewer_by n a t e x l before true h = inr (omega arith)
+fewer_by n a t e x l before false h = elim (before e h) [ inl p ↦ inl p | inr q ↦ inr (omega arith) ]
+
+-- and fewer where the name is listed
+without_fewer : (n : List ℕ) (t : List Argument) (e : Option Entry) (x : Entry) → entry_from e t n ≡ Some x →
+    (e ≡ Some x) ⊎ (length (without n t) < length t)
+without_fewer n [] e x h = inl h
+without_fewer n (a ∷ t) e x h = fewer_by n a t e x (without_most n t) (λ f. without_fewer n t f x) (bytes_eq a.name n) h
+
+-- a name with a text is listed
+listed_by : (o : Option Entry) (w : List ℕ) → text_in o ≡ Some w → (x : Entry) × (o ≡ Some x)
+listed_by None w e = absurd (none-some w e)
+listed_by (Some x) w e = (x, refl)
+
+fewer : (n w : List ℕ) (t : List Argument) → defined_text t n ≡ Some w → length (without n t) < length t
+fewer n w t d =
+    let x : (x : Entry) × (entry_in t n ≡ Some x) = listed_by (entry_in t n) w d in
+    elim (without_fewer n t None x.0 x.1) [ inl p ↦ absurd (none-some x.0 p) | inr l ↦ l ]
+
+follows_by : (n : List ℕ) (t : List Argument) (m w : List ℕ) (b : Bool) → bytes_eq n m ≡ b → defined_text (without n t) m ≡ Some w → defined_text t m ≡ Some w
+follows_by n t m w true q d =
+    let p : n ≡ m = (bytes_eq-Decides n m).0 q in
+    let h : entry_in (without n t) m ≡ None = subst (λ k. entry_in (without n t) k ≡ None) p (without_none n t) in
+    absurd (none-some w (sym (ap text_in h) ∙ d))
+follows_by n t m w false q d = ap text_in (sym (without_other n m q t None)) ∙ d
+
+-- all the arguments follow those that name another
+follows : (n : List ℕ) (t : List Argument) → Follows (without n t) t
+follows n t m w d = follows_by n t m w (bytes_eq n m) refl d
+
+-- a way of so many steps that ends avoids a name, or what is left of it begins there
+abbrev pub Splits : ℕ → List Argument → List ℕ → List ℕ → List ℕ → Type 0
+Splits k t n w v = (ends_in k (without n t) w ≡ Some v) ⊎ ((j : ℕ) × (j ≤ k) × (ends_in j t n ≡ Some v))
+
+split_on : (k : ℕ) (t : List Argument) (n w v x : List ℕ) → defined_text (without n t) w ≡ Some x → is_identifier x ≡ true → Splits k t n x v → Splits (suc k) t n w v
+split_on k t n w v x d i (inl e) = inl (ends_behind (without n t) k w x d i ∙ e)
+split_on k t n w v x d i (inr (j, l, e)) = inr (j, omega arith, e)
+
+split_other : (k : ℕ) (t : List Argument) (n w v : List ℕ) → bytes_eq n w ≡ false → Goes t k w v → ((x : List ℕ) → ends_in k t x ≡ Some v → Splits k t n x v) → Splits (suc k) t n w v
+split_other k t n w v q g further = by g.on
+  where
+    says : defined_text (without n t) w ≡ Some g.text
+    says = ap text_in (without_other n w q t None) ∙ g.says
+
+    by : ((is_identifier g.text ≡ false) × (g.text ≡ v)) ⊎ ((is_identifier g.text ≡ true) × (ends_in k t g.text ≡ Some v)) → Splits (suc k) t n w v
+    by (inl p) = inl (ends_here (without n t) k w g.text says p.0 ∙ ap Some p.1)
+    by (inr p) = split_on k t n w v g.text says p.0 (further g.text p.1)
+
+split_by : (k : ℕ) (t : List Argument) (n w v : List ℕ) (b : Bool) → bytes_eq n w ≡ b → ends_in (suc k) t w ≡ Some v → ((x : List ℕ) → ends_in k t x ≡ Some v → Splits k t n x v) →
+    Splits (suc k) t n w v
+split_by k t n w v true q e further = inr (suc k, omega arith, subst (λ m. ends_in (suc k) t m ≡ Some v) (sym ((bytes_eq-Decides n w).0 q)) e)
+split_by k t n w v false q e further = split_other k t n w v q (goes t k w v e) further
+
+split : (k : ℕ) (t : List Argument) (n w v : List ℕ) → ends_in k t w ≡ Some v → Splits k t n w v
+split zero t n w v e = absurd (none-some v e)
+split (suc k) t n w v e = split_by k t n w v (bytes_eq n w) refl e (λ x h. split k t n x v h)
+
+-- a way that ends does so in as many steps as there are arguments
+abbrev pub Soon : List Argument → Type 0
+Soon t = (k : ℕ) (n v : List ℕ) → ends_in k t n ≡ Some v → ends_in (length t) t n ≡ Some v
+
+-- at most so many steps
+abbrev pub SoonWithin : ℕ → List Argument → Type 0
+SoonWithin most t = (k : ℕ) (n v : List ℕ) → k ≤ most → ends_in k t n ≡ Some v → ends_in (length t) t n ≡ Some v
+
+same_follows : (t : List Argument) → Follows t t
+same_follows t n w d = d
+
+-- one step, and then a way over fewer arguments
+soon_behind : (t : List Argument) (n w v : List ℕ) → defined_text t n ≡ Some w → is_identifier w ≡ true → ends_in (length (without n t)) (without n t) w ≡ Some v →
+    ends_in (length t) t n ≡ Some v
+soon_behind t n w v d i e =
+    let l : length (without n t) < length t = fewer n w t d in
+    let h : ends_in (length (without n t)) t w ≡ Some v = ends_more (length (without n t)) (length (without n t)) (without n t) t (follows n t) w v (omega arith) e in
+    ends_more (suc (length (without n t))) (length t) t t (same_follows t) n v (omega arith) (ends_behind t (length (without n t)) n w d i ∙ h)
+
+soon_split : (most : ℕ) (t : List Argument) → ((n w : List ℕ) → defined_text t n ≡ Some w → Soon (without n t)) → SoonWithin most t →
+    (k : ℕ) (n w v : List ℕ) → k ≤ most → defined_text t n ≡ Some w → is_identifier w ≡ true → Splits k t n w v → ends_in (length t) t n ≡ Some v
+soon_split most t smaller within k n w v l d i (inl e) = soon_behind t n w v d i (smaller n w d k w v e)
+soon_split most t smaller within k n w v l d i (inr (j, q, e)) = within j n v (omega arith) e
+
+soon_step : (most : ℕ) (t : List Argument) → ((n w : List ℕ) → defined_text t n ≡ Some w → Soon (without n t)) → SoonWithin most t →
+    (k : ℕ) (n v : List ℕ) → k ≤ most → Goes t k n v → ends_in (length t) t n ≡ Some v
+soon_step most t smaller within k n v l g = by g.on
+  where
+    by : ((is_identifier g.text ≡ false) × (g.text ≡ v)) ⊎ ((is_identifier g.text ≡ true) × (ends_in k t g.text ≡ Some v)) → ends_in (length t) t n ≡ Some v
+    by (inl p) =
+        let q : length (without n t) < length t = fewer n g.text t g.says in
+        ends_more 1 (length t) t t (same_follows t) n v (omega arith) (ends_here t 0 n g.text g.says p.0 ∙ ap Some p.1)
+    by (inr p) = soon_split most t smaller within k n g.text v l g.says p.0 (split k t n g.text v p.1)
+
+soon_within : (t : List Argument) → ((n w : List ℕ) → defined_text t n ≡ Some w → Soon (without n t)) → (most : ℕ) → SoonWithin most t
+soon_within t smaller most zero n v l e = absurd (none-some v e)
+soon_within t smaller zero (suc k) n v l e = absurd (omega arith)
+soon_within t smaller (suc most) (suc k) n v l e = soon_step most t smaller (soon_within t smaller most) k n v (omega arith) (goes t k n v e)
+
+soon_below : (most : ℕ) (t : List Argument) → length t ≤ most → Soon t
+soon_below zero t l k n v e =
+    soon_within t (λ m w d. let q : length (without m t) < length t = fewer m w t d in absurd (omega arith)) k k n v (omega arith) e
+soon_below (suc most) t l k n v e =
+    soon_within t (λ m w d. let q : length (without m t) < length t = fewer m w t d in soon_below most (without m t) (omega arith)) k k n v (omega arith) e
+
+-- a way that ends does so in as many steps as there are arguments
+pub ends_soon : (t : List Argument) → Soon t
+ends_soon t = soon_below (length t) t (omega arith)
+
+same_follows_same : (t u : List Argument) → SaySame t u → Follows t u
+same_follows_same t u f n w d = ap text_in (sym (f n)) ∙ d
+
+ends_over : (t u : List Argument) → SaySame t u → (n v : List ℕ) → end_of t n ≡ Some v → end_of u n ≡ Some v
+unfolding end_of
+ends_over t u f n v e = ends_soon u (length t) n v (ends_more (length t) (length t) t u (same_follows_same t u f) n v (omega arith) e)
+
+same_by : {A : Type 0} (o p : Option A) → ((x : A) → o ≡ Some x → p ≡ Some x) → ((x : A) → p ≡ Some x → o ≡ Some x) → o ≡ p
+same_by (Some x) p f g = sym (f x refl)
+same_by None None f g = refl
+same_by None (Some x) f g = g x refl
+
+-- tables that say the same of every name give a name's value the same end
+pub end_same : (t u : List Argument) → SaySame t u → (n : List ℕ) → end_of t n ≡ end_of u n
+end_same t u f n = same_by (end_of t n) (end_of u n) (ends_over t u f n) (ends_over u t (λ m. sym (f m)) n)

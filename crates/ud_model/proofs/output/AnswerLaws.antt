@@ -1,0 +1,57 @@
+-- Answers: what is known of runs, said of words, an input and the answer to them.
+use Rattle.std.proofs.Common.{◌≡◌, ◌≢◌, ℕ, List, map, Bool, false, not, bytes_eq, Option, Some, None, refl, ◌∙◌, ap}
+use Rattle.ud_model.specs.text.Lines.{lines_of}
+use Rattle.ud_model.specs.text.Scans.{Reading}
+use Rattle.ud_model.specs.sections.Tree.{Nodes, closed}
+use Rattle.ud_model.specs.sections.Faults.{Fault}
+use Rattle.ud_model.specs.answer.CommandLine.{options_of}
+use Rattle.ud_model.specs.answer.Answer.{Answer, IsAnswer, refused, ran, status_by, status_under, status_of, copy_answer}
+use Rattle.ud_model.specs.output.Worlds.{World, selected}
+use Rattle.ud_model.specs.output.Rereading.{IsPlain, IsTreeOf, LinesFit, line_bytes, KeepsTruths}
+use Rattle.ud_model.specs.output.CSelection.{IsCWorld}
+use Rattle.ud_model.specs.declared.settings.Settings.{Settings}
+use Rattle.ud_model.specs.declared.settings.Listing.{Listing}
+use Rattle.ud_model.specs.declared.settings.Listing.TheVariants.{Off}
+use Rattle.ud_model.proofs.output.Changed.{changed}
+use Rattle.ud_model.proofs.output.RereadLaws.{runs_output, c_selected_again}
+
+-- a run whose status isn't 2 has no fault
+faultless : (s : Settings) (d : Bool) (f : Option Fault) → status_of s d f ≢ 2 → f ≡ None
+faultless s d None n = refl
+faultless s d (Some f) n = absurd (n refl)
+
+-- what is left is left again
+pub answered_again : {words : List (List ℕ)} {input : List ℕ} {a : Answer} → IsAnswer words input a → a.status ≢ 2 → IsPlain (options_of words) →
+    LinesFit (lines_of a.output) → IsAnswer words a.output (copy_answer words a.output)
+answered_again (refused f e) n p fit = absurd (n refl)
+answered_again {words = words} {input = input} (ran r e d) n p fit =
+    ran (record { output = r.output; fault = None; differs = false }) e
+    (runs_output (options_of words) p input d (faultless (options_of words).settings r.differs r.fault n) fit)
+
+-- C selects the same lines
+pub answered_selects : {words : List (List ℕ)} {input : List ℕ} {a : Answer} → IsAnswer words input a → a.status ≢ 2 → IsPlain (options_of words) →
+    (ns us : Nodes Reading) → IsTreeOf (options_of words) input (closed ns) → IsTreeOf (options_of words) a.output (closed us) →
+    (w v : World Reading) → IsCWorld (options_of words).table w ns → KeepsTruths w ns v us → map line_bytes (selected v us) ≡ map line_bytes (selected w ns)
+answered_selects (refused f e) n p ns us b c w v g t = absurd (n refl)
+answered_selects {words = words} {input = input} (ran r e d) n p ns us b c w v g t =
+    c_selected_again (record {
+      options = options_of words;
+      input = input;
+      outcome = r;
+      clean = record { plain = p; runs = d; faultless = faultless (options_of words).settings r.differs r.fault n };
+      before = ns;
+      of_input = b;
+      after = us;
+      of_output = c;
+    }) w g v t
+
+-- the status is that of a copy exactly if the bytes are the same
+pub answered_status : {words : List (List ℕ)} {input : List ℕ} {a : Answer} → IsAnswer words input a → a.status ≢ 2 →
+    (options_of words).settings.renumber ≡ false → (options_of words).settings.listing ≡ Off →
+    a.status ≡ status_by (options_of words).settings.exit_mode (not (bytes_eq a.output input))
+answered_status (refused f e) n k off = absurd (n refl)
+answered_status {words = words} {input = input} (ran r e d) n k off =
+    let none : r.fault ≡ None = faultless (options_of words).settings r.differs r.fault n in
+    ap (λ (f : Option Fault). status_of (options_of words).settings r.differs f) none
+    ∙ ap (λ (q : Listing). status_under q (options_of words).settings.exit_mode r.differs) off
+    ∙ ap (λ (b : Bool). status_by (options_of words).settings.exit_mode b) (changed (options_of words) k off input d none)

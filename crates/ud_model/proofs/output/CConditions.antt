@@ -1,0 +1,130 @@
+-- A condition that is decided has the truth that C gives it.
+use Rattle.std.proofs.Common.{◌≡◌, ◌≢◌, ℕ, List, Bool, true, false, not, ◌&&◌, Option, Some, None, is_some, option_map, if◌then◌else◌, refl, ap, subst, pos}
+use Rattle.ud_model.specs.text.Scans.{Reading}
+use Rattle.ud_model.specs.sections.Directives.{Content, cut_keyword, directive, text, content_of}
+use Rattle.ud_model.specs.conditions.Table.{Argument, Entry, entry_in}
+use Rattle.ud_model.specs.conditions.Expressions.{Expression, is_defined, unary}
+use Rattle.ud_model.specs.aids.Parsing.{expression_of}
+use Rattle.ud_model.specs.conditions.Values.{truth, is_zero, change, alter, defined_value, defined_value_by, value_of}
+use Rattle.ud_model.specs.conditions.Conditions.{Decision, Rules, undecided, sole_name, ifdef_by, ifdef_decision, negated, tree_cond, tree_cond_if, expression_cond, condition_of, decision_on}
+use Rattle.ud_model.specs.conditions.CValues.{Number, number}
+use Rattle.ud_model.specs.output.CSelection.{condition_after, condition_by, condition_in, HasTruth, MayBe}
+use Rattle.ud_model.specs.sections.Tree.{Item, text_line, if_line, elif_line, else_line, endif_line}
+use Rattle.ud_model.specs.sections.Items.{Options, rules_of, directive_item, item_by, item_of}
+use Rattle.ud_model.specs.declared.cond.Cond.{Cond}
+use Rattle.ud_model.specs.declared.cond.Cond.TheVariants.{Yes, No, Unknown}
+use Rattle.ud_model.specs.declared.kind.Kind.{Kind}
+use Rattle.ud_model.specs.declared.kind.Kind.TheVariants.{If, Ifdef, Ifndef, Elif, Else, Endif}
+use Rattle.ud_model.specs.declared.operator.Operator.TheVariants.{Not}
+use Rattle.ud_model.proofs.conditions.DecidedConditions.{yes_is_true, no_is_false}
+use Rattle.ud_model.proofs.conditions.KnownStays.{known_stays}
+
+-- this is the truth of a condition that is decided so
+abbrev pub Fits : Cond → Bool → Type 0
+Fits Yes b = b ≡ true
+Fits No b = b ≡ false
+Fits Unknown b = Unit {0}
+
+true_by : (b : Bool) (c : Number) → HasTruth b c → number c ≢ pos 0 → b ≡ true
+true_by true c h n = refl
+true_by false c h n = absurd (n h)
+
+false_by : (b : Bool) (c : Number) → HasTruth b c → number c ≡ pos 0 → b ≡ false
+false_by true c h e = absurd (h e)
+false_by false c h e = refl
+
+module _ (table : List Argument) where
+  tree_fits : (rules : Rules) (e : Expression) (b : Bool) → MayBe table (Some e) b → (c : Cond) → tree_cond e table rules ≡ c → Fits c b
+  tree_fits rules e b h Yes d = true_by b h.0 h.2 (yes_is_true table rules e h.0 d h.1)
+  tree_fits rules e b h No d = false_by b h.0 h.2 (no_is_false table rules e h.0 d h.1)
+  tree_fits rules e b h Unknown d = tt
+
+  tree_if_fits : (rules : Rules) (o : Option Expression) (b : Bool) → MayBe table o b → Fits (tree_cond_if o table rules) b
+  tree_if_fits rules None b h = tt
+  tree_if_fits rules (Some e) b h = tree_fits rules e b h (tree_cond e table rules) refl
+
+  -- `#if` and `#elif`
+  expression_fits : (rules : Rules) (after : List ℕ) (b : Bool) → MayBe table (expression_of after) b → Fits (expression_cond after table rules) b
+  unfolding expression_cond
+  expression_fits rules after b h = tree_if_fits rules (expression_of after) b h
+
+  -- `defined` and a listed name
+  defined_is : (n : List ℕ) (x : Entry) → entry_in table n ≡ Some x → value_of table false (is_defined n false) ≡ Some (truth (is_some x.value))
+  unfolding defined_value
+  defined_is n x e = ap defined_value_by e
+
+  undefined_is : (n : List ℕ) (x : Entry) → entry_in table n ≡ Some x → value_of table false (unary Not (is_defined n false)) ≡ Some (truth (is_zero (truth (is_some x.value))))
+  unfolding defined_value change
+  undefined_is n x e = ap (λ (o : Option Entry). alter false Not (defined_value_by o)) e
+
+  value_fits : (v : Option (List ℕ)) (i b : Bool) (c : Number) → number c ≡ truth (is_some v) → HasTruth b c → Fits (ifdef_by (Some (record { value = v; ignoring = i }))).cond b
+  value_fits None i b c e h = false_by b c h e
+  value_fits (Some x) i b c e h = true_by b c h (λ z. cc)
+
+  negated_fits : (v : Option (List ℕ)) (i b : Bool) (c : Number) → number c ≡ truth (is_zero (truth (is_some v))) → HasTruth b c →
+      Fits (negated (ifdef_by (Some (record { value = v; ignoring = i }))).cond) b
+  negated_fits None i b c e h = true_by b c h (λ z. cc)
+  negated_fits (Some x) i b c e h = false_by b c h e
+
+  entry_fits : (n : List ℕ) (b : Bool) → MayBe table (Some (is_defined n false)) b → (o : Option Entry) → entry_in table n ≡ o → Fits (ifdef_by o).cond b
+  entry_fits n b h None e = tt
+  entry_fits n b h (Some x) e =
+      value_fits x.value x.ignoring b h.0 (known_stays table false (is_defined n false) (truth (is_some x.value)) h.0 (defined_is n x e) h.1) h.2
+
+  no_entry_fits : (n : List ℕ) (b : Bool) → MayBe table (Some (unary Not (is_defined n false))) b → (o : Option Entry) → entry_in table n ≡ o → Fits (negated (ifdef_by o).cond) b
+  no_entry_fits n b h None e = tt
+  no_entry_fits n b h (Some x) e =
+      negated_fits x.value x.ignoring b h.0
+      (known_stays table false (unary Not (is_defined n false)) (truth (is_zero (truth (is_some x.value)))) h.0 (undefined_is n x e) h.1) h.2
+
+  -- `#ifdef`
+  ifdef_fits : (o : Option (List ℕ)) (b : Bool) → MayBe table (option_map (λ n. is_defined n false) o) b → Fits (ifdef_decision o table).cond b
+  ifdef_fits None b h = tt
+  ifdef_fits (Some n) b h = entry_fits n b h (entry_in table n) refl
+
+  -- `#ifndef`
+  ifndef_fits : (o : Option (List ℕ)) (b : Bool) → MayBe table (option_map (λ n. unary Not (is_defined n false)) o) b → Fits (negated (ifdef_decision o table).cond) b
+  ifndef_fits None b h = tt
+  ifndef_fits (Some n) b h = no_entry_fits n b h (entry_in table n) refl
+
+  condition_fits : (rules : Rules) (k : Kind) (after : List ℕ) (b : Bool) → MayBe table (condition_after k after) b → Fits (condition_of k after table rules).cond b
+  condition_fits rules If after b h = expression_fits rules after b h
+  condition_fits rules Elif after b h = expression_fits rules after b h
+  condition_fits rules Ifdef after b h = ifdef_fits (sole_name after) b h
+  condition_fits rules Ifndef after b h = ifndef_fits (sole_name after) b h
+  condition_fits rules Else after b h = tt
+  condition_fits rules Endif after b h = tt
+
+-- a directive that a continuation doesn't cut
+unless_broken : (broken b : Bool) (d : Decision) (i : Bool) → Fits d.cond b → Fits (if broken then undecided else record d { ignoring = i }).cond b
+unless_broken true b d i h = tt
+unless_broken false b d i h = h
+
+-- the opener of an item is decided so
+abbrev pub ItemFits : Item Reading → Bool → Type 0
+ItemFits (text_line r) b = Unit {0}
+ItemFits (if_line p) b = Fits p.cond b
+ItemFits (elif_line p) b = Fits p.cond b
+ItemFits (else_line r) b = Unit {0}
+ItemFits (endif_line r) b = Unit {0}
+
+directive_fits : (r : Reading) (k : Kind) (d : Decision) (b : Bool) → Fits d.cond b → ItemFits (directive_item r k d) b
+directive_fits r If d b h = h
+directive_fits r Ifdef d b h = h
+directive_fits r Ifndef d b h = h
+directive_fits r Elif d b h = h
+directive_fits r Else d b h = tt
+directive_fits r Endif d b h = tt
+
+content_fits : (o : Options) (r : Reading) (c : Content) (b : Bool) → r.scan.joins_after ≡ false → MayBe o.table (condition_by r.scan c) b → ItemFits (item_by o r c) b
+content_fits o r cut_keyword b j h = tt
+content_fits o r text b j h = tt
+content_fits o r (directive d) b j h =
+    directive_fits r d.kind (decision_on r.scan d o.table (rules_of o.settings)) b
+    (unless_broken d.broken b (condition_of d.kind d.after o.table (rules_of o.settings)) ((condition_of d.kind d.after o.table (rules_of o.settings)).ignoring && not r.scan.joins_after)
+    (condition_fits o.table (rules_of o.settings) d.kind d.after b
+    (subst (λ (t : Bool). MayBe o.table (if t then None else condition_after d.kind d.after) b) j h)))
+
+-- what is decided of a condition that ends on its line has each truth that C may give it
+pub item_fits : (o : Options) (r : Reading) (b : Bool) → r.scan.joins_after ≡ false → MayBe o.table (condition_in r) b → ItemFits (item_of o r) b
+item_fits o r b j h = content_fits o r (content_of r.scan) b j h

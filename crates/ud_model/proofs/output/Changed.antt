@@ -1,0 +1,295 @@
+-- Changed: some line of a text differs exactly if the output isn't the input.
+use Rattle.std.proofs.Common.{◌≡◌, ℕ, ◌+◌, ◌≤◌, List, [], ◌∷◌, ◌++◌, length, map, Bool, true, false, not, ◌&&◌, bytes_eq, Option, Some, None, refl, sym, ◌∙◌, ap, ap₂, subst, arith, append-nil, append_assoc, length-append}
+use Rattle.std.specs.List.{concat}
+use Rattle.ud_model.specs.text.Lines.{Line, text_of, texts_of, lines_of}
+use Rattle.ud_model.specs.text.Scans.{Reading}
+use Rattle.ud_model.specs.sections.Directives.{content_of}
+use Rattle.ud_model.specs.text.Splicing.{content}
+use Rattle.ud_model.specs.text.Scanning.{scan_after}
+use Rattle.ud_model.specs.sections.Tree.{Item, Opener, Nodes, Groups, Elifs, Head, Tree, text_line, if_line, elif_line, else_line, endif_line, nothing, text, section, conditional, otherwise, first, elif, closed, open_section, lines, lines_of_nodes, lines_of_groups, lines_of_elifs, innermost}
+use Rattle.ud_model.specs.sections.Items.{Options, reading_of, line_of, mode_after, read_after, next_item}
+use Rattle.ud_model.specs.sections.Pruning.{Mark, Part, an_if, an_elif, an_else, marked, marks, is_kept, endif_verdict, conds_of_elifs, conds_of_groups}
+use Rattle.ud_model.specs.aids.SoFar.{verdict_so_far, nodes_so_far, groups_so_far, elifs_so_far}
+use Rattle.ud_model.specs.sections.Faults.{AreSound, no_lines, one_more, end_by, ends_in_comment, last_number}
+use Rattle.ud_model.specs.answer.Printing.{Judged, style_of, piece_alone, piece_behind, pieces_by, some_other, judged, judged_lines, keyword_in, complemented, printed_by, some_differ_by}
+use Rattle.ud_model.specs.answer.Runs.{Outcome, Runs, stops, ends, output_by, differs_by}
+use Rattle.ud_model.specs.declared.cond.Cond.{Cond}
+use Rattle.ud_model.specs.declared.cond.Cond.TheVariants.{Yes}
+use Rattle.ud_model.specs.declared.verdict.Verdict.{Verdict}
+use Rattle.ud_model.specs.declared.verdict.Verdict.TheVariants.{Keep, Remove, ToIf, ToElse, ToEndif}
+use Rattle.ud_model.specs.declared.kind.Mode.{Mode}
+use Rattle.ud_model.specs.declared.kind.Mode.TheVariants.{C, Plain}
+use Rattle.ud_model.specs.declared.settings.Settings.{Settings}
+use Rattle.ud_model.specs.declared.settings.Listing.{Listing}
+use Rattle.ud_model.specs.declared.settings.Listing.TheVariants.{Off}
+use Rattle.ud_model.proofs.output.Each.{Each, each_parts, each_both}
+use Rattle.ud_model.proofs.text.LinesLemmas.{lines_exist, map-numbered_from}
+use Rattle.ud_model.proofs.text.ScanBytes.{length-masked, content-front}
+use Rattle.ud_model.proofs.sections.Stays.{marks_so_far_same}
+use Rattle.ud_model.proofs.sections.Soundness.{sound_lines}
+use Rattle.ud_model.proofs.output.KeywordSizes.{HasWord, HasKeyword, has_keyword}
+use Rattle.ud_model.proofs.output.Sizes.{out, whole, Fits, Loose, fits-append, loose_fits, fits_loose, loose_closed, fits_one, loose_one, fits_none, fits_all, fits_differs}
+use Rattle.ud_model.proofs.output.Edits.{is_past, Moves, opener_moves, endif_past, KeepsOrGoes, endif_keeps, if_keeps, removed_size, keeps_size, AtMost, edited_size, turned_size}
+
+-- each line has one mark
+module _ {L : Type 0} where
+  mutual
+    pub as_many_nodes : (kept : Bool) (ns : Nodes L) → length (lines_of_nodes ns) ≡ length (nodes_so_far kept ns)
+    as_many_nodes kept nothing = refl
+    as_many_nodes kept (text ns l) = let a = as_many_nodes kept ns in simp length-append (omega (arith, a))
+    as_many_nodes kept (section ns gs e) =
+        let a = as_many_nodes kept ns in let b = as_many_groups kept gs in simp length-append (omega (arith, a, b))
+
+    pub as_many_groups : (kept : Bool) (gs : Groups L) → length (lines_of_groups gs) ≡ length (groups_so_far kept gs)
+    as_many_groups kept (conditional es) = as_many_elifs kept es
+    as_many_groups kept (otherwise es l ns) =
+        let a = as_many_elifs kept es in let b = as_many_nodes (kept && is_kept (conds_of_elifs es) Yes) ns in simp length-append (omega (arith, a, b))
+
+    pub as_many_elifs : (kept : Bool) (es : Elifs L) → length (lines_of_elifs es) ≡ length (elifs_so_far kept es)
+    as_many_elifs kept (first o ns) = let b = as_many_nodes (kept && is_kept [] o.cond) ns in simp length-append (omega (arith, b))
+    as_many_elifs kept (elif es o ns) =
+        let a = as_many_elifs kept es in let b = as_many_nodes (kept && is_kept (conds_of_elifs es) o.cond) ns in simp length-append (omega (arith, a, b))
+
+-- lines and further ones, with their marks
+pub judged_lines-append : (xs ys : List (Item Reading)) (ms ns : List Mark) → length xs ≡ length ms →
+    judged_lines (xs ++ ys) (ms ++ ns) ≡ judged_lines xs ms ++ judged_lines ys ns
+judged_lines-append [] ys [] ns e = refl
+judged_lines-append [] ys (m ∷ ms) ns e = absurd (omega arith)
+judged_lines-append (x ∷ xs) ys [] ns e = absurd (omega arith)
+judged_lines-append (x ∷ xs) ys (m ∷ ms) ns e = ap (λ (js : List Judged). judged x m ∷ js) (judged_lines-append xs ys ms ns (omega arith))
+
+module _ (blank : Bool) where
+  abbrev f : Judged → List ℕ
+  f j = piece_alone blank j
+
+  -- lines with their marks fit
+  abbrev pub ItemsFit : List (Item Reading) → List Mark → Type 0
+  ItemsFit xs ms = Fits f (judged_lines xs ms)
+
+  -- so do those of a section up to some opener, or no more than a byte is printed in addition
+  abbrev pub Held : Bool → List (Item Reading) → List Mark → Type 0
+  Held true xs ms = Loose f (judged_lines xs ms)
+  Held false xs ms = Fits f (judged_lines xs ms)
+
+  items_then : (xs ys : List (Item Reading)) (ms ns : List Mark) → length xs ≡ length ms → ItemsFit xs ms → ItemsFit ys ns → ItemsFit (xs ++ ys) (ms ++ ns)
+  items_then xs ys ms ns e a b =
+      subst (Fits f) (sym (judged_lines-append xs ys ms ns e)) (fits-append f (judged_lines xs ms) (judged_lines ys ns) a b)
+
+  held_then : (h : Bool) (xs ys : List (Item Reading)) (ms ns : List Mark) → length xs ≡ length ms → Held h xs ms → ItemsFit ys ns → Held h (xs ++ ys) (ms ++ ns)
+  held_then false xs ys ms ns e a b = items_then xs ys ms ns e a b
+  held_then true xs ys ms ns e a b =
+      subst (Loose f) (sym (judged_lines-append xs ys ms ns e)) (loose_fits f (judged_lines xs ms) (judged_lines ys ns) a b)
+
+  then_loose : (xs ys : List (Item Reading)) (ms ns : List Mark) → length xs ≡ length ms → ItemsFit xs ms → Loose f (judged_lines ys ns) → Loose f (judged_lines (xs ++ ys) (ms ++ ns))
+  then_loose xs ys ms ns e a b =
+      subst (Loose f) (sym (judged_lines-append xs ys ms ns e)) (fits_loose f (judged_lines xs ms) (judged_lines ys ns) a b)
+
+  keeps_mark : (kept : Bool) (v : Verdict) → KeepsOrGoes v → KeepsOrGoes (marked kept v).verdict
+  keeps_mark true v h = h
+  keeps_mark false v h = tt
+
+  -- a line that stays or goes fits
+  one_fits : (x : Item Reading) (kept : Bool) (v : Verdict) → KeepsOrGoes v → ItemsFit (x ∷ []) (marked kept v ∷ [])
+  one_fits x kept v h =
+      fits_one f (judged x (marked kept v))
+      (keeps_size blank (marked kept v).verdict (keyword_in (content_of (reading_of x).scan)) (line_of x) (keeps_mark kept v h))
+
+  -- a line whose keyword has four bytes
+  word_size : (x : Item Reading) → HasWord (reading_of x) 4 → (v : Verdict) →
+      AtMost v (length (f (judged x (record { kept = true; verdict = v })))) (length (text_of (line_of x)))
+  word_size x w v = edited_size blank v (keyword_in (content_of (reading_of x).scan)) (line_of x) w.size w.within
+
+  fits_to_loose : (js : List Judged) → Fits f js → Loose f js
+  fits_to_loose js a = subst (Loose f) (append-nil js) (fits_loose f js [] a (record { bound = omega arith }))
+
+  to_held : (now : Bool) (xs : List (Item Reading)) (ms : List Mark) → ItemsFit xs ms → Held now xs ms
+  to_held false xs ms a = a
+  to_held true xs ms a = fits_to_loose (judged_lines xs ms) a
+
+  -- an opener after the first
+  opener_step : (xs : List (Item Reading)) (ms : List Mark) (x : Item Reading) (was now : Bool) (v : Verdict) → length xs ≡ length ms → HasWord (reading_of x) 4 →
+      Moves was v now → Held was xs ms → Held now (xs ++ x ∷ []) (ms ++ marked true v ∷ [])
+  opener_step xs ms x true true Remove e w m a = held_then true xs (x ∷ []) ms (marked true Remove ∷ []) e a (one_fits x true Remove tt)
+  opener_step xs ms x true false v e w m a = let q : false ≡ true = m.1 in cc
+  opener_step xs ms x true true Keep e w m a = let q : Keep ≡ Remove = m.0 in cc
+  opener_step xs ms x true true ToIf e w m a = let q : ToIf ≡ Remove = m.0 in cc
+  opener_step xs ms x true true ToElse e w m a = let q : ToElse ≡ Remove = m.0 in cc
+  opener_step xs ms x true true ToEndif e w m a = let q : ToEndif ≡ Remove = m.0 in cc
+  opener_step xs ms x false true ToEndif e w m a =
+      then_loose xs (x ∷ []) ms (marked true ToEndif ∷ []) e a (loose_one f (judged x (marked true ToEndif)) (word_size x w ToEndif))
+  opener_step xs ms x false false ToEndif e w m a = let q : false ≡ true = m in cc
+  opener_step xs ms x false now Keep e w m a = to_held now (xs ++ x ∷ []) (ms ++ marked true Keep ∷ []) (items_then xs (x ∷ []) ms (marked true Keep ∷ []) e a (fits_one f (judged x (marked true Keep)) (word_size x w Keep)))
+  opener_step xs ms x false now Remove e w m a = to_held now (xs ++ x ∷ []) (ms ++ marked true Remove ∷ []) (items_then xs (x ∷ []) ms (marked true Remove ∷ []) e a (fits_one f (judged x (marked true Remove)) (word_size x w Remove)))
+  opener_step xs ms x false now ToIf e w m a = to_held now (xs ++ x ∷ []) (ms ++ marked true ToIf ∷ []) (items_then xs (x ∷ []) ms (marked true ToIf ∷ []) e a (fits_one f (judged x (marked true ToIf)) (word_size x w ToIf)))
+  opener_step xs ms x false now ToElse e w m a = to_held now (xs ++ x ∷ []) (ms ++ marked true ToElse ∷ []) (items_then xs (x ∷ []) ms (marked true ToElse ∷ []) e a (fits_one f (judged x (marked true ToElse)) (word_size x w ToElse)))
+
+  opener_any : (kept : Bool) (xs : List (Item Reading)) (ms : List Mark) (x : Item Reading) (was now : Bool) (v : Verdict) → length xs ≡ length ms →
+      HasWord (reading_of x) 4 → Moves was v now → Held (kept && was) xs ms → Held (kept && now) (xs ++ x ∷ []) (ms ++ marked kept v ∷ [])
+  opener_any true xs ms x was now v e w m a = opener_step xs ms x was now v e w m a
+  opener_any false xs ms x was now v e w m a = items_then xs (x ∷ []) ms (marked false Remove ∷ []) e a (one_fits x false Remove tt)
+
+  closing_size : (x : Item Reading) → HasWord (reading_of x) 5 → length (f (judged x (marked true Remove))) + 2 ≤ length (whole (judged x (marked true Remove)))
+  closing_size x w =
+      let s = removed_size blank (keyword_in (content_of (reading_of x).scan)) (line_of x) in
+      let h = w.within in
+      omega (arith, s, h)
+
+  endif_step : (kept past : Bool) (xs : List (Item Reading)) (ms : List Mark) (x : Item Reading) (v : Verdict) → length xs ≡ length ms → HasWord (reading_of x) 5 →
+      KeepsOrGoes v → (past ≡ true → v ≡ Remove) → Held (kept && past) xs ms → ItemsFit (xs ++ x ∷ []) (ms ++ marked kept v ∷ [])
+  endif_step false past xs ms x v e w k h a = items_then xs (x ∷ []) ms (marked false Remove ∷ []) e a (one_fits x false Remove tt)
+  endif_step true false xs ms x v e w k h a = items_then xs (x ∷ []) ms (marked true v ∷ []) e a (one_fits x true v k)
+  endif_step true true xs ms x v e w k h a =
+      subst (λ (u : Verdict). ItemsFit (xs ++ x ∷ []) (ms ++ marked true u ∷ [])) (sym (h refl))
+      (subst (Fits f) (sym (judged_lines-append xs (x ∷ []) ms (marked true Remove ∷ []) e))
+      (loose_closed f (judged_lines xs ms) (judged x (marked true Remove)) a (closing_size x w)))
+
+  more_long : (xs : List (Item Reading)) (ms : List Mark) (x : Item Reading) (m : Mark) → length xs ≡ length ms → length (xs ++ x ∷ []) ≡ length (ms ++ m ∷ [])
+  more_long xs ms x m e = simp length-append (omega (arith, e))
+
+  -- a group after others
+  group_held : (kept : Bool) (cs : List Cond) (part : Part) (c : Cond) (xs : List (Item Reading)) (ms : List Mark) (x : Item Reading) (ys : List (Item Reading)) (ns : List Mark) →
+      length xs ≡ length ms → HasWord (reading_of x) 4 → Held (kept && is_past cs) xs ms → ItemsFit ys ns →
+      Held (kept && is_past (cs ++ c ∷ [])) ((xs ++ x ∷ []) ++ ys) ((ms ++ marked kept (verdict_so_far cs part c) ∷ []) ++ ns)
+  group_held kept cs part c xs ms x ys ns e w a b =
+      let m : Mark = marked kept (verdict_so_far cs part c) in
+      held_then (kept && is_past (cs ++ c ∷ [])) (xs ++ x ∷ []) ys (ms ++ m ∷ []) ns (more_long xs ms x m e)
+      (opener_any kept xs ms x (is_past cs) (is_past (cs ++ c ∷ [])) (verdict_so_far cs part c) e w (opener_moves cs part c) a) b
+
+  -- nodes, and then a section
+  section_fits : (kept past : Bool) (xs ys : List (Item Reading)) (ms ns : List Mark) (l : Reading) (v : Verdict) → length xs ≡ length ms → length ys ≡ length ns →
+      HasWord l 5 → KeepsOrGoes v → (past ≡ true → v ≡ Remove) → ItemsFit xs ms → Held (kept && past) ys ns →
+      ItemsFit ((xs ++ ys) ++ endif_line l ∷ []) ((ms ++ ns) ++ marked kept v ∷ [])
+  section_fits kept past xs ys ms ns l v d e w k h a b =
+      let rest : ItemsFit (ys ++ endif_line l ∷ []) (ns ++ marked kept v ∷ []) = endif_step kept past ys ns (endif_line l) v e w k h b in
+      let all : ItemsFit (xs ++ (ys ++ endif_line l ∷ [])) (ms ++ (ns ++ marked kept v ∷ [])) =
+      items_then xs (ys ++ endif_line l ∷ []) ms (ns ++ marked kept v ∷ []) d a rest in
+      subst (λ (zs : List (Item Reading)). ItemsFit zs ((ms ++ ns) ++ marked kept v ∷ [])) (sym (append_assoc xs ys (endif_line l ∷ [])))
+      (subst (λ (ks : List Mark). ItemsFit (xs ++ (ys ++ endif_line l ∷ [])) ks) (sym (append_assoc ms ns (marked kept v ∷ []))) all)
+
+  mutual
+    pub nodes_fit : (kept : Bool) (ns : Nodes Reading) → Each HasKeyword (lines_of_nodes ns) → ItemsFit (lines_of_nodes ns) (nodes_so_far kept ns)
+    nodes_fit kept nothing h = fits_none f
+    nodes_fit kept (text ns l) h =
+        let p = each_parts HasKeyword (lines_of_nodes ns) (text_line l ∷ []) h in
+        items_then (lines_of_nodes ns) (text_line l ∷ []) (nodes_so_far kept ns) (marked kept Keep ∷ []) (as_many_nodes kept ns)
+        (nodes_fit kept ns p.0) (one_fits (text_line l) kept Keep tt)
+    nodes_fit kept (section ns gs e) h =
+        let p = each_parts HasKeyword (lines_of_nodes ns ++ lines_of_groups gs) (endif_line e ∷ []) h in
+        let q = each_parts HasKeyword (lines_of_nodes ns) (lines_of_groups gs) p.0 in
+        let here : Bool = is_past (conds_of_groups gs) in
+        section_fits kept here (lines_of_nodes ns) (lines_of_groups gs) (nodes_so_far kept ns) (groups_so_far kept gs) e (endif_verdict (conds_of_groups gs))
+        (as_many_nodes kept ns) (as_many_groups kept gs) p.1.0 (endif_keeps (conds_of_groups gs)) (λ d. endif_past (conds_of_groups gs) d)
+        (nodes_fit kept ns q.0) (groups_held kept gs q.1)
+
+    pub groups_held : (kept : Bool) (gs : Groups Reading) → Each HasKeyword (lines_of_groups gs) →
+        Held (kept && is_past (conds_of_groups gs)) (lines_of_groups gs) (groups_so_far kept gs)
+    groups_held kept (conditional es) h = elifs_held kept es h
+    groups_held kept (otherwise es l ns) h =
+        let p = each_parts HasKeyword (lines_of_elifs es ++ else_line l ∷ []) (lines_of_nodes ns) h in
+        let q = each_parts HasKeyword (lines_of_elifs es) (else_line l ∷ []) p.0 in
+        group_held kept (conds_of_elifs es) an_else Yes (lines_of_elifs es) (elifs_so_far kept es) (else_line l) (lines_of_nodes ns)
+        (nodes_so_far (kept && is_kept (conds_of_elifs es) Yes) ns) (as_many_elifs kept es) q.1.0 (elifs_held kept es q.0)
+        (nodes_fit (kept && is_kept (conds_of_elifs es) Yes) ns p.1)
+
+    pub elifs_held : (kept : Bool) (es : Elifs Reading) → Each HasKeyword (lines_of_elifs es) →
+        Held (kept && is_past (conds_of_elifs es)) (lines_of_elifs es) (elifs_so_far kept es)
+    elifs_held kept (first o ns) h =
+        let p = each_parts HasKeyword (if_line o ∷ []) (lines_of_nodes ns) h in
+        to_held (kept && is_past (o.cond ∷ [])) ((if_line o ∷ []) ++ lines_of_nodes ns)
+        ((marked kept (verdict_so_far [] an_if o.cond) ∷ []) ++ nodes_so_far (kept && is_kept [] o.cond) ns)
+        (items_then (if_line o ∷ []) (lines_of_nodes ns) (marked kept (verdict_so_far [] an_if o.cond) ∷ []) (nodes_so_far (kept && is_kept [] o.cond) ns) refl
+        (one_fits (if_line o) kept (verdict_so_far [] an_if o.cond) (if_keeps o.cond)) (nodes_fit (kept && is_kept [] o.cond) ns p.1))
+    elifs_held kept (elif es o ns) h =
+        let p = each_parts HasKeyword (lines_of_elifs es ++ elif_line o ∷ []) (lines_of_nodes ns) h in
+        let q = each_parts HasKeyword (lines_of_elifs es) (elif_line o ∷ []) p.0 in
+        group_held kept (conds_of_elifs es) an_elif o.cond (lines_of_elifs es) (elifs_so_far kept es) (elif_line o) (lines_of_nodes ns)
+        (nodes_so_far (kept && is_kept (conds_of_elifs es) o.cond) ns) (as_many_elifs kept es) q.1.0 (elifs_held kept es q.0)
+        (nodes_fit (kept && is_kept (conds_of_elifs es) o.cond) ns p.1)
+
+-- what is printed of a line by itself, kept and removed lines exchanged or not
+abbrev pub lone : Bool → Bool → Judged → List ℕ
+lone blank true j = piece_alone blank (complemented j)
+lone blank false j = piece_alone blank j
+
+piece_lone : (b c n : Bool) (before : List Judged) (j : Judged) → n ≡ false → piece_behind (record { blank = b; complement = c; renumber = n }) before j ≡ lone b c j
+piece_lone b c true before j e = cc
+piece_lone b true false before j e = refl
+piece_lone b false false before j e = refl
+
+-- if lines aren't numbered, each is printed by itself
+pub pieces_lone : (b c n : Bool) (before js : List Judged) → n ≡ false → pieces_by (piece_behind (record { blank = b; complement = c; renumber = n })) before js ≡ map (lone b c) js
+pieces_lone b c n before [] e = refl
+pieces_lone b c n before (j ∷ js) e =
+    ap₂ (λ (p : List ℕ) (ps : List (List ℕ)). p ∷ ps) (piece_lone b c n before j e) (pieces_lone b c n (before ++ j ∷ []) js e)
+
+nodes_lone : (b c : Bool) (ns : Nodes Reading) → Each HasKeyword (lines_of_nodes ns) → Fits (lone b c) (judged_lines (lines_of_nodes ns) (marks (closed ns)))
+nodes_lone b true ns h = fits_all (lone b true) (judged_lines (lines_of_nodes ns) (marks (closed ns))) (λ j. turned_size b j)
+nodes_lone b false ns h =
+    subst (λ (ms : List Mark). Fits (lone b false) (judged_lines (lines_of_nodes ns) ms)) (sym (marks_so_far_same true (closed ns))) (nodes_fit b true ns h)
+
+masked_size : (xs : List Reading) (m : Mode) (l : Line) → length (scan_after xs m l).masked ≤ length l.body
+masked_size xs C l =
+    let a : length (scan_after xs C l).masked ≡ length (content l) = length-masked xs l in
+    let b : (rest : List ℕ) × (l.body ≡ content l ++ rest) = content-front l in
+    let c : length l.body ≡ length (content l ++ b.0) = ap (λ (q : List ℕ). length q) b.1 in
+    let d : length (content l ++ b.0) ≡ length (content l) + length b.0 = length-append (content l) b.0 in
+    omega arith
+masked_size xs Plain l = omega arith
+
+-- the keywords of sound lines lie in them
+pub keywords : {o : Options} {xs : List (Item Reading)} {t : Tree Reading} → AreSound o xs t → Each HasKeyword xs
+keywords no_lines = tt
+keywords {o = o} (one_more xs t s l u e n) =
+    each_both HasKeyword xs (next_item o xs t l ∷ []) (keywords s)
+    (has_keyword o (read_after xs (mode_after o t) l) (masked_size (map reading_of xs) (mode_after o t) l), tt)
+
+-- the lines of items
+pub whole_lines_are : (xs : List (Item Reading)) (ms : List Mark) → length xs ≡ length ms → map whole (judged_lines xs ms) ≡ map text_of (map line_of xs)
+whole_lines_are [] ms e = refl
+whole_lines_are (x ∷ xs) [] e = absurd (omega arith)
+whole_lines_are (x ∷ xs) (m ∷ ms) e = ap (λ (ls : List (List ℕ)). text_of (line_of x) ∷ ls) (whole_lines_are xs ms (omega arith))
+
+-- the lines of a text, joined
+pub lines_join : (input : List ℕ) → concat (map text_of (lines_of input)) ≡ input
+lines_join input = ap (λ (ls : List (List ℕ)). concat ls) (map-numbered_from 1 (texts_of input)) ∙ sym (lines_exist input).joined
+
+module _ (s : Settings) (n : s.renumber ≡ false) where
+  closed_differs : (input : List ℕ) (ns : Nodes Reading) → Each HasKeyword (lines_of_nodes ns) → map line_of (lines_of_nodes ns) ≡ lines_of input →
+      some_differ_by s (lines_of_nodes ns) (marks (closed ns)) ≡ not (bytes_eq (printed_by s (lines_of_nodes ns) (marks (closed ns))) input)
+  closed_differs input ns h e =
+      let js : List Judged = judged_lines (lines_of_nodes ns) (marks (closed ns)) in
+      let ps : pieces_by (piece_behind (style_of s)) [] js ≡ map (lone s.blank s.complement) js = pieces_lone s.blank s.complement s.renumber [] js n in
+      let many : length (lines_of_nodes ns) ≡ length (marks (closed ns)) =
+      as_many_nodes true ns ∙ ap (λ (ms : List Mark). length ms) (sym (marks_so_far_same true (closed ns))) in
+      let back : out whole js ≡ input =
+      ap (λ (ls : List (List ℕ)). concat ls) (whole_lines_are (lines_of_nodes ns) (marks (closed ns)) many ∙ ap (λ (ls : List Line). map text_of ls) e) ∙ lines_join input in
+      ap (λ (qs : List (List ℕ)). some_other qs js) ps
+      ∙ fits_differs (lone s.blank s.complement) js (nodes_lone s.blank s.complement ns h)
+      ∙ ap₂ (λ (a b : List ℕ). not (bytes_eq a b)) (ap (λ (qs : List (List ℕ)). concat qs) (sym ps)) back
+
+-- some section is open, so there is a first directive of the innermost one
+pub no_innermost : (ns : Nodes Reading) (t : Tree Reading) (h : Head Reading) → innermost (open_section ns h t) ≡ None → ⊥
+no_innermost ns (closed b) h e = cc
+no_innermost ns (open_section ms t k) h e = no_innermost ms k t e
+
+-- if a text ends without a fault, it ends in no comment, and no section is open
+pub end_parts : (c : Bool) (n : ℕ) (o : Option (Opener Reading)) → end_by c n o ≡ None → (c ≡ false) × (o ≡ None)
+end_parts true n o e = cc
+end_parts false n (Some o) e = cc
+end_parts false n None e = (refl, refl)
+
+module _ (o : Options) (n : o.settings.renumber ≡ false) (off : o.settings.listing ≡ Off) (input : List ℕ) where
+  tree_differs : (xs : List (Item Reading)) (t : Tree Reading) → innermost t ≡ None → Each HasKeyword xs → lines t ≡ xs → map line_of xs ≡ lines_of input →
+      some_differ_by o.settings xs (marks t) ≡ not (bytes_eq (printed_by o.settings xs (marks t)) input)
+  tree_differs xs (open_section ns h t) e k l m = absurd (no_innermost ns t h e)
+  tree_differs xs (closed ns) e k l m =
+      subst (λ (ys : List (Item Reading)). some_differ_by o.settings ys (marks (closed ns)) ≡ not (bytes_eq (printed_by o.settings ys (marks (closed ns))) input)) l
+      (closed_differs o.settings n input ns (subst (λ (ys : List (Item Reading)). Each HasKeyword ys) (sym l) k) (ap (λ (ys : List (Item Reading)). map line_of ys) l ∙ m))
+
+  -- some line differs exactly if the output isn't the input
+  pub changed : {r : Outcome} → Runs o input r → r.fault ≡ None → r.differs ≡ not (bytes_eq r.output input)
+  changed (stops xs t f s) e = cc
+  changed (ends xs t g) e =
+      ap (λ (q : Listing). differs_by q o.settings xs t) off
+      ∙ tree_differs xs t (end_parts (ends_in_comment xs) (last_number xs) (innermost t) e).1 (keywords g.sound) (sound_lines g.sound) (sym g.are)
+      ∙ ap (λ (q : Listing). not (bytes_eq (output_by q o.settings xs t) input)) (sym off)

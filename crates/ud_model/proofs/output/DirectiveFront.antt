@@ -1,0 +1,214 @@
+-- What stands before a directive's keyword, and the keyword itself.
+use Rattle.std.proofs.Common.{◌≡◌, ◌≢◌, ℕ, ◌+◌, ◌-◌, ◌==◌, List, [], ◌∷◌, ◌++◌, length, Bool, true, false, not, ◌&&◌, ◌||◌, Option, Some, None, bytes_eq, codes, if◌then◌else◌, refl, sym, ◌∙◌, ap, ap₂, subst, append_assoc, arith, length-append, eqb-true, ◌⊎◌, inl, inr}
+use Rattle.std.proofs.lemmas.Bool.{and_parts, not-true}
+use Rattle.std.proofs.lemmas.Slice.Eq.{bytes_eq-Decides}
+use Rattle.ud_model.specs.text.Bytes.{slash, space, line_feed, is_quote, is_white, is_word_byte, past_white, word_in_front, past_word}
+use Rattle.ud_model.specs.text.Scans.{Scan}
+use Rattle.ud_model.specs.sections.Directives.{Content, Directive, cut_keyword, directive, text, content_of, past_sign, past_sign_of, has_cut_keyword, found_behind, directive_at, kind_of, is_cut_off}
+use Rattle.ud_model.specs.declared.kind.Kind.{Kind}
+use Rattle.ud_model.specs.declared.kind.Kind.TheVariants.{If, Ifdef, Ifndef, Elif, Else, Endif}
+use Rattle.ud_model.proofs.output.Each.{Each}
+use Rattle.ud_model.proofs.output.EditedScan.{has_quote, ends_in_slash}
+use Rattle.ud_model.proofs.output.KeywordPlace.{IsInert}
+
+-- it is white space
+abbrev pub IsWhite : ℕ → Type 0
+IsWhite b = is_white b ≡ true
+
+-- white space, and what follows it
+white_split : (t : List ℕ) → (ws : List ℕ) × (t ≡ ws ++ past_white t) × Each IsWhite ws
+white_split [] = ([], refl, tt)
+white_split (b ∷ t) = by_white (is_white b) refl (white_split t)
+  where
+    by_white : (w : Bool) → is_white b ≡ w → ((ws : List ℕ) × (t ≡ ws ++ past_white t) × Each IsWhite ws) → (ws : List ℕ) × (b ∷ t ≡ ws ++ (if w then past_white t else b ∷ t)) × Each IsWhite ws
+    by_white true e r = (b ∷ r.0, ap (λ (l : List ℕ). b ∷ l) r.1, (e, r.2))
+    by_white false e r = ([], refl, tt)
+
+word_split : (t : List ℕ) → t ≡ word_in_front t ++ past_word t
+word_split [] = refl
+word_split (b ∷ t) = by_word (is_word_byte b) (word_split t)
+  where
+    by_word : (w : Bool) → t ≡ word_in_front t ++ past_word t → b ∷ t ≡ (if w then b ∷ word_in_front t else []) ++ (if w then past_word t else b ∷ t)
+    by_word true r = ap (λ (l : List ℕ). b ∷ l) r
+    by_word false r = refl
+
+-- how a line with a directive is seen
+pub record Front (scan : Scan) (d : Directive) : Type 0 where
+  pub white : List ℕ
+  pub gap : List ℕ
+  pub word : List ℕ
+  pub whites : Each IsWhite white
+  pub gaps : Each IsWhite gap
+  pub masked_is : scan.masked ≡ (white ++ 35 ∷ gap) ++ (word ++ d.after)
+  pub at_is : d.keyword.at ≡ length (white ++ 35 ∷ gap)
+  pub len_is : d.keyword.len ≡ length word
+  pub kind_is : kind_of word ≡ Some d.kind
+  pub fresh_is : scan.fresh ≡ true
+  pub broken_is : d.broken ≡ is_cut_off scan
+
+sign_of : (t rest : List ℕ) → past_sign_of t ≡ Some rest → t ≡ 35 ∷ rest
+sign_of [] rest e = cc
+sign_of (b ∷ t) rest e = by_sign (b == 35) refl e
+  where
+    by_sign : (s : Bool) → (b == 35) ≡ s → (if s then Some t else None) ≡ Some rest → b ∷ t ≡ 35 ∷ rest
+    by_sign true f g = let p : t ≡ rest = cc in ap₂ (λ (x : ℕ) (l : List ℕ). x ∷ l) (eqb-true b 35 f) p
+    by_sign false f g = cc
+
+module _ (scan : Scan) where
+  at_kind : (ws gs rest : List ℕ) (k : Option Kind) (d : Directive) → Each IsWhite ws → Each IsWhite gs → scan.masked ≡ (ws ++ 35 ∷ gs) ++ rest → scan.fresh ≡ true →
+      kind_of (word_in_front rest) ≡ k → directive_at scan rest k ≡ directive d → Front scan d
+  at_kind ws gs rest None d w g m f e h = cc
+  at_kind ws gs rest (Some k) d w g m f e h =
+      let q : record { kind = k; keyword = record { at = length scan.masked - length rest; len = length (word_in_front rest) }; after = past_word rest; broken = is_cut_off scan } ≡ d = cc in
+      let l : length scan.masked ≡ length (ws ++ 35 ∷ gs) + length rest = ap (λ (t : List ℕ). length t) m ∙ length-append (ws ++ 35 ∷ gs) rest in
+      subst (Front scan) q (record {
+        white = ws;
+        gap = gs;
+        word = word_in_front rest;
+        whites = w;
+        gaps = g;
+        masked_is = m ∙ ap (λ (t : List ℕ). (ws ++ 35 ∷ gs) ++ t) (word_split rest);
+        at_is = omega (arith, l);
+        len_is = refl;
+        kind_is = e;
+        fresh_is = f;
+        broken_is = refl;
+      })
+
+  at_fresh : (fresh : Bool) (ws gs rest : List ℕ) (d : Directive) → Each IsWhite ws → Each IsWhite gs → scan.masked ≡ (ws ++ 35 ∷ gs) ++ rest → scan.fresh ≡ fresh →
+      (if fresh then directive_at scan rest (kind_of (word_in_front rest)) else text) ≡ directive d → Front scan d
+  at_fresh true ws gs rest d w g m f h = at_kind ws gs rest (kind_of (word_in_front rest)) d w g m f refl h
+  at_fresh false ws gs rest d w g m f h = cc
+
+  at_sign : (sign : Option (List ℕ)) (d : Directive) → past_sign scan.masked ≡ sign → found_behind scan sign ≡ directive d → Front scan d
+  at_sign None d e h = cc
+  at_sign (Some rest) d e h =
+      let s : (ws : List ℕ) × (scan.masked ≡ ws ++ past_white scan.masked) × Each IsWhite ws = white_split scan.masked in
+      let g : (gs : List ℕ) × (rest ≡ gs ++ past_white rest) × Each IsWhite gs = white_split rest in
+      let m : scan.masked ≡ (s.0 ++ 35 ∷ g.0) ++ past_white rest =
+      s.1 ∙ ap (λ (t : List ℕ). s.0 ++ t) (sign_of (past_white scan.masked) rest e ∙ ap (λ (t : List ℕ). 35 ∷ t) g.1)
+      ∙ sym (append_assoc s.0 (35 ∷ g.0) (past_white rest)) in
+      at_fresh scan.fresh s.0 g.0 (past_white rest) d s.2 g.2 m refl h
+
+  unless_cut : (t : Bool) (c : Content) (d : Directive) → (if t then cut_keyword else c) ≡ directive d → c ≡ directive d
+  unless_cut true c d e = cc
+  unless_cut false c d e = e
+
+  -- a line with a directive is seen so
+  pub directive_front : (d : Directive) → content_of scan ≡ directive d → Front scan d
+  directive_front d e =
+      at_sign (past_sign scan.masked) d refl (unless_cut (has_cut_keyword scan (past_sign scan.masked)) (found_behind scan (past_sign scan.masked)) d e)
+
+-- if one of two holds, the first or the second does
+pub either : (a b : Bool) → (a || b) ≡ true → (a ≡ true) ⊎ (b ≡ true)
+either true b e = inl refl
+either false b e = inr e
+
+-- what holds of each white byte
+pub each_white : (P : ℕ → Type 0) → P 32 → P 9 → P 11 → P 12 → P 13 → (b : ℕ) → is_white b ≡ true → P b
+each_white P p q r s t b e = go (either ((b == 32) || (b == 9) || (b == 11) || (b == 12)) (b == 13) e)
+  where
+    at : (n : ℕ) → P n → (b == n) ≡ true → P b
+    at n h f = subst P (sym (eqb-true b n f)) h
+
+    go4 : (b == 32 ≡ true) ⊎ (b == 9 ≡ true) → P b
+    go4 (inl f) = at 32 p f
+    go4 (inr f) = at 9 q f
+
+    go3 : (((b == 32) || (b == 9)) ≡ true) ⊎ (b == 11 ≡ true) → P b
+    go3 (inl f) = go4 (either (b == 32) (b == 9) f)
+    go3 (inr f) = at 11 r f
+
+    go2 : (((b == 32) || (b == 9) || (b == 11)) ≡ true) ⊎ (b == 12 ≡ true) → P b
+    go2 (inl f) = go3 (either ((b == 32) || (b == 9)) (b == 11) f)
+    go2 (inr f) = at 12 s f
+
+    go : (((b == 32) || (b == 9) || (b == 11) || (b == 12)) ≡ true) ⊎ (b == 13 ≡ true) → P b
+    go (inl f) = go2 (either ((b == 32) || (b == 9) || (b == 11)) (b == 12) f)
+    go (inr f) = at 13 t f
+
+-- what holds of each keyword
+pub each_keyword : (P : List ℕ → Type 0) → P (codes "if") → P (codes "ifdef") → P (codes "ifndef") → P (codes "elif") → P (codes "else") → P (codes "endif") →
+    (w : List ℕ) (k : Kind) → kind_of w ≡ Some k → P w
+each_keyword P p q r s t u w k e =
+    chain (bytes_eq w (codes "if")) (bytes_eq w (codes "ifdef")) (bytes_eq w (codes "ifndef")) (bytes_eq w (codes "elif")) (bytes_eq w (codes "else")) (bytes_eq w (codes "endif"))
+    (λ f. at (codes "if") p f) (λ f. at (codes "ifdef") q f) (λ f. at (codes "ifndef") r f) (λ f. at (codes "elif") s f) (λ f. at (codes "else") t f) (λ f. at (codes "endif") u f) e
+  where
+    at : (v : List ℕ) → P v → bytes_eq w v ≡ true → P w
+    at v h f = subst P (sym ((bytes_eq-Decides w v).0 f)) h
+
+    chain : (a b c d e f : Bool) → (a ≡ true → P w) → (b ≡ true → P w) → (c ≡ true → P w) → (d ≡ true → P w) → (e ≡ true → P w) → (f ≡ true → P w) →
+        (if a then Some If else if b then Some Ifdef else if c then Some Ifndef else if d then Some Elif else if e then Some Else else if f then Some Endif else None) ≡ Some k → P w
+    chain true b c d e f g h i j l m n = g refl
+    chain false true c d e f g h i j l m n = h refl
+    chain false false true d e f g h i j l m n = i refl
+    chain false false false true e f g h i j l m n = j refl
+    chain false false false false true f g h i j l m n = l refl
+    chain false false false false false true g h i j l m n = m refl
+    chain false false false false false false g h i j l m n = cc
+
+-- the bytes of a word begin nothing, and aren't white
+abbrev pub is_quiet : ℕ → Bool
+is_quiet c = not (c == slash) && not (is_quote c) && not (c == line_feed) && not (c == space)
+
+-- each of these bytes is so
+abbrev pub are_quiet : List ℕ → Bool
+are_quiet [] = true
+are_quiet (c ∷ w) = is_quiet c && are_quiet w
+
+quiet_inert : (c : ℕ) → is_quiet c ≡ true → IsInert c × (c ≢ space)
+quiet_inert c e =
+    let p : ((not (c == slash) && not (is_quote c) && not (c == line_feed)) ≡ true) × (not (c == space) ≡ true) = and_parts (not (c == slash) && not (is_quote c) && not (c == line_feed)) (not (c == space)) e in
+    let q : ((not (c == slash) && not (is_quote c)) ≡ true) × (not (c == line_feed) ≡ true) = and_parts (not (c == slash) && not (is_quote c)) (not (c == line_feed)) p.0 in
+    let r : (not (c == slash) ≡ true) × (not (is_quote c) ≡ true) = and_parts (not (c == slash)) (not (is_quote c)) q.0 in (
+      record { no_slash = not-true (c == slash) r.0; no_quote = not-true (is_quote c) r.1; no_feed = not-true (c == line_feed) q.1 },
+      λ h. let f : true ≡ false = sym (ap (λ (x : ℕ). x == space) h) ∙ not-true (c == space) p.1 in cc,
+    )
+
+-- such bytes begin nothing, and none is a space
+pub quiet_word : (w : List ℕ) → are_quiet w ≡ true → Each IsInert w × Each (λ c. c ≢ space) w
+quiet_word [] e = (tt, tt)
+quiet_word (c ∷ w) e =
+    let p : (is_quiet c ≡ true) × (are_quiet w ≡ true) = and_parts (is_quiet c) (are_quiet w) e in
+    let q : IsInert c × (c ≢ space) = quiet_inert c p.0 in
+    let r : Each IsInert w × Each (λ c. c ≢ space) w = quiet_word w p.1 in
+    ((q.0, r.0), (q.1, r.1))
+
+-- a keyword's bytes begin nothing
+pub keyword_quiet : (w : List ℕ) (k : Kind) → kind_of w ≡ Some k → are_quiet w ≡ true
+keyword_quiet w k e = each_keyword (λ v. are_quiet v ≡ true) refl refl refl refl refl refl w k e
+
+-- and its first byte isn't white
+abbrev pub StartsDark : List ℕ → Type 0
+StartsDark [] = ⊥
+StartsDark (c ∷ w) = is_white c ≡ false
+
+-- a keyword's first byte isn't white
+pub keyword_dark : (w : List ℕ) (k : Kind) → kind_of w ≡ Some k → StartsDark w
+keyword_dark w k e = each_keyword StartsDark refl refl refl refl refl refl w k e
+
+white_unquoted : (ws t : List ℕ) → Each IsWhite ws → has_quote (ws ++ t) ≡ has_quote t
+white_unquoted [] t h = refl
+white_unquoted (b ∷ ws) t h =
+    ap (λ (q : Bool). q || has_quote (ws ++ t)) (each_white (λ c. is_quote c ≡ false) refl refl refl refl refl b h.0) ∙ white_unquoted ws t h.1
+
+all_white_unquoted : (ws : List ℕ) → Each IsWhite ws → has_quote ws ≡ false
+all_white_unquoted [] h = refl
+all_white_unquoted (b ∷ ws) h = ap₂ (λ (q r : Bool). q || r) (each_white (λ c. is_quote c ≡ false) refl refl refl refl refl b h.0) (all_white_unquoted ws h.1)
+
+white_unslashed : (x : ℕ) (ws : List ℕ) → (x == slash) ≡ false → Each IsWhite ws → ends_in_slash (x ∷ ws) ≡ false
+white_unslashed x [] e h = e
+white_unslashed x (b ∷ ws) e h = white_unslashed b ws (each_white (λ c. (c == slash) ≡ false) refl refl refl refl refl b h.0) h.1
+
+slash_behind : (ws : List ℕ) (x : ℕ) (t : List ℕ) → ends_in_slash (ws ++ x ∷ t) ≡ ends_in_slash (x ∷ t)
+slash_behind [] x t = refl
+slash_behind (b ∷ []) x t = refl
+slash_behind (b ∷ c ∷ ws) x t = slash_behind (c ∷ ws) x t
+
+-- before a keyword neither a quote is shown nor a slash last
+pub front_unquoted : (ws gs : List ℕ) → Each IsWhite ws → Each IsWhite gs → has_quote (ws ++ 35 ∷ gs) ≡ false
+front_unquoted ws gs w g = white_unquoted ws (35 ∷ gs) w ∙ all_white_unquoted gs g
+
+-- and no slash is last there
+pub front_unslashed : (ws gs : List ℕ) → Each IsWhite gs → ends_in_slash (ws ++ 35 ∷ gs) ≡ false
+front_unslashed ws gs g = slash_behind ws 35 gs ∙ white_unslashed 35 gs refl g

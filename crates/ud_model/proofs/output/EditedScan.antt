@@ -1,0 +1,176 @@
+-- The scan of an edited line: before the keyword of a directive no comment and no literal is open, so another keyword in
+-- its place changes nothing of what follows.
+use Rattle.std.proofs.Common.{◌≡◌, ℕ, ◌==◌, List, [], ◌∷◌, ◌++◌, Bool, true, false, ◌||◌, if◌then◌else◌, refl, sym, ◌∙◌, ap, append-nil, append_assoc, ◌⊎◌, inl, inr}
+use Rattle.ud_model.specs.text.Bytes.{slash, star, space, line_feed, backslash, is_quote}
+use Rattle.ud_model.specs.aids.Places.{Place, in_text, at_slash, in_block, at_star, in_line, in_literal, at_backslash, next, opens, shows, whitens, blank_last}
+use Rattle.ud_model.proofs.text.PlaceLemmas.{blank_last-last}
+use Rattle.ud_model.proofs.text.ScanLaws.{place_after, white_after, masked_after}
+
+-- where a text leaves off with some bytes and further ones
+pub place_after-append : (w : Place) (a b : List ℕ) → place_after w (a ++ b) ≡ place_after (place_after w a) b
+place_after-append w [] b = refl
+place_after-append w (x ∷ a) b = place_after-append (next w x) a b
+
+-- how it is shown with them
+pub masked_after-append : (w : Place) (m a b : List ℕ) → masked_after w m (a ++ b) ≡ masked_after (place_after w a) (masked_after w m a) b
+masked_after-append w m [] b = refl
+masked_after-append w m (x ∷ a) b = masked_after-append (next w x) ((if opens w x then blank_last m else m) ++ shows w x ∷ []) a b
+
+-- whether its last logical line is white with them
+pub white_after-append : (w : Place) (white : Bool) (a b : List ℕ) → white_after w white (a ++ b) ≡ white_after (place_after w a) (white_after w white a) b
+white_after-append w white [] b = refl
+white_after-append w white (x ∷ a) b = white_after-append (next w x) (whitens w white x) a b
+
+-- the last byte, as it is shown by whether a comment begins with it
+abbrev blanked : Bool → ℕ → ℕ
+blanked o c = if o then space else c
+
+blank_by : (o : Bool) (m : List ℕ) (c : ℕ) → (if o then blank_last (m ++ c ∷ []) else m ++ c ∷ []) ≡ m ++ blanked o c ∷ []
+blank_by true m c = blank_last-last m c
+blank_by false m c = refl
+
+-- of what is shown only the last byte may still change
+pub masked_front : (bytes : List ℕ) (w : Place) (m : List ℕ) (c : ℕ) → masked_after w (m ++ c ∷ []) bytes ≡ m ++ masked_after w (c ∷ []) bytes
+masked_front [] w m c = refl
+masked_front (b ∷ bytes) w m c =
+    ap (λ (l : List ℕ). masked_after (next w b) (l ++ shows w b ∷ []) bytes) (blank_by (opens w b) m c)
+    ∙ masked_front bytes (next w b) (m ++ blanked (opens w b) c ∷ []) (shows w b)
+    ∙ append_assoc m (blanked (opens w b) c ∷ []) (masked_after (next w b) (shows w b ∷ []) bytes)
+    ∙ ap (λ (l : List ℕ). m ++ l)
+    (sym (ap (λ (l : List ℕ). masked_after (next w b) (l ++ shows w b ∷ []) bytes) (blank_by (opens w b) [] c)
+    ∙ masked_front bytes (next w b) (blanked (opens w b) c ∷ []) (shows w b)))
+
+-- it stays, or becomes a space
+pub first_shown : (bytes : List ℕ) (w : Place) (c : ℕ) → (rest : List ℕ) × ((masked_after w (c ∷ []) bytes ≡ c ∷ rest) ⊎ (masked_after w (c ∷ []) bytes ≡ space ∷ rest))
+first_shown [] w c = ([], inl refl)
+first_shown (b ∷ bytes) w c = (masked_after (next w b) (shows w b ∷ []) bytes, by_open (opens w b) refl)
+  where
+    by_open : (o : Bool) → opens w b ≡ o → (masked_after w (c ∷ []) (b ∷ bytes) ≡ c ∷ masked_after (next w b) (shows w b ∷ []) bytes)
+        ⊎ (masked_after w (c ∷ []) (b ∷ bytes) ≡ space ∷ masked_after (next w b) (shows w b ∷ []) bytes)
+    by_open true e = inr (ap (λ (t : Bool). masked_after (next w b) ((if t then space ∷ [] else c ∷ []) ++ shows w b ∷ []) bytes) e ∙ masked_front bytes (next w b) (space ∷ []) (shows w b))
+    by_open false e = inl (ap (λ (t : Bool). masked_after (next w b) ((if t then space ∷ [] else c ∷ []) ++ shows w b ∷ []) bytes) e ∙ masked_front bytes (next w b) (c ∷ []) (shows w b))
+
+-- between pieces nothing that is shown changes any more
+pub text_front : (bytes m : List ℕ) → masked_after in_text m bytes ≡ m ++ masked_after in_text [] bytes
+text_front [] m = sym (append-nil m)
+text_front (b ∷ bytes) m = masked_front bytes (next in_text b) m (shows in_text b)
+
+-- some byte is a quote
+abbrev pub has_quote : List ℕ → Bool
+has_quote [] = false
+has_quote (b ∷ bs) = is_quote b || has_quote bs
+
+-- the last byte is a slash
+abbrev pub ends_in_slash : List ℕ → Bool
+ends_in_slash [] = false
+ends_in_slash (b ∷ []) = b == slash
+ends_in_slash (b ∷ c ∷ bs) = ends_in_slash (c ∷ bs)
+
+quote-append : (m n : List ℕ) → has_quote (m ++ n) ≡ (has_quote m || has_quote n)
+quote-append [] n = refl
+quote-append (b ∷ m) n = ap (λ (t : Bool). is_quote b || t) (quote-append m n) ∙ or_assoc (is_quote b) (has_quote m) (has_quote n)
+  where
+    or_assoc : (x y z : Bool) → (x || (y || z)) ≡ ((x || y) || z)
+    or_assoc true y z = refl
+    or_assoc false y z = refl
+
+slash-last : (m : List ℕ) (b : ℕ) → ends_in_slash (m ++ b ∷ []) ≡ (b == slash)
+slash-last [] b = refl
+slash-last (c ∷ []) b = refl
+slash-last (c ∷ d ∷ m) b = slash-last (d ∷ m) b
+
+-- if a literal is open, its quote is shown
+abbrev pub Quoted : Place → List ℕ → Type 0
+Quoted in_text m = Unit {0}
+Quoted at_slash m = Unit {0}
+Quoted in_block m = Unit {0}
+Quoted at_star m = Unit {0}
+Quoted in_line m = Unit {0}
+Quoted (in_literal q) m = has_quote m ≡ true
+Quoted (at_backslash q) m = has_quote m ≡ true
+
+-- and if a text ends in a slash, that is shown
+abbrev pub Shown : Place → List ℕ → Type 0
+Shown in_text m = Unit {0}
+Shown at_slash m = ends_in_slash m ≡ true
+Shown in_block m = Unit {0}
+Shown at_star m = Unit {0}
+Shown in_line m = Unit {0}
+Shown (in_literal q) m = has_quote m ≡ true
+Shown (at_backslash q) m = has_quote m ≡ true
+
+shown_quoted : (w : Place) (m : List ℕ) → Shown w m → Quoted w m
+shown_quoted in_text m h = tt
+shown_quoted at_slash m h = tt
+shown_quoted in_block m h = tt
+shown_quoted at_star m h = tt
+shown_quoted in_line m h = tt
+shown_quoted (in_literal q) m h = h
+shown_quoted (at_backslash q) m h = h
+
+quote_behind : (m : List ℕ) (b : ℕ) → is_quote b ≡ true → has_quote (m ++ b ∷ []) ≡ true
+quote_behind m b e = quote-append m (b ∷ []) ∙ ap (λ (t : Bool). has_quote m || (t || false)) e ∙ or_true (has_quote m)
+  where
+    or_true : (t : Bool) → (t || true) ≡ true
+    or_true true = refl
+    or_true false = refl
+
+quote_before : (m : List ℕ) (b : ℕ) → has_quote m ≡ true → has_quote (m ++ b ∷ []) ≡ true
+quote_before m b e = quote-append m (b ∷ []) ∙ ap (λ (t : Bool). t || has_quote (b ∷ [])) e
+
+from_text : (s q : Bool) (m : List ℕ) (b : ℕ) → (b == slash) ≡ s → is_quote b ≡ q → Shown (if s then at_slash else if q then in_literal b else in_text) (m ++ b ∷ [])
+from_text true q m b e f = slash-last m b ∙ e
+from_text false true m b e f = quote_behind m b f
+from_text false false m b e f = tt
+
+from_slash : (t s q : Bool) (m : List ℕ) (b : ℕ) → (b == star) ≡ t → (b == slash) ≡ s → is_quote b ≡ q →
+    Shown (if t then in_block else if s then in_line else if q then in_literal b else in_text) ((if t || s then blank_last m else m) ++ (if t then space else if s then space else b) ∷ [])
+from_slash true s q m b e f g = tt
+from_slash false true q m b e f g = tt
+from_slash false false true m b e f g = quote_behind m b g
+from_slash false false false m b e f g = tt
+
+from_block : (t : Bool) (m : List ℕ) → Shown (if t then at_star else in_block) m
+from_block true m = tt
+from_block false m = tt
+
+from_star : (s t : Bool) (m : List ℕ) → Shown (if s then in_text else if t then at_star else in_block) m
+from_star true t m = tt
+from_star false true m = tt
+from_star false false m = tt
+
+from_line : (t : Bool) (m : List ℕ) → Shown (if t then in_text else in_line) m
+from_line true m = tt
+from_line false m = tt
+
+from_literal : (q : ℕ) (f s t : Bool) (m : List ℕ) → has_quote m ≡ true → Shown (if f then in_text else if s then in_text else if t then at_backslash q else in_literal q) m
+from_literal q true s t m h = tt
+from_literal q false true t m h = tt
+from_literal q false false true m h = h
+from_literal q false false false m h = h
+
+from_backslash : (q : ℕ) (f : Bool) (m : List ℕ) → has_quote m ≡ true → Shown (if f then in_text else in_literal q) m
+from_backslash q true m h = tt
+from_backslash q false m h = h
+
+shown_step : (w : Place) (m : List ℕ) (b : ℕ) → Quoted w m → Shown (next w b) ((if opens w b then blank_last m else m) ++ shows w b ∷ [])
+shown_step in_text m b h = from_text (b == slash) (is_quote b) m b refl refl
+shown_step at_slash m b h = from_slash (b == star) (b == slash) (is_quote b) m b refl refl refl
+shown_step in_block m b h = from_block (b == star) (m ++ space ∷ [])
+shown_step at_star m b h = from_star (b == slash) (b == star) (m ++ space ∷ [])
+shown_step in_line m b h = from_line (b == line_feed) (m ++ (if b == line_feed then b else space) ∷ [])
+shown_step (in_literal q) m b h = from_literal q (b == line_feed) (b == q) (b == backslash) (m ++ b ∷ []) (quote_before m b h)
+shown_step (at_backslash q) m b h = from_backslash q (b == line_feed) (m ++ b ∷ []) (quote_before m b h)
+
+quoted_all : (bytes : List ℕ) (w : Place) (m : List ℕ) → Quoted w m → Quoted (place_after w bytes) (masked_after w m bytes)
+quoted_all [] w m h = h
+quoted_all (b ∷ bytes) w m h =
+    let n : List ℕ = (if opens w b then blank_last m else m) ++ shows w b ∷ [] in
+    quoted_all bytes (next w b) n (shown_quoted (next w b) n (shown_step w m b h))
+
+-- after a byte at least, what is open is shown
+pub shown_all : (b : ℕ) (bytes : List ℕ) (w : Place) (m : List ℕ) → Quoted w m → Shown (place_after w (b ∷ bytes)) (masked_after w m (b ∷ bytes))
+shown_all b [] w m h = shown_step w m b h
+shown_all b (c ∷ bytes) w m h =
+    let n : List ℕ = (if opens w b then blank_last m else m) ++ shows w b ∷ [] in
+    shown_all c bytes (next w b) n (shown_quoted (next w b) n (shown_step w m b h))

@@ -1,0 +1,135 @@
+-- Edits: no more is printed of a text than there was, but that a directive that becomes the `#endif` may grow by a byte.
+use Rattle.std.proofs.Common.{◌≡◌, ℕ, suc, ◌+◌, ◌≤◌, List, [], ◌∷◌, ◌++◌, length, Bool, true, false, not, ◌&&◌, if◌then◌else◌, refl, ap₂, arith, length-append, length-take, length-drop}
+use Rattle.ud_model.specs.text.Lines.{Line, text_of}
+use Rattle.ud_model.specs.sections.Directives.{Span}
+use Rattle.ud_model.specs.sections.Pruning.{Part, an_if, an_elif, an_else, is_removed, any_true, gives_way, ends_with_first_true, endif_verdict, later_verdict}
+use Rattle.ud_model.specs.aids.SoFar.{verdict_so_far}
+use Rattle.ud_model.specs.answer.Printing.{Judged, piece_alone, complemented}
+use Rattle.ud_model.specs.declared.cond.Cond.{Cond}
+use Rattle.ud_model.specs.declared.cond.Cond.TheVariants.{Yes, No, Unknown}
+use Rattle.ud_model.specs.declared.verdict.Verdict.{Verdict}
+use Rattle.ud_model.specs.declared.verdict.Verdict.TheVariants.{Keep, Remove, ToIf, ToElse, ToEndif}
+use Rattle.ud_model.proofs.output.Sizes.{whole}
+
+-- a group after the first true one has come, after the one that became the `#endif`
+abbrev pub is_past : List Cond → Bool
+is_past cs = not (gives_way cs) && any_true cs && not (ends_with_first_true cs)
+
+-- an opener after such a group goes; one that becomes the `#endif` is such a group
+abbrev pub Moves : Bool → Verdict → Bool → Type 0
+Moves true v now = (v ≡ Remove) × (now ≡ true)
+Moves false Keep now = Unit {0}
+Moves false Remove now = Unit {0}
+Moves false ToIf now = Unit {0}
+Moves false ToElse now = Unit {0}
+Moves false ToEndif now = now ≡ true
+
+ends_behind : (cs : List Cond) (c : Cond) → any_true cs ≡ true → (any_true (cs ++ c ∷ []) ≡ true) × (ends_with_first_true (cs ++ c ∷ []) ≡ false)
+ends_behind [] c e = cc
+ends_behind (Yes ∷ []) c e = (refl, refl)
+ends_behind (Yes ∷ d ∷ cs) c e = (refl, refl)
+ends_behind (No ∷ cs) c e = ends_behind cs c e
+ends_behind (Unknown ∷ cs) c e = ends_behind cs c e
+
+later_moves : (part : Part) (c : Cond) (now : Bool) → Moves false (later_verdict part c) now
+later_moves an_if Yes now = tt
+later_moves an_elif Yes now = tt
+later_moves an_else Yes now = tt
+later_moves part No now = tt
+later_moves part Unknown now = tt
+
+unknown_moves : (part : Part) (c : Cond) (some ends now_some now_ends : Bool) → (some ≡ true → (now_some ≡ true) × (now_ends ≡ false)) →
+    Moves (some && not ends) (if not some then later_verdict part c else if ends then ToEndif else Remove) (now_some && not now_ends)
+unknown_moves part c false ends now_some now_ends h = later_moves part c (now_some && not now_ends)
+unknown_moves part c true true now_some now_ends h = ap₂ (λ (a b : Bool). a && not b) (h refl).0 (h refl).1
+unknown_moves part c true false now_some now_ends h = (refl, ap₂ (λ (a b : Bool). a && not b) (h refl).0 (h refl).1)
+
+-- each opener moves so
+pub opener_moves : (cs : List Cond) (part : Part) (c : Cond) → Moves (is_past cs) (verdict_so_far cs part c) (is_past (cs ++ c ∷ []))
+opener_moves [] part Yes = tt
+opener_moves [] part No = tt
+opener_moves [] an_if Unknown = tt
+opener_moves [] an_elif Unknown = tt
+opener_moves [] an_else Unknown = tt
+opener_moves (Yes ∷ cs) part c = tt
+opener_moves (No ∷ cs) part c = opener_moves cs part c
+opener_moves (Unknown ∷ cs) part c =
+    unknown_moves part c (any_true cs) (ends_with_first_true cs) (any_true (cs ++ c ∷ [])) (ends_with_first_true (cs ++ c ∷ [])) (λ e. ends_behind cs c e)
+
+past_by : (g a e : Bool) → (not g && a && not e) ≡ true → (if g then Remove else if not a then Keep else if e then Keep else Remove) ≡ Remove
+past_by true a e h = refl
+past_by false true true h = cc
+past_by false true false h = refl
+past_by false false e h = cc
+
+-- after such a group the `#endif` goes
+pub endif_past : (cs : List Cond) → is_past cs ≡ true → endif_verdict cs ≡ Remove
+endif_past cs h = past_by (gives_way cs) (any_true cs) (ends_with_first_true cs) h
+
+-- the line stays as it is or goes
+abbrev pub KeepsOrGoes : Verdict → Type 0
+KeepsOrGoes Keep = Unit {0}
+KeepsOrGoes Remove = Unit {0}
+KeepsOrGoes ToIf = ⊥
+KeepsOrGoes ToElse = ⊥
+KeepsOrGoes ToEndif = ⊥
+
+endif_by : (g a e : Bool) → KeepsOrGoes (if g then Remove else if not a then Keep else if e then Keep else Remove)
+endif_by true a e = tt
+endif_by false false e = tt
+endif_by false true true = tt
+endif_by false true false = tt
+
+-- so does each `#endif`
+pub endif_keeps : (cs : List Cond) → KeepsOrGoes (endif_verdict cs)
+endif_keeps cs = endif_by (gives_way cs) (any_true cs) (ends_with_first_true cs)
+
+-- the first opener stays or goes
+pub if_keeps : (c : Cond) → KeepsOrGoes (verdict_so_far [] an_if c)
+if_keeps Yes = tt
+if_keeps No = tt
+if_keeps Unknown = tt
+
+-- a line that goes leaves its ending at most
+pub removed_size : (blank : Bool) (k : Span) (l : Line) → length (piece_alone blank (record { line = l; verdict = Remove; keyword = k })) + length l.body ≤ length (text_of l)
+removed_size true k l = let a : length (l.body ++ l.ending) ≡ length l.body + length l.ending = length-append l.body l.ending in omega arith
+removed_size false k l = let a : length (l.body ++ l.ending) ≡ length l.body + length l.ending = length-append l.body l.ending in omega arith
+
+kept_size : (blank : Bool) (k : Span) (l : Line) → length (piece_alone blank (record { line = l; verdict = Keep; keyword = k })) ≡ length (text_of l)
+kept_size true k l = refl
+kept_size false k l = refl
+
+pub keeps_size : (blank : Bool) (v : Verdict) (k : Span) (l : Line) → KeepsOrGoes v → length (piece_alone blank (record { line = l; verdict = v; keyword = k })) ≤ length (text_of l)
+keeps_size blank Keep k l h = let e = kept_size blank k l in omega (arith, e)
+keeps_size blank Remove k l h = let e = removed_size blank k l in omega (arith, e)
+keeps_size blank ToIf k l h = absurd h
+keeps_size blank ToElse k l h = absurd h
+keeps_size blank ToEndif k l h = absurd h
+
+-- how long what is printed may be
+abbrev pub AtMost : Verdict → ℕ → ℕ → Type 0
+AtMost Keep n m = n ≤ m
+AtMost Remove n m = n ≤ m
+AtMost ToIf n m = n ≤ m
+AtMost ToElse n m = n ≤ m
+AtMost ToEndif n m = n ≤ suc m
+
+-- of a directive whose keyword has four bytes
+pub edited_size : (blank : Bool) (v : Verdict) (k : Span) (l : Line) → k.len ≡ 4 → k.at + 4 ≤ length l.body →
+    AtMost v (length (piece_alone blank (record { line = l; verdict = v; keyword = k }))) (length (text_of l))
+edited_size blank Keep k l e h = keeps_size blank Keep k l tt
+edited_size blank Remove k l e h = keeps_size blank Remove k l tt
+edited_size true ToIf k l e h = simp (length-append, length-take, length-drop) (omega arith)
+edited_size false ToIf k l e h = simp (length-append, length-take, length-drop) (omega arith)
+edited_size true ToElse k l e h = simp (length-append, length-take) (omega arith)
+edited_size false ToElse k l e h = simp (length-append, length-take) (omega arith)
+edited_size true ToEndif k l e h = simp (length-append, length-take) (omega arith)
+edited_size false ToEndif k l e h = simp (length-append, length-take) (omega arith)
+
+turned_by : (blank : Bool) (r : Bool) (k : Span) (l : Line) → length (piece_alone blank (record { line = l; verdict = if r then Keep else Remove; keyword = k })) ≤ length (text_of l)
+turned_by blank true k l = keeps_size blank Keep k l tt
+turned_by blank false k l = keeps_size blank Remove k l tt
+
+-- a complemented line doesn't grow
+pub turned_size : (blank : Bool) (j : Judged) → length (piece_alone blank (complemented j)) ≤ length (whole j)
+turned_size blank j = turned_by blank (is_removed j.verdict) j.keyword j.line

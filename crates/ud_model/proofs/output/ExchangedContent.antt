@@ -1,0 +1,88 @@
+-- What a masked line carries that was made from one with a directive.
+use Rattle.std.proofs.Common.{◌≡◌, ℕ, ◌+◌, ◌-◌, List, [], ◌∷◌, ◌++◌, length, take, Bool, true, false, not, ◌&&◌, Option, Some, codes, if◌then◌else◌, refl, sym, ◌∙◌, ap, ap₂, append_assoc, arith, length-append, ◌⊎◌, inl, inr}
+use Rattle.std.proofs.Math.Bool.{and-false}
+use Rattle.std.proofs.lemmas.List.{take_at}
+use Rattle.ud_model.specs.text.Bytes.{past_white, word_in_front, past_word}
+use Rattle.ud_model.specs.text.Scans.{Scan}
+use Rattle.ud_model.specs.sections.Directives.{Directive, cut_keyword, directive, text, content_of, past_sign, past_sign_of, has_cut_keyword, leaves_keyword, found_behind, directive_at, kind_of, is_cut_off, is_in_line}
+use Rattle.ud_model.specs.declared.kind.Kind.{Kind}
+use Rattle.ud_model.specs.declared.kind.Kind.TheVariants.{If}
+use Rattle.ud_model.proofs.output.Each.{Each}
+use Rattle.ud_model.proofs.output.DirectiveFront.{IsWhite, Front, directive_front, StartsDark}
+
+past_dark : (t : List ℕ) → StartsDark t → past_white t ≡ t
+past_dark [] d = absurd d
+past_dark (b ∷ t) d = ap (λ (w : Bool). if w then past_white t else b ∷ t) d
+
+past_all : (ws t : List ℕ) → Each IsWhite ws → StartsDark t → past_white (ws ++ t) ≡ t
+past_all [] t h d = past_dark t d
+past_all (b ∷ ws) t h d = ap (λ (w : Bool). if w then past_white (ws ++ t) else b ∷ (ws ++ t)) h.0 ∙ past_all ws t h.1 d
+
+-- the keyword isn't cut: the line joins no next one, or what follows the sign settles it
+abbrev pub Settled : Scan → List ℕ → Type 0
+Settled now tail = (now.joins_after ≡ false) ⊎ (leaves_keyword now tail ≡ false)
+
+uncut : (f j c l : Bool) → (j ≡ false) ⊎ (l ≡ false) → (f && j && c && l) ≡ false
+uncut false j c l h = refl
+uncut true false c l h = refl
+uncut true true false l h = refl
+uncut true true true false h = refl
+uncut true true true true (inl e) = e
+uncut true true true true (inr e) = e
+
+module _ (now : Scan) (ws gs tail : List ℕ) (k : Kind) (w : Each IsWhite ws) (g : Each IsWhite gs) (d : StartsDark tail) (m : now.masked ≡ (ws ++ 35 ∷ gs) ++ tail)
+    (f : now.fresh ≡ true) (s : Settled now tail) (kind : kind_of (word_in_front tail) ≡ Some k) where
+  sign_is : past_sign now.masked ≡ Some (gs ++ tail)
+  sign_is =
+      ap past_sign (m ∙ append_assoc ws (35 ∷ gs) tail) ∙ ap past_sign_of (past_all ws (35 ∷ (gs ++ tail)) w refl)
+
+  tail_is : past_white (gs ++ tail) ≡ tail
+  tail_is = past_all gs tail g d
+
+  not_cut : has_cut_keyword now (past_sign now.masked) ≡ false
+  not_cut =
+      ap (λ (o : Option (List ℕ)). has_cut_keyword now o) sign_is
+      ∙ ap (λ (t : List ℕ). now.fresh && now.joins_after && not (is_in_line now.comment) && leaves_keyword now t) tail_is
+      ∙ uncut now.fresh now.joins_after (not (is_in_line now.comment)) (leaves_keyword now tail) s
+
+  at_is : length now.masked - length tail ≡ length (ws ++ 35 ∷ gs)
+  at_is =
+      let l : length now.masked ≡ length (ws ++ 35 ∷ gs) + length tail = ap (λ (t : List ℕ). length t) m ∙ length-append (ws ++ 35 ∷ gs) tail in omega (arith, l)
+
+  -- a line that is seen so carries this directive
+  pub carries : content_of now ≡ directive (record {
+    kind = k;
+    keyword = record { at = length (ws ++ 35 ∷ gs); len = length (word_in_front tail) };
+    after = past_word tail;
+    broken = is_cut_off now;
+  })
+  carries =
+      ap (λ (t : Bool). if t then cut_keyword else found_behind now (past_sign now.masked)) not_cut
+      ∙ ap (λ (o : Option (List ℕ)). found_behind now o) sign_is
+      ∙ ap₂ (λ (b : Bool) (t : List ℕ). if b then directive_at now t (kind_of (word_in_front t)) else text) f tail_is
+      ∙ ap (λ (o : Option Kind). directive_at now tail o) kind
+      ∙ ap (λ (n : ℕ). directive (record { kind = k; keyword = record { at = n; len = length (word_in_front tail) }; after = past_word tail; broken = is_cut_off now })) at_is
+
+-- `#elif X` with two spaces after an `if` in place of its keyword is an `#if` with the same text after two spaces
+pub to_if_content : (scan now : Scan) (d : Directive) → content_of scan ≡ directive d → now.masked ≡ take d.keyword.at scan.masked ++ (codes "if  " ++ d.after) →
+    now.fresh ≡ scan.fresh → is_cut_off now ≡ is_cut_off scan →
+    content_of now ≡ directive (record { kind = If; keyword = record { at = d.keyword.at; len = 2 }; after = 32 ∷ 32 ∷ d.after; broken = d.broken })
+to_if_content scan now d e m f c =
+    let p : Front scan d = directive_front scan d e in
+    let head : take d.keyword.at scan.masked ≡ p.white ++ 35 ∷ p.gap =
+    ap₂ (λ (n : ℕ) (t : List ℕ). take n t) p.at_is p.masked_is ∙ take_at (p.white ++ 35 ∷ p.gap) (p.word ++ d.after) (length (p.white ++ 35 ∷ p.gap)) refl in
+    carries now p.white p.gap (codes "if  " ++ d.after) If p.whites p.gaps refl (m ∙ ap (λ (t : List ℕ). t ++ (codes "if  " ++ d.after)) head) (f ∙ p.fresh_is)
+    (inr (and-false (is_cut_off now))) refl
+    ∙ ap₂ (λ (n : ℕ) (b : Bool). directive (record { kind = If; keyword = record { at = n; len = 2 }; after = 32 ∷ 32 ∷ d.after; broken = b })) (sym p.at_is) (c ∙ sym p.broken_is)
+
+-- a line that ends after `else` or `endif` in place of its keyword, and joins no other
+pub cut_content : (scan now : Scan) (d : Directive) (word : List ℕ) (k : Kind) → content_of scan ≡ directive d → now.masked ≡ take d.keyword.at scan.masked ++ word →
+    now.fresh ≡ scan.fresh → now.joins_after ≡ false → is_cut_off now ≡ false → StartsDark word → word_in_front word ≡ word → past_word word ≡ [] → kind_of word ≡ Some k →
+    content_of now ≡ directive (record { kind = k; keyword = record { at = d.keyword.at; len = length word }; after = []; broken = false })
+cut_content scan now d word k e m f j c dark front rest kind =
+    let p : Front scan d = directive_front scan d e in
+    let head : take d.keyword.at scan.masked ≡ p.white ++ 35 ∷ p.gap =
+    ap₂ (λ (n : ℕ) (t : List ℕ). take n t) p.at_is p.masked_is ∙ take_at (p.white ++ 35 ∷ p.gap) (p.word ++ d.after) (length (p.white ++ 35 ∷ p.gap)) refl in
+    carries now p.white p.gap word k p.whites p.gaps dark (m ∙ ap (λ (t : List ℕ). t ++ word) head) (f ∙ p.fresh_is) (inl j) (ap kind_of front ∙ kind)
+    ∙ ap₂ (λ (n : ℕ) (b : Bool). directive (record { kind = k; keyword = record { at = n; len = length (word_in_front word) }; after = past_word word; broken = b })) (sym p.at_is) c
+    ∙ ap₂ (λ (u t : List ℕ). directive (record { kind = k; keyword = record { at = d.keyword.at; len = length u }; after = t; broken = false })) front rest

@@ -1,0 +1,259 @@
+-- The pieces of a text are lines: each has a line feed as its last byte and nowhere else, but perhaps the last one.
+use Rattle.std.proofs.Common.{◌≡◌, ◌≢◌, ℕ, ◌+◌, ◌-◌, List, [], ◌∷◌, ◌++◌, length, take, drop, ◌⊎◌, inl, inr, Bool, true, false, codes, ◌==◌, ◌||◌, if◌then◌else◌, nat_eq, refl, sym, ◌∙◌, ap, ap₂, subst, append_assoc, append-nil, arith, length-append}
+use Rattle.std.proofs.lemmas.Bool.{or_parts}
+use Rattle.std.specs.List.{ends_with}
+use Rattle.std.proofs.lemmas.Bool.Decides.{Decides-eqb}
+use Rattle.std.proofs.lemmas.Slice.Eq.{ends_is}
+use Rattle.std.proofs.lemmas.List.{take-append-drop, take_at, same_from_push}
+use Rattle.ud_model.specs.text.Lines.{NoFeed, IsWhole, IsUnended, AreFormed, ending_of, Line, line_at}
+use Rattle.ud_model.specs.sections.Directives.{Span}
+use Rattle.ud_model.specs.answer.Printing.{piece_by}
+use Rattle.ud_model.specs.declared.verdict.Verdict.{Verdict}
+use Rattle.ud_model.specs.declared.verdict.Verdict.TheVariants.{Keep, Remove, ToIf, ToElse, ToEndif}
+use Rattle.ud_model.proofs.text.Pushes.{ByPush, none, push, by_push}
+use Rattle.ud_model.proofs.text.LinesLemmas.{no_feed-append, body-ending}
+
+no_feed_parts : (p q : List ℕ) → NoFeed (p ++ q) → NoFeed p × NoFeed q
+no_feed_parts [] q h = (tt, h)
+no_feed_parts (b ∷ p) q h = let r : NoFeed p × NoFeed q = no_feed_parts p q h.1 in ((h.0, r.0), r.1)
+
+no_feed_cut : (n : ℕ) (t : List ℕ) → NoFeed t → NoFeed (take n t) × NoFeed (drop n t)
+no_feed_cut n t h = no_feed_parts (take n t) (drop n t) (subst NoFeed (sym (take-append-drop n t)) h)
+
+-- the ending of a whole line
+abbrev pub IsEnd : List ℕ → Type 0
+IsEnd e = (e ≡ 13 ∷ 10 ∷ []) ⊎ (e ≡ 10 ∷ [])
+
+-- a whole line has one
+pub whole_ending : (l : List ℕ) → IsWhole l → IsEnd (ending_of l)
+whole_ending l (front, n, e) =
+    by_tests (ends_with nat_eq l (13 ∷ 10 ∷ [])) (ends_with nat_eq l (10 ∷ [])) ((ends_is Decides-eqb l (10 ∷ []) (ends_with nat_eq l (10 ∷ [])) refl).1 front e)
+  where
+    by_tests : (a b : Bool) → b ≡ true → IsEnd (if a then 13 ∷ 10 ∷ [] else if b then 10 ∷ [] else [])
+    by_tests true b h = inl refl
+    by_tests false true h = inr refl
+    by_tests false false h = cc
+
+-- a body and an ending
+ended : (b e : List ℕ) → NoFeed b → IsEnd e → IsWhole (b ++ e)
+ended b e n (inl h) = (b ++ 13 ∷ [], no_feed-append b (13 ∷ []) n ((λ p. omega arith), tt), ap (λ (t : List ℕ). b ++ t) h ∙ sym (append_assoc b (13 ∷ []) (10 ∷ [])))
+ended b e n (inr h) = (b, n, ap (λ (t : List ℕ). b ++ t) h)
+
+abbrev body_of : List ℕ → List ℕ
+body_of t = take (length t - length (ending_of t)) t
+
+whole_body : (t : List ℕ) → IsWhole t → NoFeed (body_of t)
+whole_body t (front, n, e) = go (whole_ending t (front, n, e))
+  where
+    go : IsEnd (ending_of t) → NoFeed (body_of t)
+    go (inl h) =
+        let p : (body_of t ++ 13 ∷ []) ++ 10 ∷ [] ≡ front ++ 10 ∷ [] =
+        append_assoc (body_of t) (13 ∷ []) (10 ∷ []) ∙ ap (λ (x : List ℕ). body_of t ++ x) (sym h) ∙ body-ending t ∙ e in
+        let q = same_from_push (body_of t ++ 13 ∷ []) front 10 10 p in
+        (no_feed_parts (body_of t) (13 ∷ []) (subst NoFeed (sym q.0) n)).0
+    go (inr h) =
+        let p : body_of t ++ 10 ∷ [] ≡ front ++ 10 ∷ [] = ap (λ (x : List ℕ). body_of t ++ x) (sym h) ∙ body-ending t ∙ e in
+        subst NoFeed (sym (same_from_push (body_of t) front 10 10 p).0) n
+
+-- what is printed of a body
+unfoldable pub edited_body : Verdict → Span → List ℕ → List ℕ
+edited_body Keep k b = b
+edited_body Remove k b = b
+edited_body ToIf k b = (take k.at b ++ codes "if  ") ++ drop (k.at + k.len) b
+edited_body ToElse k b = take k.at b ++ codes "else"
+edited_body ToEndif k b = take k.at b ++ codes "endif"
+
+-- it isn't removed
+abbrev pub IsLeft : Verdict → Type 0
+IsLeft Keep = Unit {0}
+IsLeft Remove = ⊥
+IsLeft ToIf = Unit {0}
+IsLeft ToElse = Unit {0}
+IsLeft ToEndif = Unit {0}
+
+piece_parts : (v : Verdict) (k : Span) (l : Line) → IsLeft v → piece_by v k l ≡ edited_body v k l.body ++ l.ending
+unfolding edited_body
+piece_parts Keep k l h = refl
+piece_parts Remove k l h = absurd h
+piece_parts ToIf k l h = refl
+piece_parts ToElse k l h = refl
+piece_parts ToEndif k l h = refl
+
+abbrev has_feed : List ℕ → Bool
+has_feed [] = false
+has_feed (b ∷ bs) = (b == 10) || has_feed bs
+
+word_no_feed : (w : List ℕ) → has_feed w ≡ false → NoFeed w
+word_no_feed [] e = tt
+word_no_feed (b ∷ w) e =
+    let p : ((b == 10) ≡ false) × (has_feed w ≡ false) = or_parts (b == 10) (has_feed w) e in
+    (λ h. let f : true ≡ false = sym (ap (λ (x : ℕ). x == 10) h) ∙ p.0 in cc, word_no_feed w p.1)
+
+edited_no_feed : (v : Verdict) (k : Span) (b : List ℕ) → NoFeed b → NoFeed (edited_body v k b)
+unfolding edited_body
+edited_no_feed Keep k b n = n
+edited_no_feed Remove k b n = n
+edited_no_feed ToIf k b n =
+    no_feed-append (take k.at b ++ codes "if  ") (drop (k.at + k.len) b)
+    (no_feed-append (take k.at b) (codes "if  ") (no_feed_cut k.at b n).0 (word_no_feed (codes "if  ") refl)) (no_feed_cut (k.at + k.len) b n).1
+edited_no_feed ToElse k b n = no_feed-append (take k.at b) (codes "else") (no_feed_cut k.at b n).0 (word_no_feed (codes "else") refl)
+edited_no_feed ToEndif k b n = no_feed-append (take k.at b) (codes "endif") (no_feed_cut k.at b n).0 (word_no_feed (codes "endif") refl)
+
+-- the piece of a whole line that is left is a whole line
+pub whole_piece : (v : Verdict) (k : Span) (n : ℕ) (t : List ℕ) → IsLeft v → IsWhole t → IsWhole (piece_by v k (line_at n t))
+whole_piece v k n t h w =
+    subst IsWhole (sym (piece_parts v k (line_at n t) h)) (ended (edited_body v k (body_of t)) (ending_of t) (edited_no_feed v k (body_of t) (whole_body t w)) (whole_ending t w))
+
+not_nil : (a w : List ℕ) (c : ℕ) → a ++ (c ∷ w) ≢ []
+not_nil [] w c e = cc
+not_nil (x ∷ a) w c e = cc
+
+nil_front : (a b : List ℕ) → a ≢ [] → a ++ b ≢ []
+nil_front [] b n e = n refl
+nil_front (x ∷ a) b n e = cc
+
+-- the piece of an unended line that is left is an unended line
+pub unended_piece : (v : Verdict) (k : Span) (n : ℕ) (t : List ℕ) → IsLeft v → IsUnended t → IsUnended (piece_by v k (line_at n t))
+unfolding edited_body
+unended_piece Keep k n t h (s, w) = (subst (λ (x : List ℕ). x ≢ []) (sym (body-ending t)) s, subst NoFeed (sym (body-ending t)) w)
+unended_piece Remove k n t h w = absurd h
+unended_piece ToIf k n t h (s, w) =
+    let p : NoFeed (body_of t) × NoFeed (ending_of t) = no_feed_parts (body_of t) (ending_of t) (subst NoFeed (sym (body-ending t)) w) in (
+      nil_front ((take k.at (body_of t) ++ codes "if  ") ++ drop (k.at + k.len) (body_of t)) (ending_of t)
+          (nil_front (take k.at (body_of t) ++ codes "if  ") (drop (k.at + k.len) (body_of t)) (not_nil (take k.at (body_of t)) (codes "f  ") 105)),
+      no_feed-append ((take k.at (body_of t) ++ codes "if  ") ++ drop (k.at + k.len) (body_of t)) (ending_of t) (edited_no_feed ToIf k (body_of t) p.0) p.1,
+    )
+unended_piece ToElse k n t h (s, w) =
+    let p : NoFeed (body_of t) × NoFeed (ending_of t) = no_feed_parts (body_of t) (ending_of t) (subst NoFeed (sym (body-ending t)) w) in (
+      nil_front (take k.at (body_of t) ++ codes "else") (ending_of t) (not_nil (take k.at (body_of t)) (codes "lse") 101),
+      no_feed-append (take k.at (body_of t) ++ codes "else") (ending_of t) (edited_no_feed ToElse k (body_of t) p.0) p.1,
+    )
+unended_piece ToEndif k n t h (s, w) =
+    let p : NoFeed (body_of t) × NoFeed (ending_of t) = no_feed_parts (body_of t) (ending_of t) (subst NoFeed (sym (body-ending t)) w) in (
+      nil_front (take k.at (body_of t) ++ codes "endif") (ending_of t) (not_nil (take k.at (body_of t)) (codes "ndif") 101),
+      no_feed-append (take k.at (body_of t) ++ codes "endif") (ending_of t) (edited_no_feed ToEndif k (body_of t) p.0) p.1,
+    )
+
+-- a whole line in front of lines
+pub formed_more : (p : List ℕ) (qs : List (List ℕ)) → IsWhole p → AreFormed qs → AreFormed (p ∷ qs)
+formed_more p [] w f = inl w
+formed_more p (q ∷ qs) w f = (w, f)
+
+-- it ends in this byte
+unfoldable pub EndsIn : ℕ → List ℕ → Type 0
+EndsIn q b = (c : List ℕ) × (b ≡ c ++ q ∷ [])
+
+module _ (q : ℕ) where
+  end_back : (a d : List ℕ) (z : ℕ) → EndsIn q (a ++ (d ++ z ∷ [])) → z ≡ q
+  unfolding EndsIn
+  end_back a d z (c, e) = (same_from_push (a ++ d) c z q (append_assoc a d (z ∷ []) ∙ e)).1
+
+  end_front : (front b : List ℕ) → {d : List ℕ} → ByPush d → d ≡ b → (b ≡ [] → EndsIn q front → ⊥) → EndsIn q (front ++ b) → EndsIn q b
+  unfolding EndsIn
+  end_front front b none e n (c, h) = absurd (n (sym e) (c, sym (append-nil front) ∙ ap (λ (t : List ℕ). front ++ t) e ∙ h))
+  end_front front b (push {xs = d} z p) e n (c, h) =
+      let r : z ≡ q = end_back front d z (c, ap (λ (t : List ℕ). front ++ t) e ∙ h) in (d, sym e ∙ ap (λ (y : ℕ). d ++ y ∷ []) r)
+
+  -- a list that ends in another byte doesn't
+  pub not_end : (a d : List ℕ) (z : ℕ) → (z == q) ≡ false → EndsIn q (a ++ (d ++ z ∷ [])) → ⊥
+  not_end a d z f h = let e : true ≡ false = sym ((Decides-eqb q q).1 refl) ∙ sym (ap (λ (y : ℕ). y == q) (end_back a d z h)) ∙ f in cc
+
+  end_drop : (n : ℕ) (b : List ℕ) → EndsIn q (drop n b) → EndsIn q b
+  unfolding EndsIn
+  end_drop n b (c, e) = (take n b ++ c, sym (take-append-drop n b) ∙ ap (λ (t : List ℕ). take n b ++ t) e ∙ sym (append_assoc (take n b) c (q ∷ [])))
+
+-- a byte other than the last one of each new keyword
+pub record IsOther (q : ℕ) : Type 0 where
+  pub no_space : (32 == q) ≡ false
+  pub no_else : (101 == q) ≡ false
+  pub no_endif : (102 == q) ≡ false
+
+-- an edited body ends in such a byte only if the body does
+pub edited_end : (q : ℕ) → IsOther q → (v : Verdict) (k : Span) (b : List ℕ) → EndsIn q (edited_body v k b) → EndsIn q b
+unfolding edited_body
+edited_end q o Keep k b h = h
+edited_end q o Remove k b h = h
+edited_end q o ToIf k b h =
+    end_drop q (k.at + k.len) b
+    (end_front q (take k.at b ++ codes "if  ") (drop (k.at + k.len) b) (by_push (drop (k.at + k.len) b)) refl (λ r. not_end q (take k.at b) (codes "if ") 32 o.no_space) h)
+edited_end q o ToElse k b h = absurd (not_end q (take k.at b) (codes "els") 101 o.no_else h)
+edited_end q o ToEndif k b h = absurd (not_end q (take k.at b) (codes "endi") 102 o.no_endif h)
+
+test_false : (l s : List ℕ) → ((f : List ℕ) → l ≡ f ++ s → ⊥) → ends_with nat_eq l s ≡ false
+test_false l s n = go (ends_with nat_eq l s) (ends_is Decides-eqb l s (ends_with nat_eq l s) refl).0
+  where
+    go : (t : Bool) → (t ≡ true → l ≡ take (length l - length s) l ++ s) → t ≡ false
+    go false h = refl
+    go true h = absurd (n (take (length l - length s) l) (h refl))
+
+by_ends : (l : List ℕ) (a b : Bool) → ends_with nat_eq l (13 ∷ 10 ∷ []) ≡ a → ends_with nat_eq l (10 ∷ []) ≡ b →
+    ending_of l ≡ (if a then 13 ∷ 10 ∷ [] else if b then 10 ∷ [] else [])
+by_ends l a b e f = ap₂ (λ (x y : Bool). if x then 13 ∷ 10 ∷ [] else if y then 10 ∷ [] else []) e f
+
+-- the ending of a body and an ending
+ending_both : (b : List ℕ) → ending_of (b ++ 13 ∷ 10 ∷ []) ≡ 13 ∷ 10 ∷ []
+ending_both b =
+    by_ends (b ++ 13 ∷ 10 ∷ []) true (ends_with nat_eq (b ++ 13 ∷ 10 ∷ []) (10 ∷ []))
+    ((ends_is Decides-eqb (b ++ 13 ∷ 10 ∷ []) (13 ∷ 10 ∷ []) (ends_with nat_eq (b ++ 13 ∷ 10 ∷ []) (13 ∷ 10 ∷ [])) refl).1 b refl) refl
+
+ending_feed : (b : List ℕ) → (EndsIn 13 b → ⊥) → ending_of (b ++ 10 ∷ []) ≡ 10 ∷ []
+unfolding EndsIn
+ending_feed b n =
+    by_ends (b ++ 10 ∷ []) false true
+    (test_false (b ++ 10 ∷ []) (13 ∷ 10 ∷ []) (λ f e. n (f, (same_from_push b (f ++ 13 ∷ []) 10 10 (e ∙ sym (append_assoc f (13 ∷ []) (10 ∷ [])))).0)))
+    ((ends_is Decides-eqb (b ++ 10 ∷ []) (10 ∷ []) (ends_with nat_eq (b ++ 10 ∷ []) (10 ∷ [])) refl).1 b refl)
+
+feed_inside : (f : List ℕ) → NoFeed (f ++ 10 ∷ []) → ⊥
+feed_inside [] h = h.0 refl
+feed_inside (x ∷ f) h = feed_inside f h.1
+
+feed_inside_both : (f : List ℕ) → NoFeed (f ++ 13 ∷ 10 ∷ []) → ⊥
+feed_inside_both [] h = h.1.0 refl
+feed_inside_both (x ∷ f) h = feed_inside_both f h.1
+
+ending_none : (b : List ℕ) → NoFeed b → ending_of b ≡ []
+ending_none b n =
+    by_ends b false false (test_false b (13 ∷ 10 ∷ []) (λ f e. feed_inside_both f (subst NoFeed e n))) (test_false b (10 ∷ []) (λ f e. feed_inside f (subst NoFeed e n)))
+
+cr_or_not : (t : List ℕ) → ending_of t ≡ 10 ∷ [] → EndsIn 13 (body_of t) → ⊥
+unfolding EndsIn
+cr_or_not t e (c, h) =
+    let whole : t ≡ c ++ 13 ∷ 10 ∷ [] =
+    sym (body-ending t) ∙ ap₂ (λ (x y : List ℕ). x ++ y) h e ∙ append_assoc c (13 ∷ []) (10 ∷ []) in
+    let f : ending_of t ≡ 13 ∷ 10 ∷ [] = ap ending_of whole ∙ ending_both c in
+    let g : 13 ∷ 10 ∷ [] ≡ 10 ∷ [] = sym f ∙ e in cc
+
+-- what is left of a whole line keeps its ending
+pub whole_keeps : (v : Verdict) (k : Span) (t : List ℕ) → IsWhole t → ending_of (edited_body v k (body_of t) ++ ending_of t) ≡ ending_of t
+whole_keeps v k t w = go (whole_ending t w)
+  where
+    go : IsEnd (ending_of t) → ending_of (edited_body v k (body_of t) ++ ending_of t) ≡ ending_of t
+    go (inl e) = ap (λ (x : List ℕ). ending_of (edited_body v k (body_of t) ++ x)) e ∙ ending_both (edited_body v k (body_of t)) ∙ sym e
+    go (inr e) =
+        ap (λ (x : List ℕ). ending_of (edited_body v k (body_of t) ++ x)) e
+        ∙ ending_feed (edited_body v k (body_of t)) (λ h. cr_or_not t e (edited_end 13 (record { no_space = refl; no_else = refl; no_endif = refl }) v k (body_of t) h)) ∙ sym e
+
+unended_keeps : (v : Verdict) (k : Span) (t : List ℕ) → IsUnended t → ending_of (edited_body v k (body_of t) ++ ending_of t) ≡ ending_of t
+unended_keeps v k t (s, w) =
+    let none : ending_of t ≡ [] = ending_none t w in
+    let b : NoFeed (body_of t) = (no_feed_parts (body_of t) (ending_of t) (subst NoFeed (sym (body-ending t)) w)).0 in
+    ap (λ (x : List ℕ). ending_of (edited_body v k (body_of t) ++ x)) none
+    ∙ ap ending_of (append-nil (edited_body v k (body_of t))) ∙ ending_none (edited_body v k (body_of t)) (edited_no_feed v k (body_of t) b) ∙ sym none
+
+-- what is left of a line, cut again into body and ending
+pub left_line : (v : Verdict) (k : Span) (n m : ℕ) (t : List ℕ) → IsLeft v → IsWhole t ⊎ IsUnended t →
+    line_at m (piece_by v k (line_at n t)) ≡ record { body = edited_body v k (body_of t); ending = ending_of t; number = m }
+left_line v k n m t h w =
+    ap (λ (q : List ℕ). line_at m q) (piece_parts v k (line_at n t) h)
+    ∙ ap₂ (λ (e b : List ℕ). let l : Line = record { body = b; ending = e; number = m } in l) (keeps w) (by_ending (keeps w))
+  where
+    keeps : IsWhole t ⊎ IsUnended t → ending_of (edited_body v k (body_of t) ++ ending_of t) ≡ ending_of t
+    keeps (inl a) = whole_keeps v k t a
+    keeps (inr a) = unended_keeps v k t a
+
+    by_ending : ending_of (edited_body v k (body_of t) ++ ending_of t) ≡ ending_of t → body_of (edited_body v k (body_of t) ++ ending_of t) ≡ edited_body v k (body_of t)
+    by_ending e =
+        take_at (edited_body v k (body_of t)) (ending_of t)
+        (length (edited_body v k (body_of t) ++ ending_of t) - length (ending_of (edited_body v k (body_of t) ++ ending_of t)))
+        (let a = length-append (edited_body v k (body_of t)) (ending_of t) in
+        let f : length (ending_of (edited_body v k (body_of t) ++ ending_of t)) ≡ length (ending_of t) = ap (λ (x : List ℕ). length x) e in omega (arith, a, f))

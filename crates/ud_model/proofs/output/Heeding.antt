@@ -1,0 +1,129 @@
+-- If no argument has plain sections, no section ignores, and every line is read in one mode.
+use Rattle.std.proofs.Common.{◌≡◌, ℕ, List, [], ◌∷◌, ◌++◌, Bool, true, false, not, ◌&&◌, ◌||◌, Option, Some, None, bytes_eq, if◌then◌else◌, refl, sym, ◌∙◌, ap, ap₂, subst}
+use Rattle.std.proofs.Math.Bool.{or-false}
+use Rattle.ud_model.specs.text.Lines.{Line}
+use Rattle.ud_model.specs.text.Scans.{Reading}
+use Rattle.ud_model.specs.sections.Directives.{Content, cut_keyword, directive, text, content_of}
+use Rattle.ud_model.specs.conditions.Table.{Argument, Entry, entry_in, entry_from}
+use Rattle.ud_model.specs.conditions.Conditions.{Decision, Rules, decision_on, condition_of, ifdef_by, ifdef_decision, sole_name, undecided}
+use Rattle.ud_model.specs.sections.Tree.{Item, Elifs, Head, Tree, text_line, if_line, elif_line, else_line, endif_line, nothing, first, elif, if_head, elif_head, else_head, closed, open_section, lines, lines_of_nodes, lines_of_elifs, lines_of_head, is_ignoring, opener_of_elifs, opener_of_head}
+use Rattle.ud_model.specs.sections.Items.{Options, item_of, item_by, directive_item, mode_by, mode_after, read_after, next_item, rules_of}
+use Rattle.ud_model.specs.sections.Faults.{AreSound, no_lines, one_more}
+use Rattle.ud_model.specs.output.Rereading.{NoneIgnores, AreRead, no_items, one_item}
+use Rattle.ud_model.specs.declared.kind.Kind.{Kind}
+use Rattle.ud_model.specs.declared.kind.Kind.TheVariants.{If, Ifdef, Ifndef, Elif, Else, Endif}
+use Rattle.ud_model.specs.declared.kind.Mode.{Mode}
+use Rattle.ud_model.proofs.output.Each.{Each, each_parts, each_both}
+use Rattle.ud_model.proofs.sections.Growth.{Adds}
+use Rattle.ud_model.proofs.sections.Unique.{unique, tree_before}
+
+-- these items, each of a line that is read in this mode after those before
+pub data ReadIn (o : Options) (m : Mode) : List (Item Reading) → Type 0 where
+  none_read : ReadIn o m []
+  one_read : (ys : List (Item Reading)) → ReadIn o m ys → (l : Line) → ReadIn o m (ys ++ item_of o (read_after ys m l) ∷ [])
+
+-- the mode in which every line is read
+abbrev pub the_mode : Options → Mode
+the_mode o = mode_by o.settings.plain
+
+-- an opener doesn't ignore
+abbrev pub Heeds : Item Reading → Type 0
+Heeds (text_line r) = Unit {0}
+Heeds (if_line p) = p.ignoring ≡ false
+Heeds (elif_line p) = p.ignoring ≡ false
+Heeds (else_line r) = Unit {0}
+Heeds (endif_line r) = Unit {0}
+
+abbrev Calm : Option Entry → Type 0
+Calm None = Unit {0}
+Calm (Some e) = e.ignoring ≡ false
+
+calm_if : (b : Bool) (e : Entry) (earlier : Option Entry) → e.ignoring ≡ false → Calm earlier → Calm (if b then Some e else earlier)
+calm_if true e earlier h c = h
+calm_if false e earlier h c = c
+
+calm_from : (earlier : Option Entry) (table : List Argument) (name : List ℕ) → Calm earlier → NoneIgnores table → Calm (entry_from earlier table name)
+calm_from earlier [] name c n = c
+calm_from earlier (a ∷ table) name c n =
+    calm_from (if bytes_eq a.name name then Some a.entry else earlier) table name (calm_if (bytes_eq a.name name) a.entry earlier n.0 c) n.1
+
+calm_by : (e : Option Entry) → Calm e → (ifdef_by e).ignoring ≡ false
+calm_by None c = refl
+calm_by (Some e) c = c
+
+calm_ifdef : (name : Option (List ℕ)) (table : List Argument) → NoneIgnores table → (ifdef_decision name table).ignoring ≡ false
+calm_ifdef None table n = refl
+calm_ifdef (Some name) table n = calm_by (entry_in table name) (calm_from None table name tt n)
+
+calm_condition : (k : Kind) (after : List ℕ) (table : List Argument) (rules : Rules) → NoneIgnores table → (condition_of k after table rules).ignoring ≡ false
+calm_condition If after table rules n = refl
+calm_condition Elif after table rules n = refl
+calm_condition Ifdef after table rules n = calm_ifdef (sole_name after) table n
+calm_condition Ifndef after table rules n = calm_ifdef (sole_name after) table n
+calm_condition Else after table rules n = refl
+calm_condition Endif after table rules n = refl
+
+calm_unless : (b : Bool) (d : Decision) (j : Bool) → d.ignoring ≡ false → (if b then undecided else record d { ignoring = d.ignoring && not j }).ignoring ≡ false
+calm_unless true d j h = refl
+calm_unless false d j h = ap (λ (t : Bool). t && not j) h
+
+calm_item : (r : Reading) (k : Kind) (d : Decision) → d.ignoring ≡ false → Heeds (directive_item r k d)
+calm_item r If d h = h
+calm_item r Ifdef d h = h
+calm_item r Ifndef d h = h
+calm_item r Elif d h = h
+calm_item r Else d h = tt
+calm_item r Endif d h = tt
+
+by_content : (o : Options) (r : Reading) (c : Content) → NoneIgnores o.table → Heeds (item_by o r c)
+by_content o r cut_keyword n = tt
+by_content o r text n = tt
+by_content o r (directive d) n =
+    calm_item r d.kind (decision_on r.scan d o.table (rules_of o.settings))
+    (calm_unless d.broken (condition_of d.kind d.after o.table (rules_of o.settings)) r.scan.joins_after (calm_condition d.kind d.after o.table (rules_of o.settings) n))
+
+-- an item that was read so heeds
+pub item_heeds : (o : Options) (r : Reading) → NoneIgnores o.table → Heeds (item_of o r)
+item_heeds o r n = by_content o r (content_of r.scan) n
+
+elifs_heed : (es : Elifs Reading) → Each Heeds (lines_of_elifs es) → (opener_of_elifs es).ignoring ≡ false
+elifs_heed (first o ns) h = h.0
+elifs_heed (elif es o ns) h =
+    elifs_heed es (each_parts Heeds (lines_of_elifs es) (elif_line o ∷ []) (each_parts Heeds (lines_of_elifs es ++ elif_line o ∷ []) (lines_of_nodes ns) h).0).0
+
+head_heeds : (h : Head Reading) → Each Heeds (lines_of_head h) → (opener_of_head h).ignoring ≡ false
+head_heeds (if_head o) e = e.0
+head_heeds (elif_head es o) e = elifs_heed es (each_parts Heeds (lines_of_elifs es) (elif_line o ∷ []) e).0
+head_heeds (else_head es l) e = elifs_heed es (each_parts Heeds (lines_of_elifs es) (else_line l ∷ []) e).0
+
+-- no section ignores
+pub tree_heeds : (t : Tree Reading) → Each Heeds (lines t) → is_ignoring t ≡ false
+tree_heeds (closed ns) e = refl
+tree_heeds (open_section ns h t) e =
+    let p : Each Heeds (lines_of_nodes ns ++ lines_of_head h) × Each Heeds (lines t) = each_parts Heeds (lines_of_nodes ns ++ lines_of_head h) (lines t) e in
+    ap₂ (λ (a b : Bool). a || b) (head_heeds h (each_parts Heeds (lines_of_nodes ns) (lines_of_head h) p.0).1) (tree_heeds t p.1)
+
+module _ (o : Options) (n : NoneIgnores o.table) where
+  -- after lines none of which ignores the mode is the one mode
+  pub one_mode : (xs : List (Item Reading)) (t : Tree Reading) → lines t ≡ xs → Each Heeds xs → mode_after o t ≡ the_mode o
+  one_mode xs t e h =
+      ap (λ (b : Bool). mode_by (o.settings.plain || b)) (tree_heeds t (subst (Each Heeds) (sym e) h)) ∙ ap mode_by (or-false o.settings.plain)
+
+  all_heed : (m : Mode) (ys : List (Item Reading)) → ReadIn o m ys → Each Heeds ys
+  all_heed m _ none_read = tt
+  all_heed m _ (one_read ys r l) = each_both Heeds ys (item_of o (read_after ys m l) ∷ []) (all_heed m ys r) (item_heeds o (read_after ys m l) n, tt)
+
+  -- and so does each of sound items
+  pub sound_heed : (xs : List (Item Reading)) (t : Tree Reading) → AreSound o xs t → Each Heeds xs
+  sound_heed _ _ no_lines = tt
+  sound_heed _ _ (one_more xs t s l u e w) = each_both Heeds xs (next_item o xs t l ∷ []) (sound_heed xs t s) (item_heeds o (read_after xs (mode_after o t) l) n, tt)
+
+  -- items that are read in the one mode and have a tree are read in the modes of the lines before them
+  pub are_read : (ys : List (Item Reading)) → ReadIn o (the_mode o) ys → (t : Tree Reading) → lines t ≡ ys → AreRead o ys t
+  are_read _ none_read t e = subst (AreRead o []) (sym (unique t (closed nothing) e)) no_items
+  are_read _ (one_read ys r l) t e =
+      let b : (v : Tree Reading) × (lines v ≡ ys) × Adds v (item_of o (read_after ys (the_mode o) l)) t = tree_before ys (item_of o (read_after ys (the_mode o) l)) t e in
+      let m : mode_after o b.0 ≡ the_mode o = one_mode ys b.0 b.1 (all_heed (the_mode o) ys r) in
+      let x : next_item o ys b.0 l ≡ item_of o (read_after ys (the_mode o) l) = ap (λ (q : Mode). item_of o (read_after ys q l)) m in
+      subst (λ (y : Item Reading). AreRead o (ys ++ y ∷ []) t) x
+      (one_item ys b.0 (are_read ys r b.0 b.1) l t (e ∙ ap (λ (y : Item Reading). ys ++ y ∷ []) (sym x)))

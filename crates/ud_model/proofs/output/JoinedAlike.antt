@@ -1,0 +1,210 @@
+-- Of two lines that are joined both go or both stay, in a text without a fault.
+--
+-- A line's place counts as kept before and after it: `before` tells whether the text before the line ends in a kept
+-- place, `after` the same of the text with it.
+use Rattle.std.proofs.Common.{◌≡◌, List, [], ◌∷◌, ◌++◌, Bool, true, false, not, ◌&&◌, ◌||◌, IsTrue, refl, sym, ◌∙◌, ap, subst, append-nil, append_assoc}
+use Rattle.ud_model.specs.declared.cond.Cond.{Cond}
+use Rattle.ud_model.specs.declared.cond.Cond.TheVariants.{Yes, No, Unknown}
+use Rattle.ud_model.specs.declared.verdict.Verdict.{Verdict}
+use Rattle.ud_model.specs.declared.verdict.Verdict.TheVariants.{Keep, Remove, ToIf, ToElse, ToEndif}
+use Rattle.ud_model.specs.text.Scans.{Reading, is_spanning}
+use Rattle.ud_model.specs.sections.Tree.{Item, Opener, Tree, text_line, if_line, elif_line, else_line, endif_line, closed, open_section}
+use Rattle.ud_model.specs.sections.Pruning.{Part, an_if, an_elif, an_else, Mark, marked, is_kept, is_inside_kept, is_removed, conds_of_elifs, conds_of_groups, endif_verdict}
+use Rattle.ud_model.specs.aids.SoFar.{verdict_so_far, marks_so_far}
+use Rattle.ud_model.specs.sections.Items.{reading_of}
+use Rattle.ud_model.specs.sections.Faults.{keeps_rest, is_spoiled_behind}
+use Rattle.ud_model.proofs.sections.Growth.{Adds, adds_text, adds_if, elif_after_if, elif_after_elif, else_after_if, else_after_elif, adds_endif, adds_under, complete}
+use Rattle.ud_model.proofs.sections.Stays.{groups_so_far-complete}
+use Rattle.ud_model.proofs.output.Suited.{Suits, suits_marked, suits_if, suits_elif, suits_else, suits_endif}
+use Rattle.ud_model.proofs.sections.Stages.{Stage, leading, given, going, at_true, past, stage, verdict_at, kept_at, verdict_by_stage, kept_by_stage}
+
+module _ {L : Type 0} where
+  -- the text ends in a kept place, by whether it begins in one
+  abbrev pub ends_kept : Bool → Tree L → Bool
+  ends_kept kept (closed ns) = kept
+  ends_kept kept (open_section ns h t) = ends_kept (kept && is_inside_kept h) t
+
+-- what a line does: the mark that it gets, by the place before it, and the place after it
+pub data Does {L : Type 0} : Item L → Bool → Mark → Bool → Type 0 where
+  does_text : (l : L) (before : Bool) → Does (text_line l) before (marked before Keep) before
+  -- in the place before, a section opens
+  does_if : (o : Opener L) (before : Bool) (v : Verdict) (inside : Bool) → (IsTrue (keeps_rest v) → inside ≡ true) →
+      Does (if_line o) before (marked before v) (before && inside)
+  -- a section goes on that lies in a kept place or not; the place before lies in it
+  does_elif : (o : Opener L) (kept was : Bool) (v : Verdict) (inside : Bool) → (IsTrue (keeps_rest v) → inside ≡ true) →
+      Does (elif_line o) (kept && was) (marked kept v) (kept && inside)
+  does_else : (l : L) (kept was : Bool) (v : Verdict) (inside : Bool) → (IsTrue (keeps_rest v) → inside ≡ true) →
+      Does (else_line l) (kept && was) (marked kept v) (kept && inside)
+  does_endif : (l : L) (kept was : Bool) (v : Verdict) → Does (endif_line l) (kept && was) (marked kept v) kept
+
+stage_keeps : (s : Stage) (part : Part) (c : Cond) → IsTrue (keeps_rest (verdict_at s part c)) → kept_at s c ≡ true
+stage_keeps leading part Yes h = cc
+stage_keeps leading part No h = cc
+stage_keeps leading part Unknown h = refl
+stage_keeps given part c h = cc
+stage_keeps going part Yes h = refl
+stage_keeps going part No h = cc
+stage_keeps going part Unknown h = refl
+stage_keeps at_true part c h = cc
+stage_keeps past part c h = cc
+
+-- the group of an opener that stays as an opener is kept
+keeps_inside : (cs : List Cond) (part : Part) (c : Cond) → IsTrue (keeps_rest (verdict_so_far cs part c)) → is_kept cs c ≡ true
+keeps_inside cs part c h =
+    kept_by_stage cs c ∙ stage_keeps (stage cs) part c (subst (λ (v : Verdict). IsTrue (keeps_rest v)) (verdict_by_stage cs part c) h)
+
+module _ {L : Type 0} where
+  pub record Grows (kept : Bool) (t u : Tree L) (x : Item L) : Type 0 where
+    pub mark : Mark
+    pub more : marks_so_far kept u ≡ marks_so_far kept t ++ mark ∷ []
+    pub does : Does x (ends_kept kept t) mark (ends_kept kept u)
+    pub suits : Suits mark.verdict x
+
+  -- what each line does, with a mark that suits it
+  pub grows : (kept : Bool) {t u : Tree L} {x : Item L} → Adds t x u → Grows kept t u x
+  grows kept (adds_text {l = l}) = record { mark = marked kept Keep; more = refl; does = does_text l kept; suits = suits_marked kept Keep (text_line l) tt }
+  grows kept (adds_if {o = o}) = record {
+    mark = marked kept (verdict_so_far [] an_if o.cond);
+    more = simp append-nil;
+    does = does_if o kept (verdict_so_far [] an_if o.cond) (is_kept [] o.cond) (keeps_inside [] an_if o.cond);
+    suits = suits_marked kept (verdict_so_far [] an_if o.cond) (if_line o) (suits_if o o.cond);
+  }
+  grows kept (elif_after_if {o = o} {p = p}) = record {
+    mark = marked kept (verdict_so_far (o.cond ∷ []) an_elif p.cond);
+    more = simp (append-nil, append_assoc);
+    does = does_elif p kept (is_kept [] o.cond) (verdict_so_far (o.cond ∷ []) an_elif p.cond) (is_kept (o.cond ∷ []) p.cond) (keeps_inside (o.cond ∷ []) an_elif p.cond);
+    suits = suits_marked kept (verdict_so_far (o.cond ∷ []) an_elif p.cond) (elif_line p) (suits_elif (verdict_so_far (o.cond ∷ []) an_elif p.cond) p);
+  }
+  grows kept (elif_after_elif {es = es} {o = o} {p = p}) =
+      let cs : List Cond = conds_of_elifs es ++ o.cond ∷ [] in record {
+        mark = marked kept (verdict_so_far cs an_elif p.cond);
+        more = simp (append-nil, append_assoc);
+        does = does_elif p kept (is_kept (conds_of_elifs es) o.cond) (verdict_so_far cs an_elif p.cond) (is_kept cs p.cond) (keeps_inside cs an_elif p.cond);
+        suits = suits_marked kept (verdict_so_far cs an_elif p.cond) (elif_line p) (suits_elif (verdict_so_far cs an_elif p.cond) p);
+      }
+  grows kept (else_after_if {o = o} {l = l}) = record {
+    mark = marked kept (verdict_so_far (o.cond ∷ []) an_else Yes);
+    more = simp (append-nil, append_assoc);
+    does = does_else l kept (is_kept [] o.cond) (verdict_so_far (o.cond ∷ []) an_else Yes) (is_kept (o.cond ∷ []) Yes) (keeps_inside (o.cond ∷ []) an_else Yes);
+    suits = suits_marked kept (verdict_so_far (o.cond ∷ []) an_else Yes) (else_line l) (suits_else (o.cond ∷ []) l);
+  }
+  grows kept (else_after_elif {es = es} {o = o} {l = l}) =
+      let cs : List Cond = conds_of_elifs es ++ o.cond ∷ [] in record {
+        mark = marked kept (verdict_so_far cs an_else Yes);
+        more = simp (append-nil, append_assoc);
+        does = does_else l kept (is_kept (conds_of_elifs es) o.cond) (verdict_so_far cs an_else Yes) (is_kept cs Yes) (keeps_inside cs an_else Yes);
+        suits = suits_marked kept (verdict_so_far cs an_else Yes) (else_line l) (suits_else cs l);
+      }
+  grows kept (adds_endif {ns = ns} {b = b} {h = h} {l = l}) = record {
+    mark = marked kept (endif_verdict (conds_of_groups (complete h b)));
+    more = rw (groups_so_far-complete kept h b) simp append_assoc;
+    does = does_endif l kept (is_inside_kept h) (endif_verdict (conds_of_groups (complete h b)));
+    suits = suits_marked kept (endif_verdict (conds_of_groups (complete h b))) (endif_line l) (suits_endif (conds_of_groups (complete h b)) l);
+  }
+  grows kept (adds_under {ns = ns} {h = h} {t = t} {u = u} a) =
+      let g : Grows (kept && is_inside_kept h) t u _ = grows (kept && is_inside_kept h) a in
+      record { mark = g.mark; more = rw g.more simp append_assoc; does = g.does; suits = g.suits }
+
+-- a line that joins the next one goes exactly if the place after it isn't kept
+abbrev pub Carried : Item Reading → Mark → Bool → Type 0
+Carried x m behind = (reading_of x).scan.joins_after ≡ true → is_removed m.verdict ≡ not behind
+
+keeps_stays : (v : Verdict) → IsTrue (keeps_rest v) → is_removed v ≡ false
+keeps_stays Keep h = refl
+keeps_stays Remove h = cc
+keeps_stays ToIf h = refl
+keeps_stays ToElse h = cc
+keeps_stays ToEndif h = cc
+
+marked_text : (b : Bool) → is_removed (marked b Keep).verdict ≡ not b
+marked_text true = refl
+marked_text false = refl
+
+-- what a directive that isn't spoiled keeps, by its parts
+spoiled_parts : (span joins removed : Bool) (v : Verdict) → (span && true && (not (keeps_rest v) || (joins && removed))) ≡ false →
+    span ≡ true → IsTrue (keeps_rest v) × ((joins ≡ true) → removed ≡ false)
+spoiled_parts true joins removed Keep e p = (refl, λ q. by_and joins removed q e)
+  where
+    by_and : (a b : Bool) → a ≡ true → (a && b) ≡ false → b ≡ false
+    by_and true b q e = e
+    by_and false b q e = cc
+spoiled_parts true joins removed ToIf e p = (refl, λ q. by_and joins removed q e)
+  where
+    by_and : (a b : Bool) → a ≡ true → (a && b) ≡ false → b ≡ false
+    by_and true b q e = e
+    by_and false b q e = cc
+spoiled_parts true joins removed Remove e p = cc
+spoiled_parts true joins removed ToElse e p = cc
+spoiled_parts true joins removed ToEndif e p = cc
+spoiled_parts false joins removed v e p = cc
+
+or_left : (a b : Bool) → a ≡ true → (a || b) ≡ true
+or_left true b e = refl
+or_left false b e = cc
+
+or_right : (a b : Bool) → b ≡ true → (a || b) ≡ true
+or_right true b e = refl
+or_right false b e = e
+
+-- a directive of a section in a kept place that spans lines
+kept_directive : (r : Reading) (removed : Bool) (v : Verdict) → (is_spanning r.scan && true && (not (keeps_rest v) || (r.scan.joins_before && removed))) ≡ false →
+    is_spanning r.scan ≡ true → IsTrue (keeps_rest v) × ((r.scan.joins_before ≡ true) → removed ≡ false)
+kept_directive r removed v e p = spoiled_parts (is_spanning r.scan) r.scan.joins_before removed v e p
+
+inside_not : (v : Verdict) (inside : Bool) → (IsTrue (keeps_rest v) → inside ≡ true) → IsTrue (keeps_rest v) → is_removed v ≡ not inside
+inside_not v inside k h = keeps_stays v h ∙ ap (λ (b : Bool). not b) (sym (k h))
+
+module _ (removed : Bool) where
+  -- what is known after a line that isn't spoiled and joins the next one
+  pub carried_step : {x : Item Reading} {before behind : Bool} {m : Mark} → Does x before m behind → is_spoiled_behind removed x m ≡ false → Carried x m behind
+  carried_step (does_text l before) e j = marked_text before
+  carried_step (does_if o false v inside k) e j = refl
+  carried_step (does_if o true v inside k) e j =
+      inside_not v inside k (kept_directive o.line removed v e (or_right o.line.scan.joins_before o.line.scan.joins_after j)).0
+  carried_step (does_elif o false was v inside k) e j = refl
+  carried_step (does_elif o true was v inside k) e j =
+      inside_not v inside k (kept_directive o.line removed v e (or_right o.line.scan.joins_before o.line.scan.joins_after j)).0
+  carried_step (does_else l false was v inside k) e j = refl
+  carried_step (does_else l true was v inside k) e j =
+      inside_not v inside k (kept_directive l removed v e (or_right l.scan.joins_before l.scan.joins_after j)).0
+  carried_step (does_endif l false was v) e j = refl
+  carried_step (does_endif l true was v) e j =
+      keeps_stays v (kept_directive l removed v e (or_right l.scan.joins_before l.scan.joins_after j)).0
+
+  by_kept : (r : Reading) (v : Verdict) → (is_spanning r.scan && true && (not (keeps_rest v) || (r.scan.joins_before && removed))) ≡ false → r.scan.joins_before ≡ true →
+      is_removed v ≡ removed
+  by_kept r v e j =
+      let p : IsTrue (keeps_rest v) × ((r.scan.joins_before ≡ true) → removed ≡ false) = kept_directive r removed v e (or_left r.scan.joins_before r.scan.joins_after j) in
+      keeps_stays v p.0 ∙ sym (p.1 j)
+
+  -- a line that joins the one before it goes where that went
+  pub joined_alike : {x : Item Reading} {before behind : Bool} {m : Mark} → Does x before m behind → is_spoiled_behind removed x m ≡ false →
+      (reading_of x).scan.joins_before ≡ true → removed ≡ not before → is_removed m.verdict ≡ removed
+  joined_alike (does_text l before) e j h = marked_text before ∙ sym h
+  joined_alike (does_if o false v inside k) e j h = sym h
+  joined_alike (does_if o true v inside k) e j h = by_kept o.line v e j
+  joined_alike (does_elif o false was v inside k) e j h = sym h
+  joined_alike (does_elif o true was v inside k) e j h = by_kept o.line v e j
+  joined_alike (does_else l false was v inside k) e j h = sym h
+  joined_alike (does_else l true was v inside k) e j h = by_kept l v e j
+  joined_alike (does_endif l false was v) e j h = sym h
+  joined_alike (does_endif l true was v) e j h = by_kept l v e j
+
+  alone_by : (span j k : Bool) → (span && true && (not k || j)) ≡ false → k ≡ false → span ≡ false
+  alone_by false j k e h = refl
+  alone_by true j true e h = cc
+  alone_by true j false e h = cc
+
+  -- a line that is edited, but not to an `#if`, joins no other
+  pub edited_alone : {x : Item Reading} {before behind : Bool} {m : Mark} → Does x before m behind → is_spoiled_behind removed x m ≡ false →
+      keeps_rest m.verdict ≡ false → is_removed m.verdict ≡ false → is_spanning (reading_of x).scan ≡ false
+  edited_alone (does_text l true) e k r = cc
+  edited_alone (does_text l false) e k r = cc
+  edited_alone (does_if o false v inside h) e k r = cc
+  edited_alone (does_if o true v inside h) e k r = alone_by (is_spanning o.line.scan) (o.line.scan.joins_before && removed) (keeps_rest v) e k
+  edited_alone (does_elif o false was v inside h) e k r = cc
+  edited_alone (does_elif o true was v inside h) e k r = alone_by (is_spanning o.line.scan) (o.line.scan.joins_before && removed) (keeps_rest v) e k
+  edited_alone (does_else l false was v inside h) e k r = cc
+  edited_alone (does_else l true was v inside h) e k r = alone_by (is_spanning l.scan) (l.scan.joins_before && removed) (keeps_rest v) e k
+  edited_alone (does_endif l false was v) e k r = cc
+  edited_alone (does_endif l true was v) e k r = alone_by (is_spanning l.scan) (l.scan.joins_before && removed) (keeps_rest v) e k

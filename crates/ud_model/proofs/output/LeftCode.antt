@@ -1,0 +1,157 @@
+-- What is left of a line in C mode, read again if the lines before and what is left of them leave off alike.
+use Rattle.std.proofs.Common.{◌≡◌, ◌≢◌, ℕ, List, [], ◌∷◌, ◌++◌, map, take, Bool, true, false, ◌||◌, codes, refl, sym, ◌∙◌, ap, ap₂, subst}
+use Rattle.std.proofs.lemmas.Bool.{or_parts}
+use Rattle.ud_model.specs.text.Bytes.{backslash}
+use Rattle.ud_model.specs.text.Lines.{Line, text_of}
+use Rattle.ud_model.specs.text.Scans.{Scan, Reading, is_spanning}
+use Rattle.ud_model.specs.text.Splicing.{is_spliced, content, stays_open, share, joined, run_of}
+use Rattle.ud_model.specs.text.Pieces.{PieceKind, block_comment, line_comment, literal, single, kind_at_end}
+use Rattle.ud_model.specs.text.Scanning.{is_block, comment_at, scan_behind, scan_after}
+use Rattle.ud_model.specs.aids.Places.{Place, in_text, closed_place, closed_white}
+use Rattle.ud_model.specs.sections.Directives.{Content, Directive, Span, directive, content_of}
+use Rattle.ud_model.specs.sections.Tree.{Item}
+use Rattle.ud_model.specs.sections.Items.{Options, reading_of, item_of, read_after}
+use Rattle.ud_model.specs.sections.Faults.{is_cut, is_in_block, keeps_rest}
+use Rattle.ud_model.specs.answer.Printing.{piece_by, keyword_in}
+use Rattle.ud_model.specs.declared.kind.Mode.TheVariants.{C}
+use Rattle.ud_model.specs.declared.verdict.Verdict.{Verdict}
+use Rattle.ud_model.specs.declared.verdict.Verdict.TheVariants.{Keep, Remove, ToIf, ToElse, ToEndif}
+use Rattle.ud_model.proofs.sections.Soundness.{reading_of-item_of}
+use Rattle.ud_model.proofs.output.DirectiveFront.{quiet_word}
+use Rattle.ud_model.proofs.output.Each.{Each}
+use Rattle.ud_model.proofs.output.Formed.{EndsIn, IsLeft, not_end}
+use Rattle.ud_model.proofs.output.KeywordPlace.{IsInert}
+use Rattle.ud_model.proofs.output.LeftItems.{becomes_if, becomes_else, becomes_endif}
+use Rattle.ud_model.proofs.output.LeftLines.{LeftLine, kept_body, else_body, endif_body}
+use Rattle.ud_model.proofs.output.LeftReadings.{Left, left_kept, left_if, left_else, left_endif}
+use Rattle.ud_model.proofs.output.LeftScans.{SeenAsIf, SeenCut, NextAlike, IfScan, same_next, if_scan, cut_seen}
+use Rattle.ud_model.proofs.output.LeavesOff.{LeavesOff, HasEnd, kept_scan, leaves_next, leaves_anew}
+use Rattle.ud_model.proofs.output.Rereads.{Carry, alike, Rests}
+use Rattle.ud_model.proofs.output.RereadMore.{last_comment}
+use Rattle.ud_model.proofs.text.ScanLaws.{place_after, white_after, scan_from, scan_behind-from}
+use Rattle.ud_model.proofs.text.ScanLemmas.{joins_last}
+use Rattle.ud_model.proofs.output.Suited.{Suits}
+
+calm_by : (s : Bool) (k : PieceKind) → (s || is_block k) ≡ false → is_in_block (comment_at s k) ≡ false
+calm_by true k e = cc
+calm_by false block_comment e = cc
+calm_by false line_comment e = refl
+calm_by false literal e = refl
+calm_by false single e = refl
+
+-- a line that joins nothing doesn't end in a comment
+calm_alone : (run : List Line) (l : Line) → (scan_behind run l).joins_after ≡ false → is_in_block (scan_behind run l).comment ≡ false
+unfolding scan_behind
+calm_alone run l e = calm_by (is_spliced l) (kind_at_end (joined run ++ share l)) (sym (joins_last run l) ∙ e)
+
+-- the same place under another name
+leaves_as : {xs : List (Item Reading)} {w v : Place} {a b c d : Bool} → w ≡ v → a ≡ b → c ≡ d → LeavesOff xs w a c → LeavesOff xs v b d
+leaves_as {xs} {w} {v} {a} {b} {c} {d} e f g h =
+    subst (λ (q : Place). LeavesOff xs q b d) e (subst (λ (q : Bool). LeavesOff xs w q d) f (subst (λ (q : Bool). LeavesOff xs w a q) g h))
+
+-- the bytes of a new keyword
+abbrev NewWord : List ℕ → Type 0
+NewWord word = Each IsInert word × ((a : List ℕ) → EndsIn backslash (a ++ word) → ⊥)
+
+new_else : NewWord (codes "else")
+new_else = ((quiet_word (codes "else") refl).0, λ a. not_end backslash a (codes "els") 101 refl)
+
+new_endif : NewWord (codes "endif")
+new_endif = ((quiet_word (codes "endif") refl).0, λ a. not_end backslash a (codes "endi") 102 refl)
+
+module _ (o : Options) where
+  abbrev with_line : List (Item Reading) → Line → List (Item Reading)
+  with_line xs l = xs ++ item_of o (read_after xs C l) ∷ []
+
+  -- after a line that joins nothing, these leave off between lines
+  anew_rests : (ys : List (Item Reading)) (k : Line) → (scan_after (map reading_of ys) C k).joins_after ≡ false → HasEnd k → Rests (ys ++ item_of o (read_after ys C k) ∷ [])
+  anew_rests ys k e h = record {
+    off = leaves_anew o ys k e h;
+    calm = last_comment ys (item_of o (read_after ys C k)) ∙ ap (λ (r : Reading). is_in_block r.scan.comment) (reading_of-item_of o (read_after ys C k))
+        ∙ calm_alone (run_of (map reading_of ys)) k e;
+  }
+
+  module _ (xs ys : List (Item Reading)) (w : Place) (white on : Bool) (a : LeavesOff xs w white on) (c : LeavesOff ys w white on) (l k : Line) (ending : k.ending ≡ l.ending) where
+    has_end : HasEnd l → HasEnd k
+    has_end h = subst (λ (e : List ℕ). e ≢ []) (sym ending) h
+
+    -- after a line that goes on as before
+    kept_carry : NextAlike w white l k → (scan_after (map reading_of ys) C k).joins_after ≡ (scan_after (map reading_of xs) C l).joins_after → HasEnd l →
+        Carry false (with_line xs l) (with_line ys k)
+    kept_carry n j h =
+        let p : closed_place (stays_open k) (place_after w (content k)) ≡ closed_place (stays_open l) (place_after w (content l)) =
+        ap₂ (λ (s : Bool) (v : Place). closed_place s v) n.stays_is n.place_is in
+        let q : closed_white (stays_open k) (place_after w (content k)) (white_after w white (content k))
+        ≡ closed_white (stays_open l) (place_after w (content l)) (white_after w white (content l)) =
+        ap₂ (λ (s : Bool) (v : Place). closed_white s v (white_after w white (content k))) n.stays_is n.place_is
+        ∙ ap (λ (v : Bool). closed_white (stays_open l) (place_after w (content l)) v) n.white_is in
+        alike (closed_place (stays_open l) (place_after w (content l))) (closed_white (stays_open l) (place_after w (content l)) (white_after w white (content l)))
+        (scan_after (map reading_of xs) C l).joins_after (leaves_next o xs w white on l a) (leaves_as p q j (leaves_next o ys w white on k c)) (λ e. refl)
+        (λ e. anew_rests ys k (j ∙ e) (has_end h))
+
+    -- after a line that joins nothing, before and now
+    cut_carry : (scan_after (map reading_of xs) C l).joins_after ≡ false → (scan_after (map reading_of ys) C k).joins_after ≡ false → HasEnd l →
+        Carry false (with_line xs l) (with_line ys k)
+    cut_carry e f h =
+        let r : Rests (with_line ys k) = anew_rests ys k f (has_end h) in alike in_text true false (leaves_anew o xs l e h) r.off (λ g. refl) (λ g. r)
+
+    seen_before : scan_after (map reading_of xs) C l ≡ scan_from w white on l
+    seen_before = scan_behind-from (run_of (map reading_of xs)) l w white on a.reads a.joins_on
+
+    seen_now : scan_after (map reading_of ys) C k ≡ scan_from w white on k
+    seen_now = scan_behind-from (run_of (map reading_of ys)) k w white on c.reads c.joins_on
+
+    -- a line that is left, and what is carried to the next one
+    pub record LeftCode (v : Verdict) : Type 0 where
+      pub left : Left o v (read_after xs C l) (read_after ys C k)
+      pub carry : HasEnd l → Carry false (with_line xs l) (with_line ys k)
+
+    cut_code : (d : Directive) (word : List ℕ) → NewWord word → content_of (scan_after (map reading_of xs) C l) ≡ directive d → k.body ≡ take d.keyword.at l.body ++ word →
+        SeenCut (scan_after (map reading_of xs) C l) (scan_after (map reading_of ys) C k) d word
+    cut_code d word n e b =
+        subst (λ (s : Scan). SeenCut s (scan_after (map reading_of ys) C k) d word) (sym seen_before)
+        (subst (λ (s : Scan). SeenCut (scan_from w white on l) s d word) (sym seen_now)
+        (cut_seen w white on l k d word a.sane (ap content_of (sym seen_before) ∙ e) n.0 (n.1 (take d.keyword.at l.body)) b))
+
+    -- by its verdict
+    pub left_code : (v : Verdict) → IsLeft v → Suits v (item_of o (read_after xs C l)) → is_cut (content_of (scan_after (map reading_of xs) C l)) ≡ false →
+        (keeps_rest v ≡ false → is_spanning (scan_after (map reading_of xs) C l) ≡ false) →
+        LeftLine v (keyword_in (content_of (scan_after (map reading_of xs) C l))) l k →
+        text_of k ≡ piece_by v (keyword_in (content_of (scan_after (map reading_of xs) C l))) l → LeftCode v
+    left_code Remove h s u m b e = absurd h
+    left_code Keep h s u m b e =
+        let body : k.body ≡ l.body = b.body ∙ kept_body (keyword_in (content_of (scan_after (map reading_of xs) C l))) l.body in
+        let q : scan_after (map reading_of ys) C k ≡ scan_after (map reading_of xs) C l = kept_scan xs ys C w white on l k a c body b.ending in
+        record {
+          left = left_kept o (read_after xs C l) (read_after ys C k) q e u;
+          carry = kept_carry (same_next w white l k body b.ending) (ap (λ (r : Scan). r.joins_after) q);
+        }
+    left_code ToIf h s u m b e =
+        let d = becomes_if o (read_after xs C l) s in
+        let f : IfScan w white on l k d.0 =
+        if_scan w white on l k d.0 a.sane (ap content_of (sym seen_before) ∙ d.1) (subst (λ (p : Span). LeftLine ToIf p l k) (ap keyword_in d.1) b) in
+        let seen : SeenAsIf (scan_after (map reading_of xs) C l) (scan_after (map reading_of ys) C k) d.0 =
+        subst (λ (r : Scan). SeenAsIf r (scan_after (map reading_of ys) C k) d.0) (sym seen_before)
+        (subst (λ (r : Scan). SeenAsIf (scan_from w white on l) r d.0) (sym seen_now) f.seen) in
+        record {
+          left = left_if o (read_after xs C l) (read_after ys C k) d.0 d.1 d.2 seen e;
+          carry = kept_carry f.next seen.joins_is;
+        }
+    left_code ToElse h s u m b e =
+        let d = becomes_else o (read_after xs C l) s in
+        let seen : SeenCut (scan_after (map reading_of xs) C l) (scan_after (map reading_of ys) C k) d.0 (codes "else") =
+        cut_code d.0 (codes "else") new_else d.1
+        (b.body ∙ else_body (keyword_in (content_of (scan_after (map reading_of xs) C l))) l.body ∙ ap (λ (t : Content). take (keyword_in t).at l.body ++ codes "else") d.1) in
+        record {
+          left = left_else o (read_after xs C l) (read_after ys C k) d.0 d.1 d.2 seen e;
+          carry = cut_carry (or_parts (scan_after (map reading_of xs) C l).joins_before (scan_after (map reading_of xs) C l).joins_after (m refl)).1 seen.joins_is;
+        }
+    left_code ToEndif h s u m b e =
+        let d = becomes_endif o (read_after xs C l) s in
+        let seen : SeenCut (scan_after (map reading_of xs) C l) (scan_after (map reading_of ys) C k) d.0 (codes "endif") =
+        cut_code d.0 (codes "endif") new_endif d.1
+        (b.body ∙ endif_body (keyword_in (content_of (scan_after (map reading_of xs) C l))) l.body ∙ ap (λ (t : Content). take (keyword_in t).at l.body ++ codes "endif") d.1) in
+        record {
+          left = left_endif o (read_after xs C l) (read_after ys C k) d.0 d.1 d.2 seen e;
+          carry = cut_carry (or_parts (scan_after (map reading_of xs) C l).joins_before (scan_after (map reading_of xs) C l).joins_after (m refl)).1 seen.joins_is;
+        }

@@ -1,0 +1,53 @@
+-- What is left of a line by its verdict, read again: its item, that its keyword isn't cut, and where it ends in a comment.
+use Rattle.std.proofs.Common.{◌≡◌, false, ◌⊎◌, codes, refl, ◌∙◌, ap}
+use Rattle.ud_model.specs.text.Scans.{Scan, Reading}
+use Rattle.ud_model.specs.sections.Directives.{Directive, directive, content_of}
+use Rattle.ud_model.specs.sections.Items.{Options, item_of}
+use Rattle.ud_model.specs.sections.Faults.{is_cut, is_in_block}
+use Rattle.ud_model.specs.output.Pruned.{edited}
+use Rattle.ud_model.specs.output.Rereading.{line_bytes, edited_bytes}
+use Rattle.ud_model.specs.declared.kind.Kind.TheVariants.{Elif, Else, Endif}
+use Rattle.ud_model.specs.declared.verdict.Verdict.{Verdict}
+use Rattle.ud_model.specs.declared.verdict.Verdict.TheVariants.{Keep, ToIf, ToElse, ToEndif}
+use Rattle.ud_model.proofs.output.ExchangedContent.{to_if_content, cut_content}
+use Rattle.ud_model.proofs.output.LeftItems.{IsLeftOf, kept_item, if_item, else_item, endif_item}
+use Rattle.ud_model.proofs.output.LeftScans.{SeenAsIf, SeenCut}
+
+-- the second line is read as what is left of the first one with this verdict
+pub record Left (o : Options) (v : Verdict) (r q : Reading) : Type 0 where
+  pub item : IsLeftOf v (item_of o r) (item_of o q)
+  pub uncut : is_cut (content_of q.scan) ≡ false
+  pub ends : is_in_block r.scan.comment ≡ false → is_in_block q.scan.comment ≡ false
+
+module _ (o : Options) (r q : Reading) where
+  -- a line that is seen as before
+  pub left_kept : q.scan ≡ r.scan → line_bytes q ≡ line_bytes r → is_cut (content_of r.scan) ≡ false → Left o Keep r q
+  left_kept s b u = record {
+    item = kept_item o r q s b;
+    uncut = ap (λ (t : Scan). is_cut (content_of t)) s ∙ u;
+    ends = λ e. ap (λ (t : Scan). is_in_block t.comment) s ∙ e;
+  }
+
+  -- an `#elif` with an `if` in place of its keyword
+  pub left_if : (d : Directive) → content_of r.scan ≡ directive d → d.kind ≡ Elif → SeenAsIf r.scan q.scan d → line_bytes q ≡ edited_bytes (edited ToIf r) → Left o ToIf r q
+  left_if d e k s b =
+      let c = to_if_content r.scan q.scan d e s.masked_is s.fresh_is s.cut_is in
+      record {
+        item = if_item o r q d e k c s.joins_is b;
+        uncut = ap is_cut c;
+        ends = λ h. ap is_in_block s.comment_is ∙ h;
+      }
+
+  -- an `#elif` that ends after `else`
+  pub left_else : (d : Directive) → content_of r.scan ≡ directive d → d.kind ≡ Elif → SeenCut r.scan q.scan d (codes "else") →
+      line_bytes q ≡ edited_bytes (edited ToElse r) → Left o ToElse r q
+  left_else d e k s b =
+      let c = cut_content r.scan q.scan d (codes "else") Else e s.masked_is s.fresh_is s.joins_is s.cut_is refl refl refl refl in
+      record { item = else_item o r q d _ e k c refl b; uncut = ap is_cut c; ends = λ h. s.calm }
+
+  -- an `#elif` or `#else` that ends after `endif`
+  pub left_endif : (d : Directive) → content_of r.scan ≡ directive d → (d.kind ≡ Elif) ⊎ (d.kind ≡ Else) → SeenCut r.scan q.scan d (codes "endif") →
+      line_bytes q ≡ edited_bytes (edited ToEndif r) → Left o ToEndif r q
+  left_endif d e k s b =
+      let c = cut_content r.scan q.scan d (codes "endif") Endif e s.masked_is s.fresh_is s.joins_is s.cut_is refl refl refl refl in
+      record { item = endif_item o r q d _ e k c refl b; uncut = ap is_cut c; ends = λ h. s.calm }

@@ -1,0 +1,147 @@
+-- What is seen of what is left of a line.
+use Rattle.std.proofs.Common.{◌≡◌, ℕ, ◌+◌, ◌==◌, ◌≤◌, List, [], ◌∷◌, ◌++◌, length, take, drop, Bool, true, false, ◌&&◌, ◌||◌, codes, refl, ◌∙◌, ap, ap₂, append_assoc, arith}
+use Rattle.ud_model.specs.text.Bytes.{backslash, is_quote}
+use Rattle.ud_model.specs.text.Lines.{Line}
+use Rattle.ud_model.specs.text.Scans.{Scan, plain_scan}
+use Rattle.ud_model.specs.text.Splicing.{is_spliced, content, stays_open}
+use Rattle.ud_model.specs.text.Pieces.{PieceKind, single}
+use Rattle.ud_model.specs.text.Scanning.{is_block, comment_at}
+use Rattle.ud_model.specs.aids.Places.{Place, in_text, place_kind, closed_place}
+use Rattle.ud_model.specs.sections.Directives.{Content, Directive, Span, directive, content_of, is_cut_off, is_outside}
+use Rattle.ud_model.specs.sections.Faults.{is_in_block}
+use Rattle.ud_model.specs.answer.Printing.{keyword_in}
+use Rattle.ud_model.specs.declared.kind.CommentAt.{CommentAt}
+use Rattle.ud_model.specs.declared.verdict.Verdict.TheVariants.{ToIf}
+use Rattle.ud_model.proofs.output.Each.{Each}
+use Rattle.ud_model.proofs.output.Formed.{EndsIn, edited_body}
+use Rattle.ud_model.proofs.output.DirectiveFront.{Front, directive_front}
+use Rattle.ud_model.proofs.output.ExchangedScan.{Sane, drop_two, Exchanged, exchanged_scan, CutOff, cut_scan}
+use Rattle.ud_model.proofs.sections.KeywordLies.{keyword_lies}
+use Rattle.ud_model.proofs.output.KeywordPlace.{IsInert, length-masked_after}
+use Rattle.ud_model.proofs.output.LeftLines.{LeftLine, same_open, if_splice, if_line_content, cut_splice, cut_line_content}
+use Rattle.ud_model.proofs.text.ScanLaws.{place_after, white_after, masked_after, scan_from}
+
+-- a line that becomes an `#if` is seen as before but for its keyword
+pub record SeenAsIf (s now : Scan) (d : Directive) : Type 0 where
+  pub masked_is : now.masked ≡ take d.keyword.at s.masked ++ (codes "if  " ++ d.after)
+  pub fresh_is : now.fresh ≡ s.fresh
+  pub cut_is : is_cut_off now ≡ is_cut_off s
+  pub joins_is : now.joins_after ≡ s.joins_after
+  pub comment_is : now.comment ≡ s.comment
+
+-- a line that ends after its new keyword is seen up to there, and joins nothing
+pub record SeenCut (s now : Scan) (d : Directive) (word : List ℕ) : Type 0 where
+  pub masked_is : now.masked ≡ take d.keyword.at s.masked ++ word
+  pub fresh_is : now.fresh ≡ s.fresh
+  pub cut_is : is_cut_off now ≡ false
+  pub joins_is : now.joins_after ≡ false
+  pub calm : is_in_block now.comment ≡ false
+
+-- two lines leave off alike after a text that leaves off there
+pub record NextAlike (w : Place) (white : Bool) (l k : Line) : Type 0 where
+  pub stays_is : stays_open k ≡ stays_open l
+  pub place_is : place_after w (content k) ≡ place_after w (content l)
+  pub white_is : white_after w white (content k) ≡ white_after w white (content l)
+
+-- 1. In plain mode.
+
+plain_after : (l : Line) (d : Directive) → content_of (plain_scan l) ≡ directive d → drop (d.keyword.at + d.keyword.len) l.body ≡ d.after
+plain_after l d e =
+    let p : Front (plain_scan l) d = directive_front (plain_scan l) d e in
+    ap (λ (t : List ℕ). drop (d.keyword.at + d.keyword.len) t) p.masked_is
+    ∙ drop_two (p.white ++ 35 ∷ p.gap) p.word d.after (d.keyword.at + d.keyword.len) (ap₂ (λ (a b : ℕ). a + b) p.at_is p.len_is)
+
+-- a line that becomes an `#if` is seen so
+pub plain_if : (l k : Line) (d : Directive) → content_of (plain_scan l) ≡ directive d → LeftLine ToIf d.keyword l k → SeenAsIf (plain_scan l) (plain_scan k) d
+unfolding edited_body
+plain_if l k d e h = record {
+  masked_is = h.body ∙ append_assoc (take d.keyword.at l.body) (codes "if  ") (drop (d.keyword.at + d.keyword.len) l.body)
+      ∙ ap (λ (t : List ℕ). take d.keyword.at l.body ++ (codes "if  " ++ t)) (plain_after l d e);
+  fresh_is = refl;
+  cut_is = refl;
+  joins_is = refl;
+  comment_is = refl;
+}
+
+-- and so is one that ends after its new keyword
+pub plain_cut : (l k : Line) (d : Directive) (word : List ℕ) → k.body ≡ take d.keyword.at l.body ++ word → SeenCut (plain_scan l) (plain_scan k) d word
+plain_cut l k d word b = record { masked_is = b; fresh_is = refl; cut_is = refl; joins_is = refl; calm = refl }
+
+-- 2. In C mode, from the place at which the lines before leave off.
+
+-- lines with the same bytes leave off alike
+pub same_next : (w : Place) (white : Bool) (l k : Line) → k.body ≡ l.body → k.ending ≡ l.ending → NextAlike w white l k
+same_next w white l k b e = record {
+  stays_is = ap₂ (λ (x y : List ℕ). stays_open (record { body = x; ending = y; number = 0 })) b e;
+  place_is = ap₂ (λ (x y : List ℕ). place_after w (content (record { body = x; ending = y; number = 0 }))) b e;
+  white_is = ap₂ (λ (x y : List ℕ). white_after w white (content (record { body = x; ending = y; number = 0 }))) b e;
+}
+
+keyword_within : (w : Place) (white on : Bool) (l : Line) (d : Directive) → content_of (scan_from w white on l) ≡ directive d → d.keyword.at + d.keyword.len ≤ length (content l)
+unfolding scan_from
+keyword_within w white on l d e =
+    let k : Span = keyword_in (content_of (scan_from w white on l)) in
+    let a : k.at + k.len ≤ length (masked_after w [] (content l)) = keyword_lies (scan_from w white on l) in
+    let b : length (masked_after w [] (content l)) ≡ length (content l) = length-masked_after (content l) w [] ∙ omega arith in
+    let c : k.at + k.len ≡ d.keyword.at + d.keyword.len = ap (λ (t : Content). (keyword_in t).at + (keyword_in t).len) e in
+    omega (arith, a, b, c)
+
+-- a line that becomes an `#if`
+pub record IfScan (w : Place) (white on : Bool) (l k : Line) (d : Directive) : Type 0 where
+  pub seen : SeenAsIf (scan_from w white on l) (scan_from w white on k) d
+  pub next : NextAlike w white l k
+
+-- it is seen so, and leaves off as before
+pub if_scan : (w : Place) (white on : Bool) (l k : Line) (d : Directive) → Sane w white → content_of (scan_from w white on l) ≡ directive d → LeftLine ToIf d.keyword l k →
+    IfScan w white on l k d
+unfolding scan_from
+if_scan w white on l k d s e h =
+    let within : d.keyword.at + d.keyword.len ≤ length (content l) = keyword_within w white on l d e in
+    let x : Exchanged w white on l k d (codes "if  ") =
+    exchanged_scan w white on l k d 105 (102 ∷ 32 ∷ 32 ∷ []) s e inert_if refl (if_line_content d.keyword l k within h) in
+    let p : is_spliced k ≡ is_spliced l = if_splice d.keyword l k within h in
+    let t : stays_open k ≡ stays_open l = same_open l k p h.ending in
+    let v : closed_place (stays_open k) (place_after w (content k)) ≡ closed_place (stays_open l) (place_after w (content l)) =
+    ap₂ (λ (b : Bool) (q : Place). closed_place b q) t x.place_is in
+    let c : comment_at (is_spliced k) (place_kind (closed_place (stays_open k) (place_after w (content k))))
+    ≡ comment_at (is_spliced l) (place_kind (closed_place (stays_open l) (place_after w (content l)))) =
+    ap₂ (λ (b : Bool) (q : Place). comment_at b (place_kind q)) p v in
+    record {
+      seen = record {
+        masked_is = x.masked_is;
+        fresh_is = x.fresh_is;
+        cut_is = ap₂ (λ (b : Bool) (q : CommentAt). b && is_outside q) p c;
+        joins_is = ap₂ (λ (b : Bool) (q : Place). b || is_block (place_kind q)) p v;
+        comment_is = c;
+      };
+      next = record { stays_is = t; place_is = x.place_is; white_is = x.white_is };
+    }
+  where
+    inert : (c : ℕ) → (c == 47) ≡ false → is_quote c ≡ false → (c == 10) ≡ false → IsInert c
+    inert c a b e = record { no_slash = a; no_quote = b; no_feed = e }
+
+    inert_if : Each IsInert (codes "if  ")
+    inert_if = (inert 105 refl refl refl, (inert 102 refl refl refl, (inert 32 refl refl refl, (inert 32 refl refl refl, tt))))
+
+calm_in_text : (t : Bool) → place_kind (closed_place t in_text) ≡ single
+calm_in_text true = refl
+calm_in_text false = refl
+
+-- a line that ends after its new keyword
+pub cut_seen : (w : Place) (white on : Bool) (l k : Line) (d : Directive) (word : List ℕ) → Sane w white → content_of (scan_from w white on l) ≡ directive d →
+    Each IsInert word → (EndsIn backslash (take d.keyword.at l.body ++ word) → ⊥) → k.body ≡ take d.keyword.at l.body ++ word →
+    SeenCut (scan_from w white on l) (scan_from w white on k) d word
+unfolding scan_from
+cut_seen w white on l k d word s e i n b =
+    let within : d.keyword.at + d.keyword.len ≤ length (content l) = keyword_within w white on l d e in
+    let x : CutOff w white on l k d word = cut_scan w white on l k d word s e i (cut_line_content d.keyword l k within word n b) in
+    let p : is_spliced k ≡ false = cut_splice d.keyword l k within word n b in
+    let v : place_kind (closed_place (stays_open k) (place_after w (content k))) ≡ single =
+    ap (λ (q : Place). place_kind (closed_place (stays_open k) q)) x.place_is ∙ calm_in_text (stays_open k) in
+    record {
+      masked_is = x.masked_is;
+      fresh_is = x.fresh_is;
+      cut_is = ap₂ (λ (t : Bool) (q : PieceKind). t && is_outside (comment_at t q)) p v;
+      joins_is = ap₂ (λ (t : Bool) (q : PieceKind). t || is_block q) p v;
+      calm = ap₂ (λ (t : Bool) (q : PieceKind). is_in_block (comment_at t q)) p v;
+    }

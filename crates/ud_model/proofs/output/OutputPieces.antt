@@ -1,0 +1,116 @@
+-- The pieces that are printed are lines: those of the items that are left.
+use Rattle.std.proofs.Common.{◌≡◌, ℕ, suc, ◌≤◌, List, [], ◌∷◌, ◌++◌, length, map, refl, sym, ◌∙◌, ap, subst, arith, ◌⊎◌, inl, inr}
+use Rattle.std.specs.List.{concat}
+use Rattle.ud_model.specs.text.Lines.{Line, texts_of, lines_of, line_at, numbered_from, IsWhole, IsUnended, AreFormed}
+use Rattle.ud_model.specs.text.Scans.{Reading}
+use Rattle.ud_model.specs.sections.Directives.{content_of}
+use Rattle.ud_model.specs.sections.Tree.{Item, Nodes, text_line, if_line, elif_line, else_line, endif_line, closed}
+use Rattle.ud_model.specs.sections.Pruning.{Mark, marks}
+use Rattle.ud_model.specs.sections.Items.{Options, reading_of, line_of}
+use Rattle.ud_model.specs.answer.Printing.{piece_by, keyword_in}
+use Rattle.ud_model.specs.answer.Runs.{GoesThrough}
+use Rattle.ud_model.specs.output.Pruned.{Edited, edited, edited_opener, left_item, printed}
+use Rattle.ud_model.specs.output.Rereading.{edited_bytes}
+use Rattle.ud_model.specs.declared.verdict.Verdict.{Verdict}
+use Rattle.ud_model.specs.declared.verdict.Verdict.TheVariants.{Keep, Remove, ToIf, ToElse, ToEndif}
+use Rattle.ud_model.proofs.output.Formed.{IsLeft, whole_piece, unended_piece, formed_more}
+use Rattle.ud_model.proofs.text.LinesLemmas.{texts_of-formed, lines_exist}
+
+-- the line of an item
+abbrev pub line_in : {L : Type 0} → Item L → L
+line_in (text_line l) = l
+line_in (if_line o) = o.line
+line_in (elif_line o) = o.line
+line_in (else_line l) = l
+line_in (endif_line l) = l
+
+-- what is left of a line: nothing, or one item, whose bytes are the line's piece
+LeftOne : Verdict → Item Reading → Type 0
+LeftOne v x = (y : Item (Edited Reading)) × (left_item v x ≡ y ∷ []) × (edited_bytes (line_in y) ≡ piece_by v (keyword_in (content_of (reading_of x).scan)) (line_of x)) × IsLeft v
+
+left_one : (v : Verdict) (x : Item Reading) → (v ≡ Remove) ⊎ LeftOne v x
+unfolding LeftOne
+left_one Remove x = inl refl
+left_one ToIf (elif_line p) = inr (if_line (edited_opener ToIf p), refl, refl, tt)
+left_one ToElse (elif_line p) = inr (else_line (edited ToElse p.line), refl, refl, tt)
+left_one ToEndif (elif_line p) = inr (endif_line (edited ToEndif p.line), refl, refl, tt)
+left_one ToEndif (else_line l) = inr (endif_line (edited ToEndif l), refl, refl, tt)
+left_one Keep (elif_line p) = inr (elif_line (edited_opener Keep p), refl, refl, tt)
+left_one Keep (text_line l) = inr (text_line (edited Keep l), refl, refl, tt)
+left_one Keep (if_line p) = inr (if_line (edited_opener Keep p), refl, refl, tt)
+left_one Keep (else_line l) = inr (else_line (edited Keep l), refl, refl, tt)
+left_one Keep (endif_line l) = inr (endif_line (edited Keep l), refl, refl, tt)
+left_one ToIf (text_line l) = inr (text_line (edited ToIf l), refl, refl, tt)
+left_one ToIf (if_line p) = inr (if_line (edited_opener ToIf p), refl, refl, tt)
+left_one ToIf (else_line l) = inr (else_line (edited ToIf l), refl, refl, tt)
+left_one ToIf (endif_line l) = inr (endif_line (edited ToIf l), refl, refl, tt)
+left_one ToElse (text_line l) = inr (text_line (edited ToElse l), refl, refl, tt)
+left_one ToElse (if_line p) = inr (if_line (edited_opener ToElse p), refl, refl, tt)
+left_one ToElse (else_line l) = inr (else_line (edited ToElse l), refl, refl, tt)
+left_one ToElse (endif_line l) = inr (endif_line (edited ToElse l), refl, refl, tt)
+left_one ToEndif (text_line l) = inr (text_line (edited ToEndif l), refl, refl, tt)
+left_one ToEndif (if_line p) = inr (if_line (edited_opener ToEndif p), refl, refl, tt)
+left_one ToEndif (endif_line l) = inr (endif_line (edited ToEndif l), refl, refl, tt)
+
+all_pieces : List (Item (Edited Reading)) → List (List ℕ)
+all_pieces ys = map (λ y. edited_bytes (line_in y)) ys
+
+-- no more lines are left than there are
+pub printed_most : (xs : List (Item Reading)) (ms : List Mark) → length (printed xs ms) ≤ length xs
+unfolding LeftOne
+printed_most [] ms = omega arith
+printed_most (x ∷ xs) [] = omega arith
+printed_most (x ∷ xs) (m ∷ ms) = go (left_one m.verdict x) (printed_most xs ms)
+  where
+    go : (m.verdict ≡ Remove) ⊎ LeftOne m.verdict x → length (printed xs ms) ≤ length xs → length (left_item m.verdict x ++ printed xs ms) ≤ suc (length xs)
+    go (inl r) h = subst (λ (v : Verdict). length (left_item v x ++ printed xs ms) ≤ suc (length xs)) (sym r) (omega (arith, h))
+    go (inr (y, is, bytes, left)) h = subst (λ (ys : List (Item (Edited Reading))). length (ys ++ printed xs ms) ≤ suc (length xs)) (sym is) (omega (arith, h))
+
+formed_with : (v : Verdict) (x : Item Reading) (rest : List (Item (Edited Reading))) (n : ℕ) (t : List ℕ) → line_of x ≡ line_at n t → IsWhole t → AreFormed (all_pieces rest) →
+    AreFormed (all_pieces (left_item v x ++ rest))
+unfolding LeftOne all_pieces
+formed_with v x rest n t e w f = go (left_one v x)
+  where
+    go : (v ≡ Remove) ⊎ LeftOne v x → AreFormed (all_pieces (left_item v x ++ rest))
+    go (inl r) = subst (λ (u : Verdict). AreFormed (all_pieces (left_item u x ++ rest))) (sym r) f
+    go (inr (y, is, bytes, left)) =
+        subst (λ (ys : List (Item (Edited Reading))). AreFormed (all_pieces (ys ++ rest))) (sym is)
+        (formed_more (edited_bytes (line_in y)) (all_pieces rest)
+        (subst IsWhole (sym (bytes ∙ ap (λ (l : Line). piece_by v (keyword_in (content_of (reading_of x).scan)) l) e)) (whole_piece v (keyword_in (content_of (reading_of x).scan)) n t left w)) f)
+
+formed_last : (v : Verdict) (x : Item Reading) (n : ℕ) (t : List ℕ) → line_of x ≡ line_at n t → IsWhole t ⊎ IsUnended t → AreFormed (all_pieces (left_item v x ++ []))
+unfolding LeftOne all_pieces
+formed_last v x n t e w = go (left_one v x)
+  where
+    piece : IsWhole t ⊎ IsUnended t → IsLeft v → IsWhole (piece_by v (keyword_in (content_of (reading_of x).scan)) (line_at n t)) ⊎ IsUnended (piece_by v (keyword_in (content_of (reading_of x).scan)) (line_at n t))
+    piece (inl a) h = inl (whole_piece v (keyword_in (content_of (reading_of x).scan)) n t h a)
+    piece (inr a) h = inr (unended_piece v (keyword_in (content_of (reading_of x).scan)) n t h a)
+
+    go : (v ≡ Remove) ⊎ LeftOne v x → AreFormed (all_pieces (left_item v x ++ []))
+    go (inl r) = subst (λ (u : Verdict). AreFormed (all_pieces (left_item u x ++ []))) (sym r) tt
+    go (inr (y, is, bytes, left)) =
+        subst (λ (ys : List (Item (Edited Reading))). AreFormed (all_pieces (ys ++ []))) (sym is)
+        (subst (λ (q : List ℕ). IsWhole q ⊎ IsUnended q) (sym (bytes ∙ ap (λ (l : Line). piece_by v (keyword_in (content_of (reading_of x).scan)) l) e)) (piece w left))
+
+all_formed : (xs : List (Item Reading)) (ms : List Mark) (n : ℕ) (ts : List (List ℕ)) → map line_of xs ≡ numbered_from n ts → AreFormed ts → AreFormed (all_pieces (printed xs ms))
+unfolding all_pieces
+all_formed [] ms n ts e f = tt
+all_formed (x ∷ xs) [] n ts e f = tt
+all_formed (x ∷ xs) (m ∷ ms) n [] e f = cc
+all_formed (x ∷ []) (m ∷ ms) n (t ∷ []) e f = let p : line_of x ≡ line_at n t = cc in formed_last m.verdict x n t p f
+all_formed (x ∷ y ∷ xs) (m ∷ ms) n (t ∷ []) e f = cc
+all_formed (x ∷ []) (m ∷ ms) n (t ∷ u ∷ ts) e f = cc
+all_formed (x ∷ y ∷ xs) (m ∷ ms) n (t ∷ u ∷ ts) e f =
+    let p : line_of x ≡ line_at n t = cc in
+    let q : map line_of (y ∷ xs) ≡ numbered_from (suc n) (u ∷ ts) = cc in
+    formed_with m.verdict x (printed (y ∷ xs) ms) n t p f.0 (all_formed (y ∷ xs) ms (suc n) (u ∷ ts) q f.1)
+
+-- what is printed of the lines of a text that goes through is lines
+pub pieces_formed : (o : Options) (input : List ℕ) (xs : List (Item Reading)) (ns : Nodes Reading) → GoesThrough o (lines_of input) xs (closed ns) →
+    AreFormed (map (λ y. edited_bytes (line_in y)) (printed xs (marks (closed ns))))
+unfolding all_pieces
+pieces_formed o input xs ns g = all_formed xs (marks (closed ns)) 1 (texts_of input) (sym g.are) (lines_exist input).formed
+
+-- the lines of pieces that are lines are these, each with its number
+pub output_lines : (ps : List (List ℕ)) → AreFormed ps → lines_of (concat ps) ≡ numbered_from 1 ps
+output_lines ps f = ap (numbered_from 1) (sym (texts_of-formed ps f))

@@ -1,0 +1,364 @@
+-- The laws of the output, from the chain of lemmas.
+use Rattle.std.proofs.Common.{◌≡◌, ℕ, ◌≤◌, List, [], ◌∷◌, ◌++◌, length, map, Bool, true, false, not, ◌||◌, Option, None, refl, sym, ◌∙◌, ap, ap₂, subst, append-nil, arith}
+use Rattle.std.specs.List.{concat}
+use Rattle.std.proofs.lemmas.List.{map-append, length-map}
+use Rattle.std.proofs.lemmas.List.Folds.{concat-append}
+use Rattle.ud_model.specs.text.Lines.{Line, text_of, texts_of, lines_of, numbered_from, AreFormed}
+use Rattle.ud_model.specs.text.Scans.{Reading}
+use Rattle.ud_model.specs.sections.Directives.{content_of}
+use Rattle.ud_model.specs.sections.Tree.{Item, Nodes, Groups, Elifs, Tree, text, section, conditional, otherwise, first, elif, text_line, if_line, elif_line, else_line, endif_line, closed, open_section, nothing, lines, lines_of_nodes, innermost, item_with, with_lines, groups_with_lines, elifs_with_lines}
+use Rattle.ud_model.specs.sections.Pruning.{Mark, marks, Part, an_if, an_elif, an_else, first_kept_verdict}
+use Rattle.ud_model.specs.sections.Items.{Options, reading_of, line_of}
+use Rattle.ud_model.specs.sections.Faults.{Fault, end_fault, end_by, ends_in_comment, last_number}
+use Rattle.ud_model.specs.answer.Printing.{Judged, judged_lines, piece_by, piece_behind, pieces_by, style_of, some_other, keyword_in, printed_by}
+use Rattle.ud_model.specs.answer.Runs.{Outcome, Runs, stops, ends, GoesThrough, output_by, differs_by}
+use Rattle.ud_model.specs.output.Worlds.{World, selected, Agrees, openers}
+use Rattle.ud_model.specs.output.Pruned.{Edited, edited, pruned, printed, left_item, IsUndecided, GroupsUndecided, ElifsUndecided}
+use Rattle.ud_model.specs.output.Rereading.{IsPlain, AreRead, IsTreeOf, CleanRun, KeepsTruths, LinesFit, line_bytes, edited_bytes}
+use Rattle.ud_model.specs.conditions.Expressions.{Expression}
+use Rattle.ud_model.specs.output.CSelection.{condition_in, MayBe, IsCWorld}
+use Rattle.ud_model.specs.declared.settings.Listing.{Listing}
+use Rattle.ud_model.specs.declared.verdict.Verdict.{Verdict}
+use Rattle.ud_model.specs.declared.verdict.Verdict.TheVariants.{Keep, Remove, ToIf, ToElse, ToEndif}
+use Rattle.ud_model.proofs.sections.Soundness.{sound_read, one_tree_of, sound_lines, read_lines}
+use Rattle.ud_model.proofs.output.Changed.{whole_lines_are, lines_join, lone, pieces_lone, no_innermost, end_parts}
+use Rattle.ud_model.proofs.output.PrintedPruned.{printed-pruned}
+use Rattle.ud_model.proofs.output.SelectedPruned.{selected-pruned}
+use Rattle.ud_model.proofs.output.SameShape.{same_selected, openers-with}
+use Rattle.ud_model.proofs.output.SeenLines.{Seen, seen, left_condition, left_seen, with_lines-twice, map-twice}
+use Rattle.ud_model.proofs.output.ReachedPruned.{pruned_reached}
+use Rattle.ud_model.proofs.output.ReachedAlike.{reached_alike}
+use Rattle.ud_model.proofs.output.WorldsExist.{world_of}
+use Rattle.ud_model.proofs.output.PrunedOpeners.{KeepsCondition, Keeps, pruned_keeps}
+use Rattle.ud_model.proofs.output.TreeAlong.{AlongNodes, nodes_along}
+use Rattle.ud_model.proofs.output.Undecided.{Stays, pruned_undecided, undecided_stay}
+use Rattle.ud_model.proofs.output.Each.{Each, Pairwise}
+use Rattle.ud_model.proofs.output.Sizes.{whole}
+use Rattle.ud_model.proofs.sections.Stays.{length_marks}
+use Rattle.std.proofs.lemmas.Slice.Eq.{bytes_eq-Decides}
+use Rattle.ud_model.proofs.output.Heeding.{the_mode, are_read}
+use Rattle.ud_model.proofs.output.OutputPieces.{line_in, pieces_formed, output_lines}
+use Rattle.ud_model.proofs.output.Rereads.{Again, IsUncut}
+use Rattle.ud_model.proofs.output.SoundAgain.{sound_again}
+use Rattle.ud_model.proofs.output.SoundBounds.{IsFew, fit_short, sound_low, sound_few, again_few}
+use Rattle.ud_model.proofs.output.PrunedHeights.{pruned_height, height-with}
+use Rattle.ud_model.specs.aids.Height.{height, height_of_nodes}
+use Rattle.ud_model.specs.declared.limits.TheConstants.{OPEN_SECTIONS}
+use Rattle.ud_model.proofs.output.RereadChain.{AllButLast, lines_end, again}
+use Rattle.ud_model.proofs.text.LinesLemmas.{lines_exist}
+use Rattle.ud_model.proofs.output.CSelected.{Clear, sound_clear, c_agrees}
+
+-- what is printed of a line is what is left of it
+left_bytes : (v : Verdict) (x : Item Reading) →
+    concat (map (λ y. edited_bytes (line_in y)) (left_item v x)) ≡ piece_by v (keyword_in (content_of (reading_of x).scan)) (line_of x)
+left_bytes Remove x = refl
+left_bytes ToIf (elif_line p) = append-nil (edited_bytes (edited ToIf p.line))
+left_bytes ToElse (elif_line p) = append-nil (edited_bytes (edited ToElse p.line))
+left_bytes ToEndif (elif_line p) = append-nil (edited_bytes (edited ToEndif p.line))
+left_bytes ToEndif (else_line l) = append-nil (edited_bytes (edited ToEndif l))
+left_bytes v (text_line l) = append-nil (edited_bytes (edited v l))
+left_bytes v (if_line p) = append-nil (edited_bytes (edited v p.line))
+left_bytes v (elif_line p) = append-nil (edited_bytes (edited v p.line))
+left_bytes v (else_line l) = append-nil (edited_bytes (edited v l))
+left_bytes v (endif_line l) = append-nil (edited_bytes (edited v l))
+
+abbrev left_piece : Item (Edited Reading) → List ℕ
+left_piece y = edited_bytes (line_in y)
+
+printed_bytes : (xs : List (Item Reading)) (ms : List Mark) → concat (map left_piece (printed xs ms)) ≡ concat (map (lone false false) (judged_lines xs ms))
+printed_bytes [] ms = refl
+printed_bytes (x ∷ xs) [] = refl
+printed_bytes (x ∷ xs) (m ∷ ms) =
+    ap (λ (l : List (List ℕ)). concat l) (map-append left_piece (left_item m.verdict x) (printed xs ms))
+    ∙ concat-append (map left_piece (left_item m.verdict x)) (map left_piece (printed xs ms))
+    ∙ ap₂ (λ (a b : List ℕ). a ++ b) (left_bytes m.verdict x) (printed_bytes xs ms)
+
+-- without options the pieces are what is left
+plain_output : (o : Options) → IsPlain o → (xs : List (Item Reading)) (ms : List Mark) → printed_by o.settings xs ms ≡ concat (map left_piece (printed xs ms))
+plain_output o p xs ms =
+    ap (λ (l : List (List ℕ)). concat l)
+    (pieces_lone o.settings.blank o.settings.complement o.settings.renumber [] (judged_lines xs ms) p.unnumbered
+    ∙ ap₂ (λ (b c : Bool). map (lone b c) (judged_lines xs ms)) p.unblanked p.uncomplemented)
+    ∙ sym (printed_bytes xs ms)
+
+line_with : {A B : Type 0} (f : A → B) (y : Item A) → line_in (item_with f y) ≡ f (line_in y)
+line_with f (text_line l) = refl
+line_with f (if_line q) = refl
+line_with f (elif_line q) = refl
+line_with f (else_line l) = refl
+line_with f (endif_line l) = refl
+
+map_lines : {A B : Type 0} (f : A → B) (ys : List (Item A)) → map line_in (map (item_with f) ys) ≡ map (λ y. f (line_in y)) ys
+map_lines f [] = refl
+map_lines f (y ∷ ys) = ap₂ (λ (a : _) (b : List _). a ∷ b) (line_with f y) (map_lines f ys)
+
+line_read : (y : Item Reading) → reading_of y ≡ line_in y
+line_read (text_line l) = refl
+line_read (if_line q) = refl
+line_read (elif_line q) = refl
+line_read (else_line l) = refl
+line_read (endif_line l) = refl
+
+map_readings : (ys : List (Item Reading)) → map (λ y. line_bytes (reading_of y)) ys ≡ map (λ y. line_bytes (line_in y)) ys
+map_readings [] = refl
+map_readings (y ∷ ys) = ap₂ (λ (a : List ℕ) (b : List (List ℕ)). a ∷ b) (ap line_bytes (line_read y)) (map_readings ys)
+
+item_bytes : (ys : List (Item Reading)) (zs : List (Item (Edited Reading))) → map (item_with seen) ys ≡ map (item_with left_seen) zs →
+    map (λ y. line_bytes (reading_of y)) ys ≡ map left_piece zs
+item_bytes ys zs e =
+    let bytes : List Seen → List (List ℕ) = map (λ (s : Seen). s.bytes) in
+    map_readings ys ∙ sym (map-twice (λ (y : Item Reading). seen (line_in y)) (λ (s : Seen). s.bytes) ys)
+    ∙ ap bytes (sym (map_lines seen ys) ∙ ap (λ (l : List (Item Seen)). map line_in l) e ∙ map_lines left_seen zs)
+    ∙ map-twice (λ (z : Item (Edited Reading)). left_seen (line_in z)) (λ (s : Seen). s.bytes) zs
+
+kept_bytes : (ls : List Reading) → map edited_bytes (map (edited Keep) ls) ≡ map line_bytes ls
+kept_bytes [] = refl
+kept_bytes (l ∷ ls) = ap (λ (t : List (List ℕ)). line_bytes l ∷ t) (kept_bytes ls)
+
+-- what is left of nodes is no higher
+low_left : (us ns : Nodes Reading) → with_lines line_bytes us ≡ with_lines edited_bytes (pruned ns) → height_of_nodes ns ≤ OPEN_SECTIONS → height_of_nodes us ≤ OPEN_SECTIONS
+low_left us ns e h =
+    let a : height_of_nodes us ≡ height_of_nodes (pruned ns) = sym (height-with line_bytes us) ∙ ap (λ (m : Nodes (List ℕ)). height_of_nodes m) e ∙ height-with edited_bytes (pruned ns) in
+    let b : height_of_nodes (pruned ns) ≤ height_of_nodes ns = pruned_height ns in
+    omega (arith, a, b, h)
+
+module _ (o : Options) (p : IsPlain o) (input : List ℕ) where
+  -- The output's items and their tree, which is what is left of the input's. They keep the limits but for a line's length,
+  -- none has a cut keyword, and they don't end in a comment.
+  pub record Result (r : Outcome) (ns : Nodes Reading) : Type 0 where
+    pub tree : Nodes Reading
+    pub is_tree : IsTreeOf o r.output (closed tree)
+    pub alike : with_lines seen tree ≡ with_lines left_seen (pruned ns)
+    pub same : with_lines line_bytes tree ≡ with_lines edited_bytes (pruned ns)
+    pub uncut : Each IsUncut is_tree.items
+    pub few : Each IsFew is_tree.items
+    pub low : height_of_nodes tree ≤ OPEN_SECTIONS
+    pub calm : ends_in_comment is_tree.items ≡ false
+
+  -- an input without a fault has such an output
+  pub reread : {r : Outcome} → Runs o input r → r.fault ≡ None → (ns : Nodes Reading) → IsTreeOf o input (closed ns) → Result r ns
+  reread (stops xs t f s) e ns a = cc
+  reread (ends xs t g) e ns a =
+      let same : t ≡ closed ns = one_tree_of o input t (closed ns) (record { items = xs; read = sound_read g.sound; are = g.are }) a in
+      let z : (ys : List (Item Reading)) × Again o (the_mode o) xs t ys = again o p xs t g.sound (subst AllButLast g.are (lines_end 1 (texts_of input) (lines_exist input).formed)) in
+      let left : printed xs (marks t) ≡ lines_of_nodes (pruned ns) =
+      ap₂ (λ (ys : List (Item Reading)) (u : Tree Reading). printed ys (marks u)) (sym (sound_lines g.sound) ∙ ap (λ (u : Tree Reading). lines u) same) same ∙ printed-pruned ns in
+      let along : AlongNodes left_seen seen (pruned ns) z.0 =
+      nodes_along left_seen seen (pruned ns) z.0 (z.1.same ∙ ap (λ (l : List (Item (Edited Reading))). map (item_with left_seen) l) left) in
+      let bytes : with_lines line_bytes along.tree ≡ with_lines edited_bytes (pruned ns) =
+      sym (with_lines-twice seen (λ (q : Seen). q.bytes) along.tree) ∙ ap (λ (m : Nodes Seen). with_lines (λ (q : Seen). q.bytes) m) along.same
+      ∙ with_lines-twice left_seen (λ (q : Seen). q.bytes) (pruned ns) in
+      let formed : AreFormed (map left_piece (printed xs (marks t))) =
+      subst (λ (u : Tree Reading). AreFormed (map left_piece (printed xs (marks u)))) (sym same)
+      (pieces_formed o input xs ns (subst (λ (u : Tree Reading). GoesThrough o (lines_of input) xs u) same g)) in
+      let out : output_by o.settings.listing o.settings xs t ≡ concat (map left_piece (printed xs (marks t))) =
+      ap (λ (q : Listing). output_by q o.settings xs t) p.unlisted ∙ plain_output o p xs (marks t) in
+      record {
+        tree = along.tree;
+        is_tree = record {
+          items = z.0;
+          read = are_read o p.none_ignores z.0 z.1.read (closed along.tree) along.are;
+          are = ap lines_of out ∙ output_lines (map left_piece (printed xs (marks t))) formed
+              ∙ ap (λ (l : List (List ℕ)). numbered_from 1 l) (sym (item_bytes z.0 (printed xs (marks t)) z.1.same)) ∙ sym z.1.numbered;
+        };
+        alike = along.same;
+        same = bytes;
+        uncut = z.1.uncut;
+        few = again_few o (the_mode o) xs t z.0 z.1 (sound_few o xs t (texts_of input) g.sound (sym g.are));
+        low = low_left along.tree ns bytes (subst (λ (u : Tree Reading). height u ≤ OPEN_SECTIONS) same (sound_low o xs t g.sound));
+        calm = z.1.ends (end_parts (ends_in_comment xs) (last_number xs) (innermost t) e).0;
+      }
+
+same_nodes : (ns ms : Nodes Reading) → ◌≡◌ {A = Tree Reading} (closed ns) (closed ms) → ns ≡ ms
+same_nodes ns ms e = cc
+
+kept_condition : (v : Verdict) (l : Reading) → KeepsCondition v → left_condition v l ≡ condition_in l
+kept_condition Keep l h = refl
+kept_condition Remove l h = absurd h
+kept_condition ToIf l h = refl
+kept_condition ToElse l h = absurd h
+kept_condition ToEndif l h = absurd h
+
+kept_conditions : (es : List (Edited Reading)) → Each Keeps es → map (λ (e : Edited Reading). (left_seen e).condition) es ≡ map (λ (e : Edited Reading). condition_in e.line) es
+kept_conditions [] h = refl
+kept_conditions (e ∷ es) h = ap₂ (λ (x : Option Expression) (xs : List (Option Expression)). x ∷ xs) (kept_condition e.verdict e.line h.0) (kept_conditions es h.1)
+
+module _ (k : CleanRun) where
+  -- what the output has is what is left of the input
+  abbrev result : Result k.options k.clean.plain k.input k.outcome k.before
+  result = reread k.options k.clean.plain k.input k.clean.runs k.clean.faultless k.before k.of_input
+
+  -- and its tree is the one that it has
+  same_tree : k.after ≡ result.tree
+  same_tree = same_nodes k.after result.tree (one_tree_of k.options k.outcome.output (closed k.after) (closed result.tree) k.of_output result.is_tree)
+
+  -- which is what is left of the input's
+  pub what_is_left : with_lines line_bytes k.after ≡ with_lines edited_bytes (pruned k.before)
+  what_is_left = ap (with_lines line_bytes) same_tree ∙ result.same
+
+  -- what is selected of the output is what is selected of the input
+  pub selected_again : (w v : World Reading) → Agrees w k.before → KeepsTruths w k.before v k.after → map line_bytes (selected v k.after) ≡ map line_bytes (selected w k.before)
+  selected_again w v g t =
+      same_selected line_bytes edited_bytes v (λ (x : Edited Reading). w x.line) k.after (pruned k.before) what_is_left t
+      ∙ ap (λ (l : List (Edited Reading)). map edited_bytes l) (sym (selected-pruned w k.before g)) ∙ kept_bytes (selected w k.before)
+
+  -- each opener of the output has the condition of the opener from which it comes
+  pub conditions_same : map condition_in (openers k.after) ≡ map (λ (e : Edited Reading). condition_in e.line) (openers (pruned k.before))
+  conditions_same =
+      sym (map-twice seen (λ (q : Seen). q.condition) (openers k.after))
+      ∙ ap (λ (l : List Seen). map (λ (q : Seen). q.condition) l)
+      (sym (openers-with seen k.after) ∙ ap (λ (m : Nodes Seen). openers m) (ap (with_lines seen) same_tree ∙ result.alike) ∙ openers-with left_seen (pruned k.before))
+      ∙ map-twice left_seen (λ (q : Seen). q.condition) (openers (pruned k.before)) ∙ kept_conditions (openers (pruned k.before)) (pruned_keeps k.before)
+
+  -- the openers of the output can be given the truths of those from which they come
+  pub truths_kept : (w : World Reading) → (v : World Reading) × KeepsTruths w k.before v k.after
+  truths_kept w =
+      world_of k.outcome.output k.after (map (λ (e : Edited Reading). w e.line) (openers (pruned k.before)))
+      (ap (λ (ys : List (Item Reading)). map line_of ys) (read_lines k.of_output.read) ∙ sym k.of_output.are)
+      (length-map (openers (pruned k.before)) (λ (e : Edited Reading). w e.line) ∙ sym (length-map (openers (pruned k.before)) (λ (e : Edited Reading). condition_in e.line))
+      ∙ ap (λ (l : List (Option Expression)). length l) (sym conditions_same) ∙ length-map (openers k.after) condition_in)
+
+clear_run : {o : Options} {input : List ℕ} {r : Outcome} → Runs o input r → r.fault ≡ None → (ns : Nodes Reading) → IsTreeOf o input (closed ns) →
+    Pairwise (Clear o) (lines (closed ns)) (marks (closed ns))
+clear_run (stops xs t f s) e ns a = cc
+clear_run {o = o} {input = input} (ends xs t g) e ns a =
+    subst (λ (u : Tree Reading). Pairwise (Clear o) (lines u) (marks u)) (one_tree_of o input t (closed ns) (record { items = xs; read = sound_read g.sound; are = g.are }) a)
+    (subst (λ (zs : List (Item Reading)). Pairwise (Clear o) zs (marks t)) (sym (sound_lines g.sound)) (sound_clear o xs t g.sound))
+
+module _ (k : CleanRun) (w : World Reading) (g : IsCWorld k.options.table w k.before) where
+  -- a world that C may give the input agrees with what is decided
+  c_world_agrees : Agrees w k.before
+  c_world_agrees = c_agrees k.options w k.before (clear_run k.clean.runs k.clean.faultless k.before k.of_input) g
+
+  -- C may give the output the world that keeps its truths
+  pub c_world_again : (v : World Reading) → KeepsTruths w k.before v k.after → IsCWorld k.options.table v k.after
+  c_world_again v t =
+      reached_alike seen left_seen v (λ (e : Edited Reading). w e.line) (λ (s : Seen) (b : Bool). MayBe k.options.table s.condition b) k.after (pruned k.before)
+      (ap (with_lines seen) (same_tree k) ∙ (result k).alike) t
+      (pruned_reached w (λ (l : Reading). MayBe k.options.table (condition_in l) (w l)) (λ (e : Edited Reading). MayBe k.options.table (left_seen e).condition (w e.line)) still k.before
+      c_world_agrees g)
+    where
+      still : (part : Part) (l : Reading) → MayBe k.options.table (condition_in l) (w l) → MayBe k.options.table (left_condition (first_kept_verdict part) l) (w l)
+      still an_if l h = h
+      still an_elif l h = h
+      still an_else l h = h
+
+  -- and the same is selected
+  pub c_selected_again : (v : World Reading) → KeepsTruths w k.before v k.after → map line_bytes (selected v k.after) ≡ map line_bytes (selected w k.before)
+  c_selected_again v t = selected_again k w v c_world_agrees t
+
+module _ {L M : Type 0} (f : L → M) where
+  mutual
+    pub undecided_with : (ns : Nodes L) → IsUndecided ns → IsUndecided (with_lines f ns)
+    undecided_with nothing h = tt
+    undecided_with (text ns l) h = undecided_with ns h
+    undecided_with (section ns gs e) h = (undecided_with ns h.0, groups_with gs h.1)
+
+    groups_with : (gs : Groups L) → GroupsUndecided gs → GroupsUndecided (groups_with_lines f gs)
+    groups_with (conditional es) h = elifs_with es h
+    groups_with (otherwise es l ns) h = (elifs_with es h.0, undecided_with ns h.1)
+
+    elifs_with : (es : Elifs L) → ElifsUndecided es → ElifsUndecided (elifs_with_lines f es)
+    elifs_with (first o ns) h = (h.0, undecided_with ns h.1)
+    elifs_with (elif es o ns) h = (elifs_with es h.0, h.1, undecided_with ns h.2)
+
+  mutual
+    pub undecided_back : (ns : Nodes L) → IsUndecided (with_lines f ns) → IsUndecided ns
+    undecided_back nothing h = tt
+    undecided_back (text ns l) h = undecided_back ns h
+    undecided_back (section ns gs e) h = (undecided_back ns h.0, groups_back gs h.1)
+
+    groups_back : (gs : Groups L) → GroupsUndecided (groups_with_lines f gs) → GroupsUndecided gs
+    groups_back (conditional es) h = elifs_back es h
+    groups_back (otherwise es l ns) h = (elifs_back es h.0, undecided_back ns h.1)
+
+    elifs_back : (es : Elifs L) → ElifsUndecided (elifs_with_lines f es) → ElifsUndecided es
+    elifs_back (first o ns) h = (h.0, undecided_back ns h.1)
+    elifs_back (elif es o ns) h = (elifs_back es h.0, h.1, undecided_back ns h.2)
+
+-- nothing is decided of the output
+output_undecided : (us ns : Nodes Reading) → with_lines line_bytes us ≡ with_lines edited_bytes (pruned ns) → IsUndecided us
+output_undecided us ns e =
+    undecided_back line_bytes us (subst IsUndecided (sym e) (undecided_with edited_bytes (pruned ns) (pruned_undecided ns)))
+
+-- so it is of a clean run
+pub after_undecided : (k : CleanRun) → IsUndecided k.after
+after_undecided k = output_undecided k.after k.before (what_is_left k)
+
+-- if each line stays, the pieces are the lines
+whole_pieces : (ys : List (Item Reading)) (ms : List Mark) → Each Stays ms → map (lone false false) (judged_lines ys ms) ≡ map whole (judged_lines ys ms)
+whole_pieces [] ms h = refl
+whole_pieces (y ∷ ys) [] h = refl
+whole_pieces (y ∷ ys) (m ∷ ms) h =
+    ap₂ (λ (a : List ℕ) (b : List (List ℕ)). a ∷ b)
+    (ap (λ (n : Mark). piece_by n.verdict (keyword_in (content_of (reading_of y).scan)) (line_of y)) h.0) (whole_pieces ys ms h.1)
+
+none_differ : (js : List Judged) → some_other (map whole js) js ≡ false
+none_differ [] = refl
+none_differ (j ∷ js) = ap₂ (λ (a b : Bool). not a || b) ((bytes_eq-Decides (whole j) (whole j)).1 refl) (none_differ js)
+
+module _ (o : Options) (p : IsPlain o) (text : List ℕ) (ys : List (Item Reading)) (us : Nodes Reading) (g : GoesThrough o (lines_of text) ys (closed us)) (h : IsUndecided us) where
+  the_pieces : pieces_by (piece_behind (style_of o.settings)) [] (judged_lines ys (marks (closed us))) ≡ map whole (judged_lines ys (marks (closed us)))
+  the_pieces =
+      pieces_lone o.settings.blank o.settings.complement o.settings.renumber [] (judged_lines ys (marks (closed us))) p.unnumbered
+      ∙ ap₂ (λ (b c : Bool). map (lone b c) (judged_lines ys (marks (closed us)))) p.unblanked p.uncomplemented
+      ∙ whole_pieces ys (marks (closed us)) (undecided_stay us h)
+
+  -- a text that goes through, of which nothing is decided, is printed as it is
+  pub same_output : output_by o.settings.listing o.settings ys (closed us) ≡ text
+  same_output =
+      let many : length ys ≡ length (marks (closed us)) =
+      ap (λ (l : List (Item Reading)). length l) (sym (sound_lines g.sound)) ∙ sym (length_marks true (closed us)) in
+      ap (λ (q : Listing). output_by q o.settings ys (closed us)) p.unlisted
+      ∙ ap (λ (l : List (List ℕ)). concat l) (the_pieces ∙ whole_lines_are ys (marks (closed us)) many ∙ ap (λ (l : List Line). map text_of l) (sym g.are)) ∙ lines_join text
+
+  -- and none of its lines differs
+  pub same_lines : differs_by o.settings.listing o.settings ys (closed us) ≡ false
+  same_lines =
+      ap (λ (q : Listing). differs_by q o.settings ys (closed us)) p.unlisted
+      ∙ ap (λ (l : List (List ℕ)). some_other l (judged_lines ys (marks (closed us)))) the_pieces ∙ none_differ (judged_lines ys (marks (closed us)))
+
+  pub runs_again : end_fault ys (closed us) ≡ None → Runs o text (record { output = text; fault = None; differs = false })
+  runs_again e =
+      subst (λ (r : Outcome). Runs o text r) (same_parts same_output e same_lines) (ends ys (closed us) g)
+    where
+      same_parts : {a b : List ℕ} {f f' : Option Fault} {d d' : Bool} → a ≡ b → f ≡ f' → d ≡ d' →
+          ◌≡◌ {A = Outcome} (record { output = a; fault = f; differs = d }) (record { output = b; fault = f'; differs = d' })
+      same_parts x y z = cc
+
+-- No line of the output is faulty, and neither is its end.
+output_sound : (o : Options) (p : IsPlain o) (input : List ℕ) {r : Outcome} (ns : Nodes Reading) (z : Result o p input r ns) → LinesFit (lines_of r.output) →
+    GoesThrough o (lines_of r.output) z.is_tree.items (closed z.tree) × (end_fault z.is_tree.items (closed z.tree) ≡ None)
+output_sound o p input ns z f = (
+  record {
+    sound = sound_again o z.is_tree.items (closed z.tree) z.is_tree.read z.uncut z.few (fit_short z.is_tree.items (subst LinesFit z.is_tree.are f)) z.low
+        (undecided_stay z.tree (output_undecided z.tree ns z.same));
+    are = z.is_tree.are;
+  },
+  ap (λ (c : Bool). end_by c (last_number z.is_tree.items) None) z.calm,
+)
+
+-- an output whose lines fit is printed as it is, if the input has this tree
+again_law : (o : Options) → IsPlain o → (input : List ℕ) → {r : Outcome} → Runs o input r → r.fault ≡ None → LinesFit (lines_of r.output) →
+    (ns : Nodes Reading) → IsTreeOf o input (closed ns) → Runs o r.output (record { output = r.output; fault = None; differs = false })
+again_law o p input {r} d e f ns t =
+    let z : Result o p input r ns = reread o p input d e ns t in
+    let s : GoesThrough o (lines_of r.output) z.is_tree.items (closed z.tree) × (end_fault z.is_tree.items (closed z.tree) ≡ None) = output_sound o p input ns z f in
+    runs_again o p r.output z.is_tree.items z.tree s.0 (output_undecided z.tree ns z.same) s.1
+
+input_nodes : (t : Tree Reading) → innermost t ≡ None → (ns : Nodes Reading) × (t ≡ closed ns)
+input_nodes (closed ns) e = (ns, refl)
+input_nodes (open_section ns h t) e = absurd (no_innermost ns t h e)
+
+-- an input without a fault has a tree whose sections are closed
+pub input_tree : (o : Options) (input : List ℕ) → {r : Outcome} → Runs o input r → r.fault ≡ None → (ns : Nodes Reading) × IsTreeOf o input (closed ns)
+input_tree o input (stops xs t f s) e = cc
+input_tree o input (ends xs t g) e =
+    let n : (ns : Nodes Reading) × (t ≡ closed ns) = input_nodes t (end_parts (ends_in_comment xs) (last_number xs) (innermost t) e).1 in
+    (n.0, record { items = xs; read = subst (λ (u : Tree Reading). AreRead o xs u) n.1 (sound_read g.sound); are = g.are })
+
+-- an output whose lines fit is printed as it is
+pub runs_output : (o : Options) → IsPlain o → (input : List ℕ) → {r : Outcome} → Runs o input r → r.fault ≡ None → LinesFit (lines_of r.output) →
+    Runs o r.output (record { output = r.output; fault = None; differs = false })
+runs_output o p input {r} d e f =
+    let n : (ns : Nodes Reading) × IsTreeOf o input (closed ns) = input_tree o input d e in again_law o p input d e f n.0 n.1

@@ -1,0 +1,51 @@
+-- What a line of the output has of the line from which it comes: its bytes, and the condition of its directive.
+use Rattle.std.proofs.Common.{◌≡◌, ℕ, List, [], ◌∷◌, map, Option, None, refl, ap, ap₂}
+use Rattle.ud_model.specs.text.Scans.{Reading}
+use Rattle.ud_model.specs.conditions.Expressions.{Expression}
+use Rattle.ud_model.specs.sections.Tree.{Nodes, Groups, Elifs, nothing, text, section, conditional, otherwise, first, elif, opener_with_line, with_lines, groups_with_lines, elifs_with_lines}
+use Rattle.ud_model.specs.output.Pruned.{Edited}
+use Rattle.ud_model.specs.output.Rereading.{line_bytes, edited_bytes}
+use Rattle.ud_model.specs.output.CSelection.{condition_in}
+use Rattle.ud_model.specs.declared.verdict.Verdict.{Verdict}
+use Rattle.ud_model.specs.declared.verdict.Verdict.TheVariants.{Keep, Remove, ToIf, ToElse, ToEndif}
+
+-- the bytes of a line, and the condition of its directive
+pub record Seen : Type 0 where
+  pub bytes : List ℕ
+  pub condition : Option Expression
+
+-- of a line that was read
+abbrev pub seen : Reading → Seen
+seen r = record { bytes = line_bytes r; condition = condition_in r }
+
+-- an `#else` and an `#endif` have no condition
+abbrev pub left_condition : Verdict → Reading → Option Expression
+left_condition Keep r = condition_in r
+left_condition Remove r = None
+left_condition ToIf r = condition_in r
+left_condition ToElse r = None
+left_condition ToEndif r = None
+
+-- of a line of the pruned tree
+abbrev pub left_seen : Edited Reading → Seen
+left_seen e = record { bytes = edited_bytes e; condition = left_condition e.verdict e.line }
+
+module _ {A B C : Type 0} (f : A → B) (g : B → C) where
+  mutual
+    -- lines that are changed twice
+    pub with_lines-twice : (ns : Nodes A) → with_lines g (with_lines f ns) ≡ with_lines (λ a. g (f a)) ns
+    with_lines-twice nothing = refl
+    with_lines-twice (text ns l) = ap (λ (m : Nodes C). text m (g (f l))) (with_lines-twice ns)
+    with_lines-twice (section ns gs e) = ap₂ (λ (m : Nodes C) (h : Groups C). section m h (g (f e))) (with_lines-twice ns) (groups_twice gs)
+
+    groups_twice : (gs : Groups A) → groups_with_lines g (groups_with_lines f gs) ≡ groups_with_lines (λ a. g (f a)) gs
+    groups_twice (conditional es) = ap (λ (d : Elifs C). conditional d) (elifs_twice es)
+    groups_twice (otherwise es l ns) = ap₂ (λ (d : Elifs C) (m : Nodes C). otherwise d (g (f l)) m) (elifs_twice es) (with_lines-twice ns)
+
+    elifs_twice : (es : Elifs A) → elifs_with_lines g (elifs_with_lines f es) ≡ elifs_with_lines (λ a. g (f a)) es
+    elifs_twice (first o ns) = ap (λ (m : Nodes C). first (opener_with_line (λ a. g (f a)) o) m) (with_lines-twice ns)
+    elifs_twice (elif es o ns) = ap₂ (λ (d : Elifs C) (m : Nodes C). elif d (opener_with_line (λ a. g (f a)) o) m) (elifs_twice es) (with_lines-twice ns)
+
+  pub map-twice : (xs : List A) → map g (map f xs) ≡ map (λ a. g (f a)) xs
+  map-twice [] = refl
+  map-twice (x ∷ xs) = ap (λ (ys : List C). g (f x) ∷ ys) (map-twice xs)

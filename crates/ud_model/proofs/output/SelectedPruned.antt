@@ -1,0 +1,137 @@
+-- What a world selects of the pruned nodes is what it selects of the nodes, if it agrees with what is decided.
+use Rattle.std.proofs.Common.{◌≡◌, List, [], ◌∷◌, ◌++◌, map, Bool, true, false, Option, Some, None, option_map, refl, sym, ◌∙◌, ap, ap₂, append-nil, append_assoc}
+use Rattle.std.proofs.lemmas.List.{map-append}
+use Rattle.ud_model.specs.declared.cond.Cond.{Cond}
+use Rattle.ud_model.specs.declared.cond.Cond.TheVariants.{Yes, No, Unknown}
+use Rattle.ud_model.specs.declared.verdict.Verdict.TheVariants.{Keep}
+use Rattle.ud_model.specs.sections.Tree.{Opener, Nodes, Groups, Elifs, nothing, text, section, conditional, otherwise, first, elif}
+use Rattle.ud_model.specs.sections.Pruning.{Part, an_if, an_elif}
+use Rattle.ud_model.specs.output.Worlds.{World, or_else, lines_or, where_true, selected, selected_groups, selected_elifs, EachReached, GroupsReached, ElifsReached, AgreesWith}
+use Rattle.ud_model.specs.output.Pruned.{Edited, edited, Left, none_kept, replaced, kept_groups, ended, then_nodes, with_group, with_else, then_left, pruned, left_of_groups, left_of_elifs}
+
+module _ {L : Type 0} (w : World L) where
+  -- a line of the output has the truth of the line that it comes from
+  abbrev pub out_world : World (Edited L)
+  out_world e = w e.line
+
+  abbrev kept : L → Edited L
+  kept l = edited Keep l
+
+  -- what is selected of the groups so far, by what is left of them
+  abbrev pub Chosen : Option (List L) → Left L → Type 0
+  Chosen s none_kept = s ≡ None
+  Chosen s (replaced ms) = (ls : List L) × (s ≡ Some ls) × (map kept ls ≡ selected out_world ms)
+  Chosen s (kept_groups es) = option_map (map kept) s ≡ selected_elifs out_world es
+  Chosen s (ended es l ms k) = (ls : List L) × (s ≡ Some ls) × (map kept ls ≡ lines_or (selected_elifs out_world es) (selected out_world ms))
+
+  later_group : (s : Option (List L)) (b : Bool) (ls more : List L) → s ≡ Some ls → or_else s (where_true b more) ≡ Some ls
+  later_group s b ls more e = ap (λ (q : Option (List L)). or_else q (where_true b more)) e
+
+  -- a group by its truth, if none before it is processed
+  new_group : (b : Bool) (ls : List L) (ks : List (Edited L)) → (b ≡ true → map kept ls ≡ ks) → option_map (map kept) (where_true b ls) ≡ where_true b ks
+  new_group true ls ks h = ap (λ (q : List (Edited L)). Some q) (h refl)
+  new_group false ls ks h = refl
+
+  -- the same after groups
+  more_group : (s : Option (List L)) (r : Option (List (Edited L))) (b : Bool) (ls : List L) (ks : List (Edited L)) → option_map (map kept) s ≡ r →
+      (s ≡ None → b ≡ true → map kept ls ≡ ks) → option_map (map kept) (or_else s (where_true b ls)) ≡ or_else r (where_true b ks)
+  more_group None r b ls ks e h = new_group b ls ks (h refl) ∙ ap (λ (q : Option (List (Edited L))). or_else q (where_true b ks)) e
+  more_group (Some x) r b ls ks e h = ap (λ (q : Option (List (Edited L))). or_else q (where_true b ks)) e
+
+  -- the last group is processed if none before it is
+  last_group : (s : Option (List L)) (r : Option (List (Edited L))) (ls : List L) (ks : List (Edited L)) → option_map (map kept) s ≡ r →
+      (s ≡ None → map kept ls ≡ ks) → map kept (lines_or s ls) ≡ lines_or r ks
+  last_group None r ls ks e h = h refl ∙ ap (λ (q : Option (List (Edited L))). lines_or q ks) e
+  last_group (Some x) r ls ks e h = ap (λ (q : Option (List (Edited L))). lines_or q ks) e
+
+  -- a group that is true
+  true_group : (s : Option (List L)) (b : Bool) (ls : List L) → (s ≡ None → b ≡ true) → or_else s (where_true b ls) ≡ Some (lines_or s ls)
+  true_group None b ls h = ap (λ (t : Bool). where_true t ls) (h refl)
+  true_group (Some x) b ls h = refl
+
+  -- a group that is false
+  false_group : (s : Option (List L)) (b : Bool) (ls : List L) → (s ≡ None → b ≡ false) → or_else s (where_true b ls) ≡ s
+  false_group None b ls h = ap (λ (t : Bool). where_true t ls) (h refl)
+  false_group (Some x) b ls h = refl
+
+  -- one group more
+  group_step : (s : Option (List L)) (left : Left L) (part : Part) (o : Opener L) (c : Cond) (ns : Nodes L) (ps : Nodes (Edited L)) →
+      Chosen s left → (s ≡ None → AgreesWith w c o.line) → (s ≡ None → w o.line ≡ true → map kept (selected w ns) ≡ selected out_world ps) →
+      Chosen (or_else s (where_true (w o.line) (selected w ns))) (with_group left part o c ps)
+  group_step s none_kept part o Yes ns ps h a n = (
+    selected w ns,
+    true_group s (w o.line) (selected w ns) a ∙ ap (λ (q : Option (List L)). Some (lines_or q (selected w ns))) h,
+    n h (a h),
+  )
+  group_step s none_kept part o No ns ps h a n = false_group s (w o.line) (selected w ns) a ∙ h
+  group_step s none_kept part o Unknown ns ps h a n =
+      ap (λ (q : Option (List L)). option_map (map kept) (or_else q (where_true (w o.line) (selected w ns)))) h ∙ new_group (w o.line) (selected w ns) (selected out_world ps) (n h)
+  group_step s (replaced ms) part o c ns ps h a n = (h.0, later_group s (w o.line) h.0 (selected w ns) h.1, h.2)
+  group_step s (kept_groups es) part o Yes ns ps h a n = (
+    lines_or s (selected w ns),
+    true_group s (w o.line) (selected w ns) a,
+    last_group s (selected_elifs out_world es) (selected w ns) (selected out_world ps) h (λ e. n e (a e)),
+  )
+  group_step s (kept_groups es) part o No ns ps h a n = ap (λ (q : Option (List L)). option_map (map kept) q) (false_group s (w o.line) (selected w ns) a) ∙ h
+  group_step s (kept_groups es) part o Unknown ns ps h a n = more_group s (selected_elifs out_world es) (w o.line) (selected w ns) (selected out_world ps) h n
+  group_step s (ended es l ms None) part o c ns ps h a n = (h.0, later_group s (w o.line) h.0 (selected w ns) h.1, h.2)
+  group_step s (ended es l ms (Some k)) part o c ns ps h a n = (h.0, later_group s (w o.line) h.0 (selected w ns) h.1, h.2)
+
+  -- what is selected of a whole section, by what is left of it
+  abbrev Final : List L → Left L → Type 0
+  Final ls none_kept = ls ≡ []
+  Final ls (replaced ms) = map kept ls ≡ selected out_world ms
+  Final ls (kept_groups es) = map kept ls ≡ lines_or (selected_elifs out_world es) []
+  Final ls (ended es l ms k) = map kept ls ≡ lines_or (selected_elifs out_world es) (selected out_world ms)
+
+  without_else : (s : Option (List L)) (left : Left L) → Chosen s left → Final (lines_or s []) left
+  without_else s none_kept h = ap (λ (q : Option (List L)). lines_or q []) h
+  without_else s (replaced ms) h = ap (λ (q : Option (List L)). map kept (lines_or q [])) h.1 ∙ h.2
+  without_else s (kept_groups es) h = last_group s (selected_elifs out_world es) [] [] h (λ e. refl)
+  without_else s (ended es l ms k) h = ap (λ (q : Option (List L)). map kept (lines_or q [])) h.1 ∙ h.2
+
+  else_step : (s : Option (List L)) (left : Left L) (l : L) (ns : Nodes L) (ps : Nodes (Edited L)) →
+      Chosen s left → (s ≡ None → map kept (selected w ns) ≡ selected out_world ps) → Final (lines_or s (selected w ns)) (with_else left l ps)
+  else_step s none_kept l ns ps h n = ap (λ (q : Option (List L)). map kept (lines_or q (selected w ns))) h ∙ n h
+  else_step s (replaced ms) l ns ps h n = ap (λ (q : Option (List L)). map kept (lines_or q (selected w ns))) h.1 ∙ h.2
+  else_step s (kept_groups es) l ns ps h n = last_group s (selected_elifs out_world es) (selected w ns) (selected out_world ps) h n
+  else_step s (ended es k ms None) l ns ps h n = ap (λ (q : Option (List L)). map kept (lines_or q (selected w ns))) h.1 ∙ h.2
+  else_step s (ended es k ms (Some j)) l ns ps h n = ap (λ (q : Option (List L)). map kept (lines_or q (selected w ns))) h.1 ∙ h.2
+
+  selected_then : (ms ns : Nodes (Edited L)) → selected out_world (then_nodes ms ns) ≡ selected out_world ms ++ selected out_world ns
+  selected_then ms nothing = sym (append-nil (selected out_world ms))
+  selected_then ms (text ns l) =
+      ap (λ (ls : List (Edited L)). ls ++ l ∷ []) (selected_then ms ns) ∙ append_assoc (selected out_world ms) (selected out_world ns) (l ∷ [])
+  selected_then ms (section ns gs e) =
+      ap (λ (ls : List (Edited L)). ls ++ selected_groups out_world gs) (selected_then ms ns)
+      ∙ append_assoc (selected out_world ms) (selected out_world ns) (selected_groups out_world gs)
+
+  section_step : (before ls : List L) (ps : Nodes (Edited L)) (left : Left L) (e : L) → map kept before ≡ selected out_world ps → Final ls left →
+      map kept (before ++ ls) ≡ selected out_world (then_left ps left e)
+  section_step before ls ps none_kept e a h = ap (λ (q : List L). map kept (before ++ q)) h ∙ ap (map kept) (append-nil before) ∙ a
+  section_step before ls ps (replaced ms) e a h =
+      map-append kept before ls ∙ ap₂ (λ (p q : List (Edited L)). p ++ q) a h ∙ sym (selected_then ps ms)
+  section_step before ls ps (kept_groups es) e a h = map-append kept before ls ∙ ap₂ (λ (p q : List (Edited L)). p ++ q) a h
+  section_step before ls ps (ended es l ms None) e a h = map-append kept before ls ∙ ap₂ (λ (p q : List (Edited L)). p ++ q) a h
+  section_step before ls ps (ended es l ms (Some k)) e a h = map-append kept before ls ∙ ap₂ (λ (p q : List (Edited L)). p ++ q) a h
+
+  -- what the world makes of an opener
+  abbrev pub Fits : Opener L → Type 0
+  Fits o = AgreesWith w o.cond o.line
+
+  mutual
+    -- in a world that agrees, pruning changes nothing of what is selected
+    pub selected-pruned : (ns : Nodes L) → EachReached w Fits ns → map kept (selected w ns) ≡ selected out_world (pruned ns)
+    selected-pruned nothing a = refl
+    selected-pruned (text ns l) a = map-append kept (selected w ns) (l ∷ []) ∙ ap (λ (ls : List (Edited L)). ls ++ kept l ∷ []) (selected-pruned ns a)
+    selected-pruned (section ns gs e) a =
+        section_step (selected w ns) (selected_groups w gs) (pruned ns) (left_of_groups gs) e (selected-pruned ns a.0) (final gs a.1)
+
+    final : (gs : Groups L) → GroupsReached w Fits gs → Final (selected_groups w gs) (left_of_groups gs)
+    final (conditional es) a = without_else (selected_elifs w es) (left_of_elifs es) (chosen es a)
+    final (otherwise es l ns) a = else_step (selected_elifs w es) (left_of_elifs es) l ns (pruned ns) (chosen es a.0) (λ e. selected-pruned ns (a.1 e))
+
+    pub chosen : (es : Elifs L) → ElifsReached w Fits es → Chosen (selected_elifs w es) (left_of_elifs es)
+    chosen (first o ns) a = group_step None none_kept an_if o o.cond ns (pruned ns) refl (λ e. a.0) (λ e t. selected-pruned ns (a.1 t))
+    chosen (elif es o ns) a =
+        group_step (selected_elifs w es) (left_of_elifs es) an_elif o o.cond ns (pruned ns) (chosen es a.0) (λ e. (a.1 e).0) (λ e t. selected-pruned ns ((a.1 e).1 t))

@@ -1,0 +1,167 @@
+-- Sizes: the pieces of a text are as long as their lines, one by one, or shorter than them together.
+use Rattle.std.proofs.Common.{◌≡◌, ℕ, suc, ◌+◌, ◌==◌, ◌≤◌, ◌<◌, List, [], ◌∷◌, ◌++◌, length, map, Bool, true, false, not, ◌&&◌, ◌||◌, bytes_eq, refl, sym, ◌∙◌, ap, ap₂, arith, append-nil, length-append, ◌⊎◌, inl, inr}
+use Rattle.std.specs.List.{concat}
+use Rattle.std.proofs.lemmas.List.{map-append}
+use Rattle.std.proofs.lemmas.List.Folds.{concat-append}
+use Rattle.std.proofs.lemmas.Slice.Eq.{bytes_eq-Decides}
+use Rattle.ud_model.specs.text.Lines.{text_of}
+use Rattle.ud_model.specs.answer.Printing.{Judged, some_other}
+
+-- what is printed of lines, one by one
+abbrev pub out : (Judged → List ℕ) → List Judged → List ℕ
+out f js = concat (map f js)
+
+-- the lines themselves
+abbrev pub whole : Judged → List ℕ
+whole j = text_of j.line
+
+-- each line is printed at its own length
+abbrev pub KeepsSizes : (Judged → List ℕ) → List Judged → Type 0
+KeepsSizes f [] = Unit {0}
+KeepsSizes f (j ∷ js) = (length (f j) ≡ length (whole j)) × KeepsSizes f js
+
+-- so it is, or less is printed than there was
+pub data Fits (f : Judged → List ℕ) (js : List Judged) : Type 0 where
+  alike : KeepsSizes f js → Fits f js
+  less : length (out f js) < length (out whole js) → Fits f js
+
+-- no more than one byte is printed than there was
+pub record Loose (f : Judged → List ℕ) (js : List Judged) : Type 0 where
+  pub bound : length (out f js) ≤ suc (length (out whole js))
+
+out-append : (f : Judged → List ℕ) (js ks : List Judged) → length (out f (js ++ ks)) ≡ length (out f js) + length (out f ks)
+out-append f js ks =
+    ap (λ (l : List (List ℕ)). length (concat l)) (map-append f js ks) ∙ ap (λ (l : List ℕ). length l) (concat-append (map f js) (map f ks))
+    ∙ length-append (out f js) (out f ks)
+
+same_out : (f : Judged → List ℕ) (js : List Judged) → KeepsSizes f js → length (out f js) ≡ length (out whole js)
+same_out f [] k = refl
+same_out f (j ∷ js) k =
+    length-append (f j) (out f js) ∙ ap₂ (λ (a b : ℕ). a + b) k.0 (same_out f js k.1) ∙ sym (length-append (whole j) (out whole js))
+
+sizes-append : (f : Judged → List ℕ) (js ks : List Judged) → KeepsSizes f js → KeepsSizes f ks → KeepsSizes f (js ++ ks)
+sizes-append f [] ks a b = b
+sizes-append f (j ∷ js) ks a b = (a.0, sizes-append f js ks a.1 b)
+
+fits_most : {f : Judged → List ℕ} {js : List Judged} → Fits f js → length (out f js) ≤ length (out whole js)
+fits_most {f} {js} (alike k) = let e : length (out f js) ≡ length (out whole js) = same_out f js k in omega arith
+fits_most (less h) = omega arith
+
+module _ (f : Judged → List ℕ) (js ks : List Judged) where
+  less_together : length (out f js) + length (out f ks) < length (out whole js) + length (out whole ks) → Fits f (js ++ ks)
+  less_together h =
+      let a : length (out f (js ++ ks)) ≡ length (out f js) + length (out f ks) = out-append f js ks in
+      let b : length (out whole (js ++ ks)) ≡ length (out whole js) + length (out whole ks) = out-append whole js ks in
+      less (omega arith)
+
+  loose_together : length (out f js) + length (out f ks) ≤ suc (length (out whole js) + length (out whole ks)) → Loose f (js ++ ks)
+  loose_together h =
+      let a : length (out f (js ++ ks)) ≡ length (out f js) + length (out f ks) = out-append f js ks in
+      let b : length (out whole (js ++ ks)) ≡ length (out whole js) + length (out whole ks) = out-append whole js ks in
+      record { bound = omega arith }
+
+-- lines that fit, one after another
+pub fits-append : (f : Judged → List ℕ) (js ks : List Judged) → Fits f js → Fits f ks → Fits f (js ++ ks)
+fits-append f js ks (alike a) (alike b) = alike (sizes-append f js ks a b)
+fits-append f js ks (alike a) (less h) = let m : length (out f js) ≤ length (out whole js) = fits_most (alike a) in less_together f js ks (omega arith)
+fits-append f js ks (less h) b = let m : length (out f ks) ≤ length (out whole ks) = fits_most b in less_together f js ks (omega arith)
+
+-- and if one byte more may be printed of the first ones
+pub loose_fits : (f : Judged → List ℕ) (js ks : List Judged) → Loose f js → Fits f ks → Loose f (js ++ ks)
+loose_fits f js ks a b = let m : length (out f ks) ≤ length (out whole ks) = fits_most b in let n = a.bound in loose_together f js ks (omega arith)
+
+-- or of the second ones
+pub fits_loose : (f : Judged → List ℕ) (js ks : List Judged) → Fits f js → Loose f ks → Loose f (js ++ ks)
+fits_loose f js ks a b = let m : length (out f js) ≤ length (out whole js) = fits_most a in let n = b.bound in loose_together f js ks (omega arith)
+
+-- one byte more, and then a line that loses two
+pub loose_closed : (f : Judged → List ℕ) (js : List Judged) (j : Judged) → Loose f js → length (f j) + 2 ≤ length (whole j) → Fits f (js ++ j ∷ [])
+loose_closed f js j a h =
+    let n = a.bound in
+    let p : length (f j ++ []) ≡ length (f j) = ap (λ (l : List ℕ). length l) (append-nil (f j)) in
+    let q : length (whole j ++ []) ≡ length (whole j) = ap (λ (l : List ℕ). length l) (append-nil (whole j)) in
+    less_together f js (j ∷ []) (omega arith)
+
+split_le : (a b : ℕ) → a ≤ b → (a ≡ b) ⊎ (a < b)
+split_le a b h = grind arith
+
+-- a line that doesn't grow fits
+pub fits_one : (f : Judged → List ℕ) (j : Judged) → length (f j) ≤ length (whole j) → Fits f (j ∷ [])
+fits_one f j h = go (split_le (length (f j)) (length (whole j)) h)
+  where
+    go : (length (f j) ≡ length (whole j)) ⊎ (length (f j) < length (whole j)) → Fits f (j ∷ [])
+    go (inl e) = alike (e, tt)
+    go (inr s) =
+        let p : length (f j ++ []) ≡ length (f j) = ap (λ (l : List ℕ). length l) (append-nil (f j)) in
+        let q : length (whole j ++ []) ≡ length (whole j) = ap (λ (l : List ℕ). length l) (append-nil (whole j)) in
+        less (omega arith)
+
+-- a line that grows by a byte
+pub loose_one : (f : Judged → List ℕ) (j : Judged) → length (f j) ≤ suc (length (whole j)) → Loose f (j ∷ [])
+loose_one f j h =
+    let p : length (f j ++ []) ≡ length (f j) = ap (λ (l : List ℕ). length l) (append-nil (f j)) in
+    let q : length (whole j ++ []) ≡ length (whole j) = ap (λ (l : List ℕ). length l) (append-nil (whole j)) in
+    record { bound = omega arith }
+
+-- if there are no lines, they fit
+pub fits_none : (f : Judged → List ℕ) → Fits f []
+fits_none f = alike tt
+
+-- each of these lines doesn't grow
+pub fits_all : (f : Judged → List ℕ) (js : List Judged) → ((j : Judged) → length (f j) ≤ length (whole j)) → Fits f js
+fits_all f [] h = fits_none f
+fits_all f (j ∷ js) h = fits-append f (j ∷ []) js (fits_one f j (h j)) (fits_all f js h)
+
+eq_true : (a b : List ℕ) → bytes_eq a b ≡ true → a ≡ b
+eq_true a b e = (bytes_eq-Decides a b).0 e
+
+unequal : (a b : List ℕ) → length a < length b → bytes_eq a b ≡ false
+unequal a b h = go (bytes_eq a b) (λ e. eq_true a b e)
+  where
+    go : (t : Bool) → (t ≡ true → a ≡ b) → t ≡ false
+    go false d = refl
+    go true d = let e : length a ≡ length b = ap (λ (l : List ℕ). length l) (d refl) in absurd (omega arith)
+
+or_false_parts : (a b : Bool) → (not a || b) ≡ false → (a ≡ true) × (b ≡ false)
+or_false_parts true false e = (refl, refl)
+or_false_parts true true e = cc
+or_false_parts false b e = cc
+
+-- if no line differs, what is printed are the lines
+none_other : (f : Judged → List ℕ) (js : List Judged) → some_other (map f js) js ≡ false → out f js ≡ out whole js
+none_other f [] e = refl
+none_other f (j ∷ js) e =
+    let s : (bytes_eq (f j) (whole j) ≡ true) × (some_other (map f js) js ≡ false) = or_false_parts (bytes_eq (f j) (whole j)) (some_other (map f js) js) e in
+    ap₂ (λ (a b : List ℕ). a ++ b) (eq_true (f j) (whole j) s.0) (none_other f js s.1)
+
+and_assoc : (a b c : Bool) → ((a && b) && c) ≡ (a && (b && c))
+and_assoc true b c = refl
+and_assoc false b c = refl
+
+-- texts are compared part by part, if the parts in front are of one length
+bytes_eq-append : (a b c d : List ℕ) → length a ≡ length b → bytes_eq (a ++ c) (b ++ d) ≡ (bytes_eq a b && bytes_eq c d)
+bytes_eq-append [] [] c d e = refl
+bytes_eq-append [] (y ∷ b) c d e = absurd (omega arith)
+bytes_eq-append (x ∷ a) [] c d e = absurd (omega arith)
+bytes_eq-append (x ∷ a) (y ∷ b) c d e =
+    ap (λ (t : Bool). (x == y) && t) (bytes_eq-append a b c d (omega arith)) ∙ sym (and_assoc (x == y) (bytes_eq a b) (bytes_eq c d))
+
+not_and : (a b : Bool) → (not a || not b) ≡ not (a && b)
+not_and true b = refl
+not_and false b = refl
+
+alike_differs : (f : Judged → List ℕ) (js : List Judged) → KeepsSizes f js → some_other (map f js) js ≡ not (bytes_eq (out f js) (out whole js))
+alike_differs f [] k = refl
+alike_differs f (j ∷ js) k =
+    ap (λ (b : Bool). not (bytes_eq (f j) (whole j)) || b) (alike_differs f js k.1)
+    ∙ not_and (bytes_eq (f j) (whole j)) (bytes_eq (out f js) (out whole js))
+    ∙ ap (λ (b : Bool). not b) (sym (bytes_eq-append (f j) (whole j) (out f js) (out whole js) k.0))
+
+-- If lines fit, some line differs exactly if what is printed isn't the lines.
+pub fits_differs : (f : Judged → List ℕ) (js : List Judged) → Fits f js → some_other (map f js) js ≡ not (bytes_eq (out f js) (out whole js))
+fits_differs f js (alike k) = alike_differs f js k
+fits_differs f js (less h) = go (some_other (map f js) js) (λ e. none_other f js e) ∙ ap (λ (b : Bool). not b) (sym (unequal (out f js) (out whole js) h))
+  where
+    go : (t : Bool) → (t ≡ false → out f js ≡ out whole js) → t ≡ true
+    go true d = refl
+    go false d = let e : length (out f js) ≡ length (out whole js) = ap (λ (l : List ℕ). length l) (d refl) in absurd (omega arith)

@@ -1,0 +1,64 @@
+-- A directive is edited only where it can be: an `#elif` to an `#if` or `#else`, an `#elif` or `#else` to an `#endif`.
+use Rattle.std.proofs.Common.{List, [], Bool, true, false, sym, subst}
+use Rattle.ud_model.specs.declared.cond.Cond.{Cond}
+use Rattle.ud_model.specs.declared.cond.Cond.TheVariants.{Yes}
+use Rattle.ud_model.specs.declared.verdict.Verdict.{Verdict}
+use Rattle.ud_model.specs.declared.verdict.Verdict.TheVariants.{Keep, Remove, ToIf, ToElse, ToEndif}
+use Rattle.ud_model.specs.sections.Tree.{Item, Opener, if_line, elif_line, else_line, endif_line}
+use Rattle.ud_model.specs.sections.Pruning.{an_if, an_else, marked, endif_verdict}
+use Rattle.ud_model.specs.aids.SoFar.{verdict_so_far}
+use Rattle.ud_model.proofs.output.Edits.{KeepsOrGoes, endif_keeps, if_keeps}
+use Rattle.ud_model.proofs.sections.Stages.{Stage, leading, given, going, at_true, past, stage, verdict_at, verdict_by_stage}
+
+-- the verdict is one that such a line may get
+abbrev pub Suits : {L : Type 0} → Verdict → Item L → Type 0
+Suits Keep x = Unit {0}
+Suits Remove x = Unit {0}
+Suits ToIf (elif_line o) = Unit {0}
+Suits ToIf x = ⊥
+Suits ToElse (elif_line o) = Unit {0}
+Suits ToElse x = ⊥
+Suits ToEndif (elif_line o) = Unit {0}
+Suits ToEndif (else_line l) = Unit {0}
+Suits ToEndif x = ⊥
+
+module _ {L : Type 0} where
+  -- a verdict that suits in a kept place does so in each
+  pub suits_marked : (kept : Bool) (v : Verdict) (x : Item L) → Suits v x → Suits (marked kept v).verdict x
+  suits_marked true v x h = h
+  suits_marked false v x h = tt
+
+  -- each line may stay or go
+  keeps_suit : (v : Verdict) (x : Item L) → KeepsOrGoes v → Suits v x
+  keeps_suit Keep x h = tt
+  keeps_suit Remove x h = tt
+  keeps_suit ToIf x h = absurd h
+  keeps_suit ToElse x h = absurd h
+  keeps_suit ToEndif x h = absurd h
+
+  -- the table gives each kind of line a verdict that suits it: an `#if`
+  pub suits_if : (o : Opener L) (c : Cond) → Suits (verdict_so_far [] an_if c) (if_line o)
+  suits_if o c = keeps_suit (verdict_so_far [] an_if c) (if_line o) (if_keeps c)
+
+  -- an `#elif`
+  pub suits_elif : (v : Verdict) (o : Opener L) → Suits v (elif_line o)
+  suits_elif Keep o = tt
+  suits_elif Remove o = tt
+  suits_elif ToIf o = tt
+  suits_elif ToElse o = tt
+  suits_elif ToEndif o = tt
+
+  else_at : (s : Stage) (l : L) → Suits (verdict_at s an_else Yes) (else_line l)
+  else_at leading l = tt
+  else_at given l = tt
+  else_at going l = tt
+  else_at at_true l = tt
+  else_at past l = tt
+
+  -- an `#else`
+  pub suits_else : (cs : List Cond) (l : L) → Suits (verdict_so_far cs an_else Yes) (else_line l)
+  suits_else cs l = subst (λ (v : Verdict). Suits v (else_line l)) (sym (verdict_by_stage cs an_else Yes)) (else_at (stage cs) l)
+
+  -- an `#endif`
+  pub suits_endif : (cs : List Cond) (l : L) → Suits (endif_verdict cs) (endif_line l)
+  suits_endif cs l = keeps_suit (endif_verdict cs) (endif_line l) (endif_keeps cs)

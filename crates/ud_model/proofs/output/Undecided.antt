@@ -1,0 +1,124 @@
+-- In a pruned tree nothing is decided, and if nothing is decided each line stays as it is.
+use Rattle.std.proofs.Common.{◌≡◌, List, [], ◌∷◌, ◌++◌, Bool, true, Some, None, refl, sym, ◌∙◌, ap, ap₂, subst}
+use Rattle.ud_model.specs.declared.cond.Cond.{Cond}
+use Rattle.ud_model.specs.declared.cond.Cond.TheVariants.{Yes, No, Unknown}
+use Rattle.ud_model.specs.declared.verdict.Verdict.{Verdict}
+use Rattle.ud_model.specs.declared.verdict.Verdict.TheVariants.{Keep}
+use Rattle.ud_model.specs.sections.Tree.{Opener, Nodes, Groups, Elifs, nothing, text, section, conditional, otherwise, first, elif, closed}
+use Rattle.ud_model.specs.sections.Pruning.{Part, an_if, an_elif, an_else, Mark, marked, is_kept, conds_of_elifs, conds_of_groups, endif_verdict, marks}
+use Rattle.ud_model.specs.aids.SoFar.{verdict_so_far, nodes_so_far, groups_so_far, elifs_so_far}
+use Rattle.ud_model.specs.output.Pruned.{Edited, Left, none_kept, replaced, kept_groups, ended, then_nodes, with_group, with_else, then_left, pruned, left_of_groups, left_of_elifs, IsUndecided, GroupsUndecided, ElifsUndecided}
+use Rattle.ud_model.proofs.output.Each.{Each, each_both}
+use Rattle.ud_model.proofs.sections.Stays.{marks_so_far_same}
+use Rattle.ud_model.proofs.sections.Stages.{Stage, going, at_true, stage, next_stage, verdict_at, kept_at, endif_at, verdict_by_stage, kept_by_stage, stage_next, endif_by_stage}
+
+-- a line that stays as it is
+abbrev pub Stays : Mark → Type 0
+Stays m = m ≡ marked true Keep
+
+stays_if : (v : Verdict) → v ≡ Keep → Stays (marked true v)
+stays_if v e = ap (λ (u : Verdict). marked true u) e
+
+else_conds : (cs : List Cond) → stage cs ≡ going → (stage (cs ++ Yes ∷ []) ≡ at_true)
+else_conds cs e = stage_next cs Yes ∙ ap (λ (s : Stage). next_stage s Yes) e
+
+module _ {L : Type 0} where
+  abbrev LeftUndecided : Left L → Type 0
+  LeftUndecided none_kept = Unit {0}
+  LeftUndecided (replaced ms) = IsUndecided ms
+  LeftUndecided (kept_groups es) = ElifsUndecided es
+  LeftUndecided (ended es l ms k) = ElifsUndecided es × IsUndecided ms
+
+  with_undecided : (left : Left L) (part : Part) (o : Opener L) (c : Cond) (ps : Nodes (Edited L)) → o.cond ≡ c → LeftUndecided left → IsUndecided ps → LeftUndecided (with_group left part o c ps)
+  with_undecided none_kept part o Yes ps e h n = n
+  with_undecided none_kept part o No ps e h n = tt
+  with_undecided none_kept part o Unknown ps e h n = (e, n)
+  with_undecided (replaced ms) part o c ps e h n = h
+  with_undecided (kept_groups es) part o Yes ps e h n = (h, n)
+  with_undecided (kept_groups es) part o No ps e h n = h
+  with_undecided (kept_groups es) part o Unknown ps e h n = (h, e, n)
+  with_undecided (ended es l ms None) part o c ps e h n = h
+  with_undecided (ended es l ms (Some k)) part o c ps e h n = h
+
+  else_undecided : (left : Left L) (l : L) (ps : Nodes (Edited L)) → LeftUndecided left → IsUndecided ps → LeftUndecided (with_else left l ps)
+  else_undecided none_kept l ps h n = n
+  else_undecided (replaced ms) l ps h n = h
+  else_undecided (kept_groups es) l ps h n = (h, n)
+  else_undecided (ended es k ms None) l ps h n = h
+  else_undecided (ended es k ms (Some j)) l ps h n = h
+
+  then_undecided : (ms ns : Nodes (Edited L)) → IsUndecided ms → IsUndecided ns → IsUndecided (then_nodes ms ns)
+  then_undecided ms nothing a b = a
+  then_undecided ms (text ns l) a b = then_undecided ms ns a b
+  then_undecided ms (section ns gs e) a b = (then_undecided ms ns a b.0, b.1)
+
+  left_undecided : (ps : Nodes (Edited L)) (left : Left L) (e : L) → IsUndecided ps → LeftUndecided left → IsUndecided (then_left ps left e)
+  left_undecided ps none_kept e a h = a
+  left_undecided ps (replaced ms) e a h = then_undecided ps ms a h
+  left_undecided ps (kept_groups es) e a h = (a, h)
+  left_undecided ps (ended es l ms None) e a h = (a, h)
+  left_undecided ps (ended es l ms (Some k)) e a h = (a, h)
+
+  mutual
+    -- in pruned nodes each condition but that of an `#else` is unknown
+    pub pruned_undecided : (ns : Nodes L) → IsUndecided (pruned ns)
+    pruned_undecided nothing = tt
+    pruned_undecided (text ns l) = pruned_undecided ns
+    pruned_undecided (section ns gs e) = left_undecided (pruned ns) (left_of_groups gs) e (pruned_undecided ns) (groups_undecided gs)
+
+    groups_undecided : (gs : Groups L) → LeftUndecided (left_of_groups gs)
+    groups_undecided (conditional es) = elifs_undecided es
+    groups_undecided (otherwise es l ns) = else_undecided (left_of_elifs es) l (pruned ns) (elifs_undecided es) (pruned_undecided ns)
+
+    elifs_undecided : (es : Elifs L) → LeftUndecided (left_of_elifs es)
+    elifs_undecided (first o ns) = with_undecided none_kept an_if o o.cond (pruned ns) refl tt (pruned_undecided ns)
+    elifs_undecided (elif es o ns) = with_undecided (left_of_elifs es) an_elif o o.cond (pruned ns) refl (elifs_undecided es) (pruned_undecided ns)
+
+  -- the stage of groups none of which is decided
+  going_on : (es : Elifs L) → ElifsUndecided es → stage (conds_of_elifs es) ≡ going
+  going_on (first o ns) h = ap (λ (c : Cond). stage (c ∷ [])) h.0
+  going_on (elif es o ns) h = stage_next (conds_of_elifs es) o.cond ∙ ap₂ (λ (s : Stage) (c : Cond). next_stage s c) (going_on es h.0) h.1
+
+  place_stays : (b : Bool) (ns : Nodes L) → b ≡ true → Each Stays (nodes_so_far true ns) → Each Stays (nodes_so_far b ns)
+  place_stays b ns e h = subst (λ (k : Bool). Each Stays (nodes_so_far k ns)) (sym e) h
+
+  endif_stays : (gs : Groups L) → GroupsUndecided gs → endif_verdict (conds_of_groups gs) ≡ Keep
+  endif_stays (conditional es) h = endif_by_stage (conds_of_elifs es) ∙ ap endif_at (going_on es h)
+  endif_stays (otherwise es l ns) h = endif_by_stage (conds_of_elifs es ++ Yes ∷ []) ∙ ap endif_at (else_conds (conds_of_elifs es) (going_on es h.0))
+
+  mutual
+    nodes_stay : (ns : Nodes L) → IsUndecided ns → Each Stays (nodes_so_far true ns)
+    nodes_stay nothing h = tt
+    nodes_stay (text ns l) h = each_both Stays (nodes_so_far true ns) (marked true Keep ∷ []) (nodes_stay ns h) (refl, tt)
+    nodes_stay (section ns gs e) h =
+        each_both Stays (nodes_so_far true ns ++ groups_so_far true gs) (marked true (endif_verdict (conds_of_groups gs)) ∷ [])
+        (each_both Stays (nodes_so_far true ns) (groups_so_far true gs) (nodes_stay ns h.0) (groups_stay gs h.1))
+        (stays_if (endif_verdict (conds_of_groups gs)) (endif_stays gs h.1), tt)
+
+    groups_stay : (gs : Groups L) → GroupsUndecided gs → Each Stays (groups_so_far true gs)
+    groups_stay (conditional es) h = elifs_stay es h
+    groups_stay (otherwise es l ns) h =
+        let s : stage (conds_of_elifs es) ≡ going = going_on es h.0 in
+        each_both Stays (elifs_so_far true es ++ marked true (verdict_so_far (conds_of_elifs es) an_else Yes) ∷ []) (nodes_so_far (is_kept (conds_of_elifs es) Yes) ns)
+        (each_both Stays (elifs_so_far true es) (marked true (verdict_so_far (conds_of_elifs es) an_else Yes) ∷ []) (elifs_stay es h.0)
+        (stays_if (verdict_so_far (conds_of_elifs es) an_else Yes) (verdict_by_stage (conds_of_elifs es) an_else Yes ∙ ap (λ (t : Stage). verdict_at t an_else Yes) s), tt))
+        (place_stays (is_kept (conds_of_elifs es) Yes) ns (kept_by_stage (conds_of_elifs es) Yes ∙ ap (λ (t : Stage). kept_at t Yes) s) (nodes_stay ns h.1))
+
+    elifs_stay : (es : Elifs L) → ElifsUndecided es → Each Stays (elifs_so_far true es)
+    elifs_stay (first o ns) h =
+        each_both Stays (marked true (verdict_so_far [] an_if o.cond) ∷ []) (nodes_so_far (is_kept [] o.cond) ns)
+        (stays_if (verdict_so_far [] an_if o.cond) (ap (λ (c : Cond). verdict_so_far [] an_if c) h.0), tt)
+        (place_stays (is_kept [] o.cond) ns (ap (λ (c : Cond). is_kept [] c) h.0) (nodes_stay ns h.1))
+    elifs_stay (elif es o ns) h =
+        let s : stage (conds_of_elifs es) ≡ going = going_on es h.0 in
+        each_both Stays (elifs_so_far true es ++ marked true (verdict_so_far (conds_of_elifs es) an_elif o.cond) ∷ []) (nodes_so_far (is_kept (conds_of_elifs es) o.cond) ns)
+        (each_both Stays (elifs_so_far true es) (marked true (verdict_so_far (conds_of_elifs es) an_elif o.cond) ∷ []) (elifs_stay es h.0) (
+          stays_if (verdict_so_far (conds_of_elifs es) an_elif o.cond)
+              (verdict_by_stage (conds_of_elifs es) an_elif o.cond ∙ ap₂ (λ (t : Stage) (c : Cond). verdict_at t an_elif c) s h.1),
+          tt,
+        ))
+        (place_stays (is_kept (conds_of_elifs es) o.cond) ns (kept_by_stage (conds_of_elifs es) o.cond ∙ ap₂ (λ (t : Stage) (c : Cond). kept_at t c) s h.1) (nodes_stay ns h.2))
+
+  -- if nothing is decided, each line stays as it is
+  pub undecided_stay : (ns : Nodes L) → IsUndecided ns → Each Stays (marks (closed ns))
+  undecided_stay ns h = subst (Each Stays) (sym (marks_so_far_same true (closed ns))) (nodes_stay ns h)

@@ -1,0 +1,10 @@
+-- Lemmas on trees, marks, verdicts and faults.
+pub mod Growth
+pub mod Unique
+pub mod Stays
+pub mod Heights
+pub mod Soundness
+pub mod FaultStays
+pub mod Counts
+pub mod KeywordLies
+pub mod Stages

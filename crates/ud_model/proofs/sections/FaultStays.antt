@@ -1,0 +1,173 @@
+-- Fault stays: a fault of the text so far is the fault of every longer text, and the text before it is the same.
+use Rattle.std.proofs.Common.{◌≡◌, ◌≢◌, ℕ, suc, ◌≤◌, List, [], ◌∷◌, ◌++◌, length, map, Some, refl, sym, ◌∙◌, ap, ap₂, subst, append_assoc, length-append, arith}
+use Rattle.ud_model.specs.text.Lines.{Line, text_of, line_at, lines_of, whole_lines, open_rest, texts_of, numbered_from}
+use Rattle.ud_model.specs.text.Scans.{Reading}
+use Rattle.ud_model.specs.sections.Directives.{Content, cut_keyword, directive, text, content_of}
+use Rattle.ud_model.specs.conditions.Conditions.{Decision, decision_on}
+use Rattle.ud_model.specs.sections.Tree.{Item, Tree}
+use Rattle.ud_model.specs.sections.Items.{Options, rules_of, directive_item, item_by, reading_of, line_of, mode_after, read_after, next_item}
+use Rattle.ud_model.specs.sections.Faults.{Fault, Case, FaultOf, Holds, NoneHolds, earlier, fault_in, past_last, too_long, too_many_lines, line_too_long}
+use Rattle.ud_model.specs.answer.Runs.{Outcome, outcome_of, StopsAt, GoesThrough, Runs, RunsSoFar, RestBreaks, IsLimit, by_lines, by_bytes, lines_so_far, line_so_far, breaks, goes_on}
+use Rattle.ud_model.specs.answer.Runs.RunsSoFar.{stops as stops_so_far}
+use Rattle.ud_model.specs.answer.Runs.Runs.{stops}
+use Rattle.ud_model.specs.declared.kind.Kind.{Kind}
+use Rattle.ud_model.specs.declared.kind.Kind.TheVariants.{If, Ifdef, Ifndef, Elif, Else, Endif}
+use Rattle.ud_model.proofs.text.LinesLemmas.{Growth, stays_open, ends_line, grows, text_of-line_at, numbered_from-next, lines_so_far-append, lines_of-append, texts_of_grows, some_front}
+
+-- a directive's item has the line that it was read from
+pub reading_of-directive_item : (r : Reading) (k : Kind) (d : Decision) → reading_of (directive_item r k d) ≡ r
+reading_of-directive_item r If d = refl
+reading_of-directive_item r Ifdef d = refl
+reading_of-directive_item r Ifndef d = refl
+reading_of-directive_item r Elif d = refl
+reading_of-directive_item r Else d = refl
+reading_of-directive_item r Endif d = refl
+
+-- an item keeps how its line was read
+pub reading_of-item_by : (o : Options) (r : Reading) (c : Content) → reading_of (item_by o r c) ≡ r
+reading_of-item_by o r cut_keyword = refl
+reading_of-item_by o r text = refl
+reading_of-item_by o r (directive d) = reading_of-directive_item r d.kind (decision_on r.scan d o.table (rules_of o.settings))
+
+-- an item keeps its line
+pub line_of-next_item : (o : Options) (xs : List (Item Reading)) (t : Tree Reading) (l : Line) → line_of (next_item o xs t l) ≡ l
+line_of-next_item o xs t l =
+    ap (λ (r : Reading). r.line)
+    (reading_of-item_by o (read_after xs (mode_after o t) l) (content_of (read_after xs (mode_after o t) l).scan))
+
+-- a line's fault, which is that of a broken limit
+pub record LimitFault (xs : List (Item Reading)) (x : Item Reading) (f : Fault) : Type 0 where
+  pub fault : FaultOf xs x f
+  pub limit : IsLimit fault.which
+
+-- a line with the same number and at least as many bytes breaks the same limit
+pub limit_stays : (xs : List (Item Reading)) (x y : Item Reading) (f : Fault) →
+    (line_of y).number ≡ (line_of x).number → length (text_of (line_of x)) ≤ length (text_of (line_of y)) →
+    LimitFault xs x f → LimitFault xs y f
+limit_stays xs x y f same more h = by_case h.fault.which h.limit h.fault.holds h.fault.first h.fault.named
+  where
+    by_case : (c : Case) → IsLimit c → Holds xs x c → NoneHolds xs x (earlier c) → fault_in x c ≡ Some f → LimitFault xs y f
+    by_case _ by_lines holds first named = record {
+      fault = record { which = past_last; holds = omega arith; first = tt; named = ap (λ (n : ℕ). Some (too_many_lines n)) same ∙ named };
+      limit = by_lines;
+    }
+    by_case _ by_bytes holds first named = record {
+      fault = record { which = too_long; holds = omega arith; first = ((λ past. first.0 (omega arith)), tt); named = ap (λ (n : ℕ). Some (line_too_long n)) same ∙ named };
+      limit = by_bytes;
+    }
+
+-- the fault of a limit stays where the line's text goes on
+pub limit_grows : (o : Options) (xs : List (Item Reading)) (t : Tree Reading) (n : ℕ) (r x : List ℕ) (f : Fault) →
+    LimitFault xs (next_item o xs t (line_at n r)) f → LimitFault xs (next_item o xs t (line_at n (r ++ x))) f
+limit_grows o xs t n r x f h =
+    limit_stays xs (next_item o xs t (line_at n r)) (next_item o xs t (line_at n (r ++ x))) f
+    (ap (λ (l : Line). l.number) longer ∙ sym (ap (λ (l : Line). l.number) shorter))
+    (rw (bytes r, bytes (r ++ x), length-append r x) (omega arith)) h
+  where
+    shorter : line_of (next_item o xs t (line_at n r)) ≡ line_at n r
+    shorter = line_of-next_item o xs t (line_at n r)
+
+    longer : line_of (next_item o xs t (line_at n (r ++ x))) ≡ line_at n (r ++ x)
+    longer = line_of-next_item o xs t (line_at n (r ++ x))
+
+    bytes : (s : List ℕ) → length (text_of (line_of (next_item o xs t (line_at n s)))) ≡ length s
+    bytes s = ap (λ (l : Line). length (text_of l)) (line_of-next_item o xs t (line_at n s)) ∙ ap (λ (q : List ℕ). length q) (text_of-line_at n s)
+
+-- further lines behind the faulty one leave the fault
+pub stops_at-append : (o : Options) (ls ms : List Line) (xs : List (Item Reading)) (t : Tree Reading) (f : Fault) →
+    StopsAt o ls xs t f → StopsAt o (ls ++ ms) xs t f
+stops_at-append o ls ms xs t f h = record {
+  sound = h.sound;
+  faulty = h.faulty;
+  later = h.later ++ ms;
+  are = ap (λ (ks : List Line). ks ++ ms) h.are ∙ append_assoc (map line_of xs) (h.faulty ∷ h.later) ms;
+  fault = h.fault;
+}
+
+-- a line behind those that are gone through is the faulty one
+pub stops_behind : (o : Options) (ls ms : List Line) (l : Line) (xs : List (Item Reading)) (t : Tree Reading) (f : Fault) →
+    GoesThrough o ls xs t → FaultOf xs (next_item o xs t l) f → StopsAt o (ls ++ l ∷ ms) xs t f
+stops_behind o ls ms l xs t f through fault = record {
+  sound = through.sound;
+  faulty = l;
+  later = ms;
+  are = ap (λ (ks : List Line). ks ++ l ∷ ms) through.are;
+  fault = fault;
+}
+
+-- the line that the rest of the text so far begins, with more bytes behind the rest
+abbrev pub line_from : List ℕ → List ℕ → Line
+line_from given x = line_at (suc (length (whole_lines given))) (open_rest given ++ x)
+
+-- these lines begin with those so far, and with a line that the rest begins
+abbrev pub FindsLine : List ℕ → List Line → Type 0
+FindsLine given ls = (x : List ℕ) × (later : List Line) × (ls ≡ lines_so_far given ++ line_from given x ∷ later)
+
+-- the lines of a text that has ended, where the rest of the text so far begins one
+pub lines_of-rest : (given more : List ℕ) → open_rest given ≢ [] → FindsLine given (lines_of (given ++ more))
+lines_of-rest given more some = by_texts (texts_of_grows given more some)
+  where
+    by_texts : (x : List ℕ) × (later : List (List ℕ)) × (texts_of (given ++ more) ≡ whole_lines given ++ (open_rest given ++ x) ∷ later) →
+        FindsLine given (lines_of (given ++ more))
+    by_texts (x, later, e) = (
+      x,
+      numbered_from (suc (suc (length (whole_lines given)))) later,
+      ap (numbered_from 1) e ∙ numbered_from-next (whole_lines given) (open_rest given ++ x) later,
+    )
+
+-- the fault of a limit that the rest breaks is that of each line that the rest begins
+pub rest_stays : (o : Options) (given x : List ℕ) (xs : List (Item Reading)) (t : Tree Reading) (f : Fault) →
+    RestBreaks o given xs t f → LimitFault xs (next_item o xs t (line_from given x)) f
+rest_stays o given x xs t f h =
+    limit_grows o xs t (suc (length (whole_lines given))) (open_rest given) x f (record { fault = h.fault; limit = h.limit })
+
+-- a broken limit stays one when the text ends
+pub limit_ends : (o : Options) (given more : List ℕ) (xs : List (Item Reading)) (t : Tree Reading) (f : Fault) →
+    GoesThrough o (lines_so_far given) xs t → RestBreaks o given xs t f → StopsAt o (lines_of (given ++ more)) xs t f
+limit_ends o given more xs t f through h = by_lines_of (lines_of-rest given more h.some)
+  where
+    by_lines_of : FindsLine given (lines_of (given ++ more)) → StopsAt o (lines_of (given ++ more)) xs t f
+    by_lines_of (x, later, e) =
+        subst (λ (ls : List Line). StopsAt o ls xs t f) (sym e)
+        (stops_behind o (lines_so_far given) later (line_from given x) xs t f through (rest_stays o given x xs t f h).fault)
+
+-- a broken limit stays one when the text goes on
+pub limit_goes_on : (o : Options) (given more : List ℕ) (xs : List (Item Reading)) (t : Tree Reading) (f : Fault) →
+    GoesThrough o (lines_so_far given) xs t → RestBreaks o given xs t f → RunsSoFar o (given ++ more) (outcome_of o.settings xs t (Some f))
+limit_goes_on o given more xs t f through h = by_growth (grows given more)
+  where
+    by_growth : Growth given more → RunsSoFar o (given ++ more) (outcome_of o.settings xs t (Some f))
+    by_growth (ends_line x later e) =
+        stops_so_far xs t f
+        (subst (λ (ls : List Line). StopsAt o ls xs t f)
+        (sym (ap (numbered_from 1) e ∙ numbered_from-next (whole_lines given) (open_rest given ++ x) later))
+        (stops_behind o (lines_so_far given) (numbered_from (suc (suc (length (whole_lines given)))) later) (line_from given x) xs t f through
+        (rest_stays o given x xs t f h).fault))
+    by_growth (stays_open e r) =
+        breaks xs t f
+        (record { sound = through.sound; are = ap (numbered_from 1) e ∙ through.are })
+        (record {
+          some = λ none. some_front (open_rest given) more h.some (sym r ∙ none);
+          fault = still.fault;
+          limit = still.limit;
+        })
+      where
+        still : LimitFault xs (next_item o xs t (line_so_far (given ++ more))) f
+        still =
+            subst (λ (l : Line). LimitFault xs (next_item o xs t l) f)
+            (sym (ap₂ (λ (ls : List (List ℕ)) (x : List ℕ). line_at (suc (length ls)) x) e r)) (rest_stays o given more xs t f h)
+
+-- what is a fault so far stays one, and the text before it stays, whether the text goes on or ends
+pub fault_stays : (o : Options) (given more : List ℕ) (r : Outcome) → RunsSoFar o given r → (f : Fault) → r.fault ≡ Some f →
+    RunsSoFar o (given ++ more) r × Runs o (given ++ more) r
+fault_stays o given more _ (stops_so_far xs t g h) f is = (
+  stops_so_far xs t g
+      (subst (λ (ls : List Line). StopsAt o ls xs t g) (sym (lines_so_far-append given more).1)
+      (stops_at-append o (lines_so_far given) (lines_so_far-append given more).0 xs t g h)),
+  stops xs t g
+      (subst (λ (ls : List Line). StopsAt o ls xs t g) (sym (lines_of-append given more).1)
+      (stops_at-append o (lines_so_far given) (lines_of-append given more).0 xs t g h)),
+)
+fault_stays o given more _ (breaks xs t g through h) f is =
+    (limit_goes_on o given more xs t g through h, stops xs t g (limit_ends o given more xs t g through h))
+fault_stays o given more _ (goes_on xs t through none) f is = cc

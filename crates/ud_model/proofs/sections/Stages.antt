@@ -1,0 +1,137 @@
+-- Stages: how far a section in a kept place has come, by the conditions of its groups so far.
+use Rattle.std.proofs.Common.{◌≡◌, List, [], ◌∷◌, ◌++◌, Bool, false, not, if◌then◌else◌, refl}
+use Rattle.std.proofs.Math.Bool.{and-false, and-true}
+use Rattle.ud_model.specs.declared.cond.Cond.{Cond}
+use Rattle.ud_model.specs.declared.cond.Cond.TheVariants.{Yes, No, Unknown}
+use Rattle.ud_model.specs.declared.verdict.Verdict.{Verdict}
+use Rattle.ud_model.specs.declared.verdict.Verdict.TheVariants.{Keep, Remove, ToEndif}
+use Rattle.ud_model.specs.sections.Pruning.{Part, any_true, ends_with_first_true, is_false, is_kept, first_kept_verdict, later_verdict, endif_verdict}
+use Rattle.ud_model.specs.aids.SoFar.{verdict_so_far}
+
+pub data Stage : Type 0 where
+  -- no group is kept so far
+  leading : Stage
+  -- the first kept group is true
+  given : Stage
+  -- some group is kept, and none is true
+  going : Stage
+  -- the last group is the first true one, and some group before it is kept
+  at_true : Stage
+  -- an opener has come after that one
+  past : Stage
+
+-- the stage after further groups, if some group before them is kept and none is true
+abbrev pub stage_inside : List Cond → Stage
+stage_inside [] = going
+stage_inside (Yes ∷ []) = at_true
+stage_inside (Yes ∷ c ∷ cs) = past
+stage_inside (No ∷ cs) = stage_inside cs
+stage_inside (Unknown ∷ cs) = stage_inside cs
+
+-- the stage after groups with these conditions
+abbrev pub stage : List Cond → Stage
+stage [] = leading
+stage (Yes ∷ cs) = given
+stage (No ∷ cs) = stage cs
+stage (Unknown ∷ cs) = stage_inside cs
+
+-- the stage with a group more
+abbrev pub next_stage : Stage → Cond → Stage
+next_stage leading Yes = given
+next_stage leading No = leading
+next_stage leading Unknown = going
+next_stage given c = given
+next_stage going Yes = at_true
+next_stage going No = going
+next_stage going Unknown = going
+next_stage at_true c = past
+next_stage past c = past
+
+-- the verdict of an opener at this stage
+abbrev pub verdict_at : Stage → Part → Cond → Verdict
+verdict_at leading part Yes = Remove
+verdict_at leading part No = Remove
+verdict_at leading part Unknown = first_kept_verdict part
+verdict_at given part c = Remove
+verdict_at going part c = later_verdict part c
+verdict_at at_true part c = ToEndif
+verdict_at past part c = Remove
+
+-- its group is kept
+abbrev pub kept_at : Stage → Cond → Bool
+kept_at leading c = not (is_false c)
+kept_at given c = false
+kept_at going c = not (is_false c)
+kept_at at_true c = false
+kept_at past c = false
+
+-- the verdict of the `#endif` at this stage
+abbrev pub endif_at : Stage → Verdict
+endif_at leading = Remove
+endif_at given = Remove
+endif_at going = Keep
+endif_at at_true = Keep
+endif_at past = Remove
+
+inside_verdict : (cs : List Cond) (part : Part) (c : Cond) →
+    (if not (any_true cs) then later_verdict part c else if ends_with_first_true cs then ToEndif else Remove) ≡ verdict_at (stage_inside cs) part c
+inside_verdict [] part c = refl
+inside_verdict (Yes ∷ []) part c = refl
+inside_verdict (Yes ∷ d ∷ cs) part c = refl
+inside_verdict (No ∷ cs) part c = inside_verdict cs part c
+inside_verdict (Unknown ∷ cs) part c = inside_verdict cs part c
+
+-- the table by stages: an opener
+pub verdict_by_stage : (cs : List Cond) (part : Part) (c : Cond) → verdict_so_far cs part c ≡ verdict_at (stage cs) part c
+verdict_by_stage [] part Yes = refl
+verdict_by_stage [] part No = refl
+verdict_by_stage [] part Unknown = refl
+verdict_by_stage (Yes ∷ cs) part c = refl
+verdict_by_stage (No ∷ cs) part c = verdict_by_stage cs part c
+verdict_by_stage (Unknown ∷ cs) part c = inside_verdict cs part c
+
+inside_kept : (cs : List Cond) (c : Cond) → is_kept cs c ≡ kept_at (stage_inside cs) c
+inside_kept [] c = and-true (not (is_false c))
+inside_kept (Yes ∷ []) c = and-false (not (is_false c))
+inside_kept (Yes ∷ d ∷ cs) c = and-false (not (is_false c))
+inside_kept (No ∷ cs) c = inside_kept cs c
+inside_kept (Unknown ∷ cs) c = inside_kept cs c
+
+-- its group
+pub kept_by_stage : (cs : List Cond) (c : Cond) → is_kept cs c ≡ kept_at (stage cs) c
+kept_by_stage [] c = and-true (not (is_false c))
+kept_by_stage (Yes ∷ cs) c = and-false (not (is_false c))
+kept_by_stage (No ∷ cs) c = kept_by_stage cs c
+kept_by_stage (Unknown ∷ cs) c = inside_kept cs c
+
+inside_next : (cs : List Cond) (c : Cond) → stage_inside (cs ++ c ∷ []) ≡ next_stage (stage_inside cs) c
+inside_next [] Yes = refl
+inside_next [] No = refl
+inside_next [] Unknown = refl
+inside_next (Yes ∷ []) c = refl
+inside_next (Yes ∷ d ∷ cs) c = refl
+inside_next (No ∷ cs) c = inside_next cs c
+inside_next (Unknown ∷ cs) c = inside_next cs c
+
+-- a group more
+pub stage_next : (cs : List Cond) (c : Cond) → stage (cs ++ c ∷ []) ≡ next_stage (stage cs) c
+stage_next [] Yes = refl
+stage_next [] No = refl
+stage_next [] Unknown = refl
+stage_next (Yes ∷ cs) c = refl
+stage_next (No ∷ cs) c = stage_next cs c
+stage_next (Unknown ∷ cs) c = inside_next cs c
+
+inside_endif : (cs : List Cond) → (if not (any_true cs) then Keep else if ends_with_first_true cs then Keep else Remove) ≡ endif_at (stage_inside cs)
+inside_endif [] = refl
+inside_endif (Yes ∷ []) = refl
+inside_endif (Yes ∷ d ∷ cs) = refl
+inside_endif (No ∷ cs) = inside_endif cs
+inside_endif (Unknown ∷ cs) = inside_endif cs
+
+-- the `#endif`
+pub endif_by_stage : (cs : List Cond) → endif_verdict cs ≡ endif_at (stage cs)
+endif_by_stage [] = refl
+endif_by_stage (Yes ∷ cs) = refl
+endif_by_stage (No ∷ cs) = endif_by_stage cs
+endif_by_stage (Unknown ∷ cs) = inside_endif cs

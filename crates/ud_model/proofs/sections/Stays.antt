@@ -1,0 +1,110 @@
+-- Stays: a line's mark is the same in every longer text, since no later group's condition changes an opener's verdict.
+use Rattle.std.proofs.Common.{◌≡◌, List, [], ◌∷◌, ◌++◌, length, Bool, true, false, ◌&&◌, if◌then◌else◌, refl, sym, ◌∙◌, append_assoc, append-nil, subst, length-append}
+use Rattle.ud_model.specs.declared.cond.Cond.{Cond}
+use Rattle.ud_model.specs.declared.cond.Cond.TheVariants.{Yes, No, Unknown}
+use Rattle.ud_model.specs.declared.verdict.Verdict.TheVariants.{Keep, Remove}
+use Rattle.ud_model.specs.sections.Tree.{Item, Nodes, Groups, Elifs, Head, Tree, nothing, text, section, conditional, otherwise, first, elif, if_head, elif_head, else_head, closed, open_section, lines}
+use Rattle.ud_model.specs.sections.Pruning.{Part, an_if, an_elif, an_else, Mark, marked, is_kept, is_inside_kept, gives_way, opener_verdict, endif_verdict, conds_of_elifs, conds_of_groups, conds_of_head, marks_of_nodes, marks_of_groups, marks_of_elifs, marks_of_head, marks_in, marks}
+use Rattle.ud_model.specs.aids.SoFar.{verdict_so_far, nodes_so_far, groups_so_far, elifs_so_far, head_so_far, marks_so_far}
+use Rattle.ud_model.proofs.text.Pushes.{ByPush, none, push, by_push}
+use Rattle.ud_model.proofs.sections.Growth.{Adds, adds_text, adds_if, elif_after_if, elif_after_elif, else_after_if, else_after_elif, adds_endif, adds_under, complete}
+use Rattle.ud_model.proofs.sections.Unique.{unique, tree_before}
+
+removed_either_way : (b : Bool) → (if b then Remove else Remove) ≡ Remove
+removed_either_way true = refl
+removed_either_way false = refl
+
+-- the conditions of later groups change no opener's verdict
+pub table_so_far : (before later : List Cond) (part : Part) (c : Cond) →
+    opener_verdict (before ++ c ∷ later) before part c ≡ opener_verdict (before ++ c ∷ []) before part c
+table_so_far [] later part Yes = refl
+table_so_far [] later part No = removed_either_way (gives_way later)
+table_so_far [] later part Unknown = refl
+table_so_far (Yes ∷ bs) later part c = refl
+table_so_far (No ∷ bs) later part c = table_so_far bs later part c
+table_so_far (Unknown ∷ bs) later part c = refl
+
+module _ {L : Type 0} where
+  mutual
+    nodes_same : (kept : Bool) (ns : Nodes L) → marks_of_nodes kept ns ≡ nodes_so_far kept ns
+    nodes_same kept nothing = refl
+    nodes_same kept (text ns l) = rw (nodes_same kept ns)
+    nodes_same kept (section ns gs e) = rw (nodes_same kept ns, groups_same kept gs)
+
+    groups_same : (kept : Bool) (gs : Groups L) → marks_of_groups kept (conds_of_groups gs) gs ≡ groups_so_far kept gs
+    groups_same kept (conditional es) = subst (λ cs. marks_of_elifs kept cs es ≡ elifs_so_far kept es) (append-nil (conds_of_elifs es)) (elifs_same kept es [])
+    groups_same kept (otherwise es l ns) =
+        rw (elifs_same kept es (Yes ∷ []), nodes_same (kept && is_kept (conds_of_elifs es) Yes) ns)
+
+    elifs_same : (kept : Bool) (es : Elifs L) (later : List Cond) → marks_of_elifs kept (conds_of_elifs es ++ later) es ≡ elifs_so_far kept es
+    elifs_same kept (first o ns) later =
+        rw (table_so_far [] later an_if o.cond, nodes_same (kept && is_kept [] o.cond) ns)
+    elifs_same kept (elif es o ns) later =
+        rw (
+          append_assoc (conds_of_elifs es) (o.cond ∷ []) later,
+          elifs_same kept es (o.cond ∷ later),
+          table_so_far (conds_of_elifs es) later an_elif o.cond,
+          nodes_same (kept && is_kept (conds_of_elifs es) o.cond) ns,
+        )
+
+  head_same : (kept : Bool) (h : Head L) → marks_of_head kept (conds_of_head h) h ≡ head_so_far kept h
+  head_same kept (if_head o) = refl
+  head_same kept (elif_head es o) = rw (elifs_same kept es (o.cond ∷ []))
+  head_same kept (else_head es l) = rw (elifs_same kept es (Yes ∷ []))
+
+  -- the marks by the table over the whole section are those by the groups so far
+  pub marks_so_far_same : (kept : Bool) (t : Tree L) → marks_in kept t ≡ marks_so_far kept t
+  marks_so_far_same kept (closed ns) = nodes_same kept ns
+  marks_so_far_same kept (open_section ns h t) =
+      rw (nodes_same kept ns, head_same kept h, marks_so_far_same (kept && is_inside_kept h) t)
+
+  pub groups_so_far-complete : (kept : Bool) (h : Head L) (b : Nodes L) →
+      groups_so_far kept (complete h b) ≡ head_so_far kept h ++ nodes_so_far (kept && is_inside_kept h) b
+  groups_so_far-complete kept (if_head o) b = refl
+  groups_so_far-complete kept (elif_head es o) b = refl
+  groups_so_far-complete kept (else_head es l) b = refl
+
+  -- a line more gives a mark more
+  pub marks_add : (kept : Bool) {t u : Tree L} {x : Item L} → Adds t x u → (m : Mark) × (marks_so_far kept u ≡ marks_so_far kept t ++ m ∷ [])
+  marks_add kept adds_text = (marked kept Keep, refl)
+  marks_add kept (adds_if {o = o}) = (marked kept (verdict_so_far [] an_if o.cond), simp append-nil)
+  marks_add kept (elif_after_if {o = o} {p = p}) = (marked kept (verdict_so_far (o.cond ∷ []) an_elif p.cond), simp (append-nil, append_assoc))
+  marks_add kept (elif_after_elif {es = es} {o = o} {p = p}) =
+      (marked kept (verdict_so_far (conds_of_elifs es ++ o.cond ∷ []) an_elif p.cond), simp (append-nil, append_assoc))
+  marks_add kept (else_after_if {o = o}) = (marked kept (verdict_so_far (o.cond ∷ []) an_else Yes), simp (append-nil, append_assoc))
+  marks_add kept (else_after_elif {es = es} {o = o}) =
+      (marked kept (verdict_so_far (conds_of_elifs es ++ o.cond ∷ []) an_else Yes), simp (append-nil, append_assoc))
+  marks_add kept (adds_endif {ns = ns} {b = b} {h = h}) =
+      (marked kept (endif_verdict (conds_of_groups (complete h b))), rw (groups_so_far-complete kept h b) simp append_assoc)
+  marks_add kept (adds_under {ns = ns} {h = h} {t = t} {u = u} a) =
+      let m : (m : Mark) × (marks_so_far (kept && is_inside_kept h) u ≡ marks_so_far (kept && is_inside_kept h) t ++ m ∷ []) = marks_add (kept && is_inside_kept h) a in
+      (m.0, rw m.1 simp append_assoc)
+
+  length_by : {xs : List (Item L)} → ByPush xs → (kept : Bool) (t : Tree L) → lines t ≡ xs → length (marks_so_far kept t) ≡ length xs
+  length_by none kept t e = rw (unique t (closed nothing) e)
+  length_by (push {xs = xs} x p) kept t e =
+      let b : (v : Tree L) × (lines v ≡ xs) × Adds v x t = tree_before xs x t e in
+      let m : (m : Mark) × (marks_so_far kept t ≡ marks_so_far kept b.0 ++ m ∷ []) = marks_add kept b.2 in
+      rw (m.1, length-append (marks_so_far kept b.0) (m.0 ∷ []), length-append xs (x ∷ []), length_by p kept b.0 b.1)
+
+  -- each line has one mark
+  pub length_marks : (kept : Bool) (t : Tree L) → length (marks_in kept t) ≡ length (lines t)
+  length_marks kept t = rw (marks_so_far_same kept t) (length_by (by_push (lines t)) kept t refl)
+
+  stay_by : {more : List (Item L)} → ByPush more → (kept : Bool) (t u : Tree L) → lines u ≡ lines t ++ more →
+      (rest : List Mark) × (marks_so_far kept u ≡ marks_so_far kept t ++ rest)
+  stay_by none kept t u e = ([], rw (unique u t (e ∙ append-nil (lines t))) (sym (append-nil (marks_so_far kept t))))
+  stay_by (push {xs = ys} y p) kept t u e =
+      let b : (v : Tree L) × (lines v ≡ lines t ++ ys) × Adds v y u =
+      tree_before (lines t ++ ys) y u (e ∙ sym (append_assoc (lines t) ys (y ∷ []))) in
+      let m : (m : Mark) × (marks_so_far kept u ≡ marks_so_far kept b.0 ++ m ∷ []) = marks_add kept b.2 in
+      let r : (rest : List Mark) × (marks_so_far kept b.0 ≡ marks_so_far kept t ++ rest) = stay_by p kept t b.0 b.1 in
+      (r.0 ++ m.0 ∷ [], rw (m.1, r.1) (append_assoc (marks_so_far kept t) r.0 (m.0 ∷ [])))
+
+  -- the marks of a longer text begin with those of the text
+  pub marks_stay : (t u : Tree L) (more : List (Item L)) → lines u ≡ lines t ++ more → (rest : List Mark) × (marks u ≡ marks t ++ rest)
+  marks_stay t u more e = rw (marks_so_far_same true t, marks_so_far_same true u) (stay_by (by_push more) true t u e)
+
+  -- a line more gives a mark more
+  pub marks_more : {t u : Tree L} {x : Item L} → Adds t x u → (m : Mark) × (marks u ≡ marks t ++ m ∷ [])
+  marks_more {t = t} {u = u} a = rw (marks_so_far_same true t, marks_so_far_same true u) (marks_add true a)

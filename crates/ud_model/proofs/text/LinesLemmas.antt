@@ -1,0 +1,299 @@
+-- Lines: the lemmas on the cut of a text into its lines, and on the lines of a longer text.
+use Rattle.std.proofs.Common.{◌≡◌, ◌≢◌, ℕ, suc, ◌+◌, ◌-◌, List, [], ◌∷◌, ◌++◌, length, take, map, ◌⊎◌, inl, inr, refl, sym, ◌∙◌, ap, ap₂, subst, append_assoc, append-nil, take_all, ne_eqb, nat_eq, Bool, true, false, if◌then◌else◌, arith}
+use Rattle.std.specs.List.{concat, ends_with}
+use Rattle.std.proofs.lemmas.List.Folds.{concat-append}
+use Rattle.std.proofs.lemmas.Bool.{cases_eq}
+use Rattle.std.proofs.lemmas.Bool.Decides.{Decides-eqb}
+use Rattle.std.proofs.lemmas.Slice.Eq.{ends_is}
+use Rattle.ud_model.specs.text.Lines.{NoFeed, IsWhole, AreFormed, AreLines, Parts, put, put_on, parts_of, whole_lines, open_rest, last_line, texts_of, ending_of, Line, text_of, line_at, numbered_from, lines_of}
+
+-- a byte that isn't a line feed goes in front of the first part
+pub put-other : (b : ℕ) (p : Parts) → b ≢ 10 → put b p ≡ put_on b p.whole p.rest
+put-other b p other = rw (ne_eqb b 10 other) refl
+
+-- each of these lines is whole
+abbrev pub AreWhole : List (List ℕ) → Type 0
+AreWhole [] = Unit {0}
+AreWhole (l ∷ ls) = IsWhole l × AreWhole ls
+
+-- a rest that isn't empty is a line of its own
+pub last_line-some : (r : List ℕ) → r ≢ [] → last_line r ≡ r ∷ []
+last_line-some [] some = absurd (some refl)
+last_line-some (b ∷ bs) some = refl
+
+-- a text with a front that isn't empty isn't empty
+pub some_front : (p q : List ℕ) → p ≢ [] → p ++ q ≢ []
+some_front [] q some e = some refl
+some_front (b ∷ bs) q some e = cc
+
+-- the rest as a line joined is the rest
+pub concat-last_line : (r : List ℕ) → concat (last_line r) ≡ r
+concat-last_line [] = refl
+concat-last_line (b ∷ bs) = append-nil (b ∷ bs)
+
+-- no line feed stands in two texts, so none stands in both joined
+pub no_feed-append : (p q : List ℕ) → NoFeed p → NoFeed q → NoFeed (p ++ q)
+no_feed-append [] q hp hq = hq
+no_feed-append (b ∷ bs) q hp hq = (hp.0, no_feed-append bs q hp.1 hq)
+
+-- the parts of a text without a line feed: it is all rest
+pub parts_of-open : (p : List ℕ) → NoFeed p → parts_of p ≡ record { whole = []; rest = p }
+unfolding parts_of
+parts_of-open [] h = refl
+parts_of-open (b ∷ bs) h =
+    put-other b (parts_of bs) h.0 ∙ ap (λ (q : Parts). put_on b q.whole q.rest) (parts_of-open bs h.1)
+
+-- up to the first line feed a text is its first line
+pub parts_of-front : (p t : List ℕ) → NoFeed p →
+    parts_of (p ++ 10 ∷ t) ≡ record { whole = (p ++ 10 ∷ []) ∷ whole_lines t; rest = open_rest t }
+unfolding parts_of
+parts_of-front [] t h = refl
+parts_of-front (b ∷ bs) t h =
+    put-other b (parts_of (bs ++ 10 ∷ t)) h.0 ∙ ap (λ (q : Parts). put_on b q.whole q.rest) (parts_of-front bs t h.1)
+
+-- a whole line in front of a text is its first line
+pub parts_of-line-front : (l t : List ℕ) → IsWhole l → parts_of (l ++ t) ≡ record { whole = l ∷ whole_lines t; rest = open_rest t }
+parts_of-line-front l t (front, none, is) =
+    subst (λ (m : List ℕ). parts_of (m ++ t) ≡ record { whole = m ∷ whole_lines t; rest = open_rest t }) (sym is)
+    (ap parts_of (append_assoc front (10 ∷ []) t) ∙ parts_of-front front t none)
+
+-- the parts of a text that goes on from these parts
+abbrev pub going_on : Parts → List ℕ → Parts
+going_on q s = record { whole = q.whole ++ whole_lines (q.rest ++ s); rest = open_rest (q.rest ++ s) }
+
+-- a byte in front of a text goes in front of the text that goes on
+pub put-going_on : (b : ℕ) (q : Parts) (s : List ℕ) → (b ≡ 10) ⊎ (b ≢ 10) → put b (going_on q s) ≡ going_on (put b q) s
+unfolding parts_of
+put-going_on b q s (inl e) = subst (λ (n : ℕ). put n (going_on q s) ≡ going_on (put n q) s) (sym e) refl
+put-going_on b q s (inr other) =
+    put-other b (going_on q s) other ∙ by_whole q.whole q.rest ∙ ap (λ (x : Parts). going_on x s) (sym (put-other b q other))
+  where
+    by_whole : (ls : List (List ℕ)) (r : List ℕ) →
+        put_on b (ls ++ whole_lines (r ++ s)) (open_rest (r ++ s)) ≡ going_on (put_on b ls r) s
+    by_whole [] r = sym (put-other b (parts_of (r ++ s)) other)
+    by_whole (l ∷ ls) r = refl
+
+-- the parts of two texts joined: the second goes on from the rest of the first
+pub parts_of-append : (t s : List ℕ) → parts_of (t ++ s) ≡ going_on (parts_of t) s
+unfolding parts_of
+parts_of-append [] s = refl
+parts_of-append (b ∷ bs) s = ap (put b) (parts_of-append bs s) ∙ put-going_on b (parts_of bs) s (cases_eq b 10)
+
+-- a line feed stands in no rest, and each whole line ends with its only one
+pub record AreParts (text : List ℕ) (q : Parts) : Type 0 where
+  pub joined : text ≡ concat q.whole ++ q.rest
+  pub whole : AreWhole q.whole
+  pub feedless : NoFeed q.rest
+
+-- put in front of parts of a text, a byte gives parts of the text with the byte in front
+pub put_parts : (b : ℕ) (bs : List ℕ) (q : Parts) → (b ≡ 10) ⊎ (b ≢ 10) → AreParts bs q → AreParts (b ∷ bs) (put b q)
+put_parts b bs q (inl e) h =
+    subst (λ (n : ℕ). AreParts (n ∷ bs) (put n q)) (sym e)
+    (record { joined = ap (λ (x : List ℕ). 10 ∷ x) h.joined; whole = (([], tt, refl), h.whole); feedless = h.feedless })
+put_parts b bs q (inr other) h =
+    subst (AreParts (b ∷ bs)) (sym (put-other b q other)) (by_whole q.whole q.rest h.joined h.whole h.feedless)
+  where
+    by_whole : (ls : List (List ℕ)) (r : List ℕ) → bs ≡ concat ls ++ r → AreWhole ls → NoFeed r → AreParts (b ∷ bs) (put_on b ls r)
+    by_whole [] r joined whole feedless = record { joined = ap (λ (x : List ℕ). b ∷ x) joined; whole = tt; feedless = (other, feedless) }
+    by_whole (l ∷ ls) r joined whole feedless = record {
+      joined = ap (λ (x : List ℕ). b ∷ x) joined;
+      whole = ((b ∷ whole.0.0, (other, whole.0.1), ap (λ (x : List ℕ). b ∷ x) whole.0.2), whole.1);
+      feedless = feedless;
+    }
+
+-- the parts of a text are parts of it
+pub parts_of-are : (t : List ℕ) → AreParts t (parts_of t)
+unfolding parts_of
+parts_of-are [] = record { joined = refl; whole = tt; feedless = tt }
+parts_of-are (b ∷ bs) = put_parts b bs (parts_of bs) (cases_eq b 10) (parts_of-are bs)
+
+-- a text is its whole lines and its rest
+pub parts_joined : (t : List ℕ) → t ≡ concat (whole_lines t) ++ open_rest t
+parts_joined t = (parts_of-are t).joined
+
+-- each of the whole lines is whole
+pub are_whole : (t : List ℕ) → AreWhole (whole_lines t)
+are_whole t = (parts_of-are t).whole
+
+-- no line feed stands behind the last one
+pub open_rest-open : (t : List ℕ) → NoFeed (open_rest t)
+open_rest-open t = (parts_of-are t).feedless
+
+-- bytes without a line feed go to the rest
+pub parts_of-append-open : (t p : List ℕ) → NoFeed p → parts_of (t ++ p) ≡ record { whole = whole_lines t; rest = open_rest t ++ p }
+parts_of-append-open t p h =
+    parts_of-append t p ∙ ap (λ (q : Parts). record { whole = whole_lines t ++ q.whole; rest = q.rest })
+    (parts_of-open (open_rest t ++ p) (no_feed-append (open_rest t) p (open_rest-open t) h))
+    ∙ ap (λ (ls : List (List ℕ)). record { whole = ls; rest = open_rest t ++ p }) (append-nil (whole_lines t))
+
+-- a line feed ends the line that the rest begins
+pub parts_of-append-line : (t p : List ℕ) → NoFeed p →
+    parts_of (t ++ (p ++ 10 ∷ [])) ≡ record { whole = whole_lines t ++ (open_rest t ++ (p ++ 10 ∷ [])) ∷ []; rest = [] }
+unfolding parts_of
+parts_of-append-line t p h =
+    parts_of-append t (p ++ 10 ∷ []) ∙ ap (λ (q : Parts). record { whole = whole_lines t ++ q.whole; rest = q.rest }) line
+  where
+    line : parts_of (open_rest t ++ (p ++ 10 ∷ [])) ≡ record { whole = (open_rest t ++ (p ++ 10 ∷ [])) ∷ []; rest = [] }
+    line =
+        subst (λ (x : List ℕ). parts_of x ≡ record { whole = x ∷ []; rest = [] }) (append_assoc (open_rest t) p (10 ∷ []))
+        (parts_of-front (open_rest t ++ p) [] (no_feed-append (open_rest t) p (open_rest-open t) h))
+
+-- the whole lines of a longer text begin with those of the text, and their rest is that of the text's rest
+pub whole_grows : (t more : List ℕ) → (later : List (List ℕ)) × (whole_lines (t ++ more) ≡ whole_lines t ++ later)
+whole_grows t more = (whole_lines (open_rest t ++ more), ap (λ (q : Parts). q.whole) (parts_of-append t more))
+
+-- these are the parts of a text that goes on from this rest: the rest still stands, or a whole line begins with it
+pub data GoesOn (r more : List ℕ) : Parts → Type 0 where
+  still_open : GoesOn r more (record { whole = []; rest = r ++ more })
+  made_whole : (x : List ℕ) (ls : List (List ℕ)) (rest : List ℕ) → GoesOn r more (record { whole = (r ++ x) ∷ ls; rest = rest })
+
+-- the parts of a rest that goes on
+pub rest_goes_on : (r more : List ℕ) → NoFeed r → GoesOn r more (parts_of (r ++ more))
+unfolding parts_of
+rest_goes_on [] more h = by_whole (whole_lines more) (open_rest more) (parts_joined more)
+  where
+    by_whole : (ls : List (List ℕ)) (r : List ℕ) → more ≡ concat ls ++ r → GoesOn [] more (record { whole = ls; rest = r })
+    by_whole [] r e = subst (λ (x : List ℕ). GoesOn [] more (record { whole = []; rest = x })) e still_open
+    by_whole (l ∷ ls) r e = made_whole l ls r
+rest_goes_on (b ∷ r) more h =
+    subst (GoesOn (b ∷ r) more) (sym (put-other b (parts_of (r ++ more)) h.0)) (put_in (parts_of (r ++ more)) (rest_goes_on r more h.1))
+  where
+    put_in : (q : Parts) → GoesOn r more q → GoesOn (b ∷ r) more (put_on b q.whole q.rest)
+    put_in _ still_open = still_open
+    put_in _ (made_whole x ls rest) = made_whole x ls rest
+
+-- a text that goes on: its rest still stands, longer, or a whole line begins with it
+pub data Growth (t more : List ℕ) : Type 0 where
+  stays_open : whole_lines (t ++ more) ≡ whole_lines t → open_rest (t ++ more) ≡ open_rest t ++ more → Growth t more
+  ends_line : (x : List ℕ) (later : List (List ℕ)) → whole_lines (t ++ more) ≡ whole_lines t ++ (open_rest t ++ x) ∷ later → Growth t more
+
+-- what becomes of the rest of a text that goes on
+pub grows : (t more : List ℕ) → Growth t more
+grows t more = by_parts (parts_of (open_rest t ++ more)) (parts_of-append t more) (rest_goes_on (open_rest t) more (open_rest-open t))
+  where
+    by_parts : (q : Parts) → parts_of (t ++ more) ≡ record { whole = whole_lines t ++ q.whole; rest = q.rest } →
+        GoesOn (open_rest t) more q → Growth t more
+    by_parts _ e still_open =
+        stays_open (ap (λ (p : Parts). p.whole) e ∙ append-nil (whole_lines t)) (ap (λ (p : Parts). p.rest) e)
+    by_parts _ e (made_whole x ls rest) = ends_line x ls (ap (λ (p : Parts). p.whole) e)
+
+-- where a text has a rest, one of the lines of a longer text begins with it
+pub texts_of_grows : (t more : List ℕ) → open_rest t ≢ [] →
+    (x : List ℕ) × (later : List (List ℕ)) × (texts_of (t ++ more) ≡ whole_lines t ++ (open_rest t ++ x) ∷ later)
+texts_of_grows t more some = by_growth (grows t more)
+  where
+    by_growth : Growth t more →
+        (x : List ℕ) × (later : List (List ℕ)) × (texts_of (t ++ more) ≡ whole_lines t ++ (open_rest t ++ x) ∷ later)
+    by_growth (stays_open e r) = (
+      more,
+      [],
+      ap₂ (λ (ls : List (List ℕ)) (x : List ℕ). ls ++ last_line x) e r
+          ∙ ap (λ (ls : List (List ℕ)). whole_lines t ++ ls) (last_line-some (open_rest t ++ more) (some_front (open_rest t) more some)),
+    )
+    by_growth (ends_line x later e) = (
+      x,
+      later ++ last_line (open_rest (t ++ more)),
+      ap (λ (ls : List (List ℕ)). ls ++ last_line (open_rest (t ++ more))) e
+          ∙ append_assoc (whole_lines t) ((open_rest t ++ x) ∷ later) (last_line (open_rest (t ++ more))),
+    )
+
+-- whole lines stay lines when the text goes on or ends
+pub texts_of-whole : (t more : List ℕ) → (later : List (List ℕ)) × (texts_of (t ++ more) ≡ whole_lines t ++ later)
+texts_of-whole t more = (
+  whole_lines (open_rest t ++ more) ++ last_line (open_rest (t ++ more)),
+  ap (λ (ls : List (List ℕ)). ls ++ last_line (open_rest (t ++ more))) (ap (λ (q : Parts). q.whole) (parts_of-append t more))
+      ∙ append_assoc (whole_lines t) (whole_lines (open_rest t ++ more)) (last_line (open_rest (t ++ more))),
+)
+
+-- whole lines and a last one without a line feed are formed
+pub formed : (ls : List (List ℕ)) (r : List ℕ) → AreWhole ls → NoFeed r → AreFormed (ls ++ last_line r)
+formed [] [] whole h = tt
+formed [] (b ∷ bs) whole h = inr ((λ e. cc), h)
+formed (l ∷ []) [] whole h = inl whole.0
+formed (l ∷ []) (b ∷ bs) whole h = (whole.0, formed [] (b ∷ bs) tt h)
+formed (l ∷ m ∷ ls) r whole h = (whole.0, formed (m ∷ ls) r whole.1 h)
+
+-- a text has lines
+pub lines_exist : (t : List ℕ) → AreLines t (texts_of t)
+lines_exist t = record {
+  joined = parts_joined t ∙ ap (λ (r : List ℕ). concat (whole_lines t) ++ r) (sym (concat-last_line (open_rest t)))
+      ∙ sym (concat-append (whole_lines t) (last_line (open_rest t)));
+  formed = formed (whole_lines t) (open_rest t) (are_whole t) (open_rest-open t);
+}
+
+-- formed lines are the lines of the text that they are joined
+pub texts_of-formed : (ls : List (List ℕ)) → AreFormed ls → ls ≡ texts_of (concat ls)
+unfolding parts_of
+texts_of-formed [] h = refl
+texts_of-formed (l ∷ []) (inl whole) =
+    sym (ap (λ (q : Parts). q.whole ++ last_line q.rest) (parts_of-line-front l [] whole))
+texts_of-formed (l ∷ []) (inr (some, none)) =
+    sym (ap texts_of (append-nil l) ∙ ap (λ (q : Parts). q.whole ++ last_line q.rest) (parts_of-open l none) ∙ last_line-some l some)
+texts_of-formed (l ∷ m ∷ ls) (whole, rest) =
+    ap (λ (ms : List (List ℕ)). l ∷ ms) (texts_of-formed (m ∷ ls) rest)
+    ∙ sym (ap (λ (q : Parts). q.whole ++ last_line q.rest) (parts_of-line-front l (concat (m ∷ ls)) whole))
+
+-- the lines of a text are these and no others
+pub lines_are : (t : List ℕ) (ls : List (List ℕ)) → AreLines t ls → ls ≡ texts_of t
+lines_are t ls h = texts_of-formed ls h.formed ∙ ap texts_of (sym h.joined)
+
+-- a text has its lines once
+pub lines_unique : (t : List ℕ) (ls ms : List (List ℕ)) → AreLines t ls → AreLines t ms → ls ≡ ms
+lines_unique t ls ms h k = lines_are t ls h ∙ sym (lines_are t ms k)
+
+-- a line without its ending, and the ending behind it, is the line
+pub body-ending : (l : List ℕ) → take (length l - length (ending_of l)) l ++ ending_of l ≡ l
+body-ending l =
+    by_tests (ends_with nat_eq l (13 ∷ 10 ∷ [])) (ends_with nat_eq l (10 ∷ []))
+    (ends_is Decides-eqb l (13 ∷ 10 ∷ []) (ends_with nat_eq l (13 ∷ 10 ∷ [])) refl).0
+    (ends_is Decides-eqb l (10 ∷ []) (ends_with nat_eq l (10 ∷ [])) refl).0
+  where
+    cut_at : List ℕ → List ℕ
+    cut_at e = take (length l - length e) l ++ e
+
+    by_tests : (a b : Bool) → (a ≡ true → l ≡ cut_at (13 ∷ 10 ∷ [])) → (b ≡ true → l ≡ cut_at (10 ∷ [])) →
+        cut_at (if a then 13 ∷ 10 ∷ [] else if b then 10 ∷ [] else []) ≡ l
+    by_tests true b both one = sym (both refl)
+    by_tests false true both one = sym (one refl)
+    by_tests false false both one = append-nil (take (length l - length {A = ℕ} []) l) ∙ take_all (length l - length {A = ℕ} []) l (omega arith)
+
+-- the line of a number and a text has this text
+pub text_of-line_at : (n : ℕ) (l : List ℕ) → text_of (line_at n l) ≡ l
+text_of-line_at n l = body-ending l
+
+-- numbered lines have their texts
+pub map-numbered_from : (n : ℕ) (ls : List (List ℕ)) → map text_of (numbered_from n ls) ≡ ls
+map-numbered_from n [] = refl
+map-numbered_from n (l ∷ ls) = ap₂ (λ (x : List ℕ) (xs : List (List ℕ)). x ∷ xs) (text_of-line_at n l) (map-numbered_from (suc n) ls)
+
+-- as many lines are numbered as there are
+pub length-numbered_from : (n : ℕ) (ls : List (List ℕ)) → length (numbered_from n ls) ≡ length ls
+length-numbered_from n [] = refl
+length-numbered_from n (l ∷ ls) = ap (λ (k : ℕ). suc k) (length-numbered_from (suc n) ls)
+
+-- the lines behind these are numbered on from them
+pub numbered_from-append : (n : ℕ) (xs ys : List (List ℕ)) → numbered_from n (xs ++ ys) ≡ numbered_from n xs ++ numbered_from (n + length xs) ys
+numbered_from-append n [] ys = ap (λ (k : ℕ). numbered_from k ys) (omega arith)
+numbered_from-append n (x ∷ xs) ys =
+    ap (λ (ls : List Line). line_at n x ∷ ls)
+    (numbered_from-append (suc n) xs ys ∙ ap (λ (k : ℕ). numbered_from (suc n) xs ++ numbered_from k ys) (omega arith))
+
+-- a line behind these is numbered on from them, where the first has number 1
+pub numbered_from-next : (xs : List (List ℕ)) (l : List ℕ) (ys : List (List ℕ)) →
+    numbered_from 1 (xs ++ l ∷ ys) ≡ numbered_from 1 xs ++ line_at (suc (length xs)) l ∷ numbered_from (suc (suc (length xs))) ys
+numbered_from-next xs l ys =
+    numbered_from-append 1 xs (l ∷ ys) ∙ ap (λ (k : ℕ). numbered_from 1 xs ++ numbered_from k (l ∷ ys)) (omega arith)
+
+-- the whole lines of a text are the first lines of a longer one that goes on
+pub lines_so_far-append : (t more : List ℕ) → (later : List Line) × (numbered_from 1 (whole_lines (t ++ more)) ≡ numbered_from 1 (whole_lines t) ++ later)
+lines_so_far-append t more = (
+  numbered_from (1 + length (whole_lines t)) (whole_grows t more).0,
+  ap (numbered_from 1) (whole_grows t more).1 ∙ numbered_from-append 1 (whole_lines t) (whole_grows t more).0,
+)
+
+-- the whole lines of a text are the first lines of a longer one that has ended
+pub lines_of-append : (t more : List ℕ) → (later : List Line) × (lines_of (t ++ more) ≡ numbered_from 1 (whole_lines t) ++ later)
+lines_of-append t more = (
+  numbered_from (1 + length (whole_lines t)) (texts_of-whole t more).0,
+  ap (numbered_from 1) (texts_of-whole t more).1 ∙ numbered_from-append 1 (whole_lines t) (texts_of-whole t more).0,
+)

@@ -1,0 +1,207 @@
+-- Scans: a scan depends on its logical line alone, and its masked bytes are those of the line.
+use Rattle.std.proofs.Common.{◌≡◌, ◌≢◌, ℕ, List, [], ◌∷◌, ◌++◌, length, Bool, true, false, ◌||◌, if◌then◌else◌, refl, sym, ◌∙◌, ap, ap₂, subst, append_assoc, append-nil, arith, ne_eqb}
+use Rattle.std.proofs.lemmas.Bool.{or_parts}
+use Rattle.ud_model.specs.text.Bytes.{line_feed}
+use Rattle.ud_model.specs.text.Lines.{Line}
+use Rattle.ud_model.specs.text.Scans.{Scan, Reading}
+use Rattle.ud_model.specs.text.Splicing.{is_spliced, is_empty, content, stays_open, share, joined, extended, run_from, run_of, last_is_spliced}
+use Rattle.ud_model.specs.text.Pieces.{PieceKind, kind_at_end}
+use Rattle.ud_model.specs.text.Scanning.{is_block, joins, comment_at, scan_behind, scan_after, next_reading, readings_after, readings_of}
+use Rattle.ud_model.specs.aids.Places.{Place, in_text, at_slash, in_block, at_star, in_line, in_literal, at_backslash, Reads, next, opens, shows, whitens, place_kind, fresh_at, closed_place, closed_white, blank_last, Masks}
+use Rattle.ud_model.specs.declared.kind.Mode.{Mode}
+use Rattle.ud_model.specs.declared.kind.Mode.TheVariants.{C, Plain}
+use Rattle.ud_model.proofs.text.PlaceLemmas.{Reads-nil, Masks-step}
+use Rattle.ud_model.proofs.text.ScanLemmas.{Reads-same, Reads-close, Masks-start, kind_at_place, joined-append, joined_last, joins_last, scan_behind_is, run_of_last}
+
+-- where a text leaves off with further bytes
+abbrev pub place_after : Place → List ℕ → Place
+place_after w [] = w
+place_after w (b ∷ bytes) = place_after (next w b) bytes
+
+-- whether its last logical line is white with them
+abbrev pub white_after : Place → Bool → List ℕ → Bool
+white_after w white [] = white
+white_after w white (b ∷ bytes) = white_after (next w b) (whitens w white b) bytes
+
+-- how it is shown with them
+abbrev pub masked_after : Place → List ℕ → List ℕ → List ℕ
+masked_after w masked [] = masked
+masked_after w masked (b ∷ bytes) = masked_after (next w b) ((if opens w b then blank_last masked else masked) ++ shows w b ∷ []) bytes
+
+-- a text as it is shown with further bytes
+pub Masks-append : {n : ℕ} (bytes text : List ℕ) (w : Place) (white : Bool) (masked : List ℕ) → Masks n text w white masked →
+    Masks n (text ++ bytes) (place_after w bytes) (white_after w white bytes) (masked_after w masked bytes)
+Masks-append {n} [] text w white masked m = subst (λ (t : List ℕ). Masks n t w white masked) (sym (append-nil text)) m
+Masks-append {n} (b ∷ bytes) text w white masked m =
+    let v : Bool = whitens w white b in
+    let now : List ℕ = (if opens w b then blank_last masked else masked) ++ shows w b ∷ [] in
+    subst (λ (t : List ℕ). Masks n t (place_after (next w b) bytes) (white_after (next w b) v bytes) (masked_after (next w b) now bytes))
+    (append_assoc text (b ∷ []) bytes)
+    (Masks-append bytes (text ++ b ∷ []) (next w b) v now (Masks-step b m))
+
+-- a text leaves off somewhere with further bytes
+pub Reads-append : (text : List ℕ) (w : Place) (white : Bool) (bytes : List ℕ) → Reads text w white →
+    Reads (text ++ bytes) (place_after w bytes) (white_after w white bytes)
+Reads-append text w white bytes r = (Masks-append bytes text w white [] (Masks-start r)).reads
+
+-- each text leaves off somewhere
+pub Reads-all : (text : List ℕ) → Reads text (place_after in_text text) (white_after in_text true text)
+Reads-all text = Reads-append [] in_text true text Reads-nil
+
+-- what is seen of a line, by where the text before it leaves off and whether the line before joins it
+unfoldable pub scan_from : Place → Bool → Bool → Line → Scan
+scan_from w white before line =
+    let v = place_after w (content line) in
+    record {
+      masked = masked_after w [] (content line);
+      fresh = fresh_at w white (content line);
+      joins_before = before;
+      joins_after = is_spliced line || is_block (place_kind (closed_place (stays_open line) v));
+      spliced = is_spliced line;
+      comment = comment_at (is_spliced line) (place_kind (closed_place (stays_open line) v));
+    }
+
+-- a scan behind a run is seen from the place at which the run's joined text leaves off
+pub scan_behind-from : (run : List Line) (line : Line) (w : Place) (white before : Bool) → Reads (joined run) w white → before ≡ joins run →
+    scan_behind run line ≡ scan_from w white before line
+unfolding scan_from
+scan_behind-from run line w white before r j =
+    scan_behind_is run line (masked_after w [] (content line)) w (place_after w (content line)) white
+    (white_after w white (content line)) before r j (Masks-append (content line) (joined run) w white [] (Masks-start r))
+
+-- behind a new-line at which no block comment is open, a text leaves off between pieces
+ended : (w : Place) → is_block (place_kind (next w line_feed)) ≡ false → (next w line_feed ≡ in_text) × ((white : Bool) → whitens w white line_feed ≡ true)
+ended in_text e = (refl, λ white. refl)
+ended at_slash e = (refl, λ white. refl)
+ended in_block e = cc
+ended at_star e = cc
+ended in_line e = (refl, λ white. refl)
+ended (in_literal q) e = (refl, λ white. refl)
+ended (at_backslash q) e = (refl, λ white. refl)
+
+not_empty : (bytes : List ℕ) → bytes ≢ [] → is_empty bytes ≡ false
+not_empty [] some = absurd (some refl)
+not_empty (b ∷ bytes) some = ne_eqb (length (b ∷ bytes)) 0 (λ e. omega arith)
+
+-- behind lines of which the last has an ending and joins nothing, the joined text leaves off between pieces
+pub starts_anew : (run : List Line) (last : Line) → joins (run ++ last ∷ []) ≡ false → last.ending ≢ [] → Reads (joined (run ++ last ∷ [])) in_text true
+starts_anew run last alone some =
+    let parts : (is_spliced last ≡ false) × (is_block (kind_at_end (joined run ++ share last)) ≡ false) =
+    or_parts (is_spliced last) (is_block (kind_at_end (joined run ++ share last))) (sym (joins_last run last) ∙ alone) in
+    let closed : stays_open last ≡ false = ap₂ (λ (s t : Bool). s || t) parts.0 (not_empty last.ending some) in
+    let v : Place = place_after (place_after in_text (joined run)) (content last) in
+    let white : Bool = white_after (place_after in_text (joined run)) (white_after in_text true (joined run)) (content last) in
+    let inside : Reads (joined run ++ content last) v white =
+    Reads-append (joined run) (place_after in_text (joined run)) (white_after in_text true (joined run)) (content last) (Reads-all (joined run)) in
+    let read : Reads (joined run ++ share last) (next v line_feed) (whitens v white line_feed) =
+    Reads-same refl (ap (λ (o : Bool). closed_place o v) closed) (ap (λ (o : Bool). closed_white o v white) closed) (Reads-close (joined run) last v white inside) in
+    let end : (next v line_feed ≡ in_text) × ((u : Bool) → whitens v u line_feed ≡ true) =
+    ended v (ap is_block (sym (kind_at_place read)) ∙ parts.1) in
+    Reads-same (sym (joined_last run last)) end.0 (end.1 white) read
+
+last_is_spliced-append : (run : List Line) (l : Line) (more : List Line) → last_is_spliced (run ++ l ∷ more) ≡ last_is_spliced (l ∷ more)
+last_is_spliced-append [] l more = refl
+last_is_spliced-append (k ∷ []) l more = refl
+last_is_spliced-append (k ∷ m ∷ run) l more = last_is_spliced-append (m ∷ run) l more
+
+kind_from : (run group : List Line) → Reads (joined run) in_text true → kind_at_end (joined (run ++ group)) ≡ kind_at_end (joined group)
+kind_from run group r =
+    ap kind_at_end (joined-append run group) ∙ kind_at_place (Reads-append (joined run) in_text true (joined group) r)
+    ∙ sym (kind_at_place (Reads-all (joined group)))
+
+-- whether a group of lines joins the next one doesn't depend on lines before it that don't join it
+pub group_joins : (run group : List Line) → Reads (joined run) in_text true → joins run ≡ false → joins (run ++ group) ≡ joins group
+unfolding joins
+group_joins run [] r j =
+    ap (λ (ls : List Line). last_is_spliced ls || is_block (kind_at_end (joined ls))) (append-nil run) ∙ j ∙ sym (ap is_block (kind_at_place Reads-nil))
+group_joins run (l ∷ group) r j =
+    ap₂ (λ (s : Bool) (k : PieceKind). s || is_block k) (last_is_spliced-append run l group) (kind_from run (l ∷ group) r)
+
+-- a scan doesn't depend on lines before its logical line
+pub own_logical_line : (run group : List Line) (line : Line) → Reads (joined run) in_text true → joins run ≡ false →
+    scan_behind (run ++ group) line ≡ scan_behind group line
+own_logical_line run group line r j =
+    let w : Place = place_after in_text (joined group) in
+    let white : Bool = white_after in_text true (joined group) in
+    scan_behind-from (run ++ group) line w white (joins group)
+    (Reads-same (sym (joined-append run group)) refl refl (Reads-append (joined run) in_text true (joined group) r))
+    (sym (group_joins run group r j))
+    ∙ sym (scan_behind-from group line w white (joins group) (Reads-all (joined group)) refl)
+
+run_from-append : (run : List Line) (before more : List Reading) → run_from run (before ++ more) ≡ run_from (run_from run before) more
+run_from-append run [] more = refl
+run_from-append run (r ∷ before) more = run_from-append (extended run r.mode r.line) before more
+
+-- a run that starts anew goes on like an empty one
+scan_from_run : (run rest : List Line) (group : List Reading) (line : Line) → Reads (joined run) in_text true → joins run ≡ false →
+    scan_behind (run_from (run ++ rest) group) line ≡ scan_behind (run_from rest group) line
+scan_from_run run rest [] line r j = own_logical_line run rest line r j
+scan_from_run run rest (q ∷ group) line r j = by_mode q.mode (λ ls. scan_from_run run ls group line r j)
+  where
+    by_mode : (m : Mode) → ((ls : List Line) → scan_behind (run_from (run ++ ls) group) line ≡ scan_behind (run_from ls group) line) →
+        scan_behind (run_from (extended (run ++ rest) m q.line) group) line ≡ scan_behind (run_from (extended rest m q.line) group) line
+    by_mode C more =
+        ap (λ (ls : List Line). scan_behind (run_from ls group) line) (append_assoc run rest (q.line ∷ [])) ∙ more (rest ++ q.line ∷ [])
+    by_mode Plain more = refl
+
+pub joins_before-code : (run : List Line) (line : Line) → (scan_behind run line).joins_before ≡ joins run
+unfolding scan_behind
+joins_before-code run line = refl
+
+pub joins_after-code : (run : List Line) (line : Line) → (scan_behind run line).joins_after ≡ joins (run ++ line ∷ [])
+unfolding scan_behind
+joins_after-code run line = refl
+
+anew_code : (front group : List Reading) (last line : Line) → (scan_behind (run_of front) last).joins_after ≡ false → last.ending ≢ [] →
+    scan_behind (run_of ((front ++ next_reading front C last ∷ []) ++ group)) line ≡ scan_behind (run_of group) line
+anew_code front group last line alone some =
+    let run : List Line = run_of front ++ last ∷ [] in
+    let j : joins run ≡ false = sym (joins_after-code (run_of front) last) ∙ alone in
+    ap (λ (ls : List Line). scan_behind ls line)
+    (run_from-append [] (front ++ next_reading front C last ∷ []) group
+    ∙ ap (λ (ls : List Line). run_from ls group) (run_of_last front (next_reading front C last) ∙ sym (append-nil run)))
+    ∙ scan_from_run run [] group line (starts_anew (run_of front) last j some) j
+
+anew_plain : (front group : List Reading) (last line : Line) →
+    scan_behind (run_of ((front ++ next_reading front Plain last ∷ []) ++ group)) line ≡ scan_behind (run_of group) line
+anew_plain front group last line =
+    ap (λ (ls : List Line). scan_behind ls line)
+    (run_from-append [] (front ++ next_reading front Plain last ∷ []) group
+    ∙ ap (λ (ls : List Line). run_from ls group) (run_of_last front (next_reading front Plain last)))
+
+-- behind a line that has an ending and doesn't join the next one, lines are seen as if no line stood before them
+pub scan_alone : (front group : List Reading) (m n : Mode) (last line : Line) → (scan_after front m last).joins_after ≡ false → last.ending ≢ [] →
+    scan_after ((front ++ next_reading front m last ∷ []) ++ group) n line ≡ scan_after group n line
+scan_alone front group m Plain last line alone some = refl
+scan_alone front group C C last line alone some = anew_code front group last line alone some
+scan_alone front group Plain C last line alone some = anew_plain front group last line
+
+-- so further lines are read as if no line stood before them
+pub readings_alone : (front group : List Reading) (m : Mode) (last : Line) (lines : List (Mode × Line)) → (scan_after front m last).joins_after ≡ false →
+    last.ending ≢ [] → readings_after ((front ++ next_reading front m last ∷ []) ++ group) lines ≡ (front ++ next_reading front m last ∷ []) ++ readings_after group lines
+readings_alone front group m last [] alone some = refl
+readings_alone front group m last (l ∷ lines) alone some =
+    let before : List Reading = front ++ next_reading front m last ∷ [] in
+    ap (λ (s : Scan). readings_after ((before ++ group) ++ record { line = l.1; mode = l.0; scan = s } ∷ []) lines) (scan_alone front group m l.0 last l.1 alone some)
+    ∙ ap (λ (rs : List Reading). readings_after rs lines) (append_assoc before group (next_reading group l.0 l.1 ∷ []))
+    ∙ readings_alone front (group ++ next_reading group l.0 l.1 ∷ []) m last lines alone some
+
+-- lines are read behind those before them
+pub readings_after-append : (before : List Reading) (lines more : List (Mode × Line)) →
+    readings_after before (lines ++ more) ≡ readings_after (readings_after before lines) more
+readings_after-append before [] more = refl
+readings_after-append before (l ∷ lines) more = readings_after-append (before ++ next_reading before l.0 l.1 ∷ []) lines more
+
+-- the readings before stay as they are
+pub readings_after-front : (before : List Reading) (lines : List (Mode × Line)) → (rest : List Reading) × (readings_after before lines ≡ before ++ rest)
+readings_after-front before [] = ([], sym (append-nil before))
+readings_after-front before (l ∷ lines) =
+    let later : (rest : List Reading) × (readings_after (before ++ next_reading before l.0 l.1 ∷ []) lines ≡ (before ++ next_reading before l.0 l.1 ∷ []) ++ rest) =
+    readings_after-front (before ++ next_reading before l.0 l.1 ∷ []) lines in
+    (next_reading before l.0 l.1 ∷ later.0, later.1 ∙ append_assoc before (next_reading before l.0 l.1 ∷ []) later.0)
+
+-- a longer list of lines begins with the readings of the shorter one
+pub readings_grow : (lines more : List (Mode × Line)) → (rest : List Reading) × (readings_of (lines ++ more) ≡ readings_of lines ++ rest)
+readings_grow lines more =
+    let later : (rest : List Reading) × (readings_after (readings_of lines) more ≡ readings_of lines ++ rest) = readings_after-front (readings_of lines) more in
+    (later.0, readings_after-append [] lines more ∙ later.1)

@@ -1,0 +1,45 @@
+-- So far: the marks of a text by the groups up to each line, with which the table over the whole section agrees.
+--
+-- The condition of no later group changes an opener's verdict, so a line's mark is the same in every longer text.
+use Rattle.std.specs.Prelude.{List, [], ◌∷◌, ◌++◌, Bool, ◌&&◌}
+use Rattle.ud_model.specs.declared.cond.Cond.{Cond}
+use Rattle.ud_model.specs.declared.cond.Cond.TheVariants.{Yes}
+use Rattle.ud_model.specs.declared.verdict.Verdict.{Verdict}
+use Rattle.ud_model.specs.declared.verdict.Verdict.TheVariants.{Keep}
+use Rattle.ud_model.specs.sections.Tree.{Nodes, Groups, Elifs, Head, Tree, nothing, text, section, conditional, otherwise, first, elif, if_head, elif_head, else_head, closed, open_section}
+use Rattle.ud_model.specs.sections.Pruning.{Part, an_if, an_elif, an_else, Mark, marked, is_kept, is_inside_kept, opener_verdict, endif_verdict, conds_of_elifs, conds_of_groups}
+
+-- an opener's verdict as if its group were the last one
+abbrev pub verdict_so_far : List Cond → Part → Cond → Verdict
+verdict_so_far before part c = opener_verdict (before ++ c ∷ []) before part c
+
+module _ {L : Type 0} where
+  abbrev mutual
+    pub nodes_so_far : Bool → Nodes L → List Mark
+    nodes_so_far kept nothing = []
+    nodes_so_far kept (text ns l) = nodes_so_far kept ns ++ marked kept Keep ∷ []
+    nodes_so_far kept (section ns gs e) =
+        (nodes_so_far kept ns ++ groups_so_far kept gs) ++ marked kept (endif_verdict (conds_of_groups gs)) ∷ []
+
+    pub groups_so_far : Bool → Groups L → List Mark
+    groups_so_far kept (conditional es) = elifs_so_far kept es
+    groups_so_far kept (otherwise es l ns) =
+        (elifs_so_far kept es ++ marked kept (verdict_so_far (conds_of_elifs es) an_else Yes) ∷ [])
+        ++ nodes_so_far (kept && is_kept (conds_of_elifs es) Yes) ns
+
+    pub elifs_so_far : Bool → Elifs L → List Mark
+    elifs_so_far kept (first o ns) =
+        (marked kept (verdict_so_far [] an_if o.cond) ∷ []) ++ nodes_so_far (kept && is_kept [] o.cond) ns
+    elifs_so_far kept (elif es o ns) =
+        (elifs_so_far kept es ++ marked kept (verdict_so_far (conds_of_elifs es) an_elif o.cond) ∷ [])
+        ++ nodes_so_far (kept && is_kept (conds_of_elifs es) o.cond) ns
+
+  abbrev pub head_so_far : Bool → Head L → List Mark
+  head_so_far kept (if_head o) = marked kept (verdict_so_far [] an_if o.cond) ∷ []
+  head_so_far kept (elif_head es o) = elifs_so_far kept es ++ marked kept (verdict_so_far (conds_of_elifs es) an_elif o.cond) ∷ []
+  head_so_far kept (else_head es l) = elifs_so_far kept es ++ marked kept (verdict_so_far (conds_of_elifs es) an_else Yes) ∷ []
+
+  abbrev pub marks_so_far : Bool → Tree L → List Mark
+  marks_so_far kept (closed ns) = nodes_so_far kept ns
+  marks_so_far kept (open_section ns h t) =
+      (nodes_so_far kept ns ++ head_so_far kept h) ++ marks_so_far (kept && is_inside_kept h) t

@@ -1,0 +1,68 @@
+-- The answer: what the tool writes, says and gives back for words and an input. All other definitions meet here.
+--
+--   Answer                     output, message and status
+--   IsAnswer words input a     a is the answer to these words and this input; there is one at most
+--   copy_answer words text     the answer of a run that copies this text
+--
+-- The words are read (CommandLine). The input is cut into lines (Lines); each is scanned (Scans), read as text or a
+-- directive (Directives) with its condition (Conditions), and so they have a tree (Tree). The tree is pruned (Pruning)
+-- and printed (Printing), or its names are listed (Listing), up to the first fault (Faults, Runs).
+use Rattle.std.specs.Prelude.{◌≡◌, ℕ, List, [], Bool, true, false, Option, Some, None}
+use Rattle.ud_model.specs.answer.CommandLine.{UsageFault, usage_fault, options_of, input_name, usage_message}
+use Rattle.ud_model.specs.sections.Faults.{Fault}
+use Rattle.ud_model.specs.answer.Messages.{message_of, out_of_memory}
+use Rattle.ud_model.specs.answer.Runs.{Outcome, Runs}
+use Rattle.ud_model.specs.declared.settings.Settings.{Settings}
+use Rattle.ud_model.specs.declared.settings.Listing.{Listing}
+use Rattle.ud_model.specs.declared.settings.Listing.TheVariants.{Off, Names, Depths}
+use Rattle.ud_model.specs.declared.settings.ExitMode.{ExitMode}
+use Rattle.ud_model.specs.declared.settings.ExitMode.TheVariants.{Zero, One, Two}
+
+pub record Answer : Type 0 where
+  pub output : List ℕ
+  pub message : List ℕ
+  pub status : ℕ
+
+-- the status of a text without a fault, by whether some line differs
+abbrev pub status_by : ExitMode → Bool → ℕ
+status_by Zero true = 1
+status_by Zero false = 0
+status_by One true = 0
+status_by One false = 1
+status_by Two d = 0
+
+-- where names are listed, the status is 0 in every mode
+abbrev pub status_under : Listing → ExitMode → Bool → ℕ
+status_under Off mode d = status_by mode d
+status_under Names mode d = 0
+status_under Depths mode d = 0
+
+abbrev pub status_of : Settings → Bool → Option Fault → ℕ
+status_of s d (Some f) = 2
+status_of s d None = status_under s.listing s.exit_mode d
+
+abbrev pub message_or_none : List ℕ → Option Fault → List ℕ
+message_or_none name (Some f) = message_of name f
+message_or_none name None = []
+
+-- nothing is read where the words have a fault
+abbrev pub usage_answer : UsageFault → Answer
+usage_answer f = record { output = []; message = usage_message f; status = 2 }
+
+-- the answer of a run under these settings over the input of this name
+abbrev pub run_answer : Settings → List ℕ → Outcome → Answer
+run_answer s name r = record { output = r.output; message = message_or_none name r.fault; status = status_of s r.differs r.fault }
+
+-- the answer of a run whose output is a copy of its input
+abbrev pub copy_answer : List (List ℕ) → List ℕ → Answer
+copy_answer words text =
+    run_answer (options_of words).settings (input_name words) (record { output = text; fault = None; differs = false })
+
+pub data IsAnswer (words : List (List ℕ)) (input : List ℕ) : Answer → Type 0 where
+  refused : (f : UsageFault) → usage_fault words ≡ Some f → IsAnswer words input (usage_answer f)
+  ran : (r : Outcome) → usage_fault words ≡ None → Runs (options_of words) input r →
+      IsAnswer words input (run_answer (options_of words).settings (input_name words) r)
+
+-- what is answered where memory is refused
+abbrev pub memory_answer : Answer
+memory_answer = record { output = []; message = out_of_memory; status = 2 }

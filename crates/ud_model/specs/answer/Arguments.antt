@@ -1,0 +1,27 @@
+-- Arguments: how an option-argument names a symbol and gives it a value.
+-- unifdef(1), `-D`, `-U`, `-i`.
+--
+--   name_in a, value_in a    what stands before and behind the first `=`
+--   is_name n                n may be a symbol's name
+--   value_or_one v           the value of a symbol that is defined
+use Rattle.std.specs.Prelude.{ℕ, List, [], ◌∷◌, Bool, not, ◌&&◌, ◌==◌, Option, Some, None, bytes_eq, codes, if◌then◌else◌}
+use Rattle.ud_model.specs.text.Bytes.{is_identifier}
+
+-- the bytes before the first `=`, or all where there is none
+abbrev pub name_in : List ℕ → List ℕ
+name_in [] = []
+name_in (b ∷ bs) = if b == 61 then [] else b ∷ name_in bs
+
+-- the bytes behind the first `=`, if there is one
+abbrev pub value_in : List ℕ → Option (List ℕ)
+value_in [] = None
+value_in (b ∷ bs) = if b == 61 then Some bs else value_in bs
+
+-- a symbol's name is an identifier other than `defined`
+abbrev pub is_name : List ℕ → Bool
+is_name name = is_identifier name && not (bytes_eq name (codes "defined"))
+
+-- a symbol defined without a value is 1
+abbrev pub value_or_one : Option (List ℕ) → List ℕ
+value_or_one None = codes "1"
+value_or_one (Some value) = value

@@ -1,0 +1,67 @@
+-- Listing: the names of a text's conditions.
+-- unifdef(1), `-s` and `-S`.
+--
+--   levels t                    how many sections stand around each line's own section, line for line
+--   names_at x                  the names on a line: those of an understood `#if`, `#ifdef`, `#ifndef` or `#elif`
+--   listed depths xs levels     each name of these lines with a line feed; under `-S` its depth and a space before it
+--
+-- Lines in removed places are listed too. The depth of a name is the number of sections around its directive's own.
+--
+-- Example: of `#ifdef A`, `#ifdef B`, `#endif`, `#endif` the names are `0 A` and `1 B` under `-S`.
+use Rattle.std.specs.Prelude.{ℕ, suc, List, [], ◌∷◌, ◌++◌, Bool, codes, decimal, if◌then◌else◌}
+use Rattle.ud_model.specs.text.Scans.{Reading}
+use Rattle.ud_model.specs.sections.Directives.{Content, cut_keyword, directive, text, content_of}
+use Rattle.ud_model.specs.conditions.Names.{names_on}
+use Rattle.ud_model.specs.sections.Tree.{Item, Nodes, Groups, Elifs, Head, Tree, nothing, section, conditional, otherwise, first, elif, if_head, elif_head, else_head, closed, open_section}
+use Rattle.ud_model.specs.sections.Tree as tree
+use Rattle.ud_model.specs.sections.Items.{reading_of}
+
+module _ {L : Type 0} where
+  abbrev mutual
+    -- of nodes with so many sections around them
+    pub levels_of_nodes : ℕ → Nodes L → List ℕ
+    levels_of_nodes n nothing = []
+    levels_of_nodes n (tree.text ns l) = levels_of_nodes n ns ++ n ∷ []
+    levels_of_nodes n (section ns gs e) = (levels_of_nodes n ns ++ levels_of_groups n gs) ++ n ∷ []
+
+    pub levels_of_groups : ℕ → Groups L → List ℕ
+    levels_of_groups n (conditional es) = levels_of_elifs n es
+    levels_of_groups n (otherwise es l ns) = (levels_of_elifs n es ++ n ∷ []) ++ levels_of_nodes (suc n) ns
+
+    pub levels_of_elifs : ℕ → Elifs L → List ℕ
+    levels_of_elifs n (first o ns) = (n ∷ []) ++ levels_of_nodes (suc n) ns
+    levels_of_elifs n (elif es o ns) = (levels_of_elifs n es ++ n ∷ []) ++ levels_of_nodes (suc n) ns
+
+  abbrev pub levels_of_head : ℕ → Head L → List ℕ
+  levels_of_head n (if_head o) = n ∷ []
+  levels_of_head n (elif_head es o) = levels_of_elifs n es ++ n ∷ []
+  levels_of_head n (else_head es l) = levels_of_elifs n es ++ n ∷ []
+
+  -- of a text with so many sections around it
+  abbrev pub levels_from : ℕ → Tree L → List ℕ
+  levels_from n (closed ns) = levels_of_nodes n ns
+  levels_from n (open_section ns h t) = (levels_of_nodes n ns ++ levels_of_head n h) ++ levels_from (suc n) t
+
+  abbrev pub levels : Tree L → List ℕ
+  levels t = levels_from 0 t
+
+abbrev pub names_in_content : Content → List (List ℕ)
+names_in_content cut_keyword = []
+names_in_content (directive d) = names_on d
+names_in_content text = []
+
+abbrev pub names_at : Item Reading → List (List ℕ)
+names_at x = names_in_content (content_of (reading_of x).scan)
+
+-- what stands before a name of this depth
+abbrev pub depth_prefix : Bool → ℕ → List ℕ
+depth_prefix depths n = if depths then decimal n ++ codes " " else []
+
+abbrev pub listed_names : List ℕ → List (List ℕ) → List ℕ
+listed_names prefix [] = []
+listed_names prefix (name ∷ names) = prefix ++ name ++ codes "\n" ++ listed_names prefix names
+
+abbrev pub listed : Bool → List (Item Reading) → List ℕ → List ℕ
+listed depths [] ns = []
+listed depths (x ∷ xs) [] = []
+listed depths (x ∷ xs) (n ∷ ns) = listed_names (depth_prefix depths n) (names_at x) ++ listed depths xs ns

@@ -1,0 +1,122 @@
+-- Printing: what is printed of a line.
+-- unifdef(1): the lines that are left, with edited directives where a neighbour went; `-b`, `-c`, `-n`.
+--
+--   piece_by verdict keyword l    what is printed of a line by its verdict alone, without options
+--   piece_behind style before j   what is printed of a judged line that follows others, in a style
+--   pieces_by piece before js     the pieces of judged lines that follow others, each by all lines before it
+--   printed_by settings xs ms     the pieces of these lines under these settings, joined in order
+--   some_differ_by settings ..    some line's piece isn't the line itself
+--
+-- Example: of a line `x` that follows a removed one, `#line 5` and the line are printed under `-n`, 5 being its number.
+use Rattle.std.specs.Prelude.{ℕ, ◌+◌, List, [], ◌∷◌, ◌++◌, take, drop, map, Bool, false, not, ◌&&◌, ◌||◌, bytes_eq, codes, decimal, if◌then◌else◌}
+use Rattle.std.specs.List.{concat}
+use Rattle.ud_model.specs.text.Lines.{Line, text_of}
+use Rattle.ud_model.specs.text.Scans.{Reading}
+use Rattle.ud_model.specs.sections.Directives.{Span, Content, cut_keyword, directive, text, content_of}
+use Rattle.ud_model.specs.sections.Tree.{Item}
+use Rattle.ud_model.specs.sections.Pruning.{Mark, is_removed}
+use Rattle.ud_model.specs.sections.Items.{reading_of, line_of}
+use Rattle.ud_model.specs.declared.settings.Settings.{Settings}
+use Rattle.ud_model.specs.declared.verdict.Verdict.{Verdict}
+use Rattle.ud_model.specs.declared.verdict.Verdict.TheVariants.{Keep, Remove, ToIf, ToElse, ToEndif}
+
+-- the place of the keyword; a text line has none
+abbrev pub keyword_in : Content → Span
+keyword_in cut_keyword = record { at = 0; len = 0 }
+keyword_in (directive d) = d.keyword
+keyword_in text = record { at = 0; len = 0 }
+
+-- An edited directive keeps what stands before its keyword. An `#elif` that becomes an `#if` keeps what follows, too,
+-- with two spaces in place of the bytes that it loses.
+abbrev pub piece_by : Verdict → Span → Line → List ℕ
+piece_by Keep keyword l = text_of l
+piece_by Remove keyword l = []
+piece_by ToIf keyword l = take keyword.at l.body ++ codes "if  " ++ drop (keyword.at + keyword.len) l.body ++ l.ending
+piece_by ToElse keyword l = take keyword.at l.body ++ codes "else" ++ l.ending
+piece_by ToEndif keyword l = take keyword.at l.body ++ codes "endif" ++ l.ending
+
+-- a line with what becomes of it: its verdict, and where its keyword lies
+pub record Judged : Type 0 where
+  pub line : Line
+  pub verdict : Verdict
+  pub keyword : Span
+
+-- how lines are printed: removed ones blanked (`-b`), kept and removed ones exchanged (`-c`), numbers put in (`-n`)
+pub record Style : Type 0 where
+  pub blank : Bool
+  pub complement : Bool
+  pub renumber : Bool
+
+-- without options
+abbrev pub plain_style : Style
+plain_style = record { blank = false; complement = false; renumber = false }
+
+abbrev pub style_of : Settings → Style
+style_of s = record { blank = s.blank; complement = s.complement; renumber = s.renumber }
+
+-- a line that would be removed is kept, and each other one is removed
+abbrev pub turned : Verdict → Verdict
+turned v = if is_removed v then Keep else Remove
+
+abbrev pub complemented : Judged → Judged
+complemented j = record j { verdict = turned j.verdict }
+
+-- the last one of these lines is removed
+abbrev pub last_removed : List Judged → Bool
+last_removed [] = false
+last_removed (j ∷ []) = is_removed j.verdict
+last_removed (j ∷ k ∷ js) = last_removed (k ∷ js)
+
+-- an ending, or a line feed where there is none
+abbrev pub ending_or_feed : List ℕ → List ℕ
+ending_or_feed [] = 10 ∷ []
+ending_or_feed (b ∷ bs) = b ∷ bs
+
+-- a directive that gives the next line the number that it has in the input (C11 6.10.4)
+abbrev pub number_line : Line → List ℕ
+number_line l = codes "#line " ++ decimal l.number ++ ending_or_feed l.ending
+
+-- what is printed of a line by itself: of a removed one nothing, or under `-b` its ending
+abbrev pub piece_alone : Bool → Judged → List ℕ
+piece_alone blank j = if blank && is_removed j.verdict then j.line.ending else piece_by j.verdict j.keyword j.line
+
+-- a line that isn't removed is numbered where the line before is removed; where lines are blanked, none is
+abbrev pub is_numbered : Style → List Judged → Judged → Bool
+is_numbered style before j = style.renumber && not style.blank && last_removed before && not (is_removed j.verdict)
+
+abbrev pub uncomplemented_piece : Style → List Judged → Judged → List ℕ
+uncomplemented_piece style before j = (if is_numbered style before j then number_line j.line else []) ++ piece_alone style.blank j
+
+-- what is printed of a line that follows these; `-c` counts before all else
+abbrev pub piece_behind : Style → List Judged → Judged → List ℕ
+piece_behind style before j =
+    if style.complement then uncomplemented_piece style (map complemented before) (complemented j) else uncomplemented_piece style before j
+
+-- the pieces of the second lines, which follow the first ones, where this is the piece of a line behind others
+abbrev pub pieces_by : (List Judged → Judged → List ℕ) → List Judged → List Judged → List (List ℕ)
+pieces_by piece before [] = []
+pieces_by piece before (j ∷ js) = piece before j ∷ pieces_by piece (before ++ j ∷ []) js
+
+-- some of these pieces isn't the line itself
+abbrev pub some_other : List (List ℕ) → List Judged → Bool
+some_other [] js = false
+some_other (p ∷ ps) [] = false
+some_other (p ∷ ps) (j ∷ js) = not (bytes_eq p (text_of j.line)) || some_other ps js
+
+abbrev pub judged : Item Reading → Mark → Judged
+judged x m = record { line = line_of x; verdict = m.verdict; keyword = keyword_in (content_of (reading_of x).scan) }
+
+-- these lines with these marks
+abbrev pub judged_lines : List (Item Reading) → List Mark → List Judged
+judged_lines [] ms = []
+judged_lines (x ∷ xs) [] = []
+judged_lines (x ∷ xs) (m ∷ ms) = judged x m ∷ judged_lines xs ms
+
+abbrev pub pieces_under : Settings → List (Item Reading) → List Mark → List (List ℕ)
+pieces_under settings xs ms = pieces_by (piece_behind (style_of settings)) [] (judged_lines xs ms)
+
+abbrev pub printed_by : Settings → List (Item Reading) → List Mark → List ℕ
+printed_by settings xs ms = concat (pieces_under settings xs ms)
+
+abbrev pub some_differ_by : Settings → List (Item Reading) → List Mark → Bool
+some_differ_by settings xs ms = some_other (pieces_under settings xs ms) (judged_lines xs ms)

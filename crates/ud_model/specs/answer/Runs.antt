@@ -1,0 +1,86 @@
+-- Runs: what comes of a text: what is printed, and the fault.
+--
+--   Outcome              the output, the fault if there is one, and whether some line differs
+--   Runs o input         the outcome of a text that has ended
+--   RunsSoFar o given    the outcome of a text that goes on: its whole lines count, and of the rest its limits alone
+--
+-- At a fault the text of the lines before the faulty line is printed; a fault of the end comes behind all lines.
+use Rattle.std.specs.Prelude.{◌≡◌, ℕ, suc, List, [], ◌∷◌, ◌++◌, length, map, Bool, true, false, Option, Some, None}
+use Rattle.ud_model.specs.text.Lines.{Line, line_at, lines_of, whole_lines, open_rest, numbered_from}
+use Rattle.ud_model.specs.text.Scans.{Reading}
+use Rattle.ud_model.specs.sections.Tree.{Item, Tree}
+use Rattle.ud_model.specs.sections.Pruning.{marks}
+use Rattle.ud_model.specs.sections.Items.{Options, line_of, next_item}
+use Rattle.ud_model.specs.sections.Faults.{Fault, Case, FaultOf, AreSound, end_fault, past_last, too_long}
+use Rattle.ud_model.specs.answer.Printing.{printed_by, some_differ_by}
+use Rattle.ud_model.specs.answer.Listing.{levels, listed}
+use Rattle.ud_model.specs.declared.settings.Settings.{Settings}
+use Rattle.ud_model.specs.declared.settings.Listing.{Listing}
+use Rattle.ud_model.specs.declared.settings.Listing.TheVariants.{Off, Names, Depths}
+
+pub record Outcome : Type 0 where
+  pub output : List ℕ
+  pub fault : Option Fault
+  pub differs : Bool
+
+-- what is printed of these lines, whose tree this is, where this is listed
+abbrev pub output_by : Listing → Settings → List (Item Reading) → Tree Reading → List ℕ
+output_by Off s xs t = printed_by s xs (marks t)
+output_by Names s xs t = listed false xs (levels t)
+output_by Depths s xs t = listed true xs (levels t)
+
+-- some line differs; where names are listed, none does
+abbrev pub differs_by : Listing → Settings → List (Item Reading) → Tree Reading → Bool
+differs_by Off s xs t = some_differ_by s xs (marks t)
+differs_by Names s xs t = false
+differs_by Depths s xs t = false
+
+-- what comes of these lines, whose tree this is; and then this fault
+abbrev pub outcome_of : Settings → List (Item Reading) → Tree Reading → Option Fault → Outcome
+outcome_of s xs t f = record { output = output_by s.listing s xs t; fault = f; differs = differs_by s.listing s xs t }
+
+-- of these lines, those before the first faulty one are these items with this tree, and the faulty one has this fault
+pub record StopsAt (o : Options) (ls : List Line) (xs : List (Item Reading)) (t : Tree Reading) (f : Fault) : Type 0 where
+  pub sound : AreSound o xs t
+  pub faulty : Line
+  pub later : List Line
+  pub are : ls ≡ map line_of xs ++ faulty ∷ later
+  pub fault : FaultOf xs (next_item o xs t faulty) f
+
+-- none of these lines is faulty, and they are these items with this tree
+pub record GoesThrough (o : Options) (ls : List Line) (xs : List (Item Reading)) (t : Tree Reading) : Type 0 where
+  pub sound : AreSound o xs t
+  pub are : ls ≡ map line_of xs
+
+pub data Runs (o : Options) (input : List ℕ) : Outcome → Type 0 where
+  stops : (xs : List (Item Reading)) (t : Tree Reading) (f : Fault) → StopsAt o (lines_of input) xs t f →
+      Runs o input (outcome_of o.settings xs t (Some f))
+  ends : (xs : List (Item Reading)) (t : Tree Reading) → GoesThrough o (lines_of input) xs t →
+      Runs o input (outcome_of o.settings xs t (end_fault xs t))
+
+-- the whole lines of a text that goes on
+abbrev pub lines_so_far : List ℕ → List Line
+lines_so_far given = numbered_from 1 (whole_lines given)
+
+-- the rest as the line that it begins
+abbrev pub line_so_far : List ℕ → Line
+line_so_far given = line_at (suc (length (whole_lines given))) (open_rest given)
+
+-- a limit is broken
+pub data IsLimit : Case → Type 0 where
+  by_lines : IsLimit past_last
+  by_bytes : IsLimit too_long
+
+-- the rest that has come of a line breaks a limit
+pub record RestBreaks (o : Options) (given : List ℕ) (xs : List (Item Reading)) (t : Tree Reading) (f : Fault) : Type 0 where
+  pub some : (open_rest given ≡ []) → ⊥
+  pub fault : FaultOf xs (next_item o xs t (line_so_far given)) f
+  pub limit : IsLimit fault.which
+
+pub data RunsSoFar (o : Options) (given : List ℕ) : Outcome → Type 0 where
+  stops : (xs : List (Item Reading)) (t : Tree Reading) (f : Fault) → StopsAt o (lines_so_far given) xs t f →
+      RunsSoFar o given (outcome_of o.settings xs t (Some f))
+  breaks : (xs : List (Item Reading)) (t : Tree Reading) (f : Fault) → GoesThrough o (lines_so_far given) xs t →
+      RestBreaks o given xs t f → RunsSoFar o given (outcome_of o.settings xs t (Some f))
+  goes_on : (xs : List (Item Reading)) (t : Tree Reading) → GoesThrough o (lines_so_far given) xs t →
+      ((f : Fault) → RestBreaks o given xs t f → ⊥) → RunsSoFar o given (outcome_of o.settings xs t None)

@@ -1,0 +1,125 @@
+-- Conditions: what the table decides of a directive.
+-- C11 6.10.1; unifdef(1): where a condition isn't decided or not understood, it is unknown.
+--
+--   Decision                               a condition, and whether its section is plain text
+--   tree_cond e table rules                what is decided of the tree of an `#if` or `#elif`
+--   expression_cond after table rules      the same of its text; a text without a tree is unknown
+--   condition_of kind after table rules    the decision on the text behind a keyword
+--   decision_on scan d table rules         the decision on a directive in its line
+--
+-- Example: with A undefined, `A && X` is no, and unknown under `strict`; `X || 1` is unknown unless `constants`.
+use Rattle.std.specs.Prelude.{ℕ, List, Bool, false, not, ◌&&◌, ◌||◌, Option, Some, None, is_some, if◌then◌else◌, ℤ}
+use Rattle.ud_model.specs.text.Bytes.{past_white, word_in_front, past_word, are_white, is_identifier}
+use Rattle.ud_model.specs.text.Scans.{Scan}
+use Rattle.ud_model.specs.sections.Directives.{Directive}
+use Rattle.ud_model.specs.conditions.Table.{Argument, Entry, entry_in}
+use Rattle.ud_model.specs.conditions.Expressions.{Expression, constant, named, is_defined, unary, binary, parens}
+use Rattle.ud_model.specs.aids.Parsing.{expression_of}
+use Rattle.ud_model.specs.conditions.Values.{is_zero, value_of}
+use Rattle.ud_model.specs.declared.cond.Cond.{Cond}
+use Rattle.ud_model.specs.declared.cond.Cond.TheVariants.{Yes, No, Unknown}
+use Rattle.ud_model.specs.declared.kind.Kind.{Kind}
+use Rattle.ud_model.specs.declared.kind.Kind.TheVariants.{If, Ifdef, Ifndef, Elif, Else, Endif}
+
+-- a condition, and whether its section is plain text
+pub record Decision : Type 0 where
+  pub cond : Cond
+  pub ignoring : Bool
+
+-- how expressions are valued: those that name no listed symbol too; `&&` and `||` unknown where an operand is
+pub record Rules : Type 0 where
+  pub constants : Bool
+  pub strict : Bool
+
+-- nothing is decided
+abbrev pub undecided : Decision
+undecided = record { cond = Unknown; ignoring = false }
+
+-- the one identifier that a text is but for white space around it, if it is so
+abbrev pub sole_name : List ℕ → Option (List ℕ)
+sole_name after =
+    if is_identifier (word_in_front (past_white after)) && are_white (past_word (past_white after))
+    then Some (word_in_front (past_white after)) else None
+
+-- `#ifdef` by the entry of its name
+abbrev pub ifdef_by : Option Entry → Decision
+ifdef_by None = undecided
+ifdef_by (Some e) = record { cond = defined_by e.value; ignoring = e.ignoring }
+  where
+    defined_by : Option (List ℕ) → Cond
+    defined_by None = No
+    defined_by (Some value) = Yes
+
+-- `#ifdef` with its name, if its text is one
+abbrev pub ifdef_decision : Option (List ℕ) → List Argument → Decision
+ifdef_decision None table = undecided
+ifdef_decision (Some name) table = ifdef_by (entry_in table name)
+
+-- the other way round
+abbrev pub negated : Cond → Cond
+negated Yes = No
+negated No = Yes
+negated Unknown = Unknown
+
+-- an entry undefines its name
+abbrev pub undefined_by : Option Entry → Bool
+undefined_by None = false
+undefined_by (Some e) = not (is_some e.value)
+
+module _ (table : List Argument) where
+  -- an argument names it
+  abbrev pub is_listed : List ℕ → Bool
+  is_listed n = is_some (entry_in table n)
+
+  -- a name that the table lists stands in the expression, as an operand or behind `defined`
+  abbrev pub names_listed : Expression → Bool
+  names_listed (constant w) = false
+  names_listed (named n arguments) = is_listed n
+  names_listed (is_defined n parentheses) = is_listed n
+  names_listed (unary o a) = names_listed a
+  names_listed (binary o a b) = names_listed a || names_listed b
+  names_listed (parens a) = names_listed a
+
+  -- a name that the table undefines stands there with arguments
+  abbrev pub calls_undefined : Expression → Bool
+  calls_undefined (constant w) = false
+  calls_undefined (named n arguments) = arguments && undefined_by (entry_in table n)
+  calls_undefined (is_defined n parentheses) = false
+  calls_undefined (unary o a) = calls_undefined a
+  calls_undefined (binary o a b) = calls_undefined a || calls_undefined b
+  calls_undefined (parens a) = calls_undefined a
+
+-- a known 0 is false, and each other known number true
+abbrev pub truth_of : Option ℤ → Cond
+truth_of None = Unknown
+truth_of (Some z) = if is_zero z then No else Yes
+
+-- unknown where an undefined name has arguments; and, unless `constants`, where no name is listed
+abbrev pub tree_cond : Expression → List Argument → Rules → Cond
+tree_cond e table rules =
+    if calls_undefined table e || not (rules.constants || names_listed table e) then Unknown else truth_of (value_of table rules.strict e)
+
+-- the condition of a tree, if there is one
+abbrev pub tree_cond_if : Option Expression → List Argument → Rules → Cond
+tree_cond_if None table rules = Unknown
+tree_cond_if (Some e) table rules = tree_cond e table rules
+
+-- A text has one tree at most, and `expression_of` finds it: for every tree e for which the text is written, this is
+-- what `tree_cond` says of e.
+unfoldable pub expression_cond : List ℕ → List Argument → Rules → Cond
+expression_cond after table rules = tree_cond_if (expression_of after) table rules
+
+-- the decision on the text behind a keyword
+abbrev pub condition_of : Kind → List ℕ → List Argument → Rules → Decision
+condition_of If after table rules = record { cond = expression_cond after table rules; ignoring = false }
+condition_of Elif after table rules = record { cond = expression_cond after table rules; ignoring = false }
+condition_of Ifdef after table rules = ifdef_decision (sole_name after) table
+condition_of Ifndef after table rules = record (ifdef_decision (sole_name after) table) { cond = negated (ifdef_decision (sole_name after) table).cond }
+condition_of Else after table rules = undecided
+condition_of Endif after table rules = undecided
+
+-- a broken directive is undecided; one that joins the next line isn't ignoring
+abbrev pub decision_on : Scan → Directive → List Argument → Rules → Decision
+decision_on scan d table rules =
+    if d.broken then undecided
+    else record (condition_of d.kind d.after table rules) { ignoring = (condition_of d.kind d.after table rules).ignoring && not scan.joins_after }

@@ -1,0 +1,47 @@
+-- Names: the names of a condition, as they are listed.
+-- unifdef(1), `-s` and `-S`.
+--
+--   names_in e             the name of each operand and each `defined` of a tree, in order and with repeats
+--   names_of kind after    the names of the text behind a keyword, where it is understood
+--   names_on d             the names of a directive; a broken one has none
+--
+-- Example: ` F(X) + defined(Y) > 1` has the names F and Y.
+use Rattle.std.specs.Prelude.{ℕ, List, [], ◌∷◌, ◌++◌, Option, Some, None, if◌then◌else◌}
+use Rattle.ud_model.specs.sections.Directives.{Directive}
+use Rattle.ud_model.specs.conditions.Expressions.{Expression, constant, named, is_defined, unary, binary, parens}
+use Rattle.ud_model.specs.aids.Parsing.{expression_of}
+use Rattle.ud_model.specs.conditions.Conditions.{sole_name}
+use Rattle.ud_model.specs.declared.kind.Kind.{Kind}
+use Rattle.ud_model.specs.declared.kind.Kind.TheVariants.{If, Ifdef, Ifndef, Elif, Else, Endif}
+
+-- the names of a tree
+abbrev pub names_in : Expression → List (List ℕ)
+names_in (constant w) = []
+names_in (named n arguments) = n ∷ []
+names_in (is_defined n parentheses) = n ∷ []
+names_in (unary o a) = names_in a
+names_in (binary o a b) = names_in a ++ names_in b
+names_in (parens a) = names_in a
+
+-- the names of a tree, if there is one
+abbrev pub names_in_tree : Option Expression → List (List ℕ)
+names_in_tree None = []
+names_in_tree (Some e) = names_in e
+
+-- a name, if there is one
+abbrev pub name_alone : Option (List ℕ) → List (List ℕ)
+name_alone None = []
+name_alone (Some name) = name ∷ []
+
+-- the names of the text behind a keyword
+abbrev pub names_of : Kind → List ℕ → List (List ℕ)
+names_of If after = names_in_tree (expression_of after)
+names_of Elif after = names_in_tree (expression_of after)
+names_of Ifdef after = name_alone (sole_name after)
+names_of Ifndef after = name_alone (sole_name after)
+names_of Else after = []
+names_of Endif after = []
+
+-- the names of a directive
+abbrev pub names_on : Directive → List (List ℕ)
+names_on d = if d.broken then [] else names_of d.kind d.after

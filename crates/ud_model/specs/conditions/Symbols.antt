@@ -1,0 +1,36 @@
+-- Symbols: where the value of a defined name ends.
+-- unifdef(1); C11 6.10.3.4: a name in a macro's replacement is replaced again.
+--
+--   defined_text table n    the text as which the table defines a name, if it does
+--   end_of table n          the text at which it ends: the first that is no identifier, from name to name
+--
+-- A way from name to name that ends nowhere is a cycle; it has more steps than the table has arguments. A cycle has no
+-- end, and neither has a way to a name that isn't defined.
+--
+-- Example: with A as B and B as 5 the value of A ends at 5; with A as B and B as A it ends nowhere.
+use Rattle.std.specs.Prelude.{ℕ, zero, suc, List, length, Option, Some, None, if◌then◌else◌}
+use Rattle.ud_model.specs.text.Bytes.{is_identifier}
+use Rattle.ud_model.specs.conditions.Table.{Argument, Entry, entry_in}
+
+-- the text of an entry that defines its name
+abbrev pub text_in : Option Entry → Option (List ℕ)
+text_in None = None
+text_in (Some e) = e.value
+
+-- the text as which the table defines the name
+abbrev pub defined_text : List Argument → List ℕ → Option (List ℕ)
+defined_text table n = text_in (entry_in table n)
+
+-- a text that is no identifier is an end; from another the way goes on
+abbrev pub on_text : (List ℕ → Option (List ℕ)) → Option (List ℕ) → Option (List ℕ)
+on_text further None = None
+on_text further (Some v) = if is_identifier v then further v else Some v
+
+-- the end that is reached in at most so many steps
+abbrev pub ends_in : ℕ → List Argument → List ℕ → Option (List ℕ)
+ends_in zero table n = None
+ends_in (suc k) table n = on_text (λ v. ends_in k table v) (defined_text table n)
+
+-- the text at which the value of a name ends
+unfoldable pub end_of : List Argument → List ℕ → Option (List ℕ)
+end_of table n = ends_in (length table) table n

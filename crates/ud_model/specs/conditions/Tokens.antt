@@ -1,0 +1,103 @@
+-- Tokens: the words and signs of an expression.
+-- C11 6.4, 6.4.2, 6.4.4.1, 6.4.6 and 6.4.8: white space separates tokens, and the longest token is taken.
+--
+--   Token              a constant, a name with or without arguments, `defined`, an operator, a parenthesis
+--   next_token text    the token at the front of a text and what follows it; none at the end, or where none can be read
+--   AreTokens text ts  the text is these tokens, from its front to its end
+--
+-- A name's arguments are the bytes from a `(` behind it to the `)` that matches it, by these two bytes alone; no tokens are
+-- in them. C reads two minus signs as one token, and `0xE-9` as one too; both are none here.
+--
+-- Example: ` F(X)>0` is the name F with arguments, the operator `>` and the constant 0.
+use Rattle.std.specs.Prelude.{◌≡◌, ℕ, zero, suc, ◌-◌, ◌==◌, List, [], ◌∷◌, length, drop, slice_index, Bool, true, false, not, ◌&&◌, ◌||◌, if◌then◌else◌, Option, Some, None, bytes_eq, codes}
+use Rattle.ud_model.specs.text.Bytes.{is_digit, is_word_byte, past_white, word_in_front, past_word}
+use Rattle.ud_model.specs.conditions.Constants.{begins, is_constant}
+use Rattle.ud_model.specs.declared.operator.Operator.{Operator}
+use Rattle.ud_model.specs.declared.operator.Operator.TheVariants.{Or, And, BitOr, BitXor, BitAnd, Equal, NotEqual, Less, LessEqual, Greater, GreaterEqual, Plus, Minus, Times, Over, Remainder, Not, Complement}
+
+-- what an expression is written with
+pub data Token : Type 0 where
+  -- an integer constant, as it is spelled
+  number : List ℕ → Token
+  -- an identifier other than `defined`, and whether it has arguments
+  name : List ℕ → Bool → Token
+  defined : Token
+  operator : Operator → Token
+  opening : Token
+  closing : Token
+
+-- what stands at the front of a text
+pub data Next : Type 0 where
+  -- white space alone
+  at_end : Next
+  -- no token
+  unreadable : Next
+  -- a token, and the text behind it
+  found : Token → List ℕ → Next
+
+-- what stands behind the `)` that closes a parenthesis, in which so many more are open
+abbrev pub behind_closing : ℕ → List ℕ → Option (List ℕ)
+behind_closing n [] = None
+behind_closing zero (b ∷ text) = if b == 40 then behind_closing 1 text else if b == 41 then Some text else behind_closing 0 text
+behind_closing (suc n) (b ∷ text) =
+    if b == 40 then behind_closing (suc (suc n)) text else if b == 41 then behind_closing n text else behind_closing (suc n) text
+
+-- the name with its arguments, where they end
+abbrev pub with_arguments : List ℕ → Option (List ℕ) → Next
+with_arguments w None = unreadable
+with_arguments w (Some rest) = found (name w true) rest
+
+-- a name and the arguments behind it, if a `(` comes next
+abbrev pub name_token : List ℕ → List ℕ → Next
+name_token w rest =
+    if begins 40 (past_white rest) then with_arguments w (behind_closing 0 (drop 1 (past_white rest))) else found (name w false) rest
+
+-- the constant ends in `e` or `E`, and a sign follows: C reads both as one token
+abbrev pub takes_sign : List ℕ → List ℕ → Bool
+takes_sign w rest = (slice_index w (length w - 1) == 101 || slice_index w (length w - 1) == 69) && (begins 43 rest || begins 45 rest)
+
+-- a word that begins with a digit is a constant as a whole
+abbrev pub word_token : List ℕ → List ℕ → Next
+word_token w rest =
+    if is_digit (slice_index w 0) then (if is_constant w && not (takes_sign w rest) then found (number w) rest else unreadable)
+    else if bytes_eq w (codes "defined") then found defined rest
+    else name_token w rest
+
+-- the operator of two bytes where the second one follows, else the one of one byte
+abbrev pub longer_of : ℕ → Operator → Operator → List ℕ → Next
+longer_of c long short rest = if begins c rest then found (operator long) (drop 1 rest) else found (operator short) rest
+
+-- the token that begins with this byte, which is in no word
+abbrev pub sign_token : ℕ → List ℕ → Next
+sign_token b rest =
+    if b == 40 then found opening rest
+    else if b == 41 then found closing rest
+    else if b == 33 then longer_of 61 NotEqual Not rest
+    else if b == 60 then longer_of 61 LessEqual Less rest
+    else if b == 62 then longer_of 61 GreaterEqual Greater rest
+    else if b == 38 then longer_of 38 And BitAnd rest
+    else if b == 124 then longer_of 124 Or BitOr rest
+    else if b == 61 then (if begins 61 rest then found (operator Equal) (drop 1 rest) else unreadable)
+    else if b == 45 then (if begins 45 rest then unreadable else found (operator Minus) rest)
+    else if b == 43 then found (operator Plus) rest
+    else if b == 42 then found (operator Times) rest
+    else if b == 47 then found (operator Over) rest
+    else if b == 37 then found (operator Remainder) rest
+    else if b == 94 then found (operator BitXor) rest
+    else if b == 126 then found (operator Complement) rest
+    else unreadable
+
+-- the token in front of a text without white space in front
+abbrev pub token_in_front : List ℕ → Next
+token_in_front [] = at_end
+token_in_front (b ∷ text) =
+    if is_word_byte b then word_token (word_in_front (b ∷ text)) (past_word (b ∷ text)) else sign_token b text
+
+-- the token at the front of a text, white space left out
+unfoldable pub next_token : List ℕ → Next
+next_token text = token_in_front (past_white text)
+
+-- The tokens of a text: the one at its front, and then those of the text behind it.
+abbrev pub AreTokens : List ℕ → List Token → Type 0
+AreTokens text [] = next_token text ≡ at_end
+AreTokens text (t ∷ ts) = (rest : List ℕ) × (next_token text ≡ found t rest) × AreTokens rest ts

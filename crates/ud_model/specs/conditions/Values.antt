@@ -1,0 +1,188 @@
+-- Values: the number that an expression is, as far as the table tells it.
+-- C11 6.10.1p4 and 6.5. A value is a whole number, or unknown (None).
+--
+--   fits u z                   z lies between the least number and 2^63-1; u says that a `u` stands in the expression
+--   operate u o a b            two known operands and an operator
+--   combine strict u o a b     two operands, of which one or both may be unknown
+--   alter u o a                an operator before one operand
+--   name_value table u n       a name as an operand
+--   defined_value table n      `defined` and a name
+--   number_of table strict u e the value of a tree, with that least number
+--   has_unsigned table e       a constant of the tree, or one at which an operand's symbol value ends, has a `u`
+--   value_of table strict e    the value of a tree
+--
+-- The least number is -2^63, or 0 where the expression has a `u`. A result outside is unknown: C gives it no value there,
+-- or another one than whole numbers do. Under `strict`, `&&` and `||` are unknown where an operand is.
+--
+-- Example: with A as 5, `-A / 2` is -2, `~A < 0u` is unknown, and `X && !A` is 0 unless `strict`.
+use Rattle.std.specs.Prelude.{ℕ, ◌^◌, ◌==◌, nat_eq, nat_lt, Bool, true, false, not, ◌&&◌, ◌||◌, if◌then◌else◌, List, [], ◌∷◌, Option, Some, None, is_some, ℤ, pos, negsuc, ◌+ℤ◌, ◌-ℤ◌, ◌*ℤ◌, neg_ℤ, int_lt, int_le, int_div, int_rem, bit_and, bit_or, bit_xor}
+use mir.Val.{to_z, of_z}
+use mir.Syntax.{w64}
+use Rattle.ud_model.specs.conditions.Table.{Argument, Entry, entry_in}
+use Rattle.ud_model.specs.conditions.Constants.{is_constant, has_u, constant_number}
+use Rattle.ud_model.specs.conditions.Symbols.{end_of}
+use Rattle.ud_model.specs.conditions.Expressions.{Expression, constant, named, is_defined, unary, binary, parens}
+use Rattle.ud_model.specs.declared.operator.Operator.{Operator}
+use Rattle.ud_model.specs.declared.operator.Operator.TheVariants.{Or, And, BitOr, BitXor, BitAnd, Equal, NotEqual, Less, LessEqual, Greater, GreaterEqual, Plus, Minus, Times, Over, Remainder, Not, Complement}
+
+-- from -2^63, or from 0 beside a `u`, to 2^63-1
+abbrev pub fits : Bool → ℤ → Bool
+fits u (pos n) = nat_lt n (2 ^ 63)
+fits u (negsuc n) = not u && nat_lt n (2 ^ 63)
+
+-- a result outside is unknown
+abbrev pub fit : Bool → ℤ → Option ℤ
+fit u z = if fits u z then Some z else None
+
+-- 1 for true, 0 for false
+abbrev pub truth : Bool → ℤ
+truth b = if b then pos 1 else pos 0
+
+-- the number is 0
+abbrev pub is_zero : ℤ → Bool
+is_zero (pos n) = nat_eq n 0
+is_zero (negsuc n) = false
+
+-- the numbers are the same
+abbrev pub same : ℤ → ℤ → Bool
+same a b = int_le a b && int_le b a
+
+-- on 64-bit two's complement
+abbrev pub by_bits : (ℕ → ℕ → ℕ) → ℤ → ℤ → ℤ
+by_bits f a b = to_z w64 (f (of_z w64 a) (of_z w64 b))
+
+-- Two known operands: `/` truncates toward zero and `%` is the remainder that goes with it; both are unknown where the
+-- divisor is 0 or the quotient is outside. Comparisons, `&&` and `||` give 0 or 1.
+unfoldable pub operate : Bool → Operator → ℤ → ℤ → Option ℤ
+operate u Or a b = Some (truth (not (is_zero a) || not (is_zero b)))
+operate u And a b = Some (truth (not (is_zero a) && not (is_zero b)))
+operate u BitOr a b = fit u (by_bits bit_or a b)
+operate u BitXor a b = fit u (by_bits bit_xor a b)
+operate u BitAnd a b = fit u (by_bits bit_and a b)
+operate u Equal a b = Some (truth (same a b))
+operate u NotEqual a b = Some (truth (not (same a b)))
+operate u Less a b = Some (truth (int_lt a b))
+operate u LessEqual a b = Some (truth (int_le a b))
+operate u Greater a b = Some (truth (int_lt b a))
+operate u GreaterEqual a b = Some (truth (int_le b a))
+operate u Plus a b = fit u (a +ℤ b)
+operate u Minus a b = fit u (a -ℤ b)
+operate u Times a b = fit u (a *ℤ b)
+operate u Over a b = if is_zero b then None else fit u (int_div a b)
+operate u Remainder a b = if is_zero b then None else if fits u (int_div a b) then fit u (int_rem a b) else None
+operate u _ a b = None
+
+-- one known operand decides `&&` where it is 0, and `||` where it isn't
+abbrev pub decided : Operator → ℤ → Option ℤ
+decided And a = if is_zero a then Some (pos 0) else None
+decided Or a = if is_zero a then None else Some (pos 1)
+decided _ a = None
+
+-- but not under `strict`
+abbrev pub decides : Bool → Operator → ℤ → Option ℤ
+decides true o a = None
+decides false o a = decided o a
+
+-- two operands, known or not
+abbrev pub combine : Bool → Bool → Operator → Option ℤ → Option ℤ → Option ℤ
+combine strict u o (Some a) (Some b) = operate u o a b
+combine strict u o (Some a) None = decides strict o a
+combine strict u o None (Some b) = decides strict o b
+combine strict u o None None = None
+
+-- an operator before a known operand
+unfoldable pub change : Bool → Operator → ℤ → Option ℤ
+change u Not a = Some (truth (is_zero a))
+change u Minus a = fit u (neg_ℤ a)
+change u Complement a = fit u (neg_ℤ a -ℤ pos 1)
+change u _ a = None
+
+-- an operator before an operand, known or not
+abbrev pub alter : Bool → Operator → Option ℤ → Option ℤ
+alter u o (Some a) = change u o a
+alter u o None = None
+
+-- a constant above 2^63-1 is unknown
+abbrev pub limited : ℕ → Option ℤ
+limited n = if nat_lt n (2 ^ 63) then Some (pos n) else None
+
+-- the value of a constant
+abbrev pub constant_value : List ℕ → Option ℤ
+constant_value w = limited (constant_number w)
+
+-- a value with a `-` before it
+abbrev pub negated_value : Bool → Option ℤ → Option ℤ
+negated_value u None = None
+negated_value u (Some z) = fit u (neg_ℤ z)
+
+-- the text at which a symbol's value ends: a constant, or a `-` and a constant, and nothing else
+abbrev pub text_value : Bool → List ℕ → Option ℤ
+text_value u [] = None
+text_value u (b ∷ w) =
+    if b == 45 then (if is_constant w then negated_value u (constant_value w) else None)
+    else if is_constant (b ∷ w) then constant_value (b ∷ w) else None
+
+-- its constant has a `u`
+abbrev pub text_has_u : List ℕ → Bool
+text_has_u [] = false
+text_has_u (b ∷ w) = if b == 45 then has_u w else has_u (b ∷ w)
+
+-- the value of what a way ends at
+abbrev pub end_value : Bool → Option (List ℕ) → Option ℤ
+end_value u None = None
+end_value u (Some text) = text_value u text
+
+-- a defined name by the text at which its value ends
+abbrev pub defined_name_value : Bool → Option (List ℕ) → Option (List ℕ) → Option ℤ
+defined_name_value u end None = Some (pos 0)
+defined_name_value u end (Some text) = end_value u end
+
+-- a name as an operand: unknown where it is unlisted, 0 where it is undefined
+abbrev pub name_value_by : Bool → Option (List ℕ) → Option Entry → Option ℤ
+name_value_by u end None = None
+name_value_by u end (Some e) = defined_name_value u end e.value
+
+-- the value of a name as an operand
+unfoldable pub name_value : List Argument → Bool → List ℕ → Option ℤ
+name_value table u n = name_value_by u (end_of table n) (entry_in table n)
+
+-- there is an end, and its constant has a `u`
+abbrev pub end_has_u : Option (List ℕ) → Bool
+end_has_u None = false
+end_has_u (Some text) = text_has_u text
+
+-- the constant at which the name's value ends has a `u`
+unfoldable pub name_has_u : List Argument → List ℕ → Bool
+name_has_u table n = end_has_u (end_of table n)
+
+-- 1 where the entry defines its name, and 0 where it undefines it
+abbrev pub defined_value_by : Option Entry → Option ℤ
+defined_value_by None = None
+defined_value_by (Some e) = Some (truth (is_some e.value))
+
+-- `defined` and a name: unknown where it is unlisted
+unfoldable pub defined_value : List Argument → List ℕ → Option ℤ
+defined_value table n = defined_value_by (entry_in table n)
+
+module _ (table : List Argument) where
+  -- the value of a tree, u saying whether the expression has a `u`
+  abbrev pub number_of : Bool → Bool → Expression → Option ℤ
+  number_of strict u (constant w) = constant_value w
+  number_of strict u (named n arguments) = name_value table u n
+  number_of strict u (is_defined n parentheses) = defined_value table n
+  number_of strict u (unary o a) = alter u o (number_of strict u a)
+  number_of strict u (binary o a b) = combine strict u o (number_of strict u a) (number_of strict u b)
+  number_of strict u (parens a) = number_of strict u a
+
+  -- a `u` stands in the expression
+  abbrev pub has_unsigned : Expression → Bool
+  has_unsigned (constant w) = has_u w
+  has_unsigned (named n arguments) = name_has_u table n
+  has_unsigned (is_defined n parentheses) = false
+  has_unsigned (unary o a) = has_unsigned a
+  has_unsigned (binary o a b) = has_unsigned a || has_unsigned b
+  has_unsigned (parens a) = has_unsigned a
+
+  -- the value of a tree
+  abbrev pub value_of : Bool → Expression → Option ℤ
+  value_of strict e = number_of strict (has_unsigned e) e

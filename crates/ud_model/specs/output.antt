@@ -1,0 +1,5 @@
+-- What an output means: the definitions that the laws of the output speak of.
+pub mod Worlds
+pub mod Pruned
+pub mod Rereading
+pub mod CSelection

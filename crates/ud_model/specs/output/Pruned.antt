@@ -1,0 +1,130 @@
+-- The pruned tree: what is left of a text whose sections are all closed.
+-- unifdef(1): a section whose directives all go gives way to the nodes of its kept group, if there is one; each other one
+-- keeps its kept groups in order, with edited directives; and so it is inside.
+--
+--   Edited L        a line of the output: the line that it comes from, and what became of that
+--   Left L          what is left of a section's groups
+--   pruned ns       the pruned nodes
+--   printed xs ms   the lines that are left of these with these marks: removed ones go, an edited one is another directive
+--   IsUndecided ns  each condition but that of an `#else` is unknown
+--
+-- The first true group is the last one that is kept, and the kept groups are those that aren't false. So the directives
+-- all go if no group is kept, or the first kept one is true.
+--
+-- Example: of `#if X`, `#elif defined A`, `#elif Y`, `#else`, `#endif` under -DA an `#if X`, an `#else` from the second
+-- line and an `#endif` from the third are left.
+use Rattle.std.specs.Prelude.{◌≡◌, List, [], ◌∷◌, ◌++◌, Option, Some, None}
+use Rattle.ud_model.specs.declared.cond.Cond.{Cond}
+use Rattle.ud_model.specs.declared.cond.Cond.TheVariants.{Yes, No, Unknown}
+use Rattle.ud_model.specs.declared.verdict.Verdict.{Verdict}
+use Rattle.ud_model.specs.declared.verdict.Verdict.TheVariants.{Keep, Remove, ToIf, ToElse, ToEndif}
+use Rattle.ud_model.specs.sections.Tree.{item_with, Item, Opener, Nodes, Groups, Elifs, if_line, elif_line, else_line, endif_line, nothing, text, section, conditional, otherwise, first, elif}
+use Rattle.ud_model.specs.sections.Pruning.{Part, an_if, an_elif, Mark, first_kept_verdict}
+
+-- a line of the output: the line that it comes from, and what became of that
+pub record Edited (L : Type 0) : Type 0 where
+  pub line : L
+  pub verdict : Verdict
+
+-- what is left of a section's groups
+pub data Left (L : Type 0) : Type 0 where
+  -- no group is kept
+  none_kept : Left L
+  -- the first kept group is true: its nodes
+  replaced : Nodes (Edited L) → Left L
+  -- the kept groups, of which none is true
+  kept_groups : Elifs (Edited L) → Left L
+  -- the kept groups, of which the last one is true and stands under an `#else`; and the opener after it, if there is one
+  ended : Elifs (Edited L) → Edited L → Nodes (Edited L) → Option (Edited L) → Left L
+
+-- these nodes, and then those
+abbrev pub then_nodes : {L : Type 0} → Nodes L → Nodes L → Nodes L
+then_nodes ms nothing = ms
+then_nodes ms (text ns l) = text (then_nodes ms ns) l
+then_nodes ms (section ns gs e) = section (then_nodes ms ns) gs e
+
+module _ {L : Type 0} where
+  -- what became of a line
+  abbrev pub edited : Verdict → L → Edited L
+  edited v l = record { line = l; verdict = v }
+
+  -- what became of an opener
+  abbrev pub edited_opener : Verdict → Opener L → Opener (Edited L)
+  edited_opener v o = record { line = edited v o.line; cond = o.cond; ignoring = o.ignoring }
+
+  -- one group more after what is left: its opener, the opener's condition, and its pruned nodes
+  abbrev pub with_group : Left L → Part → Opener L → Cond → Nodes (Edited L) → Left L
+  with_group none_kept part o Yes ns = replaced ns
+  with_group none_kept part o No ns = none_kept
+  with_group none_kept part o Unknown ns = kept_groups (first (edited_opener (first_kept_verdict part) o) ns)
+  with_group (replaced ms) part o c ns = replaced ms
+  with_group (kept_groups es) part o Yes ns = ended es (edited ToElse o.line) ns None
+  with_group (kept_groups es) part o No ns = kept_groups es
+  with_group (kept_groups es) part o Unknown ns = kept_groups (elif es (edited_opener Keep o) ns)
+  with_group (ended es l ms None) part o c ns = ended es l ms (Some (edited ToEndif o.line))
+  with_group (ended es l ms (Some k)) part o c ns = ended es l ms (Some k)
+
+  -- the group of an `#else` more
+  abbrev pub with_else : Left L → L → Nodes (Edited L) → Left L
+  with_else none_kept l ns = replaced ns
+  with_else (replaced ms) l ns = replaced ms
+  with_else (kept_groups es) l ns = ended es (edited Keep l) ns None
+  with_else (ended es k ms None) l ns = ended es k ms (Some (edited ToEndif l))
+  with_else (ended es k ms (Some j)) l ns = ended es k ms (Some j)
+
+  -- nodes, and then what is left of a section with this `#endif`
+  abbrev pub then_left : Nodes (Edited L) → Left L → L → Nodes (Edited L)
+  then_left ns none_kept e = ns
+  then_left ns (replaced ms) e = then_nodes ns ms
+  then_left ns (kept_groups es) e = section ns (conditional es) (edited Keep e)
+  then_left ns (ended es l ms None) e = section ns (otherwise es l ms) (edited Keep e)
+  then_left ns (ended es l ms (Some k)) e = section ns (otherwise es l ms) k
+
+  abbrev mutual
+    -- the pruned nodes
+    pub pruned : Nodes L → Nodes (Edited L)
+    pruned nothing = nothing
+    pruned (text ns l) = text (pruned ns) (edited Keep l)
+    pruned (section ns gs e) = then_left (pruned ns) (left_of_groups gs) e
+
+    -- what is left of a section's groups
+    pub left_of_groups : Groups L → Left L
+    left_of_groups (conditional es) = left_of_elifs es
+    left_of_groups (otherwise es l ns) = with_else (left_of_elifs es) l (pruned ns)
+
+    -- what is left of the groups with a condition
+    pub left_of_elifs : Elifs L → Left L
+    left_of_elifs (first o ns) = with_group none_kept an_if o o.cond (pruned ns)
+    left_of_elifs (elif es o ns) = with_group (left_of_elifs es) an_elif o o.cond (pruned ns)
+
+  -- a line as an item of the output, if it is left: an edited directive is another one
+  abbrev pub left_item : Verdict → Item L → List (Item (Edited L))
+  left_item Remove x = []
+  left_item ToIf (elif_line o) = if_line (edited_opener ToIf o) ∷ []
+  left_item ToElse (elif_line o) = else_line (edited ToElse o.line) ∷ []
+  left_item ToEndif (elif_line o) = endif_line (edited ToEndif o.line) ∷ []
+  left_item ToEndif (else_line l) = endif_line (edited ToEndif l) ∷ []
+  left_item v x = item_with (edited v) x ∷ []
+
+  -- the lines that are left of these with these marks
+  abbrev pub printed : List (Item L) → List Mark → List (Item (Edited L))
+  printed [] ms = []
+  printed (x ∷ xs) [] = []
+  printed (x ∷ xs) (m ∷ ms) = left_item m.verdict x ++ printed xs ms
+
+  abbrev mutual
+    -- each condition but that of an `#else` is unknown
+    pub IsUndecided : Nodes L → Type 0
+    IsUndecided nothing = Unit {0}
+    IsUndecided (text ns l) = IsUndecided ns
+    IsUndecided (section ns gs e) = IsUndecided ns × GroupsUndecided gs
+
+    -- so it is in a section
+    pub GroupsUndecided : Groups L → Type 0
+    GroupsUndecided (conditional es) = ElifsUndecided es
+    GroupsUndecided (otherwise es l ns) = ElifsUndecided es × IsUndecided ns
+
+    -- and in the groups with a condition
+    pub ElifsUndecided : Elifs L → Type 0
+    ElifsUndecided (first o ns) = (o.cond ≡ Unknown) × IsUndecided ns
+    ElifsUndecided (elif es o ns) = ElifsUndecided es × (o.cond ≡ Unknown) × IsUndecided ns

@@ -1,0 +1,6 @@
+-- Directives, the sections that they make of a text, and what becomes of each line (C11 6.10, unifdef(1)).
+pub mod Directives
+pub mod Tree
+pub mod Pruning
+pub mod Items
+pub mod Faults

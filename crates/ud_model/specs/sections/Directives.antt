@@ -1,0 +1,111 @@
+-- Directives: what a scan carries.
+-- C11 6.10: a directive is a line whose first byte that isn't white space is `#`.
+--
+--   content_of scan      a cut keyword, else a directive, else text
+--   Directive            its kind, the keyword's place, what follows the keyword, and whether a continuation cuts it
+--
+-- Example: `  # ifdef A` is an `#ifdef` whose keyword lies at 4 and has 5 bytes, and ` A` follows it.
+use Rattle.std.specs.Prelude.{ℕ, ◌-◌, ◌==◌, List, [], ◌∷◌, length, Bool, true, false, not, ◌&&◌, ◌||◌, if◌then◌else◌, Option, Some, None, bytes_eq, codes}
+use Rattle.std.specs.List.{list_any, starts_with}
+use Rattle.std.specs.Prelude.{nat_eq}
+use Rattle.ud_model.specs.text.Bytes.{past_white, word_in_front, past_word, are_word_bytes}
+use Rattle.ud_model.specs.text.Scans.{Scan}
+use Rattle.ud_model.specs.declared.kind.Kind.{Kind}
+use Rattle.ud_model.specs.declared.kind.Kind.TheVariants.{If, Ifdef, Ifndef, Elif, Else, Endif}
+use Rattle.ud_model.specs.declared.kind.CommentAt.{CommentAt}
+use Rattle.ud_model.specs.declared.kind.CommentAt.TheVariants.{Outside, InLine, InBlock}
+
+-- a place in a line's body, and how many bytes lie there
+pub record Span : Type 0 where
+  pub at : ℕ
+  pub len : ℕ
+
+pub record Directive : Type 0 where
+  pub kind : Kind
+  pub keyword : Span
+  -- the masked bytes behind the keyword
+  pub after : List ℕ
+  -- a continuation cuts it: the line is spliced outside comments
+  pub broken : Bool
+
+pub data Content : Type 0 where
+  -- it can't be known whether the line carries a directive, since its keyword goes on behind a continuation
+  cut_keyword : Content
+  directive : Directive → Content
+  text : Content
+
+-- the six keywords
+abbrev pub kind_of : List ℕ → Option Kind
+kind_of word =
+    if bytes_eq word (codes "if") then Some If
+    else if bytes_eq word (codes "ifdef") then Some Ifdef
+    else if bytes_eq word (codes "ifndef") then Some Ifndef
+    else if bytes_eq word (codes "elif") then Some Elif
+    else if bytes_eq word (codes "else") then Some Else
+    else if bytes_eq word (codes "endif") then Some Endif
+    else None
+
+-- what follows the `#` that comes first but for white space, if one does
+abbrev pub past_sign_of : List ℕ → Option (List ℕ)
+past_sign_of [] = None
+past_sign_of (b ∷ bs) = if b == 35 then Some bs else None
+
+abbrev pub past_sign : List ℕ → Option (List ℕ)
+past_sign masked = past_sign_of (past_white masked)
+
+abbrev pub is_outside : CommentAt → Bool
+is_outside Outside = true
+is_outside InLine = false
+is_outside InBlock = false
+
+abbrev pub is_in_line : CommentAt → Bool
+is_in_line Outside = false
+is_in_line InLine = true
+is_in_line InBlock = false
+
+-- a continuation cuts the line outside comments
+abbrev pub is_cut_off : Scan → Bool
+is_cut_off scan = scan.spliced && is_outside scan.comment
+
+-- this word is a front of a keyword, or a whole one
+abbrev pub begins_keyword : List ℕ → Bool
+begins_keyword word =
+    list_any (λ keyword. starts_with nat_eq keyword word)
+    (codes "if" ∷ codes "ifdef" ∷ codes "ifndef" ∷ codes "elif" ∷ codes "else" ∷ codes "endif" ∷ [])
+
+-- a nonempty run of word bytes, up to the end, that begins a keyword
+abbrev pub is_keyword_front : List ℕ → Bool
+is_keyword_front [] = false
+is_keyword_front (b ∷ bs) = are_word_bytes (b ∷ bs) && begins_keyword (b ∷ bs)
+
+-- behind the `#`, the white space left out, the keyword can't be known: nothing follows; or the line is cut off and
+-- a single `/` follows, which may begin a comment; or it is cut off within a word that may become a keyword
+abbrev pub leaves_keyword : Scan → List ℕ → Bool
+leaves_keyword scan [] = true
+leaves_keyword scan (b ∷ bs) = is_cut_off scan && (bytes_eq (b ∷ bs) (47 ∷ []) || is_keyword_front (b ∷ bs))
+
+abbrev pub has_cut_keyword : Scan → Option (List ℕ) → Bool
+has_cut_keyword scan None = false
+has_cut_keyword scan (Some rest) =
+    scan.fresh && scan.joins_after && not (is_in_line scan.comment) && leaves_keyword scan (past_white rest)
+
+-- the directive whose keyword stands in front of these bytes, which end the masked line
+abbrev pub directive_at : Scan → List ℕ → Option Kind → Content
+directive_at scan rest None = text
+directive_at scan rest (Some kind) = directive (record {
+  kind = kind;
+  keyword = record { at = length scan.masked - length rest; len = length (word_in_front rest) };
+  after = past_word rest;
+  broken = is_cut_off scan;
+})
+
+abbrev pub found_behind : Scan → Option (List ℕ) → Content
+found_behind scan None = text
+found_behind scan (Some rest) =
+    if scan.fresh then directive_at scan (past_white rest) (kind_of (word_in_front (past_white rest))) else text
+
+-- what a scan carries: a directive where the line is fresh and its masked text is white space, `#`, white space, and a
+-- longest run of word bytes that is a keyword
+abbrev pub content_of : Scan → Content
+content_of scan =
+    if has_cut_keyword scan (past_sign scan.masked) then cut_keyword else found_behind scan (past_sign scan.masked)

@@ -1,0 +1,205 @@
+-- Progress: from what is known up to a place to what is known further on.
+use Rattle.std.proofs.Common.{◌≡◌, ℕ, ◌+◌, ◌-◌, ◌<◌, ◌≤◌, List, [], ◌∷◌, ◌++◌, length, take, drop, Bool, true, false, refl, sym, ◌∙◌, ap, subst, append_assoc, append-nil, arith, length-append}
+use Rattle.std.proofs.lemmas.List.{take-append-drop, length-take-le}
+use Rattle.ud_model.specs.text.Scanning.{is_block}
+use Rattle.ud_model.specs.aids.Places.{Place, in_text, at_slash, in_block, at_star, in_line, in_literal, at_backslash, next, whitens, place_kind}
+use Rattle.ud_text.specs.States.{next_state, State, text_state, NoFeedInBlock, state_after, Passed, IsQuiet}
+use Rattle.ud_text.proofs.QuietLemmas.{state_after-append, IsQuiet-append, IsQuiet-feed, NoFeedInBlock-append, NoFeedInBlock-rest}
+use Rattle.ud_text.proofs.PlainLemmas.{begins_ends, passed_none}
+use Rattle.ud_text.proofs.SpanLemmas.{NoComment-append}
+use Rattle.ud_text.specs.Spans.{after_feed, at_start, LineSpan, NoComment, LastBegins, TextSpan, BeginsLine}
+use Rattle.ud_text.specs.Progress.{ReadTo, ReadOutside}
+use Rattle.std.proofs.Math.Seq.{drop-append_seam, take-append_seam}
+use Rattle.ud_model.specs.text.Bytes.{line_feed}
+
+drop_front : (p q : List ℕ) (n : ℕ) → n ≡ length p → drop n (p ++ q) ≡ q
+drop_front p q n e = ap (λ (k : ℕ). drop k (p ++ q)) e ∙ drop-append_seam p q
+
+take_front : (p q : List ℕ) (n : ℕ) → n ≡ length p → take n (p ++ q) ≡ p
+take_front p q n e = ap (λ (k : ℕ). take k (p ++ q)) e ∙ take-append_seam p q
+
+-- a line begins after bytes that end with a line feed, whatever stands before them
+pub begins-append : (p q : List ℕ) → BeginsLine (q ++ line_feed ∷ []) → BeginsLine (p ++ (q ++ line_feed ∷ []))
+begins-append p q h = subst BeginsLine (append_assoc p q (line_feed ∷ [])) (after_feed (p ++ q))
+
+feed_open : (s : State) → is_block (place_kind s.place) ≡ false → next_state s line_feed ≡ text_state true
+feed_open s e = by_place s.place e
+  where
+    by_place : (w : Place) → is_block (place_kind w) ≡ false → ◌≡◌ {A = State} (record { place = next w line_feed; white = whitens w s.white line_feed; spliced = false }) (text_state true)
+    by_place in_text e = refl
+    by_place at_slash e = refl
+    by_place in_block e = cc
+    by_place at_star e = cc
+    by_place in_line e = refl
+    by_place (in_literal q) e = refl
+    by_place (at_backslash q) e = refl
+
+-- lines that are passed, and further ones
+pub Passed-append : {start now later : State} (p q : List ℕ) → Passed start p now → BeginsLine (p ++ q) → IsQuiet now q →
+    state_after now q ≡ later → Passed start (p ++ q) later
+Passed-append {start} p q h b k e = record {
+  ends = begins_ends (p ++ q) b;
+  quiet = IsQuiet-append start p q h.quiet (subst (λ (s : State). IsQuiet s q) (sym h.leads) k);
+  leads = state_after-append start p q ∙ ap (λ (s : State). state_after s q) h.leads ∙ e;
+}
+
+module _ {start : State} {bytes : List ℕ} {line : ℕ} {kept : State} {at : ℕ} {now : State}
+    (r : ReadTo start bytes line kept at now) where
+  -- the bytes from the place on
+  pub rest_of : drop at bytes ≡ r.rest
+  rest_of = ap (λ (l : List ℕ). drop at l) (r.is ∙ sym (append_assoc r.front r.mid r.rest))
+      ∙ drop_front (r.front ++ r.mid) r.rest at (r.at_is ∙ sym (length-append r.front r.mid))
+
+  -- the bytes from the beginning of the line up to the place
+  pub mid_of : take (at - line) (drop line bytes) ≡ r.mid
+  mid_of = ap (λ (l : List ℕ). take (at - line) l) (ap (λ (l : List ℕ). drop line l) r.is ∙ drop_front r.front (r.mid ++ r.rest) line r.line_is)
+      ∙ take_front r.mid r.rest (at - line) (let e : at ≡ length r.front + length r.mid = r.at_is in let f : line ≡ length r.front = r.line_is in omega arith)
+
+  -- the lines before that beginning are passed
+  pub passed_of : Passed start (take line bytes) kept
+  passed_of = subst (λ (l : List ℕ). Passed start l kept)
+      (sym (ap (λ (l : List ℕ). take line l) r.is ∙ take_front r.front (r.mid ++ r.rest) line r.line_is)) r.passed
+
+  -- further bytes are read
+  pub read_on : (k : ℕ) (run : List ℕ) → run ≡ take k (drop at bytes) → k ≤ length (drop at bytes) → IsQuiet now run → NoFeedInBlock now run →
+      (v : State) → state_after now run ≡ v → ReadTo start bytes line kept (at + k) v
+  unfolding rest_of
+  read_on k run e h q l v there = record {
+    front = r.front;
+    mid = r.mid ++ run;
+    rest = drop k (drop at bytes);
+    is = r.is
+        ∙ ap (λ (x : List ℕ). r.front ++ (r.mid ++ x)) (sym rest_of ∙ sym (take-append-drop k (drop at bytes)) ∙ ap (λ (x : List ℕ). x ++ drop k (drop at bytes)) (sym e))
+        ∙ ap (λ (x : List ℕ). r.front ++ x) (sym (append_assoc r.mid run (drop k (drop at bytes))));
+    line_is = r.line_is;
+    at_is = (let f : at ≡ length r.front + length r.mid = r.at_is in
+        let g : length run ≡ k = ap length e ∙ length-take-le k (drop at bytes) h in
+        omega (arith, length-append r.mid run));
+    passed = r.passed;
+    quiet = IsQuiet-append kept r.mid run r.quiet (subst (λ (s : State). IsQuiet s run) (sym r.leads) q);
+    no_feed = NoFeedInBlock-append kept r.mid run r.no_feed (subst (λ (s : State). NoFeedInBlock s run) (sym r.leads) l);
+    leads = state_after-append kept r.mid run ∙ ap (λ (s : State). state_after s run) r.leads ∙ there;
+  }
+
+  -- the same, said from the beginning of a later line
+  settled_at : (n : ℕ) (m : List ℕ) → BeginsLine m → m ≡ take n r.mid → n ≤ length r.mid → 0 < n → ReadTo start bytes (line + n) (text_state true) at now
+  settled_at n _ at_start e h k = absurd (let f : 0 ≡ n = ap length e ∙ length-take-le n r.mid h in omega arith)
+  settled_at n _ (after_feed x) e h k =
+      let y : List ℕ = drop n r.mid in
+      let split : r.mid ≡ (x ++ line_feed ∷ []) ++ y = sym (take-append-drop n r.mid) ∙ ap (λ (l : List ℕ). l ++ drop n r.mid) (sym e) in
+      let whole : r.mid ≡ x ++ line_feed ∷ y = split ∙ append_assoc x (line_feed ∷ []) y in
+      let parts : IsQuiet kept (x ++ line_feed ∷ []) × IsQuiet (state_after kept (x ++ line_feed ∷ [])) y = IsQuiet-feed kept x y (subst (λ (l : List ℕ). IsQuiet kept l) whole r.quiet) in
+      let kept_on : NoFeedInBlock (state_after kept x) (line_feed ∷ y) = NoFeedInBlock-rest kept x (line_feed ∷ y) (subst (λ (l : List ℕ). NoFeedInBlock kept l) whole r.no_feed) in
+      let there : state_after kept (x ++ line_feed ∷ []) ≡ text_state true = state_after-append kept x (line_feed ∷ []) ∙ feed_open (state_after kept x) kept_on.0 in
+      record {
+        front = r.front ++ (x ++ line_feed ∷ []);
+        mid = y;
+        rest = r.rest;
+        is = r.is ∙ ap (λ (l : List ℕ). r.front ++ (l ++ r.rest)) split ∙ ap (λ (l : List ℕ). r.front ++ l) (append_assoc (x ++ line_feed ∷ []) y r.rest)
+            ∙ sym (append_assoc r.front (x ++ line_feed ∷ []) (y ++ r.rest));
+        line_is = (let f : line ≡ length r.front = r.line_is in
+            let g : length (x ++ line_feed ∷ []) ≡ n = ap length e ∙ length-take-le n r.mid h in
+            omega (arith, length-append r.front (x ++ line_feed ∷ [])));
+        at_is = (let f : at ≡ length r.front + length r.mid = r.at_is in
+            let g : length r.mid ≡ length (x ++ line_feed ∷ []) + length y = ap length split ∙ length-append (x ++ line_feed ∷ []) y in
+            omega (arith, length-append r.front (x ++ line_feed ∷ [])));
+        passed = Passed-append r.front (x ++ line_feed ∷ []) r.passed (begins-append r.front x (after_feed x)) parts.0 there;
+        quiet = subst (λ (t : State). IsQuiet t y) there parts.1;
+        no_feed = subst (λ (t : State). NoFeedInBlock t y) (sym (state_after-append kept x (line_feed ∷ [])) ∙ there) kept_on.1;
+        leads = ap (λ (t : State). state_after t y) (sym there) ∙ sym (state_after-append kept (x ++ line_feed ∷ []) y) ∙ ap (λ (l : List ℕ). state_after kept l) (sym split) ∙ r.leads;
+      }
+
+  -- and from the beginning of the last line
+  pub settled : (n : ℕ) → LastBegins (take (at - line) (drop line bytes)) n → 0 < n → ReadTo start bytes (line + n) (text_state true) at now
+  unfolding mid_of
+  settled n h k =
+      let l : LastBegins r.mid n = subst (λ (x : List ℕ). LastBegins x n) mid_of h in
+      settled_at n (take n r.mid) l.begins refl l.within k
+
+-- nothing is read yet
+pub read_none : (start : State) (bytes : List ℕ) → ReadTo start bytes 0 start 0 start
+read_none start bytes = record {
+  front = [];
+  mid = [];
+  rest = bytes;
+  is = refl;
+  line_is = refl;
+  at_is = omega arith;
+  passed = passed_none start;
+  quiet = tt;
+  no_feed = tt;
+  leads = refl;
+}
+
+-- nothing is read yet, outside comments
+pub read_start : (bytes : List ℕ) → ReadOutside (text_state true) bytes 0 (text_state true) 0 true 0
+unfolding read_none
+read_start bytes = record {
+  now_white = true;
+  so_far = read_none (text_state true) bytes;
+  before = [];
+  plain = [];
+  mid_is = refl;
+  base_is = omega arith;
+  base_white = true;
+  base_leads = refl;
+  base_begins = λ e. refl;
+  no_comment = tt;
+}
+
+-- the place itself is a base
+pub read_base : {start : State} {bytes : List ℕ} {line : ℕ} {kept : State} {at : ℕ} {now : Bool} (begins : Bool) →
+    (begins ≡ true → now ≡ true) → ReadTo start bytes line kept at (text_state now) → ReadOutside start bytes line kept at begins at
+read_base {now = now} begins b r = record {
+  now_white = now;
+  so_far = r;
+  before = r.mid;
+  plain = [];
+  mid_is = sym (append-nil r.mid);
+  base_is = r.at_is;
+  base_white = now;
+  base_leads = r.leads;
+  base_begins = b;
+  no_comment = tt;
+}
+
+module _ {start : State} {bytes : List ℕ} {line : ℕ} {kept : State} {base : ℕ} {begins : Bool} {at : ℕ}
+    (r : ReadOutside start bytes line kept base begins at) where
+  -- where the bytes after the base lead
+  pub plain_leads : state_after (text_state r.base_white) r.plain ≡ text_state r.now_white
+  plain_leads = ap (λ (s : State). state_after s r.plain) (sym r.base_leads) ∙ sym (state_after-append kept r.before r.plain)
+      ∙ ap (λ (l : List ℕ). state_after kept l) (sym r.mid_is) ∙ r.so_far.leads
+
+  -- the bytes after the base
+  pub plain_of : take (at - base) (drop base bytes) ≡ r.plain
+  plain_of = ap (λ (l : List ℕ). take (at - base) l)
+      (ap (λ (l : List ℕ). drop base l) (r.so_far.is ∙ ap (λ (l : List ℕ). r.so_far.front ++ (l ++ r.so_far.rest)) r.mid_is
+      ∙ ap (λ (l : List ℕ). r.so_far.front ++ l) (append_assoc r.before r.plain r.so_far.rest) ∙ sym (append_assoc r.so_far.front r.before (r.plain ++ r.so_far.rest)))
+      ∙ drop_front (r.so_far.front ++ r.before) (r.plain ++ r.so_far.rest) base (r.base_is ∙ sym (length-append r.so_far.front r.before)))
+      ∙ take_front r.plain r.so_far.rest (at - base)
+      (let e : at ≡ length r.so_far.front + length r.so_far.mid = r.so_far.at_is in
+      let f : base ≡ length r.so_far.front + length r.before = r.base_is in
+      let g : length r.so_far.mid ≡ length r.before + length r.plain = ap length r.mid_is ∙ length-append r.before r.plain in
+      omega arith)
+
+  -- further bytes are read outside comments
+  pub read_text : (k : ℕ) → k ≤ length (drop at bytes) → TextSpan r.now_white (take k (drop at bytes)) → ReadOutside start bytes line kept base begins (at + k)
+  unfolding read_on
+  read_text k h t = record {
+    now_white = t.now_white;
+    so_far = read_on r.so_far k (take k (drop at bytes)) refl h t.quiet t.no_feed (text_state t.now_white) t.leads;
+    before = r.before;
+    plain = r.plain ++ take k (drop at bytes);
+    mid_is = ap (λ (l : List ℕ). l ++ take k (drop at bytes)) r.mid_is ∙ append_assoc r.before r.plain (take k (drop at bytes));
+    base_is = r.base_is;
+    base_white = r.base_white;
+    base_leads = r.base_leads;
+    base_begins = r.base_begins;
+    no_comment = NoComment-append (text_state r.base_white) r.plain (take k (drop at bytes)) r.no_comment
+        (subst (λ (x : State). NoComment x.place (take k (drop at bytes))) (sym plain_leads) t.no_comment);
+  }
+
+  -- further bytes are read up to the beginning of a line, where there is a new base
+  pub read_line : (k : ℕ) → k ≤ length (drop at bytes) → LineSpan r.now_white (take k (drop at bytes)) → ReadOutside start bytes line kept (at + k) true (at + k)
+  read_line k h t = read_base true (λ e. refl)
+      (read_on r.so_far k (take k (drop at bytes)) refl h t.quiet t.no_feed (text_state true) t.leads)

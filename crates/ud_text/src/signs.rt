@@ -1,0 +1,93 @@
+//! Whether a `#` may belong to a directive, by the bytes before it and after it.
+//!
+//! It doesn't if a word that is no keyword follows, nor if its logical line isn't white before it (C11 6.10).
+
+ghost use Rattle.std.specs.Prelude.{◌≡◌, ◌≤◌, ◌<◌, ◌-◌, ◌⊎◌, length, drop, slice_index, true, false, IfSome};
+ghost use Rattle.ud_model.specs.text.Bytes.{is_white, are_white, past_white};
+ghost use Rattle.ud_text.specs.States.{is_other_word, is_other_name};
+ghost use Rattle.ud_text.specs.Spans.{SeenWhite};
+
+use crate::bytes::{is_white, is_word_byte};
+
+/// Whether a word begins with the first of these bytes, and no keyword does, or with both of them.
+fn is_other_word(first: u8, second: u8) -> bool
+    ensures { result ≡ is_other_word first second }
+{
+    if !is_word_byte(first) {
+        return false;
+    }
+    match first {
+        b'i' => is_word_byte(second) && second != b'f',
+        b'e' => is_word_byte(second) && second != b'l' && second != b'n',
+        _ => true,
+    }
+}
+
+/// The bytes after the white space in front.
+fn past_white(bytes: &[u8]) -> &[u8]
+    ensures { result.now ≡ past_white bytes.now }
+{
+    let mut rest = bytes;
+    while let Some((first, others)) = rest.split_first() {
+        if !is_white(*first) {
+            break;
+        }
+        rest = others;
+    }
+    rest
+}
+
+/// Whether a word that is no keyword comes first, but for white space.
+fn is_other_name(bytes: &[u8]) -> bool
+    ensures { result ≡ is_other_name bytes.now }
+{
+    match past_white(bytes) {
+        [first, second, ..] => is_other_word(*first, *second),
+        _ => false,
+    }
+}
+
+/// Where the white space at the end of these bytes begins.
+fn white_begin(bytes: &[u8]) -> usize
+    ensures bound { result ≤ length bytes.now }
+    ensures white { are_white (drop result bytes.now) ≡ true }
+    ensures black { 0 < result → is_white (slice_index bytes.now (result - 1)) ≡ false }
+{
+    let mut at = bytes.len();
+    while at > 0 {
+        if !is_white(bytes[at - 1]) {
+            return at;
+        }
+        at -= 1;
+    }
+    at
+}
+
+/// Whether the logical line is white after these bytes, which have no comment. `begins` tells that it is white before
+/// them. No answer if they are white themselves, and what stands before them isn't known.
+pub(crate) fn line_white(bytes: &[u8], begins: bool) -> Option<bool>
+    ensures { IfSome result (λ white. SeenWhite bytes.now begins white) }
+{
+    let at = white_begin(bytes);
+    if at > 0 {
+        Some(bytes[at - 1] == b'\n')
+    } else if begins {
+        Some(true)
+    } else {
+        None
+    }
+}
+
+/// Whether a `#` is seen to belong to no directive, by what stands before it on its line and by the name after it.
+/// `begins` tells that the logical line is white before the former.
+pub(crate) fn is_text_sign(before: &[u8], begins: bool, name: &[u8]) -> bool
+    ensures { result ≡ true → (is_other_name name.now ≡ true) ⊎ SeenWhite before.now begins false }
+{
+    if is_other_name(name) {
+        return true;
+    }
+    match line_white(before, begins) {
+        Some(white) => !white,
+        None => false,
+    }
+}

@@ -1,0 +1,123 @@
+//! Spans of bytes outside block comments that are read in one go, each begun by a byte that may matter.
+//!
+//! A span ends on the line on which it begins. If its end isn't seen in the bytes, or a backslash may belong to a splice,
+//! there is no answer: the line is then read by itself.
+
+ghost use Rattle.std.specs.Prelude.{◌≡◌, ◌≤◌, ◌<◌, Bool, [], ◌∷◌, length, take, slice_index, true, false, IfSome, OnSome};
+ghost use Rattle.ud_model.specs.text.Bytes.{slash, backslash, is_quote};
+ghost use Rattle.ud_text.specs.Spans.{is_special, TextSpan, LineSpan};
+
+use crate::searching::is_special;
+use memchr::memchr2;
+
+/// The second byte, if it can't matter by itself outside comments and literals.
+fn plain_second(rest: &[u8]) -> Option<u8>
+    ensures within { OnSome result (2 ≤ length rest.now) }
+    ensures second { IfSome result (λ byte. byte ≡ slice_index rest.now 1) }
+    ensures plain { IfSome result (λ byte. is_special byte ≡ false) }
+{
+    if rest.len() < 2 {
+        return None;
+    }
+    let byte = rest[1];
+    if is_special(byte) {
+        return None;
+    }
+    Some(byte)
+}
+
+/// A slash that begins no comment, with the byte after it. No answer if that byte may matter by itself.
+fn slash_span(rest: &[u8]) -> Option<usize>
+    requires first { slice_index rest.now 0 ≡ slash }
+    ensures bound { IfSome result (λ n. (0 < n) × (n ≤ length rest.now)) }
+    ensures read { IfSome result (λ n. (white : Bool) → TextSpan white (take n rest.now)) }
+{
+    let Some(byte) = plain_second(rest) else {
+        return None;
+    };
+    if byte == b'*' {
+        return None;
+    }
+    Some(2)
+}
+
+/// A backslash that belongs to no splice, with the byte after it. No answer if that byte may matter by itself.
+fn backslash_span(rest: &[u8]) -> Option<usize>
+    requires first { slice_index rest.now 0 ≡ backslash }
+    ensures bound { IfSome result (λ n. (0 < n) × (n ≤ length rest.now)) }
+    ensures read { IfSome result (λ n. (white : Bool) → TextSpan white (take n rest.now)) }
+{
+    let Some(byte) = plain_second(rest) else {
+        return None;
+    };
+    if byte == b'\n' {
+        return None;
+    }
+    if byte == b'\r' {
+        return None;
+    }
+    Some(2)
+}
+
+/// A literal with this quote, up to the quote that closes it (C11 6.4.4.4 and 6.4.5). No answer if its line ends before.
+fn literal_span(rest: &[u8], quote: u8) -> Option<usize>
+    requires some { 0 < length rest.now }
+    requires first { slice_index rest.now 0 ≡ quote }
+    requires quote { is_quote quote ≡ true }
+    ensures bound { IfSome result (λ n. (0 < n) × (n ≤ length rest.now)) }
+    ensures read { IfSome result (λ n. (white : Bool) → TextSpan white (take n rest.now)) }
+{
+    let mut at = 1;
+    while at < rest.len() {
+        let byte = rest[at];
+        if byte == b'\n' {
+            return None;
+        }
+        if byte == quote {
+            return Some(at + 1);
+        }
+        if byte == b'\\' {
+            if at + 1 >= rest.len() {
+                return None;
+            }
+            if rest[at + 1] == b'\n' {
+                return None;
+            }
+            at += 2;
+        } else {
+            at += 1;
+        }
+    }
+    None
+}
+
+/// What is read in one go outside comments, begun by a slash, a backslash or a quote.
+pub(crate) fn text_span(rest: &[u8]) -> Option<usize>
+    requires some { 0 < length rest.now }
+    ensures bound { IfSome result (λ n. (0 < n) × (n ≤ length rest.now)) }
+    ensures read { IfSome result (λ n. (white : Bool) → TextSpan white (take n rest.now)) }
+{
+    match rest[0] {
+        b'/' => slash_span(rest),
+        b'\\' => backslash_span(rest),
+        b'"' => literal_span(rest, b'"'),
+        b'\'' => literal_span(rest, b'\''),
+        _ => None,
+    }
+}
+
+/// A line comment with its line feed (C11 6.4.9). No answer if a backslash stands in it.
+pub(crate) fn comment_span(rest: &[u8]) -> Option<usize>
+    requires some { 2 ≤ length rest.now }
+    requires first { take 2 rest.now ≡ slash ∷ slash ∷ [] }
+    ensures bound { IfSome result (λ n. (0 < n) × (n ≤ length rest.now)) }
+    ensures read { IfSome result (λ n. (white : Bool) → LineSpan white (take n rest.now)) }
+{
+    let Some(count) = memchr2(b'\n', b'\\', &rest[2..]) else {
+        return None;
+    };
+    if rest[2 + count] == b'\n' {
+        return Some(2 + count + 1);
+    }
+    None
+}

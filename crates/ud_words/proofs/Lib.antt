@@ -1,0 +1,4 @@
+mod LetterLemmas
+mod GivenLemmas
+mod OptionLemmas
+mod PlanLemmas

@@ -1,0 +1,5 @@
+pub mod Letters
+pub mod Given
+pub mod Storing
+pub mod Saying
+pub mod Planning

@@ -1,0 +1,13 @@
+-- When memory is taken for the words: as what an option says of a symbol is put into the table.
+--
+--   PutsSymbol gs   among what is given an option says something of a symbol, and up to it nothing is wrong
+use Rattle.std.specs.Prelude.{◌≡◌, List, [], ◌∷◌, ◌++◌, None, IsSome}
+use Rattle.ud_model.specs.answer.CommandLine.{Given, first_fault, argument_in}
+
+pub record PutsSymbol (gs : List Given) : Type 0 where
+  pub before : List Given
+  pub symbol : Given
+  pub more : List Given
+  pub is : gs ≡ before ++ symbol ∷ more
+  pub right : first_fault (before ++ symbol ∷ []) ≡ None
+  pub says : IsSome (argument_in symbol)

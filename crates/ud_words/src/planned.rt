@@ -1,0 +1,142 @@
+//! The plan of a run: what the words of a command line say.
+
+ghost use Rattle.std.specs.Prelude.{◌≡◌, ◌++◌, ◌∷◌, [], List, None, IsSome, OnOk, IfErr};
+ghost use Rattle.ud_model.specs.conditions.Table.{Argument};
+ghost use Rattle.ud_cond.specs.Standing.{StandsFor};
+ghost use Rattle.ud_model.specs.answer.CommandLine.{Given as GivenInWords};
+ghost use Rattle.ud_model.specs.answer.CommandLine.{argument_in};
+ghost use Rattle.ud_words.specs.Given.{told};
+ghost use Rattle.ud_words.specs.Saying.{IsSaid, IsUsageOf, as_argument};
+ghost use Rattle.ud_words.specs.Planning.{PlansFor};
+
+use crate::command_line::Given;
+use crate::options::{Said, Symbol, accept, with_flag};
+use crate::usage::Usage;
+use std::alloc::Global;
+use std::marker::Model;
+use ud_cond::Symbols;
+use ud_model::{ExitMode, Listing, Settings};
+
+/// What the words of a command line say: the settings, the symbols and the operand.
+#[derive(Drop)]
+pub struct Plan {
+    /// The settings, as they were given.
+    settings: Settings,
+    /// What is said of symbols.
+    symbols: Symbols,
+    /// The operand's place among the words, counted from 0.
+    operand: Option<usize>,
+}
+
+impl Model for Plan {
+    ghost use Rattle.ud_words.specs.Planning.{Planned};
+
+    ghost Value = { Planned };
+
+    ghost view = { λ p. record { settings = p.settings; symbols = p.symbols; operand = p.operand } };
+}
+
+impl Plan {
+    /// The plan of no words. Its symbols take memory from `alloc`.
+    pub(crate) fn new(alloc: Global) -> Plan
+        ensures { PlansFor result [] }
+    {
+        Plan {
+            settings: Settings {
+                plain: false,
+                constants: false,
+                strict: false,
+                blank: false,
+                complement: false,
+                renumber: false,
+                listing: Listing::Off,
+                exit_mode: ExitMode::Zero,
+            },
+            symbols: Symbols::new(alloc),
+            operand: None,
+        }
+    }
+
+    /// The settings, as they were given: `renumber` stays true beside `blank`, and both beside a listing.
+    pub fn settings(&self) -> Settings
+        ensures { result ≡ self.now.settings }
+    {
+        self.settings
+    }
+
+    /// What is said of symbols.
+    pub fn symbols(&self) -> &Symbols
+        ensures { result.now ≡ self.now.symbols }
+    {
+        &self.symbols
+    }
+
+    /// The operand's place among the words, counted from 0; `None` where there is no operand.
+    pub fn operand(&self) -> Option<usize>
+        ensures { result ≡ self.now.operand }
+    {
+        self.operand
+    }
+
+    /// Takes what is given next into the plan.
+    ///
+    /// # Errors
+    /// What is wrong with it, or, where it is right and says something of a symbol, that memory for that was refused. The
+    /// plan is then of no use.
+    pub(crate) fn take(&mut self, given: Given<'_>) -> Result<(), Usage>
+        ensures ok { (gs : List GivenInWords) → PlansFor self.old gs → OnOk result (PlansFor self.new (gs ++ told given.entry ∷ [])) }
+        ensures err { (gs : List GivenInWords) → PlansFor self.old gs → (more : List GivenInWords)
+            → IfErr result (IsUsageOf (gs ++ told given.entry ∷ more)) }
+    {
+        match accept(given, self.operand.is_some()) {
+            Err(fault) => Err(fault),
+            Ok(said) => self.add(said),
+        }
+    }
+
+    /// Adds what is said to the plan, behind no operand.
+    ///
+    /// # Errors
+    /// `OutOfMemory` where memory for a symbol is refused.
+    fn add(&mut self, said: Said<'_>) -> Result<(), Usage>
+        ensures ok { (gs : List GivenInWords) → (g : GivenInWords) → PlansFor self.old gs → self.old.operand ≡ None → IsSaid g said.entry
+            → OnOk result (PlansFor self.new (gs ++ g ∷ [])) }
+        ensures err { (g : GivenInWords) → IsSaid g said.entry → IfErr result (λ u. (u ≡ Usage.OutOfMemory) × IsSome (argument_in g)) }
+    {
+        match said {
+            Said::Flag { letter } => {
+                self.settings = with_flag(self.settings, letter);
+                Ok(())
+            }
+            Said::Mode { mode } => {
+                self.settings.exit_mode = mode;
+                Ok(())
+            }
+            Said::Symbol { symbol } => self.say(symbol),
+            Said::Operand { place, .. } => {
+                self.operand = Some(place);
+                Ok(())
+            }
+        }
+    }
+
+    /// Puts what is said of a symbol into the table.
+    ///
+    /// # Errors
+    /// `OutOfMemory` where memory is refused; the name is right, so the table refuses for no other reason.
+    fn say(&mut self, symbol: Symbol<'_>) -> Result<(), Usage>
+        ensures ok { OnOk result ((calls : List Argument) → StandsFor self.old.symbols calls
+            → StandsFor self.new.symbols (calls ++ as_argument symbol.entry ∷ [])) }
+        ensures same { (self.new.settings ≡ self.old.settings) × (self.new.operand ≡ self.old.operand) }
+        ensures err { IfErr result (λ u. u ≡ Usage.OutOfMemory) }
+    {
+        let said = match symbol.value {
+            Some(value) => self.symbols.define(symbol.name, value, symbol.ignoring),
+            None => self.symbols.undefine(symbol.name, symbol.ignoring),
+        };
+        match said {
+            Ok(()) => Ok(()),
+            Err(_) => Err(Usage::OutOfMemory),
+        }
+    }
+}

@@ -1,0 +1,128 @@
+//! Reading the words of a command line: what they say, and where they are faulty.
+
+ghost use Rattle.std.specs.Prelude.{◌≡◌, ◌∷◌, [], None, Some, map, string_bytes, option_map, IfOk, IfErr};
+ghost use Rattle.ud_model.specs.answer.CommandLine.{Given, usage_fault, given_in, operand_in, input_of, input_name};
+ghost use Rattle.ud_words.specs.Saying.{IsSaid, IsFaultOf, IsUsageOf};
+ghost use Rattle.ud_words.specs.Planning.{IsPlanOf, as_operand};
+
+use crate::command_line::CommandLine;
+use crate::options::{Said, accept};
+use crate::planned::Plan;
+use crate::usage::Usage;
+use std::alloc::Global;
+
+/// What the words of a command line say, of which the program's name is none (POSIX XBD 12.2, unifdef(1)).
+///
+/// A word that starts with `-` and is longer is letters of options, up to the first operand or `--`; an option's
+/// argument is the rest of its word or, where that is empty, the whole next word. Memory is taken for the symbols alone.
+///
+/// # Errors
+/// The first fault in reading order: `UnknownOption`, `MissingArgument`, `BadSymbol`, `BadMode`, or `TooManyFiles` at
+/// the word behind an operand. `OutOfMemory` if memory is refused as a symbol is put into the table; the words after it
+/// aren't read then, and those up to it have no fault. Words without a right `-D`, `-U` or `-i` before their first fault
+/// never have this answer.
+pub fn plan(alloc: Global, words: &[String]) -> Result<Plan, Usage>
+    ensures ok { IfOk result (IsPlanOf (map string_bytes words.now)) }
+    ensures err { IfErr result (IsUsageOf (given_in (map string_bytes words.now))) }
+{
+    let mut plan = Plan::new(alloc);
+    let mut line = CommandLine::new(words);
+    'given: while let Some((given, behind)) = line.next() {
+        line = behind;
+        plan.take(given)?;
+    }
+    Ok(plan)
+}
+
+/// The place of the operand that names a file, counted from 0 among the words. Takes no memory.
+///
+/// `None` where the words have a fault, where there is no operand, and where it is `-`, the standard input.
+pub fn input_of(words: &[String]) -> Option<usize>
+    ensures { result ≡ input_of (map string_bytes words.now) }
+{
+    match operand_in(words) {
+        Ok(Some(operand)) => operand.file(),
+        Ok(None) | Err(_) => None,
+    }
+}
+
+/// How messages call the input of words that have no fault: by the operand's bytes, or `stdin` where there is no operand
+/// or it is `-`. Takes no memory.
+pub fn input_name(words: &[String]) -> &[u8]
+    ensures { usage_fault (map string_bytes words.now) ≡ None → result.now ≡ input_name (map string_bytes words.now) }
+{
+    match operand_in(words) {
+        Ok(Some(operand)) => operand.called(),
+        Ok(None) | Err(_) => b"stdin",
+    }
+}
+
+/// An operand.
+#[derive(Clone, Copy)]
+pub(crate) struct Operand<'a> {
+    /// Its place among the words, counted from 0.
+    pub place: usize,
+    /// Its bytes, of which there may be none.
+    pub name: &'a [u8],
+}
+
+impl<'a> Operand<'a> {
+    ghost use Rattle.ud_model.specs.answer.CommandLine.{is_standard, file_place, name_or_stdin};
+
+    /// Whether it is `-`, the standard input.
+    fn is_standard(&self) -> bool
+        ensures { result ≡ is_standard self.now.name.now }
+    {
+        self.name == b"-".as_slice()
+    }
+
+    /// Its place, where it names a file; `-` is the standard input.
+    fn file(&self) -> Option<usize>
+        ensures { result ≡ file_place (Some (as_operand self.now)) }
+    {
+        if self.is_standard() {
+            None
+        } else {
+            Some(self.place)
+        }
+    }
+
+    /// How messages call it.
+    fn called(&self) -> &'a [u8]
+        ensures { result.now ≡ name_or_stdin (Some (as_operand self.now)) }
+    {
+        if self.is_standard() {
+            b"stdin"
+        } else {
+            self.name
+        }
+    }
+}
+
+/// The operand, where the words have no fault. Takes no memory.
+///
+/// # Errors
+/// The first fault in reading order; none is `OutOfMemory`.
+fn operand_in(words: &[String]) -> Result<Option<Operand<'_>>, Usage>
+    ensures ok { IfOk result (λ o. (usage_fault (map string_bytes words.now) ≡ None)
+        × (option_map as_operand o ≡ operand_in (given_in (map string_bytes words.now)))) }
+    ensures err { IfErr result (IsFaultOf (usage_fault (map string_bytes words.now))) }
+{
+    let mut line = CommandLine::new(words);
+    let mut operand = None;
+    'given: while let Some((given, behind)) = line.next() {
+        line = behind;
+        operand = operand_said(accept(given, operand.is_some())?);
+    }
+    Ok(operand)
+}
+
+/// The operand, where it is one that was given.
+fn operand_said(said: Said<'_>) -> Option<Operand<'_>>
+    ensures { (g : Given) → IsSaid g said.entry → option_map as_operand result ≡ operand_in (g ∷ []) }
+{
+    match said {
+        Said::Operand { place, name } => Some(Operand { place, name }),
+        Said::Flag { .. } | Said::Mode { .. } | Said::Symbol { .. } => None,
+    }
+}
