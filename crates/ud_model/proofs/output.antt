@@ -39,3 +39,6 @@ pub mod CSelected
 pub mod SeenLines
 pub mod PrunedOpeners
 pub mod AnswerLaws
+pub mod WorldsExist
+pub mod ReachedPruned
+pub mod ReachedAlike

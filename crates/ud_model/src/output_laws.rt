@@ -9,7 +9,7 @@ ghost use Rattle.ud_model.specs.sections.Items.{Options};
 ghost use Rattle.ud_model.specs.answer.Runs.{Outcome, Runs};
 ghost use Rattle.ud_model.specs.output.Worlds.{World, Agrees, selected, openers};
 ghost use Rattle.ud_model.specs.output.Pruned.{Edited, edited, pruned, printed, IsUndecided};
-ghost use Rattle.ud_model.specs.output.Rereading.{IsTreeOf, IsClean, HasTrees, LinesFit, line_bytes, edited_bytes, KeepsTruths};
+ghost use Rattle.ud_model.specs.output.Rereading.{IsTreeOf, IsClean, CleanRun, LinesFit, line_bytes, edited_bytes, KeepsTruths};
 ghost use Rattle.ud_model.specs.output.CSelection.{IsCWorld, condition_in};
 ghost use Rattle.ud_model.specs.declared.settings.Listing.{Listing};
 ghost use Rattle.ud_model.specs.declared.verdict.Verdict.{Verdict};
@@ -37,24 +37,30 @@ pub fn law_tree_of()
     ensures only { (o : Options) → (text : List ℕ) → (t : Tree Reading) → (u : Tree Reading) → IsTreeOf o text t → IsTreeOf o text u → t ≡ u }
 {}
 
-/// The output has a tree: the pruned tree of the input, each line as it is printed. Of the openers in it with a condition
-/// none is decided. Unless a line of the output is too long, the output is printed as it is, without a fault: unifdef(1) has
-/// nothing more to do.
+/// The output has a tree whose sections are all closed: the pruned tree of the input, each line as it is printed. Of the
+/// openers in it with a condition none is decided. Unless a line of the output is too long, the output is printed as it is,
+/// without a fault: unifdef(1) has nothing more to do.
 pub fn law_reread()
-    ensures tree { (o : Options) → (input : List ℕ) → (r : Outcome) → IsClean o input r → (ns : Nodes Reading) → IsTreeOf o input (closed ns) → (us : Nodes Reading) × IsTreeOf o r.output (closed us) × (with_lines line_bytes us ≡ with_lines edited_bytes (pruned ns)) × IsUndecided us }
+    ensures tree { (o : Options) → (input : List ℕ) → (r : Outcome) → IsClean o input r → (ns : Nodes Reading) → IsTreeOf o input (closed ns) → (us : Nodes Reading) × IsTreeOf o r.output (closed us) }
+    ensures left { (k : CleanRun) → with_lines line_bytes k.after ≡ with_lines edited_bytes (pruned k.before) }
+    ensures undecided { (k : CleanRun) → IsUndecided k.after }
     ensures again { (o : Options) → (input : List ℕ) → (r : Outcome) → IsClean o input r → LinesFit (lines_of r.output) → Runs o r.output (record { output = r.output; fault = None; differs = false }) }
 {}
 
-/// In each world that agrees with what is decided of the input, the lines that are selected of the output are those that
-/// are selected of the input, byte by byte (C11 6.10.1p6).
+/// Each opener of the output can be given the truth of the opener from which it comes. If the world agrees with what is
+/// decided of the input, the lines that are selected of the output are then those that are selected of the input, byte by
+/// byte (C11 6.10.1p6).
 pub fn law_selected()
-    ensures { (o : Options) → (input : List ℕ) → (r : Outcome) → (ns : Nodes Reading) → (us : Nodes Reading) → HasTrees o input r ns us → (w : World Reading) → (v : World Reading) → Agrees w ns → KeepsTruths w ns v us → map line_bytes (selected v us) ≡ map line_bytes (selected w ns) }
+    ensures truths { (k : CleanRun) → (w : World Reading) → (v : World Reading) × KeepsTruths w k.before v k.after }
+    ensures same { (k : CleanRun) → (w : World Reading) → (v : World Reading) → Agrees w k.before → KeepsTruths w k.before v k.after → map line_bytes (selected v k.after) ≡ map line_bytes (selected w k.before) }
 {}
 
 /// Whatever C makes of each condition that it evaluates, where each symbol that the options don't name is any number: the
-/// lines that it selects of the output are those that it selects of the input, byte by byte (C11 6.10.1p4, p6). And each
-/// opener of the output has the very condition of the opener from which it comes, so C may make the same of both.
+/// lines that it selects of the output are those that it selects of the input, byte by byte (C11 6.10.1p4, p6). Each opener
+/// of the output has the very condition of the opener from which it comes, so C may make of the output what it makes of the
+/// input.
 pub fn law_c_selects()
-    ensures selected { (o : Options) → (input : List ℕ) → (r : Outcome) → (ns : Nodes Reading) → (us : Nodes Reading) → HasTrees o input r ns us → (w : World Reading) → (v : World Reading) → IsCWorld o.table w ns → KeepsTruths w ns v us → map line_bytes (selected v us) ≡ map line_bytes (selected w ns) }
-    ensures conditions { (o : Options) → (input : List ℕ) → (r : Outcome) → (ns : Nodes Reading) → (us : Nodes Reading) → HasTrees o input r ns us → map condition_in (openers us) ≡ map (λ e. condition_in e.line) (openers (pruned ns)) }
+    ensures selected { (k : CleanRun) → (w : World Reading) → (v : World Reading) → IsCWorld k.options.table w k.before → KeepsTruths w k.before v k.after → map line_bytes (selected v k.after) ≡ map line_bytes (selected w k.before) }
+    ensures conditions { (k : CleanRun) → map condition_in (openers k.after) ≡ map (λ e. condition_in e.line) (openers (pruned k.before)) }
+    ensures world { (k : CleanRun) → (w : World Reading) → (v : World Reading) → IsCWorld k.options.table w k.before → KeepsTruths w k.before v k.after → IsCWorld k.options.table v k.after }
 {}

@@ -33,12 +33,17 @@ pub answered_selects : {words : List (List ℕ)} {input : List ℕ} {a : Answer}
     (ns us : Nodes Reading) → IsTreeOf (options_of words) input (closed ns) → IsTreeOf (options_of words) a.output (closed us) →
     (w v : World Reading) → IsCWorld (options_of words).table w ns → KeepsTruths w ns v us → map line_bytes (selected v us) ≡ map line_bytes (selected w ns)
 answered_selects (refused f e) n p ns us b c w v g t = absurd (n refl)
-answered_selects {words = words} (ran r e d) n p ns us b c w v g t =
+answered_selects {words = words} {input = input} (ran r e d) n p ns us b c w v g t =
     c_selected_again (record {
+      options = options_of words;
+      input = input;
+      outcome = r;
       clean = record { plain = p; runs = d; faultless = faultless (options_of words).settings r.differs r.fault n };
+      before = ns;
       of_input = b;
+      after = us;
       of_output = c;
-    }) w v g t
+    }) w g v t
 
 -- the status is that of a copy exactly if the bytes are the same
 pub answered_status : {words : List (List ℕ)} {input : List ℕ} {a : Answer} → IsAnswer words input a → a.status ≢ 2 →

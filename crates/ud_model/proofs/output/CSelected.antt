@@ -2,7 +2,8 @@
 --
 -- A directive whose section lies in a kept place, and whose condition is decided, is edited or removed; so it joins no
 -- other line, and its condition ends on its line.
-use Rattle.std.proofs.Common.{◌≡◌, List, [], ◌∷◌, ◌++◌, length, Bool, true, false, not, ◌&&◌, ◌||◌, Option, Some, None, IsTrue, refl, sym, ◌∙◌, ap, subst, length-append, arith}
+use Rattle.std.proofs.Common.{◌≡◌, List, [], ◌∷◌, ◌++◌, length, Bool, true, false, not, ◌&&◌, ◌||◌, Option, Some, None, refl, sym, ◌∙◌, ap, subst, length-append, arith}
+use Rattle.std.proofs.lemmas.Bool.{false_from_ne_true}
 use Rattle.ud_model.specs.text.Scans.{Reading}
 use Rattle.ud_model.specs.declared.cond.Cond.{Cond}
 use Rattle.ud_model.specs.declared.cond.Cond.TheVariants.{Yes, No, Unknown}
@@ -40,10 +41,6 @@ alone_by false before true k r q e a b c = cc
 alone_by true before true false r q e a b c = cc
 alone_by true before true true true q e a b c = cc
 
-not_true : (b : Bool) → (IsTrue b → ⊥) → b ≡ false
-not_true true n = absurd (n refl)
-not_true false n = refl
-
 pub sound_clear : (o : Options) (xs : List (Item Reading)) (t : Tree Reading) → AreSound o xs t → Pairwise (Clear o) xs (marks t)
 sound_clear o _ _ no_lines = tt
 sound_clear o _ _ (one_more xs t s l u e n) =
@@ -54,7 +51,7 @@ sound_clear o _ _ (one_more xs t s l u e n) =
       own = ap (item_of o) (sym (reading_of-item_of o (read_after xs (mode_after o t) l)));
       alone = alone_by (is_directive x) (reading_of x).scan.joins_before (reading_of x).scan.joins_after m.0.kept (keeps_rest m.0.verdict)
           ((reading_of x).scan.joins_before && ends_removed (marks t))
-          (not_true (is_spoiled_behind (ends_removed (marks t)) x m.0) (λ h. n.1.1.1.1.1.0 (marks t, m.0, (u, e, m.1), h)));
+          (false_from_ne_true (is_spoiled_behind (ends_removed (marks t)) x m.0) (λ h. n.1.1.1.1.1.0 (marks t, m.0, (u, e, m.1), h)));
     } in
     subst (λ (ms : List Mark). Pairwise (Clear o) (xs ++ x ∷ []) ms) (sym m.1)
     (pairwise_both (Clear o) xs (marks t) (x ∷ []) (m.0 ∷ [])

@@ -1,5 +1,6 @@
 -- What stands before a directive's keyword, and the keyword itself.
 use Rattle.std.proofs.Common.{◌≡◌, ◌≢◌, ℕ, ◌+◌, ◌-◌, ◌==◌, List, [], ◌∷◌, ◌++◌, length, Bool, true, false, not, ◌&&◌, ◌||◌, Option, Some, None, bytes_eq, codes, if◌then◌else◌, refl, sym, ◌∙◌, ap, ap₂, subst, append_assoc, arith, length-append, eqb-true, ◌⊎◌, inl, inr}
+use Rattle.std.proofs.lemmas.Bool.{and_parts, not-true}
 use Rattle.std.proofs.lemmas.Slice.Eq.{bytes_eq-Decides}
 use Rattle.ud_model.specs.text.Bytes.{slash, space, line_feed, is_quote, is_white, is_word_byte, past_white, word_in_front, past_word}
 use Rattle.ud_model.specs.text.Scans.{Scan}
@@ -155,28 +156,20 @@ abbrev pub are_quiet : List ℕ → Bool
 are_quiet [] = true
 are_quiet (c ∷ w) = is_quiet c && are_quiet w
 
-both : (a b : Bool) → (a && b) ≡ true → (a ≡ true) × (b ≡ true)
-both true b e = (refl, e)
-both false b e = cc
-
-not_true : (a : Bool) → not a ≡ true → a ≡ false
-not_true false e = refl
-not_true true e = cc
-
 quiet_inert : (c : ℕ) → is_quiet c ≡ true → IsInert c × (c ≢ space)
 quiet_inert c e =
-    let p : ((not (c == slash) && not (is_quote c) && not (c == line_feed)) ≡ true) × (not (c == space) ≡ true) = both (not (c == slash) && not (is_quote c) && not (c == line_feed)) (not (c == space)) e in
-    let q : ((not (c == slash) && not (is_quote c)) ≡ true) × (not (c == line_feed) ≡ true) = both (not (c == slash) && not (is_quote c)) (not (c == line_feed)) p.0 in
-    let r : (not (c == slash) ≡ true) × (not (is_quote c) ≡ true) = both (not (c == slash)) (not (is_quote c)) q.0 in (
-      record { no_slash = not_true (c == slash) r.0; no_quote = not_true (is_quote c) r.1; no_feed = not_true (c == line_feed) q.1 },
-      λ h. let f : true ≡ false = sym (ap (λ (x : ℕ). x == space) h) ∙ not_true (c == space) p.1 in cc,
+    let p : ((not (c == slash) && not (is_quote c) && not (c == line_feed)) ≡ true) × (not (c == space) ≡ true) = and_parts (not (c == slash) && not (is_quote c) && not (c == line_feed)) (not (c == space)) e in
+    let q : ((not (c == slash) && not (is_quote c)) ≡ true) × (not (c == line_feed) ≡ true) = and_parts (not (c == slash) && not (is_quote c)) (not (c == line_feed)) p.0 in
+    let r : (not (c == slash) ≡ true) × (not (is_quote c) ≡ true) = and_parts (not (c == slash)) (not (is_quote c)) q.0 in (
+      record { no_slash = not-true (c == slash) r.0; no_quote = not-true (is_quote c) r.1; no_feed = not-true (c == line_feed) q.1 },
+      λ h. let f : true ≡ false = sym (ap (λ (x : ℕ). x == space) h) ∙ not-true (c == space) p.1 in cc,
     )
 
 -- such bytes begin nothing, and none is a space
 pub quiet_word : (w : List ℕ) → are_quiet w ≡ true → Each IsInert w × Each (λ c. c ≢ space) w
 quiet_word [] e = (tt, tt)
 quiet_word (c ∷ w) e =
-    let p : (is_quiet c ≡ true) × (are_quiet w ≡ true) = both (is_quiet c) (are_quiet w) e in
+    let p : (is_quiet c ≡ true) × (are_quiet w ≡ true) = and_parts (is_quiet c) (are_quiet w) e in
     let q : IsInert c × (c ≢ space) = quiet_inert c p.0 in
     let r : Each IsInert w × Each (λ c. c ≢ space) w = quiet_word w p.1 in
     ((q.0, r.0), (q.1, r.1))

@@ -1,5 +1,6 @@
 -- What a masked line carries that was made from one with a directive.
 use Rattle.std.proofs.Common.{◌≡◌, ℕ, ◌+◌, ◌-◌, List, [], ◌∷◌, ◌++◌, length, take, Bool, true, false, not, ◌&&◌, Option, Some, codes, if◌then◌else◌, refl, sym, ◌∙◌, ap, ap₂, append_assoc, arith, length-append, ◌⊎◌, inl, inr}
+use Rattle.std.proofs.Math.Bool.{and-false}
 use Rattle.std.proofs.lemmas.List.{take_at}
 use Rattle.ud_model.specs.text.Bytes.{past_white, word_in_front, past_word}
 use Rattle.ud_model.specs.text.Scans.{Scan}
@@ -62,10 +63,6 @@ module _ (now : Scan) (ws gs tail : List ℕ) (k : Kind) (w : Each IsWhite ws) (
       ∙ ap (λ (o : Option Kind). directive_at now tail o) kind
       ∙ ap (λ (n : ℕ). directive (record { kind = k; keyword = record { at = n; len = length (word_in_front tail) }; after = past_word tail; broken = is_cut_off now })) at_is
 
-unsettled : (b : Bool) → (b && false) ≡ false
-unsettled true = refl
-unsettled false = refl
-
 -- `#elif X` with two spaces after an `if` in place of its keyword is an `#if` with the same text after two spaces
 pub to_if_content : (scan now : Scan) (d : Directive) → content_of scan ≡ directive d → now.masked ≡ take d.keyword.at scan.masked ++ (codes "if  " ++ d.after) →
     now.fresh ≡ scan.fresh → is_cut_off now ≡ is_cut_off scan →
@@ -75,7 +72,7 @@ to_if_content scan now d e m f c =
     let head : take d.keyword.at scan.masked ≡ p.white ++ 35 ∷ p.gap =
     ap₂ (λ (n : ℕ) (t : List ℕ). take n t) p.at_is p.masked_is ∙ take_at (p.white ++ 35 ∷ p.gap) (p.word ++ d.after) (length (p.white ++ 35 ∷ p.gap)) refl in
     carries now p.white p.gap (codes "if  " ++ d.after) If p.whites p.gaps refl (m ∙ ap (λ (t : List ℕ). t ++ (codes "if  " ++ d.after)) head) (f ∙ p.fresh_is)
-    (inr (unsettled (is_cut_off now))) refl
+    (inr (and-false (is_cut_off now))) refl
     ∙ ap₂ (λ (n : ℕ) (b : Bool). directive (record { kind = If; keyword = record { at = n; len = 2 }; after = 32 ∷ 32 ∷ d.after; broken = b })) (sym p.at_is) (c ∙ sym p.broken_is)
 
 -- a line that ends after `else` or `endif` in place of its keyword, and joins no other

@@ -1,5 +1,6 @@
 -- The pieces of a text are lines: each has a line feed as its last byte and nowhere else, but perhaps the last one.
 use Rattle.std.proofs.Common.{◌≡◌, ◌≢◌, ℕ, ◌+◌, ◌-◌, List, [], ◌∷◌, ◌++◌, length, take, drop, ◌⊎◌, inl, inr, Bool, true, false, codes, ◌==◌, ◌||◌, if◌then◌else◌, nat_eq, refl, sym, ◌∙◌, ap, ap₂, subst, append_assoc, append-nil, arith, length-append}
+use Rattle.std.proofs.lemmas.Bool.{or_parts}
 use Rattle.std.specs.List.{ends_with}
 use Rattle.std.proofs.lemmas.Bool.Decides.{Decides-eqb}
 use Rattle.std.proofs.lemmas.Slice.Eq.{ends_is}
@@ -82,14 +83,10 @@ abbrev has_feed : List ℕ → Bool
 has_feed [] = false
 has_feed (b ∷ bs) = (b == 10) || has_feed bs
 
-neither : (a b : Bool) → (a || b) ≡ false → (a ≡ false) × (b ≡ false)
-neither false b e = (refl, e)
-neither true b e = cc
-
 word_no_feed : (w : List ℕ) → has_feed w ≡ false → NoFeed w
 word_no_feed [] e = tt
 word_no_feed (b ∷ w) e =
-    let p : ((b == 10) ≡ false) × (has_feed w ≡ false) = neither (b == 10) (has_feed w) e in
+    let p : ((b == 10) ≡ false) × (has_feed w ≡ false) = or_parts (b == 10) (has_feed w) e in
     (λ h. let f : true ≡ false = sym (ap (λ (x : ℕ). x == 10) h) ∙ p.0 in cc, word_no_feed w p.1)
 
 edited_no_feed : (v : Verdict) (k : Span) (b : List ℕ) → NoFeed b → NoFeed (edited_body v k b)

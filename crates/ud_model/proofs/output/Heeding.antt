@@ -1,5 +1,6 @@
 -- If no argument has plain sections, no section ignores, and every line is read in one mode.
 use Rattle.std.proofs.Common.{◌≡◌, ℕ, List, [], ◌∷◌, ◌++◌, Bool, true, false, not, ◌&&◌, ◌||◌, Option, Some, None, bytes_eq, if◌then◌else◌, refl, sym, ◌∙◌, ap, ap₂, subst}
+use Rattle.std.proofs.Math.Bool.{or-false}
 use Rattle.ud_model.specs.text.Lines.{Line}
 use Rattle.ud_model.specs.text.Scans.{Reading}
 use Rattle.ud_model.specs.sections.Directives.{Content, cut_keyword, directive, text, content_of}
@@ -102,15 +103,11 @@ tree_heeds (open_section ns h t) e =
     let p : Each Heeds (lines_of_nodes ns ++ lines_of_head h) × Each Heeds (lines t) = each_parts Heeds (lines_of_nodes ns ++ lines_of_head h) (lines t) e in
     ap₂ (λ (a b : Bool). a || b) (head_heeds h (each_parts Heeds (lines_of_nodes ns) (lines_of_head h) p.0).1) (tree_heeds t p.1)
 
-or_false : (b : Bool) → (b || false) ≡ b
-or_false true = refl
-or_false false = refl
-
 module _ (o : Options) (n : NoneIgnores o.table) where
   -- after lines none of which ignores the mode is the one mode
   pub one_mode : (xs : List (Item Reading)) (t : Tree Reading) → lines t ≡ xs → Each Heeds xs → mode_after o t ≡ the_mode o
   one_mode xs t e h =
-      ap (λ (b : Bool). mode_by (o.settings.plain || b)) (tree_heeds t (subst (Each Heeds) (sym e) h)) ∙ ap mode_by (or_false o.settings.plain)
+      ap (λ (b : Bool). mode_by (o.settings.plain || b)) (tree_heeds t (subst (Each Heeds) (sym e) h)) ∙ ap mode_by (or-false o.settings.plain)
 
   all_heed : (m : Mode) (ys : List (Item Reading)) → ReadIn o m ys → Each Heeds ys
   all_heed m _ none_read = tt

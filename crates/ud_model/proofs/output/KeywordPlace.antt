@@ -1,5 +1,6 @@
 -- The place of a keyword: before it no comment and no literal is open, and what stands there may be exchanged.
 use Rattle.std.proofs.Common.{◌≡◌, ◌≢◌, ℕ, ◌+◌, ◌==◌, List, [], ◌∷◌, ◌++◌, length, Bool, true, false, ◌&&◌, ◌||◌, if◌then◌else◌, refl, sym, ◌∙◌, ap, ap₂, subst, append-nil, arith, length-append, eqb-true, ◌⊎◌, inl, inr}
+use Rattle.std.proofs.Math.Bool.{and-false}
 use Rattle.ud_model.specs.text.Bytes.{slash, star, space, line_feed, is_quote, is_white}
 use Rattle.ud_model.specs.aids.Places.{Place, in_text, at_slash, in_block, at_star, in_line, in_literal, at_backslash, next, opens, shows, whitens, blank_last}
 use Rattle.ud_model.proofs.text.PlaceLemmas.{length-blank_last}
@@ -150,11 +151,7 @@ module _ (w : Place) (before more front rest : List ℕ) (place : place_after w 
 
   dark_first : (c : ℕ) (white : Bool) → IsInert c → is_white c ≡ false → whitens in_text white c ≡ false
   dark_first c white i d =
-      ap₂ (λ (s f : Bool). if s then white else if f then true else white && is_white c) i.no_slash i.no_feed ∙ ap (λ (t : Bool). white && t) d ∙ and_false white
-    where
-      and_false : (t : Bool) → (t && false) ≡ false
-      and_false true = refl
-      and_false false = refl
+      ap₂ (λ (s f : Bool). if s then white else if f then true else white && is_white c) i.no_slash i.no_feed ∙ ap (λ (t : Bool). white && t) d ∙ and-false white
 
   -- and so is whether the line is white
   pub white_other : (white : Bool) (c : ℕ) (word : List ℕ) → Each IsInert (c ∷ word) → is_white c ≡ false →

@@ -1,5 +1,6 @@
 -- Where lines in C mode leave off: what a line after them is seen by.
 use Rattle.std.proofs.Common.{◌≡◌, ◌≢◌, ℕ, List, [], ◌∷◌, ◌++◌, map, Bool, true, false, refl, sym, ◌∙◌, ap, ap₂, subst, if◌then◌else◌, ◌==◌, ◌&&◌, ◌⊎◌, inl, inr, eqb-true}
+use Rattle.std.proofs.Math.Bool.{and-false}
 use Rattle.std.proofs.lemmas.List.{map-append}
 use Rattle.ud_model.specs.text.Bytes.{is_white, is_quote, slash, star, line_feed, backslash}
 use Rattle.ud_model.specs.text.Lines.{Line}
@@ -11,11 +12,11 @@ use Rattle.ud_model.specs.sections.Tree.{Item}
 use Rattle.ud_model.specs.sections.Items.{Options, reading_of, item_of, read_after}
 use Rattle.ud_model.specs.declared.kind.Mode.{Mode}
 use Rattle.ud_model.specs.declared.kind.Mode.TheVariants.{C, Plain}
+use Rattle.ud_model.proofs.sections.Soundness.{reading_of-item_of}
 use Rattle.ud_model.proofs.text.ScanLaws.{place_after, white_after, scan_from, scan_behind-from, Reads-append, joins_after-code, starts_anew}
 use Rattle.ud_model.proofs.output.ExchangedScan.{Sane}
 use Rattle.ud_model.proofs.output.DirectiveFront.{either}
 use Rattle.ud_model.proofs.text.ScanLemmas.{kind_at_place, joined_run_last, Reads-close, run_of_last}
-use Rattle.ud_model.proofs.sections.Soundness.{reading_of-item_of}
 use Rattle.ud_model.proofs.text.PlaceLemmas.{Reads-nil}
 
 quote_dark : (b : ℕ) → is_quote b ≡ true → ((b == slash) ≡ false) × ((b == line_feed) ≡ false) × (is_white b ≡ false)
@@ -28,16 +29,12 @@ quote_dark b e = go (either (b == 34) (b == 39) e)
     go (inl f) = at 34 (refl, refl, refl) f
     go (inr f) = at 39 (refl, refl, refl) f
 
-and_false : (t : Bool) → (t && false) ≡ false
-and_false true = refl
-and_false false = refl
-
 sane_text : (s q white : Bool) (b : ℕ) → (b == slash) ≡ s → is_quote b ≡ q → Sane (if s then at_slash else if q then in_literal b else in_text) (if b == slash then white else if b == line_feed then true else white && is_white b)
 sane_text true q white b e f = tt
 sane_text false false white b e f = tt
 sane_text false true white b e f =
     let d : ((b == slash) ≡ false) × ((b == line_feed) ≡ false) × (is_white b ≡ false) = quote_dark b f in
-    ap₂ (λ (s t : Bool). if s then white else if t then true else white && is_white b) d.0 d.1 ∙ ap (λ (t : Bool). white && t) d.2 ∙ and_false white
+    ap₂ (λ (s t : Bool). if s then white else if t then true else white && is_white b) d.0 d.1 ∙ ap (λ (t : Bool). white && t) d.2 ∙ and-false white
 
 sane_slash : (t s q white : Bool) (b : ℕ) → is_quote b ≡ q →
     Sane (if t then in_block else if s then in_line else if q then in_literal b else in_text) (if t then white else if s then white else if b == line_feed then true else false)

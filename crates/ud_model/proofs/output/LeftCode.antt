@@ -1,5 +1,6 @@
 -- What is left of a line in C mode, read again if the lines before and what is left of them leave off alike.
 use Rattle.std.proofs.Common.{◌≡◌, ◌≢◌, ℕ, List, [], ◌∷◌, ◌++◌, map, take, Bool, true, false, ◌||◌, codes, refl, sym, ◌∙◌, ap, ap₂, subst}
+use Rattle.std.proofs.lemmas.Bool.{or_parts}
 use Rattle.ud_model.specs.text.Bytes.{backslash}
 use Rattle.ud_model.specs.text.Lines.{Line, text_of}
 use Rattle.ud_model.specs.text.Scans.{Scan, Reading, is_spanning}
@@ -15,6 +16,7 @@ use Rattle.ud_model.specs.answer.Printing.{piece_by, keyword_in}
 use Rattle.ud_model.specs.declared.kind.Mode.TheVariants.{C}
 use Rattle.ud_model.specs.declared.verdict.Verdict.{Verdict}
 use Rattle.ud_model.specs.declared.verdict.Verdict.TheVariants.{Keep, Remove, ToIf, ToElse, ToEndif}
+use Rattle.ud_model.proofs.sections.Soundness.{reading_of-item_of}
 use Rattle.ud_model.proofs.output.DirectiveFront.{quiet_word}
 use Rattle.ud_model.proofs.output.Each.{Each}
 use Rattle.ud_model.proofs.output.Formed.{EndsIn, IsLeft, not_end}
@@ -28,7 +30,6 @@ use Rattle.ud_model.proofs.output.Rereads.{Carry, alike, Rests}
 use Rattle.ud_model.proofs.output.RereadMore.{last_comment}
 use Rattle.ud_model.proofs.text.ScanLaws.{place_after, white_after, scan_from, scan_behind-from}
 use Rattle.ud_model.proofs.text.ScanLemmas.{joins_last}
-use Rattle.ud_model.proofs.sections.Soundness.{reading_of-item_of}
 use Rattle.ud_model.proofs.output.Suited.{Suits}
 
 calm_by : (s : Bool) (k : PieceKind) → (s || is_block k) ≡ false → is_in_block (comment_at s k) ≡ false
@@ -57,11 +58,6 @@ new_else = ((quiet_word (codes "else") refl).0, λ a. not_end backslash a (codes
 
 new_endif : NewWord (codes "endif")
 new_endif = ((quiet_word (codes "endif") refl).0, λ a. not_end backslash a (codes "endi") 102 refl)
-
-neither : (a b : Bool) → (a || b) ≡ false → (a ≡ false) × (b ≡ false)
-neither false false e = (refl, refl)
-neither true b e = cc
-neither false true e = cc
 
 module _ (o : Options) where
   abbrev with_line : List (Item Reading) → Line → List (Item Reading)
@@ -148,7 +144,7 @@ module _ (o : Options) where
         (b.body ∙ else_body (keyword_in (content_of (scan_after (map reading_of xs) C l))) l.body ∙ ap (λ (t : Content). take (keyword_in t).at l.body ++ codes "else") d.1) in
         record {
           left = left_else o (read_after xs C l) (read_after ys C k) d.0 d.1 d.2 seen e;
-          carry = cut_carry (neither (scan_after (map reading_of xs) C l).joins_before (scan_after (map reading_of xs) C l).joins_after (m refl)).1 seen.joins_is;
+          carry = cut_carry (or_parts (scan_after (map reading_of xs) C l).joins_before (scan_after (map reading_of xs) C l).joins_after (m refl)).1 seen.joins_is;
         }
     left_code ToEndif h s u m b e =
         let d = becomes_endif o (read_after xs C l) s in
@@ -157,5 +153,5 @@ module _ (o : Options) where
         (b.body ∙ endif_body (keyword_in (content_of (scan_after (map reading_of xs) C l))) l.body ∙ ap (λ (t : Content). take (keyword_in t).at l.body ++ codes "endif") d.1) in
         record {
           left = left_endif o (read_after xs C l) (read_after ys C k) d.0 d.1 d.2 seen e;
-          carry = cut_carry (neither (scan_after (map reading_of xs) C l).joins_before (scan_after (map reading_of xs) C l).joins_after (m refl)).1 seen.joins_is;
+          carry = cut_carry (or_parts (scan_after (map reading_of xs) C l).joins_before (scan_after (map reading_of xs) C l).joins_after (m refl)).1 seen.joins_is;
         }

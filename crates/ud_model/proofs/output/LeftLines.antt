@@ -1,5 +1,6 @@
 -- The content of what is left of a line.
 use Rattle.std.proofs.Common.{◌≡◌, ℕ, ◌+◌, ◌-◌, ◌≤◌, List, [], ◌∷◌, ◌++◌, length, take, drop, Bool, true, false, not, ◌&&◌, ◌||◌, codes, nat_eq, if◌then◌else◌, ◌⊎◌, refl, sym, ◌∙◌, ap, ap₂, append_assoc, arith}
+use Rattle.std.proofs.lemmas.Bool.{and_parts}
 use Rattle.std.specs.List.{ends_with}
 use Rattle.std.proofs.lemmas.Bool.Decides.{Decides-eqb}
 use Rattle.std.proofs.lemmas.Slice.Eq.{ends_is}
@@ -29,10 +30,6 @@ piece_line v keyword n m t l e h w =
       ending = ap (λ (j : Line). j.ending) q ∙ sym (ap (λ (j : Line). j.ending) e);
     }
 
-and_left : (a b : Bool) → (a && b) ≡ true → a ≡ true
-and_left true b e = refl
-and_left false b e = cc
-
 same_and : (a b e : Bool) → (b ≡ true → a ≡ true) → ((a && e) ≡ true → b ≡ true) → (b && e) ≡ (a && e)
 same_and true true e f g = refl
 same_and false false e f g = refl
@@ -51,7 +48,7 @@ does_end b (c, e) = (ends_is Decides-eqb b (backslash ∷ []) (ends_with nat_eq 
 -- a spliced line's body is its content and a backslash
 spliced_body : (l : Line) → is_spliced l ≡ true → l.body ≡ content l ++ backslash ∷ []
 spliced_body l s =
-    (ends_is Decides-eqb l.body (backslash ∷ []) (ends_with nat_eq l.body (backslash ∷ [])) refl).0 (and_left (ends_with nat_eq l.body (backslash ∷ [])) (not (is_empty l.ending)) s)
+    (ends_is Decides-eqb l.body (backslash ∷ []) (ends_with nat_eq l.body (backslash ∷ [])) refl).0 (and_parts (ends_with nat_eq l.body (backslash ∷ [])) (not (is_empty l.ending)) s).0
     ∙ sym (ap (λ (t : Bool). (if t then take (length l.body - 1) l.body else l.body) ++ backslash ∷ []) s)
 
 whole_body : (l : Line) → is_spliced l ≡ false → content l ≡ l.body

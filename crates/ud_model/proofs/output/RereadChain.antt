@@ -11,7 +11,7 @@ use Rattle.ud_model.specs.declared.kind.Mode.{Mode}
 use Rattle.ud_model.proofs.output.Each.{Each, each_parts}
 use Rattle.ud_model.proofs.output.Formed.{whole_ending}
 use Rattle.ud_model.proofs.output.Heeding.{the_mode, one_mode, sound_heed}
-use Rattle.ud_model.proofs.sections.Soundness.{sound_lines, reading_of-next}
+use Rattle.ud_model.proofs.sections.Soundness.{reading_of-next, sound_lines}
 use Rattle.ud_model.proofs.output.LeavesOff.{HasEnd}
 use Rattle.ud_model.proofs.output.Rereads.{Again, Between, IsLine, start}
 use Rattle.ud_model.proofs.output.RereadStep.{step}

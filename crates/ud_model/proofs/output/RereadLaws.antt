@@ -1,33 +1,34 @@
 -- The laws of the output, from the chain of lemmas.
 use Rattle.std.proofs.Common.{◌≡◌, ℕ, ◌≤◌, List, [], ◌∷◌, ◌++◌, length, map, Bool, true, false, not, ◌||◌, Option, None, refl, sym, ◌∙◌, ap, ap₂, subst, append-nil, arith}
 use Rattle.std.specs.List.{concat}
-use Rattle.std.proofs.lemmas.List.{map-append, same_from_push}
+use Rattle.std.proofs.lemmas.List.{map-append, length-map}
 use Rattle.std.proofs.lemmas.List.Folds.{concat-append}
 use Rattle.ud_model.specs.text.Lines.{Line, text_of, texts_of, lines_of, numbered_from, AreFormed}
 use Rattle.ud_model.specs.text.Scans.{Reading}
 use Rattle.ud_model.specs.sections.Directives.{content_of}
 use Rattle.ud_model.specs.sections.Tree.{Item, Nodes, Groups, Elifs, Tree, text, section, conditional, otherwise, first, elif, text_line, if_line, elif_line, else_line, endif_line, closed, open_section, nothing, lines, lines_of_nodes, innermost, item_with, with_lines, groups_with_lines, elifs_with_lines}
-use Rattle.ud_model.specs.sections.Pruning.{Mark, marks}
-use Rattle.ud_model.specs.sections.Items.{Options, reading_of, line_of, next_item}
-use Rattle.ud_model.specs.sections.Faults.{Fault, AreSound, no_lines, one_more, end_fault, end_by, ends_in_comment, last_number}
+use Rattle.ud_model.specs.sections.Pruning.{Mark, marks, Part, an_if, an_elif, an_else, first_kept_verdict}
+use Rattle.ud_model.specs.sections.Items.{Options, reading_of, line_of}
+use Rattle.ud_model.specs.sections.Faults.{Fault, end_fault, end_by, ends_in_comment, last_number}
 use Rattle.ud_model.specs.answer.Printing.{Judged, judged_lines, piece_by, piece_behind, pieces_by, style_of, some_other, keyword_in, printed_by}
 use Rattle.ud_model.specs.answer.Runs.{Outcome, Runs, stops, ends, GoesThrough, output_by, differs_by}
 use Rattle.ud_model.specs.output.Worlds.{World, selected, Agrees, openers}
 use Rattle.ud_model.specs.output.Pruned.{Edited, edited, pruned, printed, left_item, IsUndecided, GroupsUndecided, ElifsUndecided}
-use Rattle.ud_model.specs.output.Rereading.{IsPlain, AreRead, no_items, one_item, IsTreeOf, HasTrees, KeepsTruths, LinesFit, line_bytes, edited_bytes}
+use Rattle.ud_model.specs.output.Rereading.{IsPlain, AreRead, IsTreeOf, CleanRun, KeepsTruths, LinesFit, line_bytes, edited_bytes}
 use Rattle.ud_model.specs.conditions.Expressions.{Expression}
-use Rattle.ud_model.specs.output.CSelection.{condition_in, IsCWorld}
+use Rattle.ud_model.specs.output.CSelection.{condition_in, MayBe, IsCWorld}
 use Rattle.ud_model.specs.declared.settings.Listing.{Listing}
 use Rattle.ud_model.specs.declared.verdict.Verdict.{Verdict}
 use Rattle.ud_model.specs.declared.verdict.Verdict.TheVariants.{Keep, Remove, ToIf, ToElse, ToEndif}
-use Rattle.ud_model.proofs.text.Pushes.{push_not_nil}
-use Rattle.ud_model.proofs.sections.Unique.{unique}
-use Rattle.ud_model.proofs.sections.Soundness.{sound_lines, reading_of-next}
+use Rattle.ud_model.proofs.sections.Soundness.{sound_read, one_tree_of, sound_lines, read_lines}
 use Rattle.ud_model.proofs.output.Changed.{whole_lines_are, lines_join, lone, pieces_lone, no_innermost, end_parts}
 use Rattle.ud_model.proofs.output.PrintedPruned.{printed-pruned}
 use Rattle.ud_model.proofs.output.SelectedPruned.{selected-pruned}
 use Rattle.ud_model.proofs.output.SameShape.{same_selected, openers-with}
 use Rattle.ud_model.proofs.output.SeenLines.{Seen, seen, left_condition, left_seen, with_lines-twice, map-twice}
+use Rattle.ud_model.proofs.output.ReachedPruned.{pruned_reached}
+use Rattle.ud_model.proofs.output.ReachedAlike.{reached_alike}
+use Rattle.ud_model.proofs.output.WorldsExist.{world_of}
 use Rattle.ud_model.proofs.output.PrunedOpeners.{KeepsCondition, Keeps, pruned_keeps}
 use Rattle.ud_model.proofs.output.TreeAlong.{AlongNodes, nodes_along}
 use Rattle.ud_model.proofs.output.Undecided.{Stays, pruned_undecided, undecided_stay}
@@ -38,7 +39,7 @@ use Rattle.std.proofs.lemmas.Slice.Eq.{bytes_eq-Decides}
 use Rattle.ud_model.proofs.output.Heeding.{the_mode, are_read}
 use Rattle.ud_model.proofs.output.OutputPieces.{line_in, pieces_formed, output_lines}
 use Rattle.ud_model.proofs.output.Rereads.{Again, IsUncut}
-use Rattle.ud_model.proofs.output.SoundAgain.{read_lines, sound_again}
+use Rattle.ud_model.proofs.output.SoundAgain.{sound_again}
 use Rattle.ud_model.proofs.output.SoundBounds.{IsFew, fit_short, sound_low, sound_few, again_few}
 use Rattle.ud_model.proofs.output.PrunedHeights.{pruned_height, height-with}
 use Rattle.ud_model.specs.aids.Height.{height, height_of_nodes}
@@ -46,32 +47,6 @@ use Rattle.ud_model.specs.declared.limits.TheConstants.{OPEN_SECTIONS}
 use Rattle.ud_model.proofs.output.RereadChain.{AllButLast, lines_end, again}
 use Rattle.ud_model.proofs.text.LinesLemmas.{lines_exist}
 use Rattle.ud_model.proofs.output.CSelected.{Clear, sound_clear, c_agrees}
-
-sound_read : {o : Options} {xs : List (Item Reading)} {t : Tree Reading} → AreSound o xs t → AreRead o xs t
-sound_read no_lines = no_items
-sound_read (one_more xs t s l u e n) = one_item xs t (sound_read s) l u e
-
-module _ (o : Options) where
-  lines_next : (xs : List (Item Reading)) (t : Tree Reading) (l : Line) → map line_of (xs ++ next_item o xs t l ∷ []) ≡ map line_of xs ++ l ∷ []
-  lines_next xs t l = map-append line_of xs (next_item o xs t l ∷ []) ∙ ap (λ k. map line_of xs ++ k ∷ []) (reading_of-next o xs t l)
-
-  read_once : {xs ys : List (Item Reading)} {t u : Tree Reading} → AreRead o xs t → AreRead o ys u → xs ≡ ys → t ≡ u
-  read_once {t = t} {u = u} a b e = unique t u (read_lines a ∙ e ∙ sym (read_lines b))
-
-  -- items that are read of the same lines are the same
-  read_same : (xs ys : List (Item Reading)) (t u : Tree Reading) → AreRead o xs t → AreRead o ys u → map line_of xs ≡ map line_of ys → xs ≡ ys
-  read_same _ _ _ _ no_items no_items e = refl
-  read_same _ _ _ _ no_items (one_item ys u b k v d) e = absurd (push_not_nil (map line_of ys) k (sym (lines_next ys u k) ∙ sym e))
-  read_same _ _ _ _ (one_item xs t a l w c) no_items e = absurd (push_not_nil (map line_of xs) l (sym (lines_next xs t l) ∙ e))
-  read_same _ _ _ _ (one_item xs t a l w c) (one_item ys u b k v d) e =
-      let s : (map line_of xs ≡ map line_of ys) × (l ≡ k) = same_from_push (map line_of xs) (map line_of ys) l k (sym (lines_next xs t l) ∙ e ∙ lines_next ys u k) in
-      let q : xs ≡ ys = read_same xs ys t u a b s.0 in
-      let p : t ≡ u = read_once a b q in
-      rw (q, p, s.1)
-
-  -- a text has one tree at most
-  pub one_tree_of : (input : List ℕ) (t u : Tree Reading) → IsTreeOf o input t → IsTreeOf o input u → t ≡ u
-  one_tree_of input t u a b = read_once a.read b.read (read_same a.items b.items t u a.read b.read (sym a.are ∙ b.are))
 
 -- what is printed of a line is what is left of it
 left_bytes : (v : Verdict) (x : Item Reading) →
@@ -208,28 +183,40 @@ kept_conditions : (es : List (Edited Reading)) → Each Keeps es → map (λ (e 
 kept_conditions [] h = refl
 kept_conditions (e ∷ es) h = ap₂ (λ (x : Option Expression) (xs : List (Option Expression)). x ∷ xs) (kept_condition e.verdict e.line h.0) (kept_conditions es h.1)
 
-module _ {o : Options} {input : List ℕ} {r : Outcome} {ns us : Nodes Reading} (k : HasTrees o input r ns us) where
+module _ (k : CleanRun) where
   -- what the output has is what is left of the input
-  abbrev result : Result o k.clean.plain input r ns
-  result = reread o k.clean.plain input k.clean.runs k.clean.faultless ns k.of_input
+  abbrev result : Result k.options k.clean.plain k.input k.outcome k.before
+  result = reread k.options k.clean.plain k.input k.clean.runs k.clean.faultless k.before k.of_input
 
   -- and its tree is the one that it has
-  same_tree : us ≡ result.tree
-  same_tree = same_nodes us result.tree (one_tree_of o r.output (closed us) (closed result.tree) k.of_output result.is_tree)
+  same_tree : k.after ≡ result.tree
+  same_tree = same_nodes k.after result.tree (one_tree_of k.options k.outcome.output (closed k.after) (closed result.tree) k.of_output result.is_tree)
+
+  -- which is what is left of the input's
+  pub what_is_left : with_lines line_bytes k.after ≡ with_lines edited_bytes (pruned k.before)
+  what_is_left = ap (with_lines line_bytes) same_tree ∙ result.same
 
   -- what is selected of the output is what is selected of the input
-  pub selected_again : (w v : World Reading) → Agrees w ns → KeepsTruths w ns v us → map line_bytes (selected v us) ≡ map line_bytes (selected w ns)
+  pub selected_again : (w v : World Reading) → Agrees w k.before → KeepsTruths w k.before v k.after → map line_bytes (selected v k.after) ≡ map line_bytes (selected w k.before)
   selected_again w v g t =
-      same_selected line_bytes edited_bytes v (λ (x : Edited Reading). w x.line) us (pruned ns) (ap (with_lines line_bytes) same_tree ∙ result.same) t
-      ∙ ap (λ (l : List (Edited Reading)). map edited_bytes l) (sym (selected-pruned w ns g)) ∙ kept_bytes (selected w ns)
+      same_selected line_bytes edited_bytes v (λ (x : Edited Reading). w x.line) k.after (pruned k.before) what_is_left t
+      ∙ ap (λ (l : List (Edited Reading)). map edited_bytes l) (sym (selected-pruned w k.before g)) ∙ kept_bytes (selected w k.before)
 
   -- each opener of the output has the condition of the opener from which it comes
-  pub conditions_same : map condition_in (openers us) ≡ map (λ (e : Edited Reading). condition_in e.line) (openers (pruned ns))
+  pub conditions_same : map condition_in (openers k.after) ≡ map (λ (e : Edited Reading). condition_in e.line) (openers (pruned k.before))
   conditions_same =
-      sym (map-twice seen (λ (q : Seen). q.condition) (openers us))
+      sym (map-twice seen (λ (q : Seen). q.condition) (openers k.after))
       ∙ ap (λ (l : List Seen). map (λ (q : Seen). q.condition) l)
-      (sym (openers-with seen us) ∙ ap (λ (m : Nodes Seen). openers m) (ap (with_lines seen) same_tree ∙ result.alike) ∙ openers-with left_seen (pruned ns))
-      ∙ map-twice left_seen (λ (q : Seen). q.condition) (openers (pruned ns)) ∙ kept_conditions (openers (pruned ns)) (pruned_keeps ns)
+      (sym (openers-with seen k.after) ∙ ap (λ (m : Nodes Seen). openers m) (ap (with_lines seen) same_tree ∙ result.alike) ∙ openers-with left_seen (pruned k.before))
+      ∙ map-twice left_seen (λ (q : Seen). q.condition) (openers (pruned k.before)) ∙ kept_conditions (openers (pruned k.before)) (pruned_keeps k.before)
+
+  -- the openers of the output can be given the truths of those from which they come
+  pub truths_kept : (w : World Reading) → (v : World Reading) × KeepsTruths w k.before v k.after
+  truths_kept w =
+      world_of k.outcome.output k.after (map (λ (e : Edited Reading). w e.line) (openers (pruned k.before)))
+      (ap (λ (ys : List (Item Reading)). map line_of ys) (read_lines k.of_output.read) ∙ sym k.of_output.are)
+      (length-map (openers (pruned k.before)) (λ (e : Edited Reading). w e.line) ∙ sym (length-map (openers (pruned k.before)) (λ (e : Edited Reading). condition_in e.line))
+      ∙ ap (λ (l : List (Option Expression)). length l) (sym conditions_same) ∙ length-map (openers k.after) condition_in)
 
 clear_run : {o : Options} {input : List ℕ} {r : Outcome} → Runs o input r → r.fault ≡ None → (ns : Nodes Reading) → IsTreeOf o input (closed ns) →
     Pairwise (Clear o) (lines (closed ns)) (marks (closed ns))
@@ -238,10 +225,27 @@ clear_run {o = o} {input = input} (ends xs t g) e ns a =
     subst (λ (u : Tree Reading). Pairwise (Clear o) (lines u) (marks u)) (one_tree_of o input t (closed ns) (record { items = xs; read = sound_read g.sound; are = g.are }) a)
     (subst (λ (zs : List (Item Reading)). Pairwise (Clear o) zs (marks t)) (sym (sound_lines g.sound)) (sound_clear o xs t g.sound))
 
--- so it is in each world that C may give the input
-pub c_selected_again : {o : Options} {input : List ℕ} {r : Outcome} {ns us : Nodes Reading} → HasTrees o input r ns us → (w v : World Reading) → IsCWorld o.table w ns →
-    KeepsTruths w ns v us → map line_bytes (selected v us) ≡ map line_bytes (selected w ns)
-c_selected_again {o = o} {ns = ns} k w v g t = selected_again k w v (c_agrees o w ns (clear_run k.clean.runs k.clean.faultless ns k.of_input) g) t
+module _ (k : CleanRun) (w : World Reading) (g : IsCWorld k.options.table w k.before) where
+  -- a world that C may give the input agrees with what is decided
+  c_world_agrees : Agrees w k.before
+  c_world_agrees = c_agrees k.options w k.before (clear_run k.clean.runs k.clean.faultless k.before k.of_input) g
+
+  -- C may give the output the world that keeps its truths
+  pub c_world_again : (v : World Reading) → KeepsTruths w k.before v k.after → IsCWorld k.options.table v k.after
+  c_world_again v t =
+      reached_alike seen left_seen v (λ (e : Edited Reading). w e.line) (λ (s : Seen) (b : Bool). MayBe k.options.table s.condition b) k.after (pruned k.before)
+      (ap (with_lines seen) (same_tree k) ∙ (result k).alike) t
+      (pruned_reached w (λ (l : Reading). MayBe k.options.table (condition_in l) (w l)) (λ (e : Edited Reading). MayBe k.options.table (left_seen e).condition (w e.line)) still k.before
+      c_world_agrees g)
+    where
+      still : (part : Part) (l : Reading) → MayBe k.options.table (condition_in l) (w l) → MayBe k.options.table (left_condition (first_kept_verdict part) l) (w l)
+      still an_if l h = h
+      still an_elif l h = h
+      still an_else l h = h
+
+  -- and the same is selected
+  pub c_selected_again : (v : World Reading) → KeepsTruths w k.before v k.after → map line_bytes (selected v k.after) ≡ map line_bytes (selected w k.before)
+  c_selected_again v t = selected_again k w v c_world_agrees t
 
 module _ {L M : Type 0} (f : L → M) where
   mutual
@@ -273,9 +277,13 @@ module _ {L M : Type 0} (f : L → M) where
     elifs_back (elif es o ns) h = (elifs_back es h.0, h.1, undecided_back ns h.2)
 
 -- nothing is decided of the output
-pub output_undecided : (us ns : Nodes Reading) → with_lines line_bytes us ≡ with_lines edited_bytes (pruned ns) → IsUndecided us
+output_undecided : (us ns : Nodes Reading) → with_lines line_bytes us ≡ with_lines edited_bytes (pruned ns) → IsUndecided us
 output_undecided us ns e =
     undecided_back line_bytes us (subst IsUndecided (sym e) (undecided_with edited_bytes (pruned ns) (pruned_undecided ns)))
+
+-- so it is of a clean run
+pub after_undecided : (k : CleanRun) → IsUndecided k.after
+after_undecided k = output_undecided k.after k.before (what_is_left k)
 
 -- if each line stays, the pieces are the lines
 whole_pieces : (ys : List (Item Reading)) (ms : List Mark) → Each Stays ms → map (lone false false) (judged_lines ys ms) ≡ map whole (judged_lines ys ms)

@@ -13,11 +13,11 @@ use Rattle.ud_model.specs.output.Rereading.{line_bytes}
 use Rattle.ud_model.specs.declared.kind.Mode.{Mode}
 use Rattle.ud_model.specs.declared.verdict.Verdict.{Verdict}
 use Rattle.ud_model.specs.declared.verdict.Verdict.TheVariants.{Remove}
+use Rattle.ud_model.proofs.sections.Soundness.{reading_of-item_of}
 use Rattle.ud_model.proofs.output.Each.{each_both}
 use Rattle.ud_model.proofs.output.Heeding.{one_read}
 use Rattle.ud_model.proofs.text.LinesLemmas.{text_of-line_at, numbered_from-next}
 use Rattle.ud_model.proofs.output.PrintedPruned.{printed-append}
-use Rattle.ud_model.proofs.sections.Soundness.{reading_of-item_of}
 use Rattle.ud_model.proofs.output.LeftReadings.{Left}
 use Rattle.ud_model.proofs.output.Rereads.{Again, IsUncut}
 use Rattle.ud_model.proofs.output.SeenLines.{Seen, seen, left_seen}

@@ -1,5 +1,6 @@
 -- Reading an output again: one line more, which goes or is left.
-use Rattle.std.proofs.Common.{◌≡◌, ℕ, suc, List, [], ◌∷◌, ◌++◌, length, map, Bool, true, false, not, ◌⊎◌, inl, inr, IsTrue, refl, sym, ◌∙◌, ap, subst}
+use Rattle.std.proofs.Common.{◌≡◌, ℕ, suc, List, [], ◌∷◌, ◌++◌, length, map, Bool, true, false, not, ◌⊎◌, inl, inr, refl, sym, ◌∙◌, ap, subst}
+use Rattle.std.proofs.lemmas.Bool.{false_from_ne_true}
 use Rattle.ud_model.specs.text.Lines.{Line, text_of}
 use Rattle.ud_model.specs.text.Scans.{Reading, is_spanning}
 use Rattle.ud_model.specs.text.Splicing.{content, stays_open, run_of}
@@ -16,6 +17,7 @@ use Rattle.ud_model.specs.declared.kind.Mode.{Mode}
 use Rattle.ud_model.specs.declared.kind.Mode.TheVariants.{C, Plain}
 use Rattle.ud_model.specs.declared.verdict.Verdict.{Verdict}
 use Rattle.ud_model.specs.declared.verdict.Verdict.TheVariants.{Keep, Remove, ToIf, ToElse, ToEndif}
+use Rattle.ud_model.proofs.sections.Soundness.{reading_of-item_of}
 use Rattle.ud_model.proofs.output.Formed.{IsLeft}
 use Rattle.ud_model.proofs.output.Heeding.{ReadIn, none_read, one_read}
 use Rattle.ud_model.proofs.output.JoinedAlike.{Grows, grows, ends_kept, carried_step, joined_alike, edited_alone}
@@ -29,17 +31,12 @@ use Rattle.ud_model.proofs.output.Rereads.{Again, Between, Carry, alike, gone, R
 use Rattle.ud_model.proofs.output.RereadMore.{last_comment, last_removed, piece_behind_all, gone_again, left_again}
 use Rattle.ud_model.proofs.text.ScanLaws.{place_after, white_after, joins_before-code}
 use Rattle.ud_model.proofs.text.ScanLemmas.{run_of_last}
-use Rattle.ud_model.proofs.sections.Soundness.{reading_of-item_of}
 use Rattle.ud_model.proofs.sections.Stays.{marks_so_far_same, length_marks}
 use Rattle.ud_model.proofs.sections.Unique as Trees
 
 -- what is left of lines with one more, and what is known between that and the next one
 abbrev Stepped : Options → Mode → List (Item Reading) → Tree Reading → Line → List (Item Reading) → Type 0
 Stepped o m xs u l zs = Again o m (xs ++ item_of o (read_after xs m l) ∷ []) u zs × (HasEnd l → Between o m (xs ++ item_of o (read_after xs m l) ∷ []) u zs)
-
-not_true : (b : Bool) → (IsTrue b → ⊥) → b ≡ false
-not_true true n = absurd (n refl)
-not_true false n = refl
 
 goes_or_left : (v : Verdict) → (v ≡ Remove) ⊎ IsLeft v
 goes_or_left Remove = inl refl
@@ -84,9 +81,9 @@ the_more o m xs t l u q e n =
       grown = g;
       more = more;
       long = ap (λ (zs : List (Item Reading)). length zs) (sym q) ∙ sym (length_marks true t);
-      unspoiled = not_true (is_spoiled_behind (ends_removed (marks t)) x g.mark) (λ h. n.1.1.1.1.1.0 (marks t, g.mark, (u, e, more), h));
+      unspoiled = false_from_ne_true (is_spoiled_behind (ends_removed (marks t)) x g.mark) (λ h. n.1.1.1.1.1.0 (marks t, g.mark, (u, e, more), h));
       uncut = ap (λ (r : Reading). is_cut (content_of r.scan)) (sym (reading_of-item_of o (read_after xs m l)))
-          ∙ not_true (is_cut (content_of (reading_of x).scan)) (λ h. n.1.1.0 h);
+          ∙ false_from_ne_true (is_cut (content_of (reading_of x).scan)) (λ h. n.1.1.0 h);
     }
 
 module _ (o : Options) (m : Mode) (xs : List (Item Reading)) (t : Tree Reading) (ys : List (Item Reading)) (b : Between o m xs t ys) (l : Line) (u : Tree Reading) (i : IsLine l) (k : More o m xs t l u) where

@@ -41,13 +41,14 @@ module _ {L K M : Type 0} (f : L → M) (g : K → M) (v : World L) (w : World K
       length-map a v ∙ sym (length-map a f) ∙ ap (λ (l : List M). length l) e ∙ length-map b g ∙ sym (length-map b w)
 
   -- the openers of two lists of groups, apart
-  openers_apart : (a c : List L) (b d : List K) → map f a ≡ map g b → map v (a ++ c) ≡ map w (b ++ d) → (map v a ≡ map w b) × (map v c ≡ map w d)
+  pub openers_apart : (a c : List L) (b d : List K) → map f a ≡ map g b → map v (a ++ c) ≡ map w (b ++ d) → (map v a ≡ map w b) × (map v c ≡ map w d)
   openers_apart a c b d e t = parts (map v a) (map w b) (map v c) (map w d) (same_long a b e) (sym (map-append v a c) ∙ t ∙ map-append w b d)
 
-  long_with : (ns : Nodes L) (ms : Nodes K) → with_lines f ns ≡ with_lines g ms → map f (openers ns) ≡ map g (openers ms)
+  -- they have as many openers
+  pub long_with : (ns : Nodes L) (ms : Nodes K) → with_lines f ns ≡ with_lines g ms → map f (openers ns) ≡ map g (openers ms)
   long_with ns ms e = sym (openers-with f ns) ∙ ap openers e ∙ openers-with g ms
 
-  long_elifs : (es : Elifs L) (ds : Elifs K) → elifs_with_lines f es ≡ elifs_with_lines g ds → map f (openers_of_elifs es) ≡ map g (openers_of_elifs ds)
+  pub long_elifs : (es : Elifs L) (ds : Elifs K) → elifs_with_lines f es ≡ elifs_with_lines g ds → map f (openers_of_elifs es) ≡ map g (openers_of_elifs ds)
   long_elifs es ds e = sym (elifs_openers f es) ∙ ap openers_of_elifs e ∙ elifs_openers g ds
 
   where_same : (a b : Bool) (ls : List L) (ks : List K) → a ≡ b → map f ls ≡ map g ks → option_map (map f) (where_true a ls) ≡ option_map (map g) (where_true b ks)
@@ -106,7 +107,7 @@ module _ {L K M : Type 0} (f : L → M) (g : K → M) (v : World L) (w : World K
     same_groups (conditional es) (otherwise ds k ms) e t = cc
     same_groups (otherwise es l ns) (conditional ds) e t = cc
 
-    same_elifs : (es : Elifs L) (ds : Elifs K) → elifs_with_lines f es ≡ elifs_with_lines g ds → map v (openers_of_elifs es) ≡ map w (openers_of_elifs ds) →
+    pub same_elifs : (es : Elifs L) (ds : Elifs K) → elifs_with_lines f es ≡ elifs_with_lines g ds → map v (openers_of_elifs es) ≡ map w (openers_of_elifs ds) →
         option_map (map f) (selected_elifs v es) ≡ option_map (map g) (selected_elifs w ds)
     same_elifs (first o ns) (first p ms) e t =
         let q : with_lines f ns ≡ with_lines g ms = cc in

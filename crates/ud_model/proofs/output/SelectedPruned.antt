@@ -18,7 +18,7 @@ module _ {L : Type 0} (w : World L) where
   kept l = edited Keep l
 
   -- what is selected of the groups so far, by what is left of them
-  abbrev Chosen : Option (List L) → Left L → Type 0
+  abbrev pub Chosen : Option (List L) → Left L → Type 0
   Chosen s none_kept = s ≡ None
   Chosen s (replaced ms) = (ls : List L) × (s ≡ Some ls) × (map kept ls ≡ selected out_world ms)
   Chosen s (kept_groups es) = option_map (map kept) s ≡ selected_elifs out_world es
@@ -116,7 +116,7 @@ module _ {L : Type 0} (w : World L) where
   section_step before ls ps (ended es l ms (Some k)) e a h = map-append kept before ls ∙ ap₂ (λ (p q : List (Edited L)). p ++ q) a h
 
   -- what the world makes of an opener
-  abbrev Fits : Opener L → Type 0
+  abbrev pub Fits : Opener L → Type 0
   Fits o = AgreesWith w o.cond o.line
 
   mutual
@@ -131,7 +131,7 @@ module _ {L : Type 0} (w : World L) where
     final (conditional es) a = without_else (selected_elifs w es) (left_of_elifs es) (chosen es a)
     final (otherwise es l ns) a = else_step (selected_elifs w es) (left_of_elifs es) l ns (pruned ns) (chosen es a.0) (λ e. selected-pruned ns (a.1 e))
 
-    chosen : (es : Elifs L) → ElifsReached w Fits es → Chosen (selected_elifs w es) (left_of_elifs es)
+    pub chosen : (es : Elifs L) → ElifsReached w Fits es → Chosen (selected_elifs w es) (left_of_elifs es)
     chosen (first o ns) a = group_step None none_kept an_if o o.cond ns (pruned ns) refl (λ e. a.0) (λ e t. selected-pruned ns (a.1 t))
     chosen (elif es o ns) a =
         group_step (selected_elifs w es) (left_of_elifs es) an_elif o o.cond ns (pruned ns) (chosen es a.0) (λ e. (a.1 e).0) (λ e t. selected-pruned ns ((a.1 e).1 t))

@@ -1,5 +1,6 @@
 -- Lines that were read are sound if they keep the limits, none has a cut keyword, and each stays as it is.
 use Rattle.std.proofs.Common.{◌≡◌, ◌<◌, ◌≤◌, List, [], ◌∷◌, ◌++◌, length, Bool, true, false, ◌&&◌, refl, sym, ◌∙◌, ap, ap₂, subst, arith}
+use Rattle.std.proofs.Math.Bool.{and-false}
 use Rattle.ud_model.specs.text.Lines.{text_of}
 use Rattle.ud_model.specs.text.Scans.{Reading, is_spanning}
 use Rattle.ud_model.specs.sections.Tree.{Item, Tree, lines, depth}
@@ -10,6 +11,7 @@ use Rattle.ud_model.specs.sections.Faults.{AreSound, no_lines, one_more, NoneHol
 use Rattle.ud_model.specs.output.Rereading.{AreRead, no_items, one_item}
 use Rattle.ud_model.specs.declared.limits.TheConstants.{LINE_BYTES, TEXT_LINES, OPEN_SECTIONS}
 use Rattle.ud_model.specs.declared.verdict.Verdict.TheVariants.{Keep}
+use Rattle.ud_model.proofs.sections.Soundness.{read_lines}
 use Rattle.ud_model.proofs.output.Each.{Each, each_parts}
 use Rattle.ud_model.proofs.sections.Growth.{Adds}
 use Rattle.ud_model.proofs.sections.Heights.{depth_height, height_add}
@@ -19,24 +21,15 @@ use Rattle.ud_model.proofs.sections.Stays.{marks_more}
 use Rattle.ud_model.proofs.output.Undecided.{Stays}
 use Rattle.ud_model.proofs.sections.Unique as Trees
 
--- lines that were read are those of their tree
-pub read_lines : {o : Options} {xs : List (Item Reading)} {t : Tree Reading} → AreRead o xs t → lines t ≡ xs
-read_lines no_items = refl
-read_lines (one_item xs t r l u e) = e
-
 none_removed : (ms : List Mark) → Each Stays ms → ends_removed ms ≡ false
 none_removed [] h = refl
 none_removed (m ∷ []) h = ap (λ (k : Mark). is_removed k.verdict) h.0
 none_removed (m ∷ n ∷ ms) h = none_removed (n ∷ ms) h.1
 
-and_false : (a : Bool) → (a && false) ≡ false
-and_false true = refl
-and_false false = refl
-
 kept_unspoiled : (x : Item Reading) → is_spoiled_behind false x (marked true Keep) ≡ false
 kept_unspoiled x =
-    ap (λ (b : Bool). is_directive x && is_spanning (reading_of x).scan && true && b) (and_false (reading_of x).scan.joins_before)
-    ∙ and_false (is_directive x && is_spanning (reading_of x).scan && true)
+    ap (λ (b : Bool). is_directive x && is_spanning (reading_of x).scan && true && b) (and-false (reading_of x).scan.joins_before)
+    ∙ and-false (is_directive x && is_spanning (reading_of x).scan && true)
 
 module _ (xs : List (Item Reading)) (x : Item Reading) (u : Tree Reading) (are : lines u ≡ xs ++ x ∷ []) (stay : Each Stays (marks u)) where
   unspoiled : (before : List Mark) (m : Mark) (v : Tree Reading) → lines v ≡ xs ++ x ∷ [] → marks v ≡ before ++ m ∷ [] → is_spoiled_behind (ends_removed before) x m ≡ false

@@ -1,13 +1,14 @@
 -- A directive is edited only where it can be: an `#elif` to an `#if` or `#else`, an `#elif` or `#else` to an `#endif`.
 use Rattle.std.proofs.Common.{List, [], Bool, true, false, sym, subst}
 use Rattle.ud_model.specs.declared.cond.Cond.{Cond}
-use Rattle.ud_model.specs.declared.cond.Cond.TheVariants.{Yes, No, Unknown}
+use Rattle.ud_model.specs.declared.cond.Cond.TheVariants.{Yes}
 use Rattle.ud_model.specs.declared.verdict.Verdict.{Verdict}
 use Rattle.ud_model.specs.declared.verdict.Verdict.TheVariants.{Keep, Remove, ToIf, ToElse, ToEndif}
 use Rattle.ud_model.specs.sections.Tree.{Item, Opener, if_line, elif_line, else_line, endif_line}
 use Rattle.ud_model.specs.sections.Pruning.{an_if, an_else, marked, endif_verdict}
 use Rattle.ud_model.specs.aids.SoFar.{verdict_so_far}
-use Rattle.ud_model.proofs.sections.Stages.{Stage, leading, given, going, at_true, past, stage, verdict_at, endif_at, verdict_by_stage, endif_by_stage}
+use Rattle.ud_model.proofs.output.Edits.{KeepsOrGoes, endif_keeps, if_keeps}
+use Rattle.ud_model.proofs.sections.Stages.{Stage, leading, given, going, at_true, past, stage, verdict_at, verdict_by_stage}
 
 -- the verdict is one that such a line may get
 abbrev pub Suits : {L : Type 0} → Verdict → Item L → Type 0
@@ -27,11 +28,17 @@ module _ {L : Type 0} where
   suits_marked true v x h = h
   suits_marked false v x h = tt
 
+  -- each line may stay or go
+  keeps_suit : (v : Verdict) (x : Item L) → KeepsOrGoes v → Suits v x
+  keeps_suit Keep x h = tt
+  keeps_suit Remove x h = tt
+  keeps_suit ToIf x h = absurd h
+  keeps_suit ToElse x h = absurd h
+  keeps_suit ToEndif x h = absurd h
+
   -- the table gives each kind of line a verdict that suits it: an `#if`
   pub suits_if : (o : Opener L) (c : Cond) → Suits (verdict_so_far [] an_if c) (if_line o)
-  suits_if o Yes = tt
-  suits_if o No = tt
-  suits_if o Unknown = tt
+  suits_if o c = keeps_suit (verdict_so_far [] an_if c) (if_line o) (if_keeps c)
 
   -- an `#elif`
   pub suits_elif : (v : Verdict) (o : Opener L) → Suits v (elif_line o)
@@ -48,17 +55,10 @@ module _ {L : Type 0} where
   else_at at_true l = tt
   else_at past l = tt
 
-  endif_by : (s : Stage) (l : L) → Suits (endif_at s) (endif_line l)
-  endif_by leading l = tt
-  endif_by given l = tt
-  endif_by going l = tt
-  endif_by at_true l = tt
-  endif_by past l = tt
-
   -- an `#else`
   pub suits_else : (cs : List Cond) (l : L) → Suits (verdict_so_far cs an_else Yes) (else_line l)
   suits_else cs l = subst (λ (v : Verdict). Suits v (else_line l)) (sym (verdict_by_stage cs an_else Yes)) (else_at (stage cs) l)
 
   -- an `#endif`
   pub suits_endif : (cs : List Cond) (l : L) → Suits (endif_verdict cs) (endif_line l)
-  suits_endif cs l = subst (λ (v : Verdict). Suits v (endif_line l)) (sym (endif_by_stage cs)) (endif_by (stage cs) l)
+  suits_endif cs l = keeps_suit (endif_verdict cs) (endif_line l) (endif_keeps cs)

@@ -1,5 +1,5 @@
 -- Soundness: of the same lines the items, the tree and the fault are the same, so a text has one outcome at most.
-use Rattle.std.proofs.Common.{◌≡◌, ℕ, List, [], ◌∷◌, ◌++◌, map, Option, Some, None, refl, sym, ◌∙◌, ap, ap₂, append_assoc, append-nil, subst, ◌⊎◌, inl, inr}
+use Rattle.std.proofs.Common.{◌≡◌, ℕ, List, [], ◌∷◌, ◌++◌, map, Option, Some, None, refl, sym, ◌∙◌, ap, append_assoc, append-nil, subst, ◌⊎◌, inl, inr}
 use Rattle.std.proofs.lemmas.List.{same_from_push, map-append}
 use Rattle.ud_model.specs.text.Lines.{Line, lines_of}
 use Rattle.ud_model.specs.text.Scans.{Reading}
@@ -7,12 +7,54 @@ use Rattle.ud_model.specs.sections.Directives.{content_of}
 use Rattle.ud_model.specs.sections.Tree.{Item, Tree, lines}
 use Rattle.ud_model.specs.sections.Items.{Options, reading_of, line_of, item_of, mode_after, read_after, next_item}
 use Rattle.ud_model.specs.sections.Faults.{Fault, Case, past_last, too_long, cut, out_of_place, too_deep, spoiled, earlier, cases, Holds, NoneHolds, fault_in, FaultOf, AreSound, no_lines, one_more, end_fault}
+use Rattle.ud_model.specs.output.Rereading.{AreRead, no_items, one_item, IsTreeOf}
 use Rattle.ud_model.specs.answer.Runs.{Outcome, outcome_of, StopsAt, GoesThrough, Runs, stops, ends, lines_so_far, line_so_far, RestBreaks, RunsSoFar, breaks, goes_on}
 use Rattle.ud_model.specs.answer.Answer.{Answer, IsAnswer, refused, ran}
 use Rattle.ud_model.specs.declared.settings.Settings.{Settings}
 use Rattle.ud_model.proofs.text.Pushes.{ByPush, none, push, by_push, push_not_nil}
 use Rattle.ud_model.proofs.sections.Unique.{unique}
 use Rattle.ud_model.proofs.sections.FaultStays.{reading_of-item_by}
+
+-- an item is of the line that was read
+pub reading_of-item_of : (o : Options) (r : Reading) → reading_of (item_of o r) ≡ r
+reading_of-item_of o r = reading_of-item_by o r (content_of r.scan)
+
+-- the next line's item is of that line
+pub reading_of-next : (o : Options) (xs : List (Item Reading)) (t : Tree Reading) (l : Line) → line_of (next_item o xs t l) ≡ l
+reading_of-next o xs t l = ap (λ r. r.line) (reading_of-item_of o (read_after xs (mode_after o t) l))
+
+-- sound lines were read so
+pub sound_read : {o : Options} {xs : List (Item Reading)} {t : Tree Reading} → AreSound o xs t → AreRead o xs t
+sound_read no_lines = no_items
+sound_read (one_more xs t s l u e n) = one_item xs t (sound_read s) l u e
+
+-- lines that were read are those of their tree
+pub read_lines : {o : Options} {xs : List (Item Reading)} {t : Tree Reading} → AreRead o xs t → lines t ≡ xs
+read_lines no_items = refl
+read_lines (one_item xs t r l u e) = e
+
+module _ (o : Options) where
+  -- the lines of items with one more
+  pub lines_with_next : (xs : List (Item Reading)) (t : Tree Reading) (l : Line) → map line_of (xs ++ next_item o xs t l ∷ []) ≡ map line_of xs ++ l ∷ []
+  lines_with_next xs t l = map-append line_of xs (next_item o xs t l ∷ []) ∙ ap (λ k. map line_of xs ++ k ∷ []) (reading_of-next o xs t l)
+
+  read_once : {xs ys : List (Item Reading)} {t u : Tree Reading} → AreRead o xs t → AreRead o ys u → xs ≡ ys → t ≡ u
+  read_once {t = t} {u = u} a b e = unique t u (read_lines a ∙ e ∙ sym (read_lines b))
+
+  -- items that are read of the same lines are the same
+  pub read_same : (xs ys : List (Item Reading)) (t u : Tree Reading) → AreRead o xs t → AreRead o ys u → map line_of xs ≡ map line_of ys → xs ≡ ys
+  read_same _ _ _ _ no_items no_items e = refl
+  read_same _ _ _ _ no_items (one_item ys u b k v d) e = absurd (push_not_nil (map line_of ys) k (sym (lines_with_next ys u k) ∙ sym e))
+  read_same _ _ _ _ (one_item xs t a l w c) no_items e = absurd (push_not_nil (map line_of xs) l (sym (lines_with_next xs t l) ∙ e))
+  read_same _ _ _ _ (one_item xs t a l w c) (one_item ys u b k v d) e =
+      let s : (map line_of xs ≡ map line_of ys) × (l ≡ k) = same_from_push (map line_of xs) (map line_of ys) l k (sym (lines_with_next xs t l) ∙ e ∙ lines_with_next ys u k) in
+      let q : xs ≡ ys = read_same xs ys t u a b s.0 in
+      let p : t ≡ u = read_once a b q in
+      rw (q, p, s.1)
+
+  -- a text has one tree at most
+  pub one_tree_of : (input : List ℕ) (t u : Tree Reading) → IsTreeOf o input t → IsTreeOf o input u → t ≡ u
+  one_tree_of input t u a b = read_once a.read b.read (read_same a.items b.items t u a.read b.read (sym a.are ∙ b.are))
 
 -- sound lines are the lines of their tree
 pub sound_lines : {o : Options} {xs : List (Item Reading)} {t : Tree Reading} → AreSound o xs t → lines t ≡ xs
@@ -60,32 +102,14 @@ sound_or_faulty xs x f n a =
     let c : (later : List Case) × (earlier a.which ++ a.which ∷ later ≡ cases) = case_in_order a.which in
     none_at xs x (earlier a.which) a.which c.0 (subst (NoneHolds xs x) (sym c.1) n) a.holds
 
--- an item is of the line that was read
-pub reading_of-item_of : (o : Options) (r : Reading) → reading_of (item_of o r) ≡ r
-reading_of-item_of o r = reading_of-item_by o r (content_of r.scan)
-
--- the next line's item is of that line
-pub reading_of-next : (o : Options) (xs : List (Item Reading)) (t : Tree Reading) (l : Line) → line_of (next_item o xs t l) ≡ l
-reading_of-next o xs t l = ap (λ r. r.line) (reading_of-item_of o (read_after xs (mode_after o t) l))
-
 module _ (o : Options) where
-  lines_with_next : (xs : List (Item Reading)) (t : Tree Reading) (l : Line) → map line_of (xs ++ next_item o xs t l ∷ []) ≡ map line_of xs ++ l ∷ []
-  lines_with_next xs t l = map-append line_of xs (next_item o xs t l ∷ []) ∙ ap (λ k. map line_of xs ++ k ∷ []) (reading_of-next o xs t l)
-
   same_next : (xs ys : List (Item Reading)) (t u : Tree Reading) (l k : Line) → AreSound o xs t → AreSound o ys u → xs ≡ ys → l ≡ k →
       next_item o xs t l ≡ next_item o ys u k
   same_next xs ys t u l k a b e f = let q : t ≡ u = sound_once (subst (λ zs. AreSound o zs t) e a) b in rw (e, q, f)
 
   -- sound items of the same lines are the same
   pub sound_same : (xs ys : List (Item Reading)) (t u : Tree Reading) → AreSound o xs t → AreSound o ys u → map line_of xs ≡ map line_of ys → xs ≡ ys
-  sound_same _ _ _ _ no_lines no_lines e = refl
-  sound_same _ _ _ _ no_lines (one_more ys u b k v d m) e = absurd (push_not_nil (map line_of ys) k (sym (lines_with_next ys u k) ∙ sym e))
-  sound_same _ _ _ _ (one_more xs t a l w c n) no_lines e = absurd (push_not_nil (map line_of xs) l (sym (lines_with_next xs t l) ∙ e))
-  sound_same _ _ _ _ (one_more xs t a l w c n) (one_more ys u b k v d m) e =
-      let s : (map line_of xs ≡ map line_of ys) × (l ≡ k) = same_from_push (map line_of xs) (map line_of ys) l k (sym (lines_with_next xs t l) ∙ e ∙ lines_with_next ys u k) in
-      let q : xs ≡ ys = sound_same xs ys t u a b s.0 in
-      let r : next_item o xs t l ≡ next_item o ys u k = same_next xs ys t u l k a b q s.1 in
-      ap₂ (λ (zs : List (Item Reading)) (x : Item Reading). zs ++ x ∷ []) q r
+  sound_same xs ys t u a b e = read_same o xs ys t u (sound_read a) (sound_read b) e
 
   -- of sound items with these lines in front, the first ones are sound
   pub sound_front : (ls : List Line) {more : List Line} → ByPush more → (ys : List (Item Reading)) (u : Tree Reading) → AreSound o ys u →
@@ -94,7 +118,7 @@ module _ (o : Options) where
   sound_front ls (push {xs = ms} l p) _ _ no_lines e = absurd (push_not_nil (ls ++ ms) l (append_assoc ls ms (l ∷ []) ∙ sym e))
   sound_front ls (push {xs = ms} l p) _ _ (one_more ys u b k v d m) e =
       let s : (map line_of ys ≡ ls ++ ms) × (k ≡ l) =
-      same_from_push (map line_of ys) (ls ++ ms) k l (sym (lines_with_next ys u k) ∙ e ∙ sym (append_assoc ls ms (l ∷ []))) in
+      same_from_push (map line_of ys) (ls ++ ms) k l (sym (lines_with_next o ys u k) ∙ e ∙ sym (append_assoc ls ms (l ∷ []))) in
       sound_front ls p ys u b s.0
 
   -- the line behind sound items isn't faulty where more sound items have it too
@@ -102,7 +126,7 @@ module _ (o : Options) where
       map line_of ys ≡ map line_of xs ++ l ∷ [] → NoneHolds xs (next_item o xs t l) cases
   clear_next xs _ t _ l a no_lines e = absurd (push_not_nil (map line_of xs) l (sym e))
   clear_next xs _ t _ l a (one_more ys u b k v d m) e =
-      let s : (map line_of ys ≡ map line_of xs) × (k ≡ l) = same_from_push (map line_of ys) (map line_of xs) k l (sym (lines_with_next ys u k) ∙ e) in
+      let s : (map line_of ys ≡ map line_of xs) × (k ≡ l) = same_from_push (map line_of ys) (map line_of xs) k l (sym (lines_with_next o ys u k) ∙ e) in
       let q : ys ≡ xs = sound_same ys xs u t b a s.0 in
       subst (λ zs. NoneHolds zs (next_item o xs t l) cases) q
       (subst (λ y. NoneHolds ys y cases) (same_next ys xs u t k l b a q s.1) m)

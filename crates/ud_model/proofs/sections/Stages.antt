@@ -1,5 +1,6 @@
 -- Stages: how far a section in a kept place has come, by the conditions of its groups so far.
-use Rattle.std.proofs.Common.{◌≡◌, List, [], ◌∷◌, ◌++◌, Bool, true, false, not, ◌&&◌, if◌then◌else◌, refl}
+use Rattle.std.proofs.Common.{◌≡◌, List, [], ◌∷◌, ◌++◌, Bool, false, not, if◌then◌else◌, refl}
+use Rattle.std.proofs.Math.Bool.{and-false, and-true}
 use Rattle.ud_model.specs.declared.cond.Cond.{Cond}
 use Rattle.ud_model.specs.declared.cond.Cond.TheVariants.{Yes, No, Unknown}
 use Rattle.ud_model.specs.declared.verdict.Verdict.{Verdict}
@@ -89,25 +90,17 @@ verdict_by_stage (Yes ∷ cs) part c = refl
 verdict_by_stage (No ∷ cs) part c = verdict_by_stage cs part c
 verdict_by_stage (Unknown ∷ cs) part c = inside_verdict cs part c
 
-and_not : (b : Bool) → (b && false) ≡ false
-and_not true = refl
-and_not false = refl
-
-and_true : (b : Bool) → (b && true) ≡ b
-and_true true = refl
-and_true false = refl
-
 inside_kept : (cs : List Cond) (c : Cond) → is_kept cs c ≡ kept_at (stage_inside cs) c
-inside_kept [] c = and_true (not (is_false c))
-inside_kept (Yes ∷ []) c = and_not (not (is_false c))
-inside_kept (Yes ∷ d ∷ cs) c = and_not (not (is_false c))
+inside_kept [] c = and-true (not (is_false c))
+inside_kept (Yes ∷ []) c = and-false (not (is_false c))
+inside_kept (Yes ∷ d ∷ cs) c = and-false (not (is_false c))
 inside_kept (No ∷ cs) c = inside_kept cs c
 inside_kept (Unknown ∷ cs) c = inside_kept cs c
 
 -- its group
 pub kept_by_stage : (cs : List Cond) (c : Cond) → is_kept cs c ≡ kept_at (stage cs) c
-kept_by_stage [] c = and_true (not (is_false c))
-kept_by_stage (Yes ∷ cs) c = and_not (not (is_false c))
+kept_by_stage [] c = and-true (not (is_false c))
+kept_by_stage (Yes ∷ cs) c = and-false (not (is_false c))
 kept_by_stage (No ∷ cs) c = kept_by_stage cs c
 kept_by_stage (Unknown ∷ cs) c = inside_kept cs c
 

@@ -1,5 +1,6 @@
 -- Places: a text that leaves off at a place leaves off at the next one with one more byte.
 use Rattle.std.proofs.Common.{◌≡◌, ℕ, zero, suc, ◌≤◌, ◌==◌, List, [], ◌∷◌, ◌++◌, length, drop, map, Bool, true, false, ◌&&◌, ◌||◌, if◌then◌else◌, refl, sym, ◌∙◌, ap, subst, append_assoc, append-nil, arith, length-append}
+use Rattle.std.proofs.Math.Bool.{and-false, and-true}
 use Rattle.std.proofs.lemmas.Bool.{eqb-true}
 use Rattle.std.proofs.lemmas.List.{map-append, length-map, drop-append-le}
 use Rattle.std.proofs.lemmas.List.Folds.{list_all-append}
@@ -31,27 +32,19 @@ pub open_line-append : (x xs ys : List Cell) → open_line x (xs ++ ys) ≡ open
 open_line-append x [] ys = refl
 open_line-append x (c ∷ xs) ys = open_line-append (if ends_line c then [] else x ++ c ∷ []) xs ys
 
-and_true : (a : Bool) → (a && true) ≡ a
-and_true true = refl
-and_true false = refl
-
-and_false : (a : Bool) → (a && false) ≡ false
-and_false true = refl
-and_false false = refl
-
 -- cells are white where those in front and those behind are
 pub is_blank-append : (xs ys : List Cell) → is_blank (xs ++ ys) ≡ (is_blank xs && is_blank ys)
 is_blank-append xs ys = list_all-append (λ (c : Cell). is_white (shown c)) xs ys
 
 -- cells are white with one more where that is shown as white space
 pub is_blank_last : (xs : List Cell) (c : Cell) → is_blank (xs ++ c ∷ []) ≡ (is_blank xs && is_white (shown c))
-is_blank_last xs c = is_blank-append xs (c ∷ []) ∙ ap (λ (b : Bool). is_blank xs && b) (and_true (is_white (shown c)))
+is_blank_last xs c = is_blank-append xs (c ∷ []) ∙ ap (λ (b : Bool). is_blank xs && b) (and-true (is_white (shown c)))
 
 comment_last : (xs : List Cell) (c : Cell) → is_white (shown c) ≡ true → is_blank (xs ++ c ∷ []) ≡ is_blank xs
-comment_last xs c e = is_blank_last xs c ∙ ap (λ (b : Bool). is_blank xs && b) e ∙ and_true (is_blank xs)
+comment_last xs c e = is_blank_last xs c ∙ ap (λ (b : Bool). is_blank xs && b) e ∙ and-true (is_blank xs)
 
 black_last : (xs : List Cell) (c : Cell) → is_white (shown c) ≡ false → is_blank (xs ++ c ∷ []) ≡ false
-black_last xs c e = is_blank_last xs c ∙ ap (λ (b : Bool). is_blank xs && b) e ∙ and_false (is_blank xs)
+black_last xs c e = is_blank_last xs c ∙ ap (λ (b : Bool). is_blank xs && b) e ∙ and-false (is_blank xs)
 
 -- a quote is no new-line
 pub quote_is_no_feed : (b : ℕ) → is_quote b ≡ true → (b == line_feed) ≡ false

@@ -1,5 +1,6 @@
 -- Scans: a scan depends on its logical line alone, and its masked bytes are those of the line.
 use Rattle.std.proofs.Common.{◌≡◌, ◌≢◌, ℕ, List, [], ◌∷◌, ◌++◌, length, Bool, true, false, ◌||◌, if◌then◌else◌, refl, sym, ◌∙◌, ap, ap₂, subst, append_assoc, append-nil, arith, ne_eqb}
+use Rattle.std.proofs.lemmas.Bool.{or_parts}
 use Rattle.ud_model.specs.text.Bytes.{line_feed}
 use Rattle.ud_model.specs.text.Lines.{Line}
 use Rattle.ud_model.specs.text.Scans.{Scan, Reading}
@@ -67,11 +68,6 @@ unfolding scan_from
 scan_behind-from run line w white before r j =
     scan_behind_is run line (masked_after w [] (content line)) w (place_after w (content line)) white
     (white_after w white (content line)) before r j (Masks-append (content line) (joined run) w white [] (Masks-start r))
-
-or_parts : (a b : Bool) → (a || b) ≡ false → (a ≡ false) × (b ≡ false)
-or_parts false false e = (refl, refl)
-or_parts true b e = cc
-or_parts false true e = cc
 
 -- behind a new-line at which no block comment is open, a text leaves off between pieces
 ended : (w : Place) → is_block (place_kind (next w line_feed)) ≡ false → (next w line_feed ≡ in_text) × ((white : Bool) → whitens w white line_feed ≡ true)

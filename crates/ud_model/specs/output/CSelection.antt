@@ -6,7 +6,8 @@
 --   MayBe table e b              C may find the condition true, or false
 --   IsCWorld table w ns          C may give each condition that it evaluates in the world w the truth that w gives it
 --
--- A condition that goes on on the next line, or for whose text no expression is written, may be true and false.
+-- A condition that goes on on the next line, or for whose text no expression is written, may be true and false. Lines are
+-- those that are read: under `-t` each stands for itself, comments and continuations being text.
 --
 -- Example: of `#if A && X`, `#elif X`, `#endif` with A undefined, the first condition is false in each C world, and the
 -- second one true or false. Of `#if 1 / 0` there is no C world, since C gives its condition no value.

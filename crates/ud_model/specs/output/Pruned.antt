@@ -44,9 +44,11 @@ then_nodes ms (text ns l) = text (then_nodes ms ns) l
 then_nodes ms (section ns gs e) = section (then_nodes ms ns) gs e
 
 module _ {L : Type 0} where
+  -- what became of a line
   abbrev pub edited : Verdict → L → Edited L
   edited v l = record { line = l; verdict = v }
 
+  -- what became of an opener
   abbrev pub edited_opener : Verdict → Opener L → Opener (Edited L)
   edited_opener v o = record { line = edited v o.line; cond = o.cond; ignoring = o.ignoring }
 
@@ -85,10 +87,12 @@ module _ {L : Type 0} where
     pruned (text ns l) = text (pruned ns) (edited Keep l)
     pruned (section ns gs e) = then_left (pruned ns) (left_of_groups gs) e
 
+    -- what is left of a section's groups
     pub left_of_groups : Groups L → Left L
     left_of_groups (conditional es) = left_of_elifs es
     left_of_groups (otherwise es l ns) = with_else (left_of_elifs es) l (pruned ns)
 
+    -- what is left of the groups with a condition
     pub left_of_elifs : Elifs L → Left L
     left_of_elifs (first o ns) = with_group none_kept an_if o o.cond (pruned ns)
     left_of_elifs (elif es o ns) = with_group (left_of_elifs es) an_elif o o.cond (pruned ns)
@@ -115,10 +119,12 @@ module _ {L : Type 0} where
     IsUndecided (text ns l) = IsUndecided ns
     IsUndecided (section ns gs e) = IsUndecided ns × GroupsUndecided gs
 
+    -- so it is in a section
     pub GroupsUndecided : Groups L → Type 0
     GroupsUndecided (conditional es) = ElifsUndecided es
     GroupsUndecided (otherwise es l ns) = ElifsUndecided es × IsUndecided ns
 
+    -- and in the groups with a condition
     pub ElifsUndecided : Elifs L → Type 0
     ElifsUndecided (first o ns) = (o.cond ≡ Unknown) × IsUndecided ns
     ElifsUndecided (elif es o ns) = ElifsUndecided es × (o.cond ≡ Unknown) × IsUndecided ns

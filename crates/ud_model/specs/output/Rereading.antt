@@ -4,10 +4,10 @@
 --   AreRead o xs t            these are items with this tree, each line read in the mode that the lines before it give
 --   IsTreeOf o text t         the text has this tree
 --   IsClean o input r         a run under plain options, without a fault
---   HasTrees o input r ns us  such a run, with the trees of its input and output
+--   CleanRun                  such a run, with the trees of its input and output
 --   line_bytes l              a line of the input or output, with its ending
 --   edited_bytes e            what is printed of a line of the pruned tree
---   KeepsTruths w ns v us     each opener of the output has in v the truth that the opener from which it comes has in w
+--   KeepsTruths w b v a       each opener of the output a has in v the truth that the opener from which it comes has in w
 --
 -- Example: of `#if X`, `#elif defined A`, `#endif` under -DA the output's one opener with a condition is `#if X`, and comes
 -- from the first line.
@@ -56,11 +56,16 @@ pub record IsClean (o : Options) (input : List ℕ) (r : Outcome) : Type 0 where
   pub runs : Runs o input r
   pub faultless : r.fault ≡ None
 
--- such a run, with the tree of its input and that of its output
-pub record HasTrees (o : Options) (input : List ℕ) (r : Outcome) (ns us : Nodes Reading) : Type 0 where
-  pub clean : IsClean o input r
-  pub of_input : IsTreeOf o input (closed ns)
-  pub of_output : IsTreeOf o r.output (closed us)
+-- such a run: the nodes of its input before it, and those of its output after it
+pub record CleanRun : Type 0 where
+  pub options : Options
+  pub input : List ℕ
+  pub outcome : Outcome
+  pub clean : IsClean options input outcome
+  pub before : Nodes Reading
+  pub of_input : IsTreeOf options input (closed before)
+  pub after : Nodes Reading
+  pub of_output : IsTreeOf options outcome.output (closed after)
 
 -- no line is too long
 abbrev pub LinesFit : List Line → Type 0
@@ -75,6 +80,6 @@ line_bytes l = text_of l.line
 abbrev pub edited_bytes : Edited Reading → List ℕ
 edited_bytes e = piece_by e.verdict (keyword_in (content_of e.line.scan)) e.line.line
 
--- each opener of the output has the truth of the opener from which it comes
+-- each opener of the output has in v the truth that the opener from which it comes has in w
 abbrev pub KeepsTruths : World Reading → Nodes Reading → World Reading → Nodes Reading → Type 0
-KeepsTruths w ns v us = map v (openers us) ≡ map (λ e. w e.line) (openers (pruned ns))
+KeepsTruths w before v after = map v (openers after) ≡ map (λ e. w e.line) (openers (pruned before))

@@ -1,4 +1,4 @@
--- Worlds: which text lines a compiler sees, where it decides each condition in some way.
+-- Worlds: which text lines a compiler sees, if it decides each condition in some way.
 -- C11 6.10.1p6: of a section the first group whose condition is true is processed, else the group of `#else`. No condition
 -- after a true one is evaluated, and none in a group that is skipped.
 --
@@ -25,23 +25,25 @@ abbrev pub or_else : {X : Type 0} → Option X → Option X → Option X
 or_else None later = later
 or_else (Some x) later = Some x
 
--- these lines where there are some, else those
+-- these lines if they are there, else those
 abbrev pub lines_or : {L : Type 0} → Option (List L) → List L → List L
 lines_or None others = others
 lines_or (Some ls) others = ls
 
--- a group that is processed where its condition is true and no group before it is
+-- the lines of a group if its condition is true
 abbrev pub where_true : {L : Type 0} → Bool → List L → Option (List L)
 where_true true ls = Some ls
 where_true false ls = None
 
 module _ {L : Type 0} (w : World L) where
   abbrev mutual
+    -- the text lines of nodes that are processed
     pub selected : Nodes L → List L
     selected nothing = []
     selected (tree.text ns l) = selected ns ++ l ∷ []
     selected (section ns gs e) = selected ns ++ selected_groups gs
 
+    -- those of the one group that is processed, if there is one
     pub selected_groups : Groups L → List L
     selected_groups (conditional es) = lines_or (selected_elifs es) []
     selected_groups (otherwise es l ns) = lines_or (selected_elifs es) (selected ns)
@@ -53,7 +55,7 @@ module _ {L : Type 0} (w : World L) where
 
 module _ {L : Type 0} (w : World L) (Is : Opener L → Type 0) where
   abbrev mutual
-    -- each opener that is reached is so
+    -- each opener that is reached in nodes that are processed is so
     pub EachReached : Nodes L → Type 0
     EachReached nothing = Unit {0}
     EachReached (tree.text ns l) = EachReached ns
@@ -88,10 +90,12 @@ module _ {L : Type 0} where
     openers (tree.text ns l) = openers ns
     openers (section ns gs e) = openers ns ++ openers_of_groups gs
 
+    -- those of a section
     pub openers_of_groups : Groups L → List L
     openers_of_groups (conditional es) = openers_of_elifs es
     openers_of_groups (otherwise es l ns) = openers_of_elifs es ++ openers ns
 
+    -- those of the groups with a condition
     pub openers_of_elifs : Elifs L → List L
     openers_of_elifs (first o ns) = o.line ∷ openers ns
     openers_of_elifs (elif es o ns) = (openers_of_elifs es ++ o.line ∷ []) ++ openers ns

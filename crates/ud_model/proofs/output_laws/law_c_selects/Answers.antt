@@ -1,9 +1,12 @@
 -- A world that C may give the input agrees with what is decided.
-use Rattle.ud_model.proofs.output.RereadLaws.{c_selected_again, conditions_same}
+use Rattle.ud_model.proofs.output.RereadLaws.{c_selected_again, conditions_same, c_world_again}
 use Rattle.ud_model.proofs.output_laws.law_c_selects.Goals as goal
 
 pub returns-clause-selected : goal.returns-clause-selected
-returns-clause-selected c = λ o input r ns us k w v a t. c_selected_again k w v a t
+returns-clause-selected c = λ k w v a t. c_selected_again k w a v t
 
 pub returns-clause-conditions : goal.returns-clause-conditions
-returns-clause-conditions c = λ o input r ns us k. conditions_same k
+returns-clause-conditions c = λ k. conditions_same k
+
+pub returns-clause-world : goal.returns-clause-world
+returns-clause-world c = λ k w v a t. c_world_again k w a v t

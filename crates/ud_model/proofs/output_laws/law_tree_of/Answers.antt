@@ -1,5 +1,6 @@
 -- From the lines of a run.
-use Rattle.ud_model.proofs.output.RereadLaws.{input_tree, one_tree_of}
+use Rattle.ud_model.proofs.sections.Soundness.{one_tree_of}
+use Rattle.ud_model.proofs.output.RereadLaws.{input_tree}
 use Rattle.ud_model.proofs.output_laws.law_tree_of.Goals as goal
 
 pub returns-clause-exists : goal.returns-clause-exists
