@@ -115,7 +115,7 @@ fn is_among(mut words: &[&[u8]], text: &[u8]) -> bool
 }
 
 /// Whether a suffix has a `u`, if it is a suffix.
-#[tactic(auto, unfolding(ud_model::specs::Constants::suffix_sign))]
+#[tactic(auto, unfolding(ud_model::specs::conditions::Constants::suffix_sign))]
 fn suffix_sign(suffix: &[u8]) -> Option<bool>
     ensures { result ≡ spec.suffix_sign suffix.now }
 {

@@ -32,7 +32,7 @@ impl<'a> Model for Names<'a> {
 
 impl<'a> Names<'a> {
     /// No names.
-    #[tactic(auto, unfolding(ud_model::specs::Parsing::tokens_of, ud_model::specs::Tokens::next_token))]
+    #[tactic(auto, unfolding(ud_model::specs::aids::Parsing::tokens_of, ud_model::specs::conditions::Tokens::next_token))]
     pub(crate) fn none() -> Names<'a>
         ensures { result ≡ [] }
     {
@@ -43,7 +43,7 @@ impl<'a> Names<'a> {
     }
 
     /// One name.
-    #[tactic(auto, unfolding(ud_model::specs::Parsing::tokens_of, ud_model::specs::Tokens::next_token))]
+    #[tactic(auto, unfolding(ud_model::specs::aids::Parsing::tokens_of, ud_model::specs::conditions::Tokens::next_token))]
     pub(crate) fn one(name: &'a [u8]) -> Names<'a>
         ensures { result ≡ name.now ∷ [] }
     {

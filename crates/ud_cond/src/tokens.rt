@@ -178,7 +178,7 @@ fn sign_token(byte: u8, rest: &[u8]) -> Next<'_>
 }
 
 /// The token at the front of a text, and the text behind it.
-#[tactic(auto, unfolding(ud_model::specs::Tokens::next_token))]
+#[tactic(auto, unfolding(ud_model::specs::conditions::Tokens::next_token))]
 pub(crate) fn next_token(text: &[u8]) -> Next<'_>
     ensures { as_next result ≡ spec.next_token text.now }
 {

@@ -49,7 +49,7 @@ impl Scope<'_> {
     }
 
     /// The text at which the value of a name ends.
-    #[tactic(auto, unfolding(ud_model::specs::Symbols::end_of))]
+    #[tactic(auto, unfolding(ud_model::specs::conditions::Symbols::end_of))]
     fn end_of<'a>(&'a self, name: &'a [u8]) -> Option<&'a [u8]>
         ensures { option_map (λ v. v.now) result ≡ end_of (table_in self.now) name.now }
     {
@@ -107,7 +107,7 @@ fn text_has_u(text: &[u8]) -> bool
 }
 
 /// What a name with or without arguments is worth.
-#[tactic(auto, unfolding(ud_model::specs::Values::name_value, ud_model::specs::Values::name_has_u))]
+#[tactic(auto, unfolding(ud_model::specs::conditions::Values::name_value, ud_model::specs::conditions::Values::name_has_u))]
 pub(crate) fn named(scope: &Scope<'_>, name: &[u8], arguments: bool) -> Value
     ensures { result ≡ name_worth (table_in scope.now) scope.now.unsigned name.now arguments }
 {
@@ -144,7 +144,7 @@ pub(crate) fn named(scope: &Scope<'_>, name: &[u8], arguments: bool) -> Value
 }
 
 /// What `defined` and a name are worth.
-#[tactic(auto, unfolding(ud_model::specs::Values::defined_value))]
+#[tactic(auto, unfolding(ud_model::specs::conditions::Values::defined_value))]
 pub(crate) fn defined(scope: &Scope<'_>, name: &[u8]) -> Value
     ensures { result ≡ defined_worth (table_in scope.now) name.now }
 {
@@ -193,7 +193,7 @@ fn truth(holds: bool) -> i64
 }
 
 /// The remainder of a division whose quotient is a number.
-#[tactic(auto, unfolding(ud_model::specs::Values::operate))]
+#[tactic(auto, unfolding(ud_model::specs::conditions::Values::operate))]
 fn remainder(unsigned: bool, a: i64, b: i64) -> Option<i64>
     ensures { result ≡ spec.operate unsigned Operator.Remainder a b }
 {
@@ -204,7 +204,7 @@ fn remainder(unsigned: bool, a: i64, b: i64) -> Option<i64>
 }
 
 /// Two known operands and an operator.
-#[tactic(auto, unfolding(ud_model::specs::Values::operate))]
+#[tactic(auto, unfolding(ud_model::specs::conditions::Values::operate))]
 fn operate(unsigned: bool, operator: Operator, a: i64, b: i64) -> Option<i64>
     ensures { result ≡ spec.operate unsigned operator a b }
 {
@@ -266,7 +266,7 @@ fn combine(
 }
 
 /// An operator before a known operand.
-#[tactic(auto, unfolding(ud_model::specs::Values::change))]
+#[tactic(auto, unfolding(ud_model::specs::conditions::Values::change))]
 fn change(unsigned: bool, operator: Operator, a: i64) -> Option<i64>
     ensures { result ≡ spec.change unsigned operator a }
 {
