@@ -83,9 +83,18 @@ pub fn law_fault_stays()
     ensures { (o : Options) → (given : List ℕ) → (more : List ℕ) → (r : Outcome) → RunsSoFar o given r → (f : Fault) → r.fault ≡ Some f → RunsSoFar o (given ++ more) r × Runs o (given ++ more) r }
 {}
 
-/// Words and an input have one answer at most.
+/// A text has one outcome, whether it has ended or goes on.
+pub fn law_one_outcome()
+    ensures exists { (o : Options) → (input : List ℕ) → (r : Outcome) × Runs o input r }
+    ensures only { (o : Options) → (input : List ℕ) → (r : Outcome) → (s : Outcome) → Runs o input r → Runs o input s → r ≡ s }
+    ensures exists_so_far { (o : Options) → (given : List ℕ) → (r : Outcome) × RunsSoFar o given r }
+    ensures only_so_far { (o : Options) → (given : List ℕ) → (r : Outcome) → (s : Outcome) → RunsSoFar o given r → RunsSoFar o given s → r ≡ s }
+{}
+
+/// Words and an input have one answer.
 pub fn law_one_answer()
-    ensures { (words : List (List ℕ)) → (input : List ℕ) → (a : Answer) → (b : Answer) → IsAnswer words input a → IsAnswer words input b → a ≡ b }
+    ensures exists { (words : List (List ℕ)) → (input : List ℕ) → (a : Answer) × IsAnswer words input a }
+    ensures only { (words : List (List ℕ)) → (input : List ℕ) → (a : Answer) → (b : Answer) → IsAnswer words input a → IsAnswer words input b → a ≡ b }
 {}
 
 /// A text is written for one tree at most, and the computed tree is the one for which it is written (C11 6.5).

@@ -69,7 +69,7 @@ pub reading_of-next : (o : Options) (xs : List (Item Reading)) (t : Tree Reading
 reading_of-next o xs t l = ap (λ r. r.line) (reading_of-item_of o (read_after xs (mode_after o t) l))
 
 module _ (o : Options) where
-  lines_with_next : (xs : List (Item Reading)) (t : Tree Reading) (l : Line) → map line_of (xs ++ next_item o xs t l ∷ []) ≡ map line_of xs ++ l ∷ []
+  pub lines_with_next : (xs : List (Item Reading)) (t : Tree Reading) (l : Line) → map line_of (xs ++ next_item o xs t l ∷ []) ≡ map line_of xs ++ l ∷ []
   lines_with_next xs t l = map-append line_of xs (next_item o xs t l ∷ []) ∙ ap (λ k. map line_of xs ++ k ∷ []) (reading_of-next o xs t l)
 
   same_next : (xs ys : List (Item Reading)) (t u : Tree Reading) (l k : Line) → AreSound o xs t → AreSound o ys u → xs ≡ ys → l ≡ k →

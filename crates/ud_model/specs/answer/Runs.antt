@@ -4,7 +4,8 @@
 --   Runs o input         the outcome of a text that has ended
 --   RunsSoFar o given    the outcome of a text that goes on: its whole lines count, and of the rest its limits alone
 --
--- At a fault the text of the lines before the faulty line is printed; a fault of the end comes behind all lines.
+-- At a fault the text of the lines before the faulty line is printed; a fault of the end comes after all lines. A text has
+-- one outcome, whether it has ended or goes on.
 use Rattle.std.specs.Prelude.{◌≡◌, ℕ, suc, List, [], ◌∷◌, ◌++◌, length, map, Bool, true, false, Option, Some, None}
 use Rattle.ud_model.specs.text.Lines.{Line, line_at, lines_of, whole_lines, open_rest, numbered_from}
 use Rattle.ud_model.specs.text.Scans.{Reading}
