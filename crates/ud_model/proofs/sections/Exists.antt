@@ -10,8 +10,9 @@ use Rattle.ud_model.specs.sections.Pruning.{Mark, marks}
 use Rattle.ud_model.specs.sections.Items.{Options, reading_of, line_of, next_item}
 use Rattle.ud_model.specs.sections.Faults.{Fault, Case, past_last, too_long, cut, out_of_place, too_deep, spoiled, cases, Holds, NoneHolds, is_cut, is_spoiled, misplaced, FaultOf, AreSound, no_lines, one_more, end_fault, too_many_lines, line_too_long, obfuscated, inappropriate_elif, inappropriate_else, inappropriate_endif, too_many_levels}
 use Rattle.ud_model.specs.answer.CommandLine.{UsageFault, usage_fault, options_of, input_name}
-use Rattle.ud_model.specs.answer.Runs.{Outcome, outcome_of, StopsAt, GoesThrough, Runs, stops, ends, lines_so_far, line_so_far, IsLimit, by_lines, by_bytes, RestBreaks, RunsSoFar, breaks, goes_on}
-use Rattle.ud_model.specs.answer.Runs.RunsSoFar.{stops as stops_so_far}
+use Rattle.ud_model.specs.answer.Runs.{Outcome, outcome_of, StopsAt, GoesThrough, ReadsAs, Runs, ran_as, lines_so_far, line_so_far, IsLimit, by_lines, by_bytes, RestBreaks, ReadsSoFar, RunsSoFar, came_as, breaks, goes_on}
+use Rattle.ud_model.specs.answer.Runs.ReadsAs.{stops, ends}
+use Rattle.ud_model.specs.answer.Runs.ReadsSoFar.{stops as stops_so_far}
 use Rattle.ud_model.specs.answer.Answer.{Answer, IsAnswer, refused, ran, usage_answer, run_answer}
 use Rattle.ud_model.specs.declared.limits.TheConstants.{LINE_BYTES, TEXT_LINES, OPEN_SECTIONS}
 use Rattle.ud_model.proofs.sections.Growth.{Adds, adds_text, adds_if, elif_after_if, elif_after_elif, else_after_if, else_after_elif, adds_endif, adds_under, lines-add}
@@ -180,8 +181,8 @@ pub run_exists : (o : Options) (input : List ℕ) → (r : Outcome) × Runs o in
 run_exists o input = go (gone o (lines_of input))
   where
     go : Gone o (lines_of input) → (r : Outcome) × Runs o input r
-    go (stopped xs t f h) = (outcome_of o.settings xs t (Some f), stops xs t f h)
-    go (through xs t h) = (outcome_of o.settings xs t (end_fault xs t), ends xs t h)
+    go (stopped xs t f h) = (outcome_of o.settings xs t (Some f), ran_as (stops xs t f h))
+    go (through xs t h) = (outcome_of o.settings xs t (end_fault xs t), ran_as (ends xs t h))
 
 -- the rest of a text that goes on breaks a limit, or it doesn't
 pub data Breaks (o : Options) (given : List ℕ) (xs : List (Item Reading)) (t : Tree Reading) : Type 0 where
@@ -221,11 +222,11 @@ pub run_so_far_exists : (o : Options) (given : List ℕ) → (r : Outcome) × Ru
 run_so_far_exists o given = go (gone o (lines_so_far given))
   where
     further : (xs : List (Item Reading)) (t : Tree Reading) → GoesThrough o (lines_so_far given) xs t → Breaks o given xs t → (r : Outcome) × RunsSoFar o given r
-    further xs t h (broken f b) = (outcome_of o.settings xs t (Some f), breaks xs t f h b)
-    further xs t h (unbroken n) = (outcome_of o.settings xs t None, goes_on xs t h n)
+    further xs t h (broken f b) = (outcome_of o.settings xs t (Some f), came_as (breaks xs t f h b))
+    further xs t h (unbroken n) = (outcome_of o.settings xs t None, came_as (goes_on xs t h n))
 
     go : Gone o (lines_so_far given) → (r : Outcome) × RunsSoFar o given r
-    go (stopped xs t f h) = (outcome_of o.settings xs t (Some f), stops_so_far xs t f h)
+    go (stopped xs t f h) = (outcome_of o.settings xs t (Some f), came_as (stops_so_far xs t f h))
     go (through xs t h) = further xs t h (breaks_or_not o given xs t)
 
 -- words and an input have an answer
