@@ -176,13 +176,19 @@ module _ (o : Options) (ls : List Line) where
   pub gone : Gone o ls
   gone = gone_from ls [] (closed nothing) no_lines refl
 
--- each text has an outcome
-pub run_exists : (o : Options) (input : List ℕ) → (r : Outcome) × Runs o input r
-run_exists o input = go (gone o (lines_of input))
+-- each text is read in some way
+pub reading_exists : (o : Options) (input : List ℕ) → (xs : List (Item Reading)) × (t : Tree Reading) × (f : Option Fault) × ReadsAs o input xs t f
+reading_exists o input = go (gone o (lines_of input))
   where
-    go : Gone o (lines_of input) → (r : Outcome) × Runs o input r
-    go (stopped xs t f h) = (outcome_of o.settings xs t (Some f), ran_as (stops xs t f h))
-    go (through xs t h) = (outcome_of o.settings xs t (end_fault xs t), ran_as (ends xs t h))
+    go : Gone o (lines_of input) → (xs : List (Item Reading)) × (t : Tree Reading) × (f : Option Fault) × ReadsAs o input xs t f
+    go (stopped xs t f h) = (xs, t, Some f, stops xs t f h)
+    go (through xs t h) = (xs, t, end_fault xs t, ends xs t h)
+
+-- so each text has an outcome
+pub run_exists : (o : Options) (input : List ℕ) → (r : Outcome) × Runs o input r
+run_exists o input =
+    let r : (xs : List (Item Reading)) × (t : Tree Reading) × (f : Option Fault) × ReadsAs o input xs t f = reading_exists o input in
+    (outcome_of o.settings r.0 r.1 r.2, ran_as r.3)
 
 -- the rest of a text that goes on breaks a limit, or it doesn't
 pub data Breaks (o : Options) (given : List ℕ) (xs : List (Item Reading)) (t : Tree Reading) : Type 0 where
@@ -217,17 +223,24 @@ module _ (o : Options) (given : List ℕ) (xs : List (Item Reading)) (t : Tree R
   breaks_or_not =
       breaks_by (none_or_some (open_rest given)) (either_less TEXT_LINES (line_of rest_item).number) (either_less LINE_BYTES (length (text_of (line_of rest_item))))
 
--- and so has each text that goes on
-pub run_so_far_exists : (o : Options) (given : List ℕ) → (r : Outcome) × RunsSoFar o given r
-run_so_far_exists o given = go (gone o (lines_so_far given))
+-- each text that goes on is read in some way so far
+pub reading_so_far_exists : (o : Options) (given : List ℕ) → (xs : List (Item Reading)) × (t : Tree Reading) × (f : Option Fault) × ReadsSoFar o given xs t f
+reading_so_far_exists o given = go (gone o (lines_so_far given))
   where
-    further : (xs : List (Item Reading)) (t : Tree Reading) → GoesThrough o (lines_so_far given) xs t → Breaks o given xs t → (r : Outcome) × RunsSoFar o given r
-    further xs t h (broken f b) = (outcome_of o.settings xs t (Some f), came_as (breaks xs t f h b))
-    further xs t h (unbroken n) = (outcome_of o.settings xs t None, came_as (goes_on xs t h n))
+    further : (xs : List (Item Reading)) (t : Tree Reading) → GoesThrough o (lines_so_far given) xs t → Breaks o given xs t →
+        (xs : List (Item Reading)) × (t : Tree Reading) × (f : Option Fault) × ReadsSoFar o given xs t f
+    further xs t h (broken f b) = (xs, t, Some f, breaks xs t f h b)
+    further xs t h (unbroken n) = (xs, t, None, goes_on xs t h n)
 
-    go : Gone o (lines_so_far given) → (r : Outcome) × RunsSoFar o given r
-    go (stopped xs t f h) = (outcome_of o.settings xs t (Some f), came_as (stops_so_far xs t f h))
+    go : Gone o (lines_so_far given) → (xs : List (Item Reading)) × (t : Tree Reading) × (f : Option Fault) × ReadsSoFar o given xs t f
+    go (stopped xs t f h) = (xs, t, Some f, stops_so_far xs t f h)
     go (through xs t h) = further xs t h (breaks_or_not o given xs t)
+
+-- so it has an outcome so far
+pub run_so_far_exists : (o : Options) (given : List ℕ) → (r : Outcome) × RunsSoFar o given r
+run_so_far_exists o given =
+    let r : (xs : List (Item Reading)) × (t : Tree Reading) × (f : Option Fault) × ReadsSoFar o given xs t f = reading_so_far_exists o given in
+    (outcome_of o.settings r.0 r.1 r.2, came_as r.3)
 
 -- words and an input have an answer
 pub answer_exists : (words : List (List ℕ)) (input : List ℕ) → (a : Answer) × IsAnswer words input a

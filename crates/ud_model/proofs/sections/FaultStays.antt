@@ -7,7 +7,7 @@ use Rattle.ud_model.specs.conditions.Conditions.{Decision, decision_on}
 use Rattle.ud_model.specs.sections.Tree.{Item, Tree}
 use Rattle.ud_model.specs.sections.Items.{Options, rules_of, directive_item, item_by, reading_of, line_of, mode_after, read_after, next_item}
 use Rattle.ud_model.specs.sections.Faults.{Fault, Case, FaultOf, Holds, NoneHolds, earlier, fault_in, past_last, too_long, too_many_lines, line_too_long}
-use Rattle.ud_model.specs.answer.Runs.{Outcome, outcome_of, StopsAt, GoesThrough, ReadsAs, ReadsSoFar, Runs, ran_as, RunsSoFar, came_as, RestBreaks, IsLimit, by_lines, by_bytes, lines_so_far, line_so_far, breaks, goes_on}
+use Rattle.ud_model.specs.answer.Runs.{Outcome, StopsAt, GoesThrough, ReadsAs, ReadsSoFar, Runs, ran_as, RunsSoFar, came_as, RestBreaks, IsLimit, by_lines, by_bytes, lines_so_far, line_so_far, breaks}
 use Rattle.ud_model.specs.answer.Runs.ReadsSoFar.{stops as stops_so_far}
 use Rattle.ud_model.specs.answer.Runs.ReadsAs.{stops}
 use Rattle.ud_model.specs.declared.kind.Kind.{Kind}

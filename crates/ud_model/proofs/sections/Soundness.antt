@@ -109,7 +109,7 @@ module _ (o : Options) where
       subst (λ zs. NoneHolds zs (next_item o xs t l) cases) q
       (subst (λ y. NoneHolds ys y cases) (same_next ys xs u t k l b a q s.1) m)
 
-  faulty_inside : (xs ys : List (Item Reading)) (t u : Tree Reading) (l : Line) (later : List Line) (f : Fault) → AreSound o xs t →
+  pub faulty_inside : (xs ys : List (Item Reading)) (t u : Tree Reading) (l : Line) (later : List Line) (f : Fault) → AreSound o xs t →
       FaultOf xs (next_item o xs t l) f → AreSound o ys u → map line_of ys ≡ map line_of xs ++ l ∷ later → ⊥
   faulty_inside xs ys t u l later f a g b e =
       let s : (zs : List (Item Reading)) × (v : Tree Reading) × AreSound o zs v × (map line_of zs ≡ map line_of xs ++ l ∷ []) =

@@ -2,9 +2,10 @@
 -- POSIX XBD 3.206 (a line ends with its line feed); a carriage return before it belongs to the ending.
 --
 --   AreLines text ls     ls are the lines of the text, with their endings; `texts_of` gives them, and there are no others
+--   AreParts text parts  parts are the whole lines of the text and its open rest; `parts_of` gives them, and there are no others
 --   whole_lines text     the lines of a text that hasn't ended: those that have their line feed
---   open_rest text       what stands behind the last line feed
---   lines_of text        the lines of a text that has ended, each with body, ending and number
+--   open_rest text       what stands after the last line feed
+--   lines_of text        the lines of a text that has ended, each with body, ending and number; line k has the number k
 --
 -- Example: "a\r\nb" has the lines "a" with the ending "\r\n" and number 1, and "b" without an ending and number 2.
 use Rattle.std.specs.Prelude.{◌≡◌, ◌≢◌, ℕ, suc, ◌-◌, ◌==◌, nat_eq, List, [], ◌∷◌, ◌++◌, length, take, if◌then◌else◌, ◌⊎◌, Bool, true, ◌||◌, bytes_eq}
@@ -34,10 +35,21 @@ pub record AreLines (text : List ℕ) (ls : List (List ℕ)) : Type 0 where
   pub joined : text ≡ concat ls
   pub formed : AreFormed ls
 
--- the whole lines of a text, and the rest behind its last line feed
+-- each of these lines is whole
+abbrev pub AreWhole : List (List ℕ) → Type 0
+AreWhole [] = Unit {0}
+AreWhole (l ∷ ls) = IsWhole l × AreWhole ls
+
+-- the whole lines of a text, and the rest after its last line feed
 pub record Parts : Type 0 where
   pub whole : List (List ℕ)
   pub rest : List ℕ
+
+-- these are the parts of the text: joined they are the text, each line is whole, and no line feed is in the rest
+pub record AreParts (text : List ℕ) (parts : Parts) : Type 0 where
+  pub joined : text ≡ concat parts.whole ++ parts.rest
+  pub whole : AreWhole parts.whole
+  pub feedless : NoFeed parts.rest
 
 -- a byte in front of these parts that isn't a line feed
 abbrev pub put_on : ℕ → List (List ℕ) → List ℕ → Parts

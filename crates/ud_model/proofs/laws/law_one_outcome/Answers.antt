@@ -1,4 +1,4 @@
--- Lines are gone through up to the first faulty one or to their end, in one way.
+-- A text is read in one way.
 use Rattle.ud_model.proofs.sections.Exists.{run_exists, run_so_far_exists}
 use Rattle.ud_model.proofs.sections.Soundness.{one_run, one_run_so_far}
 use Rattle.ud_model.proofs.laws.law_one_outcome.Goals as goal
