@@ -17,6 +17,7 @@ ghost use Rattle.ud_model.specs.sections.Faults.{Fault, FaultOf, NoneHolds, case
 ghost use Rattle.ud_model.specs.answer.Runs.{Outcome, ReadsAs, ReadsSoFar, Runs, RunsSoFar};
 ghost use Rattle.ud_model.specs.answer.Answer.{Answer, IsAnswer};
 ghost use Rattle.ud_model.specs.conditions.Table.{Argument, entry_in};
+ghost use Rattle.ud_model.specs.conditions.Symbols.{EndsAt, end_of};
 ghost use Rattle.ud_model.specs.conditions.Expressions.{Expression, IsWritten};
 ghost use Rattle.ud_model.specs.aids.Parsing.{expression_of};
 ghost use Rattle.ud_model.specs.conditions.Values.{value_of};
@@ -152,6 +153,12 @@ pub fn law_expression_cond()
 /// Tables that say the same of every name decide the same of every directive.
 pub fn law_condition_by_entries()
     ensures { (table : List Argument) → (other : List Argument) → ((name : List ℕ) → entry_in table name ≡ entry_in other name) → (kind : Kind) → (after : List ℕ) → (rules : Rules) → condition_of kind after table rules ≡ condition_of kind after other rules }
+{}
+
+/// The computed end of a symbol's value is the one at which it ends, from name to name; there is no other.
+pub fn law_symbol_end()
+    ensures found { (table : List Argument) → (n : List ℕ) → (v : List ℕ) → EndsAt table n v → end_of table n ≡ Some v }
+    ensures ends { (table : List Argument) → (n : List ℕ) → (v : List ℕ) → end_of table n ≡ Some v → EndsAt table n v }
 {}
 
 /// Where the value of an expression is known, it is the C value, whatever stands for the names that the table leaves open,
