@@ -218,6 +218,7 @@ module _ (o : Options) (given : List ℕ) (xs : List (Item Reading)) (t : Tree R
   none_or_some [] = inl refl
   none_or_some (b ∷ bs) = inr (λ e. cc)
 
+  -- which of both it is
   pub breaks_or_not : Breaks o given xs t
   unfolding rest_item Either
   breaks_or_not =

@@ -117,6 +117,10 @@ opener_verdict all before part c = verdict_at (stand_of all before c) part c
 abbrev pub first_kept_verdict : Part → Verdict
 first_kept_verdict part = verdict_at first_kept part Unknown
 
+-- the verdict of the opener of the first true group, if a group before it is kept
+abbrev pub first_true_verdict : Part → Verdict
+first_true_verdict part = verdict_at the_true part Yes
+
 -- the verdict of an opener after the first kept one, if no group before it is true
 abbrev pub later_verdict : Part → Cond → Verdict
 later_verdict part c = verdict_at (up_to_true c) part c
