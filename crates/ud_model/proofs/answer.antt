@@ -2,3 +2,4 @@
 pub mod PrintingLemmas
 pub mod LevelLemmas
 pub mod Onward
+pub mod WordLemmas

@@ -1,6 +1,6 @@
 //! Laws over the definitions: functions without a body, whose contracts are theorems.
 
-ghost use Rattle.std.specs.Prelude.{◌≡◌, ◌≢◌, ◌++◌, ℕ, suc, List, [], ◌∷◌, length, map, true, false, Bool, Option, Some, ℤ, pos};
+ghost use Rattle.std.specs.Prelude.{◌≡◌, ◌≢◌, ◌++◌, ℕ, suc, List, [], ◌∷◌, length, map, true, false, Bool, Option, Some, ℤ, pos, bytes_eq, codes};
 ghost use Rattle.ud_model.specs.text.Lines.{Line, AreLines, AreParts, texts_of, text_of, lines_of, whole_lines, open_rest};
 ghost use Rattle.ud_model.specs.text.Scans.{Reading};
 ghost use Rattle.ud_model.specs.text.Splicing.{content, run_of};
@@ -15,6 +15,8 @@ ghost use Rattle.ud_model.specs.answer.Printing.{Judged, judged_lines, pieces_by
 ghost use Rattle.ud_model.specs.answer.Listing.{levels};
 ghost use Rattle.ud_model.specs.sections.Faults.{Fault, FaultOf, NoneHolds, cases};
 ghost use Rattle.ud_model.specs.answer.Runs.{Outcome, ReadsAs, ReadsSoFar, Runs, RunsSoFar};
+ghost use Rattle.ud_model.specs.answer.CommandLine.{letters_in, operands_from, given_from};
+ghost use Rattle.ud_model.specs.answer.WordGives.{letters_give, given_next};
 ghost use Rattle.ud_model.specs.answer.Answer.{Answer, IsAnswer};
 ghost use Rattle.ud_model.specs.conditions.Table.{Argument, entry_in};
 ghost use Rattle.ud_model.specs.conditions.Symbols.{EndsAt, end_of};
@@ -126,6 +128,14 @@ pub fn law_one_outcome()
     ensures only { (o : Options) → (input : List ℕ) → (r : Outcome) → (s : Outcome) → Runs o input r → Runs o input s → r ≡ s }
     ensures exists_so_far { (o : Options) → (given : List ℕ) → (r : Outcome) × RunsSoFar o given r }
     ensures only_so_far { (o : Options) → (given : List ℕ) → (r : Outcome) → (s : Outcome) → RunsSoFar o given r → RunsSoFar o given s → r ≡ s }
+{}
+
+/// What words give is what each gives by itself, in order. After `--` each word is an operand, and so it is from the first
+/// operand on. The letters of a word give options, of which the last may wait for the next word.
+pub fn law_words()
+    ensures ended { (n : ℕ) → (words : List (List ℕ)) → given_from n (codes "--" ∷ words) ≡ operands_from (suc n) words }
+    ensures operand { (n : ℕ) → (w : List ℕ) → (words : List (List ℕ)) → bytes_eq w (codes "--") ≡ false → letters_in w ≡ [] → given_from n (w ∷ words) ≡ operands_from n (w ∷ words) }
+    ensures options { (n : ℕ) → (w : List ℕ) → (words : List (List ℕ)) → (c : ℕ) → (cs : List ℕ) → bytes_eq w (codes "--") ≡ false → letters_in w ≡ c ∷ cs → given_from n (w ∷ words) ≡ (letters_give (suc n) (c ∷ cs)).given ++ given_next (letters_give (suc n) (c ∷ cs)).waits (suc n) words }
 {}
 
 /// Words and an input have one answer.
