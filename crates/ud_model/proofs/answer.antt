@@ -1,2 +1,5 @@
 -- Lemmas on what is printed, and on runs.
 pub mod PrintingLemmas
+pub mod LevelLemmas
+pub mod Onward
+pub mod WordLemmas

@@ -8,3 +8,4 @@ pub mod FaultStays
 pub mod Counts
 pub mod KeywordLies
 pub mod Stages
+pub mod Exists

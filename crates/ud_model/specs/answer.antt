@@ -3,6 +3,7 @@ pub mod Printing
 pub mod Listing
 pub mod Arguments
 pub mod CommandLine
+pub mod WordGives
 pub mod Messages
 pub mod Runs
 pub mod Answer

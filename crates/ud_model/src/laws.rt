@@ -1,7 +1,7 @@
 //! Laws over the definitions: functions without a body, whose contracts are theorems.
 
-ghost use Rattle.std.specs.Prelude.{◌≡◌, ◌≢◌, ◌++◌, ℕ, List, [], ◌∷◌, length, map, true, false, Bool, Some, ℤ, pos};
-ghost use Rattle.ud_model.specs.text.Lines.{Line, AreLines, texts_of};
+ghost use Rattle.std.specs.Prelude.{◌≡◌, ◌≢◌, ◌++◌, ℕ, suc, List, [], ◌∷◌, length, map, true, false, Bool, Option, Some, ℤ, pos, bytes_eq, codes};
+ghost use Rattle.ud_model.specs.text.Lines.{Line, AreLines, AreParts, texts_of, text_of, lines_of, whole_lines, open_rest};
 ghost use Rattle.ud_model.specs.text.Scans.{Reading};
 ghost use Rattle.ud_model.specs.text.Splicing.{content, run_of};
 ghost use Rattle.ud_model.specs.text.Pieces.{Piece, Cell, IsCut, cells_of, cut, shown};
@@ -10,11 +10,16 @@ ghost use Rattle.ud_model.specs.declared.kind.Mode.{Mode};
 ghost use Rattle.ud_model.specs.sections.Tree.{Item, Tree, lines};
 ghost use Rattle.ud_model.specs.sections.Pruning.{Mark, marks, marks_in};
 ghost use Rattle.ud_model.specs.aids.SoFar.{marks_so_far};
-ghost use Rattle.ud_model.specs.sections.Items.{Options};
+ghost use Rattle.ud_model.specs.sections.Items.{Options, line_of};
+ghost use Rattle.ud_model.specs.answer.Printing.{Judged, judged_lines, pieces_by};
+ghost use Rattle.ud_model.specs.answer.Listing.{levels};
 ghost use Rattle.ud_model.specs.sections.Faults.{Fault, FaultOf, NoneHolds, cases};
-ghost use Rattle.ud_model.specs.answer.Runs.{Outcome, Runs, RunsSoFar};
+ghost use Rattle.ud_model.specs.answer.Runs.{Outcome, ReadsAs, ReadsSoFar, Runs, RunsSoFar};
+ghost use Rattle.ud_model.specs.answer.CommandLine.{letters_in, operands_from, given_from};
+ghost use Rattle.ud_model.specs.answer.WordGives.{letters_give, given_next};
 ghost use Rattle.ud_model.specs.answer.Answer.{Answer, IsAnswer};
 ghost use Rattle.ud_model.specs.conditions.Table.{Argument, entry_in};
+ghost use Rattle.ud_model.specs.conditions.Symbols.{EndsAt, end_of};
 ghost use Rattle.ud_model.specs.conditions.Expressions.{Expression, IsWritten};
 ghost use Rattle.ud_model.specs.aids.Parsing.{expression_of};
 ghost use Rattle.ud_model.specs.conditions.Values.{value_of};
@@ -24,10 +29,15 @@ ghost use Rattle.ud_model.specs.declared.cond.Cond.{Cond};
 ghost use Rattle.ud_model.specs.declared.kind.Kind.{Kind};
 ghost use Rattle.ud_model.specs.conditions.CValues.{Number, number, IsCValue};
 
-/// A text has lines, and has them in one way only.
+/// A text has lines, and has them in one way only. Line k has the number k, and its body and its ending are its bytes. Of a
+/// text that goes on, the whole lines and the open rest are there in one way only, too.
 pub fn law_lines()
     ensures exists { (text : List ℕ) → AreLines text (texts_of text) }
     ensures only { (text : List ℕ) → (ls : List (List ℕ)) → AreLines text ls → ls ≡ texts_of text }
+    ensures bytes { (text : List ℕ) → map text_of (lines_of text) ≡ texts_of text }
+    ensures number { (text : List ℕ) → (front : List Line) → (l : Line) → (later : List Line) → lines_of text ≡ front ++ l ∷ later → l.number ≡ suc (length front) }
+    ensures whole { (text : List ℕ) → AreParts text (record { whole = whole_lines text; rest = open_rest text }) }
+    ensures only_whole { (text : List ℕ) → (ls : List (List ℕ)) → (rest : List ℕ) → AreParts text (record { whole = ls; rest = rest }) → (ls ≡ whole_lines text) × (rest ≡ open_rest text) }
 {}
 
 /// A joined text is cut into comments, literals and single bytes in one way, and the computed cells are those of this
@@ -71,6 +81,13 @@ pub fn law_marks_stay()
     ensures stays { (t : Tree Reading) → (u : Tree Reading) → (more : List (Item Reading)) → lines u ≡ lines t ++ more → (rest : List Mark) × (marks u ≡ marks t ++ rest) }
 {}
 
+/// Each line of a text has one mark and one level, so no line goes without a word.
+pub fn law_each_line()
+    ensures marks { (t : Tree Reading) → length (marks t) ≡ length (lines t) }
+    ensures judged { (t : Tree Reading) → map (λ (j : Judged). j.line) (judged_lines (lines t) (marks t)) ≡ map line_of (lines t) }
+    ensures levels { (t : Tree Reading) → length (levels t) ≡ length (lines t) }
+{}
+
 /// A line has one fault at most, and none where no case holds.
 pub fn law_one_fault()
     ensures one { (xs : List (Item Reading)) → (x : Item Reading) → (f : Fault) → (g : Fault) → FaultOf xs x f → FaultOf xs x g → f ≡ g }
@@ -83,9 +100,48 @@ pub fn law_fault_stays()
     ensures { (o : Options) → (given : List ℕ) → (more : List ℕ) → (r : Outcome) → RunsSoFar o given r → (f : Fault) → r.fault ≡ Some f → RunsSoFar o (given ++ more) r × Runs o (given ++ more) r }
 {}
 
-/// Words and an input have one answer at most.
+/// How a text so far is read, and what is printed of it, is the front of that of every longer text, whether that goes on or
+/// has ended: the items; the pieces of the lines, whatever is printed of a line by the lines before it; and the output, in
+/// each style and where names are listed.
+pub fn law_output_grows()
+    ensures items_so_far { (o : Options) → (given : List ℕ) → (more : List ℕ) → (xs : List (Item Reading)) → (ys : List (Item Reading)) → (t : Tree Reading) → (u : Tree Reading) → (f : Option Fault) → (g : Option Fault) → ReadsSoFar o given xs t f → ReadsSoFar o (given ++ more) ys u g → (rest : List (Item Reading)) × (ys ≡ xs ++ rest) }
+    ensures items { (o : Options) → (given : List ℕ) → (more : List ℕ) → (xs : List (Item Reading)) → (ys : List (Item Reading)) → (t : Tree Reading) → (u : Tree Reading) → (f : Option Fault) → (g : Option Fault) → ReadsSoFar o given xs t f → ReadsAs o (given ++ more) ys u g → (rest : List (Item Reading)) × (ys ≡ xs ++ rest) }
+    ensures pieces { (piece : List Judged → Judged → List ℕ) → (t : Tree Reading) → (u : Tree Reading) → (more : List (Item Reading)) → lines u ≡ lines t ++ more → (rest : List (List ℕ)) × (pieces_by piece [] (judged_lines (lines u) (marks u)) ≡ pieces_by piece [] (judged_lines (lines t) (marks t)) ++ rest) }
+    ensures output_so_far { (o : Options) → (given : List ℕ) → (more : List ℕ) → (r : Outcome) → (s : Outcome) → RunsSoFar o given r → RunsSoFar o (given ++ more) s → (rest : List ℕ) × (s.output ≡ r.output ++ rest) }
+    ensures output { (o : Options) → (given : List ℕ) → (more : List ℕ) → (r : Outcome) → (s : Outcome) → RunsSoFar o given r → Runs o (given ++ more) s → (rest : List ℕ) × (s.output ≡ r.output ++ rest) }
+{}
+
+/// A text is read in one way, as items with a tree, and as far as its first fault; these are the lines of the tree. So it is
+/// if the text goes on.
+pub fn law_one_reading()
+    ensures exists { (o : Options) → (input : List ℕ) → (xs : List (Item Reading)) × (t : Tree Reading) × (f : Option Fault) × ReadsAs o input xs t f }
+    ensures only { (o : Options) → (input : List ℕ) → (xs : List (Item Reading)) → (ys : List (Item Reading)) → (t : Tree Reading) → (u : Tree Reading) → (f : Option Fault) → (g : Option Fault) → ReadsAs o input xs t f → ReadsAs o input ys u g → (xs ≡ ys) × (t ≡ u) × (f ≡ g) }
+    ensures lines { (o : Options) → (input : List ℕ) → (xs : List (Item Reading)) → (t : Tree Reading) → (f : Option Fault) → ReadsAs o input xs t f → lines t ≡ xs }
+    ensures exists_so_far { (o : Options) → (given : List ℕ) → (xs : List (Item Reading)) × (t : Tree Reading) × (f : Option Fault) × ReadsSoFar o given xs t f }
+    ensures only_so_far { (o : Options) → (given : List ℕ) → (xs : List (Item Reading)) → (ys : List (Item Reading)) → (t : Tree Reading) → (u : Tree Reading) → (f : Option Fault) → (g : Option Fault) → ReadsSoFar o given xs t f → ReadsSoFar o given ys u g → (xs ≡ ys) × (t ≡ u) × (f ≡ g) }
+    ensures lines_so_far { (o : Options) → (given : List ℕ) → (xs : List (Item Reading)) → (t : Tree Reading) → (f : Option Fault) → ReadsSoFar o given xs t f → lines t ≡ xs }
+{}
+
+/// A text has one outcome, whether it has ended or goes on: what the settings make of the items as which it is read.
+pub fn law_one_outcome()
+    ensures exists { (o : Options) → (input : List ℕ) → (r : Outcome) × Runs o input r }
+    ensures only { (o : Options) → (input : List ℕ) → (r : Outcome) → (s : Outcome) → Runs o input r → Runs o input s → r ≡ s }
+    ensures exists_so_far { (o : Options) → (given : List ℕ) → (r : Outcome) × RunsSoFar o given r }
+    ensures only_so_far { (o : Options) → (given : List ℕ) → (r : Outcome) → (s : Outcome) → RunsSoFar o given r → RunsSoFar o given s → r ≡ s }
+{}
+
+/// What words give is what each gives by itself, in order. After `--` each word is an operand, and so it is from the first
+/// operand on. The letters of a word give options, of which the last may wait for the next word.
+pub fn law_words()
+    ensures ended { (n : ℕ) → (words : List (List ℕ)) → given_from n (codes "--" ∷ words) ≡ operands_from (suc n) words }
+    ensures operand { (n : ℕ) → (w : List ℕ) → (words : List (List ℕ)) → bytes_eq w (codes "--") ≡ false → letters_in w ≡ [] → given_from n (w ∷ words) ≡ operands_from n (w ∷ words) }
+    ensures options { (n : ℕ) → (w : List ℕ) → (words : List (List ℕ)) → (c : ℕ) → (cs : List ℕ) → bytes_eq w (codes "--") ≡ false → letters_in w ≡ c ∷ cs → given_from n (w ∷ words) ≡ (letters_give (suc n) (c ∷ cs)).given ++ given_next (letters_give (suc n) (c ∷ cs)).waits (suc n) words }
+{}
+
+/// Words and an input have one answer.
 pub fn law_one_answer()
-    ensures { (words : List (List ℕ)) → (input : List ℕ) → (a : Answer) → (b : Answer) → IsAnswer words input a → IsAnswer words input b → a ≡ b }
+    ensures exists { (words : List (List ℕ)) → (input : List ℕ) → (a : Answer) × IsAnswer words input a }
+    ensures only { (words : List (List ℕ)) → (input : List ℕ) → (a : Answer) → (b : Answer) → IsAnswer words input a → IsAnswer words input b → a ≡ b }
 {}
 
 /// A text is written for one tree at most, and the computed tree is the one for which it is written (C11 6.5).
@@ -107,6 +163,12 @@ pub fn law_expression_cond()
 /// Tables that say the same of every name decide the same of every directive.
 pub fn law_condition_by_entries()
     ensures { (table : List Argument) → (other : List Argument) → ((name : List ℕ) → entry_in table name ≡ entry_in other name) → (kind : Kind) → (after : List ℕ) → (rules : Rules) → condition_of kind after table rules ≡ condition_of kind after other rules }
+{}
+
+/// The computed end of a symbol's value is the one at which it ends, from name to name; there is no other.
+pub fn law_symbol_end()
+    ensures found { (table : List Argument) → (n : List ℕ) → (v : List ℕ) → EndsAt table n v → end_of table n ≡ Some v }
+    ensures ends { (table : List Argument) → (n : List ℕ) → (v : List ℕ) → end_of table n ≡ Some v → EndsAt table n v }
 {}
 
 /// Where the value of an expression is known, it is the C value, whatever stands for the names that the table leaves open,

@@ -7,7 +7,8 @@ use Rattle.ud_model.specs.sections.Pruning.{Mark}
 use Rattle.ud_model.specs.sections.Items.{Options}
 use Rattle.ud_model.specs.sections.Faults.{Fault, FaultOf, end_fault, end_by, last_number, eof_in_comment}
 use Rattle.ud_model.specs.answer.Messages.{message_of}
-use Rattle.ud_model.specs.answer.Runs.{outcome_of, stops, ends}
+use Rattle.ud_model.specs.answer.Runs.{outcome_of, ran_as}
+use Rattle.ud_model.specs.answer.Runs.ReadsAs.{stops, ends}
 use Rattle.ud_model.specs.answer.Answer.{status_of, message_or_none}
 use Rattle.ud_model.specs.declared.settings.Settings.{Settings}
 use Rattle.unifdef.specs.declared.held.Held as held_text
@@ -41,7 +42,7 @@ pub comes_at : (o : Options) (name input : List ℕ) (ls more : List Line) (t : 
     Tells name o.settings outcome (Some f) → Comes o name input ls ms outcome
 comes_at o name input ls more t ms l later f outcome r e fault tells = record {
   run = outcome_of o.settings (items_in o r.front) t (Some f);
-  runs = stops (items_in o r.front) t f (record {
+  runs = ran_as (stops (items_in o r.front) t f (record {
     sound = r.sound;
     faulty = l;
     later = later ++ more;
@@ -49,7 +50,7 @@ comes_at o name input ls more t ms l later f outcome r e fault tells = record {
         ∙ ap (λ (ks : List Line). ks ++ l ∷ (later ++ more)) (sym (lines_of-items_in o r.front));
     fault = subst (λ (x : Item Reading). FaultOf (items_in o r.front) x f) (item_at-next o (items_in o r.front) t l r.items)
         (subst (λ (xs : List (Item Reading)). FaultOf xs (item_at o (items_in o r.front) l) f) r.items fault);
-  });
+  }));
   output = output_is o ls t ms (l ∷ later) r;
   message = tells.0;
   status = tells.1 (differs_told o.settings.listing o.settings (items_in o ls) ms)
@@ -61,14 +62,14 @@ comes_limit : (o : Options) (name input : List ℕ) (ls : List Line) (t : Tree R
     (r : Front o ls t ms []) → lines_of input ≡ ls ++ l ∷ later → Breaks l f → Tells name o.settings outcome (Some f) → Comes o name input ls ms outcome
 comes_limit o name input ls t ms l later f outcome r e breaks tells = record {
   run = outcome_of o.settings (items_in o r.front) t (Some f);
-  runs = stops (items_in o r.front) t f (record {
+  runs = ran_as (stops (items_in o r.front) t f (record {
     sound = r.sound;
     faulty = l;
     later = later;
     are = e ∙ ap (λ (ks : List Line). ks ++ l ∷ later) (r.are ∙ append-nil r.front ∙ sym (lines_of-items_in o r.front));
     fault = subst (λ (x : Item Reading). FaultOf (items_in o r.front) x f) (item_at-next o (items_in o r.front) t l r.items)
         (limit_fault (items_in o r.front) (item_at o (items_in o r.front) l) l f (line_of-item_at o (items_in o r.front) l) breaks);
-  });
+  }));
   output = output_is o ls t ms [] r;
   message = tells.0;
   status = tells.1 (differs_told o.settings.listing o.settings (items_in o ls) ms) ∙ ap (λ d. status_of o.settings d (Some f)) (sym (differs_is o ls t ms [] r));
@@ -82,7 +83,7 @@ comes_end o name input ls t ms f outcome r e q tells =
     let k : end_fault (items_in o r.front) t ≡ f = ap (λ ks. end_fault (items_in o ks) t) (sym all) ∙ q in
     record {
       run = outcome_of o.settings (items_in o r.front) t (end_fault (items_in o r.front) t);
-      runs = ends (items_in o r.front) t (record { sound = r.sound; are = e ∙ all ∙ sym (lines_of-items_in o r.front) });
+      runs = ran_as (ends (items_in o r.front) t (record { sound = r.sound; are = e ∙ all ∙ sym (lines_of-items_in o r.front) }));
       output = output_is o ls t ms [] r;
       message = tells.0 ∙ ap (message_or_none name) (sym k);
       status = tells.1 (differs_told o.settings.listing o.settings (items_in o ls) ms)

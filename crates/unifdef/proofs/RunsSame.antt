@@ -8,7 +8,8 @@ use Rattle.ud_model.specs.conditions.Conditions.{decision_on}
 use Rattle.ud_model.specs.sections.Tree.{Item, Tree}
 use Rattle.ud_model.specs.sections.Items.{Options, mode_after, read_after, rules_of, directive_item, item_by, next_item}
 use Rattle.ud_model.specs.sections.Faults.{FaultOf, Fault, NoneHolds, cases, AreSound, no_lines, one_more}
-use Rattle.ud_model.specs.answer.Runs.{Outcome, StopsAt, Runs, stops, ends}
+use Rattle.ud_model.specs.answer.Runs.{Outcome, StopsAt, Runs, ran_as}
+use Rattle.ud_model.specs.answer.Runs.ReadsAs.{stops, ends}
 use Rattle.ud_model.specs.declared.settings.Settings.{Settings}
 use Rattle.ud_model.proofs.conditions.ConditionLemmas.{condition_of_same}
 
@@ -47,5 +48,5 @@ module _ (s : Settings) (t u : List Argument) (same : (name : List ℕ) → entr
 
   -- tables that say the same of every name have the same runs
   pub runs_same : {input : List ℕ} {r : Outcome} → Runs here input r → Runs there input r
-  runs_same (stops xs k f h) = stops xs k f (stops_same h)
-  runs_same (ends xs k h) = ends xs k (record { sound = sound_same h.sound; are = h.are })
+  runs_same (ran_as (stops xs k f h)) = ran_as (stops xs k f (stops_same h))
+  runs_same (ran_as (ends xs k h)) = ran_as (ends xs k (record { sound = sound_same h.sound; are = h.are }))

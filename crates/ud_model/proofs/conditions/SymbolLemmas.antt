@@ -7,7 +7,7 @@ use Rattle.std.proofs.lemmas.Slice.Eq.{bytes_eq-Decides}
 use Rattle.std.proofs.lemmas.Option.{none-some, same_Some}
 use Rattle.ud_model.specs.text.Bytes.{is_identifier}
 use Rattle.ud_model.specs.conditions.Table.{Argument, Entry, entry_from, entry_in}
-use Rattle.ud_model.specs.conditions.Symbols.{text_in, defined_text, on_text, ends_in, end_of}
+use Rattle.ud_model.specs.conditions.Symbols.{text_in, defined_text, EndsAt, at_text, by_name, on_text, ends_in, end_of}
 
 -- the tables say the same of every name
 abbrev pub SaySame : List Argument → List Argument → Type 0
@@ -228,3 +228,29 @@ same_by None (Some x) f g = g x refl
 -- tables that say the same of every name give a name's value the same end
 pub end_same : (t u : List Argument) → SaySame t u → (n : List ℕ) → end_of t n ≡ end_of u n
 end_same t u f n = same_by (end_of t n) (end_of u n) (ends_over t u f n) (ends_over u t (λ m. sym (f m)) n)
+
+-- a way that ends has so many steps
+steps : (t : List Argument) (n v : List ℕ) → EndsAt t n v → (k : ℕ) × (ends_in k t n ≡ Some v)
+steps t _ _ (at_text n v d i) = (1, ends_here t 0 n v d i)
+steps t _ _ (by_name n m v d i e) = let s : (k : ℕ) × (ends_in k t m ≡ Some v) = steps t m v e in (suc s.0, ends_behind t s.0 n m d i ∙ s.1)
+
+-- the computed end is the one at which the value ends
+pub end_found : (t : List Argument) (n v : List ℕ) → EndsAt t n v → end_of t n ≡ Some v
+unfolding end_of
+end_found t n v h = let s : (k : ℕ) × (ends_in k t n ≡ Some v) = steps t n v h in ends_soon t s.0 n v s.1
+
+ends_by : (t : List Argument) (k : ℕ) (n v : List ℕ) → ((w : List ℕ) → ends_in k t w ≡ Some v → EndsAt t w v) → Goes t k n v → EndsAt t n v
+ends_by t k n v further g = by g.on
+  where
+    by : ((is_identifier g.text ≡ false) × (g.text ≡ v)) ⊎ ((is_identifier g.text ≡ true) × (ends_in k t g.text ≡ Some v)) → EndsAt t n v
+    by (inl p) = subst (EndsAt t n) p.1 (at_text n g.text g.says p.0)
+    by (inr p) = by_name n g.text v g.says p.0 (further g.text p.1)
+
+ends_at : (t : List Argument) (k : ℕ) (n v : List ℕ) → ends_in k t n ≡ Some v → EndsAt t n v
+ends_at t zero n v e = absurd (none-some v e)
+ends_at t (suc k) n v e = ends_by t k n v (λ w h. ends_at t k w v h) (goes t k n v e)
+
+-- and the value ends where the computed end is
+pub end_is : (t : List Argument) (n v : List ℕ) → end_of t n ≡ Some v → EndsAt t n v
+unfolding end_of
+end_is t n v e = ends_at t (length t) n v e

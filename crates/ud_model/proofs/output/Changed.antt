@@ -12,7 +12,8 @@ use Rattle.ud_model.specs.sections.Pruning.{Mark, Part, an_if, an_elif, an_else,
 use Rattle.ud_model.specs.aids.SoFar.{verdict_so_far, nodes_so_far, groups_so_far, elifs_so_far}
 use Rattle.ud_model.specs.sections.Faults.{AreSound, no_lines, one_more, end_by, ends_in_comment, last_number}
 use Rattle.ud_model.specs.answer.Printing.{Judged, style_of, piece_alone, piece_behind, pieces_by, some_other, judged, judged_lines, keyword_in, complemented, printed_by, some_differ_by}
-use Rattle.ud_model.specs.answer.Runs.{Outcome, Runs, stops, ends, output_by, differs_by}
+use Rattle.ud_model.specs.answer.Runs.{Outcome, Runs, ran_as, output_by, differs_by}
+use Rattle.ud_model.specs.answer.Runs.ReadsAs.{stops, ends}
 use Rattle.ud_model.specs.declared.cond.Cond.{Cond}
 use Rattle.ud_model.specs.declared.cond.Cond.TheVariants.{Yes}
 use Rattle.ud_model.specs.declared.verdict.Verdict.{Verdict}
@@ -288,8 +289,8 @@ module _ (o : Options) (n : o.settings.renumber ≡ false) (off : o.settings.lis
 
   -- some line differs exactly if the output isn't the input
   pub changed : {r : Outcome} → Runs o input r → r.fault ≡ None → r.differs ≡ not (bytes_eq r.output input)
-  changed (stops xs t f s) e = cc
-  changed (ends xs t g) e =
+  changed (ran_as (stops xs t f s)) e = cc
+  changed (ran_as (ends xs t g)) e =
       ap (λ (q : Listing). differs_by q o.settings xs t) off
       ∙ tree_differs xs t (end_parts (ends_in_comment xs) (last_number xs) (innermost t) e).1 (keywords g.sound) (sound_lines g.sound) (sym g.are)
       ∙ ap (λ (q : Listing). not (bytes_eq (output_by q o.settings xs t) input)) (sym off)

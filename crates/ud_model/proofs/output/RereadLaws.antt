@@ -11,7 +11,8 @@ use Rattle.ud_model.specs.sections.Pruning.{Mark, marks, Part, an_if, an_elif, a
 use Rattle.ud_model.specs.sections.Items.{Options, reading_of, line_of}
 use Rattle.ud_model.specs.sections.Faults.{Fault, end_fault, end_by, ends_in_comment, last_number}
 use Rattle.ud_model.specs.answer.Printing.{Judged, judged_lines, piece_by, piece_behind, pieces_by, style_of, some_other, keyword_in, printed_by}
-use Rattle.ud_model.specs.answer.Runs.{Outcome, Runs, stops, ends, GoesThrough, output_by, differs_by}
+use Rattle.ud_model.specs.answer.Runs.{Outcome, Runs, ran_as, GoesThrough, output_by, differs_by}
+use Rattle.ud_model.specs.answer.Runs.ReadsAs.{stops, ends}
 use Rattle.ud_model.specs.output.Worlds.{World, selected, Agrees, openers}
 use Rattle.ud_model.specs.output.Pruned.{Edited, edited, pruned, printed, left_item, IsUndecided, GroupsUndecided, ElifsUndecided}
 use Rattle.ud_model.specs.output.Rereading.{IsPlain, AreRead, IsTreeOf, CleanRun, KeepsTruths, LinesFit, line_bytes, edited_bytes}
@@ -137,8 +138,8 @@ module _ (o : Options) (p : IsPlain o) (input : List ℕ) where
 
   -- an input without a fault has such an output
   pub reread : {r : Outcome} → Runs o input r → r.fault ≡ None → (ns : Nodes Reading) → IsTreeOf o input (closed ns) → Result r ns
-  reread (stops xs t f s) e ns a = cc
-  reread (ends xs t g) e ns a =
+  reread (ran_as (stops xs t f s)) e ns a = cc
+  reread (ran_as (ends xs t g)) e ns a =
       let same : t ≡ closed ns = one_tree_of o input t (closed ns) (record { items = xs; read = sound_read g.sound; are = g.are }) a in
       let z : (ys : List (Item Reading)) × Again o (the_mode o) xs t ys = again o p xs t g.sound (subst AllButLast g.are (lines_end 1 (texts_of input) (lines_exist input).formed)) in
       let left : printed xs (marks t) ≡ lines_of_nodes (pruned ns) =
@@ -220,8 +221,8 @@ module _ (k : CleanRun) where
 
 clear_run : {o : Options} {input : List ℕ} {r : Outcome} → Runs o input r → r.fault ≡ None → (ns : Nodes Reading) → IsTreeOf o input (closed ns) →
     Pairwise (Clear o) (lines (closed ns)) (marks (closed ns))
-clear_run (stops xs t f s) e ns a = cc
-clear_run {o = o} {input = input} (ends xs t g) e ns a =
+clear_run (ran_as (stops xs t f s)) e ns a = cc
+clear_run {o = o} {input = input} (ran_as (ends xs t g)) e ns a =
     subst (λ (u : Tree Reading). Pairwise (Clear o) (lines u) (marks u)) (one_tree_of o input t (closed ns) (record { items = xs; read = sound_read g.sound; are = g.are }) a)
     (subst (λ (zs : List (Item Reading)). Pairwise (Clear o) zs (marks t)) (sym (sound_lines g.sound)) (sound_clear o xs t g.sound))
 
@@ -320,7 +321,7 @@ module _ (o : Options) (p : IsPlain o) (text : List ℕ) (ys : List (Item Readin
 
   pub runs_again : end_fault ys (closed us) ≡ None → Runs o text (record { output = text; fault = None; differs = false })
   runs_again e =
-      subst (λ (r : Outcome). Runs o text r) (same_parts same_output e same_lines) (ends ys (closed us) g)
+      subst (λ (r : Outcome). Runs o text r) (same_parts same_output e same_lines) (ran_as (ends ys (closed us) g))
     where
       same_parts : {a b : List ℕ} {f f' : Option Fault} {d d' : Bool} → a ≡ b → f ≡ f' → d ≡ d' →
           ◌≡◌ {A = Outcome} (record { output = a; fault = f; differs = d }) (record { output = b; fault = f'; differs = d' })
@@ -352,8 +353,8 @@ input_nodes (open_section ns h t) e = absurd (no_innermost ns t h e)
 
 -- an input without a fault has a tree whose sections are closed
 pub input_tree : (o : Options) (input : List ℕ) → {r : Outcome} → Runs o input r → r.fault ≡ None → (ns : Nodes Reading) × IsTreeOf o input (closed ns)
-input_tree o input (stops xs t f s) e = cc
-input_tree o input (ends xs t g) e =
+input_tree o input (ran_as (stops xs t f s)) e = cc
+input_tree o input (ran_as (ends xs t g)) e =
     let n : (ns : Nodes Reading) × (t ≡ closed ns) = input_nodes t (end_parts (ends_in_comment xs) (last_number xs) (innermost t) e).1 in
     (n.0, record { items = xs; read = subst (λ (u : Tree Reading). AreRead o xs u) n.1 (sound_read g.sound); are = g.are })
 

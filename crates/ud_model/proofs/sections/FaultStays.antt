@@ -1,5 +1,5 @@
 -- Fault stays: a fault of the text so far is the fault of every longer text, and the text before it is the same.
-use Rattle.std.proofs.Common.{◌≡◌, ◌≢◌, ℕ, suc, ◌≤◌, List, [], ◌∷◌, ◌++◌, length, map, Some, refl, sym, ◌∙◌, ap, ap₂, subst, append_assoc, length-append, arith}
+use Rattle.std.proofs.Common.{◌≡◌, ◌≢◌, ℕ, suc, ◌≤◌, List, [], ◌∷◌, ◌++◌, length, map, Some, None, refl, sym, ◌∙◌, ap, ap₂, subst, append_assoc, length-append, arith}
 use Rattle.ud_model.specs.text.Lines.{Line, text_of, line_at, lines_of, whole_lines, open_rest, texts_of, numbered_from}
 use Rattle.ud_model.specs.text.Scans.{Reading}
 use Rattle.ud_model.specs.sections.Directives.{Content, cut_keyword, directive, text, content_of}
@@ -7,9 +7,9 @@ use Rattle.ud_model.specs.conditions.Conditions.{Decision, decision_on}
 use Rattle.ud_model.specs.sections.Tree.{Item, Tree}
 use Rattle.ud_model.specs.sections.Items.{Options, rules_of, directive_item, item_by, reading_of, line_of, mode_after, read_after, next_item}
 use Rattle.ud_model.specs.sections.Faults.{Fault, Case, FaultOf, Holds, NoneHolds, earlier, fault_in, past_last, too_long, too_many_lines, line_too_long}
-use Rattle.ud_model.specs.answer.Runs.{Outcome, outcome_of, StopsAt, GoesThrough, Runs, RunsSoFar, RestBreaks, IsLimit, by_lines, by_bytes, lines_so_far, line_so_far, breaks, goes_on}
-use Rattle.ud_model.specs.answer.Runs.RunsSoFar.{stops as stops_so_far}
-use Rattle.ud_model.specs.answer.Runs.Runs.{stops}
+use Rattle.ud_model.specs.answer.Runs.{Outcome, StopsAt, GoesThrough, ReadsAs, ReadsSoFar, Runs, ran_as, RunsSoFar, came_as, RestBreaks, IsLimit, by_lines, by_bytes, lines_so_far, line_so_far, breaks}
+use Rattle.ud_model.specs.answer.Runs.ReadsSoFar.{stops as stops_so_far}
+use Rattle.ud_model.specs.answer.Runs.ReadsAs.{stops}
 use Rattle.ud_model.specs.declared.kind.Kind.{Kind}
 use Rattle.ud_model.specs.declared.kind.Kind.TheVariants.{If, Ifdef, Ifndef, Elif, Else, Endif}
 use Rattle.ud_model.proofs.text.LinesLemmas.{Growth, stays_open, ends_line, grows, text_of-line_at, numbered_from-next, lines_so_far-append, lines_of-append, texts_of_grows, some_front}
@@ -133,10 +133,10 @@ limit_ends o given more xs t f through h = by_lines_of (lines_of-rest given more
 
 -- a broken limit stays one when the text goes on
 pub limit_goes_on : (o : Options) (given more : List ℕ) (xs : List (Item Reading)) (t : Tree Reading) (f : Fault) →
-    GoesThrough o (lines_so_far given) xs t → RestBreaks o given xs t f → RunsSoFar o (given ++ more) (outcome_of o.settings xs t (Some f))
+    GoesThrough o (lines_so_far given) xs t → RestBreaks o given xs t f → ReadsSoFar o (given ++ more) xs t (Some f)
 limit_goes_on o given more xs t f through h = by_growth (grows given more)
   where
-    by_growth : Growth given more → RunsSoFar o (given ++ more) (outcome_of o.settings xs t (Some f))
+    by_growth : Growth given more → ReadsSoFar o (given ++ more) xs t (Some f)
     by_growth (ends_line x later e) =
         stops_so_far xs t f
         (subst (λ (ls : List Line). StopsAt o ls xs t f)
@@ -157,10 +157,10 @@ limit_goes_on o given more xs t f through h = by_growth (grows given more)
             subst (λ (l : Line). LimitFault xs (next_item o xs t l) f)
             (sym (ap₂ (λ (ls : List (List ℕ)) (x : List ℕ). line_at (suc (length ls)) x) e r)) (rest_stays o given more xs t f h)
 
--- what is a fault so far stays one, and the text before it stays, whether the text goes on or ends
-pub fault_stays : (o : Options) (given more : List ℕ) (r : Outcome) → RunsSoFar o given r → (f : Fault) → r.fault ≡ Some f →
-    RunsSoFar o (given ++ more) r × Runs o (given ++ more) r
-fault_stays o given more _ (stops_so_far xs t g h) f is = (
+-- what is a fault so far stays one, and so do the items before it, whether the text goes on or ends
+pub reads_stay : {o : Options} {given : List ℕ} (more : List ℕ) {xs : List (Item Reading)} {t : Tree Reading} {f : Fault} → ReadsSoFar o given xs t (Some f) →
+    ReadsSoFar o (given ++ more) xs t (Some f) × ReadsAs o (given ++ more) xs t (Some f)
+reads_stay {o = o} {given = given} more (stops_so_far xs t g h) = (
   stops_so_far xs t g
       (subst (λ (ls : List Line). StopsAt o ls xs t g) (sym (lines_so_far-append given more).1)
       (stops_at-append o (lines_so_far given) (lines_so_far-append given more).0 xs t g h)),
@@ -168,6 +168,11 @@ fault_stays o given more _ (stops_so_far xs t g h) f is = (
       (subst (λ (ls : List Line). StopsAt o ls xs t g) (sym (lines_of-append given more).1)
       (stops_at-append o (lines_so_far given) (lines_of-append given more).0 xs t g h)),
 )
-fault_stays o given more _ (breaks xs t g through h) f is =
+reads_stay {o = o} {given = given} more (breaks xs t g through h) =
     (limit_goes_on o given more xs t g through h, stops xs t g (limit_ends o given more xs t g through h))
-fault_stays o given more _ (goes_on xs t through none) f is = cc
+
+-- so the text before it stays, too
+pub fault_stays : (o : Options) (given more : List ℕ) (r : Outcome) → RunsSoFar o given r → (f : Fault) → r.fault ≡ Some f →
+    RunsSoFar o (given ++ more) r × Runs o (given ++ more) r
+fault_stays o given more _ (came_as {f = None} a) f is = cc
+fault_stays o given more _ (came_as {f = Some g} a) f is = (came_as (reads_stay more a).0, ran_as (reads_stay more a).1)

@@ -1,5 +1,5 @@
 -- Soundness: of the same lines the items, the tree and the fault are the same, so a text has one outcome at most.
-use Rattle.std.proofs.Common.{◌≡◌, ℕ, List, [], ◌∷◌, ◌++◌, map, Option, Some, None, refl, sym, ◌∙◌, ap, append_assoc, append-nil, subst, ◌⊎◌, inl, inr}
+use Rattle.std.proofs.Common.{◌≡◌, ℕ, List, [], ◌∷◌, ◌++◌, map, Option, Some, None, refl, sym, ◌∙◌, ap, ap₂, append_assoc, append-nil, subst, ◌⊎◌, inl, inr}
 use Rattle.std.proofs.lemmas.List.{same_from_push, map-append}
 use Rattle.ud_model.specs.text.Lines.{Line, lines_of}
 use Rattle.ud_model.specs.text.Scans.{Reading}
@@ -8,7 +8,9 @@ use Rattle.ud_model.specs.sections.Tree.{Item, Tree, lines}
 use Rattle.ud_model.specs.sections.Items.{Options, reading_of, line_of, item_of, mode_after, read_after, next_item}
 use Rattle.ud_model.specs.sections.Faults.{Fault, Case, past_last, too_long, cut, out_of_place, too_deep, spoiled, earlier, cases, Holds, NoneHolds, fault_in, FaultOf, AreSound, no_lines, one_more, end_fault}
 use Rattle.ud_model.specs.output.Rereading.{AreRead, no_items, one_item, IsTreeOf}
-use Rattle.ud_model.specs.answer.Runs.{Outcome, outcome_of, StopsAt, GoesThrough, Runs, stops, ends, lines_so_far, line_so_far, RestBreaks, RunsSoFar, breaks, goes_on}
+use Rattle.ud_model.specs.answer.Runs.{Outcome, outcome_of, StopsAt, GoesThrough, ReadsAs, Runs, ran_as, lines_so_far, line_so_far, RestBreaks, ReadsSoFar, RunsSoFar, came_as}
+use Rattle.ud_model.specs.answer.Runs.ReadsAs.{stops, ends}
+use Rattle.ud_model.specs.answer.Runs.ReadsSoFar.{stops as stops_so_far, breaks, goes_on}
 use Rattle.ud_model.specs.answer.Answer.{Answer, IsAnswer, refused, ran}
 use Rattle.ud_model.specs.declared.settings.Settings.{Settings}
 use Rattle.ud_model.proofs.text.Pushes.{ByPush, none, push, by_push, push_not_nil}
@@ -131,7 +133,7 @@ module _ (o : Options) where
       subst (λ zs. NoneHolds zs (next_item o xs t l) cases) q
       (subst (λ y. NoneHolds ys y cases) (same_next ys xs u t k l b a q s.1) m)
 
-  faulty_inside : (xs ys : List (Item Reading)) (t u : Tree Reading) (l : Line) (later : List Line) (f : Fault) → AreSound o xs t →
+  pub faulty_inside : (xs ys : List (Item Reading)) (t u : Tree Reading) (l : Line) (later : List Line) (f : Fault) → AreSound o xs t →
       FaultOf xs (next_item o xs t l) f → AreSound o ys u → map line_of ys ≡ map line_of xs ++ l ∷ later → ⊥
   faulty_inside xs ys t u l later f a g b e =
       let s : (zs : List (Item Reading)) × (v : Tree Reading) × AreSound o zs v × (map line_of zs ≡ map line_of xs ++ l ∷ []) =
@@ -189,44 +191,51 @@ same_outcome : (s : Settings) (xs ys : List (Item Reading)) (t u : Tree Reading)
     outcome_of s xs t f ≡ outcome_of s ys u g
 same_outcome s xs ys t u f g p q r = rw (p, q, r)
 
+-- a text is read in one way at most
+pub reads_once : {o : Options} {input : List ℕ} {xs ys : List (Item Reading)} {t u : Tree Reading} {f g : Option Fault} → ReadsAs o input xs t f → ReadsAs o input ys u g →
+    (xs ≡ ys) × (t ≡ u) × (f ≡ g)
+reads_once {o = o} {input = input} (stops xs t f a) (stops ys u g b) =
+    let w : (xs ≡ ys) × (t ≡ u) × (f ≡ g) = one_stop o (lines_of input) xs ys t u f g a b in (w.0, w.1, ap (λ h. Some h) w.2)
+reads_once {o = o} {input = input} (stops xs t f a) (ends ys u b) = absurd (stops_or_goes o (lines_of input) xs ys t u f a b)
+reads_once {o = o} {input = input} (ends xs t a) (stops ys u g b) = absurd (stops_or_goes o (lines_of input) ys xs u t g b a)
+reads_once {o = o} {input = input} (ends xs t a) (ends ys u b) =
+    let w : (xs ≡ ys) × (t ≡ u) = one_way_through o (lines_of input) xs ys t u a b in (w.0, w.1, ap₂ end_fault w.0 w.1)
+
 -- a text has one outcome at most
 pub one_run : {o : Options} {input : List ℕ} {r s : Outcome} → Runs o input r → Runs o input s → r ≡ s
-one_run {o = o} {input = input} (stops xs t f a) (stops ys u g b) =
-    let w : (xs ≡ ys) × (t ≡ u) × (f ≡ g) = one_stop o (lines_of input) xs ys t u f g a b in
-    same_outcome o.settings xs ys t u (Some f) (Some g) w.0 w.1 (ap (λ h. Some h) w.2)
-one_run {o = o} {input = input} (stops xs t f a) (ends ys u b) = absurd (stops_or_goes o (lines_of input) xs ys t u f a b)
-one_run {o = o} {input = input} (ends xs t a) (stops ys u g b) = absurd (stops_or_goes o (lines_of input) ys xs u t g b a)
-one_run {o = o} {input = input} (ends xs t a) (ends ys u b) =
-    let w : (xs ≡ ys) × (t ≡ u) = one_way_through o (lines_of input) xs ys t u a b in
-    same_outcome o.settings xs ys t u (end_fault xs t) (end_fault ys u) w.0 w.1 (rw (w.0, w.1))
+one_run {o = o} (ran_as {xs = xs} {t = t} {f = f} a) (ran_as {xs = ys} {t = u} {f = g} b) =
+    let w : (xs ≡ ys) × (t ≡ u) × (f ≡ g) = reads_once a b in same_outcome o.settings xs ys t u f g w.0 w.1 w.2
 
 same_break : {o : Options} {given : List ℕ} {xs ys : List (Item Reading)} {t u : Tree Reading} {f : Fault} → xs ≡ ys → t ≡ u →
     RestBreaks o given xs t f → RestBreaks o given ys u f
 same_break {o = o} {given = given} {ys = ys} {t = t} {f = f} p q c =
     subst (λ v. RestBreaks o given ys v f) q (subst (λ zs. RestBreaks o given zs t f) p c)
 
--- a text that goes on has one outcome so far at most
-pub one_run_so_far : {o : Options} {given : List ℕ} {r s : Outcome} → RunsSoFar o given r → RunsSoFar o given s → r ≡ s
-one_run_so_far {o = o} {given = given} (stops xs t f a) (stops ys u g b) =
-    let w : (xs ≡ ys) × (t ≡ u) × (f ≡ g) = one_stop o (lines_so_far given) xs ys t u f g a b in
-    same_outcome o.settings xs ys t u (Some f) (Some g) w.0 w.1 (ap (λ h. Some h) w.2)
-one_run_so_far {o = o} {given = given} (stops xs t f a) (breaks ys u g b c) = absurd (stops_or_goes o (lines_so_far given) xs ys t u f a b)
-one_run_so_far {o = o} {given = given} (stops xs t f a) (goes_on ys u b c) = absurd (stops_or_goes o (lines_so_far given) xs ys t u f a b)
-one_run_so_far {o = o} {given = given} (breaks xs t f a c) (stops ys u g b) = absurd (stops_or_goes o (lines_so_far given) ys xs u t g b a)
-one_run_so_far {o = o} {given = given} (goes_on xs t a c) (stops ys u g b) = absurd (stops_or_goes o (lines_so_far given) ys xs u t g b a)
-one_run_so_far {o = o} {given = given} (breaks xs t f a c) (breaks ys u g b d) =
+-- a text that goes on is read in one way at most so far
+pub reads_so_far_once : {o : Options} {given : List ℕ} {xs ys : List (Item Reading)} {t u : Tree Reading} {f g : Option Fault} →
+    ReadsSoFar o given xs t f → ReadsSoFar o given ys u g → (xs ≡ ys) × (t ≡ u) × (f ≡ g)
+reads_so_far_once {o = o} {given = given} (stops_so_far xs t f a) (stops_so_far ys u g b) =
+    let w : (xs ≡ ys) × (t ≡ u) × (f ≡ g) = one_stop o (lines_so_far given) xs ys t u f g a b in (w.0, w.1, ap (λ h. Some h) w.2)
+reads_so_far_once {o = o} {given = given} (stops_so_far xs t f a) (breaks ys u g b c) = absurd (stops_or_goes o (lines_so_far given) xs ys t u f a b)
+reads_so_far_once {o = o} {given = given} (stops_so_far xs t f a) (goes_on ys u b c) = absurd (stops_or_goes o (lines_so_far given) xs ys t u f a b)
+reads_so_far_once {o = o} {given = given} (breaks xs t f a c) (stops_so_far ys u g b) = absurd (stops_or_goes o (lines_so_far given) ys xs u t g b a)
+reads_so_far_once {o = o} {given = given} (goes_on xs t a c) (stops_so_far ys u g b) = absurd (stops_or_goes o (lines_so_far given) ys xs u t g b a)
+reads_so_far_once {o = o} {given = given} (breaks xs t f a c) (breaks ys u g b d) =
     let w : (xs ≡ ys) × (t ≡ u) = one_way_through o (lines_so_far given) xs ys t u a b in
-    same_outcome o.settings xs ys t u (Some f) (Some g) w.0 w.1
-    (ap (λ h. Some h) (one_fault ys (next_item o ys u (line_so_far given)) f g (same_break w.0 w.1 c).fault d.fault))
-one_run_so_far {o = o} {given = given} (breaks xs t f a c) (goes_on ys u b d) =
+    (w.0, w.1, ap (λ h. Some h) (one_fault ys (next_item o ys u (line_so_far given)) f g (same_break w.0 w.1 c).fault d.fault))
+reads_so_far_once {o = o} {given = given} (breaks xs t f a c) (goes_on ys u b d) =
     let w : (xs ≡ ys) × (t ≡ u) = one_way_through o (lines_so_far given) xs ys t u a b in
     absurd (d f (same_break w.0 w.1 c))
-one_run_so_far {o = o} {given = given} (goes_on xs t a c) (breaks ys u g b d) =
+reads_so_far_once {o = o} {given = given} (goes_on xs t a c) (breaks ys u g b d) =
     let w : (ys ≡ xs) × (u ≡ t) = one_way_through o (lines_so_far given) ys xs u t b a in
     absurd (c g (same_break w.0 w.1 d))
-one_run_so_far {o = o} {given = given} (goes_on xs t a c) (goes_on ys u b d) =
-    let w : (xs ≡ ys) × (t ≡ u) = one_way_through o (lines_so_far given) xs ys t u a b in
-    same_outcome o.settings xs ys t u None None w.0 w.1 refl
+reads_so_far_once {o = o} {given = given} (goes_on xs t a c) (goes_on ys u b d) =
+    let w : (xs ≡ ys) × (t ≡ u) = one_way_through o (lines_so_far given) xs ys t u a b in (w.0, w.1, refl)
+
+-- and has one outcome so far at most
+pub one_run_so_far : {o : Options} {given : List ℕ} {r s : Outcome} → RunsSoFar o given r → RunsSoFar o given s → r ≡ s
+one_run_so_far {o = o} (came_as {xs = xs} {t = t} {f = f} a) (came_as {xs = ys} {t = u} {f = g} b) =
+    let w : (xs ≡ ys) × (t ≡ u) × (f ≡ g) = reads_so_far_once a b in same_outcome o.settings xs ys t u f g w.0 w.1 w.2
 
 -- words and an input have one answer at most
 pub one_answer : {words : List (List ℕ)} {input : List ℕ} {a b : Answer} → IsAnswer words input a → IsAnswer words input b → a ≡ b

@@ -1,28 +1,41 @@
 -- Stays: a line's mark is the same in every longer text, since no later group's condition changes an opener's verdict.
-use Rattle.std.proofs.Common.{◌≡◌, List, [], ◌∷◌, ◌++◌, length, Bool, true, false, ◌&&◌, if◌then◌else◌, refl, sym, ◌∙◌, append_assoc, append-nil, subst, length-append}
+use Rattle.std.proofs.Common.{◌≡◌, List, [], ◌∷◌, ◌++◌, length, Bool, true, false, not, ◌&&◌, if◌then◌else◌, refl, sym, ◌∙◌, append_assoc, append-nil, subst, length-append}
 use Rattle.ud_model.specs.declared.cond.Cond.{Cond}
 use Rattle.ud_model.specs.declared.cond.Cond.TheVariants.{Yes, No, Unknown}
-use Rattle.ud_model.specs.declared.verdict.Verdict.TheVariants.{Keep, Remove}
+use Rattle.ud_model.specs.declared.verdict.Verdict.TheVariants.{Keep, Remove, ToEndif}
 use Rattle.ud_model.specs.sections.Tree.{Item, Nodes, Groups, Elifs, Head, Tree, nothing, text, section, conditional, otherwise, first, elif, if_head, elif_head, else_head, closed, open_section, lines}
-use Rattle.ud_model.specs.sections.Pruning.{Part, an_if, an_elif, an_else, Mark, marked, is_kept, is_inside_kept, gives_way, opener_verdict, endif_verdict, conds_of_elifs, conds_of_groups, conds_of_head, marks_of_nodes, marks_of_groups, marks_of_elifs, marks_of_head, marks_in, marks}
+use Rattle.ud_model.specs.sections.Pruning.{Part, an_if, an_elif, an_else, given_way, first_kept, before_true, next_after, further_on, up_to_true, verdict_at, first_kept_verdict, later_verdict, any_true, ends_with_first_true, Mark, marked, is_kept, is_inside_kept, gives_way, opener_verdict, endif_verdict, conds_of_elifs, conds_of_groups, conds_of_head, marks_of_nodes, marks_of_groups, marks_of_elifs, marks_of_head, marks_in, marks}
 use Rattle.ud_model.specs.aids.SoFar.{verdict_so_far, nodes_so_far, groups_so_far, elifs_so_far, head_so_far, marks_so_far}
 use Rattle.ud_model.proofs.text.Pushes.{ByPush, none, push, by_push}
 use Rattle.ud_model.proofs.sections.Growth.{Adds, adds_text, adds_if, elif_after_if, elif_after_elif, else_after_if, else_after_elif, adds_endif, adds_under, complete}
 use Rattle.ud_model.proofs.sections.Unique.{unique, tree_before}
 
-removed_either_way : (b : Bool) → (if b then Remove else Remove) ≡ Remove
-removed_either_way true = refl
-removed_either_way false = refl
+removed_either_way : (b : Bool) (part : Part) → verdict_at (if b then given_way else before_true) part No ≡ Remove
+removed_either_way true part = refl
+removed_either_way false part = refl
 
--- the conditions of later groups change no opener's verdict
+first_by_part : (part : Part) (c : Cond) → verdict_at first_kept part c ≡ first_kept_verdict part
+first_by_part an_if c = refl
+first_by_part an_elif c = refl
+first_by_part an_else c = refl
+
+-- the table is taken by its rows, if the section doesn't give way and some group before is kept
+after_first : (some ends : Bool) (part : Part) (c : Cond) →
+    verdict_at (if not some then up_to_true c else if ends then next_after else further_on) part c
+    ≡ (if not some then later_verdict part c else if ends then ToEndif else Remove)
+after_first false ends part c = refl
+after_first true true part c = refl
+after_first true false part c = refl
+
+-- the table over the whole section is that by the groups so far: the conditions of later groups change no opener's verdict
 pub table_so_far : (before later : List Cond) (part : Part) (c : Cond) →
-    opener_verdict (before ++ c ∷ later) before part c ≡ opener_verdict (before ++ c ∷ []) before part c
+    opener_verdict (before ++ c ∷ later) before part c ≡ verdict_so_far before part c
 table_so_far [] later part Yes = refl
-table_so_far [] later part No = removed_either_way (gives_way later)
-table_so_far [] later part Unknown = refl
+table_so_far [] later part No = removed_either_way (gives_way later) part
+table_so_far [] later part Unknown = first_by_part part Unknown
 table_so_far (Yes ∷ bs) later part c = refl
 table_so_far (No ∷ bs) later part c = table_so_far bs later part c
-table_so_far (Unknown ∷ bs) later part c = refl
+table_so_far (Unknown ∷ bs) later part c = after_first (any_true bs) (ends_with_first_true bs) part c
 
 module _ {L : Type 0} where
   mutual
@@ -34,7 +47,7 @@ module _ {L : Type 0} where
     groups_same : (kept : Bool) (gs : Groups L) → marks_of_groups kept (conds_of_groups gs) gs ≡ groups_so_far kept gs
     groups_same kept (conditional es) = subst (λ cs. marks_of_elifs kept cs es ≡ elifs_so_far kept es) (append-nil (conds_of_elifs es)) (elifs_same kept es [])
     groups_same kept (otherwise es l ns) =
-        rw (elifs_same kept es (Yes ∷ []), nodes_same (kept && is_kept (conds_of_elifs es) Yes) ns)
+        rw (elifs_same kept es (Yes ∷ []), table_so_far (conds_of_elifs es) [] an_else Yes, nodes_same (kept && is_kept (conds_of_elifs es) Yes) ns)
 
     elifs_same : (kept : Bool) (es : Elifs L) (later : List Cond) → marks_of_elifs kept (conds_of_elifs es ++ later) es ≡ elifs_so_far kept es
     elifs_same kept (first o ns) later =
@@ -48,9 +61,9 @@ module _ {L : Type 0} where
         )
 
   head_same : (kept : Bool) (h : Head L) → marks_of_head kept (conds_of_head h) h ≡ head_so_far kept h
-  head_same kept (if_head o) = refl
-  head_same kept (elif_head es o) = rw (elifs_same kept es (o.cond ∷ []))
-  head_same kept (else_head es l) = rw (elifs_same kept es (Yes ∷ []))
+  head_same kept (if_head o) = rw (table_so_far [] [] an_if o.cond)
+  head_same kept (elif_head es o) = rw (elifs_same kept es (o.cond ∷ []), table_so_far (conds_of_elifs es) [] an_elif o.cond)
+  head_same kept (else_head es l) = rw (elifs_same kept es (Yes ∷ []), table_so_far (conds_of_elifs es) [] an_else Yes)
 
   -- the marks by the table over the whole section are those by the groups so far
   pub marks_so_far_same : (kept : Bool) (t : Tree L) → marks_in kept t ≡ marks_so_far kept t

@@ -5,16 +5,12 @@ use Rattle.std.proofs.lemmas.List.Folds.{concat-append}
 use Rattle.std.proofs.lemmas.Bool.{cases_eq}
 use Rattle.std.proofs.lemmas.Bool.Decides.{Decides-eqb}
 use Rattle.std.proofs.lemmas.Slice.Eq.{ends_is}
-use Rattle.ud_model.specs.text.Lines.{NoFeed, IsWhole, AreFormed, AreLines, Parts, put, put_on, parts_of, whole_lines, open_rest, last_line, texts_of, ending_of, Line, text_of, line_at, numbered_from, lines_of}
+pub use Rattle.ud_model.specs.text.Lines.{AreWhole}
+use Rattle.ud_model.specs.text.Lines.{NoFeed, IsWhole, AreFormed, AreLines, Parts, AreParts, put, put_on, parts_of, whole_lines, open_rest, last_line, texts_of, ending_of, is_ending, Line, text_of, line_at, numbered_from, lines_of}
 
 -- a byte that isn't a line feed goes in front of the first part
 pub put-other : (b : ℕ) (p : Parts) → b ≢ 10 → put b p ≡ put_on b p.whole p.rest
 put-other b p other = rw (ne_eqb b 10 other) refl
-
--- each of these lines is whole
-abbrev pub AreWhole : List (List ℕ) → Type 0
-AreWhole [] = Unit {0}
-AreWhole (l ∷ ls) = IsWhole l × AreWhole ls
 
 -- a rest that isn't empty is a line of its own
 pub last_line-some : (r : List ℕ) → r ≢ [] → last_line r ≡ r ∷ []
@@ -78,12 +74,6 @@ pub parts_of-append : (t s : List ℕ) → parts_of (t ++ s) ≡ going_on (parts
 unfolding parts_of
 parts_of-append [] s = refl
 parts_of-append (b ∷ bs) s = ap (put b) (parts_of-append bs s) ∙ put-going_on b (parts_of bs) s (cases_eq b 10)
-
--- a line feed stands in no rest, and each whole line ends with its only one
-pub record AreParts (text : List ℕ) (q : Parts) : Type 0 where
-  pub joined : text ≡ concat q.whole ++ q.rest
-  pub whole : AreWhole q.whole
-  pub feedless : NoFeed q.rest
 
 -- put in front of parts of a text, a byte gives parts of the text with the byte in front
 pub put_parts : (b : ℕ) (bs : List ℕ) (q : Parts) → (b ≡ 10) ⊎ (b ≢ 10) → AreParts bs q → AreParts (b ∷ bs) (put b q)
@@ -297,3 +287,39 @@ lines_of-append t more = (
   numbered_from (1 + length (whole_lines t)) (texts_of-whole t more).0,
   ap (numbered_from 1) (texts_of-whole t more).1 ∙ numbered_from-append 1 (whole_lines t) (texts_of-whole t more).0,
 )
+
+-- whole lines and what comes after them are the parts of the text that they are joined
+parts_of-whole : (ls : List (List ℕ)) (r : List ℕ) → AreWhole ls → NoFeed r → parts_of (concat ls ++ r) ≡ record { whole = ls; rest = r }
+parts_of-whole [] r whole none = parts_of-open r none
+parts_of-whole (l ∷ ls) r whole none =
+    ap parts_of (append_assoc l (concat ls) r) ∙ parts_of-line-front l (concat ls ++ r) whole.0
+    ∙ ap (λ (q : Parts). record { whole = l ∷ q.whole; rest = q.rest }) (parts_of-whole ls r whole.1 none)
+
+-- the parts of a text are these and no others
+pub parts_are : (t : List ℕ) (p : Parts) → AreParts t p → p ≡ parts_of t
+parts_are t p h = sym (ap parts_of h.joined ∙ parts_of-whole p.whole p.rest h.whole h.feedless)
+
+-- the lines that come after so many are numbered on from them
+pub number_at : (n : ℕ) (ls : List (List ℕ)) (front : List Line) (l : Line) (later : List Line) →
+    numbered_from n ls ≡ front ++ l ∷ later → l.number ≡ n + length front
+number_at n [] [] l later e = cc
+number_at n [] (f ∷ front) l later e = cc
+number_at n (k ∷ ls) [] l later e = let q : line_at n k ≡ l = cc in ap (λ (m : Line). m.number) (sym q) ∙ omega arith
+number_at n (k ∷ ls) (f ∷ front) l later e = let q : numbered_from (suc n) ls ≡ front ++ l ∷ later = cc in number_at (suc n) ls front l later q ∙ omega arith
+
+-- line k of a text has the number k
+pub number_is : (t : List ℕ) (front : List Line) (l : Line) (later : List Line) → lines_of t ≡ front ++ l ∷ later → l.number ≡ suc (length front)
+number_is t front l later e = number_at 1 (texts_of t) front l later e ∙ omega arith
+
+-- the lines of a text have its bytes
+pub map-lines_of : (t : List ℕ) → map text_of (lines_of t) ≡ texts_of t
+map-lines_of t = map-numbered_from 1 (texts_of t)
+
+-- what ends a line is an ending
+pub ending_is : (l : List ℕ) → is_ending (ending_of l) ≡ true
+ending_is l = by_tests (ends_with nat_eq l (13 ∷ 10 ∷ [])) (ends_with nat_eq l (10 ∷ []))
+  where
+    by_tests : (a b : Bool) → is_ending (if a then 13 ∷ 10 ∷ [] else if b then 10 ∷ [] else []) ≡ true
+    by_tests true b = refl
+    by_tests false true = refl
+    by_tests false false = refl

@@ -1,17 +1,22 @@
 -- So far: the marks of a text by the groups up to each line, with which the table over the whole section agrees.
 --
 -- The condition of no later group changes an opener's verdict, so a line's mark is the same in every longer text.
-use Rattle.std.specs.Prelude.{List, [], ◌∷◌, ◌++◌, Bool, ◌&&◌}
+use Rattle.std.specs.Prelude.{List, [], ◌∷◌, ◌++◌, Bool, not, ◌&&◌, if◌then◌else◌}
 use Rattle.ud_model.specs.declared.cond.Cond.{Cond}
 use Rattle.ud_model.specs.declared.cond.Cond.TheVariants.{Yes}
 use Rattle.ud_model.specs.declared.verdict.Verdict.{Verdict}
-use Rattle.ud_model.specs.declared.verdict.Verdict.TheVariants.{Keep}
+use Rattle.ud_model.specs.declared.verdict.Verdict.TheVariants.{Keep, Remove, ToEndif}
 use Rattle.ud_model.specs.sections.Tree.{Nodes, Groups, Elifs, Head, Tree, nothing, text, section, conditional, otherwise, first, elif, if_head, elif_head, else_head, closed, open_section}
-use Rattle.ud_model.specs.sections.Pruning.{Part, an_if, an_elif, an_else, Mark, marked, is_kept, is_inside_kept, opener_verdict, endif_verdict, conds_of_elifs, conds_of_groups}
+use Rattle.ud_model.specs.sections.Pruning.{Part, an_if, an_elif, an_else, Mark, marked, is_kept, is_inside_kept, is_false, gives_way, all_false, any_true, ends_with_first_true, first_kept_verdict, later_verdict, endif_verdict, conds_of_elifs, conds_of_groups}
 
 -- an opener's verdict as if its group were the last one
 abbrev pub verdict_so_far : List Cond → Part → Cond → Verdict
-verdict_so_far before part c = opener_verdict (before ++ c ∷ []) before part c
+verdict_so_far before part c =
+    if gives_way (before ++ c ∷ []) then Remove
+    else if all_false before && not (is_false c) then first_kept_verdict part
+    else if not (any_true before) then later_verdict part c
+    else if ends_with_first_true before then ToEndif
+    else Remove
 
 module _ {L : Type 0} where
   abbrev mutual

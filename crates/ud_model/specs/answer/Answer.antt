@@ -1,7 +1,7 @@
 -- The answer: what the tool writes, says and gives back for words and an input. All other definitions meet here.
 --
 --   Answer                     output, message and status
---   IsAnswer words input a     a is the answer to these words and this input; there is one at most
+--   IsAnswer words input a     a is the answer to these words and this input; there is one and no other
 --   copy_answer words text     the answer of a run that copies this text
 --
 -- The words are read (CommandLine). The input is cut into lines (Lines); each is scanned (Scans), read as text or a

@@ -1,21 +1,21 @@
 -- Arguments: how an option-argument names a symbol and gives it a value.
 -- unifdef(1), `-D`, `-U`, `-i`.
 --
---   name_in a, value_in a    what stands before and behind the first `=`
+--   name_in a, value_in a    what stands before and after the first `=`
 --   is_name n                n may be a symbol's name
 --   value_or_one v           the value of a symbol that is defined
 use Rattle.std.specs.Prelude.{ℕ, List, [], ◌∷◌, Bool, not, ◌&&◌, ◌==◌, Option, Some, None, bytes_eq, codes, if◌then◌else◌}
-use Rattle.ud_model.specs.text.Bytes.{is_identifier}
+use Rattle.ud_model.specs.text.Bytes.{equals_sign, is_identifier}
 
 -- the bytes before the first `=`, or all where there is none
 abbrev pub name_in : List ℕ → List ℕ
 name_in [] = []
-name_in (b ∷ bs) = if b == 61 then [] else b ∷ name_in bs
+name_in (b ∷ bs) = if b == equals_sign then [] else b ∷ name_in bs
 
--- the bytes behind the first `=`, if there is one
+-- the bytes after the first `=`, if there is one
 abbrev pub value_in : List ℕ → Option (List ℕ)
 value_in [] = None
-value_in (b ∷ bs) = if b == 61 then Some bs else value_in bs
+value_in (b ∷ bs) = if b == equals_sign then Some bs else value_in bs
 
 -- a symbol's name is an identifier other than `defined`
 abbrev pub is_name : List ℕ → Bool

@@ -16,6 +16,7 @@
 -- nothing does. `--` ends the options; so does the first operand, and every word behind either is an operand.
 use Rattle.std.specs.Prelude.{ℕ, suc, List, [], ◌∷◌, ◌++◌, Bool, true, false, ◌||◌, ◌==◌, Option, Some, None, bytes_eq, codes, chars, encode_utf8, encode_utf8_all, decimal, if◌then◌else◌}
 use Rattle.std.specs.List.{filter_map}
+use Rattle.ud_model.specs.text.Bytes.{hyphen}
 use Rattle.ud_model.specs.answer.Arguments.{name_in, value_in, value_or_one, is_name}
 use Rattle.ud_model.specs.conditions.Table.{Argument}
 use Rattle.ud_model.specs.sections.Items.{Options}
@@ -52,7 +53,7 @@ takes_argument c = is_among (codes "DUix") c
 -- the letters of a word of options; there are none in an operand
 abbrev pub letters_in : List ℕ → List ℕ
 letters_in [] = []
-letters_in (b ∷ bs) = if b == 45 then chars bs else []
+letters_in (b ∷ bs) = if b == hyphen then chars bs else []
 
 -- words that are operands each, from this place on
 abbrev pub operands_from : ℕ → List (List ℕ) → List Given

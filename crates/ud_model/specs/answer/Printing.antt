@@ -10,6 +10,7 @@
 -- Example: of a line `x` that follows a removed one, `#line 5` and the line are printed under `-n`, 5 being its number.
 use Rattle.std.specs.Prelude.{ℕ, ◌+◌, List, [], ◌∷◌, ◌++◌, take, drop, map, Bool, false, not, ◌&&◌, ◌||◌, bytes_eq, codes, decimal, if◌then◌else◌}
 use Rattle.std.specs.List.{concat}
+use Rattle.ud_model.specs.text.Bytes.{line_feed}
 use Rattle.ud_model.specs.text.Lines.{Line, text_of}
 use Rattle.ud_model.specs.text.Scans.{Reading}
 use Rattle.ud_model.specs.sections.Directives.{Span, Content, cut_keyword, directive, text, content_of}
@@ -69,7 +70,7 @@ last_removed (j ∷ k ∷ js) = last_removed (k ∷ js)
 
 -- an ending, or a line feed where there is none
 abbrev pub ending_or_feed : List ℕ → List ℕ
-ending_or_feed [] = 10 ∷ []
+ending_or_feed [] = line_feed ∷ []
 ending_or_feed (b ∷ bs) = b ∷ bs
 
 -- a directive that gives the next line the number that it has in the input (C11 6.10.4)

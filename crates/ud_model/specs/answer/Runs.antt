@@ -1,10 +1,13 @@
 -- Runs: what comes of a text: what is printed, and the fault.
 --
---   Outcome              the output, the fault if there is one, and whether some line differs
---   Runs o input         the outcome of a text that has ended
---   RunsSoFar o given    the outcome of a text that goes on: its whole lines count, and of the rest its limits alone
+--   ReadsAs o input xs t f       a text that has ended is read as the items xs with the tree t, up to the fault f or to its end
+--   ReadsSoFar o given xs t f    the same of a text that goes on: its whole lines count, and of the rest its limits alone
+--   Outcome                      the output, the fault if there is one, and whether some line differs
+--   outcome_of s xs t f          what the settings make of these items with this tree and this fault
+--   Runs o input, RunsSoFar o given    the outcome of a text that has ended, and of one that goes on
 --
--- At a fault the text of the lines before the faulty line is printed; a fault of the end comes behind all lines.
+-- At a fault the text of the lines before the faulty line is printed; a fault of the end comes after all lines. A text has
+-- one outcome, whether it has ended or goes on.
 use Rattle.std.specs.Prelude.{◌≡◌, ℕ, suc, List, [], ◌∷◌, ◌++◌, length, map, Bool, true, false, Option, Some, None}
 use Rattle.ud_model.specs.text.Lines.{Line, line_at, lines_of, whole_lines, open_rest, numbered_from}
 use Rattle.ud_model.specs.text.Scans.{Reading}
@@ -17,6 +20,52 @@ use Rattle.ud_model.specs.answer.Listing.{levels, listed}
 use Rattle.ud_model.specs.declared.settings.Settings.{Settings}
 use Rattle.ud_model.specs.declared.settings.Listing.{Listing}
 use Rattle.ud_model.specs.declared.settings.Listing.TheVariants.{Off, Names, Depths}
+
+-- of these lines, those before the first faulty one are these items with this tree, and the faulty one has this fault
+pub record StopsAt (o : Options) (ls : List Line) (xs : List (Item Reading)) (t : Tree Reading) (f : Fault) : Type 0 where
+  pub sound : AreSound o xs t
+  pub faulty : Line
+  pub later : List Line
+  pub are : ls ≡ map line_of xs ++ faulty ∷ later
+  pub fault : FaultOf xs (next_item o xs t faulty) f
+
+-- none of these lines is faulty, and they are these items with this tree
+pub record GoesThrough (o : Options) (ls : List Line) (xs : List (Item Reading)) (t : Tree Reading) : Type 0 where
+  pub sound : AreSound o xs t
+  pub are : ls ≡ map line_of xs
+
+-- A text that has ended is read as these items with this tree: those before its first faulty line, which has this fault,
+-- or all of them, and then the fault of the end, if there is one. Nothing is said of how they are printed.
+pub data ReadsAs (o : Options) (input : List ℕ) : List (Item Reading) → Tree Reading → Option Fault → Type 0 where
+  stops : (xs : List (Item Reading)) (t : Tree Reading) (f : Fault) → StopsAt o (lines_of input) xs t f → ReadsAs o input xs t (Some f)
+  ends : (xs : List (Item Reading)) (t : Tree Reading) → GoesThrough o (lines_of input) xs t → ReadsAs o input xs t (end_fault xs t)
+
+-- the whole lines of a text that goes on
+abbrev pub lines_so_far : List ℕ → List Line
+lines_so_far given = numbered_from 1 (whole_lines given)
+
+-- the rest as the line that it begins
+abbrev pub line_so_far : List ℕ → Line
+line_so_far given = line_at (suc (length (whole_lines given))) (open_rest given)
+
+-- a limit is broken
+pub data IsLimit : Case → Type 0 where
+  by_lines : IsLimit past_last
+  by_bytes : IsLimit too_long
+
+-- the rest that has come of a line breaks a limit
+pub record RestBreaks (o : Options) (given : List ℕ) (xs : List (Item Reading)) (t : Tree Reading) (f : Fault) : Type 0 where
+  pub some : (open_rest given ≡ []) → ⊥
+  pub fault : FaultOf xs (next_item o xs t (line_so_far given)) f
+  pub limit : IsLimit fault.which
+
+-- the same of a text that goes on: no line is faulty so far, and the rest breaks no limit; or a fault is there
+pub data ReadsSoFar (o : Options) (given : List ℕ) : List (Item Reading) → Tree Reading → Option Fault → Type 0 where
+  stops : (xs : List (Item Reading)) (t : Tree Reading) (f : Fault) → StopsAt o (lines_so_far given) xs t f → ReadsSoFar o given xs t (Some f)
+  breaks : (xs : List (Item Reading)) (t : Tree Reading) (f : Fault) → GoesThrough o (lines_so_far given) xs t →
+      RestBreaks o given xs t f → ReadsSoFar o given xs t (Some f)
+  goes_on : (xs : List (Item Reading)) (t : Tree Reading) → GoesThrough o (lines_so_far given) xs t →
+      ((f : Fault) → RestBreaks o given xs t f → ⊥) → ReadsSoFar o given xs t None
 
 pub record Outcome : Type 0 where
   pub output : List ℕ
@@ -39,48 +88,10 @@ differs_by Depths s xs t = false
 abbrev pub outcome_of : Settings → List (Item Reading) → Tree Reading → Option Fault → Outcome
 outcome_of s xs t f = record { output = output_by s.listing s xs t; fault = f; differs = differs_by s.listing s xs t }
 
--- of these lines, those before the first faulty one are these items with this tree, and the faulty one has this fault
-pub record StopsAt (o : Options) (ls : List Line) (xs : List (Item Reading)) (t : Tree Reading) (f : Fault) : Type 0 where
-  pub sound : AreSound o xs t
-  pub faulty : Line
-  pub later : List Line
-  pub are : ls ≡ map line_of xs ++ faulty ∷ later
-  pub fault : FaultOf xs (next_item o xs t faulty) f
-
--- none of these lines is faulty, and they are these items with this tree
-pub record GoesThrough (o : Options) (ls : List Line) (xs : List (Item Reading)) (t : Tree Reading) : Type 0 where
-  pub sound : AreSound o xs t
-  pub are : ls ≡ map line_of xs
-
+-- the outcome of a text that has ended: what comes of the items as which it is read
 pub data Runs (o : Options) (input : List ℕ) : Outcome → Type 0 where
-  stops : (xs : List (Item Reading)) (t : Tree Reading) (f : Fault) → StopsAt o (lines_of input) xs t f →
-      Runs o input (outcome_of o.settings xs t (Some f))
-  ends : (xs : List (Item Reading)) (t : Tree Reading) → GoesThrough o (lines_of input) xs t →
-      Runs o input (outcome_of o.settings xs t (end_fault xs t))
+  ran_as : {xs : List (Item Reading)} {t : Tree Reading} {f : Option Fault} → ReadsAs o input xs t f → Runs o input (outcome_of o.settings xs t f)
 
--- the whole lines of a text that goes on
-abbrev pub lines_so_far : List ℕ → List Line
-lines_so_far given = numbered_from 1 (whole_lines given)
-
--- the rest as the line that it begins
-abbrev pub line_so_far : List ℕ → Line
-line_so_far given = line_at (suc (length (whole_lines given))) (open_rest given)
-
--- a limit is broken
-pub data IsLimit : Case → Type 0 where
-  by_lines : IsLimit past_last
-  by_bytes : IsLimit too_long
-
--- the rest that has come of a line breaks a limit
-pub record RestBreaks (o : Options) (given : List ℕ) (xs : List (Item Reading)) (t : Tree Reading) (f : Fault) : Type 0 where
-  pub some : (open_rest given ≡ []) → ⊥
-  pub fault : FaultOf xs (next_item o xs t (line_so_far given)) f
-  pub limit : IsLimit fault.which
-
+-- the same of a text that goes on
 pub data RunsSoFar (o : Options) (given : List ℕ) : Outcome → Type 0 where
-  stops : (xs : List (Item Reading)) (t : Tree Reading) (f : Fault) → StopsAt o (lines_so_far given) xs t f →
-      RunsSoFar o given (outcome_of o.settings xs t (Some f))
-  breaks : (xs : List (Item Reading)) (t : Tree Reading) (f : Fault) → GoesThrough o (lines_so_far given) xs t →
-      RestBreaks o given xs t f → RunsSoFar o given (outcome_of o.settings xs t (Some f))
-  goes_on : (xs : List (Item Reading)) (t : Tree Reading) → GoesThrough o (lines_so_far given) xs t →
-      ((f : Fault) → RestBreaks o given xs t f → ⊥) → RunsSoFar o given (outcome_of o.settings xs t None)
+  came_as : {xs : List (Item Reading)} {t : Tree Reading} {f : Option Fault} → ReadsSoFar o given xs t f → RunsSoFar o given (outcome_of o.settings xs t f)

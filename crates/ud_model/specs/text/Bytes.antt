@@ -33,6 +33,9 @@ star = 42
 abbrev pub space : ℕ
 space = 32
 
+abbrev pub hyphen : ℕ
+hyphen = 45
+
 abbrev pub equals_sign : ℕ
 equals_sign = 61
 

@@ -2,22 +2,24 @@
 -- POSIX XBD 3.206 (a line ends with its line feed); a carriage return before it belongs to the ending.
 --
 --   AreLines text ls     ls are the lines of the text, with their endings; `texts_of` gives them, and there are no others
+--   AreParts text parts  parts are the whole lines of the text and its open rest; `parts_of` gives them, and there are no others
 --   whole_lines text     the lines of a text that hasn't ended: those that have their line feed
---   open_rest text       what stands behind the last line feed
---   lines_of text        the lines of a text that has ended, each with body, ending and number
+--   open_rest text       what stands after the last line feed
+--   lines_of text        the lines of a text that has ended, each with body, ending and number; line k has the number k
 --
 -- Example: "a\r\nb" has the lines "a" with the ending "\r\n" and number 1, and "b" without an ending and number 2.
 use Rattle.std.specs.Prelude.{◌≡◌, ◌≢◌, ℕ, suc, ◌-◌, ◌==◌, nat_eq, List, [], ◌∷◌, ◌++◌, length, take, if◌then◌else◌, ◌⊎◌, Bool, true, ◌||◌, bytes_eq}
 use Rattle.std.specs.List.{concat, ends_with}
+use Rattle.ud_model.specs.text.Bytes.{line_feed, carriage_return}
 
 -- no byte of these is a line feed
 abbrev pub NoFeed : List ℕ → Type 0
 NoFeed [] = Unit {0}
-NoFeed (b ∷ bs) = (b ≢ 10) × NoFeed bs
+NoFeed (b ∷ bs) = (b ≢ line_feed) × NoFeed bs
 
 -- a whole line: it has a line feed as its last byte, and nowhere else
 abbrev pub IsWhole : List ℕ → Type 0
-IsWhole line = (front : List ℕ) × NoFeed front × (line ≡ front ++ 10 ∷ [])
+IsWhole line = (front : List ℕ) × NoFeed front × (line ≡ front ++ line_feed ∷ [])
 
 -- a last line without a line feed, of a byte at least
 abbrev pub IsUnended : List ℕ → Type 0
@@ -34,10 +36,21 @@ pub record AreLines (text : List ℕ) (ls : List (List ℕ)) : Type 0 where
   pub joined : text ≡ concat ls
   pub formed : AreFormed ls
 
--- the whole lines of a text, and the rest behind its last line feed
+-- each of these lines is whole
+abbrev pub AreWhole : List (List ℕ) → Type 0
+AreWhole [] = Unit {0}
+AreWhole (l ∷ ls) = IsWhole l × AreWhole ls
+
+-- the whole lines of a text, and the rest after its last line feed
 pub record Parts : Type 0 where
   pub whole : List (List ℕ)
   pub rest : List ℕ
+
+-- these are the parts of the text: joined they are the text, each line is whole, and no line feed is in the rest
+pub record AreParts (text : List ℕ) (parts : Parts) : Type 0 where
+  pub joined : text ≡ concat parts.whole ++ parts.rest
+  pub whole : AreWhole parts.whole
+  pub feedless : NoFeed parts.rest
 
 -- a byte in front of these parts that isn't a line feed
 abbrev pub put_on : ℕ → List (List ℕ) → List ℕ → Parts
@@ -46,7 +59,7 @@ put_on b (l ∷ ls) rest = record { whole = (b ∷ l) ∷ ls; rest = rest }
 
 -- a byte in front of these parts
 abbrev pub put : ℕ → Parts → Parts
-put b parts = if b == 10 then record { whole = (10 ∷ []) ∷ parts.whole; rest = parts.rest } else put_on b parts.whole parts.rest
+put b parts = if b == line_feed then record { whole = (line_feed ∷ []) ∷ parts.whole; rest = parts.rest } else put_on b parts.whole parts.rest
 
 -- the parts of a text
 unfoldable pub parts_of : List ℕ → Parts
@@ -70,12 +83,12 @@ texts_of text = whole_lines text ++ last_line (open_rest text)
 
 -- the ending of a line: `\r\n` where it ends so, else `\n` where it ends so, else nothing
 abbrev pub ending_of : List ℕ → List ℕ
-ending_of line = if ends_with nat_eq line (13 ∷ 10 ∷ []) then 13 ∷ 10 ∷ [] else if ends_with nat_eq line (10 ∷ []) then 10 ∷ [] else []
+ending_of line = if ends_with nat_eq line (carriage_return ∷ line_feed ∷ []) then carriage_return ∷ line_feed ∷ [] else if ends_with nat_eq line (line_feed ∷ []) then line_feed ∷ [] else []
 
 -- what may end a line: `\r\n`, `\n` or nothing
 abbrev pub is_ending : List ℕ → Bool
 is_ending [] = true
-is_ending (b ∷ bs) = bytes_eq (b ∷ bs) (10 ∷ []) || bytes_eq (b ∷ bs) (13 ∷ 10 ∷ [])
+is_ending (b ∷ bs) = bytes_eq (b ∷ bs) (line_feed ∷ []) || bytes_eq (b ∷ bs) (carriage_return ∷ line_feed ∷ [])
 
 -- a line of a text: its body, its ending and its number from 1
 pub record Line : Type 0 where

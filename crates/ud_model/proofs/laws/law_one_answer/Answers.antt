@@ -1,6 +1,10 @@
--- A text has one run at most, and the answer follows from it.
+-- A text has one run, and the answer follows from it.
+use Rattle.ud_model.proofs.sections.Exists.{answer_exists}
 use Rattle.ud_model.proofs.sections.Soundness.{one_answer}
 use Rattle.ud_model.proofs.laws.law_one_answer.Goals as goal
 
-pub returns : goal.returns
-returns c = λ words input a b p q. one_answer p q
+pub returns-clause-exists : goal.returns-clause-exists
+returns-clause-exists c = answer_exists
+
+pub returns-clause-only : goal.returns-clause-only
+returns-clause-only c = λ words input a b p q. one_answer p q
