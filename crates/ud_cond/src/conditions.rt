@@ -8,10 +8,10 @@ ghost use Rattle.ud_cond.specs.Standing.{StandsFor};
 ghost use Rattle.ud_cond.specs.Viewing.{as_rules, as_decision};
 ghost use Rattle.ud_cond.specs.Worth.{decided};
 
-use crate::bytes::{are_white, is_identifier, past_white, word_len};
 use crate::parsing::whole;
 use crate::symbols::Symbols;
 use crate::values::{Scope, Value};
+use ud_model::bytes::{are_white, is_identifier, past_white, word_len};
 use ud_model::{Cond, Kind};
 
 /// How expressions are valued.

@@ -10,10 +10,10 @@ ghost use Rattle.ud_model.specs.conditions.Symbols as ends;
 ghost use Rattle.ud_cond.specs.Standing.{StandsFor, Changes, IsLastRow};
 ghost use Rattle.ud_cond.specs.Viewing.{as_entry, said};
 
-use crate::bytes::is_identifier;
 use crate::fault::SymbolFault;
 use std::alloc::Global;
 use std::marker::Model;
+use ud_model::bytes::{is_identifier, is_name};
 
 /// What the table says of a name.
 #[derive(Clone, Copy)]
@@ -247,11 +247,4 @@ fn copy_of(alloc: Global, value: Option<&[u8]>) -> Result<Option<Vec<u8>>, Symbo
         Some(bytes) => Ok(Some(Vec::from_slice(alloc, bytes)?)),
         None => Ok(None),
     }
-}
-
-/// Whether a text may name a symbol: an identifier other than `defined`.
-fn is_name(text: &[u8]) -> bool
-    ensures { result ≡ names.is_name text.now }
-{
-    is_identifier(text) && text != b"defined".as_slice()
 }

@@ -8,9 +8,9 @@ ghost use Rattle.ud_model.specs.conditions.Constants as texts;
 ghost use Rattle.ud_model.specs.text.Bytes as bytes;
 ghost use Rattle.ud_cond.specs.Viewing.{as_next};
 
-use crate::bytes::{is_digit, is_word_byte, past_white, word_len};
 use crate::constants::is_constant;
 use ud_model::Operator;
+use ud_model::bytes::{is_digit, is_word_byte, past_white, word_len};
 
 /// A token of an expression.
 #[derive(Clone, Copy)]

@@ -5,6 +5,7 @@
 //! over the definitions: functions without a body whose contracts are theorems.
 #![tactic(auto)]
 
+pub mod bytes;
 mod cond;
 mod kind;
 pub mod laws;

@@ -1,14 +1,13 @@
 //! The directive that a line carries.
 
 ghost use Rattle.std.specs.Prelude.{◌≡◌, ◌+◌, length, IsTrue, IfOk, IfSome, MatchOption, Some, None};
-ghost use Rattle.ud_model.specs.text.Bytes.{are_word_bytes};
 ghost use Rattle.ud_model.specs.sections.Directives.{text, content_of, past_sign, kind_of, is_cut_off, begins_keyword, is_keyword_front, leaves_keyword, has_cut_keyword, found_behind};
 ghost use Rattle.ud_text.specs.Viewing.{as_scan};
 ghost use Rattle.ud_sections.specs.Finding.{content_found, directive_or_text};
 
 use crate::found::{Cut, Directive};
 use crate::step::Span;
-use ud_cond::bytes::{is_word_byte, past_white, word_len};
+use ud_model::bytes::{are_word_bytes, past_white, word_len};
 use ud_model::{CommentAt, Kind};
 use ud_text::Scan;
 
@@ -81,13 +80,6 @@ fn is_keyword_front(text: &[u8]) -> bool
         Some(_) => are_word_bytes(text) && begins_keyword(text),
         None => false,
     }
-}
-
-/// Whether each byte is one of a word.
-fn are_word_bytes(bytes: &[u8]) -> bool
-    ensures { result ≡ are_word_bytes bytes.now }
-{
-    bytes.iter().all(|byte| is_word_byte(*byte))
 }
 
 /// Whether a word is a front of a keyword, or a whole one.
