@@ -11,6 +11,7 @@ mod fault;
 mod finding;
 mod found;
 mod judging;
+mod keywords;
 mod level;
 mod lister;
 mod machine;
