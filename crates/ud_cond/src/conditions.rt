@@ -15,7 +15,7 @@ use ud_model::bytes::{are_white, is_identifier, past_white, word_len};
 use ud_model::{Cond, Kind};
 
 /// How expressions are valued.
-#[derive(Clone, Copy)]
+#[derive(Clone, Copy, Debug, PartialEq, Eq)]
 pub struct Rules {
     /// Those that name no symbol of the table are valued too, and aren't unknown (`-k`).
     pub constants: bool,
@@ -24,7 +24,7 @@ pub struct Rules {
 }
 
 /// What is decided of a directive.
-#[derive(Clone, Copy)]
+#[derive(Clone, Copy, Debug, PartialEq, Eq)]
 pub struct Answer {
     /// Its condition.
     pub cond: Cond,

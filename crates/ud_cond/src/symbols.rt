@@ -16,7 +16,7 @@ use std::marker::Model;
 use ud_model::bytes::{is_identifier, is_name};
 
 /// What the table says of a name.
-#[derive(Clone, Copy)]
+#[derive(Clone, Copy, Debug, PartialEq, Eq)]
 pub struct Entry<'a> {
     /// The value that it is defined with; `None` where it is undefined.
     pub value: Option<&'a [u8]>,

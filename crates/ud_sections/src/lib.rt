@@ -4,6 +4,7 @@
 //! line of the definitions a line and its step are.
 #![tactic(auto)]
 
+mod appending;
 mod blank;
 mod complement;
 mod delete;
