@@ -130,10 +130,8 @@ impl Symbols {
         ensures value { option_map as_entry result ≡ entry_in self.now name.now }
         ensures stands { (calls : List Argument) → StandsFor self.now calls → option_map as_entry result ≡ entry_in calls name.now }
     {
-        match self.place(name) {
-            Some(i) => Some(self.rows[i].entry()),
-            None => None,
-        }
+        let i = self.place(name)?;
+        Some(self.rows[i].entry())
     }
 
     /// How many rows there are.
@@ -147,10 +145,7 @@ impl Symbols {
     fn text_of(&self, name: &[u8]) -> Option<&[u8]>
         ensures { option_map (λ v. v.now) result ≡ ends.defined_text self.now name.now }
     {
-        match self.find(name) {
-            Some(entry) => entry.value,
-            None => None,
-        }
+        self.find(name)?.value
     }
 
     /// The text at which the value of a name ends: the first that is no identifier, from name to name. There is none
@@ -162,9 +157,7 @@ impl Symbols {
         let mut at = name;
         let most = self.count();
         'steps: for _ in 0..most {
-            let Some(text) = self.text_of(at) else {
-                return None;
-            };
+            let text = self.text_of(at)?;
             if !is_identifier(text) {
                 return Some(text);
             }

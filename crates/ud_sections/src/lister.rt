@@ -59,12 +59,7 @@ impl Lister {
         ensures { result ≡ names_in_content (content_of (as_scan scan.now)) }
     {
         match directive(scan) {
-            Ok(Some(found)) => {
-                if found.broken {
-                    return names(Kind::Endif, &[]);
-                }
-                names(found.kind, found.after)
-            }
+            Ok(Some(found)) if !found.broken => names(found.kind, found.after),
             _ => names(Kind::Endif, &[]),
         }
     }

@@ -79,15 +79,11 @@ fn say_with_argument(letter: char, word: usize, argument: &[u8]) -> Result<Said<
     ensures err { (more : List GivenInWords) → IfErr result (IsFaultOf (first_fault (option letter word argument.now ∷ more))) }
 {
     if letter == 'x' {
-        match mode_in(argument) {
-            Some(mode) => Ok(Said::Mode { mode }),
-            None => Err(Usage::BadMode { word }),
-        }
+        let mode = mode_in(argument).ok_or(Usage::BadMode { word })?;
+        Ok(Said::Mode { mode })
     } else {
-        match symbol_in(letter, argument) {
-            Some(symbol) => Ok(Said::Symbol { symbol }),
-            None => Err(Usage::BadSymbol { word }),
-        }
+        let symbol = symbol_in(letter, argument).ok_or(Usage::BadSymbol { word })?;
+        Ok(Said::Symbol { symbol })
     }
 }
 

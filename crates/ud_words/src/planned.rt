@@ -125,9 +125,6 @@ impl Plan {
             Some(value) => self.symbols.define(symbol.name, value, symbol.ignoring),
             None => self.symbols.undefine(symbol.name, symbol.ignoring),
         };
-        match said {
-            Ok(()) => Ok(()),
-            Err(_) => Err(Usage::OutOfMemory),
-        }
+        said.map_err(|_| Usage::OutOfMemory)
     }
 }
