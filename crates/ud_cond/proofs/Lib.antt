@@ -1,4 +1,3 @@
-pub mod ByteLemmas
 pub mod TableLemmas
 pub mod ReadingLemmas
 pub mod DescentLemmas

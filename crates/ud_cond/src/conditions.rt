@@ -8,14 +8,14 @@ ghost use Rattle.ud_cond.specs.Standing.{StandsFor};
 ghost use Rattle.ud_cond.specs.Viewing.{as_rules, as_decision};
 ghost use Rattle.ud_cond.specs.Worth.{decided};
 
-use crate::bytes::{are_white, is_identifier, past_white, word_len};
 use crate::parsing::whole;
 use crate::symbols::Symbols;
 use crate::values::{Scope, Value};
+use ud_model::bytes::{are_white, is_identifier, past_white, word_len};
 use ud_model::{Cond, Kind};
 
 /// How expressions are valued.
-#[derive(Clone, Copy)]
+#[derive(Clone, Copy, Debug, PartialEq, Eq)]
 pub struct Rules {
     /// Those that name no symbol of the table are valued too, and aren't unknown (`-k`).
     pub constants: bool,
@@ -24,7 +24,7 @@ pub struct Rules {
 }
 
 /// What is decided of a directive.
-#[derive(Clone, Copy)]
+#[derive(Clone, Copy, Debug, PartialEq, Eq)]
 pub struct Answer {
     /// Its condition.
     pub cond: Cond,

@@ -8,8 +8,8 @@ ghost use Rattle.ud_model.specs.conditions.Constants as spec;
 ghost use Rattle.ud_model.specs.conditions.Values.{limited, constant_value};
 ghost use Rattle.ud_cond.specs.Viewing.{as_parts, base_of, is_digit_of};
 
-use crate::bytes::is_digit;
 use crate::tokens::{begins, behind};
+use ud_model::bytes::is_digit;
 
 /// The base of a constant.
 #[derive(Clone, Copy)]

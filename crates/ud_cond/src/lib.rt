@@ -5,7 +5,6 @@
 //! `parsing` reads it, and `specs/Descent.antt` how.
 #![tactic(auto)]
 
-pub mod bytes;
 mod conditions;
 mod constants;
 mod fault;

@@ -77,13 +77,9 @@ impl<'a> Iterator for Names<'a> {
             self.alone = None;
             return Some(name);
         }
-        match next_name(self.rest) {
-            None => None,
-            Some((name, behind)) => {
-                self.rest = behind;
-                Some(name)
-            }
-        }
+        let (name, behind) = next_name(self.rest)?;
+        self.rest = behind;
+        Some(name)
     }
 }
 

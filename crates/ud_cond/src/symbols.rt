@@ -10,13 +10,13 @@ ghost use Rattle.ud_model.specs.conditions.Symbols as ends;
 ghost use Rattle.ud_cond.specs.Standing.{StandsFor, Changes, IsLastRow};
 ghost use Rattle.ud_cond.specs.Viewing.{as_entry, said};
 
-use crate::bytes::is_identifier;
 use crate::fault::SymbolFault;
 use std::alloc::Global;
 use std::marker::Model;
+use ud_model::bytes::{is_identifier, is_name};
 
 /// What the table says of a name.
-#[derive(Clone, Copy)]
+#[derive(Clone, Copy, Debug, PartialEq, Eq)]
 pub struct Entry<'a> {
     /// The value that it is defined with; `None` where it is undefined.
     pub value: Option<&'a [u8]>,
@@ -130,10 +130,8 @@ impl Symbols {
         ensures value { option_map as_entry result ≡ entry_in self.now name.now }
         ensures stands { (calls : List Argument) → StandsFor self.now calls → option_map as_entry result ≡ entry_in calls name.now }
     {
-        match self.place(name) {
-            Some(i) => Some(self.rows[i].entry()),
-            None => None,
-        }
+        let i = self.place(name)?;
+        Some(self.rows[i].entry())
     }
 
     /// How many rows there are.
@@ -147,10 +145,7 @@ impl Symbols {
     fn text_of(&self, name: &[u8]) -> Option<&[u8]>
         ensures { option_map (λ v. v.now) result ≡ ends.defined_text self.now name.now }
     {
-        match self.find(name) {
-            Some(entry) => entry.value,
-            None => None,
-        }
+        self.find(name)?.value
     }
 
     /// The text at which the value of a name ends: the first that is no identifier, from name to name. There is none
@@ -162,9 +157,7 @@ impl Symbols {
         let mut at = name;
         let most = self.count();
         'steps: for _ in 0..most {
-            let Some(text) = self.text_of(at) else {
-                return None;
-            };
+            let text = self.text_of(at)?;
             if !is_identifier(text) {
                 return Some(text);
             }
@@ -247,11 +240,4 @@ fn copy_of(alloc: Global, value: Option<&[u8]>) -> Result<Option<Vec<u8>>, Symbo
         Some(bytes) => Ok(Some(Vec::from_slice(alloc, bytes)?)),
         None => Ok(None),
     }
-}
-
-/// Whether a text may name a symbol: an identifier other than `defined`.
-fn is_name(text: &[u8]) -> bool
-    ensures { result ≡ names.is_name text.now }
-{
-    is_identifier(text) && text != b"defined".as_slice()
 }

@@ -8,9 +8,9 @@ ghost use Rattle.ud_model.specs.conditions.Constants as texts;
 ghost use Rattle.ud_model.specs.text.Bytes as bytes;
 ghost use Rattle.ud_cond.specs.Viewing.{as_next};
 
-use crate::bytes::{is_digit, is_word_byte, past_white, word_len};
 use crate::constants::is_constant;
 use ud_model::Operator;
+use ud_model::bytes::{is_digit, is_word_byte, past_white, word_len};
 
 /// A token of an expression.
 #[derive(Clone, Copy)]
@@ -44,21 +44,14 @@ pub(crate) enum Next<'a> {
 pub(crate) fn begins(byte: u8, text: &[u8]) -> bool
     ensures { result ≡ texts.begins byte text.now }
 {
-    match text {
-        [] => false,
-        [first, ..] => *first == byte,
-    }
+    text.first() == Some(&byte)
 }
 
 /// A text without the bytes in front, as many as it has at most.
 pub(crate) fn behind(count: usize, text: &[u8]) -> &[u8]
     ensures { result.now ≡ drop count text.now }
 {
-    if count <= text.len() {
-        &text[count..]
-    } else {
-        &[]
-    }
+    text.get(count..).unwrap_or(&[])
 }
 
 /// What stands behind the `)` that closes a parenthesis, of which what is inside comes first.
@@ -99,13 +92,7 @@ fn name_token<'a>(word: &'a [u8], rest: &'a [u8]) -> Next<'a>
 fn takes_sign(word: &[u8], rest: &[u8]) -> bool
     ensures { result ≡ spec.takes_sign word.now rest.now }
 {
-    match word.last() {
-        None => false,
-        Some(last) => {
-            let exponent = *last == b'e' || *last == b'E';
-            exponent && (begins(b'+', rest) || begins(b'-', rest))
-        }
-    }
+    matches!(word.last(), Some(b'e' | b'E')) && (begins(b'+', rest) || begins(b'-', rest))
 }
 
 /// Whether a word begins with a digit.

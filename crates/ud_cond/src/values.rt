@@ -42,10 +42,7 @@ impl Scope<'_> {
     fn find(&self, name: &[u8]) -> Option<Entry<'_>>
         ensures { option_map as_entry result ≡ entry_in (table_in self.now) name.now }
     {
-        match self.symbols {
-            Some(symbols) => symbols.find(name),
-            None => None,
-        }
+        self.symbols?.find(name)
     }
 
     /// The text at which the value of a name ends.
@@ -53,10 +50,7 @@ impl Scope<'_> {
     fn end_of<'a>(&'a self, name: &'a [u8]) -> Option<&'a [u8]>
         ensures { option_map (λ v. v.now) result ≡ end_of (table_in self.now) name.now }
     {
-        match self.symbols {
-            Some(symbols) => symbols.end_of(name),
-            None => None,
-        }
+        self.symbols?.end_of(name)
     }
 }
 
@@ -81,10 +75,7 @@ fn text_value(unsigned: bool, text: &[u8]) -> Option<i64>
             if !is_constant(rest) {
                 return None;
             }
-            match constant_value(rest) {
-                Some(number) => fit_checked(unsigned, number.checked_neg()),
-                None => None,
-            }
+            fit_checked(unsigned, constant_value(rest)?.checked_neg())
         }
         _ => {
             if is_constant(text) {
@@ -179,10 +170,7 @@ fn fit(unsigned: bool, number: i64) -> Option<i64>
 fn fit_checked(unsigned: bool, number: Option<i64>) -> Option<i64>
     ensures { result ≡ option_and_then (spec.fit unsigned) number }
 {
-    match number {
-        Some(number) => fit(unsigned, number),
-        None => None,
-    }
+    fit(unsigned, number?)
 }
 
 /// 1 where something holds, else 0.
@@ -197,10 +185,8 @@ fn truth(holds: bool) -> i64
 fn remainder(unsigned: bool, a: i64, b: i64) -> Option<i64>
     ensures { result ≡ spec.operate unsigned Operator.Remainder a b }
 {
-    match fit_checked(unsigned, a.checked_div(b)) {
-        None => None,
-        Some(_) => fit_checked(unsigned, a.checked_rem(b)),
-    }
+    fit_checked(unsigned, a.checked_div(b))?;
+    fit_checked(unsigned, a.checked_rem(b))
 }
 
 /// Two known operands and an operator.
@@ -253,15 +239,10 @@ fn combine(
 ) -> Option<i64>
     ensures { result ≡ spec.combine strict unsigned operator a b }
 {
-    match a {
-        Some(a) => match b {
-            Some(b) => operate(unsigned, operator, a, b),
-            None => decides(strict, operator, a),
-        },
-        None => match b {
-            Some(b) => decides(strict, operator, b),
-            None => None,
-        },
+    match (a, b) {
+        (Some(a), Some(b)) => operate(unsigned, operator, a, b),
+        (Some(known), None) | (None, Some(known)) => decides(strict, operator, known),
+        (None, None) => None,
     }
 }
 
@@ -282,10 +263,7 @@ fn change(unsigned: bool, operator: Operator, a: i64) -> Option<i64>
 fn alter(unsigned: bool, operator: Operator, a: Option<i64>) -> Option<i64>
     ensures { result ≡ spec.alter unsigned operator a }
 {
-    match a {
-        Some(a) => change(unsigned, operator, a),
-        None => None,
-    }
+    change(unsigned, operator, a?)
 }
 
 /// What an operator before an operand is worth.

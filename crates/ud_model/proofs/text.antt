@@ -1,4 +1,5 @@
 -- Lemmas on lines, joined texts and scans.
+pub mod ByteLemmas
 pub mod LinesLemmas
 pub mod Pushes
 pub mod Steps

@@ -6,6 +6,7 @@
 #![tactic(auto)]
 
 pub mod answer_laws;
+pub mod bytes;
 mod cond;
 mod kind;
 pub mod laws;

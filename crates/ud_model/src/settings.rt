@@ -1,9 +1,10 @@
 //! What the options say beside the symbols.
 
 /// What is listed in place of the text.
-#[derive(Clone, Copy, Debug, PartialEq, Eq)]
+#[derive(Clone, Copy, Debug, PartialEq, Eq, Default)]
 pub enum Listing {
     /// Nothing: the text is printed.
+    #[default]
     Off,
     /// The names of the conditions (`-s`).
     Names,
@@ -12,9 +13,10 @@ pub enum Listing {
 }
 
 /// What the exit status tells of a text without a fault (`-x`).
-#[derive(Clone, Copy, Debug, PartialEq, Eq)]
+#[derive(Clone, Copy, Debug, PartialEq, Eq, Default)]
 pub enum ExitMode {
     /// 0 where the output is a copy, 1 where some line differs (`-x0`).
+    #[default]
     Zero,
     /// 1 where the output is a copy, 0 where some line differs (`-x1`).
     One,
@@ -22,8 +24,8 @@ pub enum ExitMode {
     Two,
 }
 
-/// The options but for those that name symbols, as they were given (unifdef(1)).
-#[derive(Clone, Copy, Debug, PartialEq, Eq)]
+/// The options but for those that name symbols, as they were given (unifdef(1)). The default is that none was given.
+#[derive(Clone, Copy, Debug, PartialEq, Eq, Default)]
 pub struct Settings {
     /// Strings, comments and continuations are ignored everywhere (`-t`).
     pub plain: bool,

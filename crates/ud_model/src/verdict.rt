@@ -14,3 +14,15 @@ pub enum Verdict {
     /// It is the opener behind such an `#else`, and becomes the `#endif`.
     ToEndif,
 }
+
+impl Verdict {
+    ghost use Rattle.std.specs.Prelude.{◌≡◌};
+    ghost use Rattle.ud_model.specs.sections.Pruning.{is_removed};
+
+    /// Whether a line with this verdict is removed.
+    pub fn is_removed(self) -> bool
+        ensures { result ≡ is_removed self }
+    {
+        self == Verdict::Remove
+    }
+}

@@ -3,7 +3,7 @@ use Rattle.std.proofs.Common.{◌≡◌, ◌≤◌, ◌==◌, ◌+◌, ◌-◌, 
 use Rattle.std.proofs.lemmas.List.{length-drop, length-take-le}
 use Rattle.ud_model.specs.text.Bytes.{past_white}
 use Rattle.ud_model.specs.sections.Directives.{past_sign, past_sign_of}
-use Rattle.ud_cond.proofs.ByteLemmas.{length-past_white}
+use Rattle.ud_model.proofs.text.ByteLemmas.{length-past_white}
 
 one_sign : (is : Bool) (b : ℕ) (bs rest : List ℕ) → (if is then Some bs else None) ≡ Some rest → length rest ≤ length (b ∷ bs)
 one_sign true b bs rest e = let same : bs ≡ rest = cc in let k : length bs ≡ length rest = ap length same in omega (arith, k)

@@ -1,15 +1,15 @@
 //! The directive that a line carries.
 
 ghost use Rattle.std.specs.Prelude.{◌≡◌, ◌+◌, length, IsTrue, IfOk, IfSome, MatchOption, Some, None};
-ghost use Rattle.ud_model.specs.text.Bytes.{are_word_bytes};
-ghost use Rattle.ud_model.specs.sections.Directives.{text, content_of, past_sign, kind_of, is_cut_off, begins_keyword, is_keyword_front, leaves_keyword, has_cut_keyword, found_behind};
+ghost use Rattle.ud_model.specs.sections.Directives.{text, content_of, past_sign, is_cut_off, is_keyword_front, leaves_keyword, has_cut_keyword, found_behind};
 ghost use Rattle.ud_text.specs.Viewing.{as_scan};
 ghost use Rattle.ud_sections.specs.Finding.{content_found, directive_or_text};
 
 use crate::found::{Cut, Directive};
+use crate::keywords::{begins_keyword, kind_of};
 use crate::step::Span;
-use ud_cond::bytes::{is_word_byte, past_white, word_len};
-use ud_model::{CommentAt, Kind};
+use ud_model::CommentAt;
+use ud_model::bytes::{are_word_bytes, past_white, word_len};
 use ud_text::Scan;
 
 /// The directive of a line that is seen so: the line is fresh, and its masked bytes are white space, `#`, white space,
@@ -83,25 +83,6 @@ fn is_keyword_front(text: &[u8]) -> bool
     }
 }
 
-/// Whether each byte is one of a word.
-fn are_word_bytes(bytes: &[u8]) -> bool
-    ensures { result ≡ are_word_bytes bytes.now }
-{
-    bytes.iter().all(|byte| is_word_byte(*byte))
-}
-
-/// Whether a word is a front of a keyword, or a whole one.
-fn begins_keyword(word: &[u8]) -> bool
-    ensures { result ≡ begins_keyword word.now }
-{
-    b"if".starts_with(word)
-        || b"ifdef".starts_with(word)
-        || b"ifndef".starts_with(word)
-        || b"elif".starts_with(word)
-        || b"else".starts_with(word)
-        || b"endif".starts_with(word)
-}
-
 /// The directive whose keyword stands behind the `#` of a line, where the line is fresh.
 fn found_behind<'a>(scan: &Scan<'a>, behind: &'a [u8]) -> Option<Directive<'a>>
     requires { past_sign scan.now.masked.now ≡ Some behind.now }
@@ -123,25 +104,4 @@ fn found_behind<'a>(scan: &Scan<'a>, behind: &'a [u8]) -> Option<Directive<'a>>
         after: &rest[len..],
         broken: is_cut_off(scan),
     })
-}
-
-/// The directive of a keyword, if the word is one.
-fn kind_of(word: &[u8]) -> Option<Kind>
-    ensures { result ≡ kind_of word.now }
-{
-    if word == b"if".as_slice() {
-        Some(Kind::If)
-    } else if word == b"ifdef".as_slice() {
-        Some(Kind::Ifdef)
-    } else if word == b"ifndef".as_slice() {
-        Some(Kind::Ifndef)
-    } else if word == b"elif".as_slice() {
-        Some(Kind::Elif)
-    } else if word == b"else".as_slice() {
-        Some(Kind::Else)
-    } else if word == b"endif".as_slice() {
-        Some(Kind::Endif)
-    } else {
-        None
-    }
 }

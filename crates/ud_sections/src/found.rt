@@ -4,7 +4,7 @@ use crate::step::Span;
 use ud_model::Kind;
 
 /// A directive on a line (C11 6.10).
-#[derive(Clone, Copy)]
+#[derive(Clone, Copy, Debug, PartialEq, Eq)]
 pub struct Directive<'a> {
     /// Which directive it is.
     pub kind: Kind,

@@ -2,7 +2,6 @@
 
 ghost use Rattle.std.specs.Prelude.{◌≡◌};
 ghost use Rattle.ud_model.specs.sections.Faults.{keeps_rest};
-ghost use Rattle.ud_model.specs.sections.Pruning.{is_removed};
 ghost use Rattle.ud_sections.specs.Judging.{is_directive_shape, is_push, is_spoiled_by, misplaced_by, judged_by};
 
 use crate::fault::SectionFault;
@@ -70,13 +69,6 @@ fn is_directive(shape: Shape) -> bool
         Shape::If { .. } | Shape::Elif { .. } | Shape::Else | Shape::Endif => true,
         Shape::Text => false,
     }
-}
-
-/// Whether a line with this verdict is removed.
-pub(crate) fn is_removed(verdict: Verdict) -> bool
-    ensures { result ≡ is_removed verdict }
-{
-    verdict == Verdict::Remove
 }
 
 /// Whether what follows the keyword stays, and so does what the directive is joined to.

@@ -4,6 +4,7 @@
 //! line of the definitions a line and its step are.
 #![tactic(auto)]
 
+mod appending;
 mod blank;
 mod complement;
 mod delete;
@@ -11,6 +12,7 @@ mod fault;
 mod finding;
 mod found;
 mod judging;
+mod keywords;
 mod level;
 mod lister;
 mod machine;

@@ -3,6 +3,7 @@
 ghost use Rattle.std.specs.Prelude.{◌≡◌, ◌+◌, ◌≤◌, ◌++◌, length, Bool};
 ghost use Rattle.ud_model.specs.answer.Listing.{depth_prefix};
 
+use crate::appending::append;
 use crate::finding::directive;
 use arrayvec::ArrayVec;
 use itoa::Buffer;
@@ -58,12 +59,7 @@ impl Lister {
         ensures { result ≡ names_in_content (content_of (as_scan scan.now)) }
     {
         match directive(scan) {
-            Ok(Some(found)) => {
-                if found.broken {
-                    return names(Kind::Endif, &[]);
-                }
-                names(found.kind, found.after)
-            }
+            Ok(Some(found)) if !found.broken => names(found.kind, found.after),
             _ => names(Kind::Endif, &[]),
         }
     }
@@ -90,12 +86,4 @@ fn write_prefix(text: &mut ArrayVec<u8, PREFIX_BYTES>, depths: bool, depth: usiz
     let mut digits = Buffer::new();
     append(text, digits.format(depth).as_bytes());
     append(text, b" ");
-}
-
-/// Appends bytes for which there is room.
-fn append(text: &mut ArrayVec<u8, PREFIX_BYTES>, more: &[u8])
-    requires { length text.old.items + length more.now ≤ PREFIX_BYTES }
-    ensures { text.new.items ≡ text.old.items ++ more.now }
-{
-    let _ = text.try_extend_from_slice(more);
 }

@@ -23,7 +23,7 @@ ghost use Rattle.ud_sections.specs.Judging.{is_push};
 
 use crate::fault::SectionFault;
 use crate::finding::is_plainly_text;
-use crate::judging::{Before, is_removed, judge};
+use crate::judging::{Before, judge};
 use crate::level::{Change, Level, Place};
 use crate::seeing::see;
 use crate::step::{Span, Step};
@@ -138,7 +138,7 @@ impl Machine {
         match self.turn(scan, line.number, symbols) {
             Ok(turn) => {
                 change(&mut self.open_sections, turn.change);
-                self.removed = is_removed(turn.step.verdict);
+                self.removed = turn.step.verdict.is_removed();
                 self.last = line.number;
                 Ok(turn.step)
             }
@@ -181,7 +181,7 @@ impl Machine {
         ensures fits { array_vec_len self.old.open_sections ≤ OPEN_SECTIONS }
     {
         let verdict = self.place().text_action().verdict;
-        self.removed = is_removed(verdict);
+        self.removed = verdict.is_removed();
         self.last = last;
         verdict
     }

@@ -2,15 +2,14 @@
 
 ghost use Rattle.std.specs.Prelude.{◌≡◌, ◌+◌, ◌≤◌, ◌++◌, length};
 ghost use Rattle.ud_model.specs.answer.Printing.{number_line};
-ghost use Rattle.ud_model.specs.sections.Pruning.{is_removed};
 ghost use Rattle.ud_text.specs.Viewing.{as_line};
 
+use crate::appending::append;
 use crate::pieces::Pieces;
 use crate::show::Show;
 use crate::step::Step;
 use arrayvec::ArrayVec;
 use itoa::Buffer;
-use ud_model::Verdict;
 use ud_text::Line;
 
 /// The most bytes of a `#line` directive: its keyword, a space, ten digits and an ending.
@@ -51,7 +50,7 @@ impl Show for Renumber {
 
     fn pieces<'a>(&'a mut self, line: &Line<'a>, step: Step) -> Pieces<'a> {
         let follows_removed = self.removed;
-        let removed = is_removed(step.verdict);
+        let removed = step.verdict.is_removed();
         self.removed = removed;
         let alone = Pieces::alone(line, step, &[]);
         if removed {
@@ -63,13 +62,6 @@ impl Show for Renumber {
         write_number_line(&mut self.number_line, line);
         alone.behind(self.number_line.as_slice(), line)
     }
-}
-
-/// Whether a line is removed.
-fn is_removed(verdict: Verdict) -> bool
-    ensures { result ≡ is_removed verdict }
-{
-    matches!(verdict, Verdict::Remove)
 }
 
 /// Writes the `#line` that stands in front of a line behind removed ones, in place of what was written before.
@@ -86,12 +78,4 @@ fn write_number_line(bytes: &mut ArrayVec<u8, NUMBER_LINE_BYTES>, line: &Line<'_
     } else {
         append(bytes, line.ending);
     }
-}
-
-/// Appends bytes for which there is room.
-fn append(bytes: &mut ArrayVec<u8, NUMBER_LINE_BYTES>, more: &[u8])
-    requires { length bytes.old.items + length more.now ≤ NUMBER_LINE_BYTES }
-    ensures { bytes.new.items ≡ bytes.old.items ++ more.now }
-{
-    let _ = bytes.try_extend_from_slice(more);
 }

@@ -1,10 +1,10 @@
 -- Runs: bytes that leave the place as it is, and how a text is shown with them.
 use Rattle.std.proofs.Common.{◌≡◌, ℕ, zero, suc, ◌+◌, ◌-◌, ◌<◌, ◌≤◌, ◌==◌, List, [], ◌∷◌, ◌++◌, length, take, drop, replicate, get_or, Bool, true, false, not, cond, ◌&&◌, ◌||◌, if◌then◌else◌, Option, Some, None, unwrap_or, is_some, refl, sym, ◌∙◌, ap, subst, append_assoc, append-nil, arith, ne_eqb, one-add}
-use Rattle.std.specs.List.{list_all, position_or_len}
+use Rattle.std.specs.List.{position_or_len}
 use Rattle.std.proofs.lemmas.List.{take_more, take_rest, length-take-le, drop-take, take-take, take-append-drop}
 use Rattle.std.specs.Option.{option_to_list}
 use Rattle.memchr.specs.Find.{IsFirstByte, is_byte}
-use Rattle.ud_model.specs.text.Bytes.{slash, star, space, backslash, is_quote, is_mark, is_white}
+use Rattle.ud_model.specs.text.Bytes.{are_white, slash, star, space, backslash, is_quote, is_mark, is_white}
 use Rattle.ud_model.specs.text.Lines.{NoFeed}
 use Rattle.ud_model.specs.aids.Places.{Place, in_text, at_slash, in_literal, in_block, at_star, next, opens, shows, whitens, blank_last, Masks}
 use Rattle.ud_model.proofs.text.PlaceLemmas.{Masks-step, blank_last-last}
@@ -78,11 +78,11 @@ and_true false = refl
 
 -- a run of bytes outside comments and literals is shown as it is
 pub Masks-text : {n : ℕ} (bytes text : List ℕ) (white : Bool) (masked : List ℕ) → NoMark bytes → NoFeed bytes →
-    Masks n text in_text white masked → Masks n (text ++ bytes) in_text (white && list_all (λ b. is_white b) bytes) (masked ++ bytes)
+    Masks n text in_text white masked → Masks n (text ++ bytes) in_text (white && are_white bytes) (masked ++ bytes)
 Masks-text [] text white masked p q m = Masks-same (sym (append-nil text)) refl (and_true white) (sym (append-nil masked)) m
 Masks-text (b ∷ bytes) text white masked p q m =
     Masks-same (append_assoc text (b ∷ []) bytes) refl
-    (ap (λ (v : Bool). v && list_all (λ x. is_white x) bytes) (white_in_text b white p.0 q.0) ∙ and_assoc white (is_white b) (list_all (λ x. is_white x) bytes))
+    (ap (λ (v : Bool). v && are_white bytes) (white_in_text b white p.0 q.0) ∙ and_assoc white (is_white b) (are_white bytes))
     (append_assoc masked (b ∷ []) bytes)
     (Masks-text bytes (text ++ b ∷ []) (whitens in_text white b) (masked ++ b ∷ []) p.1 q.1
     (Masks-same refl (sym (stays_in_text b p.0)) refl refl (Masks-step b m)))
@@ -166,7 +166,7 @@ byte_read text bytes at h m =
 -- the text as it is shown with the bytes in front of the first mark
 pub text_run : {n : ℕ} (text rest old new : List ℕ) {w : Place} {white : Bool} (now_white : Bool) (count : ℕ) →
     Masks n text w white old → w ≡ in_text → count ≡ position_or_len is_mark rest → NoFeed rest → new ≡ old ++ take count rest →
-    now_white ≡ (white && list_all (λ b. is_white b) (take count rest)) → Masks n (text ++ take count rest) in_text now_white new
+    now_white ≡ (white && are_white (take count rest)) → Masks n (text ++ take count rest) in_text now_white new
 text_run text rest old new {w} {white} now_white count m e f h p q =
     let none : NoMark (take count rest) = subst (λ (k : ℕ). NoMark (take k rest)) (sym f) (no_mark_before rest) in
     Masks-same refl refl (sym q) (sym p)

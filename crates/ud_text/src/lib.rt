@@ -5,7 +5,6 @@
 //! `specs/Passing.antt` what it is to pass many lines at once.
 #![tactic(auto)]
 
-mod bytes;
 mod fault;
 mod line;
 mod lines;

@@ -6,7 +6,7 @@ ghost use Rattle.ud_model.specs.text.Lines.{is_ending};
 /// A line of a text (POSIX XBD 3.206): its bytes are those of the body, then those of the ending.
 ///
 /// The line is lent: its bytes stand where the text is held.
-#[derive(Clone, Copy)]
+#[derive(Clone, Copy, Debug, PartialEq, Eq)]
 pub struct Line<'a> {
     /// The bytes of the line without its ending. A carriage return that no line feed follows stands here.
     pub body: &'a [u8],

@@ -18,7 +18,7 @@ use std::marker::Model;
 use ud_model::{LINE_BYTES, TEXT_LINES};
 
 /// What was taken of a piece.
-#[derive(Clone, Copy)]
+#[derive(Clone, Copy, Debug, PartialEq, Eq)]
 pub struct Taken {
     /// How many bytes were taken: those up to the piece's first line feed, which is the last of them, or all.
     pub used: usize,

@@ -5,19 +5,17 @@
 //! comments, are taken at once: they leave the place as it is.
 
 ghost use Rattle.std.specs.Prelude.{◌≡◌, ◌≤◌, ◌<◌, ◌+◌, ◌&&◌, ℕ, List, [], ◌∷◌, ◌++◌, length, take, replicate};
-ghost use Rattle.std.specs.List.{list_all};
 ghost use Rattle.arrayvec.specs.ArrayVec.{array_vec_len};
-ghost use Rattle.ud_model.specs.text.Bytes.{is_white};
 ghost use Rattle.ud_model.specs.text.Lines.{NoFeed};
 ghost use Rattle.ud_model.specs.text.Scanning.{is_block};
 ghost use Rattle.ud_model.specs.aids.Places.{Reads, Masks, next, opens, shows, whitens, blank_last, place_kind, fresh_at};
 ghost use Rattle.ud_text.specs.Viewing.{place_of};
 
-use crate::bytes::is_white;
 use crate::marks::first_mark;
 use arrayvec::ArrayVec;
 use memchr::memchr;
 use ud_model::LINE_BYTES;
+use ud_model::bytes::{are_white, is_white};
 
 /// Where the joined text leaves off.
 #[derive(Clone, Copy)]
@@ -183,13 +181,6 @@ fn push_spaces(count: usize, masked: &mut ArrayVec<u8, LINE_BYTES>)
     for _space in 0..count {
         masked.push(b' ');
     }
-}
-
-/// Whether each byte is white space within a line.
-fn are_white(bytes: &[u8]) -> bool
-    ensures { result ≡ list_all (λ b. is_white b) bytes.now }
-{
-    bytes.iter().all(|byte| is_white(*byte))
 }
 
 /// Reads the bytes in front that leave the place as it is, where that is outside comments and literals or in a block

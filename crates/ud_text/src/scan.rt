@@ -3,7 +3,7 @@
 use ud_model::CommentAt;
 
 /// What is seen of a line when it is read (C11 5.1.1.2, phases 2 and 3, and 6.4.9).
-#[derive(Clone, Copy)]
+#[derive(Clone, Copy, Debug, PartialEq, Eq)]
 pub struct Scan<'a> {
     /// The line's body without a splice's backslash, each byte of a comment replaced by a space. So each byte stands
     /// where it stands in the body.

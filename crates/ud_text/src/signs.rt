@@ -3,11 +3,11 @@
 //! It doesn't if a word that is no keyword follows, nor if its logical line isn't white before it (C11 6.10).
 
 ghost use Rattle.std.specs.Prelude.{◌≡◌, ◌≤◌, ◌<◌, ◌-◌, ◌⊎◌, length, drop, slice_index, true, false, IfSome};
-ghost use Rattle.ud_model.specs.text.Bytes.{is_white, are_white, past_white};
+ghost use Rattle.ud_model.specs.text.Bytes.{is_white, are_white};
 ghost use Rattle.ud_text.specs.States.{is_other_word, is_other_name};
 ghost use Rattle.ud_text.specs.Spans.{SeenWhite};
 
-use crate::bytes::{is_white, is_word_byte};
+use ud_model::bytes::{is_white, is_word_byte, past_white};
 
 /// Whether a word begins with the first of these bytes, and no keyword does, or with both of them.
 fn is_other_word(first: u8, second: u8) -> bool
@@ -21,20 +21,6 @@ fn is_other_word(first: u8, second: u8) -> bool
         b'e' => is_word_byte(second) && second != b'l' && second != b'n',
         _ => true,
     }
-}
-
-/// The bytes after the white space in front.
-fn past_white(bytes: &[u8]) -> &[u8]
-    ensures { result.now ≡ past_white bytes.now }
-{
-    let mut rest = bytes;
-    while let Some((first, others)) = rest.split_first() {
-        if !is_white(*first) {
-            break;
-        }
-        rest = others;
-    }
-    rest
 }
 
 /// Whether a word that is no keyword comes first, but for white space.

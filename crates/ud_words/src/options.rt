@@ -3,13 +3,13 @@
 ghost use Rattle.std.specs.Prelude.{◌≡◌, ◌≤◌, ◌++◌, ◌∷◌, List, length, take, drop, None, false, is_some, option_map, IfOk, IfErr};
 ghost use Rattle.ud_model.specs.answer.CommandLine.{option, mode_in, symbol_in, ignoring_symbol, defining, undefining, named, first_fault, operand_in};
 ghost use Rattle.ud_model.specs.answer.CommandLine.{Given as GivenInWords};
-ghost use Rattle.ud_model.specs.answer.Arguments.{name_in, value_in, is_name};
+ghost use Rattle.ud_model.specs.answer.Arguments.{name_in, value_in};
 ghost use Rattle.ud_words.specs.Given.{told};
 ghost use Rattle.ud_words.specs.Saying.{IsSaid, IsFaultOf, as_argument, with_flag, with_names, behind_first};
 
 use crate::command_line::Given;
 use crate::usage::Usage;
-use ud_cond::bytes::is_identifier;
+use ud_model::bytes::is_name;
 use ud_model::{ExitMode, Listing, Settings};
 
 /// What is said of a symbol.
@@ -79,15 +79,11 @@ fn say_with_argument(letter: char, word: usize, argument: &[u8]) -> Result<Said<
     ensures err { (more : List GivenInWords) → IfErr result (IsFaultOf (first_fault (option letter word argument.now ∷ more))) }
 {
     if letter == 'x' {
-        match mode_in(argument) {
-            Some(mode) => Ok(Said::Mode { mode }),
-            None => Err(Usage::BadMode { word }),
-        }
+        let mode = mode_in(argument).ok_or(Usage::BadMode { word })?;
+        Ok(Said::Mode { mode })
     } else {
-        match symbol_in(letter, argument) {
-            Some(symbol) => Ok(Said::Symbol { symbol }),
-            None => Err(Usage::BadSymbol { word }),
-        }
+        let symbol = symbol_in(letter, argument).ok_or(Usage::BadSymbol { word })?;
+        Ok(Said::Symbol { symbol })
     }
 }
 
@@ -161,13 +157,6 @@ fn named<'a>(name: &'a [u8], value: Option<&'a [u8]>, ignoring: bool) -> Option<
         value,
         ignoring,
     })
-}
-
-/// Whether a name may be a symbol's: it is an identifier other than `defined`.
-fn is_name(name: &[u8]) -> bool
-    ensures { result ≡ is_name name.now }
-{
-    is_identifier(name) && name != b"defined".as_slice()
 }
 
 /// How many bytes stand before the first `=`, or how many there are where there is none.

@@ -15,7 +15,7 @@ use crate::usage::Usage;
 use std::alloc::Global;
 use std::marker::Model;
 use ud_cond::Symbols;
-use ud_model::{ExitMode, Listing, Settings};
+use ud_model::Settings;
 
 /// What the words of a command line say: the settings, the symbols and the operand.
 #[derive(Drop)]
@@ -42,16 +42,7 @@ impl Plan {
         ensures { PlansFor result [] }
     {
         Plan {
-            settings: Settings {
-                plain: false,
-                constants: false,
-                strict: false,
-                blank: false,
-                complement: false,
-                renumber: false,
-                listing: Listing::Off,
-                exit_mode: ExitMode::Zero,
-            },
+            settings: Settings::default(),
             symbols: Symbols::new(alloc),
             operand: None,
         }
@@ -134,9 +125,6 @@ impl Plan {
             Some(value) => self.symbols.define(symbol.name, value, symbol.ignoring),
             None => self.symbols.undefine(symbol.name, symbol.ignoring),
         };
-        match said {
-            Ok(()) => Ok(()),
-            Err(_) => Err(Usage::OutOfMemory),
-        }
+        said.map_err(|_| Usage::OutOfMemory)
     }
 }

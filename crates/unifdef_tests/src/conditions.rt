@@ -3,7 +3,7 @@
 use std::alloc::Global;
 use std::process::Abort;
 use std::test::Fail;
-use ud_cond::{Rules, Symbols, condition, names};
+use ud_cond::{Answer, Rules, Symbols, condition, names};
 use ud_model::{Cond, Kind, LINE_BYTES};
 
 const USUAL: Rules = Rules {
@@ -32,9 +32,11 @@ fn five(alloc: Global) -> Result<Symbols, Fail> {
 fn check(rt: &impl Abort, symbols: &Symbols, rules: Rules, text: &[u8], expected: Cond) {
     assert!(rt; text.len() <= LINE_BYTES);
     for kind in [Kind::If, Kind::Elif] {
-        let answer = condition(kind, text, symbols, rules);
-        assert!(rt; answer.cond == expected);
-        assert!(rt; !answer.ignoring);
+        let answer = Answer {
+            cond: expected,
+            ignoring: false,
+        };
+        assert_eq!(rt; condition(kind, text, symbols, rules), answer);
     }
 }
 
@@ -170,9 +172,8 @@ fn ifdef_asks_for_one_name(rt: HostRuntime) -> Result<(), Fail> {
     ];
     for (kind, text, cond, ignoring) in worked {
         assert!(rt; text.len() <= LINE_BYTES);
-        let answer = condition(kind, text, &symbols, USUAL);
-        assert!(rt; answer.cond == cond);
-        assert_eq!(rt; answer.ignoring, ignoring);
+        let answer = Answer { cond, ignoring };
+        assert_eq!(rt; condition(kind, text, &symbols, USUAL), answer);
     }
     Ok(())
 }

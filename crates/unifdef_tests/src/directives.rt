@@ -22,17 +22,7 @@ fn check(rt: &impl Abort, body: &[u8], expected: &Result<Option<Directive<'_>>, 
         number: 1,
     };
     let scan = scanner.read(Mode::C, &line);
-    match (directive(&scan), expected) {
-        (Err(Cut), Err(Cut)) => {}
-        (Ok(None), Ok(None)) => {}
-        (Ok(Some(found)), Ok(Some(wanted))) => {
-            assert!(rt; found.kind == wanted.kind);
-            assert!(rt; found.keyword == wanted.keyword);
-            assert_eq!(rt; found.after, wanted.after);
-            assert_eq!(rt; found.broken, wanted.broken);
-        }
-        _ => assert!(rt; false),
-    }
+    assert_eq!(rt; directive(&scan), *expected);
 }
 
 #[test]

@@ -2,16 +2,8 @@
 
 ghost use Rattle.std.specs.Prelude.{◌≡◌, false, OnOk};
 
-use std::process::Abort;
 use std::test::Fail;
 use ud_text::{Line, Lines, TextFault};
-
-/// Compares two lines.
-fn check_line(rt: &impl Abort, line: &Line<'_>, expected: &Line<'_>) {
-    assert_eq!(rt; line.body, expected.body);
-    assert_eq!(rt; line.ending, expected.ending);
-    assert_eq!(rt; line.number, expected.number);
-}
 
 #[test]
 fn a_text_of_two_lines_comes_in_two_pieces(rt: HostRuntime) -> Result<(), Fail> {
@@ -26,7 +18,7 @@ fn a_text_of_two_lines_comes_in_two_pieces(rt: HostRuntime) -> Result<(), Fail> 
         ending: b"\n",
         number: 1,
     };
-    check_line(&rt, &lines.line(), &whole);
+    assert_eq!(rt; lines.line(), whole);
     lines.clear();
     let second = lines.take(b"b")?;
     assert_eq!(rt; second.used, 1);
@@ -42,7 +34,7 @@ fn a_text_of_two_lines_comes_in_two_pieces(rt: HostRuntime) -> Result<(), Fail> 
         ending: b"",
         number: 2,
     };
-    check_line(&rt, &lines.line(), &last);
+    assert_eq!(rt; lines.line(), last);
     Ok(())
 }
 
@@ -89,7 +81,7 @@ fn a_line_ends_where_two_pieces_meet(rt: HostRuntime) -> Result<(), Fail> {
         ending: b"\r\n",
         number: 1,
     };
-    check_line(&rt, &lines.line(), &line);
+    assert_eq!(rt; lines.line(), line);
     Ok(())
 }
 

@@ -4,6 +4,7 @@ use crate::worked::owned;
 use std::alloc::Global;
 use std::process::Abort;
 use std::test::Fail;
+use ud_cond::Entry;
 use ud_model::{ExitMode, Listing, Settings};
 use unifdef::{Plan, Usage, input_of, plan};
 
@@ -39,29 +40,13 @@ fn placed(
 
 /// Compares what a plan says of a name: its value, and whether it is ignoring.
 fn says(rt: &impl Abort, plan: &Plan, name: &[u8], value: Option<&[u8]>, ignoring: bool) {
-    let entry = plan.symbols().find(name).expect(rt, "the name is listed");
-    assert!(rt; entry.value == value);
-    assert_eq!(rt; entry.ignoring, ignoring);
-}
-
-/// The settings of no option.
-fn no_settings() -> Settings {
-    Settings {
-        plain: false,
-        constants: false,
-        strict: false,
-        blank: false,
-        complement: false,
-        renumber: false,
-        listing: Listing::Off,
-        exit_mode: ExitMode::Zero,
-    }
+    assert_eq!(rt; plan.symbols().find(name), Some(Entry { value, ignoring }));
 }
 
 #[test]
 fn no_words_say_nothing(rt: HostRuntime) -> Result<(), Fail> {
     let plan = planned(&rt, rt.alloc(), &[])?;
-    assert!(rt; plan.settings() == no_settings());
+    assert_eq!(rt; plan.settings(), Settings::default());
     assert_eq!(rt; plan.operand(), None);
     assert!(rt; plan.symbols().find(b"A").is_none());
     Ok(())
@@ -73,9 +58,9 @@ fn letters_stand_in_one_word(rt: HostRuntime) -> Result<(), Fail> {
     let settings = Settings {
         constants: true,
         blank: true,
-        ..no_settings()
+        ..Settings::default()
     };
-    assert!(rt; plan.settings() == settings);
+    assert_eq!(rt; plan.settings(), settings);
     says(&rt, &plan, b"A", None, false);
     Ok(())
 }
@@ -95,7 +80,7 @@ fn an_ignoring_symbol_is_told(rt: HostRuntime) -> Result<(), Fail> {
     says(&rt, &plan, b"A", Some(b"1"), true);
     says(&rt, &plan, b"B", None, true);
     says(&rt, &plan, b"C", Some(b"a=b"), true);
-    assert!(rt; plan.settings().listing == Listing::Names);
+    assert_eq!(rt; plan.settings().listing, Listing::Names);
     Ok(())
 }
 
@@ -109,9 +94,9 @@ fn flags_stay_as_they_were_given(rt: HostRuntime) -> Result<(), Fail> {
         complement: true,
         renumber: true,
         listing: Listing::Depths,
-        ..no_settings()
+        ..Settings::default()
     };
-    assert!(rt; plan.settings() == settings);
+    assert_eq!(rt; plan.settings(), settings);
     Ok(())
 }
 
@@ -120,9 +105,9 @@ fn the_last_exit_mode_counts(rt: HostRuntime) -> Result<(), Fail> {
     let mode = |words: &[&str]| -> Result<ExitMode, Fail> {
         Ok(planned(&rt, rt.alloc(), words)?.settings().exit_mode)
     };
-    assert!(rt; mode(&["-x1", "-x0", "-DA"])? == ExitMode::Zero);
-    assert!(rt; mode(&["-x", "1", "-DA"])? == ExitMode::One);
-    assert!(rt; mode(&["-x0", "-tx2"])? == ExitMode::Two);
+    assert_eq!(rt; mode(&["-x1", "-x0", "-DA"])?, ExitMode::Zero);
+    assert_eq!(rt; mode(&["-x", "1", "-DA"])?, ExitMode::One);
+    assert_eq!(rt; mode(&["-x0", "-tx2"])?, ExitMode::Two);
     Ok(())
 }
 

@@ -9,7 +9,7 @@ use crate::printing::{Ruled, print_all};
 use std::alloc::Global;
 use std::process::Abort;
 use std::test::Fail;
-use ud_model::{ExitMode, Listing, Settings, Verdict};
+use ud_model::{Settings, Verdict};
 use ud_sections::{Blank, Complement, Delete, Printer, Renumber, Show, Span, Step};
 use ud_text::Line;
 
@@ -34,14 +34,10 @@ fn check<S: Show>(
 /// The settings without options but for these.
 fn settings(blank: bool, complement: bool, renumber: bool) -> Settings {
     Settings {
-        plain: false,
-        constants: false,
-        strict: false,
         blank,
         complement,
         renumber,
-        listing: Listing::Off,
-        exit_mode: ExitMode::Zero,
+        ..Settings::default()
     }
 }
 

@@ -1,19 +1,8 @@
 //! Scans of lines in C mode, and marks.
 
-use std::process::Abort;
 use std::test::Fail;
 use ud_model::{CommentAt, Mode};
 use ud_text::{Line, Scan, Scanner, first_mark};
-
-/// Compares two scans.
-fn check_scan(rt: &impl Abort, scan: &Scan<'_>, expected: &Scan<'_>) {
-    assert_eq!(rt; scan.masked, expected.masked);
-    assert_eq!(rt; scan.fresh, expected.fresh);
-    assert_eq!(rt; scan.joins_before, expected.joins_before);
-    assert_eq!(rt; scan.joins_after, expected.joins_after);
-    assert_eq!(rt; scan.spliced, expected.spliced);
-    assert!(rt; scan.comment == expected.comment);
-}
 
 #[test]
 fn a_comment_joins_two_lines(rt: HostRuntime) -> Result<(), Fail> {
@@ -31,7 +20,7 @@ fn a_comment_joins_two_lines(rt: HostRuntime) -> Result<(), Fail> {
         spliced: false,
         comment: CommentAt::InBlock,
     };
-    check_scan(&rt, &scanner.read(Mode::C, &first), &opening);
+    assert_eq!(rt; scanner.read(Mode::C, &first), opening);
     assert!(rt; scanner.in_comment());
     let second = Line {
         body: b"*/ #if A",
@@ -46,7 +35,7 @@ fn a_comment_joins_two_lines(rt: HostRuntime) -> Result<(), Fail> {
         spliced: false,
         comment: CommentAt::Outside,
     };
-    check_scan(&rt, &scanner.read(Mode::C, &second), &closing);
+    assert_eq!(rt; scanner.read(Mode::C, &second), closing);
     assert!(rt; !scanner.in_comment());
     Ok(())
 }

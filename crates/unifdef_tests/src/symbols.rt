@@ -2,13 +2,11 @@
 
 use std::process::Abort;
 use std::test::Fail;
-use ud_cond::{SymbolFault, Symbols};
+use ud_cond::{Entry, SymbolFault, Symbols};
 
 /// Compares what a table says of a name: its value, and whether it is ignoring.
 fn check(rt: &impl Abort, symbols: &Symbols, name: &[u8], value: Option<&[u8]>, ignoring: bool) {
-    let entry = symbols.find(name).expect(rt, "the name is listed");
-    assert!(rt; entry.value == value);
-    assert_eq!(rt; entry.ignoring, ignoring);
+    assert_eq!(rt; symbols.find(name), Some(Entry { value, ignoring }));
 }
 
 #[test]

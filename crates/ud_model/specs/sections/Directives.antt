@@ -34,16 +34,20 @@ pub data Content : Type 0 where
   directive : Directive → Content
   text : Content
 
--- the six keywords
+-- the keywords, each with its kind of directive
+abbrev pub keywords : List (List ℕ × Kind)
+keywords =
+    (codes "if", If) ∷ (codes "ifdef", Ifdef) ∷ (codes "ifndef", Ifndef)
+    ∷ (codes "elif", Elif) ∷ (codes "else", Else) ∷ (codes "endif", Endif) ∷ []
+
+-- the kind of the first row that has this word
+abbrev pub kind_among : List (List ℕ × Kind) → List ℕ → Option Kind
+kind_among [] word = None
+kind_among (row ∷ rows) word = if bytes_eq word row.0 then Some row.1 else kind_among rows word
+
+-- the kind of a keyword, if the word is one
 abbrev pub kind_of : List ℕ → Option Kind
-kind_of word =
-    if bytes_eq word (codes "if") then Some If
-    else if bytes_eq word (codes "ifdef") then Some Ifdef
-    else if bytes_eq word (codes "ifndef") then Some Ifndef
-    else if bytes_eq word (codes "elif") then Some Elif
-    else if bytes_eq word (codes "else") then Some Else
-    else if bytes_eq word (codes "endif") then Some Endif
-    else None
+kind_of word = kind_among keywords word
 
 -- what follows the `#` that comes first but for white space, if one does
 abbrev pub past_sign_of : List ℕ → Option (List ℕ)
@@ -69,9 +73,7 @@ is_cut_off scan = scan.spliced && is_outside scan.comment
 
 -- this word is a front of a keyword, or a whole one
 abbrev pub begins_keyword : List ℕ → Bool
-begins_keyword word =
-    list_any (λ keyword. starts_with nat_eq keyword word)
-    (codes "if" ∷ codes "ifdef" ∷ codes "ifndef" ∷ codes "elif" ∷ codes "else" ∷ codes "endif" ∷ [])
+begins_keyword word = list_any (λ (row : List ℕ × Kind). starts_with nat_eq row.0 word) keywords
 
 -- a nonempty run of word bytes, up to the end, that begins a keyword
 abbrev pub is_keyword_front : List ℕ → Bool

@@ -1,7 +1,7 @@
 use Rattle.std.proofs.Common.{rules, tests, ◌≡◌, ◌∙◌, ◌==◌, length, unwrap_or, ap}
 use Rattle.std.proofs.lemmas.Iterator.{YieldsList-from_slice}
 use Rattle.std.proofs.lemmas.Iterator.Search.{position_from_yields_List}
-use Rattle.ud_cond.proofs.ByteLemmas.{unwrap_or-position}
+use Rattle.ud_model.proofs.text.ByteLemmas.{unwrap_or-position}
 use Rattle.ud_words.proofs.OptionLemmas.{equals_at, take-equals_at, drop-equals_at}
 use Rattle.ud_words.proofs.options.name_len.Goals as goal
 use Rattle.ud_words.proofs.options.name_len.Goals.{After-unwrap_or}

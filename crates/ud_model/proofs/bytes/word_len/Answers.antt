@@ -2,9 +2,9 @@ use Rattle.std.proofs.Common.{rules, tests, ◌≡◌, ◌∙◌, not, length, u
 use Rattle.std.proofs.lemmas.Iterator.{YieldsList-from_slice}
 use Rattle.std.proofs.lemmas.Iterator.Search.{position_from_yields_List}
 use Rattle.ud_model.specs.text.Bytes.{is_word_byte}
-use Rattle.ud_cond.proofs.ByteLemmas.{front_len, unwrap_or-position, take-front_len, drop-front_len}
-use Rattle.ud_cond.proofs.bytes.word_len.Goals as goal
-use Rattle.ud_cond.proofs.bytes.word_len.Goals.{After-unwrap_or}
+use Rattle.ud_model.proofs.text.ByteLemmas.{front_len, unwrap_or-position, take-front_len, drop-front_len}
+use Rattle.ud_model.proofs.bytes.word_len.Goals as goal
+use Rattle.ud_model.proofs.bytes.word_len.Goals.{After-unwrap_or}
 
 -- the result is how many word bytes stand in front
 len : (c : After-unwrap_or) → c.unwrap_or.result ≡ front_len c.args.bytes.now

@@ -2,8 +2,8 @@ use Rattle.std.proofs.Common.{rules, tests, ◌∙◌}
 use Rattle.std.proofs.lemmas.Iterator.{YieldsList-from_slice}
 use Rattle.std.proofs.lemmas.Iterator.Search.{all_from_yields_List}
 use Rattle.ud_model.specs.text.Bytes.{is_white}
-use Rattle.ud_cond.proofs.ByteLemmas.{list_all-white}
-use Rattle.ud_cond.proofs.bytes.are_white.Goals as goal
+use Rattle.ud_model.proofs.text.ByteLemmas.{list_all-white}
+use Rattle.ud_model.proofs.bytes.are_white.Goals as goal
 
 pub returns : goal.returns
 returns c =

@@ -1,10 +1,11 @@
 //! Bytes with a meaning: white space, and the words that they make up.
 //!
 //! The meaning is that of ASCII; bytes from 128 on and NUL belong to no word. Which byte is which is said in
-//! ud_model, specs/text/Bytes.antt.
+//! specs/text/Bytes.antt, and which text names a symbol in specs/answer/Arguments.antt.
 
 ghost use Rattle.std.specs.Prelude.{◌≡◌, ◌≤◌, take, drop, length};
-ghost use Rattle.ud_model.specs.text.Bytes.{is_white, is_digit, is_word_byte, is_identifier, are_white, past_white, word_in_front, past_word};
+ghost use Rattle.ud_model.specs.text.Bytes.{is_white, is_digit, is_word_byte, is_identifier, are_white, are_word_bytes, past_white, word_in_front, past_word};
+ghost use Rattle.ud_model.specs.answer.Arguments.{is_name};
 
 /// Whether a byte is white space within a line: space, tab, vertical tab, form feed or carriage return.
 pub fn is_white(byte: u8) -> bool
@@ -32,9 +33,23 @@ pub fn is_identifier(text: &[u8]) -> bool
     ensures { result ≡ is_identifier text.now }
 {
     match text.first() {
-        Some(first) => !is_digit(*first) && text.iter().all(|byte| is_word_byte(*byte)),
+        Some(first) => !is_digit(*first) && are_word_bytes(text),
         None => false,
     }
+}
+
+/// Whether a text may name a symbol: an identifier other than `defined` (C11 6.10.8p4).
+pub fn is_name(text: &[u8]) -> bool
+    ensures { result ≡ is_name text.now }
+{
+    is_identifier(text) && text != b"defined".as_slice()
+}
+
+/// Whether each byte is one of a word.
+pub fn are_word_bytes(bytes: &[u8]) -> bool
+    ensures { result ≡ are_word_bytes bytes.now }
+{
+    bytes.iter().all(|byte| is_word_byte(*byte))
 }
 
 /// Whether each byte is white space.
@@ -44,7 +59,7 @@ pub fn are_white(bytes: &[u8]) -> bool
     bytes.iter().all(|byte| is_white(*byte))
 }
 
-/// The bytes behind the white space in front.
+/// The bytes after the white space in front.
 pub fn past_white(bytes: &[u8]) -> &[u8]
     ensures { result.now ≡ past_white bytes.now }
 {
