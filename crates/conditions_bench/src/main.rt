@@ -61,7 +61,7 @@ fn main(rt: HostRuntime) -> io::Result<()> {
     )
 }
 
-/// The words behind the first two.
+/// The words after the first two.
 fn names_in(words: &[String]) -> &[String] {
     if words.len() < 2 { &[] } else { &words[2..] }
 }

@@ -20,7 +20,7 @@ pub record HasLines (o : Options) (r : Reader) (ls : List Line) : Type 0 where
   pub unrefused : refusal r.machine ≡ None
   pub carries : Carries r.scanner (map reading_of items)
 
--- the line behind these is the faulty one of every longer text
+-- the line after these is the faulty one of every longer text
 abbrev pub Faulty : Options → List Line → Line → SectionFault → Type 0
 Faulty o ls l f = (xs : List (Item Reading)) × (t : Tree Reading) × ((later : List Line) → StopsAt o (ls ++ l ∷ later) xs t (fault_of f))
 

@@ -57,7 +57,7 @@ module _ {A : Type 0} (m : Meaning A) where
   parses-infix text o rest e p s b =
       reads-found m (needs s) text (operator o) rest e ∙ ap (λ t. reads m (if t then needs (before o ∷ s) else stuck) rest) p ∙ reads-stuck m rest
 
-  -- behind `defined`
+  -- after `defined`
   pub parses-defined : (text rest : List ℕ) (v : A) (end : List ℕ) → next_token text ≡ found defined rest → Asked m rest v end → Parsed m 10 text v end
   parses-defined text rest v end e asked = record {
     same = λ s b. reads-found m (needs s) text defined rest e ∙ asked.same s;
@@ -68,7 +68,7 @@ module _ {A : Type 0} (m : Meaning A) where
   pub parses-defined-none : (text rest : List ℕ) → next_token text ≡ found defined rest → Asks m rest None → Parses m 10 text None
   parses-defined-none text rest e none s b = reads-found m (needs s) text defined rest e ∙ none s
 
-  -- what stands behind `defined` is what is read
+  -- what stands after `defined` is what is read
   pub parses-defined-as : (text rest : List ℕ) (r : Option (A × List ℕ)) → next_token text ≡ found defined rest → Asks m rest r → Parses m 10 text r
   parses-defined-as text rest None e none = parses-defined-none text rest e none
   parses-defined-as text rest (Some r) e asked = parses-defined text rest r.0 r.1 e asked
@@ -88,7 +88,7 @@ module _ {A : Type 0} (m : Meaning A) where
   take_before o v s (found opening rest) = refl
   take_before o v s (found closing rest) = refl
 
-  -- behind a prefix operator
+  -- after a prefix operator
   pub parses-prefix : (text : List ℕ) (o : Operator) (rest : List ℕ) (v : A) (end : List ℕ) → next_token text ≡ found (operator o) rest → is_prefix o ≡ true →
       Parsed m 10 rest v end → Parsed m 10 text (m.unary o v) end
   parses-prefix text o rest v end e p parsed = record {
@@ -172,7 +172,7 @@ module _ {A : Type 0} (m : Meaning A) where
   infix_if true p o a v s rest h = ap (λ r. reads m (wait m p r) rest) (take_if (leb (level p) (level o)) (level p) o a v s (h refl))
   infix_if false p o a v s rest h = refl
 
-  -- an operator that waits takes its right operand, where no tighter one follows
+  -- an operator that waits takes its right operand, if no tighter one follows
   take_left : (o : Operator) (j : ℕ) (a v : A) (s : List (Frame A)) (x : Next) → j ≡ level o → Stops (j + 1) x → reads_on m (has v (left o a ∷ s)) x ≡ reads_on m (has (m.binary o a v) s) x
   take_left o j a v s at_end i l = ap (alone m) (take_if (leb 0 (level o)) 0 o a v s (le-leb 0 (level o) (omega arith)))
   take_left o j a v s unreadable i l = refl
@@ -228,7 +228,7 @@ module _ {A : Type 0} (m : Meaning A) where
   neither s (found opening rest) e f = absurd (none-some rest (sym f))
   neither s (found closing rest) e f = reads-stuck m rest
 
-  -- no name and no parenthesis behind `defined`
+  -- no name and no parenthesis after `defined`
   pub asks-neither : (text : List ℕ) → plain_name (next_token text) ≡ None → behind_opening (next_token text) ≡ None → Asks m text None
   asks-neither text e f s = reads-on m (asks s) text ∙ neither s (next_token text) e f
 
@@ -257,12 +257,12 @@ module _ {A : Type 0} (m : Meaning A) where
   endless n s (found opening rest) e = reads-stuck m rest
   endless n s (found closing rest) e = absurd (none-some rest (sym e))
 
-  -- the parenthesis doesn't close behind the name
+  -- the parenthesis doesn't close after the name
   pub asks-endless : (text inside n end : List ℕ) → next_token text ≡ found opening inside → next_token inside ≡ found (name n false) end → behind_closing (next_token end) ≡ None → Asks m text None
   asks-endless text inside n end e f g s =
       reads-found m (asks s) text opening inside e ∙ reads-found m (asks_inside s) inside (name n false) end f ∙ reads-on m (asks_end n s) end ∙ endless n s (next_token end) g
 
-  -- a whole text is an expression and nothing behind it
+  -- a whole text is an expression and nothing after it
   pub whole-some : (text : List ℕ) (v : A) (rest : List ℕ) → Parsed m 1 text v rest → next_token rest ≡ at_end → reads m (needs []) text ≡ Some v
   whole-some text v rest parsed e = parsed.same [] tt ∙ reads-on m (has v []) rest ∙ ap (reads_on m (has v [])) e
 

@@ -59,7 +59,7 @@ some_map f (Some x) = refl
 pub reads-some : {A : Type 0} (m : Meaning A) (text : List ℕ) → is_some (reads m (needs []) text) ≡ is_some (expression_of text)
 reads-some m text = ap is_some (reads_meaning m text) ∙ some_map (meaning m) (expression_of text)
 
--- the names of a text are that of the token in front, if it is one, and those of the text behind it
+-- the names of a text are that of the token in front, if it is one, and those of the text after it
 pub record Steps (text : List ℕ) (t : Token) (rest : List ℕ) : Type 0 where
   pub names : names_in_text text ≡ option_to_list (name_in t) ++ names_in_text rest
   pub whole : is_some (tokens_of rest) ≡ true

@@ -1,10 +1,10 @@
--- Reading a text token by token: each token has a byte at least, and the text behind it goes on in the state that it makes.
+-- Reading a text token by token: each token has a byte at least, and the text after it goes on in the state that it makes.
 use Rattle.std.proofs.Common.{◌≡◌, ℕ, zero, suc, ◌<◌, List, [], ◌∷◌, length, Option, Some, None, option_map, refl, ◌∙◌, ap, arith}
 use Rattle.ud_model.specs.conditions.Tokens.{Token, Next, at_end, unreadable, found, next_token}
 use Rattle.ud_model.specs.aids.Parsing.{Meaning, State, stuck, step, finish, run, run_all, cut, tokens_in, tokens_of, reads}
 use Rattle.ud_model.proofs.conditions.TokenLemmas.{shorter}
 
--- what is left behind a token has fewer bytes than this
+-- what is left after a token has fewer bytes than this
 abbrev pub Leaves : ℕ → Next → Type 0
 Leaves n at_end = Unit {0}
 Leaves n unreadable = Unit {0}
@@ -27,7 +27,7 @@ tokens_in-enough (suc n) (suc k) text l m =
     cut_same (length text) (λ rest. tokens_in n rest) (λ rest. tokens_in k rest) (next_token text) (leaves_by text (next_token text) refl)
     (λ rest short. tokens_in-enough n k rest (omega arith) (omega arith))
 
--- the tokens of a text are the first one and those of the text behind it
+-- the tokens of a text are the first one and those of the text after it
 pub tokens_of-cut : (text : List ℕ) → tokens_of text ≡ cut tokens_of (next_token text)
 unfolding tokens_of
 tokens_of-cut text =
@@ -64,7 +64,7 @@ module _ {A : Type 0} (m : Meaning A) where
   run_all-stuck None = refl
   run_all-stuck (Some ts) = run-stuck ts
 
-  -- behind tokens with which no expression begins there is none
+  -- after tokens with which no expression begins there is none
   pub reads-stuck : (text : List ℕ) → reads m stuck text ≡ None
   unfolding reads
   reads-stuck text = run_all-stuck (tokens_of text)

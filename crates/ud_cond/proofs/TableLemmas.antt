@@ -5,7 +5,7 @@ use Rattle.std.proofs.lemmas.Slice.Eq.{bytes_eq-Decides}
 use Rattle.ud_model.specs.conditions.Table.{Argument, Entry, entry_from, entry_in}
 use Rattle.ud_cond.specs.Standing.{StandsFor, Changes, NoneFrom, IsLastRow, nobody}
 
--- one call more, behind the others
+-- one call more, after the others
 pub entry_from-push : (e : Option Entry) (rows : List Argument) (a : Argument) (name : List ℕ) → entry_from e (rows ++ a ∷ []) name ≡ (if bytes_eq a.name name then Some a.entry else entry_from e rows name)
 entry_from-push e [] a name = refl
 entry_from-push e (r ∷ rows) a name = entry_from-push (if bytes_eq r.name name then Some r.entry else e) rows a name
@@ -36,7 +36,7 @@ entry_from-last e (r ∷ rows) (suc i) name last =
     entry_from-last (if bytes_eq r.name name then Some r.entry else e) rows i name
     (record { within = let w : suc i < length (r ∷ rows) = last.within in omega arith; named = last.named; last = λ k low high. last.last (suc k) (omega arith) (omega arith) })
 
--- a row in front that is changed, where no other one names it
+-- a row in front that is changed, if no other one names it
 changed_front : (t : Bool) (e : Option Entry) (new old : Entry) (rows : List Argument) (name : List ℕ) → (t ≡ true → NoneFrom rows 0 name) → entry_from (if t then Some new else e) rows name ≡ (if t then Some new else entry_from (if t then Some old else e) rows name)
 changed_front true e new old rows name none = entry_from-none (Some new) rows name (none refl)
 changed_front false e new old rows name none = refl

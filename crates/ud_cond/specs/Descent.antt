@@ -1,10 +1,10 @@
 -- Descent: what is read from the front of a text, whatever waits for it.
 -- ud_model, specs/aids/Parsing.antt, says what a text means in a state. An operand that is read here means the same there: the
--- state that needs an operand comes to the state that has it, behind fewer bytes.
+-- state that needs an operand comes to the state that has it, after fewer bytes.
 --
 --   Stops k next           no operator of level k or tighter comes next
 --   Parses m k text r      r is an operand of level k in front of the text and what follows it; or there is none
---   Asks m text r          r is a name behind `defined` and what follows it; or there is none
+--   Asks m text r          r is a name after `defined` and what follows it; or there is none
 use Rattle.std.specs.Prelude.{◌≡◌, ℕ, ◌<◌, false, List, length, Option, Some, None}
 use Rattle.ud_model.specs.conditions.Tokens.{name, operator, opening, closing, Next, found, next_token}
 use Rattle.ud_model.specs.conditions.Expressions.{level}

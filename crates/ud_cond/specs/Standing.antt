@@ -16,7 +16,7 @@ StandsFor table calls = (name : List ℕ) → entry_in table name ≡ entry_in c
 abbrev pub Changes : List Argument → List Argument → Argument → Type 0
 Changes old new a = (name : List ℕ) → entry_in new name ≡ (if bytes_eq a.name name then Some a.entry else entry_in old name)
 
--- an argument that stands where there is none
+-- an argument that stands if there is none
 abbrev pub nobody : Argument
 nobody = record { name = []; entry = record { value = None; ignoring = false } }
 

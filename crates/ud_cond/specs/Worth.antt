@@ -55,7 +55,7 @@ abbrev pub rows_in : Option (Bor (List Argument)) → List Argument
 rows_in None = []
 rows_in (Some symbols) = symbols.now
 
--- the table of a scope, which says nothing where there is none
+-- the table of a scope, which says nothing if there is none
 abbrev pub table_in : Scope → List Argument
 table_in s = rows_in s.symbols
 

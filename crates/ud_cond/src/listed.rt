@@ -93,7 +93,7 @@ fn name_in(token: Token<'_>) -> Option<&[u8]>
     }
 }
 
-/// The first name of a text that is tokens to its end, and the text behind it.
+/// The first name of a text that is tokens to its end, and the text after it.
 fn next_name(text: &[u8]) -> Option<(&[u8], &[u8])>
     requires { is_some (tokens_of text.now) ≡ true }
     ensures none { IfNone result (names_in_text text.now ≡ []) }

@@ -85,7 +85,7 @@ fn next_operator(text: &[u8]) -> Option<(Operator, &[u8])>
     }
 }
 
-/// What a `defined` is worth by the name behind it, in parentheses or not, and what follows the name.
+/// What a `defined` is worth by the name after it, in parentheses or not, and what follows the name.
 fn definition<'a>(scope: &Scope<'_>, text: &'a [u8]) -> Option<(Value, &'a [u8])>
     ensures { Asks (worth_in scope.now) text.now (option_map (λ r. (r.0, r.1.now)) result) }
 {
@@ -100,7 +100,7 @@ fn definition<'a>(scope: &Scope<'_>, text: &'a [u8]) -> Option<(Value, &'a [u8])
     }
 }
 
-/// What the operand in front is worth, and what follows it; `None` where no expression begins so.
+/// What the operand in front is worth, and what follows it; `None` if no expression begins so.
 #[cycle(descent)]
 fn operand<'a>(scope: &Scope<'_>, text: &'a [u8]) -> Option<(Value, &'a [u8])>
     ensures { Parses (worth_in scope.now) 10 text.now (option_map (λ r. (r.0, r.1.now)) result) }
@@ -128,7 +128,7 @@ fn operand<'a>(scope: &Scope<'_>, text: &'a [u8]) -> Option<(Value, &'a [u8])>
     }
 }
 
-/// What the operand of a level in front is worth, from 1 to 10, and what follows it; `None` where no expression begins so.
+/// What the operand of a level in front is worth, from 1 to 10, and what follows it; `None` if no expression begins so.
 #[cycle(descent)]
 fn expression<'a>(scope: &Scope<'_>, least: u8, text: &'a [u8]) -> Option<(Value, &'a [u8])>
     requires { (1 ≤ least) × (least ≤ 10) }

@@ -101,7 +101,7 @@ impl Symbols {
     ///
     /// # Errors
     /// In this order: `BadName` where the name isn't an identifier or is `defined` (C11 6.10.8p4), before memory is
-    /// taken; `OutOfMemory` where memory is refused. The table stays as it was.
+    /// taken; `OutOfMemory` if memory is refused. The table stays as it was.
     pub fn define(&mut self, name: &[u8], value: &[u8], ignoring: bool) -> Result<(), SymbolFault>
         ensures ok { OnOk result (Changes self.old self.new (said name.now (Some value.now) ignoring)) }
         ensures stands { OnOk result ((calls : List Argument) → StandsFor self.old calls → StandsFor self.new (calls ++ said name.now (Some value.now) ignoring ∷ [])) }
@@ -115,7 +115,7 @@ impl Symbols {
     ///
     /// # Errors
     /// In this order: `BadName` where the name isn't an identifier or is `defined` (C11 6.10.8p4), before memory is
-    /// taken; `OutOfMemory` where memory is refused. The table stays as it was.
+    /// taken; `OutOfMemory` if memory is refused. The table stays as it was.
     pub fn undefine(&mut self, name: &[u8], ignoring: bool) -> Result<(), SymbolFault>
         ensures ok { OnOk result (Changes self.old self.new (said name.now None ignoring)) }
         ensures stands { OnOk result ((calls : List Argument) → StandsFor self.old calls → StandsFor self.new (calls ++ said name.now None ignoring ∷ [])) }
@@ -125,7 +125,7 @@ impl Symbols {
         self.say(name, None, ignoring)
     }
 
-    /// What the last accepted call for a name said of it; `None` where no call named it.
+    /// What the last accepted call for a name said of it; `None` if no call named it.
     pub fn find(&self, name: &[u8]) -> Option<Entry<'_>>
         ensures value { option_map as_entry result ≡ entry_in self.now name.now }
         ensures stands { (calls : List Argument) → StandsFor self.now calls → option_map as_entry result ≡ entry_in calls name.now }

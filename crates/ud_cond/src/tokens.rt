@@ -17,7 +17,7 @@ use ud_model::bytes::{is_digit, is_word_byte, past_white, word_len};
 pub(crate) enum Token<'a> {
     /// An integer constant.
     Number(&'a [u8]),
-    /// An identifier other than `defined`, and whether arguments stand behind it.
+    /// An identifier other than `defined`, and whether arguments stand after it.
     Name(&'a [u8], bool),
     /// `defined`
     Defined,
@@ -36,7 +36,7 @@ pub(crate) enum Next<'a> {
     AtEnd,
     /// No token.
     Unreadable,
-    /// A token, and the text behind it.
+    /// A token, and the text after it.
     Found(Token<'a>, &'a [u8]),
 }
 
@@ -54,7 +54,7 @@ pub(crate) fn behind(count: usize, text: &[u8]) -> &[u8]
     text.get(count..).unwrap_or(&[])
 }
 
-/// What stands behind the `)` that closes a parenthesis, of which what is inside comes first.
+/// What stands after the `)` that closes a parenthesis, of which what is inside comes first.
 fn behind_closing(text: &[u8]) -> Option<&[u8]>
     ensures { option_map (λ rest. rest.now) result ≡ spec.behind_closing 0 text.now }
 {
@@ -74,7 +74,7 @@ fn behind_closing(text: &[u8]) -> Option<&[u8]>
     None
 }
 
-/// A name, and the arguments behind it if a `(` comes next.
+/// A name, and the arguments after it if a `(` comes next.
 fn name_token<'a>(word: &'a [u8], rest: &'a [u8]) -> Next<'a>
     ensures { as_next result ≡ spec.name_token word.now rest.now }
 {
@@ -164,7 +164,7 @@ fn sign_token(byte: u8, rest: &[u8]) -> Next<'_>
     }
 }
 
-/// The token at the front of a text, and the text behind it.
+/// The token at the front of a text, and the text after it.
 #[tactic(auto, unfolding(ud_model::specs::conditions::Tokens::next_token))]
 pub(crate) fn next_token(text: &[u8]) -> Next<'_>
     ensures { as_next result ≡ spec.next_token text.now }

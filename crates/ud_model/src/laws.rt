@@ -48,7 +48,7 @@ pub fn law_cut()
     ensures cells { (text : List ℕ) → (pieces : List Piece) → IsCut pieces text → cells_of pieces ≡ cut text }
 {}
 
-/// A line is seen by its logical line alone: behind a line that has an ending and doesn't join the next one, lines are
+/// A line is seen by its logical line alone: after a line that has an ending and doesn't join the next one, lines are
 /// seen as if no line stood before them.
 pub fn law_scan_alone()
     ensures line { (front : List Reading) → (group : List Reading) → (m : Mode) → (n : Mode) → (last : Line) → (l : Line) → (scan_after front m last).joins_after ≡ false → last.ending ≢ [] → scan_after ((front ++ next_reading front m last ∷ []) ++ group) n l ≡ scan_after group n l }
@@ -88,7 +88,7 @@ pub fn law_each_line()
     ensures levels { (t : Tree Reading) → length (levels t) ≡ length (lines t) }
 {}
 
-/// A line has one fault at most, and none where no case holds.
+/// A line has one fault at most, and none if no case holds.
 pub fn law_one_fault()
     ensures one { (xs : List (Item Reading)) → (x : Item Reading) → (f : Fault) → (g : Fault) → FaultOf xs x f → FaultOf xs x g → f ≡ g }
     ensures none { (xs : List (Item Reading)) → (x : Item Reading) → (f : Fault) → NoneHolds xs x cases → FaultOf xs x f → ⊥ }
@@ -151,7 +151,7 @@ pub fn law_one_expression()
     ensures written { (text : List ℕ) → (e : Expression) → expression_of text ≡ Some e → IsWritten text e }
 {}
 
-/// The condition and the names of an `#if` or `#elif` are those of the tree for which its text is written; where there is
+/// The condition and the names of an `#if` or `#elif` are those of the tree for which its text is written; if there is
 /// none, the condition is unknown and there are no names.
 pub fn law_expression_cond()
     ensures cond { (text : List ℕ) → (e : Expression) → (table : List Argument) → (rules : Rules) → IsWritten text e → expression_cond text table rules ≡ tree_cond e table rules }

@@ -8,17 +8,17 @@ pub enum Listing {
     Off,
     /// The names of the conditions (`-s`).
     Names,
-    /// The names, each behind the depth of its section (`-S`).
+    /// The names, each after the depth of its section (`-S`).
     Depths,
 }
 
 /// What the exit status tells of a text without a fault (`-x`).
 #[derive(Clone, Copy, Debug, PartialEq, Eq, Default)]
 pub enum ExitMode {
-    /// 0 where the output is a copy, 1 where some line differs (`-x0`).
+    /// 0 if the output is a copy, 1 if some line differs (`-x0`).
     #[default]
     Zero,
-    /// 1 where the output is a copy, 0 where some line differs (`-x1`).
+    /// 1 if the output is a copy, 0 if some line differs (`-x1`).
     One,
     /// 0 in both cases (`-x2`).
     Two,
@@ -37,7 +37,7 @@ pub struct Settings {
     pub blank: bool,
     /// Lines that would be removed are kept, and the other way round (`-c`).
     pub complement: bool,
-    /// A `#line` directive stands behind deleted lines (`-n`).
+    /// A `#line` directive stands after deleted lines (`-n`).
     pub renumber: bool,
     /// What is listed in place of the text.
     pub listing: Listing,

@@ -11,7 +11,7 @@ pub enum Verdict {
     ToIf,
     /// It is an `#elif` that becomes an `#else`, since its condition is true.
     ToElse,
-    /// It is the opener behind such an `#else`, and becomes the `#endif`.
+    /// It is the opener after such an `#else`, and becomes the `#endif`.
     ToEndif,
 }
 

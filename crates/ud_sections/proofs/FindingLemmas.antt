@@ -1,4 +1,4 @@
--- What stands behind the `#` of a line is no longer than the line.
+-- What stands after the `#` of a line is no longer than the line.
 use Rattle.std.proofs.Common.{◌≡◌, ◌≤◌, ◌==◌, ◌+◌, ◌-◌, ℕ, List, [], ◌∷◌, length, take, drop, Bool, true, false, Some, None, if◌then◌else◌, ap, arith}
 use Rattle.std.proofs.lemmas.List.{length-drop, length-take-le}
 use Rattle.ud_model.specs.text.Bytes.{past_white}
@@ -22,7 +22,7 @@ length-past_sign masked behind rest e is =
     let k : length rest ≡ length (past_white behind) = ap length is in
     omega (arith, sign, before, white, k)
 
--- the bytes before a keyword, its own and those behind it are all that there are
+-- the bytes before a keyword, its own and those after it are all that there are
 pub all_places : (masked rest : List ℕ) (len : ℕ) → length rest ≤ length masked → len ≤ length rest →
     (length masked - length rest) + len + length (take (length rest - len) (drop len rest)) ≡ length masked
 all_places masked rest len within bound =

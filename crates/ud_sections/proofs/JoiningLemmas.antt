@@ -26,7 +26,7 @@ other_front x more y h =
     let front : take (length x) y ≡ x = ap (take (length x)) (sym same) ∙ take-append_seam x more in
     cc (h, (bytes_eq-Decides (take (length x) y) x).1 front))
 
--- A part is split where a body ends: its front lies in the body, and where something is behind it the body has no more.
+-- A part is split where a body ends: its front lies in the body, and where something is after it the body has no more.
 pub record Split (p body front back : List ℕ) : Type 0 where
   pub whole : p ≡ front ++ back
   pub within : length front ≤ length body
@@ -111,7 +111,7 @@ no_part = record { ref_ptr = (0, 0); now = [] }
 abbrev pub bytes_of : List (Bor (List ℕ)) → List ℕ
 bytes_of ps = flat_map (λ (p : Bor (List ℕ)). p.now) ps
 
--- so many parts, empty ones where there are no more
+-- so many parts, empty ones if there are no more
 abbrev firsts : ℕ → List (Bor (List ℕ)) → List (Bor (List ℕ))
 firsts zero ps = []
 firsts (suc k) [] = no_part ∷ firsts k []

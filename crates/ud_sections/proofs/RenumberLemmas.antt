@@ -15,7 +15,7 @@ nothing_removed ToIf s l = refl
 nothing_removed ToElse s l = refl
 nothing_removed ToEndif s l = refl
 
--- what a line's step leaves of it, where nothing is left of a removed one
+-- what a line's step leaves of it, if nothing is left of a removed one
 abbrev pub left_of : Judged → List ℕ
 left_of j = if is_removed j.verdict then [] else piece_by j.verdict j.keyword j.line
 
@@ -33,7 +33,7 @@ removed_piece before j e = by_last (last_removed before) refl
     by_last true h = by_number before j true true h e
     by_last false h = by_number before j false true h e
 
--- behind a line that isn't removed none is numbered
+-- after a line that isn't removed none is numbered
 pub following_piece : (before : List Judged) (j : Judged) → last_removed before ≡ false → left_of j ≡ piece_behind renumber_style before j
 following_piece before j h = by_gone (is_removed j.verdict) refl
   where
@@ -41,7 +41,7 @@ following_piece before j h = by_gone (is_removed j.verdict) refl
     by_gone true e = by_number before j false true h e
     by_gone false e = by_number before j false false h e
 
--- a line behind a removed one is numbered
+-- a line after a removed one is numbered
 pub numbered_piece : (before : List Judged) (j : Judged) → last_removed before ≡ true → is_removed j.verdict ≡ false →
     number_line j.line ++ left_of j ≡ piece_behind renumber_style before j
 numbered_piece before j h e = by_number before j true false h e

@@ -1,6 +1,6 @@
 -- Listing: what a lister stands for once the prefix that it lends is given back.
 --
---   StaysSame lister    it lists names behind their depths, or by themselves, as before
+--   StaysSame lister    it lists names after their depths, or by themselves, as before
 use Rattle.std.specs.Prelude.{◌≡◌, Bool}
 use Rattle.std.specs.Borrow.{MutBor, Fml}
 use Rattle.std.specs.Io.BufRead.{Rests}

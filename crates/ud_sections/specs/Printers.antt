@@ -1,7 +1,7 @@
 -- Printers: what the printer that the options ask for stands for, and what it prints.
 --
 --   printer_stands printer before    it was given these lines
---   printer_piece printer before j   what it prints of a line behind these
+--   printer_piece printer before j   what it prints of a line after these
 --
 -- Example: for `-c -n` it is the complement of `Renumber`, and stands for lines where that stands for their complements.
 use Rattle.std.specs.Prelude.{List, ℕ, map}

@@ -3,12 +3,12 @@
 /// Why a text has no right sections.
 #[derive(Clone, Copy, Debug, PartialEq, Eq)]
 pub enum SectionFault {
-    /// An `#elif` outside a section, or behind its `#else`.
+    /// An `#elif` outside a section, or after its `#else`.
     InappropriateElif {
         /// The number of its line.
         line: u32,
     },
-    /// An `#else` outside a section, or behind its `#else`.
+    /// An `#else` outside a section, or after its `#else`.
     InappropriateElse {
         /// The number of its line.
         line: u32,

@@ -16,8 +16,8 @@ use ud_text::Scan;
 /// and a longest run of word bytes that is one of the six keywords (C11 6.10). `None` where it is a text line.
 ///
 /// # Errors
-/// The line goes on, and its keyword can't be known: behind the `#` there is only white space, or a continuation cuts
-/// the line behind a single `/` or behind what may become a keyword.
+/// The line goes on, and its keyword can't be known: after the `#` there is only white space, or a continuation cuts
+/// the line after a single `/` or after what may become a keyword.
 pub fn directive<'a>(scan: &Scan<'a>) -> Result<Option<Directive<'a>>, Cut>
     ensures value { content_found result ≡ content_of (as_scan scan.now) }
     ensures places { IfOk result (λ found. IfSome found (λ d.
@@ -39,7 +39,7 @@ pub(crate) fn is_plainly_text(scan: &Scan<'_>) -> bool
     !scan.fresh || past_sign(scan.masked).is_none()
 }
 
-/// The bytes behind the `#` that comes first but for white space, if one does.
+/// The bytes after the `#` that comes first but for white space, if one does.
 fn past_sign(masked: &[u8]) -> Option<&[u8]>
     ensures { MatchOption result (past_sign masked.now ≡ None) (λ rest. past_sign masked.now ≡ Some rest.now) }
 {
@@ -49,7 +49,7 @@ fn past_sign(masked: &[u8]) -> Option<&[u8]>
     }
 }
 
-/// Whether behind the `#` of a line its keyword can't be known.
+/// Whether after the `#` of a line its keyword can't be known.
 fn has_cut_keyword(scan: &Scan<'_>, behind: &[u8]) -> bool
     ensures { result ≡ has_cut_keyword (as_scan scan.now) (Some behind.now) }
 {
@@ -83,7 +83,7 @@ fn is_keyword_front(text: &[u8]) -> bool
     }
 }
 
-/// The directive whose keyword stands behind the `#` of a line, where the line is fresh.
+/// The directive whose keyword stands after the `#` of a line, where the line is fresh.
 fn found_behind<'a>(scan: &Scan<'a>, behind: &'a [u8]) -> Option<Directive<'a>>
     requires { past_sign scan.now.masked.now ≡ Some behind.now }
     ensures value { directive_or_text result ≡ found_behind (as_scan scan.now) (Some behind.now) }

@@ -10,12 +10,12 @@ pub struct Directive<'a> {
     pub kind: Kind,
     /// Where its keyword lies in the line's body.
     pub keyword: Span,
-    /// The masked bytes behind the keyword.
+    /// The masked bytes after the keyword.
     pub after: &'a [u8],
     /// A continuation cuts the directive: the line is spliced outside comments.
     pub broken: bool,
 }
 
-/// The keyword of a line's directive can't be known, since it may go on behind a continuation.
+/// The keyword of a line's directive can't be known, since it may go on after a continuation.
 #[derive(Clone, Copy, Debug, PartialEq, Eq)]
 pub struct Cut;

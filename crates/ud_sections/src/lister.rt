@@ -19,7 +19,7 @@ const PREFIX_BYTES: usize = 21;
 /// stands before each of them.
 #[derive(Drop)]
 pub struct Lister {
-    /// Whether each name stands behind its depth.
+    /// Whether each name stands after its depth.
     depths: bool,
     /// What stood before the last name.
     text: ArrayVec<u8, PREFIX_BYTES>,
@@ -41,7 +41,7 @@ impl Lister {
     ghost use Rattle.ud_text.specs.Viewing.{as_scan};
     ghost use Rattle.ud_sections.specs.Listing.{StaysSame};
 
-    /// What lists names, each behind its depth, or by itself.
+    /// What lists names, each after its depth, or by itself.
     pub fn new(depths: bool) -> Lister
         ensures { result ≡ depths }
     {

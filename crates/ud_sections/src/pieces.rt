@@ -9,7 +9,7 @@ use crate::step::Step;
 use ud_model::Verdict;
 use ud_text::Line;
 
-/// What is printed of a line: at most five parts, to be written one behind the other.
+/// What is printed of a line: at most five parts, to be written one after the other.
 ///
 /// The parts are lent by the line and by the printer.
 #[derive(Drop)]
@@ -82,7 +82,7 @@ impl<'a> Pieces<'a> {
         }
     }
 
-    /// These parts behind another one, printed in place of a line. There must be room for it.
+    /// These parts after another one, printed in place of a line. There must be room for it.
     pub(crate) fn behind(self, first: &'a [u8], line: &Line<'_>) -> Pieces<'a>
         requires room { count_of self ≤ 4 }
         ensures parts { joined result ≡ first.now ++ joined self.entry }

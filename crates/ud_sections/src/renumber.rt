@@ -1,4 +1,4 @@
-//! Printing the numbers of lines behind removed ones.
+//! Printing the numbers of lines after removed ones.
 
 ghost use Rattle.std.specs.Prelude.{◌≡◌, ◌+◌, ◌≤◌, ◌++◌, length};
 ghost use Rattle.ud_model.specs.answer.Printing.{number_line};
@@ -15,7 +15,7 @@ use ud_text::Line;
 /// The most bytes of a `#line` directive: its keyword, a space, ten digits and an ending.
 const NUMBER_LINE_BYTES: usize = 18;
 
-/// A printer by which removed lines are deleted, and a line behind them has a `#line` with its own number in front
+/// A printer by which removed lines are deleted, and a line after them has a `#line` with its own number in front
 /// (unifdef(1), `-n`; C11 6.10.4).
 #[derive(Drop)]
 pub struct Renumber {
@@ -64,7 +64,7 @@ impl Show for Renumber {
     }
 }
 
-/// Writes the `#line` that stands in front of a line behind removed ones, in place of what was written before.
+/// Writes the `#line` that stands in front of a line after removed ones, in place of what was written before.
 fn write_number_line(bytes: &mut ArrayVec<u8, NUMBER_LINE_BYTES>, line: &Line<'_>)
     ensures { bytes.new.items ≡ number_line (as_line line.now) }
 {

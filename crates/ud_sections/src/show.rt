@@ -21,7 +21,7 @@ pub trait Show: Drop {
     /// The printer was given these lines.
     ghost stands: { Self → List Judged → Type 0 };
 
-    /// The printer's definition: what is printed of a line behind others. It never changes.
+    /// The printer's definition: what is printed of a line after others. It never changes.
     ghost piece: { Self → List Judged → Judged → List ℕ };
 
     /// What is printed of the next line. A directive that is edited has its keyword in the line's body.

@@ -62,7 +62,7 @@ same_front (b ∷ bs) (x ∷ xs) (y ∷ ys) (suc m) (suc n) nf ng d e =
     let q : xs ≡ ys = same_front bs xs ys m n nf.1 ng.1 d' e' in
     cc
 
--- how many bytes end with the line feed behind this front
+-- how many bytes end with the line feed after this front
 front_len : (s f : List ℕ) (n : ℕ) → n ≤ length s → take n s ≡ f ++ 10 ∷ [] → n ≡ length f + 1
 front_len s f n h e =
     let k : length (take n s) ≡ length f + 1 = ap length e ∙ length-append f (10 ∷ []) in

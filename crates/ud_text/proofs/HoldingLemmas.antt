@@ -20,7 +20,7 @@ pub took_whole : (l : Holding) (text : List ℕ) → l.whole ≡ true → (h : T
 took_whole l text whole h =
     subst (λ (w : Bool). parts_of text ≡ (if w then record { whole = h.given ++ l.held ∷ []; rest = [] } else record { whole = h.given; rest = l.held })) whole h.cut
 
--- where the line isn't whole, it is what stands behind the text's last line feed
+-- where the line isn't whole, it is what stands after the text's last line feed
 pub took_part : (l : Holding) (text : List ℕ) → l.whole ≡ false → (h : Took l text) → parts_of text ≡ record { whole = h.given; rest = l.held }
 took_part l text part h =
     subst (λ (w : Bool). parts_of text ≡ (if w then record { whole = h.given ++ l.held ∷ []; rest = [] } else record { whole = h.given; rest = l.held })) part h.cut
@@ -82,7 +82,7 @@ took_before l text part h = h.count ∙ sym (ap (λ (q : Parts). length q.whole)
 pub took_rest : (l : Holding) (text : List ℕ) → l.whole ≡ false → Took l text → open_rest text ≡ l.held
 took_rest l text part h = ap (λ (q : Parts). q.rest) (took_part l text part h)
 
--- with bytes behind it a line has bytes
+-- with bytes after it a line has bytes
 longer : (held piece : List ℕ) (used : ℕ) → used ≤ length piece → 0 < used → 0 < length (held ++ take used piece)
 longer held piece used within some = simp (length-append, length-take) (omega arith)
 

@@ -19,7 +19,7 @@ no_feed_back s zero none = subst NoFeed (take_all (length s) s (omega arith)) (n
 no_feed_back [] (suc n) none = tt
 no_feed_back (b ∷ bs) (suc n) none = no_feed_back bs n (λ k low high. none (suc k) (omega arith) (omega arith))
 
--- where no line feed is found, the last line begins at the start
+-- if no line feed is found, the last line begins at the start
 pub last_begins-none : (s : List ℕ) → Nowhere (Passes (is_byte line_feed) s) 0 (length s) → LastBegins s 0
 last_begins-none s h = record { within = omega arith; begins = at_start; one_line = no_feed_back s 0 h }
 

@@ -199,7 +199,7 @@ module _ {start : State} {bytes : List ℕ} {line : ℕ} {kept : State} {base : 
         (subst (λ (x : State). NoComment x.place (take k (drop at bytes))) (sym plain_leads) t.no_comment);
   }
 
-  -- further bytes are read up to the beginning of a line, where there is a new base
+  -- further bytes are read up to the beginning of a line, if there is a new base
   pub read_line : (k : ℕ) → k ≤ length (drop at bytes) → LineSpan r.now_white (take k (drop at bytes)) → ReadOutside start bytes line kept (at + k) true (at + k)
   read_line k h t = read_base true (λ e. refl)
       (read_on r.so_far k (take k (drop at bytes)) refl h t.quiet t.no_feed (text_state true) t.leads)

@@ -108,7 +108,7 @@ no_mark_before (b ∷ bytes) = by_mark (is_mark b) (position_or_len is_mark byte
     by_mark true n e h = tt
     by_mark false n e h = let P : ℕ → Type 0 = λ k. NoMark (take k (b ∷ bytes)) in subst P (sym (one-add n)) (e, h)
 
--- the bytes in front of some place have no star where none stands before that
+-- the bytes in front of some place have no star if none stands before that
 pub no_star_before : (bytes : List ℕ) (k : ℕ) → ((j : ℕ) → j < k → (get_or bytes j 0 == star) ≡ true → ⊥) → NoStar (take k bytes)
 no_star_before bytes zero none = tt
 no_star_before [] (suc k) none = tt
@@ -135,7 +135,7 @@ no_feed-take zero bytes h = tt
 no_feed-take (suc k) [] h = tt
 no_feed-take (suc k) (b ∷ bytes) h = (h.0, no_feed-take k bytes h.1)
 
--- bytes without a line feed have none behind
+-- bytes without a line feed have none after
 pub no_feed-drop : (k : ℕ) (bytes : List ℕ) → NoFeed bytes → NoFeed (drop k bytes)
 no_feed-drop zero bytes h = h
 no_feed-drop (suc k) [] h = tt

@@ -5,7 +5,7 @@
 --   ends_in_block before     a block comment is unclosed at the end of the last of these readings
 --
 -- A reader needs no more of `Carries` than the clauses of the scanner say: a new scanner stands for no readings; one that
--- reads a line stands for one reading more, and gives the scan of the line behind the readings.
+-- reads a line stands for one reading more, and gives the scan of the line after the readings.
 --
 -- Example: a scanner that has read the line `x /* c` in C mode carries that the text leaves off in a block comment, and
 -- that the line joins the next one.

@@ -7,7 +7,7 @@
 --   IsComplete lines              a line can be read
 --   IsLastLine text line          the line is the last one of the text
 --
--- Example: behind "a\nb" with the first line given up, "b" is held and 1 line stands before it.
+-- Example: after "a\nb" with the first line given up, "b" is held and 1 line stands before it.
 use Rattle.std.specs.Prelude.{◌≡◌, ℕ, ◌+◌, ◌<◌, ◌≤◌, List, [], ◌∷◌, ◌++◌, length, take, Bool, true, false, Option, Some, if◌then◌else◌, ◌⊎◌}
 use Rattle.ud_model.specs.text.Lines.{NoFeed, parts_of, Line, lines_of}
 use Rattle.ud_model.specs.declared.limits.TheConstants.{LINE_BYTES}
@@ -30,7 +30,7 @@ pub record Took (lines : Holding) (text : List ℕ) : Type 0 where
   pub cut : parts_of text ≡ (if lines.whole then record { whole = given ++ lines.held ∷ []; rest = [] } else record { whole = given; rest = lines.held })
   pub count : lines.before ≡ length given
 
--- the bytes up to the first line feed, which is the last of them, or all where there is none
+-- the bytes up to the first line feed, which is the last of them, or all if there is none
 pub record UpToFeed (piece : List ℕ) (used : ℕ) (whole : Bool) : Type 0 where
   pub within : used ≤ length piece
   pub all : whole ≡ false → (used ≡ length piece) × NoFeed piece
@@ -40,7 +40,7 @@ pub record UpToFeed (piece : List ℕ) (used : ℕ) (whole : Bool) : Type 0 wher
 abbrev pub refused_with : Holding → TextFault → Holding
 refused_with lines fault = record lines { refusal = Some fault }
 
--- the piece passes a limit: it has a byte for a line behind the last one, or else more bytes of the line than fit
+-- the piece passes a limit: it has a byte for a line after the last one, or else more bytes of the line than fit
 abbrev pub Refuses : Holding → List ℕ → TextFault → Type 0
 Refuses lines piece (TooManyLines line) =
     (line ≡ lines.before + 1) × (lines.last_line ≤ lines.before) × ((used : ℕ) × (whole : Bool) × UpToFeed piece used whole × (0 < used))
@@ -48,7 +48,7 @@ Refuses lines piece (LineTooLong line) =
     (line ≡ lines.before + 1) × (lines.before < lines.last_line)
     × ((used : ℕ) × (whole : Bool) × UpToFeed piece used whole × (LINE_BYTES < length lines.held + used))
 
--- a line can be read: it has its line feed, or the text has ended and has bytes behind its last line feed
+-- a line can be read: it has its line feed, or the text has ended and has bytes after its last line feed
 abbrev pub IsComplete : Holding → Type 0
 IsComplete lines = (lines.whole ≡ true) ⊎ ((lines.closed ≡ true) × (0 < length lines.held))
 

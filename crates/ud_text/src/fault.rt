@@ -3,7 +3,7 @@
 /// A limit that a text passes.
 #[derive(Clone, Copy, Debug, PartialEq, Eq)]
 pub enum TextFault {
-    /// A byte came for the line behind the last one that the text may have.
+    /// A byte came for the line after the last one that the text may have.
     TooManyLines {
         /// The number of that line.
         line: u32,

@@ -89,7 +89,7 @@ impl Lines {
     /// `clear`. The rest of the piece is the next one to be taken.
     ///
     /// # Errors
-    /// In this order: `TooManyLines` at the first byte of a line behind the last one that the text may have;
+    /// In this order: `TooManyLines` at the first byte of a line after the last one that the text may have;
     /// `LineTooLong` at byte 4,097 of a line, its ending counted. No byte of the piece is kept, and every later `take`
     /// and `close` answers the same, also for an empty piece.
     ///
@@ -199,7 +199,7 @@ impl Lines {
     }
 }
 
-/// How many bytes stand in front of the piece up to its first line feed, that one counted, or all where there is none.
+/// How many bytes stand in front of the piece up to its first line feed, that one counted, or all if there is none.
 fn front(piece: &[u8]) -> Taken
     ensures { UpToFeed piece.now result.used result.whole }
 {

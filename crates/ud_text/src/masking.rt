@@ -22,17 +22,17 @@ use ud_model::bytes::{are_white, is_white};
 pub(crate) enum Place {
     /// Outside comments and literals.
     Text,
-    /// Behind a slash that begins no comment so far.
+    /// After a slash that begins no comment so far.
     Slash,
     /// In a block comment.
     Block,
-    /// In a block comment, behind a star that may close it.
+    /// In a block comment, after a star that may close it.
     Star,
     /// In a line comment.
     ToLineEnd,
     /// In a literal with this quote.
     Literal(u8),
-    /// In a literal with this quote, behind a backslash that takes the next byte along.
+    /// In a literal with this quote, after a backslash that takes the next byte along.
     Backslash(u8),
 }
 

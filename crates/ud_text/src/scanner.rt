@@ -32,7 +32,7 @@ use ud_model::{CommentAt, LINE_BYTES, Mode};
 /// What is carried from line to line.
 #[derive(Clone, Copy)]
 struct Carry {
-    /// How far the joined text is read. The text is that of the lines in C mode behind the last one in plain mode.
+    /// How far the joined text is read. The text is that of the lines in C mode after the last one in plain mode.
     reached: Reached,
     /// Whether the last of these lines joins the next one.
     joins: bool,
@@ -93,7 +93,7 @@ fn content<'a>(line: &Line<'a>) -> &'a [u8]
     }
 }
 
-/// How far the text is read behind the line's new-line, if it has one.
+/// How far the text is read after the line's new-line, if it has one.
 fn close(line: &Line<'_>, inside: Reached) -> Reached
     ensures place { place_of result.place ≡ closed_place (stays_open (as_line line.now)) (place_of inside.place) }
     ensures white { result.white ≡ closed_white (stays_open (as_line line.now)) (place_of inside.place) inside.white }
@@ -274,7 +274,7 @@ impl Scanner {
         count
     }
 
-    /// Whether a block comment is unclosed at the end of the last line; false where no line is read.
+    /// Whether a block comment is unclosed at the end of the last line; false if no line is read.
     pub fn in_comment(&self) -> bool
         ensures { (before : List Reading) → Carries self.now before → result ≡ ends_in_block before }
     {
@@ -283,7 +283,7 @@ impl Scanner {
 }
 
 /// What is carried decides what is seen of the next line: where it stands for two lists of readings, each line is seen
-/// alike behind both.
+/// alike after both.
 pub fn law_same_scans()
     ensures { (carry : Carried) → (before : List Reading) → (others : List Reading) → (m : Mode) → (l : TextLine) → Carries carry before → Carries carry others → scan_after before m l ≡ scan_after others m l }
 {}

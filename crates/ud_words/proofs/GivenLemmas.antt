@@ -1,4 +1,4 @@
--- What is given, with more behind it: faults, settings, symbols and the operand.
+-- What is given, with more after it: faults, settings, symbols and the operand.
 use Rattle.std.proofs.Common.{◌≡◌, ◌∙◌, ap, refl, ℕ, List, [], ◌∷◌, ◌++◌, Bool, true, false, ◌||◌, Option, Some, None, is_some, codes, if◌then◌else◌}
 use Rattle.ud_model.specs.declared.settings.Listing.TheVariants.{Depths}
 use Rattle.ud_model.specs.declared.settings.ExitMode.{ExitMode}
@@ -10,7 +10,7 @@ or_none : (a b : Option UsageFault) → fault_or a b ≡ None → (a ≡ None) �
 or_none None b h = (refl, h)
 or_none (Some f) b h = cc
 
--- behind what has no fault and no operand, the first fault is that of what comes
+-- after what has no fault and no operand, the first fault is that of what comes
 pub first_fault-append : (gs more : List Given) → first_fault gs ≡ None → operand_in gs ≡ None → first_fault (gs ++ more) ≡ first_fault more
 first_fault-append [] more h k = refl
 first_fault-append (flag c ∷ gs) more h k = first_fault-append gs more h k
@@ -21,7 +21,7 @@ first_fault-append (operand n w ∷ gs) more h k = cc
 first_fault-append (unknown c ∷ gs) more h k = cc
 first_fault-append (lacking c ∷ gs) more h k = cc
 
--- behind an operand anything is too many
+-- after an operand anything is too many
 pub first_fault-behind_operand : (gs more : List Given) (g : Given) → first_fault gs ≡ None → is_some (operand_in gs) ≡ true
     → first_fault (gs ++ g ∷ more) ≡ Some too_many_files
 first_fault-behind_operand [] more g h k = cc
@@ -39,7 +39,7 @@ pub operand_in-none : (o : Option Operand) → is_some o ≡ false → o ≡ Non
 operand_in-none None h = refl
 operand_in-none (Some o) h = cc
 
--- the operand of what has none, with more behind it
+-- the operand of what has none, with more after it
 pub operand_in-append : (gs more : List Given) → operand_in gs ≡ None → operand_in (gs ++ more) ≡ operand_in more
 operand_in-append [] more h = refl
 operand_in-append (flag c ∷ gs) more h = operand_in-append gs more h
@@ -76,7 +76,7 @@ has_flag-last ls (operand n w ∷ gs) g h = has_flag-last ls gs g h
 has_flag-last ls (unknown d ∷ gs) g h = has_flag-last ls gs g h
 has_flag-last ls (lacking d ∷ gs) g h = has_flag-last ls gs g h
 
--- the exit mode of more is that behind the exit mode of what comes first
+-- the exit mode of more is that after the exit mode of what comes first
 pub mode_from-append : (mode : ExitMode) (gs more : List Given) → mode_from mode (gs ++ more) ≡ mode_from (mode_from mode gs) more
 mode_from-append mode [] more = refl
 mode_from-append mode (flag c ∷ gs) more = mode_from-append mode gs more

@@ -16,7 +16,7 @@ option_given-cons : (c number : ℕ) (cs : List ℕ) (next rest : List Given) �
 option_given-cons c number [] next rest e = absurd (omega (arith, e))
 option_given-cons c number (l ∷ ls) next rest e = refl
 
--- the bytes behind a letter are its argument, where there are any
+-- the bytes after a letter are its argument, if there are any
 pub option_given-bytes : (c number : ℕ) (bytes : List ℕ) (next rest : List Given) → IsUtf8 bytes → 0 < length bytes
     → option_given c number (chars bytes) next rest ≡ option c number bytes ∷ rest
 option_given-bytes c number bytes next rest u e =

@@ -22,7 +22,7 @@ value_one : (e : Bool) (n b : ℕ) (bs : List ℕ) (value : Option (List ℕ)) �
 value_one true n b bs value h = refl
 value_one false n b bs value h = rw one-add h
 
--- the bytes behind it are the value
+-- the bytes after it are the value
 pub drop-equals_at : (bytes : List ℕ) → behind_first (drop (equals_at bytes) bytes) ≡ value_in bytes
 drop-equals_at [] = refl
 drop-equals_at (b ∷ bs) = value_one (b == 61) (equals_at bs) b bs (value_in bs) (drop-equals_at bs)

@@ -1,4 +1,4 @@
--- Plans, with what is given behind it.
+-- Plans, with what is given after it.
 use Rattle.std.proofs.Common.{◌≡◌, ◌∙◌, ap, sym, refl, ℕ, List, [], ◌∷◌, ◌++◌, Bool, Option, Some, None, is_some, append-nil, option_map, IsSome}
 use Rattle.std.proofs.lemmas.List.Elements.{filter_map-append}
 use Rattle.std.specs.List.{filter_map}
@@ -34,7 +34,7 @@ is_some-operand_in plan gs o found p e f = sym (is_some-place_of (operand_in gs)
 exit_mode_of : (s t : Settings) (mode : ExitMode) → s ≡ t → record s { exit_mode = mode } ≡ record t { exit_mode = mode }
 exit_mode_of s t mode e = rw e refl
 
--- a plan with what is given behind it, where no operand came before
+-- a plan with what is given after it, if no operand came before
 plans_last : (old new : Planned) (gs : List Given) (g : Given) → PlansFor old gs → old.operand ≡ None → first_fault (g ∷ []) ≡ None
     → new.settings ≡ settings_in (gs ++ g ∷ []) → StandsFor new.symbols (filter_map argument_in gs ++ filter_map argument_in (g ∷ []))
     → new.operand ≡ place_of (operand_in (g ∷ [])) → PlansFor new (gs ++ g ∷ [])

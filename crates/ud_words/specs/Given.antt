@@ -2,7 +2,7 @@
 --
 --   told given        what the code gives, as the definitions have it
 --   left line         all that a command line of the code still gives
---   given_then next   what its next call gives, and all that is given behind it
+--   given_then next   what its next call gives, and all that is given after it
 use Rattle.std.specs.Prelude.{ℕ, List, [], ◌∷◌, map, chars, string_bytes, Option, Some, None, if◌then◌else◌}
 use Rattle.ud_model.specs.answer.CommandLine.{flag, option, operand, unknown, lacking, operands_from, letters_given, given_from, given_behind}
 use Rattle.ud_model.specs.answer.CommandLine.{Given as GivenInWords}

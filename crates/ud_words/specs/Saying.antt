@@ -6,7 +6,7 @@
 --   IsUsageOf gs u        the code's fault is the first one of what is given; or memory was refused, which is asked for
 --                         only as a symbol is put into the table
 --   with_flag s c         the settings with one more flag
---   behind_first bytes    what stands behind the first of some bytes
+--   behind_first bytes    what stands after the first of some bytes
 use Rattle.std.specs.Prelude.{◌≡◌, ℕ, List, [], ◌∷◌, false, ◌||◌, Option, Some, None, option_map, codes, if◌then◌else◌}
 use Rattle.ud_model.specs.conditions.Table.{Argument}
 use Rattle.ud_model.specs.declared.settings.Settings.{Settings}

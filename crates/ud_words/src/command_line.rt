@@ -40,7 +40,7 @@ pub(crate) enum Given<'a> {
 pub(crate) struct CommandLine<'a> {
     /// The letters that are left of the last word that was read.
     letters: &'a str,
-    /// The words behind that one.
+    /// The words after that one.
     words: &'a [String],
     /// How many words were read.
     read: usize,
@@ -64,7 +64,7 @@ impl<'a> CommandLine<'a> {
         }
     }
 
-    /// What is given next, and what is still to be read behind it; `None` at the end of the words.
+    /// What is given next, and what is still to be read after it; `None` at the end of the words.
     pub(crate) fn next(&self) -> Option<(Given<'a>, CommandLine<'a>)>
         ensures { left self.now ≡ given_then result }
     {
@@ -77,7 +77,7 @@ impl<'a> CommandLine<'a> {
         }
     }
 
-    /// The next word, where no letters are left.
+    /// The next word, if no letters are left.
     fn word(&self) -> Option<(Given<'a>, CommandLine<'a>)>
         ensures { given_from self.now.read (map string_bytes self.now.words.now) ≡ given_then result }
     {
@@ -97,7 +97,7 @@ impl<'a> CommandLine<'a> {
         }
     }
 
-    /// The next word as an operand, as all behind it are.
+    /// The next word as an operand, as all after it are.
     fn operand(&self) -> Option<(Given<'a>, CommandLine<'a>)>
         ensures { operands_from self.now.read (map string_bytes self.now.words.now) ≡ given_then result }
     {
@@ -113,7 +113,7 @@ impl<'a> CommandLine<'a> {
         Some((Given::Operand { place, name }, behind))
     }
 
-    /// A letter of the word that was read last, with these letters behind it.
+    /// A letter of the word that was read last, with these letters after it.
     fn letter(&self, letter: char, behind: &'a str) -> (Given<'a>, CommandLine<'a>)
         ensures { letters_given self.now.read (letter ∷ chars behind.now)
             (λ c. given_behind c self.now.read (map string_bytes self.now.words.now))
@@ -130,7 +130,7 @@ impl<'a> CommandLine<'a> {
         }
     }
 
-    /// An option with its argument, where these letters stand behind its own: they are the argument, or where there
+    /// An option with its argument, where these letters stand after its own: they are the argument, or where there
     /// are none, the next word is.
     fn argument(&self, letter: char, behind: &'a str) -> (Given<'a>, CommandLine<'a>)
         ensures { option_given letter self.now.read (chars behind.now)
@@ -172,7 +172,7 @@ impl<'a> CommandLine<'a> {
         }
     }
 
-    /// The same words behind these letters.
+    /// The same words after these letters.
     fn with_letters(&self, letters: &'a str) -> CommandLine<'a>
         ensures { left result ≡ letters_given self.now.read (chars letters.now)
             (λ c. given_behind c self.now.read (map string_bytes self.now.words.now))

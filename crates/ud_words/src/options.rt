@@ -39,7 +39,7 @@ pub(crate) enum Said<'a> {
 /// What is said by what is given next, where an operand was given before or not.
 ///
 /// # Errors
-/// `TooManyFiles` behind an operand; else what is wrong with an option. Memory isn't asked for.
+/// `TooManyFiles` after an operand; else what is wrong with an option. Memory isn't asked for.
 pub(crate) fn accept<'a>(given: Given<'a>, behind_operand: bool) -> Result<Said<'a>, Usage>
     ensures ok { IfOk result (IsSaid (told given.entry)) }
     ensures err { (gs : List GivenInWords) → (more : List GivenInWords) → first_fault gs ≡ None → is_some (operand_in gs) ≡ behind_operand
@@ -145,7 +145,7 @@ fn undefining(argument: &[u8], ignoring: bool) -> Option<Symbol<'_>>
     named(argument, None, ignoring)
 }
 
-/// A symbol of this name; `None` where no symbol may have it.
+/// A symbol of this name; `None` if no symbol may have it.
 fn named<'a>(name: &'a [u8], value: Option<&'a [u8]>, ignoring: bool) -> Option<Symbol<'a>>
     ensures { option_map as_argument result ≡ named name.now (option_map (λ v. v.now) value.entry) ignoring }
 {
@@ -159,7 +159,7 @@ fn named<'a>(name: &'a [u8], value: Option<&'a [u8]>, ignoring: bool) -> Option<
     })
 }
 
-/// How many bytes stand before the first `=`, or how many there are where there is none.
+/// How many bytes stand before the first `=`, or how many there are if there is none.
 fn name_len(argument: &[u8]) -> usize
     ensures bound { result ≤ length argument.now }
     ensures name { take result argument.now ≡ name_in argument.now }

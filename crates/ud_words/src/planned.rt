@@ -62,7 +62,7 @@ impl Plan {
         &self.symbols
     }
 
-    /// The operand's place among the words, counted from 0; `None` where there is no operand.
+    /// The operand's place among the words, counted from 0; `None` if there is no operand.
     pub fn operand(&self) -> Option<usize>
         ensures { result ≡ self.now.operand }
     {
@@ -85,10 +85,10 @@ impl Plan {
         }
     }
 
-    /// Adds what is said to the plan, behind no operand.
+    /// Adds what is said to the plan, after no operand.
     ///
     /// # Errors
-    /// `OutOfMemory` where memory for a symbol is refused.
+    /// `OutOfMemory` if memory for a symbol is refused.
     fn add(&mut self, said: Said<'_>) -> Result<(), Usage>
         ensures ok { (gs : List GivenInWords) → (g : GivenInWords) → PlansFor self.old gs → self.old.operand ≡ None → IsSaid g said.entry
             → OnOk result (PlansFor self.new (gs ++ g ∷ [])) }
@@ -114,7 +114,7 @@ impl Plan {
     /// Puts what is said of a symbol into the table.
     ///
     /// # Errors
-    /// `OutOfMemory` where memory is refused; the name is right, so the table refuses for no other reason.
+    /// `OutOfMemory` if memory is refused; the name is right, so the table refuses for no other reason.
     fn say(&mut self, symbol: Symbol<'_>) -> Result<(), Usage>
         ensures ok { OnOk result ((calls : List Argument) → StandsFor self.old.symbols calls
             → StandsFor self.new.symbols (calls ++ as_argument symbol.entry ∷ [])) }

@@ -14,11 +14,11 @@ use std::alloc::Global;
 /// What the words of a command line say, of which the program's name is none (POSIX XBD 12.2, unifdef(1)).
 ///
 /// A word that starts with `-` and is longer is letters of options, up to the first operand or `--`; an option's
-/// argument is the rest of its word or, where that is empty, the whole next word. Memory is taken for the symbols alone.
+/// argument is the rest of its word or, if that is empty, the whole next word. Memory is taken for the symbols alone.
 ///
 /// # Errors
 /// The first fault in reading order: `UnknownOption`, `MissingArgument`, `BadSymbol`, `BadMode`, or `TooManyFiles` at
-/// the word behind an operand. `OutOfMemory` if memory is refused as a symbol is put into the table; the words after it
+/// the word after an operand. `OutOfMemory` if memory is refused as a symbol is put into the table; the words after it
 /// aren't read then, and those up to it have no fault. Words without a right `-D`, `-U` or `-i` before their first fault
 /// never have this answer.
 pub fn plan(alloc: Global, words: &[String]) -> Result<Plan, Usage>
@@ -36,7 +36,7 @@ pub fn plan(alloc: Global, words: &[String]) -> Result<Plan, Usage>
 
 /// The place of the operand that names a file, counted from 0 among the words. Takes no memory.
 ///
-/// `None` where the words have a fault, where there is no operand, and where it is `-`, the standard input.
+/// `None` where the words have a fault, if there is no operand, and where it is `-`, the standard input.
 pub fn input_of(words: &[String]) -> Option<usize>
     ensures { result ≡ input_of (map string_bytes words.now) }
 {
@@ -46,7 +46,7 @@ pub fn input_of(words: &[String]) -> Option<usize>
     }
 }
 
-/// How messages call the input of words that have no fault: by the operand's bytes, or `stdin` where there is no operand
+/// How messages call the input of words that have no fault: by the operand's bytes, or `stdin` if there is no operand
 /// or it is `-`. Takes no memory.
 pub fn input_name(words: &[String]) -> &[u8]
     ensures { usage_fault (map string_bytes words.now) ≡ None → result.now ≡ input_name (map string_bytes words.now) }

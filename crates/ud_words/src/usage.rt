@@ -31,7 +31,7 @@ pub enum Usage {
         /// The word that holds the argument.
         word: usize,
     },
-    /// A word stands behind the first operand.
+    /// A word stands after the first operand.
     #[error("too many files")]
     TooManyFiles,
     /// Memory for a symbol was refused.

@@ -1,4 +1,4 @@
--- Behind: a text behind the nodes of a place.
+-- Behind: a text after the nodes of a place.
 use Rattle.std.proofs.Common.{◌≡◌, ◌≤◌, List, [], ◌∷◌, ◌++◌, max, Bool, refl, sym, ap, append_assoc, arith}
 use Rattle.ud_model.specs.sections.Tree.{Item, Nodes, Head, Tree, nothing, text, section, closed, open_section, lines, lines_of_nodes, depth, innermost}
 use Rattle.ud_model.specs.aids.SoFar.{nodes_so_far, marks_so_far}

@@ -7,7 +7,7 @@ use Rattle.ud_model.specs.aids.SoFar.{verdict_so_far}
 use Rattle.unifdef.specs.declared.groups.Groups.{Groups}
 use Rattle.unifdef.specs.Groups.{groups_of, with_group, gives_way_with, opener_by_table}
 
--- the same behind an unknown group
+-- the same after an unknown group
 abbrev kept_open : Groups → Groups
 kept_open g = record g { all_false = false; gives_way = false }
 

@@ -22,7 +22,7 @@ use Rattle.unifdef.specs.declared.held.LineEnd.{LineEnd}
 abbrev pub bytes_of : List Line → List ℕ
 bytes_of ls = concat (map text_of ls)
 
--- with a line behind them their bytes grow by it
+-- with a line after them their bytes grow by it
 pub bytes_of-append : (ls : List Line) (l : Line) → bytes_of (ls ++ l ∷ []) ≡ bytes_of ls ++ text_of l
 bytes_of-append ls l =
     ap concat (map-append text_of ls (l ∷ [])) ∙ concat-append (map text_of ls) (text_of l ∷ [])
@@ -32,7 +32,7 @@ bytes_of-append ls l =
 abbrev end_behind : ℕ → Line → LineEnd
 end_behind at l = record { body = at + length l.body; line = at + length (text_of l) }
 
--- a line behind others ends where their bytes and its own do
+-- a line after others ends where their bytes and its own do
 pub ends_from-append : (at : ℕ) (ls : List Line) (l : Line) →
     ends_from at (ls ++ l ∷ []) ≡ ends_from at ls ++ end_behind (at + length (bytes_of ls)) l ∷ []
 ends_from-append at [] l = ap (λ (n : ℕ). end_behind n l ∷ []) (omega arith)
@@ -42,7 +42,7 @@ ends_from-append at (m ∷ ls) l =
     (ends_from-append (at + length (text_of m)) ls l
     ∙ ap (λ (n : ℕ). ends_from (at + length (text_of m)) ls ++ end_behind n l ∷ []) (omega arith))
 
--- what is kept of lines behind others is of their items
+-- what is kept of lines after others is of their items
 are_seen_behind : (o : Options) (xs : List (Item Reading)) (n : ℕ) (texts : List (List ℕ)) →
     AreSeen n (map seen_of (items_behind o xs (numbered_from (suc n) texts))) (items_behind o xs (numbered_from (suc n) texts))
 are_seen_behind o xs n [] = tt
@@ -62,11 +62,11 @@ ends_more [] x = refl
 ends_more (y ∷ []) x = refl
 ends_more (y ∷ z ∷ xs) x = ends_more (z ∷ xs) x
 
--- the line as it is read behind the lines that are held
+-- the line as it is read after the lines that are held
 abbrev pub next_read : Options → List Line → Line → Reading
 next_read o ls l = read_after (items_in o ls) (mode_by (o.settings.plain || is_inside (inside_after 0 (items_in o ls)))) l
 
--- with a line's bytes, its end and what is kept of it put behind those of lines that are held, it is held too
+-- with a line's bytes, its end and what is kept of it put after those of lines that are held, it is held too
 pub holds_more : (o : Options) (old new : Held) (ls : List Line) (l : Line) (body line : ℕ) (s : Seen) →
     Holds o old ls → new.text.items ≡ old.text.items ++ l.body ++ l.ending →
     body ≡ length (old.text.items ++ l.body) → line ≡ length (old.text.items ++ l.body ++ l.ending) →

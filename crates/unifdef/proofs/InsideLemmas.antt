@@ -12,7 +12,7 @@ use Rattle.unifdef.specs.Inside.{opened, ended, inside_with, inside_by, inside_a
 use Rattle.unifdef.specs.Shapes.{seen_of, shape_by, is_cut_item}
 use Rattle.unifdef.specs.declared.shape.Shape.TheVariants.{Cut}
 
--- the count behind more lines
+-- the count after more lines
 pub inside-append : (n : ℕ) (xs ys : List (Item Reading)) → inside_after n (xs ++ ys) ≡ inside_after (inside_after n xs) ys
 inside-append n [] ys = refl
 inside-append n (x ∷ xs) ys = inside-append (inside_with n x) xs ys
@@ -82,7 +82,7 @@ item_at-next o xs t l e =
 pub line_of-item_at : (o : Options) (xs : List (Item Reading)) (l : Line) → line_of (item_at o xs l) ≡ l
 line_of-item_at o xs l = ap (λ r. r.line) (reading_of-item_of o (read_after xs (mode_by (o.settings.plain || is_inside (inside_after 0 xs))) l))
 
--- lines behind others
+-- lines after others
 pub items_behind-append : (o : Options) (xs : List (Item Reading)) (ls ks : List Line) →
     items_behind o xs (ls ++ ks) ≡ items_behind o xs ls ++ items_behind o (xs ++ items_behind o xs ls) ks
 items_behind-append o xs [] ks = ap (λ ys. items_behind o ys ks) (sym (append-nil xs))
@@ -154,6 +154,6 @@ pub cut_or_text : (o : Options) (r : Reading) → (is_cut (content_of r.scan) �
 cut_or_text o r (inl e) = inl (reading_cut o r ∙ e)
 cut_or_text o r (inr e) = inr (r, e)
 
--- what is kept of a line tells the count behind it
+-- what is kept of a line tells the count after it
 pub inside_by-seen : (n : ℕ) (o : Options) (r : Reading) → inside_by n (seen_of (item_of o r)) ≡ inside_with n (item_of o r)
 inside_by-seen n o r = seen_by n (is_cut_item (item_of o r)) (item_of o r) (cut_or_text o r (uncut_text o r))

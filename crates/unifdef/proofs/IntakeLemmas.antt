@@ -53,7 +53,7 @@ within_more ws l number bytes all =
     subst (AllByRecursion IsWithin) (sym (numbered_from-next ws l []))
     (all_more IsWithin (numbered_from 1 ws) (line_at (suc (length ws)) l) all (within_at ws l number bytes))
 
--- the parts of a text behind the front of a piece up to its first line feed, where this is its rest
+-- the parts of a text after the front of a piece up to its first line feed, where this is its rest
 abbrev pub parts_behind : List ℕ → List ℕ → List ℕ → Bool → Parts
 parts_behind text held front true = record { whole = whole_lines text ++ (held ++ front) ∷ []; rest = [] }
 parts_behind text held front false = record { whole = whole_lines text; rest = held ++ front }
@@ -141,14 +141,14 @@ fed_line o held added old mid new text piece used whole ends fed to is limits ho
         (parts_of-front_of text old.held piece used whole (took_rest old text fed.part fed.took) to ∙ ap (parts_behind text old.held (take used piece)) ends)
         ∙ ap (λ (l : Holding). whole_lines text ++ l.held ∷ []) (sym is)
 
--- a text and what follows it, cut behind the front of the piece that follows first
+-- a text and what follows it, cut after the front of the piece that follows first
 rejoined : (text piece more : List ℕ) (used : ℕ) → (text ++ piece) ++ more ≡ (text ++ take used piece) ++ (drop used piece ++ more)
 rejoined text piece more used =
     ap (λ (p : List ℕ). (text ++ p) ++ more) (sym (take-append-drop used piece))
     ∙ ap (λ (t : List ℕ). t ++ more) (sym (append_assoc text (take used piece) (drop used piece)))
     ∙ append_assoc (text ++ take used piece) (drop used piece) more
 
--- behind these lines the text goes on with a line that begins so
+-- after these lines the text goes on with a line that begins so
 abbrev pub NextLine : List (List ℕ) → List ℕ → List ℕ → Type 0
 NextLine before front text = (x : List ℕ) × (later : List (List ℕ)) × (texts_of text ≡ before ++ (front ++ x) ∷ later)
 
@@ -171,7 +171,7 @@ next_open text more before line is some =
     texts_of_grows text more (λ none. let zero : length line ≡ 0 = ap length (sym rest ∙ none) in omega (arith, zero, some)) in
     (after.0, after.1, after.2 ∙ ap (λ (q : Parts). q.whole ++ (q.rest ++ after.0) ∷ after.1) is)
 
--- with bytes of a piece behind it a line has bytes
+-- with bytes of a piece after it a line has bytes
 longer : (held piece : List ℕ) (used : ℕ) → used ≤ length piece → 0 < used → 0 < length (held ++ take used piece)
 longer held piece used within some = simp (length-append, length-take) (omega arith)
 
@@ -248,7 +248,7 @@ no_last : (r : List ℕ) → (0 < length r → ⊥) → last_line r ≡ []
 no_last [] none = refl
 no_last (b ∷ bs) none = absurd (none (omega arith))
 
--- where no byte stands behind the last line feed, all lines are held
+-- if no byte stands after the last line feed, all lines are held
 pub fed_ended : (o : Options) (held : Held) (lines : Holding) (text : List ℕ) → Fed o held lines text → (0 < length lines.held → ⊥) → Stopped o held Ended text
 fed_ended o held lines text fed none = record {
   texts = texts_of text;
@@ -401,7 +401,7 @@ pub readable_whole : (text : List ℕ) (earlier : List (List ℕ)) (n : ℕ) (l 
 readable_whole text earlier n l e h =
     (body_short n l h, whole_feedless n l (last_whole earlier l (subst AreWhole e (are_whole text))))
 
--- the rest behind the last line feed can be read
+-- the rest after the last line feed can be read
 pub readable_rest : (text : List ℕ) (n : ℕ) (l : List ℕ) → open_rest text ≡ l → length l ≤ LINE_BYTES → IsReadable (line_at n l)
 readable_rest text n l e h =
     (body_short n l h, no_feed-take (length l - length (ending_of l)) l (subst (λ (t : List ℕ). NoFeed t) e (open_rest-open text)))

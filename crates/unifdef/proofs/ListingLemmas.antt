@@ -50,7 +50,7 @@ module _ (a b : Option (List ℕ)) (bytes prefix : List ℕ) where
       (sent_front a b c bytes (name_line prefix name) (listed_names prefix names)
       (subst (λ ns. Sent a b bytes (listed_names prefix ns)) e s) (said_front failed b c (name_line prefix name) fails said))
 
-  -- where no name is left, all is written
+  -- if no name is left, all is written
   pub names_end : (left : List (List ℕ)) (failed : Bool) → left ≡ [] → Sent a b bytes (listed_names prefix left) → failed ≡ false → Says failed a b bytes
   names_end left failed e s works = says_all failed a b bytes works (sent_all a b bytes (listed_names prefix left) s (ap (listed_names prefix) e))
 
@@ -82,7 +82,7 @@ cut_open n false x h = own_open n x
 cut_open n true x (inl e) = cc
 cut_open n true x (inr (r, e)) = subst (λ y. n ≡ open_with n y) (sym e) refl
 
--- and how many sections are open behind it
+-- and how many sections are open after it
 pub open_by-seen : (n : ℕ) (o : Options) (r : Reading) → open_by n (shape_of (item_of o r)) ≡ open_with n (item_of o r)
 open_by-seen n o r = cut_open n (is_cut_item (item_of o r)) (item_of o r) (cut_or_text o r (uncut_text o r))
 
@@ -95,12 +95,12 @@ open_le n Else = omega arith
 open_le n Endif = ended_le n
 open_le n Cut = omega arith
 
--- the lines behind others, the last of which has this number
+-- the lines after others, the last of which has this number
 abbrev pub lines_left : ℕ → List (List ℕ) → List Line
 lines_left number texts = numbered_from (suc number) texts
 
 -- Of these bytes all is appended but the names of the lines that are left; so many lines and bytes are passed, and so
--- many sections are open behind them.
+-- many sections are open after them.
 pub record Left (o : Options) (text bytes : List ℕ) (depths : Bool) (a b : Option (List ℕ)) (carried : Carried)
     (at number sections : ℕ) (ends : List LineEnd) (ss : List Seen) (ms : List Mark) : Type 0 where
   pub before : List (Item Reading)
@@ -252,7 +252,7 @@ module _ {o : Options} {text bytes : List ℕ} {depths : Bool} {a b : Option (Li
       (p ∙ ap₂ depth_prefix f (g ∙ ap (λ (z : Seen). level_by sections z.shape) t.own ∙ level_by-seen sections o (reading_at t)))
       (ap (λ (r : Reading). names_in_content (content_of r.scan)) (own_reading t n h l e))
 
-  -- once the names of the line are written, those of the lines behind it are left
+  -- once the names of the line are written, those of the lines after it are left
   pub next_left : (t : Next o text bytes depths a b carried at number sections end s ends ss ms) (n : ℕ) → n ≡ number + 1 → (l : Line) → l ≡ line_between text at end n →
       (lister : Bool) (level : ℕ) (prefix : List ℕ) → lister ≡ depths → level ≡ level_by sections s.shape → prefix ≡ depth_prefix lister level →
       (failed : Bool) (c : Option (List ℕ)) (after : Carried) (behind : ℕ) → failed ≡ false →
@@ -305,7 +305,7 @@ none_listed : (depths : Bool) (xs : List (Item Reading)) → listed depths xs []
 none_listed depths [] = refl
 none_listed depths (x ∷ xs) = refl
 
--- where no end, nothing kept or no mark is left, all is written
+-- if no end, nothing kept or no mark is left, all is written
 pub left_ends : {o : Options} {text bytes : List ℕ} {depths : Bool} {a b : Option (List ℕ)} {carried : Carried} {at number sections : ℕ}
     {ends : List LineEnd} {ss : List Seen} {ms : List Mark} (r : Left o text bytes depths a b carried at number sections ends ss ms) →
     (ends ≡ []) ⊎ ((ss ≡ []) ⊎ (ms ≡ [])) → (failed : Bool) → failed ≡ false → Says failed a b bytes

@@ -78,7 +78,7 @@ nodes_section a b c xs kept level r s = record {
   low = let h = r.low in let k = s.low in omega (arith, h, k);
 }
 
--- an opener and the nodes behind it
+-- an opener and the nodes after it
 pub group_read : (a b c : Walk) (xs : List (Item Reading)) (kept inside : Bool) (level : ℕ) (before : List Cond) (part : Part) (k : Cond) (v : kept_marks.Mark) →
     v ≡ code_mark (marked kept (verdict_so_far before part k)) → inside ≡ (kept && is_kept before k) →
     (l : ReadsLine a b xs v) → ReadsNodes b c l.after inside level → ReadsGroup a c xs kept level before part k
@@ -93,7 +93,7 @@ group_read a b c xs kept inside level before part k v e i l r = record {
   number = l.number;
 }
 
--- why a walk stops, behind nodes
+-- why a walk stops, after nodes
 stops_behind : (ns : Nodes Reading) (stop : Stop) (t : Tree Reading) (ys : List (Item Reading)) (level : ℕ) →
     StopsFor stop t ys level → StopsFor stop (behind ns t) ys level
 stops_behind ns stops.Cut t ys level w = w
@@ -123,7 +123,7 @@ stops_behind ns stops.TooDeep t ys level w = (
 stops_behind ns (stops.Unclosed opener) t ys level w = (w.0, (w.1.0, innermost-behind ns t ∙ w.1.1, w.1.2))
 stops_behind ns stops.OutOfMemory t ys level w = w
 
--- a walk stops behind nodes
+-- a walk stops after nodes
 pub stuck_behind : (a b c : Walk) (xs : List (Item Reading)) (kept : Bool) (level : ℕ) (stop : Stop) →
     (r : ReadsNodes a b xs kept level) → Stuck b c r.after kept level stop → Stuck a c xs kept level stop
 stuck_behind a b c xs kept level stop r s = record {
@@ -135,7 +135,7 @@ stuck_behind a b c xs kept level stop r s = record {
   why = stops_behind r.nodes stop s.tree s.after level s.why;
 }
 
--- the same, where nothing is said if memory is refused
+-- the same, but that nothing is said if memory is refused
 pub stops_well_behind : (a b c : Walk) (xs : List (Item Reading)) (kept : Bool) (level : ℕ) (stop : Stop) →
     (r : ReadsNodes a b xs kept level) → StopsWell b c r.after kept level stop → StopsWell a c xs kept level stop
 stops_well_behind a b c xs kept level stops.Cut r s = stuck_behind a b c xs kept level stops.Cut r s

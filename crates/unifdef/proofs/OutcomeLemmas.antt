@@ -36,7 +36,7 @@ tells_fault : (name : List ℕ) (s : Settings) (outcome : Outcome) (f : Fault) �
     ((d : Bool) → status_told s outcome d true ≡ 2) → Tells name s outcome (Some f)
 tells_fault name s outcome f m k = (m, k)
 
--- behind the lines that were read comes one with this fault
+-- after the lines that were read comes one with this fault
 pub comes_at : (o : Options) (name input : List ℕ) (ls more : List Line) (t : Tree Reading) (ms : List Mark) (l : Line) (later : List Line) (f : Fault) (outcome : Outcome) →
     (r : Front o ls t ms (l ∷ later)) → lines_of input ≡ ls ++ more → FaultOf (lines t) (item_at o (items_in o r.front) l) f →
     Tells name o.settings outcome (Some f) → Comes o name input ls ms outcome
@@ -90,7 +90,7 @@ comes_end o name input ls t ms f outcome r e q tells =
           ∙ ap₂ (status_of o.settings) (sym (differs_is o ls t ms [] r)) (sym k);
     }
 
--- how the end of a text is told behind all lines that are held
+-- how the end of a text is told after all lines that are held
 tells_ended : (name : List ℕ) (s : Settings) (comment : Bool) (n : ℕ) (right : Outcome) (f : Option Fault) → Tells name s right f →
     Tells name s (at_end Ended comment n right) (if comment then Some (eof_in_comment n) else f)
 tells_ended name s true n right f h = (refl, λ d. refl)
@@ -114,7 +114,7 @@ module _ (o : Options) (name input : List ℕ) (held : held_text.Held) (end : En
   abbrev ls : List Line
   ls = numbered_from 1 h.texts
 
-  -- behind all lines that are held, by why the reading stopped
+  -- after all lines that are held, by why the reading stopped
   pub behind_all : (t : Tree Reading) (ms : List Mark) (right : Outcome) → Front o ls t ms [] → length ms ≡ length h.texts →
       Tells name o.settings right (end_by false (length ms) (innermost t)) →
       Comes o name input ls ms (at_end end held.in_comment (length ms) right)

@@ -50,7 +50,7 @@ all_lie o xs [] = tt
 all_lie o xs (l ∷ ls) = (item_lies o xs l, all_lie o (xs ++ item_at o xs l ∷ []) ls)
 
 -- Of these bytes all is appended but the text from one place to another, which ends with a line, and the pieces of the
--- lines behind it, of which the printer was given those before; so many lines are passed.
+-- lines after it, of which the printer was given those before; so many lines are passed.
 pub record Run (text bytes : List ℕ) (total : Bool) (piece : List Judged → Judged → List ℕ) (before : List Judged) (a b : Option (List ℕ))
     (from at number : ℕ) (differs : Bool) (ends : List LineEnd) (ss : List Seen) (ms : List kept_marks.Mark) : Type 0 where
   pub later : List (List ℕ)
@@ -101,7 +101,7 @@ cut_run text passed rest from at e p h =
     (e ∙ ap (λ x. x ++ rest) (sym (take-append-drop from passed)) ∙ append_assoc (take from passed) (drop from passed) rest)
     (length-take-le from passed (omega (arith, p, h))) (length-drop from passed ∙ ap (λ n. n - from) p)
 
--- A run with a line behind it, which ends here, and of which this is kept.
+-- A run with a line after it, which ends here, and of which this is kept.
 pub record Turn (text bytes : List ℕ) (total : Bool) (piece : List Judged → Judged → List ℕ) (before : List Judged) (a b : Option (List ℕ))
     (from at number : ℕ) (differs : Bool) (end : LineEnd) (s : Seen) (m : kept_marks.Mark) (ends : List LineEnd) (ss : List Seen) (ms : List kept_marks.Mark) : Type 0 where
   pub body_text : List ℕ
@@ -280,7 +280,7 @@ module _ {text bytes : List ℕ} {total : Bool} {piece : List Judged → Judged 
   run_bytes t =
       cut_run text t.passed (text_of (line_at (suc number) t.body_text) ++ concat (map text_of (numbered_from (suc (suc number)) t.later))) from at t.joined t.passed_to t.ordered
 
-  -- another line is printed behind the run, and the next run begins behind it
+  -- another line is printed after the run, and the next run begins after it
   pub run_shown : (t : Turn text bytes total piece before a b from at number differs end s m ends ss ms) → true ≡ not (bytes_eq (piece_at t) (text_of (line_of t.item))) →
       (d : Option (List ℕ)) → Appends b d (take (at - from) (drop from text) ++ piece_at t) →
       Run text bytes total piece (before ++ printing.judged t.item (mark_of m) ∷ []) a d end.line end.line (suc number) true ends ss ms
@@ -388,7 +388,7 @@ module _ {text bytes : List ℕ} {total : Bool} {piece : List Judged → Judged 
       let all = ap length r.joined ∙ length-append r.passed (concat (map text_of (numbered_from (suc number) r.later))) in
       (r.ordered, omega (arith, p, all))
 
-  -- where no end, nothing kept or no mark is left, the last run is all that is left
+  -- if no end, nothing kept or no mark is left, the last run is all that is left
   pub run_ends : (r : Run text bytes total piece before a b from at number differs ends ss ms) → (ends ≡ []) ⊎ ((ss ≡ []) ⊎ (ms ≡ [])) →
       (f : Bool) (c : Option (List ℕ)) → Says f b c (take (at - from) (drop from text)) → Says f a c bytes
   run_ends r h true c said =

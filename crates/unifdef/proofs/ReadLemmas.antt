@@ -64,13 +64,13 @@ split_lines o before (l ∷ ls) (x ∷ xs) ys e =
     one_split_more o before l ls x xs ys q
     (split_lines o (before ++ x ∷ []) ls xs ys (subst (λ (y : Item Reading). items_behind o (before ++ y ∷ []) ls ≡ xs ++ ys) q r))
 
--- where the items behind others are one and more, there is a first line
+-- where the items after others are one and more, there is a first line
 pub first_behind : (o : Options) (before : List (Item Reading)) (ls : List Line) (x : Item Reading) (after : List (Item Reading)) → x ∷ after ≡ items_behind o before ls →
     (l : Line) × (later : List Line) × (ls ≡ l ∷ later) × (x ≡ item_at o before l)
 first_behind o before [] x after e = cc
 first_behind o before (l ∷ ls) x after e = (l, ls, refl, cc)
 
--- where there is no item, there is no line
+-- if there is no item, there is no line
 pub none_behind : (o : Options) (before : List (Item Reading)) (ls : List Line) → [] ≡ items_behind o before ls → ls ≡ []
 none_behind o before [] e = refl
 none_behind o before (l ∷ ls) e = cc

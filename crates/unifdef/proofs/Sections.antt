@@ -68,7 +68,7 @@ height_complete (if_head o) b = omega arith
 height_complete (elif_head es o) b = omega arith
 height_complete (else_head es l) b = omega arith
 
--- behind the first group
+-- after the first group
 pub section_first : (a b : Walk) (xs : List (Item Reading)) (kept : Bool) (level : ℕ) (c : Cond) (g : kept_groups.Groups) (opener : ℕ) →
     first_shape a.rest.now ≡ Some (If c) → g ≡ groups_of (c ∷ []) → opener ≡ length a.marks.items →
     ReadsGroup a b xs kept (level + 1) [] an_if c → InSection a b xs kept level g false opener
@@ -90,7 +90,7 @@ section_first a b xs kept level c g opener s e n r =
 grow : {X : Type 0} (vs bs : List X) (x : X) (cs : List X) → vs ≡ bs → vs ++ x ∷ cs ≡ (bs ++ x ∷ []) ++ cs
 grow vs bs x cs e = ap (λ ds. ds ++ x ∷ cs) e ∙ sym (append_assoc bs (x ∷ []) cs)
 
--- the marks of a section with one more group, `inside` being those behind its opener
+-- the marks of a section with one more group, `inside` being those after its opener
 pub marks_group : (kept : Bool) (h : Head Reading) (b : Nodes Reading) (part : Part) (c k : Cond) (inside : Bool → List Mark) → false ≡ is_else h → k ≡ c →
     marks_with kept h b ++ marked kept (verdict_so_far (conds_of_head h) part c) ∷ inside (kept && is_kept (conds_of_head h) c)
     ≡ (elifs_so_far kept (elifs_with h b) ++ marked kept (verdict_so_far (conds_of_elifs (elifs_with h b)) part k) ∷ [])
@@ -106,7 +106,7 @@ pub lines_group : (h : Head Reading) (b : Nodes Reading) (x y : Item Reading) (m
     (lines_of_head h ++ lines_of_nodes b) ++ x ∷ more ≡ (lines_of_elifs (elifs_with h b) ++ y ∷ []) ++ more
 lines_group h b x y more e q = ap (λ z. (lines_of_head h ++ lines_of_nodes b) ++ z ∷ more) q ∙ grow _ _ y more (lines_with h b e)
 
--- behind one more group
+-- after one more group
 pub section_elif : (a b d : Walk) (xs : List (Item Reading)) (kept : Bool) (level : ℕ) (c : Cond) (g k : kept_groups.Groups) (seen : Bool) (opener : ℕ) →
     seen ≡ false → first_shape b.rest.now ≡ Some (Elif c) → (i : InSection a b xs kept level g seen opener) → k ≡ groups_of (conds_of_head i.head ++ c ∷ []) →
     ReadsGroup b d i.after kept (level + 1) (conds_of_head i.head) an_elif c → InSection a d xs kept level k seen opener
@@ -129,7 +129,7 @@ section_elif a b d xs kept level c g k seen opener h s i e r =
       begins = ap (λ o. o.line.line.number) (opener_with i.head i.nodes) ∙ i.begins;
     }
 
--- behind the `#else` group
+-- after the `#else` group
 pub section_else : (a b d : Walk) (xs : List (Item Reading)) (kept : Bool) (level : ℕ) (g k : kept_groups.Groups) (seen : Bool) (opener : ℕ) →
     seen ≡ false → first_shape b.rest.now ≡ Some Else → (i : InSection a b xs kept level g seen opener) → k ≡ groups_of (conds_of_head i.head ++ Yes ∷ []) →
     ReadsGroup b d i.after kept (level + 1) (conds_of_head i.head) an_else Yes → InSection a d xs kept level k true opener

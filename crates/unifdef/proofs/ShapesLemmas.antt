@@ -91,7 +91,7 @@ pub first_item : (n : ℕ) (s : Seen) (ss : List Seen) (xs : List (Item Reading)
 first_item n s ss [] h = absurd h
 first_item n s ss (x ∷ xs) h = record { item = x; after = xs; split = refl; seen = h.0; number = h.1; left = h.2 }
 
--- where no line is left there is no item
+-- if no line is left there is no item
 pub no_items : (n : ℕ) (xs : List (Item Reading)) → AreSeen n [] xs → xs ≡ []
 no_items n [] h = refl
 no_items n (x ∷ xs) h = absurd h
@@ -103,7 +103,7 @@ all_whole-append (x ∷ xs) ys h k = (h.0, all_whole-append xs ys h.1 k)
 pub length_last : {X : Type 0} (xs : List X) (x : X) → length (xs ++ x ∷ []) ≡ suc (length xs)
 length_last xs x = simp (length-append, add-one)
 
--- one line was read: what is left behind it, no keyword being cut in the line
+-- one line was read: what is left after it, no keyword being cut in the line
 pub record OneLine (before count : ℕ) (rest : List Seen) (xs : List (Item Reading)) (s : Seen) : Type 0 where
   pub item : Item Reading
   pub after : List (Item Reading)
@@ -130,11 +130,11 @@ one_line old rest s vs ws v xs e h w left =
       number = f.number;
     }
 
--- the lines behind the first one
+-- the lines after the first one
 abbrev pub behind_first : List Seen → List Seen
 behind_first ss = take (length ss - 1) (drop 1 ss)
 
--- where no keyword is cut in the first line, there is one
+-- if no keyword is cut in the first line, there is one
 pub front_of_whole : (old : List Seen) → starts_whole old ≡ true → (s : Seen) × (old ≡ s ∷ behind_first old)
 front_of_whole [] h = cc
 front_of_whole (s ∷ rest) h =
@@ -156,7 +156,7 @@ first_at n (t ∷ ss) xs s e h =
     some_same : (t s : Shape) → Some t ≡ Some s → t ≡ s
     some_same t s e = cc
 
--- no line comes where none is left
+-- no line comes if none is left
 pub none_at : (n : ℕ) (ss : List Seen) (xs : List (Item Reading)) → first_shape ss ≡ None → AreSeen n ss xs → xs ≡ []
 none_at n [] xs e h = no_items n xs h
 none_at n (t ∷ ss) xs e h = cc

@@ -34,7 +34,7 @@ within_first xs x cs w others = (
   (λ h. let n : length (text_of (line_of x)) ≤ LINE_BYTES = w.bytes_fit in omega (arith, h, n), others),
 )
 
--- and where no keyword is cut in it, not in the third
+-- and if no keyword is cut in it, not in the third
 pub within_clear : (xs : List (Item Reading)) (x : Item Reading) (cs : List Case) → IsWithin (line_of x) → is_cut_item x ≡ false →
     NoneHolds xs x cs → NoneHolds xs x (past_last ∷ too_long ∷ cut ∷ cs)
 within_clear xs x cs w whole others = within_first xs x (cut ∷ cs) w (λ h. not_true (is_cut_item x) whole h, others)

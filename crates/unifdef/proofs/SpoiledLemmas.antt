@@ -105,7 +105,7 @@ pub last_removed-ends : (ms : List Mark) → last_removed false ms ≡ ends_remo
 last_removed-ends [] = refl
 last_removed-ends (m ∷ ms) = last_is false m ms
 
--- none of some lines and of a line behind them is spoiled
+-- none of some lines and of a line after them is spoiled
 pub unspoiled_last : (removed : Bool) (xs : List (Item Reading)) (x : Item Reading) (ms : List Mark) (m : Mark) → length xs ≡ length ms →
     Unspoiled removed (xs ++ x ∷ []) (ms ++ m ∷ []) → Unspoiled removed xs ms × (is_spoiled_behind (last_removed removed ms) x m ≡ false)
 unspoiled_last removed [] x [] m e u = (tt, u.0)
@@ -119,7 +119,7 @@ pub found_here : (n : ℕ) (removed : Bool) (ss later : List Seen) (s : Seen) (m
     true ≡ is_spoiled_by removed s m → Some n ≡ spoiled_from n removed ss ms
 found_here n removed ss later s ms more m e f h = rw (e, f) (ap (λ b. if b then Some n else spoiled_from (suc n) (is_removed m.verdict) later more) h)
 
--- or the search goes on behind it
+-- or the search goes on after it
 pub found_later : (n k : ℕ) (removed last : Bool) (ss later : List Seen) (s : Seen) (ms more : List kept_marks.Mark) (m : kept_marks.Mark) → ss ≡ s ∷ later → ms ≡ m ∷ more →
     false ≡ is_spoiled_by removed s m → last ≡ is_removed m.verdict → k ≡ n + 1 → spoiled_from n removed ss ms ≡ spoiled_from k last later more
 found_later n k removed last ss later s ms more m e f h r q =
@@ -127,7 +127,7 @@ found_later n k removed last ss later s ms more m e f h r q =
     (sym (ap (λ b. if b then Some n else spoiled_from (suc n) (is_removed m.verdict) later more) h)
     ∙ ap (λ i. spoiled_from i (is_removed m.verdict) later more) (sym (q ∙ add-one n)) ∙ ap (λ b. spoiled_from k b later more) (sym r))
 
--- behind the last line, or the last mark, none is found
+-- after the last line, or the last mark, none is found
 pub found_none : (n : ℕ) (removed : Bool) (ss : List Seen) (ms : List kept_marks.Mark) → (length ss ≡ 0) ⊎ (length ms ≡ 0) → None ≡ spoiled_from n removed ss ms
 found_none n removed [] ms h = refl
 found_none n removed (s ∷ ss) [] h = refl

@@ -19,7 +19,7 @@ use Rattle.unifdef.proofs.ShapesLemmas.{if_shape, elif_shape, else_shape, first_
 use Rattle.unifdef.proofs.Moves.{moved_none, moved_line, moved_then, moved_as}
 use Rattle.unifdef.proofs.Sections.{elifs_with, marks_group, lines_group, height_with, stops_under, section_unclosed, misplaced_elif, misplaced_else}
 
--- in the nodes behind an opener
+-- in the nodes after an opener
 stuck_in_group : (a b c : Walk) (xs : List (Item Reading)) (kept inside : Bool) (level : ℕ) (before : List Cond) (part : Part) (k : Cond) (v : kept_marks.Mark) (stop : Stop) →
     v ≡ code_mark (marked kept (verdict_so_far before part k)) → inside ≡ (kept && is_kept before k) →
     (l : ReadsLine a b xs v) → Stuck b c l.after inside level stop → StuckInGroup a c xs kept level before part k stop
@@ -67,7 +67,7 @@ first_stops a b xs kept level c stops.TooDeep s r = stuck_first a b xs kept leve
 first_stops a b xs kept level c (stops.Unclosed o) s r = stuck_first a b xs kept level c (stops.Unclosed o) s r
 first_stops a b xs kept level c stops.OutOfMemory s r = tt
 
--- in a group behind an `#elif`
+-- in a group after an `#elif`
 stuck_elif : (a b d : Walk) (xs : List (Item Reading)) (kept : Bool) (level : ℕ) (c : Cond) (g : kept_groups.Groups) (seen : Bool) (opener : ℕ) (stop : Stop) →
     seen ≡ false → first_shape b.rest.now ≡ Some (Elif c) → (i : InSection a b xs kept level g seen opener) →
     StuckInGroup b d i.after kept (level + 1) (conds_of_head i.head) an_elif c stop → Stuck a d xs kept level stop
@@ -94,7 +94,7 @@ elif_stops a b d xs kept level c g seen opener stops.TooDeep h s i r = stuck_eli
 elif_stops a b d xs kept level c g seen opener (stops.Unclosed o) h s i r = stuck_elif a b d xs kept level c g seen opener (stops.Unclosed o) h s i r
 elif_stops a b d xs kept level c g seen opener stops.OutOfMemory h s i r = tt
 
--- in the group behind an `#else`
+-- in the group after an `#else`
 stuck_else : (a b d : Walk) (xs : List (Item Reading)) (kept : Bool) (level : ℕ) (g : kept_groups.Groups) (seen : Bool) (opener : ℕ) (stop : Stop) →
     seen ≡ false → first_shape b.rest.now ≡ Some Else → (i : InSection a b xs kept level g seen opener) →
     StuckInGroup b d i.after kept (level + 1) (conds_of_head i.head) an_else Yes stop → Stuck a d xs kept level stop
@@ -160,7 +160,7 @@ pub unclosed : (a b : Walk) (xs : List (Item Reading)) (kept : Bool) (level : �
     first_shape b.rest.now ≡ None → (i : InSection a b xs kept level g e opener) → Stuck a b xs kept level (stops.Unclosed opener)
 unclosed a b xs kept level g e opener s i = section_unclosed a b xs kept level g e opener i (none_at (length b.marks.items) b.rest.now i.after s i.moved.left)
 
--- at an `#elif` or an `#else` behind an `#else`
+-- at an `#elif` or an `#else` after an `#else`
 pub second_elif : (a b : Walk) (xs : List (Item Reading)) (kept : Bool) (level : ℕ) (g : kept_groups.Groups) (seen : Bool) (opener : ℕ) (c : Cond) →
     seen ≡ true → first_shape b.rest.now ≡ Some (Elif c) → (i : InSection a b xs kept level g seen opener) → Stuck a b xs kept level stops.OutOfPlace
 second_elif a b xs kept level g seen opener c q s i =

@@ -56,7 +56,7 @@ same_front [] (g ∷ gs) xs ys e n = cc
 same_front (f ∷ fs) [] xs ys e n = cc
 same_front {X} (f ∷ fs) (g ∷ gs) xs ys e n = ap₂ (λ (z : X) (zs : List X). z ∷ zs) (cc) (same_front fs gs xs ys (cc) (cc))
 
--- the number of a line behind others
+-- the number of a line after others
 number_at : (k : ℕ) (texts : List (List ℕ)) (front : List Line) (l : Line) (later : List Line) → numbered_from k texts ≡ front ++ l ∷ later →
     l.number ≡ k + length front
 number_at k [] [] l later e = cc
@@ -92,7 +92,7 @@ module _ (o : Options) (name input : List ℕ) (held : held_text.Held) (end : En
   split : (t : Tree Reading) (ys : List (Item Reading)) → Walked w (items_in o ls) t ys → SplitLines o [] ls (lines t) ys
   split t ys k = split_lines o [] ls (lines t) ys k.split
 
-  -- where no directive is spoiled, the lines that the walk read are sound
+  -- if no directive is spoiled, the lines that the walk read are sound
   walked_front : (t : Tree Reading) (ys : List (Item Reading)) (k : Walked w (items_in o ls) t ys) → spoiled_from 0 false held.seen.items w.marks.items ≡ None →
       Front o ls t (map mark_of w.marks.items) (split t ys k).back
   walked_front t ys k none =
@@ -122,7 +122,7 @@ module _ (o : Options) (name input : List ℕ) (held : held_text.Held) (end : En
       ap length (marks_are t [] k) ∙ length_marks true t ∙ ap length (sym (append-nil (lines t)) ∙ sym k.split)
       ∙ length_items o ls ∙ length-numbered_from 1 h.texts
 
-  -- and nothing is left behind it
+  -- and nothing is left after it
   all_front : (t : Tree Reading) → Walked w (items_in o ls) t [] → spoiled_from 0 false held.seen.items w.marks.items ≡ None →
       Front o ls t (map mark_of w.marks.items) []
   all_front t k none =
@@ -182,7 +182,7 @@ module _ (o : Options) (name input : List ℕ) (held : held_text.Held) (end : En
   halts_from (kinds.Unclosed opener) some k = k
   halts_from kinds.OutOfMemory some k = absurd (some refl)
 
-  -- where no directive is spoiled, this comes of the text
+  -- if no directive is spoiled, this comes of the text
   pub unspoiled_comes : (stop : Option Stop) → WalkEnds w (items_in o ls) stop → spoiled_from 0 false held.seen.items w.marks.items ≡ None →
       Comes o name input ls (map mark_of w.marks.items) (outcome_by stop (first_shape w.rest.now) (length w.marks.items) held.in_comment end)
   unspoiled_comes (Some stop) k none = halted stop k.0 (halts_from stop k.0 k.1) none

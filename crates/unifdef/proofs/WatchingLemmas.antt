@@ -30,7 +30,7 @@ pub sent_bytes : (a b c : Option (List ℕ)) (bytes rest : List ℕ) (n : ℕ) �
 sent_bytes a b c bytes rest n s p =
     sent_part a b c bytes (take n rest) (drop n rest) (subst (λ r. Sent a b bytes r) (sym (take-append-drop n rest)) s) p
 
--- where no rest is left, all is appended
+-- if no rest is left, all is appended
 pub sent_all : (a b : Option (List ℕ)) (bytes rest : List ℕ) → Sent a b bytes rest → rest ≡ [] → Appends a b bytes
 sent_all a b bytes rest s e =
     subst (λ x. Appends a b x) (sym (s.joined ∙ ap (λ r. s.front ++ r) e ∙ append-nil s.front)) s.appended
@@ -50,7 +50,7 @@ kept (Some u) None c x p q = absurd p
 kept (Some u) (Some v) None x p q = absurd q
 kept (Some u) (Some v) (Some w) x p q = q ∙ p
 
--- where nothing more is appended, what was is a front
+-- if nothing more is appended, what was is a front
 pub sent_kept : (a b c : Option (List ℕ)) (bytes rest : List ℕ) → Sent a b bytes rest → Keeps b c → AppendsFront a c bytes
 sent_kept a b c bytes rest s k = (s.front, rest, s.joined, kept a b c s.front s.appended k)
 
@@ -68,7 +68,7 @@ says_all false a b bytes e h = h
 pub says_same : (failed : Bool) (a b : Option (List ℕ)) (x y : List ℕ) → x ≡ y → Says failed a b x → Says failed a b y
 says_same failed a b x y e h = subst (λ z. Says failed a b z) e h
 
--- the rest behind the first n bytes, as a range gives it
+-- the rest after the first n bytes, as a range gives it
 pub range_from : (rest : List ℕ) (n : ℕ) → take (length rest - n) (drop n rest) ≡ drop n rest
 range_from rest n = grind (arith, common_steps)
 
@@ -82,7 +82,7 @@ pub said_all : (failed : Bool) (a b : Option (List ℕ)) (bytes : List ℕ) → 
 said_all true a b bytes e h = cc
 said_all false a b bytes e h = h
 
--- the bytes of the parts from an index on are those of the part there, and those of the parts behind it
+-- the bytes of the parts from an index on are those of the part there, and those of the parts after it
 pub flat_map-drop : {X : Type 0} (f : X → List ℕ) (xs : List X) (i : ℕ) (d : X) → i < length xs
     → flat_map f (drop i xs) ≡ f (get_or xs i d) ++ flat_map f (drop (i + 1) xs)
 flat_map-drop f xs i d h =
@@ -134,7 +134,7 @@ parts_empty f xs i d a b h s e =
 pub front_first : (a b : Option (List ℕ)) (x y : List ℕ) → AppendsFront a b x → AppendsFront a b (x ++ y)
 front_first a b x y h = sent_front a a b (x ++ y) x y (sent_none a (x ++ y)) h
 
--- behind the first bytes a front of the others was appended
+-- after the first bytes a front of the others was appended
 pub front_second : (a b c : Option (List ℕ)) (x y : List ℕ) → Appends a b x → AppendsFront b c y → AppendsFront a c (x ++ y)
 front_second a b c x y h k =
     sent_front a b c (x ++ y) y []

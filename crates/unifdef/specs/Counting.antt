@@ -1,10 +1,10 @@
 -- Counting: how the code knows the depth of a directive.
 -- unifdef(1), `-S`.
 --
---   open_with n x      how many sections are open behind the item, where n are open before it
+--   open_with n x      how many sections are open after the item, where n are open before it
 --   level_at n x       how many stand around the item's own section, where n are open before it
 --   counted n xs       that of each of these items
---   open_by n s        the count behind a line of this shape, and level_by n s the one around its section
+--   open_by n s        the count after a line of this shape, and level_by n s the one around its section
 use Rattle.std.specs.Prelude.{ℕ, suc, List, [], ◌∷◌}
 use Rattle.ud_model.specs.text.Scans.{Reading}
 use Rattle.ud_model.specs.sections.Tree.{Item, text_line, if_line, elif_line, else_line, endif_line}

@@ -1,6 +1,6 @@
 -- Ending: what comes of a text, as the code tells it.
 --
---   outcome_by stop next n comment end    by why the walk stopped, what comes next behind it, how many lines were read,
+--   outcome_by stop next n comment end    by why the walk stopped, what comes next after it, how many lines were read,
 --                                         whether a comment is open at the end, and why the reading stopped
 --   message_told, status_told             what is said of an outcome, and its status, where `out` was flushed or couldn't be
 use Rattle.std.specs.Prelude.{ℕ, ◌+◌, List, [], Bool, true, false, Option, Some, None, if◌then◌else◌}
@@ -17,13 +17,13 @@ use Rattle.unifdef.specs.declared.outcome.Outcome.{Outcome}
 use Rattle.unifdef.specs.declared.outcome.Outcome.TheVariants.{Fault, ReadError, Done}
 use Rattle.unifdef.specs.Told.{fault_told, limit_fault, misplaced_by}
 
--- behind all lines that are held
+-- after all lines that are held
 abbrev pub at_end : End → Bool → ℕ → Outcome → Outcome
 at_end Ended comment n right = if comment then Fault (kinds.EofInComment n) else right
 at_end Failed comment n right = ReadError
 at_end (Broken f) comment n right = Fault (limit_fault f)
 
--- a walk stopped behind n lines; of want of memory, which says nothing of the text, this is never asked
+-- a walk stopped after n lines; of want of memory, which says nothing of the text, this is never asked
 abbrev pub stopped_by : Stop → Option Shape → ℕ → Bool → End → Outcome
 stopped_by stops.Cut s n comment end = Fault (kinds.Obfuscated (n + 1))
 stopped_by stops.OutOfPlace s n comment end = Fault (misplaced_by s (n + 1))

@@ -1,10 +1,10 @@
 -- Inside: how the code knows the mode of the next line.
 -- unifdef(1), `-t`, `-iD`, `-iU`.
 --
---   inside_after n xs     how many sections are open within the outermost ignoring one, that one counted too, behind
+--   inside_after n xs     how many sections are open within the outermost ignoring one, that one counted too, after
 --                         these items, where n were before them; 0 outside
---   item_at o xs l        what the line l is behind these items, where the count tells its mode
---   items_behind o xs ls  what these lines are behind these items, and items_in o ls what the lines of a text are
+--   item_at o xs l        what the line l is after these items, where the count tells its mode
+--   items_behind o xs ls  what these lines are after these items, and items_in o ls what the lines of a text are
 use Rattle.std.specs.Prelude.{ℕ, zero, suc, List, [], ◌∷◌, ◌++◌, Bool, true, false, ◌||◌, if◌then◌else◌}
 use Rattle.ud_model.specs.text.Lines.{Line}
 use Rattle.ud_model.specs.text.Scans.{Reading}
@@ -56,11 +56,11 @@ abbrev pub is_inside : ℕ → Bool
 is_inside zero = false
 is_inside (suc n) = true
 
--- what the line is behind these items
+-- what the line is after these items
 abbrev pub item_at : Options → List (Item Reading) → Line → Item Reading
 item_at o xs l = item_of o (read_after xs (mode_by (o.settings.plain || is_inside (inside_after 0 xs))) l)
 
--- what these lines are behind these items
+-- what these lines are after these items
 abbrev pub items_behind : Options → List (Item Reading) → List Line → List (Item Reading)
 items_behind o xs [] = []
 items_behind o xs (l ∷ ls) = item_at o xs l ∷ items_behind o (xs ++ item_at o xs l ∷ []) ls

@@ -1,9 +1,9 @@
 -- Intake: what is held of a reader's bytes, and why the reading stopped.
 --
---   HeldOf o old new failed held end   with these bytes left in the reader before and behind, this is held
+--   HeldOf o old new failed held end   with these bytes left in the reader before and after, this is held
 --   LinesHeld end given ls             of the bytes given, these lines
 --   Fed o held lines text              these bytes were taken, all of them within the limits
---   Stopped o held end given           behind these bytes the reading stopped so, and this is held of them
+--   Stopped o held end given           after these bytes the reading stopped so, and this is held of them
 use Rattle.std.specs.Prelude.{◌≡◌, ℕ, suc, ◌+◌, ◌-◌, ◌*◌, ◌<◌, ◌≤◌, List, [], ◌∷◌, ◌++◌, length, Bool, true, false, Option, None}
 use Rattle.std.specs.List.{AllByRecursion}
 use Rattle.std.specs.Io.KnownBytes.{Consumes, IsAtEnd}
@@ -69,7 +69,7 @@ pub record Fed (o : Options) (held : Held) (lines : Holding) (text : List ℕ) :
   pub within : AllByRecursion IsWithin (numbered_from 1 (whole_lines text))
   pub holds : Holds o held (numbered_from 1 (whole_lines text))
 
--- behind these bytes the reading stopped so, and this is held of them
+-- after these bytes the reading stopped so, and this is held of them
 pub record Stopped (o : Options) (held : Held) (end : End) (given : List ℕ) : Type 0 where
   pub texts : List (List ℕ)
   pub lines : LinesHeld end given (numbered_from 1 texts)

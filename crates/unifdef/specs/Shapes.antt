@@ -2,7 +2,7 @@
 --
 --   shape_by x            what the item is among the sections
 --   seen_of x             what is kept of the item's line
---   AreSeen n ss xs       of these items, behind n others, this is kept
+--   AreSeen n ss xs       of these items, after n others, this is kept
 --   mark_of m             a mark as the definitions have it
 use Rattle.std.specs.Prelude.{◌≡◌, ℕ, suc, List, [], ◌∷◌, Bool, true, false, Option, Some, None, if◌then◌else◌}
 use Rattle.ud_model.specs.text.Scans.{Reading, is_spanning}
@@ -60,7 +60,7 @@ seen_of x = record {
   plain = is_plain (reading_of x).mode;
 }
 
--- of these items, behind n others, this is kept
+-- of these items, after n others, this is kept
 abbrev pub AreSeen : ℕ → List Seen → List (Item Reading) → Type 0
 AreSeen n [] [] = Unit {0}
 AreSeen n [] (x ∷ xs) = ⊥

@@ -1,7 +1,7 @@
 -- Showing: lines of a text that is held, as they are printed.
 --
 --   line_between text at end n       the line of this number that begins here in a text and ends there
---   Shown shown old new run piece t  a line's piece was printed behind a run of bytes where it isn't the line t itself
+--   Shown shown old new run piece t  a line's piece was printed after a run of bytes where it isn't the line t itself
 use Rattle.std.specs.Prelude.{◌≡◌, ℕ, ◌-◌, List, ◌++◌, take, drop, Bool, true, false, not, Option, bytes_eq}
 use Rattle.std.specs.Io.KnownBytes.{Appends}
 use Rattle.ud_model.specs.text.Lines.{Line}

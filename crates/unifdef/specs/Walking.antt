@@ -87,7 +87,7 @@ abbrev pub is_open : Tree Reading → Bool
 is_open (closed ns) = false
 is_open (open_section ns h t) = true
 
--- why a walk stops behind a text with this tree, so many sections being open around it, where these lines are left
+-- why a walk stops after a text with this tree, so many sections being open around it, where these lines are left
 abbrev pub StopsFor : Stop → Tree Reading → List (Item Reading) → ℕ → Type 0
 StopsFor Cut t ys level = (x : Item Reading) × (after : List (Item Reading)) × (ys ≡ x ∷ after) × (is_cut_item x ≡ true)
 StopsFor OutOfPlace t ys level =
@@ -99,7 +99,7 @@ StopsFor TooDeep t ys level =
 StopsFor (Unclosed opener) t ys level = (ys ≡ []) × ((o : Opener Reading) × (innermost t ≡ Some o) × (o.line.line.number ≡ suc opener))
 StopsFor OutOfMemory t ys level = Unit {0}
 
--- a text with this tree was read, and the walk stops behind it
+-- a text with this tree was read, and the walk stops after it
 pub record Stuck (old new : Walk) (xs : List (Item Reading)) (kept : Bool) (level : ℕ) (stop : Stop) : Type 0 where
   pub tree : Tree Reading
   pub after : List (Item Reading)
@@ -107,7 +107,7 @@ pub record Stuck (old new : Walk) (xs : List (Item Reading)) (kept : Bool) (leve
   pub low : level + height tree ≤ OPEN_SECTIONS
   pub why : StopsFor stop tree after level
 
--- where memory is refused nothing is said
+-- if memory is refused nothing is said
 abbrev pub StopsWell : Walk → Walk → List (Item Reading) → Bool → ℕ → Stop → Type 0
 StopsWell old new xs kept level Cut = Stuck old new xs kept level Cut
 StopsWell old new xs kept level OutOfPlace = Stuck old new xs kept level OutOfPlace
@@ -115,7 +115,7 @@ StopsWell old new xs kept level TooDeep = Stuck old new xs kept level TooDeep
 StopsWell old new xs kept level (Unclosed opener) = Stuck old new xs kept level (Unclosed opener)
 StopsWell old new xs kept level OutOfMemory = Unit {0}
 
--- an opener was read, and then a text with this tree, and the walk stops behind it
+-- an opener was read, and then a text with this tree, and the walk stops after it
 pub record StuckInGroup (old new : Walk) (xs : List (Item Reading)) (kept : Bool) (level : ℕ) (before : List Cond) (part : Part) (c : Cond) (stop : Stop) : Type 0 where
   pub opener : Item Reading
   pub tree : Tree Reading
@@ -142,7 +142,7 @@ BeginsBefore n TooDeep = Unit {0}
 BeginsBefore n (Unclosed opener) = opener < n
 BeginsBefore n OutOfMemory = Unit {0}
 
--- why a walk over a whole text stops behind this tree, where these lines are left
+-- why a walk over a whole text stops after this tree, where these lines are left
 abbrev pub HaltsFor : Stop → Tree Reading → List (Item Reading) → Type 0
 HaltsFor Cut t ys = (x : Item Reading) × (after : List (Item Reading)) × (ys ≡ x ∷ after) × (is_cut_item x ≡ true)
 HaltsFor OutOfPlace t ys =
@@ -173,7 +173,7 @@ pub record Halts (w : Walk) (xs : List (Item Reading)) (stop : Stop) : Type 0 wh
   pub walked : Walked w xs tree after
   pub why : HaltsFor stop tree after
 
--- where memory is refused nothing is said
+-- if memory is refused nothing is said
 abbrev pub HaltsWell : Walk → List (Item Reading) → Stop → Type 0
 HaltsWell w xs Cut = Halts w xs Cut
 HaltsWell w xs OutOfPlace = Halts w xs OutOfPlace

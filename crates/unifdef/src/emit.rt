@@ -7,7 +7,7 @@ ghost use Rattle.unifdef.specs.Watching.{Says};
 use crate::watched::Watched;
 use std::io::Write;
 
-/// Writes all of these bytes, in as many calls as the writer needs, and none where there are no bytes.
+/// Writes all of these bytes, in as many calls as the writer needs, and none if there are no bytes.
 ///
 /// # Errors
 /// `false` where a write fails: a front of the bytes is written, and `out` has failed.

@@ -9,9 +9,9 @@ pub(crate) enum Fault {
     LineTooLong { line: u32 },
     /// It can't be known whether the line is a directive, or a directive that spans lines would have to be changed.
     Obfuscated { line: u32 },
-    /// An `#elif` stands in no section, or behind its `#else`.
+    /// An `#elif` stands in no section, or after its `#else`.
     InappropriateElif { line: u32 },
-    /// An `#else` stands in no section, or behind another.
+    /// An `#else` stands in no section, or after another.
     InappropriateElse { line: u32 },
     /// An `#endif` stands in no section.
     InappropriateEndif { line: u32 },

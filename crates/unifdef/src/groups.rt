@@ -162,7 +162,7 @@ fn first_kept_verdict(part: Part) -> Verdict
     }
 }
 
-/// The verdict of an opener behind the first kept one, up to the first true group.
+/// The verdict of an opener after the first kept one, up to the first true group.
 fn later_verdict(part: Part, cond: Cond) -> Verdict
     ensures { result ≡ later_verdict (part_of part) cond }
 {

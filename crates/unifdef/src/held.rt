@@ -23,9 +23,9 @@ use ud_text::{Line, Scanner};
 /// Where a line and its body end in the text, counted in bytes from the text's beginning.
 #[derive(Clone, Copy, Debug, PartialEq, Eq)]
 pub(crate) struct LineEnd {
-    /// Behind the body, where the ending begins.
+    /// After the body, where the ending begins.
     pub body: usize,
-    /// Behind the ending, where the next line begins.
+    /// After the ending, where the next line begins.
     pub line: usize,
 }
 
@@ -40,9 +40,9 @@ pub(crate) struct Held {
     pub seen: Vec<Seen>,
     /// What was read of them.
     pub scanner: Scanner,
-    /// How many sections are open behind them within the outermost one that is plain text, that one counted too.
+    /// How many sections are open after them within the outermost one that is plain text, that one counted too.
     pub inside: usize,
-    /// A block comment is open behind them.
+    /// A block comment is open after them.
     pub in_comment: bool,
 }
 

@@ -8,7 +8,7 @@ ghost use Rattle.unifdef.specs.Inside.{inside_with, opened, ended, inside_by, mo
 use crate::seen::Seen;
 use crate::shape::Shape;
 
-/// How many sections are open behind a line within the outermost one that is plain text, that one counted too, where so
+/// How many sections are open after a line within the outermost one that is plain text, that one counted too, where so
 /// many are open before the line.
 ///
 /// The count stops at the largest number there is, which no text reaches.

@@ -26,7 +26,7 @@ use ud_cond::Names;
 use ud_sections::Lister;
 use ud_text::{Line, Scanner};
 
-/// Lists the names of the lines that are held, as far as they have marks: each with a line feed, and behind its depth
+/// Lists the names of the lines that are held, as far as they have marks: each with a line feed, and after its depth
 /// where depths are asked for.
 ///
 /// # Errors
@@ -64,7 +64,7 @@ pub(crate) fn list_held<W: Write>(
     true
 }
 
-/// How many sections are open behind a line, where so many are open before it.
+/// How many sections are open after a line, where so many are open before it.
 ///
 /// The count stops at the largest number there is, which no text reaches.
 fn open_with(sections: usize, shape: Shape) -> usize
@@ -87,7 +87,7 @@ fn level_at(sections: usize, shape: Shape) -> usize
     }
 }
 
-/// Reads the next line, as plain text or in C mode, and lists the names on it, each with a line feed and behind the
+/// Reads the next line, as plain text or in C mode, and lists the names on it, each with a line feed and after the
 /// prefix. The scanner has read the lines before; the line's body is one that it can read.
 ///
 /// # Errors
@@ -113,7 +113,7 @@ fn list_line<W: Write>(
     list_names(out, prefix, Lister::names(&scan))
 }
 
-/// Lists names, each with a line feed and behind the prefix.
+/// Lists names, each with a line feed and after the prefix.
 ///
 /// # Errors
 /// `false` where a write fails: a front is written, and `out` has failed.
@@ -130,7 +130,7 @@ fn list_names<W: Write>(out: &mut Watched<W>, prefix: &[u8], names: Names<'_>) -
     true
 }
 
-/// Lists one name, with a line feed and behind the prefix.
+/// Lists one name, with a line feed and after the prefix.
 ///
 /// # Errors
 /// `false` where a write fails: a front is written, and `out` has failed.

@@ -33,7 +33,7 @@ pub(crate) enum Outcome {
 }
 
 /// What comes of a text of which so many lines were read, by why the walk over it stopped, if it did, what comes next
-/// behind it, whether a comment is open at the end, and why the reading stopped. Want of memory says nothing of a text.
+/// after it, whether a comment is open at the end, and why the reading stopped. Want of memory says nothing of a text.
 pub(crate) fn outcome_by(
     stop: Option<Stop>,
     next: Option<Shape>,
@@ -52,7 +52,7 @@ pub(crate) fn outcome_by(
     }
 }
 
-/// What comes of a text whose walk stopped behind so many lines; want of memory says nothing of it.
+/// What comes of a text whose walk stopped after so many lines; want of memory says nothing of it.
 fn stopped(stop: Stop, next: Option<Shape>, count: u32, in_comment: bool, end: End) -> Outcome
     requires count { count ≤ TEXT_LINES }
     requires opener { BeginsBefore count stop }
@@ -77,7 +77,7 @@ fn stopped(stop: Stop, next: Option<Shape>, count: u32, in_comment: bool, end: E
     }
 }
 
-/// What comes of a text behind all its lines that are held, where it has no fault in them: an open comment comes before
+/// What comes of a text after all its lines that are held, where it has no fault in them: an open comment comes before
 /// an open section.
 fn at_end(end: End, in_comment: bool, count: u32, right: Outcome) -> Outcome
     ensures { result ≡ at_end end in_comment count right }

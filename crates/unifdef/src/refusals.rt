@@ -45,7 +45,7 @@ fn report_letter<E: Write>(err: &mut Watched<E>, before: &[u8], letter: char, be
     emit_parts(err, &[before, bytes, behind]);
 }
 
-/// Says something of a word, whose number stands behind the text.
+/// Says something of a word, whose number stands after the text.
 fn report_number<E: Write>(err: &mut Watched<E>, text: &[u8], word: usize)
     requires works { err.old.failed ≡ false }
     ensures { Says err.new.failed (E.contents err.old.inner) (E.contents err.new.inner)

@@ -44,14 +44,14 @@ use ud_words::{input_name, plan};
 /// call the input by the operand, or `stdin`. Interim: the text is held whole until its end is read. Lines are told
 /// from 1, words too.
 ///
-/// Where memory isn't refused and neither `reader` nor `out` fails, what is appended to `out` and to `err` and the
+/// If memory isn't refused and neither `reader` nor `out` fails, what is appended to `out` and to `err` and the
 /// status are those of the one answer of the definitions (ud_model, specs/answer/Answer.antt). `out` is flushed once at the end
 /// of a run.
 ///
 /// # Errors
 /// The status is 2, and `err` has one message, in all these cases: a fault of the words, and nothing is read; a fault of
-/// the text, behind what is left of the lines before; memory is refused, and nothing is written to `out`; a read fails,
-/// behind what is left of the whole lines that came before; a write or the flush fails. Where `err` fails, the message
+/// the text, after what is left of the lines before; memory is refused, and nothing is written to `out`; a read fails,
+/// after what is left of the whole lines that came before; a write or the flush fails. Where `err` fails, the message
 /// may be cut, and the status stays.
 pub fn tool<R: Read, W: Write, E: Write>(
     alloc: Global,
@@ -63,7 +63,7 @@ pub fn tool<R: Read, W: Write, E: Write>(
     requires reader { reader.old.failed ≡ false }
     requires out { out.old.failed ≡ false }
     requires err { err.old.failed ≡ false }
-    // Where neither reading nor writing fails, this is the definition's answer, or memory was refused.
+    // If neither reading nor writing fails, this is the definition's answer, or memory was refused.
     ensures headline { let before : Streams = streams (W.contents out.old.inner) (E.contents err.old.inner) in
         let after : Streams = streams (W.contents out.new.inner) (E.contents err.new.inner) in
         reader.new.failed ≡ false → out.new.failed ≡ false → IfSome (R.remaining reader.old.inner) (λ input.

@@ -12,7 +12,7 @@ pub struct Seen {
     pub ignoring: bool,
     /// Where the keyword of its directive lies in its body; 0, 0 for a text line.
     pub keyword: Span,
-    /// It joins the line before or the line behind.
+    /// It joins the line before or the line after.
     pub spans: bool,
     /// The line before joins it.
     pub joins_before: bool,

@@ -1,7 +1,7 @@
 //! The walk over the lines of a text: a recursion over nodes, sections and groups that gives each line its mark.
 //!
-//! It reads as the grammar of a text does (C11 6.10): nodes are text lines and sections, a section is a group behind
-//! an `#if`, groups behind `#elif`, perhaps one behind `#else`, and an `#endif`.
+//! It reads as the grammar of a text does (C11 6.10): nodes are text lines and sections, a section is a group after
+//! an `#if`, groups after `#elif`, perhaps one after `#else`, and an `#endif`.
 
 ghost use Rattle.std.specs.Prelude.{◌≡◌, ◌+◌, ◌<◌, ◌≤◌, ℕ, suc, List, [], length, true, false, IsTrue, IfErr, OnOk, ◌∷◌, ◌++◌, Some, None};
 ghost use Rattle.ud_model.specs.text.Scans.{Reading};

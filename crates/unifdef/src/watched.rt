@@ -81,7 +81,7 @@ impl<R: Read> Watched<R> {
 impl<W: Write> Watched<W> {
     /// Calls the writer's `write` once, with bytes of which there may be none.
     ///
-    /// The answer counts the bytes that the writer took, which are the first ones. It is 0 only where there are none.
+    /// The answer counts the bytes that the writer took, which are the first ones. It is 0 only if there are none.
     ///
     /// # Errors
     /// `None` where the writer's call fails, also where it was interrupted, and where the writer takes none of at

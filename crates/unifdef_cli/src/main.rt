@@ -45,7 +45,7 @@ fn run<R: Read + Drop>(rt: &HostRuntime, words: &[String], reader: R) -> ExitCod
     ExitCode::from(tool(rt.alloc(), words, &mut reader, &mut out, &mut err))
 }
 
-/// The words behind the program's name.
+/// The words after the program's name.
 fn words(rt: &HostRuntime) -> io::Result<Vec<String>> {
     let mut words = Vec::new(rt.alloc());
     for word in env::args(rt)?.skip(1) {

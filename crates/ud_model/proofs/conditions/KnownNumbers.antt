@@ -225,7 +225,7 @@ pub zero_decides : (a : ℤ) → Decides (is_zero a) (a ≡ pos 0)
 zero_decides (pos j) = like_decides (nat_eq j 0) (λ e. ap pos e) (pos_same j 0) (Decides-eqb j 0)
 zero_decides (negsuc j) = ((λ e. absurd (false≢true e)), λ h. cc)
 
--- a known number is 0 exactly where C's is
+-- a known number is 0 exactly if C's is
 pub zero_agrees : (u : Bool) (a : ℤ) (x : Number) → Agrees u a x → Decides (is_zero a) (number x ≡ pos 0)
 zero_agrees u a x p = like_decides (is_zero a) (λ e. agrees_number u a x p ∙ e) (λ e. sym (agrees_number u a x p) ∙ e) (zero_decides a)
 

@@ -1,7 +1,7 @@
 -- Known stays: a known value of an expression is its C value, whatever the open names stand for.
 --
 -- By the way in which the C value comes about. A known operand has C's number, so an operator on two known operands is one on
--- numbers (KnownNumbers). A value with an unknown operand is known only where the other one decides `&&` or `||`, and then C
+-- numbers (KnownNumbers). A value with an unknown operand is known only if the other one decides `&&` or `||`, and then C
 -- gives the same from whichever operand decides it there.
 use Rattle.std.proofs.Common.{◌≡◌, ℕ, ◌^◌, ◌<◌, ◌≤◌, Bool, true, false, not, ◌&&◌, ◌||◌, if◌then◌else◌, List, [], ◌∷◌, Option, Some, None, is_some, ◌==◌, refl, sym, ◌∙◌, ap, subst, inl, inr, arith, ℤ, pos, negsuc, neg_ℤ, nat_lt}
 use Rattle.std.specs.Int.{cast_unsigned}

@@ -53,7 +53,7 @@ below_more j k (left o a ∷ s) l b = omega arith
 below_more j k (before o ∷ s) l b = omega arith
 below_more j k (paren ∷ s) l b = tt
 
--- where nothing tighter than level j comes next, nothing tighter than a tighter level does
+-- if nothing tighter than level j comes next, nothing tighter than a tighter level does
 pub stops_more : (j k : ℕ) (ts : List Token) → j ≤ k → Stops j ts → Stops k ts
 stops_more j k [] l b = tt
 stops_more j k (operator o ∷ ts) l b = omega arith
@@ -63,7 +63,7 @@ stops_more j k (defined ∷ ts) l b = tt
 stops_more j k (opening ∷ ts) l b = tt
 stops_more j k (closing ∷ ts) l b = tt
 
--- behind a prefix operator every operator stops
+-- after a prefix operator every operator stops
 stops_ten : (ts : List Token) → Stops 10 ts
 stops_ten [] = tt
 stops_ten (operator o ∷ ts) = let h : level o ≤ 9 = level_most o in omega arith
@@ -96,7 +96,7 @@ module _ {A : Type 0} (m : Meaning A) where
   reduce_left j o a x s l =
       ap (λ (t : Bool). if t then reduce m j (m.binary o a x) s else (x, left o a ∷ s)) (leb_yes j (level o) l)
 
-  -- an operator takes its right operand where no tighter one comes next
+  -- an operator takes its right operand if no tighter one comes next
   take_left : (o : Operator) (a x : A) (s : List (Frame A)) (ts : List Token) → Stops (level o) ts → run m (has x (left o a ∷ s)) ts ≡ run m (has (m.binary o a x) s) ts
   take_left o a x s [] h = ap (alone m) (reduce_left 0 o a x s (omega arith))
   take_left o a x s (operator p ∷ ts) h =

@@ -120,7 +120,7 @@ prefix_if : (b : Bool) (o : Operator) (s : List (Frame Expression)) (us : List T
 prefix_if true o s us e f w = ((e, f), ap (λ ys. ys ++ operator o ∷ []) w)
 prefix_if false o s us e f w = tt
 
--- a token more is one of the state behind it
+-- a token more is one of the state after it
 step_holds : (us : List Token) (st : State Expression) (t : Token) → Holds us st → Holds (us ++ t ∷ []) (step itself st t)
 step_holds us (needs s) (number w) h = (h.0, tt, ap (λ ys. ys ++ number w ∷ []) h.1)
 step_holds us (needs s) (name n a) h = (h.0, tt, ap (λ ys. ys ++ name n a ∷ []) h.1)

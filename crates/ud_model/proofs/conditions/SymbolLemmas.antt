@@ -1,6 +1,6 @@
 -- Symbols: where the value of a name ends depends on what the table says of names, and not on how long it is.
 --
--- A way that ends needn't come to a name twice. So behind its first name it goes over the arguments that name another, and
+-- A way that ends needn't come to a name twice. So after its first name it goes over the arguments that name another, and
 -- these are fewer.
 use Rattle.std.proofs.Common.{◌≡◌, ℕ, zero, suc, ◌≤◌, ◌<◌, List, [], ◌∷◌, length, Bool, true, false, if◌then◌else◌, Option, Some, None, bytes_eq, refl, sym, ◌∙◌, ap, subst, ◌⊎◌, inl, inr, arith}
 use Rattle.std.proofs.lemmas.Slice.Eq.{bytes_eq-Decides}
@@ -50,7 +50,7 @@ ends_behind t k n w d e = ap (on_text (λ x. ends_in k t x)) d ∙ if_name (λ x
 abbrev pub Follows : List Argument → List Argument → Type 0
 Follows t u = (n w : List ℕ) → defined_text t n ≡ Some w → defined_text u n ≡ Some w
 
--- a step is taken over a table that follows, where the way behind it is
+-- a step is taken over a table that follows, where the way after it is
 step_follows : (j k : ℕ) (t u : List Argument) → Follows t u → (n v : List ℕ) → Goes t j n v →
     ((w : List ℕ) → ends_in j t w ≡ Some v → ends_in k u w ≡ Some v) → ends_in (suc k) u n ≡ Some v
 step_follows j k t u f n v g further = by g.on

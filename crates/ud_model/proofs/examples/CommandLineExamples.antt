@@ -35,7 +35,7 @@ pub values : (options_of (codes "-DA" ∷ codes "-DB=" ∷ codes "-DC=x=y" ∷ [
 unfolding chars encode_utf8
 values = refl
 
--- `-i` takes `D` or `U` and what stands behind such an option
+-- `-i` takes `D` or `U` and what stands after such an option
 pub ignoring_symbols : options_of (codes "-i" ∷ codes "DA" ∷ codes "-siUB" ∷ []) ≡
     record {
       settings = record no_settings { listing = Names };
@@ -79,7 +79,7 @@ pub file_has_a_place : input_of (codes "-DA" ∷ codes "f.c" ∷ []) ≡ Some 1
 unfolding chars encode_utf8
 file_has_a_place = refl
 
--- behind `--` a word of letters is an operand, and so is the empty word anywhere
+-- after `--` a word of letters is an operand, and so is the empty word anywhere
 pub letters_as_operand : input_of (codes "--" ∷ codes "-B" ∷ []) ≡ Some 1
 unfolding chars encode_utf8
 letters_as_operand = refl
@@ -143,7 +143,7 @@ pub mode_in_the_next_word : usage_fault (codes "-x" ∷ codes "3" ∷ []) ≡ So
 unfolding chars encode_utf8
 mode_in_the_next_word = refl
 
--- behind the first operand every word is an operand
+-- after the first operand every word is an operand
 pub two_files : usage_fault (codes "-DA" ∷ codes "-" ∷ codes "-b" ∷ []) ≡ Some too_many_files
 unfolding chars encode_utf8
 two_files = refl

@@ -109,7 +109,7 @@ if_before_splice = refl
 pub sign_before_splice : content_of (joined_scan (codes "#") Outside) ≡ cut_keyword
 sign_before_splice = refl
 
--- white space may stand before and behind the `#`
+-- white space may stand before and after the `#`
 pub spaced_ifdef : content_of (plain_scan (a_line (codes "  # ifdef A") (codes "\n") 1)) ≡
     directive (record { kind = Ifdef; keyword = record { at = 4; len = 5 }; after = codes " A"; broken = false })
 spaced_ifdef = refl
@@ -187,7 +187,7 @@ pub true_elif_lines : lines true_elif ≡
     ∷ else_line 7 ∷ text_line 8 ∷ endif_line 9 ∷ []
 true_elif_lines = refl
 
--- the true opener becomes the `#else`, and the opener behind it the `#endif`
+-- the true opener becomes the `#else`, and the opener after it the `#endif`
 pub true_elif_verdicts : verdicts true_elif ≡ Keep ∷ Keep ∷ ToElse ∷ Keep ∷ ToEndif ∷ Remove ∷ Remove ∷ Remove ∷ Remove ∷ []
 true_elif_verdicts = refl
 
@@ -207,7 +207,7 @@ open_else_verdicts = refl
 pub open_else_depth : depth open_else ≡ 1
 open_else_depth = refl
 
--- behind a line alone an `#endif` is out of its place
+-- after a line alone an `#endif` is out of its place
 pub lone_endif : ¬ (HasTree {L = ℕ} (text_line 1 ∷ endif_line 2 ∷ []))
 lone_endif (t, e) = omega (arith, endifs_of_tree t, ap endifs e, ap ifs e)
 
@@ -254,7 +254,7 @@ ifdef_of_name = refl
 pub ifndef_of_name : condition_of Ifndef (codes " A ") with_name usual_rules ≡ record { cond = No; ignoring = false }
 ifndef_of_name = refl
 
--- in plain mode a comment behind the name is seen, and the condition is undecided
+-- in plain mode a comment after the name is seen, and the condition is undecided
 pub ifdef_before_comment : condition_of Ifdef (codes " A /* c */") with_name usual_rules ≡ undecided
 ifdef_before_comment = refl
 

@@ -209,7 +209,7 @@ pub u_at_the_end_of_a_symbol : expression_cond (codes "(A || B) && ~A < 0") with
 unfolding expression_cond expression_of reads tokens_of next_token suffix_sign operate change name_value name_has_u end_of defined_value
 u_at_the_end_of_a_symbol = refl
 
--- but not behind `defined`, nor in arguments
+-- but not after `defined`, nor in arguments
 pub u_that_does_not_count : expression_cond (codes "defined B && A(0u) && ~A < 0") with_u usual ≡ Yes
 unfolding expression_cond expression_of reads tokens_of next_token suffix_sign operate change name_value name_has_u end_of defined_value
 u_that_does_not_count = refl

@@ -6,7 +6,7 @@ use Rattle.ud_model.specs.answer.Printing.{Judged, Style, piece_behind, pieces_b
 use Rattle.ud_model.specs.declared.verdict.Verdict.{Verdict}
 use Rattle.ud_model.specs.declared.verdict.Verdict.TheVariants.{Keep, Remove, ToIf}
 
--- a line with this ending, number and verdict; its keyword is an `elif` behind its `#`
+-- a line with this ending, number and verdict; its keyword is an `elif` after its `#`
 abbrev line : List ℕ → List ℕ → ℕ → Verdict → Judged
 line body ending number v = record {
   line = record { body = body; ending = ending; number = number };
@@ -27,7 +27,7 @@ section_between =
     line (codes "a") (13 ∷ 10 ∷ []) 1 Keep ∷ line (codes "#ifdef A") (13 ∷ 10 ∷ []) 2 Remove ∷ line (codes "x") (13 ∷ 10 ∷ []) 3 Remove
     ∷ line (codes "#endif") (13 ∷ 10 ∷ []) 4 Remove ∷ line (codes "b") (13 ∷ 10 ∷ []) 5 Keep ∷ []
 
--- `-n`: the line behind the section has its number in the input, and its own ending
+-- `-n`: the line after the section has its number in the input, and its own ending
 pub numbered : shown (style false false true) section_between ≡ codes "a\r\n#line 5\r\nb\r\n"
 numbered = rw (decimal_digit 5 (omega arith)) refl
 

@@ -110,7 +110,7 @@ pub backslash_across_a_splice : (scan_after (behind_line (codes "\"a\\\\")) C (f
 unfolding scan_behind joins kind_at_end cut cut_from piece_at
 backslash_across_a_splice = refl
 
--- behind a line in plain mode C mode starts afresh
+-- after a line in plain mode C mode starts afresh
 pub afresh_behind_plain : scan_after (next_reading [] Plain (fed (codes "/*")) ∷ []) C (fed (codes "a")) ≡ plain_scan (fed (codes "a"))
 unfolding scan_behind joins kind_at_end cut cut_from piece_at
 afresh_behind_plain = refl

@@ -16,7 +16,7 @@ module _ {L K M : Type 0} (f : L → M) (g : K → M) (v : World L) (w : World K
   as_other : {m n : M} {a b : Bool} → m ≡ n → a ≡ b → R n b → R m a
   as_other {m} {n} {a} {b} e t h = subst (λ (k : M). R k a) (sym e) (subst (λ (c : Bool). R n c) (sym t) h)
 
-  -- no group is processed of the one where none is of the other
+  -- no group is processed of the one if none is of the other
   none_alike : (es : Elifs L) (ds : Elifs K) → elifs_with_lines f es ≡ elifs_with_lines g ds → map v (openers_of_elifs es) ≡ map w (openers_of_elifs ds) →
       selected_elifs v es ≡ None → selected_elifs w ds ≡ None
   none_alike es ds e t h = map_none (map g) (selected_elifs w ds) (sym (same_elifs f g v w es ds e t) ∙ ap (option_map (map f)) h)

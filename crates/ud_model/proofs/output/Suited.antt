@@ -1,4 +1,4 @@
--- A directive is edited only where it can be: an `#elif` to an `#if` or `#else`, an `#elif` or `#else` to an `#endif`.
+-- A directive is edited only if it can be: an `#elif` to an `#if` or `#else`, an `#elif` or `#else` to an `#endif`.
 use Rattle.std.proofs.Common.{List, [], Bool, true, false, sym, subst}
 use Rattle.ud_model.specs.declared.cond.Cond.{Cond}
 use Rattle.ud_model.specs.declared.cond.Cond.TheVariants.{Yes}

@@ -73,7 +73,7 @@ limit_grows o xs t n r x f h =
     bytes : (s : List ℕ) → length (text_of (line_of (next_item o xs t (line_at n s)))) ≡ length s
     bytes s = ap (λ (l : Line). length (text_of l)) (line_of-next_item o xs t (line_at n s)) ∙ ap (λ (q : List ℕ). length q) (text_of-line_at n s)
 
--- further lines behind the faulty one leave the fault
+-- further lines after the faulty one leave the fault
 pub stops_at-append : (o : Options) (ls ms : List Line) (xs : List (Item Reading)) (t : Tree Reading) (f : Fault) →
     StopsAt o ls xs t f → StopsAt o (ls ++ ms) xs t f
 stops_at-append o ls ms xs t f h = record {
@@ -84,7 +84,7 @@ stops_at-append o ls ms xs t f h = record {
   fault = h.fault;
 }
 
--- a line behind those that are gone through is the faulty one
+-- a line after those that are gone through is the faulty one
 pub stops_behind : (o : Options) (ls ms : List Line) (l : Line) (xs : List (Item Reading)) (t : Tree Reading) (f : Fault) →
     GoesThrough o ls xs t → FaultOf xs (next_item o xs t l) f → StopsAt o (ls ++ l ∷ ms) xs t f
 stops_behind o ls ms l xs t f through fault = record {
@@ -95,7 +95,7 @@ stops_behind o ls ms l xs t f through fault = record {
   fault = fault;
 }
 
--- the line that the rest of the text so far begins, with more bytes behind the rest
+-- the line that the rest of the text so far begins, with more bytes after the rest
 abbrev pub line_from : List ℕ → List ℕ → Line
 line_from given x = line_at (suc (length (whole_lines given))) (open_rest given ++ x)
 

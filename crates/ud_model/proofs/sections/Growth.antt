@@ -13,7 +13,7 @@ module _ {L : Type 0} where
   complete (elif_head es o) b = conditional (elif es o b)
   complete (else_head es l) b = otherwise es l b
 
--- the second tree is the first one with this line behind it
+-- the second tree is the first one with this line after it
 pub data Adds {L : Type 0} : Tree L → Item L → Tree L → Type 0 where
   adds_text : {b : Nodes L} {l : L} → Adds (closed b) (text_line l) (closed (text b l))
   adds_if : {b : Nodes L} {o : Opener L} → Adds (closed b) (if_line o) (open_section b (if_head o) (closed nothing))

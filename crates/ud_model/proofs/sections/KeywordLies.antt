@@ -10,7 +10,7 @@ white_one : (w : Bool) (b : ℕ) (bs rest : List ℕ) → length rest ≤ length
 white_one true b bs rest h = omega (arith, h)
 white_one false b bs rest h = omega arith
 
--- what is left behind white space is no longer than all
+-- what is left after white space is no longer than all
 pub past_white_le : (t : List ℕ) → length (past_white t) ≤ length t
 past_white_le [] = omega arith
 past_white_le (b ∷ bs) = white_one (is_white b) b bs (past_white bs) (past_white_le bs)

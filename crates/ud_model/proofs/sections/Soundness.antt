@@ -123,7 +123,7 @@ module _ (o : Options) where
       same_from_push (map line_of ys) (ls ++ ms) k l (sym (lines_with_next o ys u k) ∙ e ∙ sym (append_assoc ls ms (l ∷ []))) in
       sound_front ls p ys u b s.0
 
-  -- the line behind sound items isn't faulty where more sound items have it too
+  -- the line after sound items isn't faulty where more sound items have it too
   clear_next : (xs ys : List (Item Reading)) (t u : Tree Reading) (l : Line) → AreSound o xs t → AreSound o ys u →
       map line_of ys ≡ map line_of xs ++ l ∷ [] → NoneHolds xs (next_item o xs t l) cases
   clear_next xs _ t _ l a no_lines e = absurd (push_not_nil (map line_of xs) l (sym e))
@@ -140,7 +140,7 @@ module _ (o : Options) where
       sound_front (map line_of xs ++ l ∷ []) (by_push later) ys u b (e ∙ sym (append_assoc (map line_of xs) (l ∷ []) later)) in
       sound_or_faulty xs (next_item o xs t l) f (clear_next xs s.0 t s.1 l a s.2 s.3) g
 
--- where two fronts and the elements behind them meet
+-- where two fronts and the elements after them meet
 compare_fronts : (ks ms : List Line) (a b : Line) (ws vs : List Line) → ks ++ a ∷ ws ≡ ms ++ b ∷ vs →
     ((ks ≡ ms) × (a ≡ b)) ⊎ (((mid : List Line) × (ms ≡ ks ++ a ∷ mid)) ⊎ ((mid : List Line) × (ks ≡ ms ++ b ∷ mid)))
 compare_fronts [] [] a b ws vs e = inl (refl, cc)

@@ -36,16 +36,16 @@ pub take-front_len : (bytes : List ℕ) → take (front_len bytes) bytes ≡ wor
 take-front_len [] = refl
 take-front_len (b ∷ bs) = take_one (is_word_byte b) (front_len bs) b bs (word_in_front bs) (take-front_len bs)
 
--- the bytes from the first that is no word byte on are those behind the word
+-- the bytes from the first that is no word byte on are those after the word
 pub drop-front_len : (bytes : List ℕ) → drop (front_len bytes) bytes ≡ past_word bytes
 drop-front_len [] = refl
 drop-front_len (b ∷ bs) = drop_one (is_word_byte b) (front_len bs) b bs (past_word bs) (drop-front_len bs)
 
--- the position of the first byte that passes, or the length where none does
+-- the position of the first byte that passes, or the length if none does
 pub unwrap_or-position : (p : ℕ → Bool) (bytes : List ℕ) → unwrap_or (position p bytes) (length bytes) ≡ position_or_len p bytes
 unwrap_or-position p bytes = or_len (position_or_len p bytes) (length bytes) (prefix_len-le-length (λ b. not (p b)) bytes)
 
--- behind a first byte that is no digit, an identifier has word bytes alone
+-- after a first byte that is no digit, an identifier has word bytes alone
 pub is_identifier-first : (text : List ℕ) (first : ℕ) → slice_get text 0 ≡ Some first → is_digit first ≡ false → is_identifier text ≡ are_word_bytes text
 is_identifier-first [] first e h = cc
 is_identifier-first (b ∷ bs) first e h =

@@ -66,7 +66,7 @@ inside_size q rest h (passed {b = b} {rest = inside} no_feed i) =
     more : (x n m : ℕ) → x ≡ n + m → suc (suc x) ≡ suc (suc n) + m
     more x n m e = omega arith
 
--- a piece of this kind with so many bytes behind its first
+-- a piece of this kind with so many bytes after its first
 abbrev pub extent : PieceKind → ℕ → Extent
 extent k n = record { kind = k; more = n }
 

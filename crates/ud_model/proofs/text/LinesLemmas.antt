@@ -105,7 +105,7 @@ parts_joined t = (parts_of-are t).joined
 pub are_whole : (t : List ℕ) → AreWhole (whole_lines t)
 are_whole t = (parts_of-are t).whole
 
--- no line feed stands behind the last one
+-- no line feed stands after the last one
 pub open_rest-open : (t : List ℕ) → NoFeed (open_rest t)
 open_rest-open t = (parts_of-are t).feedless
 
@@ -231,7 +231,7 @@ lines_are t ls h = texts_of-formed ls h.formed ∙ ap texts_of (sym h.joined)
 pub lines_unique : (t : List ℕ) (ls ms : List (List ℕ)) → AreLines t ls → AreLines t ms → ls ≡ ms
 lines_unique t ls ms h k = lines_are t ls h ∙ sym (lines_are t ms k)
 
--- a line without its ending, and the ending behind it, is the line
+-- a line without its ending, and the ending after it, is the line
 pub body-ending : (l : List ℕ) → take (length l - length (ending_of l)) l ++ ending_of l ≡ l
 body-ending l =
     by_tests (ends_with nat_eq l (13 ∷ 10 ∷ [])) (ends_with nat_eq l (10 ∷ []))
@@ -261,14 +261,14 @@ pub length-numbered_from : (n : ℕ) (ls : List (List ℕ)) → length (numbered
 length-numbered_from n [] = refl
 length-numbered_from n (l ∷ ls) = ap (λ (k : ℕ). suc k) (length-numbered_from (suc n) ls)
 
--- the lines behind these are numbered on from them
+-- the lines after these are numbered on from them
 pub numbered_from-append : (n : ℕ) (xs ys : List (List ℕ)) → numbered_from n (xs ++ ys) ≡ numbered_from n xs ++ numbered_from (n + length xs) ys
 numbered_from-append n [] ys = ap (λ (k : ℕ). numbered_from k ys) (omega arith)
 numbered_from-append n (x ∷ xs) ys =
     ap (λ (ls : List Line). line_at n x ∷ ls)
     (numbered_from-append (suc n) xs ys ∙ ap (λ (k : ℕ). numbered_from (suc n) xs ++ numbered_from k ys) (omega arith))
 
--- a line behind these is numbered on from them, where the first has number 1
+-- a line after these is numbered on from them, where the first has number 1
 pub numbered_from-next : (xs : List (List ℕ)) (l : List ℕ) (ys : List (List ℕ)) →
     numbered_from 1 (xs ++ l ∷ ys) ≡ numbered_from 1 xs ++ line_at (suc (length xs)) l ∷ numbered_from (suc (suc (length xs))) ys
 numbered_from-next xs l ys =

@@ -32,7 +32,7 @@ pub open_line-append : (x xs ys : List Cell) → open_line x (xs ++ ys) ≡ open
 open_line-append x [] ys = refl
 open_line-append x (c ∷ xs) ys = open_line-append (if ends_line c then [] else x ++ c ∷ []) xs ys
 
--- cells are white where those in front and those behind are
+-- cells are white where those in front and those after are
 pub is_blank-append : (xs ys : List Cell) → is_blank (xs ++ ys) ≡ (is_blank xs && is_blank ys)
 is_blank-append xs ys = list_all-append (λ (c : Cell). is_white (shown c)) xs ys
 
@@ -305,7 +305,7 @@ cond_drop true n xs y h =
     ∙ ap (λ (l : List ℕ). l ++ y ∷ []) (blank_last-drop n xs)
 cond_drop false n xs y h = drop-append-le n xs (y ∷ []) h
 
--- so it is behind the first n bytes
+-- so it is after the first n bytes
 pub Masks-step : {n : ℕ} {text : List ℕ} {w : Place} {white : Bool} {masked : List ℕ} (b : ℕ) → Masks n text w white masked →
     Masks n (text ++ b ∷ []) (next w b) (whitens w white b) ((if opens w b then blank_last masked else masked) ++ shows w b ∷ [])
 Masks-step {n} {text} {w} {white} {masked} b m = record {

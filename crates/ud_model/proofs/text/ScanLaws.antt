@@ -61,7 +61,7 @@ scan_from w white before line =
       comment = comment_at (is_spliced line) (place_kind (closed_place (stays_open line) v));
     }
 
--- a scan behind a run is seen from the place at which the run's joined text leaves off
+-- a scan after a run is seen from the place at which the run's joined text leaves off
 pub scan_behind-from : (run : List Line) (line : Line) (w : Place) (white before : Bool) → Reads (joined run) w white → before ≡ joins run →
     scan_behind run line ≡ scan_from w white before line
 unfolding scan_from
@@ -69,7 +69,7 @@ scan_behind-from run line w white before r j =
     scan_behind_is run line (masked_after w [] (content line)) w (place_after w (content line)) white
     (white_after w white (content line)) before r j (Masks-append (content line) (joined run) w white [] (Masks-start r))
 
--- behind a new-line at which no block comment is open, a text leaves off between pieces
+-- after a new-line at which no block comment is open, a text leaves off between pieces
 ended : (w : Place) → is_block (place_kind (next w line_feed)) ≡ false → (next w line_feed ≡ in_text) × ((white : Bool) → whitens w white line_feed ≡ true)
 ended in_text e = (refl, λ white. refl)
 ended at_slash e = (refl, λ white. refl)
@@ -83,7 +83,7 @@ not_empty : (bytes : List ℕ) → bytes ≢ [] → is_empty bytes ≡ false
 not_empty [] some = absurd (some refl)
 not_empty (b ∷ bytes) some = ne_eqb (length (b ∷ bytes)) 0 (λ e. omega arith)
 
--- behind lines of which the last has an ending and joins nothing, the joined text leaves off between pieces
+-- after lines of which the last has an ending and joins nothing, the joined text leaves off between pieces
 pub starts_anew : (run : List Line) (last : Line) → joins (run ++ last ∷ []) ≡ false → last.ending ≢ [] → Reads (joined (run ++ last ∷ [])) in_text true
 starts_anew run last alone some =
     let parts : (is_spliced last ≡ false) × (is_block (kind_at_end (joined run ++ share last)) ≡ false) =
@@ -169,7 +169,7 @@ anew_plain front group last line =
     (run_from-append [] (front ++ next_reading front Plain last ∷ []) group
     ∙ ap (λ (ls : List Line). run_from ls group) (run_of_last front (next_reading front Plain last)))
 
--- behind a line that has an ending and doesn't join the next one, lines are seen as if no line stood before them
+-- after a line that has an ending and doesn't join the next one, lines are seen as if no line stood before them
 pub scan_alone : (front group : List Reading) (m n : Mode) (last line : Line) → (scan_after front m last).joins_after ≡ false → last.ending ≢ [] →
     scan_after ((front ++ next_reading front m last ∷ []) ++ group) n line ≡ scan_after group n line
 scan_alone front group m Plain last line alone some = refl
@@ -186,7 +186,7 @@ readings_alone front group m last (l ∷ lines) alone some =
     ∙ ap (λ (rs : List Reading). readings_after rs lines) (append_assoc before group (next_reading group l.0 l.1 ∷ []))
     ∙ readings_alone front (group ++ next_reading group l.0 l.1 ∷ []) m last lines alone some
 
--- lines are read behind those before them
+-- lines are read after those before them
 pub readings_after-append : (before : List Reading) (lines more : List (Mode × Line)) →
     readings_after before (lines ++ more) ≡ readings_after (readings_after before lines) more
 readings_after-append before [] more = refl

@@ -109,7 +109,7 @@ begins-close b [] true e = refl
 begins-close b [] false e = e
 begins-close b (x ∷ c) o e = refl
 
--- the new-line behind a line decides nothing of whether that is fresh
+-- the new-line after a line decides nothing of whether that is fresh
 pub fresh-close : (w : Place) (white : Bool) (line : Line) → fresh_at w white (share line) ≡ fresh_at w white (content line)
 fresh-close in_text white line = refl
 fresh-close at_slash white line =
@@ -176,11 +176,11 @@ run_from_last : (run : List Line) (readings : List Reading) (r : Reading) → ru
 run_from_last run [] r = refl
 run_from_last run (q ∷ readings) r = run_from_last (extended run q.mode q.line) readings r
 
--- the run behind readings with one more
+-- the run after readings with one more
 pub run_of_last : (readings : List Reading) (r : Reading) → run_of (readings ++ r ∷ []) ≡ extended (run_of readings) r.mode r.line
 run_of_last readings r = run_from_last [] readings r
 
--- the joined text behind a further line in C mode
+-- the joined text after a further line in C mode
 pub joined_run_last : (readings : List Reading) (r : Reading) → r.mode ≡ C → joined (run_of (readings ++ r ∷ [])) ≡ joined (run_of readings) ++ share r.line
 joined_run_last readings r e =
     ap joined (run_of_last readings r) ∙ ap (λ (m : Mode). joined (extended (run_of readings) m r.line)) e ∙ joined_last (run_of readings) r.line
@@ -219,7 +219,7 @@ scan_behind_is run line masked w v white now_white before r j m =
     (joins_last run line ∙ ap (λ (k : PieceKind). is_spliced line || is_block k) at_end)
     (ap (λ (k : PieceKind). comment_at (is_spliced line) k) at_end)
 
--- nothing is shown yet behind the text itself
+-- nothing is shown yet after the text itself
 pub Masks-start : {text : List ℕ} {w : Place} {white : Bool} → Reads text w white → Masks (length text) text w white []
 Masks-start {text} r = record {
   reads = r;

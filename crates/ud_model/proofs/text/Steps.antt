@@ -8,7 +8,7 @@ use Rattle.ud_model.specs.aids.Places.{Place, in_text, at_slash, in_block, at_st
 abbrev pub cell : PieceKind → ℕ → Cell
 cell kind b = record { byte = b; kind = kind }
 
--- the cells that a byte settles behind a text that leaves off there
+-- the cells that a byte settles after a text that leaves off there
 abbrev pub settles : Place → ℕ → List Cell
 settles in_text b = if b == slash then [] else if is_quote b then cell literal b ∷ [] else cell single b ∷ []
 settles at_slash b =

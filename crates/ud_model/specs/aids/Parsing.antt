@@ -1,6 +1,6 @@
 -- Parsing: the tree of a text, computed.
 -- What a text means is said in Expressions, by `IsWritten`. This file finds the tree: `expression_of text` is the one for
--- which the text is written, and none where there is none.
+-- which the text is written, and none if there is none.
 --
 --   expression_of text    the tree of a text, if it has one
 --   Meaning A             what each node of a tree means, of any type
@@ -56,7 +56,7 @@ pub data State (A : Type 0) : Type 0 where
   needs : List (Frame A) → State A
   -- an operand has come
   has : A → List (Frame A) → State A
-  -- behind `defined`, behind `defined (`, and behind `defined ( NAME`
+  -- after `defined`, after `defined (`, and after `defined ( NAME`
   asks : List (Frame A) → State A
   asks_inside : List (Frame A) → State A
   asks_end : List ℕ → List (Frame A) → State A
@@ -80,7 +80,7 @@ module _ {A : Type 0} (m : Meaning A) where
   abbrev pub wait : Operator → A × List (Frame A) → State A
   wait o (x, s) = needs (left o x ∷ s)
 
-  -- the state behind one token more
+  -- the state after one token more
   abbrev pub step : State A → Token → State A
   step (needs s) (number w) = has (m.constant w) s
   step (needs s) (name n a) = has (m.named n a) s
@@ -100,7 +100,7 @@ module _ {A : Type 0} (m : Meaning A) where
   step (asks_end n s) _ = stuck
   step stuck _ = stuck
 
-  -- what has come, where nothing waits
+  -- what has come, if nothing waits
   abbrev pub alone : A × List (Frame A) → Option A
   alone (x, []) = Some x
   alone (x, _ ∷ _) = None
@@ -115,7 +115,7 @@ module _ {A : Type 0} (m : Meaning A) where
   run s [] = finish s
   run s (t ∷ ts) = run (step s t) ts
 
--- a token and those behind it
+-- a token and those after it
 abbrev pub cut : (List ℕ → Option (List Token)) → Next → Option (List Token)
 cut f at_end = Some []
 cut f unreadable = None

@@ -19,15 +19,15 @@ use Rattle.ud_model.specs.text.Scanning.{is_blank}
 pub data Place : Type 0 where
   -- between pieces
   in_text : Place
-  -- behind a slash that is a single byte so far
+  -- after a slash that is a single byte so far
   at_slash : Place
   in_block : Place
-  -- in a block comment, behind a star that may close it
+  -- in a block comment, after a star that may close it
   at_star : Place
   in_line : Place
   -- in a literal with this quote
   in_literal : ℕ → Place
-  -- in a literal with this quote, behind a backslash that takes the next byte along
+  -- in a literal with this quote, after a backslash that takes the next byte along
   at_backslash : ℕ → Place
 
 -- the cells of what follows a text that leaves off there; a slash that it ends in counts with them
@@ -98,7 +98,7 @@ place_kind in_line = line_comment
 place_kind (in_literal quote) = literal
 place_kind (at_backslash quote) = literal
 
--- whether a line is fresh that goes on so behind a text that leaves off there
+-- whether a line is fresh that goes on so after a text that leaves off there
 abbrev pub fresh_at : Place → Bool → List ℕ → Bool
 fresh_at in_text white rest = white
 fresh_at at_slash white rest = white && (begins star rest || begins slash rest)
@@ -108,7 +108,7 @@ fresh_at in_line white rest = white
 fresh_at (in_literal quote) white rest = white
 fresh_at (at_backslash quote) white rest = white
 
--- where a text leaves off behind a line's content, and behind the new-line that follows unless the line stays open
+-- where a text leaves off after a line's content, and after the new-line that follows unless the line stays open
 abbrev pub closed_place : Bool → Place → Place
 closed_place stays w = if stays then w else next w line_feed
 
@@ -126,7 +126,7 @@ blank_last (x ∷ y ∷ rest) = x ∷ blank_last (y ∷ rest)
 unfoldable pub mask : List ℕ → List ℕ
 mask text = map shown (cut text)
 
--- the text leaves off there, and masked is how it is shown behind its first n bytes
+-- the text leaves off there, and masked is how it is shown after its first n bytes
 pub record Masks (n : ℕ) (text : List ℕ) (place : Place) (white : Bool) (masked : List ℕ) : Type 0 where
   pub reads : Reads text place white
   pub within : n ≤ length text

@@ -63,6 +63,6 @@ pub data IsAnswer (words : List (List ℕ)) (input : List ℕ) : Answer → Type
   ran : (r : Outcome) → usage_fault words ≡ None → Runs (options_of words) input r →
       IsAnswer words input (run_answer (options_of words).settings (input_name words) r)
 
--- what is answered where memory is refused
+-- what is answered if memory is refused
 abbrev pub memory_answer : Answer
 memory_answer = record { output = []; message = out_of_memory; status = 2 }

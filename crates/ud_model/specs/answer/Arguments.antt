@@ -7,7 +7,7 @@
 use Rattle.std.specs.Prelude.{ℕ, List, [], ◌∷◌, Bool, not, ◌&&◌, ◌==◌, Option, Some, None, bytes_eq, codes, if◌then◌else◌}
 use Rattle.ud_model.specs.text.Bytes.{equals_sign, is_identifier}
 
--- the bytes before the first `=`, or all where there is none
+-- the bytes before the first `=`, or all if there is none
 abbrev pub name_in : List ℕ → List ℕ
 name_in [] = []
 name_in (b ∷ bs) = if b == equals_sign then [] else b ∷ name_in bs

@@ -1,4 +1,4 @@
--- The command line: what the words behind the program's name say.
+-- The command line: what the words after the program's name say.
 -- POSIX XBD 12.2, and the options of unifdef(1).
 --
 --   Given                  what is given in the words: an option, an operand, or a letter that is no option or lacks its argument
@@ -13,7 +13,7 @@
 --
 -- A word is the bytes of a text in UTF-8, and its letters are the characters of that text. A word that starts with `-`
 -- and is longer is letters of options. A letter's argument is what follows it in its word, or the whole next word where
--- nothing does. `--` ends the options; so does the first operand, and every word behind either is an operand.
+-- nothing does. `--` ends the options; so does the first operand, and every word after either is an operand.
 use Rattle.std.specs.Prelude.{ℕ, suc, List, [], ◌∷◌, ◌++◌, Bool, true, false, ◌||◌, ◌==◌, Option, Some, None, bytes_eq, codes, chars, encode_utf8, encode_utf8_all, decimal, if◌then◌else◌}
 use Rattle.std.specs.List.{filter_map}
 use Rattle.ud_model.specs.text.Bytes.{hyphen}
@@ -60,13 +60,13 @@ abbrev pub operands_from : ℕ → List (List ℕ) → List Given
 operands_from n [] = []
 operands_from n (w ∷ ws) = operand n w ∷ operands_from (suc n) ws
 
--- An option with its argument: the letters behind its letter in the word with this number, where there are any. `next`
--- is what is given where its argument is the next word, and `rest` what is given behind the letter's own word.
+-- An option with its argument: the letters after its letter in the word with this number, if there are any. `next`
+-- is what is given where its argument is the next word, and `rest` what is given after the letter's own word.
 abbrev pub option_given : ℕ → ℕ → List ℕ → List Given → List Given → List Given
 option_given c number [] next rest = next
 option_given c number (l ∷ ls) next rest = option c number (encode_utf8_all (l ∷ ls)) ∷ rest
 
--- What these letters of the word with this number give, and what comes behind: `next c` where the argument of the
+-- What these letters of the word with this number give, and what comes after: `next c` where the argument of the
 -- option c is the next word, and `rest` otherwise.
 abbrev pub letters_given : ℕ → List ℕ → (ℕ → List Given) → List Given → List Given
 letters_given number [] next rest = rest
@@ -81,7 +81,7 @@ word_given number [] next rest operands = operands
 word_given number (c ∷ cs) next rest operands = letters_given number (c ∷ cs) next rest
 
 abbrev mutual
-  -- what words give from the place n on, where no operand and no `--` came yet
+  -- what words give from the place n on, if no operand and no `--` came yet
   pub given_from : ℕ → List (List ℕ) → List Given
   given_from n [] = []
   given_from n (w ∷ ws) =
@@ -108,7 +108,7 @@ defining ignoring argument = named (name_in argument) (Some (value_or_one (value
 abbrev pub undefining : Bool → List ℕ → Option Argument
 undefining ignoring argument = named argument None ignoring
 
--- behind `-i`: `D` or `U`, and then what stands behind such an option
+-- after `-i`: `D` or `U`, and then what stands after such an option
 abbrev pub ignoring_symbol : List ℕ → Option Argument
 ignoring_symbol [] = None
 ignoring_symbol (b ∷ bs) =
@@ -152,7 +152,7 @@ argument_fault c number argument =
     if is_among (codes "x") c then unless_right (mode_in argument) (bad_mode_in number)
     else unless_right (symbol_in c argument) (bad_symbol_in number)
 
--- behind an operand stand only operands, and one is too many
+-- after an operand stand only operands, and one is too many
 abbrev pub fault_behind_operand : List Given → Option UsageFault
 fault_behind_operand [] = None
 fault_behind_operand (g ∷ gs) = Some too_many_files
@@ -192,7 +192,7 @@ abbrev pub mode_or : ExitMode → Option ExitMode → ExitMode
 mode_or earlier None = earlier
 mode_or earlier (Some mode) = mode
 
--- the exit mode behind this one: the last option `-x` counts
+-- the exit mode after this one: the last option `-x` counts
 abbrev pub mode_from : ExitMode → List Given → ExitMode
 mode_from mode [] = mode
 mode_from mode (flag c ∷ gs) = mode_from mode gs

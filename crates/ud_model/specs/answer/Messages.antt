@@ -2,7 +2,7 @@
 --
 --   message_of name fault     of a text's fault, with the input's name and the line
 --   read_error name           of a read that fails; write_error name of a write
---   out_of_memory             where memory for the symbols is refused
+--   out_of_memory             if memory for the symbols is refused
 --
 -- The messages of the words' faults stand in CommandLine.
 use Rattle.std.specs.Prelude.{ℕ, List, ◌++◌, codes, decimal}

@@ -68,7 +68,7 @@ last_removed [] = false
 last_removed (j ∷ []) = is_removed j.verdict
 last_removed (j ∷ k ∷ js) = last_removed (k ∷ js)
 
--- an ending, or a line feed where there is none
+-- an ending, or a line feed if there is none
 abbrev pub ending_or_feed : List ℕ → List ℕ
 ending_or_feed [] = line_feed ∷ []
 ending_or_feed (b ∷ bs) = b ∷ bs
@@ -93,7 +93,7 @@ abbrev pub piece_behind : Style → List Judged → Judged → List ℕ
 piece_behind style before j =
     if style.complement then uncomplemented_piece style (map complemented before) (complemented j) else uncomplemented_piece style before j
 
--- the pieces of the second lines, which follow the first ones, where this is the piece of a line behind others
+-- the pieces of the second lines, which follow the first ones, where this is the piece of a line after others
 abbrev pub pieces_by : (List Judged → Judged → List ℕ) → List Judged → List Judged → List (List ℕ)
 pieces_by piece before [] = []
 pieces_by piece before (j ∷ js) = piece before j ∷ pieces_by piece (before ++ j ∷ []) js

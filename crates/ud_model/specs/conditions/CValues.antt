@@ -125,7 +125,7 @@ pub data IsConstantValue (w : List ℕ) : Number → Type 0 where
 abbrev pub typed : Bool → ℤ → Number
 typed b z = if b then unsigned (cast_unsigned w64 z) else signed z
 
--- What a tree may be: `&&` and `||` look at their right operand only where the left one leaves them open (6.5.13p4,
+-- What a tree may be: `&&` and `||` look at their right operand only if the left one leaves them open (6.5.13p4,
 -- 6.5.14p4).
 pub data CValue (table : List Argument) (u : Bool) : Expression → Number → Type 0 where
   of_constant : {w : List ℕ} {c : Number} → IsConstantValue w c → CValue table u (constant w) c

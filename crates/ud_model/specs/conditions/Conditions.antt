@@ -4,7 +4,7 @@
 --   Decision                               a condition, and whether its section is plain text
 --   tree_cond e table rules                what is decided of the tree of an `#if` or `#elif`
 --   expression_cond after table rules      the same of its text; a text without a tree is unknown
---   condition_of kind after table rules    the decision on the text behind a keyword
+--   condition_of kind after table rules    the decision on the text after a keyword
 --   decision_on scan d table rules         the decision on a directive in its line
 --
 -- Example: with A undefined, `A && X` is no, and unknown under `strict`; `X || 1` is unknown unless `constants`.
@@ -71,7 +71,7 @@ module _ (table : List Argument) where
   abbrev pub is_listed : List ℕ → Bool
   is_listed n = is_some (entry_in table n)
 
-  -- a name that the table lists stands in the expression, as an operand or behind `defined`
+  -- a name that the table lists stands in the expression, as an operand or after `defined`
   abbrev pub names_listed : Expression → Bool
   names_listed (constant w) = false
   names_listed (named n arguments) = is_listed n
@@ -94,7 +94,7 @@ abbrev pub truth_of : Option ℤ → Cond
 truth_of None = Unknown
 truth_of (Some z) = if is_zero z then No else Yes
 
--- unknown where an undefined name has arguments; and, unless `constants`, where no name is listed
+-- unknown where an undefined name has arguments; and, unless `constants`, if no name is listed
 abbrev pub tree_cond : Expression → List Argument → Rules → Cond
 tree_cond e table rules =
     if calls_undefined table e || not (rules.constants || names_listed table e) then Unknown else truth_of (value_of table rules.strict e)
@@ -109,7 +109,7 @@ tree_cond_if (Some e) table rules = tree_cond e table rules
 unfoldable pub expression_cond : List ℕ → List Argument → Rules → Cond
 expression_cond after table rules = tree_cond_if (expression_of after) table rules
 
--- the decision on the text behind a keyword
+-- the decision on the text after a keyword
 abbrev pub condition_of : Kind → List ℕ → List Argument → Rules → Decision
 condition_of If after table rules = record { cond = expression_cond after table rules; ignoring = false }
 condition_of Elif after table rules = record { cond = expression_cond after table rules; ignoring = false }

@@ -40,7 +40,7 @@ cut_behind is_one base w = record { base = base; digits = take (prefix_len is_on
 abbrev pub is_hex : List ℕ → Bool
 is_hex w = begins 48 w && (begins 120 (drop 1 w) || begins 88 (drop 1 w))
 
--- hexadecimal digits behind `0x` or `0X`, else octal digits from a `0` on, else decimal digits
+-- hexadecimal digits after `0x` or `0X`, else octal digits from a `0` on, else decimal digits
 abbrev pub parts_of : List ℕ → Parts
 parts_of w =
     if is_hex w then cut_behind is_hex_digit 16 (drop 2 w)

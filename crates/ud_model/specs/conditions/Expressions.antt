@@ -64,7 +64,7 @@ spelling (binary o a b) = spelling a ++ operator o ∷ spelling b
 spelling (parens a) = opening ∷ spelling a ++ closing ∷ []
 
 -- The tree is of level k or tighter: the left operand of an operator is of the operator's level or tighter, the right one
--- is tighter; what stands behind a prefix operator is tighter than each operator between two operands.
+-- is tighter; what stands after a prefix operator is tighter than each operator between two operands.
 abbrev pub IsOfLevel : ℕ → Expression → Type 0
 IsOfLevel k (constant w) = Unit {0}
 IsOfLevel k (named n arguments) = Unit {0}

@@ -2,7 +2,7 @@
 -- unifdef(1), `-s` and `-S`.
 --
 --   names_in e             the name of each operand and each `defined` of a tree, in order and with repeats
---   names_of kind after    the names of the text behind a keyword, where it is understood
+--   names_of kind after    the names of the text after a keyword, where it is understood
 --   names_on d             the names of a directive; a broken one has none
 --
 -- Example: ` F(X) + defined(Y) > 1` has the names F and Y.
@@ -33,7 +33,7 @@ abbrev pub name_alone : Option (List ℕ) → List (List ℕ)
 name_alone None = []
 name_alone (Some name) = name ∷ []
 
--- the names of the text behind a keyword
+-- the names of the text after a keyword
 abbrev pub names_of : Kind → List ℕ → List (List ℕ)
 names_of If after = names_in_tree (expression_of after)
 names_of Elif after = names_in_tree (expression_of after)

@@ -22,7 +22,7 @@ text_in (Some e) = e.value
 abbrev pub defined_text : List Argument → List ℕ → Option (List ℕ)
 defined_text table n = text_in (entry_in table n)
 
--- the value of a name ends at the text that defines it, if that is no identifier, and else where the value of that name ends
+-- the value of a name ends at the text that defines it, if that is no identifier, and else if the value of that name ends
 pub data EndsAt (table : List Argument) : List ℕ → List ℕ → Type 0 where
   at_text : (n v : List ℕ) → defined_text table n ≡ Some v → is_identifier v ≡ false → EndsAt table n v
   by_name : (n m v : List ℕ) → defined_text table n ≡ Some m → is_identifier m ≡ true → EndsAt table m v → EndsAt table n v

@@ -2,10 +2,10 @@
 -- C11 6.4, 6.4.2, 6.4.4.1, 6.4.6 and 6.4.8: white space separates tokens, and the longest token is taken.
 --
 --   Token              a constant, a name with or without arguments, `defined`, an operator, a parenthesis
---   next_token text    the token at the front of a text and what follows it; none at the end, or where none can be read
+--   next_token text    the token at the front of a text and what follows it; none at the end, or if none can be read
 --   AreTokens text ts  the text is these tokens, from its front to its end
 --
--- A name's arguments are the bytes from a `(` behind it to the `)` that matches it, by these two bytes alone; no tokens are
+-- A name's arguments are the bytes from a `(` after it to the `)` that matches it, by these two bytes alone; no tokens are
 -- in them. C reads two minus signs as one token, and `0xE-9` as one too; both are none here.
 --
 -- Example: ` F(X)>0` is the name F with arguments, the operator `>` and the constant 0.
@@ -32,10 +32,10 @@ pub data Next : Type 0 where
   at_end : Next
   -- no token
   unreadable : Next
-  -- a token, and the text behind it
+  -- a token, and the text after it
   found : Token → List ℕ → Next
 
--- what stands behind the `)` that closes a parenthesis, in which so many more are open
+-- what stands after the `)` that closes a parenthesis, in which so many more are open
 abbrev pub behind_closing : ℕ → List ℕ → Option (List ℕ)
 behind_closing n [] = None
 behind_closing zero (b ∷ text) = if b == 40 then behind_closing 1 text else if b == 41 then Some text else behind_closing 0 text
@@ -47,7 +47,7 @@ abbrev pub with_arguments : List ℕ → Option (List ℕ) → Next
 with_arguments w None = unreadable
 with_arguments w (Some rest) = found (name w true) rest
 
--- a name and the arguments behind it, if a `(` comes next
+-- a name and the arguments after it, if a `(` comes next
 abbrev pub name_token : List ℕ → List ℕ → Next
 name_token w rest =
     if begins 40 (past_white rest) then with_arguments w (behind_closing 0 (drop 1 (past_white rest))) else found (name w false) rest
@@ -97,7 +97,7 @@ token_in_front (b ∷ text) =
 unfoldable pub next_token : List ℕ → Next
 next_token text = token_in_front (past_white text)
 
--- The tokens of a text: the one at its front, and then those of the text behind it.
+-- The tokens of a text: the one at its front, and then those of the text after it.
 abbrev pub AreTokens : List ℕ → List Token → Type 0
 AreTokens text [] = next_token text ≡ at_end
 AreTokens text (t ∷ ts) = (rest : List ℕ) × (next_token text ≡ found t rest) × AreTokens rest ts

@@ -23,13 +23,13 @@ pub record Span : Type 0 where
 pub record Directive : Type 0 where
   pub kind : Kind
   pub keyword : Span
-  -- the masked bytes behind the keyword
+  -- the masked bytes after the keyword
   pub after : List ℕ
   -- a continuation cuts it: the line is spliced outside comments
   pub broken : Bool
 
 pub data Content : Type 0 where
-  -- it can't be known whether the line carries a directive, since its keyword goes on behind a continuation
+  -- it can't be known whether the line carries a directive, since its keyword goes on after a continuation
   cut_keyword : Content
   directive : Directive → Content
   text : Content
@@ -80,7 +80,7 @@ abbrev pub is_keyword_front : List ℕ → Bool
 is_keyword_front [] = false
 is_keyword_front (b ∷ bs) = are_word_bytes (b ∷ bs) && begins_keyword (b ∷ bs)
 
--- behind the `#`, the white space left out, the keyword can't be known: nothing follows; or the line is cut off and
+-- after the `#`, the white space left out, the keyword can't be known: nothing follows; or the line is cut off and
 -- a single `/` follows, which may begin a comment; or it is cut off within a word that may become a keyword
 abbrev pub leaves_keyword : Scan → List ℕ → Bool
 leaves_keyword scan [] = true

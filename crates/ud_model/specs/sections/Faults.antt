@@ -3,10 +3,10 @@
 --
 --   Fault            a fault with its line
 --   Case             the ways in which a line is faulty, in the order in which they are looked at
---   Holds xs x c     the line x, behind the lines xs, is faulty in this way
+--   Holds xs x c     the line x, after the lines xs, is faulty in this way
 --   FaultOf xs x f   f is the line's fault: that of the first case that holds
 --   AreSound o xs t  none of these lines is faulty; t is their tree, and each line was read in the mode that the lines before give
---   end_fault xs t   the fault of a text that ends behind these lines
+--   end_fault xs t   the fault of a text that ends after these lines
 --
 -- The verdicts are those of the text up to the line; no later line changes them.
 use Rattle.std.specs.Prelude.{◌≡◌, ℕ, ◌<◌, List, [], ◌∷◌, ◌++◌, length, Bool, true, false, not, ◌&&◌, ◌||◌, IsTrue, Option, Some, None}
@@ -143,7 +143,7 @@ pub data AreSound (o : Options) : List (Item Reading) → Tree Reading → Type 
       lines u ≡ xs ++ next_item o xs t l ∷ [] → NoneHolds xs (next_item o xs t l) cases →
       AreSound o (xs ++ next_item o xs t l ∷ []) u
 
--- the number of the last line, 0 where there is none
+-- the number of the last line, 0 if there is none
 abbrev pub last_number : List (Item Reading) → ℕ
 last_number [] = 0
 last_number (x ∷ []) = (line_of x).number

@@ -3,11 +3,11 @@
 --
 --   Options                   what the words say: the settings, and the arguments that name symbols
 --   item_of o r               what a line is, as it is read: a text line, or a directive with its condition
---   mode_after o t            the mode of the line behind a text with this tree
---   next_item o xs t l        what the line l is behind the lines xs, whose tree is t
+--   mode_after o t            the mode of the line after a text with this tree
+--   next_item o xs t l        what the line l is after the lines xs, whose tree is t
 --
 -- A line is read as plain text under `-t`, and where an ignoring section is open before it; so the section's `#endif`
--- is plain, and the line behind that isn't on the section's account.
+-- is plain, and the line after that isn't on the section's account.
 use Rattle.std.specs.Prelude.{List, map, Bool, true, false, ◌||◌}
 use Rattle.ud_model.specs.text.Lines.{Line}
 use Rattle.ud_model.specs.text.Scans.{Reading}
@@ -67,7 +67,7 @@ mode_by false = C
 abbrev pub mode_after : Options → Tree Reading → Mode
 mode_after o t = mode_by (o.settings.plain || is_ignoring t)
 
--- a line as it is read in this mode behind these
+-- a line as it is read in this mode after these
 abbrev pub read_after : List (Item Reading) → Mode → Line → Reading
 read_after xs mode l = record { line = l; mode = mode; scan = scan_after (map reading_of xs) mode l }
 

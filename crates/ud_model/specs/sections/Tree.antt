@@ -3,7 +3,7 @@
 --
 --   Item L       a line among the sections: a text line or a directive, L being what is kept of a line
 --   Nodes L      what stands in a place, in order: text lines and whole sections
---   Groups L     the groups of a section: an opener and the nodes behind it, group for group
+--   Groups L     the groups of a section: an opener and the nodes after it, group for group
 --   Tree L       a text: nodes, and at its end perhaps a section that lacks its `#endif`, in which the text goes on
 --   lines t      the lines of a text, in order; a list of lines has the tree t where `lines t` is that list
 --   depth t      how many sections are open at the end of the text

@@ -72,7 +72,7 @@ whole_lines text = (parts_of text).whole
 abbrev pub open_rest : List ℕ → List ℕ
 open_rest text = (parts_of text).rest
 
--- the rest as a line of its own, where there is one
+-- the rest as a line of its own, if there is one
 abbrev pub last_line : List ℕ → List (List ℕ)
 last_line [] = []
 last_line (b ∷ bs) = (b ∷ bs) ∷ []

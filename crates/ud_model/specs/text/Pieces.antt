@@ -1,7 +1,7 @@
 -- Pieces: the cut of a joined text into comments, literals and single bytes.
 -- C11 5.1.1.2, phase 3, and 6.4.9.
 --
---   IsPiece bytes rest kind   these bytes, with the rest of the text behind them, are a piece of this kind
+--   IsPiece bytes rest kind   these bytes, with the rest of the text after them, are a piece of this kind
 --   IsCut pieces text         the pieces are those of the text, from left to right, and make it up
 --   cells_of pieces           each byte of the pieces with the kind of its piece
 --   piece_at b rest           the piece that begins with b where this rest follows, computed: how far it reaches
@@ -48,15 +48,15 @@ IsLineEnd [] = Unit {0}
 IsLineEnd (a ∷ rest) = a ≡ line_feed
 
 -- What stands in a literal: bytes other than its quote, a new-line and a backslash, and backslashes, each with the byte
--- behind it, which is no new-line.
+-- after it, which is no new-line.
 pub data IsInside (quote : ℕ) : List ℕ → Type 0 where
   nothing : IsInside quote []
   plain : {a : ℕ} {rest : List ℕ} → a ≢ line_feed → a ≢ quote → a ≢ backslash → IsInside quote rest → IsInside quote (a ∷ rest)
   passed : {b : ℕ} {rest : List ℕ} → b ≢ line_feed → IsInside quote rest → IsInside quote (backslash ∷ b ∷ rest)
 
--- These bytes are a piece of this kind where the rest of the text stands behind them.
+-- These bytes are a piece of this kind where the rest of the text stands after them.
 pub data IsPiece (bytes rest : List ℕ) : PieceKind → Type 0 where
-  -- from `/*` to the first `*/` that starts behind those two bytes
+  -- from `/*` to the first `*/` that starts after those two bytes
   closed_comment : (inside : List ℕ) → bytes ≡ slash ∷ star ∷ (inside ++ star ∷ slash ∷ []) → NoClose (inside ++ star ∷ []) → IsPiece bytes rest block_comment
   -- from `/*` to the end of the text
   open_comment : (inside : List ℕ) → bytes ≡ slash ∷ star ∷ inside → NoClose inside → rest ≡ [] → IsPiece bytes rest block_comment
@@ -70,7 +70,7 @@ pub data IsPiece (bytes rest : List ℕ) : PieceKind → Type 0 where
   -- a byte at which neither a comment nor a literal begins
   single_byte : (b : ℕ) → bytes ≡ b ∷ [] → is_quote b ≡ false → ((b == slash) && (begins star rest || begins slash rest)) ≡ false → IsPiece bytes rest single
 
--- these are the pieces of the text, one behind another, and they make it up
+-- these are the pieces of the text, one after another, and they make it up
 abbrev pub IsCut : List Piece → List ℕ → Type 0
 IsCut [] text = text ≡ []
 IsCut (p ∷ pieces) text = (rest : List ℕ) × (text ≡ p.bytes ++ rest) × IsPiece p.bytes rest p.kind × IsCut pieces rest
@@ -90,24 +90,24 @@ abbrev pub cells_of : List Piece → List Cell
 cells_of [] = []
 cells_of (p ∷ pieces) = cells_in p.kind p.bytes ++ cells_of pieces
 
--- how many bytes of a block comment stand behind its `/*`: up to the first `*/`, or all
+-- how many bytes of a block comment stand after its `/*`: up to the first `*/`, or all
 abbrev pub comment_size : List ℕ → ℕ
 comment_size [] = 0
 comment_size (a ∷ rest) = if (a == star) && begins slash rest then 2 else suc (comment_size rest)
 
--- how many bytes of a line comment stand behind its `//`: up to the new-line, or all
+-- how many bytes of a line comment stand after its `//`: up to the new-line, or all
 abbrev pub line_size : List ℕ → ℕ
 line_size [] = 0
 line_size (a ∷ rest) = if a == line_feed then 0 else suc (line_size rest)
 
--- How many bytes of a literal stand behind its quote: up to the same quote, or up to the new-line, or all. Behind a
+-- How many bytes of a literal stand after its quote: up to the same quote, or up to the new-line, or all. After a
 -- backslash a byte is passed over.
 abbrev pub literal_size : ℕ → Bool → List ℕ → ℕ
 literal_size quote behind_backslash [] = 0
 literal_size quote true (a ∷ rest) = if a == line_feed then 0 else suc (literal_size quote false rest)
 literal_size quote false (a ∷ rest) = if a == line_feed then 0 else if a == quote then 1 else suc (literal_size quote (a == backslash) rest)
 
--- how far a piece reaches: its kind, and how many bytes it has behind its first
+-- how far a piece reaches: its kind, and how many bytes it has after its first
 pub record Extent : Type 0 where
   pub kind : PieceKind
   pub more : ℕ
@@ -154,7 +154,7 @@ is_single literal = false
 abbrev pub ends_line : Cell → Bool
 ends_line c = is_single c.kind && (c.byte == line_feed)
 
--- the cells behind the last such new-line, where these come first and have none
+-- the cells after the last such new-line, where these come first and have none
 abbrev pub open_line : List Cell → List Cell → List Cell
 open_line before [] = before
 open_line before (c ∷ cells) = open_line (if ends_line c then [] else before ++ c ∷ []) cells

@@ -1,18 +1,18 @@
--- Scanning: the scan of a line behind the lines before it.
+-- Scanning: the scan of a line after the lines before it.
 -- C11 5.1.1.2, phases 2 and 3, and 6.4.9; unifdef(1), `-t`.
 --
---   joins lines                 the last of the lines joins the one behind it, by a splice or a comment
+--   joins lines                 the last of the lines joins the one after it, by a splice or a comment
 --   comment_at spliced kind     what is unclosed at the end of a line that ends in such a piece
---   scan_behind run line        the scan of a line in C mode behind a run of lines in C mode
---   scan_after before mode line the scan of a line that is read in this mode behind these readings
+--   scan_behind run line        the scan of a line in C mode after a run of lines in C mode
+--   scan_after before mode line the scan of a line that is read in this mode after these readings
 --   next_reading before mode l  that line with its mode and its scan
 --   readings_of lines           the readings of these lines, each in its mode
---   own_cells run line          the cells of a line's content behind a run of lines in C mode
+--   own_cells run line          the cells of a line's content after a run of lines in C mode
 --
--- Lines behind the line never count. A `/` before a splice is a single byte as long as the next line isn't read, and
+-- Lines after the line never count. A `/` before a splice is a single byte as long as the next line isn't read, and
 -- may turn out to begin a comment when it is.
 --
--- Example: behind the line `/\`, which isn't blank, the line `* c */ #ifdef A` is seen as seven spaces and `#ifdef A`;
+-- Example: after the line `/\`, which isn't blank, the line `* c */ #ifdef A` is seen as seven spaces and `#ifdef A`;
 -- it is fresh, for the `/` before it has become the first byte of a comment.
 use Rattle.std.specs.Prelude.{List, [], ◌∷◌, ◌++◌, length, take, drop, map, Bool, true, false, ◌||◌, if◌then◌else◌}
 use Rattle.std.specs.List.{list_all}
@@ -33,11 +33,11 @@ is_block line_comment = false
 is_block literal = false
 is_block single = false
 
--- the last of the lines joins the one behind it, by a splice or a comment
+-- the last of the lines joins the one after it, by a splice or a comment
 unfoldable pub joins : List Line → Bool
 joins lines = last_is_spliced lines || is_block (kind_at_end (joined lines))
 
--- what is unclosed: a line comment goes on only where a splice carries it
+-- what is unclosed: a line comment goes on only if a splice carries it
 abbrev pub comment_at : Bool → PieceKind → CommentAt
 comment_at spliced block_comment = InBlock
 comment_at spliced line_comment = if spliced then InLine else Outside
@@ -48,11 +48,11 @@ comment_at spliced single = Outside
 abbrev pub is_blank : List Cell → Bool
 is_blank cells = list_all (λ c. is_white (shown c)) cells
 
--- the cells of a line's content behind a run of lines in C mode
+-- the cells of a line's content after a run of lines in C mode
 abbrev pub own_cells : List Line → Line → List Cell
 own_cells run line = take (length (content line)) (drop (length (joined run)) (cut (joined run ++ share line)))
 
--- the scan of a line in C mode behind a run of lines in C mode
+-- the scan of a line in C mode after a run of lines in C mode
 unfoldable pub scan_behind : List Line → Line → Scan
 scan_behind run line =
     record {
@@ -64,16 +64,16 @@ scan_behind run line =
       comment = comment_at (is_spliced line) (kind_at_end (joined run ++ share line));
     }
 
--- the scan of a line that is read in this mode behind these readings
+-- the scan of a line that is read in this mode after these readings
 abbrev pub scan_after : List Reading → Mode → Line → Scan
 scan_after before C line = scan_behind (run_of before) line
 scan_after before Plain line = plain_scan line
 
--- a line as it is read in this mode behind these readings
+-- a line as it is read in this mode after these readings
 abbrev pub next_reading : List Reading → Mode → Line → Reading
 next_reading before mode line = record { line = line; mode = mode; scan = scan_after before mode line }
 
--- the readings of these lines, each in its mode, behind those before
+-- the readings of these lines, each in its mode, after those before
 abbrev pub readings_after : List Reading → List (Mode × Line) → List Reading
 readings_after before [] = before
 readings_after before (l ∷ lines) = readings_after (before ++ next_reading before l.0 l.1 ∷ []) lines

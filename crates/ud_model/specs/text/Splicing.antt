@@ -5,7 +5,7 @@
 --   content line             its body without a splice's backslash
 --   share line               what the line puts into the joined text
 --   joined lines             the joined text
---   run_of readings          the lines in C mode behind the last one in plain mode
+--   run_of readings          the lines in C mode after the last one in plain mode
 --   last_is_spliced lines    the last of the lines is spliced
 --
 -- A line counts by its body and its ending alone, never by its number.
@@ -47,17 +47,17 @@ share line = content line ++ closing line
 abbrev pub joined : List Line → List ℕ
 joined lines = flat_map share lines
 
--- the run behind a line of this mode, where run stands before it
+-- the run after a line of this mode, where run stands before it
 abbrev pub extended : List Line → Mode → Line → List Line
 extended run C line = run ++ line ∷ []
 extended run Plain line = []
 
--- the run behind these readings, where run stands before them
+-- the run after these readings, where run stands before them
 abbrev pub run_from : List Line → List Reading → List Line
 run_from run [] = run
 run_from run (r ∷ readings) = run_from (extended run r.mode r.line) readings
 
--- the lines in C mode behind the last one in plain mode
+-- the lines in C mode after the last one in plain mode
 abbrev pub run_of : List Reading → List Line
 run_of readings = run_from [] readings
 

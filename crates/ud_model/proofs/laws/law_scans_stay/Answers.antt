@@ -1,4 +1,4 @@
--- Readings are added behind those before.
+-- Readings are added after those before.
 use Rattle.ud_model.proofs.text.ScanLaws.{readings_grow}
 use Rattle.ud_model.proofs.laws.law_scans_stay.Goals as goal
 

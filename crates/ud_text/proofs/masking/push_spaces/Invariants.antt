@@ -1,4 +1,4 @@
--- So many spaces stand behind what was there.
+-- So many spaces stand after what was there.
 use Rattle.std.proofs.Common.{◌≡◌, ◌++◌, replicate}
 use Rattle.ud_text.proofs.masking.push_spaces.Given as goal
 

@@ -15,7 +15,7 @@ pub mask_content-inside-requires-clause-one_line : goal.mask_content-inside-requ
 mask_content-inside-requires-clause-one_line c =
     subst NoFeed (sym c.content-bytes.ensures) (no_feed-content (as_line c.args.line.now) c.requires.one_line)
 
--- how the content is shown behind the joined text of the run
+-- how the content is shown after the joined text of the run
 shown_content : (c : After-comment_at) (before : List Reading) → Carries (carried_by c.args.carry) before →
     Masks (length (joined (run_of before))) (joined (run_of before) ++ content (as_line c.args.line.now)) (place_of c.mask_content-inside.result.place)
     c.mask_content-inside.result.white c.mask_content-inside.new.masked.items
