@@ -5,9 +5,9 @@ ghost use Rattle.ud_model.specs.text.Lines.{NoFeed};
 ghost use Rattle.ud_model.specs.text.Lines as model;
 ghost use Rattle.ud_model.specs.sections.Items.{Options};
 ghost use Rattle.ud_cond.specs.Standing.{StandsFor};
-ghost use Rattle.ud_text.specs.Viewing.{as_line};
+ghost use Rattle.ud_text.specs.LineViews.{as_line};
 ghost use Rattle.ud_sections.specs.Limits.{IsWithin};
-ghost use Rattle.ud_sections.specs.Showing.{HoldsKeyword};
+ghost use Rattle.ud_sections.specs.StepViews.{HoldsKeyword};
 ghost use Rattle.ud_sections.specs.Sections.{fault_of, end_told};
 
 use ud_cond::Symbols;

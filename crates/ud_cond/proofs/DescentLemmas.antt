@@ -6,7 +6,7 @@ use Rattle.ud_model.specs.conditions.Tokens.{Token, number, name, defined, opera
 use Rattle.ud_model.specs.conditions.Expressions.{level, is_prefix}
 use Rattle.ud_model.specs.aids.Parsing.{Meaning, Frame, Below, left, before, paren, needs, has, asks, asks_inside, asks_end, stuck, reduce, close, wait, step, alone, reads}
 use Rattle.ud_model.specs.declared.operator.Operator.{Operator}
-use Rattle.ud_cond.specs.Viewing.{as_next, as_token}
+use Rattle.ud_cond.specs.CondViews.{as_next, as_token}
 use Rattle.ud_cond.specs.declared.tokens.Token as token
 use Rattle.ud_cond.specs.declared.tokens.Next as front
 use Rattle.ud_cond.specs.declared.tokens.Next.TheVariants as comes

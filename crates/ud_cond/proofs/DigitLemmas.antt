@@ -5,7 +5,7 @@ use Rattle.ud_model.specs.conditions.Constants.{continued, digit_value}
 use Rattle.ud_model.specs.conditions.Values.{limited}
 use Rattle.ud_cond.specs.declared.constants.Base.{Base}
 use Rattle.ud_cond.specs.declared.constants.Base.TheVariants.{Octal, Decimal, Hexadecimal}
-use Rattle.ud_cond.specs.Viewing.{base_of}
+use Rattle.ud_cond.specs.CondViews.{base_of}
 
 grows_by : (b : Base) (n d : ℕ) → n ≤ n * base_of b + d
 grows_by Octal n d = omega arith

@@ -1,5 +1,5 @@
 pub mod Standing
-pub mod Viewing
+pub mod CondViews
 pub mod Worth
 pub mod Descent
 pub mod Naming

@@ -5,7 +5,7 @@ ghost use Rattle.ud_model.specs.conditions.Table.{Argument};
 ghost use Rattle.ud_model.specs.conditions.Conditions as spec;
 ghost use Rattle.ud_model.specs.declared.limits.TheConstants.{LINE_BYTES};
 ghost use Rattle.ud_cond.specs.Standing.{StandsFor};
-ghost use Rattle.ud_cond.specs.Viewing.{as_rules, as_decision};
+ghost use Rattle.ud_cond.specs.CondViews.{as_rules, as_decision};
 ghost use Rattle.ud_cond.specs.Worth.{decided};
 
 use crate::parsing::whole;

@@ -6,7 +6,7 @@ ghost use Rattle.std.specs.Prelude.{◌≡◌, ◌≤◌, ◌<◌, length, map};
 ghost use Rattle.std.specs.List.{prefix_len};
 ghost use Rattle.ud_model.specs.conditions.Constants as spec;
 ghost use Rattle.ud_model.specs.conditions.Values.{limited, constant_value};
-ghost use Rattle.ud_cond.specs.Viewing.{as_parts, base_of, is_digit_of};
+ghost use Rattle.ud_cond.specs.CondViews.{as_parts, base_of, is_digit_of};
 
 use crate::tokens::{begins, behind};
 use ud_model::bytes::is_digit;

@@ -1,6 +1,6 @@
 //! Symbols, and what they decide of a condition.
 //!
-//! What a list of calls says of a name stands in ud_model, specs/conditions/Table.antt; what a condition is, in specs/Conditions.antt.
+//! What a list of calls says of a name stands in ud_model, specs/conditions/Table.antt; what a condition is, in specs/conditions/Conditions.antt.
 //! `specs/Standing.antt` says what a `Symbols` stands for, `specs/Worth.antt` what is kept of an expression while
 //! `parsing` reads it, and `specs/Descent.antt` how.
 #![tactic(auto)]

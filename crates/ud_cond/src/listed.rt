@@ -4,7 +4,7 @@ ghost use Rattle.std.specs.Prelude.{◌≡◌, List, ℕ, is_some, option_map, t
 ghost use Rattle.std.specs.Iterator.{YieldsFirstRef, item_count};
 ghost use Rattle.ud_model.specs.aids.Parsing.{tokens_of};
 ghost use Rattle.ud_cond.specs.Naming.{name_in, names_in_text, names_listed};
-ghost use Rattle.ud_cond.specs.Viewing.{as_token};
+ghost use Rattle.ud_cond.specs.CondViews.{as_token};
 
 use crate::tokens::{Next, Token, next_token};
 use std::marker::Model;

@@ -8,7 +8,7 @@ ghost use Rattle.ud_model.specs.conditions.Table.{Argument, entry_in};
 ghost use Rattle.ud_model.specs.answer.Arguments as names;
 ghost use Rattle.ud_model.specs.conditions.Symbols as ends;
 ghost use Rattle.ud_cond.specs.Standing.{StandsFor, Changes, IsLastRow};
-ghost use Rattle.ud_cond.specs.Viewing.{as_entry, said};
+ghost use Rattle.ud_cond.specs.CondViews.{as_entry, said};
 
 use crate::fault::SymbolFault;
 use std::alloc::Global;
@@ -38,7 +38,7 @@ struct Row {
 impl Model for Row {
     ghost use Rattle.std.specs.Prelude.{option_map};
     ghost use Rattle.ud_model.specs.conditions.Table.{Argument};
-    ghost use Rattle.ud_cond.specs.Viewing.{said};
+    ghost use Rattle.ud_cond.specs.CondViews.{said};
 
     ghost Value = { Argument };
 

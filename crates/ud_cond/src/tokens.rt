@@ -6,7 +6,7 @@ ghost use Rattle.std.specs.Prelude.{◌≡◌, drop, length, option_map, slice_i
 ghost use Rattle.ud_model.specs.conditions.Tokens as spec;
 ghost use Rattle.ud_model.specs.conditions.Constants as texts;
 ghost use Rattle.ud_model.specs.text.Bytes as bytes;
-ghost use Rattle.ud_cond.specs.Viewing.{as_next};
+ghost use Rattle.ud_cond.specs.CondViews.{as_next};
 
 use crate::constants::is_constant;
 use ud_model::Operator;

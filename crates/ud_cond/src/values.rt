@@ -6,7 +6,7 @@ ghost use Rattle.std.specs.Prelude.{◌≡◌, option_and_then, option_map};
 ghost use Rattle.ud_model.specs.conditions.Table.{entry_in};
 ghost use Rattle.ud_model.specs.conditions.Symbols.{end_of};
 ghost use Rattle.ud_model.specs.conditions.Values as spec;
-ghost use Rattle.ud_cond.specs.Viewing.{as_entry};
+ghost use Rattle.ud_cond.specs.CondViews.{as_entry};
 ghost use Rattle.ud_cond.specs.Worth.{table_in, constant_worth, name_worth, defined_worth, unary_worth, binary_worth};
 
 use crate::constants::{constant_value, has_u, is_constant};

@@ -30,7 +30,7 @@ use Rattle.ud_sections.specs.Levels.{levels}
 use Rattle.ud_sections.specs.Limits.{IsWithin}
 use Rattle.ud_sections.specs.Sections.{HasRead, ComesNext, fault_of}
 use Rattle.ud_sections.specs.Seeing.{shape_of, shape_in, seen_on, seen_with}
-use Rattle.ud_sections.specs.Showing.{as_span}
+use Rattle.ud_sections.specs.StepViews.{as_span}
 use Rattle.ud_sections.specs.Turning.{before_in, turn_with, turned}
 use Rattle.ud_sections.proofs.LineFaults.{cut_fault}
 use Rattle.ud_sections.proofs.Moves.{mark_of, innermost_level, depth_levels}

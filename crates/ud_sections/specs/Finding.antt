@@ -8,7 +8,7 @@ use Rattle.ud_model.specs.sections.Directives.{Content, cut_keyword, text}
 use Rattle.ud_model.specs.sections.Directives as model
 use Rattle.ud_sections.specs.declared.found.Directive.{Directive}
 use Rattle.ud_sections.specs.declared.found.Cut.{Cut}
-use Rattle.ud_sections.specs.Showing.{as_span}
+use Rattle.ud_sections.specs.StepViews.{as_span}
 
 abbrev pub as_directive : Directive → model.Directive
 as_directive d = record { kind = d.kind; keyword = as_span d.keyword; after = d.after.now; broken = d.broken }

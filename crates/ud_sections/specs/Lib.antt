@@ -1,5 +1,5 @@
 pub mod Joining
-pub mod Showing
+pub mod StepViews
 pub mod Styles
 pub mod Printers
 pub mod Finding

@@ -29,7 +29,7 @@ use Rattle.ud_sections.specs.declared.fault.SectionFault.{SectionFault}
 use Rattle.ud_sections.specs.declared.fault.SectionFault.TheVariants.{InappropriateElif, InappropriateElse, InappropriateEndif, TooManyLevels, Obfuscated, PrematureEof, EofInComment}
 use Rattle.ud_sections.specs.declared.machine.Machine.{Machine}
 use Rattle.ud_sections.specs.declared.step.Step.{Step}
-use Rattle.ud_sections.specs.Showing.{as_span}
+use Rattle.ud_sections.specs.StepViews.{as_span}
 use Rattle.ud_sections.specs.Levels.{levels}
 use Rattle.ud_sections.specs.Limits.{IsWithin}
 

@@ -2,7 +2,7 @@
 
 ghost use Rattle.std.specs.Prelude.{◌≡◌, ◌+◌, length, IsTrue, IfOk, IfSome, MatchOption, Some, None};
 ghost use Rattle.ud_model.specs.sections.Directives.{text, content_of, past_sign, is_cut_off, is_keyword_front, leaves_keyword, has_cut_keyword, found_behind};
-ghost use Rattle.ud_text.specs.Viewing.{as_scan};
+ghost use Rattle.ud_text.specs.LineViews.{as_scan};
 ghost use Rattle.ud_sections.specs.Finding.{content_found, directive_or_text};
 
 use crate::found::{Cut, Directive};

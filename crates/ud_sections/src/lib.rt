@@ -1,6 +1,6 @@
 //! What stands between the scan of a line and what is printed of it.
 //!
-//! The definitions are those of ud_model: specs/Printing.antt says what is printed. `specs/Showing.antt` says which
+//! The definitions are those of ud_model: specs/answer/Printing.antt says what is printed. `specs/StepViews.antt` says which
 //! line of the definitions a line and its step are.
 #![tactic(auto)]
 

@@ -38,7 +38,7 @@ impl Lister {
     ghost use Rattle.ud_model.specs.sections.Directives.{content_of};
     ghost use Rattle.ud_model.specs.answer.Listing.{names_in_content};
     ghost use Rattle.ud_model.specs.declared.limits.TheConstants.{LINE_BYTES};
-    ghost use Rattle.ud_text.specs.Viewing.{as_scan};
+    ghost use Rattle.ud_text.specs.LineViews.{as_scan};
     ghost use Rattle.ud_sections.specs.Listing.{StaysSame};
 
     /// What lists names, each after its depth, or by itself.

@@ -14,9 +14,9 @@ ghost use Rattle.ud_model.specs.sections.Items.{Options, mode_after, next_item, 
 ghost use Rattle.ud_model.specs.sections.Faults.{FaultOf, ends_in_comment, end_fault, last_number};
 ghost use Rattle.ud_model.specs.declared.limits.TheConstants.{LINE_BYTES, OPEN_SECTIONS};
 ghost use Rattle.ud_cond.specs.Standing.{StandsFor};
-ghost use Rattle.ud_text.specs.Viewing.{as_line, as_scan};
+ghost use Rattle.ud_text.specs.LineViews.{as_line, as_scan};
 ghost use Rattle.ud_sections.specs.Limits.{IsWithin};
-ghost use Rattle.ud_sections.specs.Showing.{HoldsKeyword};
+ghost use Rattle.ud_sections.specs.StepViews.{HoldsKeyword};
 ghost use Rattle.ud_sections.specs.Changing.{changed, last_of};
 ghost use Rattle.ud_model.specs.sections.Pruning.{is_removed};
 ghost use Rattle.ud_sections.specs.Judging.{is_push};

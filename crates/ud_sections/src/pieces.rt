@@ -3,7 +3,7 @@
 ghost use Rattle.std.specs.Prelude.{◌≡◌, ◌≤◌, bytes_eq};
 ghost use Rattle.std.specs.List.{flat_map};
 ghost use Rattle.ud_model.specs.text.Lines.{text_of};
-ghost use Rattle.ud_text.specs.Viewing.{as_line};
+ghost use Rattle.ud_text.specs.LineViews.{as_line};
 
 use crate::step::Step;
 use ud_model::Verdict;
@@ -26,7 +26,7 @@ impl<'a> Pieces<'a> {
     ghost use Rattle.ud_model.specs.answer.Printing.{piece_by};
     ghost use Rattle.ud_model.specs.sections.Pruning.{is_removed};
     ghost use Rattle.ud_sections.specs.Joining.{joined, count_of, is_same};
-    ghost use Rattle.ud_sections.specs.Showing.{as_span, HoldsKeyword};
+    ghost use Rattle.ud_sections.specs.StepViews.{as_span, HoldsKeyword};
 
     /// The first `count` of these parts, printed in place of a line.
     fn new(slices: [&'a [u8]; 5], count: usize, line: &Line<'_>) -> Pieces<'a>

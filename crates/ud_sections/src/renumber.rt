@@ -2,7 +2,7 @@
 
 ghost use Rattle.std.specs.Prelude.{◌≡◌, ◌+◌, ◌≤◌, ◌++◌, length};
 ghost use Rattle.ud_model.specs.answer.Printing.{number_line};
-ghost use Rattle.ud_text.specs.Viewing.{as_line};
+ghost use Rattle.ud_text.specs.LineViews.{as_line};
 
 use crate::appending::append;
 use crate::pieces::Pieces;

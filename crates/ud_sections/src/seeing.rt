@@ -8,8 +8,8 @@ ghost use Rattle.ud_model.specs.sections.Items.{rules_of};
 ghost use Rattle.ud_model.specs.conditions.Table.{Argument};
 ghost use Rattle.ud_model.specs.declared.limits.TheConstants.{LINE_BYTES};
 ghost use Rattle.ud_cond.specs.Standing.{StandsFor};
-ghost use Rattle.ud_cond.specs.Viewing.{as_decision, as_rules};
-ghost use Rattle.ud_text.specs.Viewing.{as_scan};
+ghost use Rattle.ud_cond.specs.CondViews.{as_decision, as_rules};
+ghost use Rattle.ud_text.specs.LineViews.{as_scan};
 ghost use Rattle.ud_sections.specs.Finding.{as_directive};
 ghost use Rattle.ud_sections.specs.Seeing.{shape_in, seen_on};
 

@@ -5,9 +5,9 @@ ghost use Rattle.std.specs.Borrow.{sem};
 ghost use Rattle.std.specs.Io.BufRead.{Rests};
 ghost use Rattle.ud_model.specs.text.Lines.{text_of};
 ghost use Rattle.ud_model.specs.answer.Printing.{Judged};
-ghost use Rattle.ud_text.specs.Viewing.{as_line};
+ghost use Rattle.ud_text.specs.LineViews.{as_line};
 ghost use Rattle.ud_sections.specs.Joining.{joined, is_same};
-ghost use Rattle.ud_sections.specs.Showing.{judged, HoldsKeyword};
+ghost use Rattle.ud_sections.specs.StepViews.{judged, HoldsKeyword};
 
 use crate::pieces::Pieces;
 use crate::step::Step;

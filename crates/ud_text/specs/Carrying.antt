@@ -17,7 +17,7 @@ use Rattle.ud_model.specs.text.Scanning.{is_block, joins}
 use Rattle.ud_model.specs.aids.Places.{Reads, in_text, place_kind}
 use Rattle.ud_model.specs.aids.Places.{Place as TextPlace}
 use Rattle.ud_model.specs.sections.Faults.{is_in_block}
-use Rattle.ud_text.specs.Viewing.{place_of}
+use Rattle.ud_text.specs.LineViews.{place_of}
 use Rattle.ud_text.specs.declared.scanner.Carry.{Carry}
 use Rattle.ud_text.specs.declared.scanner.Facts.{Facts}
 

@@ -1,5 +1,5 @@
 pub mod Holding
-pub mod Viewing
+pub mod LineViews
 pub mod Carrying
 pub mod Lending
 pub mod Passing

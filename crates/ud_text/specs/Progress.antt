@@ -17,7 +17,7 @@ use Rattle.std.specs.Prelude.{◌≡◌, ◌≤◌, ℕ, ◌+◌, List, ◌++◌
 use Rattle.ud_model.specs.aids.Places.{in_text}
 use Rattle.ud_text.specs.States.{State, state_after, IsQuiet, NoFeedInBlock, line_state, text_state, inside_state, Passed}
 use Rattle.ud_text.specs.Spans.{NoComment}
-use Rattle.ud_text.specs.Viewing.{place_of}
+use Rattle.ud_text.specs.LineViews.{place_of}
 use Rattle.ud_text.specs.declared.passing.Progress.{Progress}
 use Rattle.ud_text.specs.declared.passing.LineStart.{LineStart}
 use Rattle.ud_text.specs.declared.masking.Reached.{Reached}

@@ -1,6 +1,6 @@
 //! The lines of a text, from bytes that come in pieces, and what is seen of them.
 //!
-//! What a line is stands in ud_model, specs/text/Lines.antt, and what is seen of it in specs/Scanning.antt.
+//! What a line is stands in ud_model, specs/text/Lines.antt, and what is seen of it in specs/text/Scanning.antt.
 //! `specs/Holding.antt` says what a `Lines` stands for, `specs/Carrying.antt` what a `Scanner` carries, and
 //! `specs/Passing.antt` what it is to pass many lines at once.
 #![tactic(auto)]
@@ -22,5 +22,5 @@ pub use line::Line;
 pub use lines::{Lines, Taken};
 pub use marks::first_mark;
 pub use scan::Scan;
-pub use scanner::Scanner;
+pub use scanner::{Scanner, law_same_scans};
 pub use ud_model::CommentAt;

@@ -8,7 +8,7 @@
 ghost use Rattle.std.specs.Prelude.{◌≡◌, ℕ, suc, ◌+◌, ◌<◌, ◌≤◌, ◌↔◌, List, [], ◌∷◌, ◌++◌, length, take, true, false, Some, None, IfOk, IfErr, OnOk, OnErr, IfSome, IfNone, Ok, Err, IsTrue, MatchResult};
 ghost use Rattle.ud_model.specs.text.Lines.{whole_lines, open_rest, line_at, is_ending};
 ghost use Rattle.ud_text.specs.Holding.{Took, UpToFeed, Refuses, refused_with, IsComplete, IsLastLine, IsLineOf};
-ghost use Rattle.ud_text.specs.Viewing.{as_line};
+ghost use Rattle.ud_text.specs.LineViews.{as_line};
 
 use crate::fault::TextFault;
 use crate::line::Line;

@@ -9,7 +9,7 @@ ghost use Rattle.arrayvec.specs.ArrayVec.{array_vec_len};
 ghost use Rattle.ud_model.specs.text.Lines.{NoFeed};
 ghost use Rattle.ud_model.specs.text.Scanning.{is_block};
 ghost use Rattle.ud_model.specs.aids.Places.{Reads, Masks, next, opens, shows, whitens, blank_last, place_kind, fresh_at};
-ghost use Rattle.ud_text.specs.Viewing.{place_of};
+ghost use Rattle.ud_text.specs.LineViews.{place_of};
 
 use crate::marks::first_mark;
 use arrayvec::ArrayVec;

@@ -10,7 +10,7 @@ ghost use Rattle.ud_model.specs.text.Bytes.{slash, star, number_sign};
 ghost use Rattle.ud_text.specs.States.{State, block_state, can_start};
 ghost use Rattle.ud_text.specs.Spans.{NoPair};
 ghost use Rattle.ud_text.specs.Progress.{ReadTo, state_of, InOrder, ReadBy, PassedBy, InBlock, Steps};
-ghost use Rattle.ud_text.specs.Viewing.{place_of};
+ghost use Rattle.ud_text.specs.LineViews.{place_of};
 
 use crate::masking::{Place, Reached};
 use crate::searching::{first_pair, first_special, line_begin};

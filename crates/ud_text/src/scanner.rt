@@ -12,7 +12,7 @@ ghost use Rattle.ud_model.specs.text.Splicing.{is_spliced, content, stays_open};
 ghost use Rattle.ud_model.specs.text.Scans.{Reading};
 ghost use Rattle.ud_model.specs.text.Scanning.{comment_at, scan_after, next_reading};
 ghost use Rattle.ud_model.specs.aids.Places.{place_kind, closed_place, closed_white};
-ghost use Rattle.ud_text.specs.Viewing.{as_line, as_scan, place_of};
+ghost use Rattle.ud_text.specs.LineViews.{as_line, as_scan, place_of};
 ghost use Rattle.ud_text.specs.Carrying.{Carried, Carries, carried_by, nothing_carried, scan_with, ends_in_block};
 ghost use Rattle.ud_text.specs.Lending.{ReadsLine};
 ghost use Rattle.ud_text.specs.Passing.{EndsLine, PassesText};

@@ -18,7 +18,7 @@ use Rattle.ud_model.specs.declared.verdict.Verdict.TheVariants.{Keep, Remove, To
 use Rattle.ud_model.proofs.sections.KeywordLies.{keyword_lies}
 use Rattle.ud_model.proofs.sections.Soundness.{reading_of-item_of}
 use Rattle.ud_sections.specs.declared.step.Span.{Span}
-use Rattle.ud_sections.specs.Showing.{as_span, IsWithin}
+use Rattle.ud_sections.specs.StepViews.{as_span, IsWithin}
 use Rattle.unifdef.specs.Held.{ends_from, Holds}
 use Rattle.unifdef.specs.Inside.{is_inside, inside_after, item_at, items_behind, items_in}
 use Rattle.unifdef.specs.Shapes.{seen_of, mark_of}

@@ -8,7 +8,7 @@ ghost use Rattle.ud_model.specs.text.Lines as model;
 ghost use Rattle.ud_model.specs.sections.Items.{Options, mode_by};
 ghost use Rattle.ud_model.specs.sections.Faults.{is_in_block};
 ghost use Rattle.ud_model.specs.declared.limits.TheConstants.{LINE_BYTES};
-ghost use Rattle.ud_text.specs.Viewing.{as_line};
+ghost use Rattle.ud_text.specs.LineViews.{as_line};
 ghost use Rattle.unifdef.specs.Asked.{options_by};
 ghost use Rattle.unifdef.specs.Inside.{is_inside};
 

@@ -9,7 +9,7 @@ ghost use Rattle.ud_model.specs.sections.Items.{Options, mode_by};
 ghost use Rattle.ud_model.specs.answer.Listing.{listed, listed_names, names_in_content};
 ghost use Rattle.ud_model.specs.declared.limits.TheConstants.{LINE_BYTES, TEXT_LINES};
 ghost use Rattle.ud_text.specs.Carrying.{Carries};
-ghost use Rattle.ud_text.specs.Viewing.{as_line};
+ghost use Rattle.ud_text.specs.LineViews.{as_line};
 ghost use Rattle.unifdef.specs.Counting.{counted, open_by, level_by};
 ghost use Rattle.unifdef.specs.Held.{Holds};
 ghost use Rattle.unifdef.specs.Inside.{items_in, most};

@@ -9,8 +9,8 @@ ghost use Rattle.ud_model.specs.declared.limits.TheConstants.{TEXT_LINES};
 ghost use Rattle.unifdef.specs.Inside.{items_in};
 ghost use Rattle.unifdef.specs.Held.{Holds};
 ghost use Rattle.unifdef.specs.Shapes.{mark_of};
-ghost use Rattle.ud_sections.specs.Showing.{judged, HoldsKeyword};
-ghost use Rattle.ud_text.specs.Viewing.{as_line};
+ghost use Rattle.ud_sections.specs.StepViews.{judged, HoldsKeyword};
+ghost use Rattle.ud_text.specs.LineViews.{as_line};
 ghost use Rattle.unifdef.specs.Showing.{line_between, Shown};
 ghost use Rattle.unifdef.specs.Watching.{Says, AppendsFront};
 

@@ -3,7 +3,7 @@
 --   judged_of ruled         the line with its verdict, and where its keyword lies
 --   HoldsItsKeyword ruled   a directive that is edited has its keyword in its line's body
 use Rattle.ud_model.specs.answer.Printing.{Judged}
-use Rattle.ud_sections.specs.Showing.{judged, HoldsKeyword}
+use Rattle.ud_sections.specs.StepViews.{judged, HoldsKeyword}
 use Rattle.unifdef_tests.specs.declared.printing.Ruled.{Ruled}
 
 abbrev pub judged_of : Ruled → Judged

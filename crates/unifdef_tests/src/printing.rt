@@ -4,8 +4,8 @@ ghost use Rattle.std.specs.Prelude.{◌≡◌, [], ◌∷◌, ◌++◌, List, �
 ghost use Rattle.std.specs.List.{concat, flat_map};
 ghost use Rattle.ud_model.specs.text.Lines.{text_of};
 ghost use Rattle.ud_model.specs.answer.Printing.{Judged, pieces_by, some_other};
-ghost use Rattle.ud_text.specs.Viewing.{as_line};
-ghost use Rattle.ud_sections.specs.Showing.{judged, HoldsKeyword};
+ghost use Rattle.ud_text.specs.LineViews.{as_line};
+ghost use Rattle.ud_sections.specs.StepViews.{judged, HoldsKeyword};
 ghost use Rattle.unifdef_tests.specs.Ruling.{judged_of, HoldsItsKeyword};
 
 use std::alloc::AllocError;

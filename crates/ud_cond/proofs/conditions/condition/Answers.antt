@@ -1,6 +1,6 @@
 use Rattle.std.proofs.Common.{◌∙◌}
 use Rattle.ud_model.proofs.conditions.ConditionLemmas.{condition_of_same}
-use Rattle.ud_cond.specs.Viewing.{as_rules}
+use Rattle.ud_cond.specs.CondViews.{as_rules}
 use Rattle.ud_cond.proofs.conditions.condition.Goals as goal
 
 pub returns : goal.returns

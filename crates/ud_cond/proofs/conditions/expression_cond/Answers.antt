@@ -1,5 +1,5 @@
 use Rattle.std.proofs.Common.{◌≡◌, true, false, rules}
-use Rattle.ud_cond.specs.Viewing.{as_rules}
+use Rattle.ud_cond.specs.CondViews.{as_rules}
 use Rattle.ud_cond.proofs.WorthLemmas.{cond-none, cond-some}
 use Rattle.ud_cond.proofs.conditions.expression_cond.Goals as goal
 

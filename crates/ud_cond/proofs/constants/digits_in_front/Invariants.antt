@@ -1,6 +1,6 @@
 use Rattle.std.proofs.Common.{◌≡◌, ◌≤◌, ◌+◌, ◌-◌, length, drop}
 use Rattle.std.specs.List.{prefix_len}
-use Rattle.ud_cond.specs.Viewing.{is_digit_of}
+use Rattle.ud_cond.specs.CondViews.{is_digit_of}
 use Rattle.ud_cond.proofs.constants.digits_in_front.Given as goal
 
 abbrev pub invariant-digits : goal.invariant-digits

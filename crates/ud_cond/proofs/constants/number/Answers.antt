@@ -1,6 +1,6 @@
 use Rattle.std.proofs.Common.{◌≡◌, ◌∙◌, ◌*◌, sym, ap, arith}
 use Rattle.ud_model.specs.conditions.Values.{limited}
-use Rattle.ud_cond.specs.Viewing.{base_of}
+use Rattle.ud_cond.specs.CondViews.{base_of}
 use Rattle.ud_cond.proofs.DigitLemmas.{unknown-above}
 use Rattle.ud_cond.proofs.constants.number.Goals as goal
 

@@ -1,6 +1,6 @@
 use Rattle.std.proofs.Common.{◌≡◌, length}
 use Rattle.ud_model.specs.conditions.Constants.{continued}
-use Rattle.ud_cond.specs.Viewing.{base_of}
+use Rattle.ud_cond.specs.CondViews.{base_of}
 use Rattle.ud_cond.proofs.constants.number.Given as goal
 
 abbrev pub invariant-digits : goal.invariant-digits

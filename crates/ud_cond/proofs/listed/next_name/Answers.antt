@@ -1,7 +1,7 @@
 use Rattle.std.proofs.Common.{◌∙◌, ◌++◌, sym, ap}
 use Rattle.std.specs.Option.{option_to_list}
 use Rattle.ud_cond.specs.Naming.{names_in_text}
-use Rattle.ud_cond.specs.Viewing.{as_token}
+use Rattle.ud_cond.specs.CondViews.{as_token}
 use Rattle.ud_model.proofs.conditions.TokenLemmas.{shorter}
 use Rattle.ud_cond.proofs.NamingLemmas.{steps, names-end, readable}
 use Rattle.ud_cond.proofs.listed.next_name.Goals as goal

@@ -1,7 +1,7 @@
 -- One more byte, and a space in place of the slash before it where it opens a comment.
 use Rattle.std.proofs.Common.{sym, ◌∙◌, ap, true, false, ℕ, ◌++◌, ◌∷◌, []}
 use Rattle.arrayvec.specs.ArrayVec.{ArrayVec}
-use Rattle.ud_text.specs.Viewing.{place_of}
+use Rattle.ud_text.specs.LineViews.{place_of}
 use Rattle.ud_text.proofs.RunLemmas.{one_more}
 use Rattle.ud_text.proofs.masking.mask_byte.Goals as goal
 use Rattle.ud_text.proofs.masking.mask_byte.Goals.{then-opens_comment, else-opens_comment}

@@ -1,7 +1,7 @@
 -- The content in front of the place is shown.
 use Rattle.std.proofs.Common.{◌≡◌, ◌≤◌, ◌-◌, ℕ, List, ◌++◌, length, take}
 use Rattle.ud_model.specs.aids.Places.{Reads, Masks}
-use Rattle.ud_text.specs.Viewing.{place_of}
+use Rattle.ud_text.specs.LineViews.{place_of}
 use Rattle.ud_text.proofs.masking.mask_content.Given as goal
 
 abbrev pub invariant-loop-at : goal.invariant-loop-at

@@ -1,6 +1,6 @@
 -- Runs of bytes that leave the place as it is.
 use Rattle.std.proofs.Common.{sym, ◌∙◌, ap, Bool, true, false, ◌≡◌, ◌&&◌, refl}
-use Rattle.ud_text.specs.Viewing.{place_of}
+use Rattle.ud_text.specs.LineViews.{place_of}
 use Rattle.ud_text.proofs.RunLemmas.{text_run, block_run}
 use Rattle.ud_text.proofs.masking.mask_run.Goals as goal
 

@@ -1,6 +1,6 @@
 -- By where the text leaves off.
 use Rattle.std.proofs.Common.{ap}
-use Rattle.ud_text.specs.Viewing.{place_of}
+use Rattle.ud_text.specs.LineViews.{place_of}
 use Rattle.ud_text.proofs.StepLemmas.{start_read, start_block}
 use Rattle.ud_text.proofs.passing.pass_run.Goals as goal
 

@@ -1,7 +1,7 @@
 -- By the run of bytes.
 use Rattle.std.proofs.Common.{take, refl}
 use Rattle.ud_text.specs.Carrying.{carried_by}
-use Rattle.ud_text.specs.Viewing.{place_of}
+use Rattle.ud_text.specs.LineViews.{place_of}
 use Rattle.ud_text.proofs.PlainLemmas.{begins_ends}
 use Rattle.ud_text.proofs.QuietLineLemmas.{passes_none, passes_run}
 use Rattle.ud_text.specs.Spans.{at_start}

@@ -5,7 +5,7 @@ use Rattle.ud_model.specs.text.Scans.{Reading}
 use Rattle.ud_model.specs.text.Splicing.{is_spliced, content, joined, run_of}
 use Rattle.ud_model.specs.text.Scanning.{is_block, comment_at}
 use Rattle.ud_model.specs.aids.Places.{Place, Masks, place_kind, fresh_at}
-use Rattle.ud_text.specs.Viewing.{as_line, place_of}
+use Rattle.ud_text.specs.LineViews.{as_line, place_of}
 use Rattle.ud_text.specs.Carrying.{Carries, carried_by}
 use Rattle.ud_text.proofs.CarryLemmas.{carries_code, scan_carried, same_parts, no_feed-content}
 use Rattle.ud_text.proofs.scanner.scan_code.Goals as goal

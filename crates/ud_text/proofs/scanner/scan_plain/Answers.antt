@@ -2,7 +2,7 @@
 use Rattle.std.proofs.Common.{◌++◌, ◌∷◌, [], sym, subst}
 use Rattle.ud_model.specs.text.Scanning.{next_reading}
 use Rattle.ud_model.specs.declared.kind.Mode.TheVariants.{Plain}
-use Rattle.ud_text.specs.Viewing.{as_line}
+use Rattle.ud_text.specs.LineViews.{as_line}
 use Rattle.ud_text.specs.Carrying.{Carried, Carries}
 use Rattle.ud_text.proofs.CarryLemmas.{carries_plain}
 use Rattle.ud_text.proofs.scanner.scan_plain.Goals as goal

@@ -1,6 +1,6 @@
 use Rattle.std.proofs.Common.{◌≡◌, length, ap, arith}
 use Rattle.ud_model.specs.text.Scanning.{scan_after}
-use Rattle.ud_text.specs.Viewing.{as_line, as_scan}
+use Rattle.ud_text.specs.LineViews.{as_line, as_scan}
 use Rattle.unifdef.proofs.SeeingLemmas.{masked_le}
 use Rattle.unifdef.proofs.listing.list_line.Goals as goal
 

@@ -1,5 +1,5 @@
 use Rattle.std.proofs.Common.{rules, ◌++◌, ◌∷◌, ◌+◌, [], ℕ, List, length, take, drop, ◌-◌, refl, sym, ap, subst, ◌∙◌, arith, inl, inr, if◌then◌else◌}
-use Rattle.ud_sections.specs.Showing.{judged}
+use Rattle.ud_sections.specs.StepViews.{judged}
 use Rattle.unifdef.specs.Watching.{AppendsFront}
 use Rattle.unifdef.proofs.WatchingLemmas.{says_failed}
 use Rattle.unifdef.proofs.CuttingLemmas.{Parts}

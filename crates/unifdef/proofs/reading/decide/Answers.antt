@@ -1,7 +1,7 @@
 use Rattle.std.proofs.Common.{length, subst, arith}
 use Rattle.ud_model.specs.sections.Directives.{Content}
 use Rattle.ud_model.proofs.sections.KeywordLies.{Lies, content_lies}
-use Rattle.ud_text.specs.Viewing.{as_scan}
+use Rattle.ud_text.specs.LineViews.{as_scan}
 use Rattle.unifdef.proofs.reading.decide.Goals as goal
 
 pub condition-answer-requires : goal.condition-answer-requires

@@ -1,7 +1,7 @@
 use Rattle.std.proofs.Common.{map, ap, ◌∙◌}
 use Rattle.ud_model.specs.text.Scanning.{scan_after}
 use Rattle.ud_model.specs.sections.Items.{reading_of}
-use Rattle.ud_text.specs.Viewing.{as_line}
+use Rattle.ud_text.specs.LineViews.{as_line}
 use Rattle.machine_probe.proofs.ReaderLemmas.{line_read, line_refused}
 use Rattle.machine_probe.proofs.reader.Reader.line.Goals as goal
 

@@ -2,7 +2,7 @@ use Rattle.std.proofs.Common.{Some, None, ◌≡◌, ◌∙◌, sym, ap, subst, 
 use Rattle.std.proofs.lemmas.List.{get_or_read}
 use Rattle.ud_model.specs.conditions.Table.{entry_in}
 use Rattle.ud_cond.specs.Standing.{nobody, IsLastRow}
-use Rattle.ud_cond.specs.Viewing.{as_entry}
+use Rattle.ud_cond.specs.CondViews.{as_entry}
 use Rattle.ud_cond.proofs.TableLemmas.{entry_from-last}
 use Rattle.ud_cond.proofs.symbols.Symbols.find.Goals as goal
 use Rattle.ud_cond.proofs.symbols.Symbols.find.Goals.{After-entry}

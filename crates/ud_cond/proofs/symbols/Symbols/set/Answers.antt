@@ -2,7 +2,7 @@ use Rattle.std.proofs.Common.{◌≡◌, ◌∙◌, sym, ap, ap₂, subst, get_o
 use Rattle.std.proofs.lemmas.List.{get_or_read}
 use Rattle.std.proofs.lemmas.Result.{on_ok_weaker}
 use Rattle.ud_cond.specs.Standing.{nobody, IsLastRow}
-use Rattle.ud_cond.specs.Viewing.{said}
+use Rattle.ud_cond.specs.CondViews.{said}
 use Rattle.ud_cond.proofs.TableLemmas.{changes-set, changes-push}
 use Rattle.ud_cond.proofs.symbols.Symbols.set.Goals as goal
 

@@ -1,6 +1,6 @@
 use Rattle.std.proofs.Common.{None}
 use Rattle.std.proofs.lemmas.Result.{on_ok_weaker}
-use Rattle.ud_cond.specs.Viewing.{said}
+use Rattle.ud_cond.specs.CondViews.{said}
 use Rattle.ud_cond.proofs.TableLemmas.{stands-changes}
 use Rattle.ud_cond.proofs.symbols.Symbols.undefine.Goals as goal
 

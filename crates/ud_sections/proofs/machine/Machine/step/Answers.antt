@@ -1,6 +1,6 @@
 use Rattle.std.proofs.Common.{◌∙◌, ap, sym, refl}
 use Rattle.ud_model.specs.sections.Pruning.{is_removed}
-use Rattle.ud_text.specs.Viewing.{as_line, as_scan}
+use Rattle.ud_text.specs.LineViews.{as_line, as_scan}
 use Rattle.ud_sections.proofs.TurnLemmas.{turns_well, turns_ill, text_turn}
 use Rattle.ud_sections.proofs.StandingLemmas.{reads_line}
 use Rattle.ud_sections.proofs.machine.Machine.step.Goals as goal

@@ -1,6 +1,6 @@
 use Rattle.std.proofs.Common.{◌∙◌, ◌++◌, ℕ, List, refl, sym, ap₂}
 use Rattle.ud_model.proofs.answer.PrintingLemmas.{last_removed-more}
-use Rattle.ud_sections.specs.Showing.{judged}
+use Rattle.ud_sections.specs.StepViews.{judged}
 use Rattle.ud_sections.proofs.RenumberLemmas.{removed_piece, following_piece, numbered_piece}
 use Rattle.ud_sections.proofs.renumber.RenumberShow.pieces.Goals as goal
 

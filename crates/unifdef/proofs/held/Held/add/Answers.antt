@@ -5,7 +5,7 @@ use Rattle.ud_model.specs.text.Scanning.{next_reading, scan_after}
 use Rattle.ud_model.specs.sections.Items.{reading_of, mode_by}
 use Rattle.ud_model.specs.sections.Faults.{is_in_block}
 use Rattle.ud_text.specs.Carrying.{Carries}
-use Rattle.ud_text.specs.Viewing.{as_line, as_scan}
+use Rattle.ud_text.specs.LineViews.{as_line, as_scan}
 use Rattle.ud_model.specs.declared.kind.Mode.{Mode}
 use Rattle.unifdef.specs.Asked.{options_by}
 use Rattle.unifdef.specs.Inside.{inside_after, is_inside, items_in, most}

@@ -1,4 +1,4 @@
--- Viewing: lines, scans and places of the program as the definitions have them.
+-- LineViews: lines, scans and places of the program as the definitions have them.
 --
 --   as_line line      the line with its body, its ending and its number
 --   as_scan scan      the scan

@@ -1,4 +1,4 @@
--- Showing: lines and their steps as the definitions have them.
+-- StepViews: lines and their steps as the definitions have them.
 --
 --   judged line step      the line with its verdict, and where its keyword lies
 --   HoldsKeyword step l   a directive that is edited has its keyword in its line's body
@@ -10,7 +10,7 @@ use Rattle.ud_model.specs.answer.Printing.{Judged}
 use Rattle.ud_model.specs.declared.verdict.Verdict.{Verdict}
 use Rattle.ud_model.specs.declared.verdict.Verdict.TheVariants.{Keep, Remove, ToIf, ToElse, ToEndif}
 use Rattle.ud_text.specs.declared.line.Line.{Line}
-use Rattle.ud_text.specs.Viewing.{as_line}
+use Rattle.ud_text.specs.LineViews.{as_line}
 use Rattle.ud_sections.specs.declared.step.Span.{Span}
 use Rattle.ud_sections.specs.declared.step.Step.{Step}
 
