@@ -27,9 +27,9 @@ fn a_line_has_4096_bytes_with_its_ending(rt: HostRuntime) -> Result<(), Fail> {
     for (count, ending) in endings {
         let body = repeated(rt.alloc(), b"a", count)?;
         let longest = joined(rt.alloc(), body.as_slice(), ending)?;
-        check_copy(&rt, rt.alloc(), "-DA", longest.as_slice())?;
+        check_copy(&rt, "-DA", longest.as_slice())?;
         let longer = joined(rt.alloc(), b"a", longest.as_slice())?;
-        check(&rt, rt.alloc(), "-DA", longer.as_slice(), b"", message, 2)?;
+        check(&rt, "-DA", longer.as_slice(), b"", message, 2)?;
     }
     Ok(())
 }
@@ -39,7 +39,7 @@ fn a_line_that_is_too_long_is_told_behind_the_lines_before(rt: HostRuntime) -> R
     let long = repeated(rt.alloc(), b"a", 4097)?;
     let input = joined(rt.alloc(), b"#ifdef A\nx\n", long.as_slice())?;
     let message = "unifdef: stdin: 3: Line too long";
-    check(&rt, rt.alloc(), "-DA", input.as_slice(), b"x\n", message, 2)
+    check(&rt, "-DA", input.as_slice(), b"x\n", message, 2)
 }
 
 /// A text that opens so many sections, and closes them.
@@ -52,19 +52,11 @@ fn nested(alloc: Global, depth: usize) -> Result<Vec<u8>, AllocError> {
 #[test]
 fn sixty_four_sections_may_be_open(rt: HostRuntime) -> Result<(), Fail> {
     let deepest = nested(rt.alloc(), 64)?;
-    check_copy(&rt, rt.alloc(), "-DA", deepest.as_slice())?;
+    check_copy(&rt, "-DA", deepest.as_slice())?;
     let deeper = nested(rt.alloc(), 65)?;
     let before = repeated(rt.alloc(), b"#ifdef X\n", 64)?;
     let message = "unifdef: stdin: 65: Too many levels of nesting";
-    check(
-        &rt,
-        rt.alloc(),
-        "-DA",
-        deeper.as_slice(),
-        before.as_slice(),
-        message,
-        2,
-    )
+    check(&rt, "-DA", deeper.as_slice(), before.as_slice(), message, 2)
 }
 
 #[test]
@@ -72,5 +64,5 @@ fn sections_count_in_removed_places_too(rt: HostRuntime) -> Result<(), Fail> {
     let inner = repeated(rt.alloc(), b"#ifdef X\n", 64)?;
     let input = joined(rt.alloc(), b"#ifdef A\n", inner.as_slice())?;
     let message = "unifdef: stdin: 65: Too many levels of nesting";
-    check(&rt, rt.alloc(), "-UA", input.as_slice(), b"", message, 2)
+    check(&rt, "-UA", input.as_slice(), b"", message, 2)
 }

@@ -66,53 +66,37 @@ fn a_name_stands_behind_its_depth(rt: HostRuntime) -> Result<(), Fail> {
 #[test]
 fn names_are_listed_behind_their_depths(rt: HostRuntime) -> Result<(), Fail> {
     let input = b"#if A && defined(B)\n#ifdef C\n#elif D << 1\n#endif\n#endif\n";
-    check(&rt, rt.alloc(), "-S", input, b"0 A\n0 B\n1 C\n", "", 0)?;
+    check(&rt, "-S", input, b"0 A\n0 B\n1 C\n", "", 0)?;
     let input = b"#ifdef A\n#ifdef B\n#endif\n#elif C\n#endif\n#ifdef D\n#endif\n";
-    check(&rt, rt.alloc(), "-S", input, b"0 A\n1 B\n0 C\n0 D\n", "", 0)
+    check(&rt, "-S", input, b"0 A\n1 B\n0 C\n0 D\n", "", 0)
 }
 
 #[test]
 fn each_name_is_listed_as_often_as_it_stands(rt: HostRuntime) -> Result<(), Fail> {
     let input = b"#ifdef A\n#if A + A\n#endif\n#endif\n";
-    check(&rt, rt.alloc(), "-s -DA", input, b"A\nA\nA\n", "", 0)?;
-    check(
-        &rt,
-        rt.alloc(),
-        "-i DA -s",
-        b"#ifdef A\n#endif\n",
-        b"A\n",
-        "",
-        0,
-    )
+    check(&rt, "-s -DA", input, b"A\nA\nA\n", "", 0)?;
+    check(&rt, "-i DA -s", b"#ifdef A\n#endif\n", b"A\n", "", 0)
 }
 
 #[test]
 fn names_of_removed_places_are_listed(rt: HostRuntime) -> Result<(), Fail> {
     let input = b"#ifdef A\n#ifdef B\n#endif\n#endif\n";
-    check(&rt, rt.alloc(), "-S -UA", input, b"0 A\n1 B\n", "", 0)
+    check(&rt, "-S -UA", input, b"0 A\n1 B\n", "", 0)
 }
 
 #[test]
 fn names_of_conditions_that_are_not_understood_are_not_listed(rt: HostRuntime) -> Result<(), Fail> {
     let input = b"#ifdef A B\n#elif C\n#endif\n";
-    check(&rt, rt.alloc(), "-s -S -b", input, b"0 C\n", "", 0)?;
+    check(&rt, "-s -S -b", input, b"0 C\n", "", 0)?;
     let input = b"#if A \\\n\n#elif B /* c\n*/\n#endif\n";
-    check(&rt, rt.alloc(), "-s", input, b"B\n", "", 0)?;
-    check(
-        &rt,
-        rt.alloc(),
-        "-s",
-        b"#ifdef defined\n#endif\n",
-        b"defined\n",
-        "",
-        0,
-    )
+    check(&rt, "-s", input, b"B\n", "", 0)?;
+    check(&rt, "-s", b"#ifdef defined\n#endif\n", b"defined\n", "", 0)
 }
 
 #[test]
 fn a_list_has_status_0_in_every_mode(rt: HostRuntime) -> Result<(), Fail> {
     for words in ["-s -x0", "-s -x1", "-s -x2", "-S -x1 -b -c -n"] {
-        check(&rt, rt.alloc(), words, b"x\n", b"", "", 0)?;
+        check(&rt, words, b"x\n", b"", "", 0)?;
     }
     Ok(())
 }
@@ -120,7 +104,7 @@ fn a_list_has_status_0_in_every_mode(rt: HostRuntime) -> Result<(), Fail> {
 #[test]
 fn a_fault_is_told_behind_the_list(rt: HostRuntime) -> Result<(), Fail> {
     let message = "unifdef: stdin: 1: Premature EOF (#if line 1)";
-    check(&rt, rt.alloc(), "-s -DA", b"#ifdef A\n", b"A\n", message, 2)?;
+    check(&rt, "-s -DA", b"#ifdef A\n", b"A\n", message, 2)?;
     let message = "unifdef: stdin: 2: Inappropriate #elif";
-    check(&rt, rt.alloc(), "-s", b"x\n#elif A\n", b"", message, 2)
+    check(&rt, "-s", b"x\n#elif A\n", b"", message, 2)
 }

@@ -3,8 +3,7 @@
 //! Throughout `Y` is defined, `N` is undefined, and `X` isn't listed. A kept line is `k`, a removed one `-`, and an opener
 //! that becomes `#if`, `#else` or `#endif` is `i`, `e` or `n`.
 
-use crate::stepping::Stepper;
-use std::alloc::Global;
+use crate::stepping::{Stepper, letter};
 use std::process::Abort;
 use std::test::Fail;
 use ud_model::Mode;
@@ -28,11 +27,11 @@ const NEXT: [&[u8]; 9] = [
 /// Compares what becomes, after these lines, of each line that may come next, of a text line after it, and of an `#endif`
 /// after both; `!` is one that is out of its place.
 fn check_phase(
-    rt: &impl Abort,
-    alloc: Global,
+    rt: &(impl Abort + AllocGlobal),
     lines: &[&[u8]],
     expected: &str,
 ) -> Result<(), Fail> {
+    let alloc = rt.alloc();
     let mut letters = String::new(alloc);
     for next in NEXT {
         let mut stepper = Stepper::new(rt, alloc, WORDS)?;
@@ -40,7 +39,7 @@ fn check_phase(
         let two = stepper.steps(rt, alloc, &[next, b"x"])?;
         letters.push_str(two.as_str())?;
         match stepper.step(rt, b"#endif") {
-            Ok(step) => letters.push(crate::stepping::letter(step.verdict))?,
+            Ok(step) => letters.push(letter(step.verdict))?,
             Err(_) => letters.push('!')?,
         }
         letters.push(' ')?;
@@ -51,12 +50,12 @@ fn check_phase(
 
 /// Compares the letters of these lines under these words.
 fn check_steps(
-    rt: &impl Abort,
-    alloc: Global,
+    rt: &(impl Abort + AllocGlobal),
     words: &str,
     lines: &[&[u8]],
     expected: &str,
 ) -> Result<(), Fail> {
+    let alloc = rt.alloc();
     let mut stepper = Stepper::new(rt, alloc, words)?;
     let letters = stepper.steps(rt, alloc, lines)?;
     assert_eq!(rt; letters.as_str(), expected, "under {words}");
@@ -65,14 +64,14 @@ fn check_steps(
 
 /// Compares the fault of the last of these lines; afterwards every step and the end tell it, and mode and depth stay.
 fn check_refusal(
-    rt: &impl Abort,
-    alloc: Global,
+    rt: &(impl Abort + AllocGlobal),
     words: &str,
     lines: &[&[u8]],
     expected: SectionFault,
     depth: usize,
     mode: Mode,
 ) -> Result<(), Fail> {
+    let alloc = rt.alloc();
     let mut stepper = Stepper::new(rt, alloc, words)?;
     let Some((last, before)) = lines.split_last() else {
         return Ok(());
@@ -105,49 +104,30 @@ fn a_section_goes_through_its_phases(rt: HostRuntime) -> Result<(), Fail> {
     // In a removed place.
     check_phase(
         &rt,
-        alloc,
         &[b"#ifdef N", b"#if X"],
         "--- --- --- --- --- --- --- --- ---",
     )?;
     // All groups are false so far.
-    check_phase(
-        &rt,
-        alloc,
-        &[b"#ifdef N"],
-        "--- --- --- --- --- ikk -k- -k- -k!",
-    )?;
+    check_phase(&rt, &[b"#ifdef N"], "--- --- --- --- --- ikk -k- -k- -k!")?;
     // The first kept group is true.
-    check_phase(
-        &rt,
-        alloc,
-        &[b"#ifdef Y"],
-        "kk- --- kkk -k- --- --- --- --- -k!",
-    )?;
+    check_phase(&rt, &[b"#ifdef Y"], "kk- --- kkk -k- --- --- --- --- -k!")?;
     // The last group is unknown.
-    check_phase(
-        &rt,
-        alloc,
-        &[b"#if X"],
-        "kkk --- kkk -k- --k kkk ekk kkk kk!",
-    )?;
+    check_phase(&rt, &[b"#if X"], "kkk --- kkk -k- --k kkk ekk kkk kk!")?;
     // A false group follows an unknown one.
     check_phase(
         &rt,
-        alloc,
         &[b"#if X", b"#elif N"],
         "--k --- --- --- --k kkk ekk kkk kk!",
     )?;
     // The first true group follows an unknown one.
     check_phase(
         &rt,
-        alloc,
         &[b"#if X", b"#elif defined Y"],
         "kkk --- kkk -k- n-- n-- n-- n-- kk!",
     )?;
     // The first true group is past.
     check_phase(
         &rt,
-        alloc,
         &[b"#if X", b"#elif defined Y", b"#elif X"],
         "--- --- --- --- --- --- --- --- -k!",
     )
@@ -157,7 +137,6 @@ fn a_section_goes_through_its_phases(rt: HostRuntime) -> Result<(), Fail> {
 fn a_group_after_a_sole_true_one_is_over(rt: HostRuntime) -> Result<(), Fail> {
     check_phase(
         &rt,
-        rt.alloc(),
         &[b"#ifdef Y", b"#elif X"],
         "--- --- --- --- --- --- --- --- -k!",
     )
@@ -184,10 +163,9 @@ fn a_keyword_is_told_with_its_place(rt: HostRuntime) -> Result<(), Fail> {
 fn a_directive_out_of_its_place_is_refused(rt: HostRuntime) -> Result<(), Fail> {
     let alloc = rt.alloc();
     let elif = |line| SectionFault::InappropriateElif { line };
-    check_refusal(&rt, alloc, WORDS, &[b"#elif Y"], elif(1), 0, Mode::C)?;
+    check_refusal(&rt, WORDS, &[b"#elif Y"], elif(1), 0, Mode::C)?;
     check_refusal(
         &rt,
-        alloc,
         WORDS,
         &[b"#if X", b"#else", b"#elif X"],
         elif(3),
@@ -196,7 +174,6 @@ fn a_directive_out_of_its_place_is_refused(rt: HostRuntime) -> Result<(), Fail> 
     )?;
     check_refusal(
         &rt,
-        alloc,
         WORDS,
         &[b"#ifdef N", b"#if X", b"#else", b"#elif Y"],
         elif(4),
@@ -204,18 +181,9 @@ fn a_directive_out_of_its_place_is_refused(rt: HostRuntime) -> Result<(), Fail> 
         Mode::C,
     )?;
     let otherwise = |line| SectionFault::InappropriateElse { line };
+    check_refusal(&rt, WORDS, &[b"x", b"#else"], otherwise(2), 0, Mode::C)?;
     check_refusal(
         &rt,
-        alloc,
-        WORDS,
-        &[b"x", b"#else"],
-        otherwise(2),
-        0,
-        Mode::C,
-    )?;
-    check_refusal(
-        &rt,
-        alloc,
         WORDS,
         &[b"#if X", b"#else", b"x", b"#else"],
         otherwise(4),
@@ -225,7 +193,6 @@ fn a_directive_out_of_its_place_is_refused(rt: HostRuntime) -> Result<(), Fail> 
     let end = SectionFault::InappropriateEndif { line: 3 };
     check_refusal(
         &rt,
-        alloc,
         WORDS,
         &[b"#if X", b"#endif", b"#endif"],
         end,
@@ -234,7 +201,6 @@ fn a_directive_out_of_its_place_is_refused(rt: HostRuntime) -> Result<(), Fail> 
     )?;
     check_refusal(
         &rt,
-        alloc,
         "-t",
         &[b"#if X", b"#endif", b"#endif"],
         end,
@@ -248,7 +214,7 @@ fn after_an_opener_became_an_endif_the_section_is_still_open(rt: HostRuntime) ->
     let alloc = rt.alloc();
     let fault = SectionFault::InappropriateElif { line: 4 };
     let lines: [&[u8]; 4] = [b"#if X", b"#elif defined Y", b"#else", b"#elif X"];
-    check_refusal(&rt, alloc, WORDS, &lines, fault, 1, Mode::C)
+    check_refusal(&rt, WORDS, &lines, fault, 1, Mode::C)
 }
 
 #[test]
@@ -273,18 +239,10 @@ fn a_section_more_than_may_be_open_is_refused(rt: HostRuntime) -> Result<(), Fai
 fn a_cut_keyword_is_refused_everywhere(rt: HostRuntime) -> Result<(), Fail> {
     let alloc = rt.alloc();
     let first = SectionFault::Obfuscated { line: 1 };
-    check_refusal(&rt, alloc, WORDS, &[b"#if\\"], first, 0, Mode::C)?;
+    check_refusal(&rt, WORDS, &[b"#if\\"], first, 0, Mode::C)?;
     let second = SectionFault::Obfuscated { line: 2 };
-    check_refusal(
-        &rt,
-        alloc,
-        WORDS,
-        &[b"#ifdef N", b"# /* c"],
-        second,
-        1,
-        Mode::C,
-    )?;
-    check_steps(&rt, alloc, WORDS, &[b"# // c \\", b"#if\\"], "kk")
+    check_refusal(&rt, WORDS, &[b"#ifdef N", b"# /* c"], second, 1, Mode::C)?;
+    check_steps(&rt, WORDS, &[b"# // c \\", b"#if\\"], "kk")
 }
 
 #[test]
@@ -292,10 +250,9 @@ fn a_directive_over_lines_may_only_stay_whole(rt: HostRuntime) -> Result<(), Fai
     let alloc = rt.alloc();
     let at = |line| SectionFault::Obfuscated { line };
     // It would go, or lose what follows its keyword.
-    check_refusal(&rt, alloc, WORDS, &[b"#ifdef Y /* c"], at(1), 0, Mode::C)?;
+    check_refusal(&rt, WORDS, &[b"#ifdef Y /* c"], at(1), 0, Mode::C)?;
     check_refusal(
         &rt,
-        alloc,
         WORDS,
         &[b"#if X", b"#elif defined Y // \\"],
         at(2),
@@ -304,7 +261,6 @@ fn a_directive_over_lines_may_only_stay_whole(rt: HostRuntime) -> Result<(), Fai
     )?;
     check_refusal(
         &rt,
-        alloc,
         WORDS,
         &[b"#if X", b"#elif defined Y", b"#elif X /*"],
         at(3),
@@ -314,7 +270,6 @@ fn a_directive_over_lines_may_only_stay_whole(rt: HostRuntime) -> Result<(), Fai
     // It stays, but what it is joined to goes.
     check_refusal(
         &rt,
-        alloc,
         WORDS,
         &[b"#if X", b"1", b"#elif N", b"/* c", b"*/ #endif"],
         at(5),
@@ -322,17 +277,10 @@ fn a_directive_over_lines_may_only_stay_whole(rt: HostRuntime) -> Result<(), Fai
         Mode::C,
     )?;
     // It stays with its neighbours, its keyword alone is edited, or its place goes as a whole.
-    check_steps(&rt, alloc, WORDS, &[b"/* c", b"*/ #if X /*", b"*/"], "kkk")?;
+    check_steps(&rt, WORDS, &[b"/* c", b"*/ #if X /*", b"*/"], "kkk")?;
+    check_steps(&rt, WORDS, &[b"#ifdef N", b"#elif X /*", b"*/"], "-ik")?;
     check_steps(
         &rt,
-        alloc,
-        WORDS,
-        &[b"#ifdef N", b"#elif X /*", b"*/"],
-        "-ik",
-    )?;
-    check_steps(
-        &rt,
-        alloc,
         WORDS,
         &[b"#ifdef N", b"#if Y /*", b"*/", b"#endif"],
         "----",
@@ -374,7 +322,6 @@ fn a_section_by_an_ignoring_symbol_is_plain_up_to_its_end(rt: HostRuntime) -> Re
     // What was open in plain text isn't carried on.
     check_steps(
         &rt,
-        alloc,
         words,
         &[b"#ifdef I", b"/* a", b"#endif", b"#if X"],
         "-k-k",
@@ -382,14 +329,12 @@ fn a_section_by_an_ignoring_symbol_is_plain_up_to_its_end(rt: HostRuntime) -> Re
     // In a removed place it is plain as well, and one that joins the next line never is.
     check_steps(
         &rt,
-        alloc,
         words,
         &[b"#ifdef N", b"#ifdef I", b"/*", b"#endif", b"#endif"],
         "-----",
     )?;
     check_steps(
         &rt,
-        alloc,
         words,
         &[b"#if X", b"#ifdef N", b"#ifdef I // \\", b"", b"/*", b"*/"],
         "k-----",
@@ -400,39 +345,19 @@ fn a_section_by_an_ignoring_symbol_is_plain_up_to_its_end(rt: HostRuntime) -> Re
 fn directives_are_found_across_splices(rt: HostRuntime) -> Result<(), Fail> {
     let alloc = rt.alloc();
     // The line is fresh again once the slash before a splice turns out to begin a comment.
+    check_steps(&rt, WORDS, &[b"/\\", b"* c */ #if X", b"#elif N"], "kk-")?;
     check_steps(
         &rt,
-        alloc,
-        WORDS,
-        &[b"/\\", b"* c */ #if X", b"#elif N"],
-        "kk-",
-    )?;
-    check_steps(
-        &rt,
-        alloc,
         WORDS,
         &[b"/\\", b"\\", b"* c */ #if X", b"#elif N"],
         "kkk-",
     )?;
     // A comment's opening star doesn't close it, and a star before a splice does.
-    check_steps(
-        &rt,
-        alloc,
-        WORDS,
-        &[b"/*\\", b"/", b"#endif", b"*/"],
-        "kkkk",
-    )?;
-    check_steps(
-        &rt,
-        alloc,
-        WORDS,
-        &[b"/*", b"*\\", b"/ #if X", b"#elif N"],
-        "kkk-",
-    )?;
+    check_steps(&rt, WORDS, &[b"/*\\", b"/", b"#endif", b"*/"], "kkkk")?;
+    check_steps(&rt, WORDS, &[b"/*", b"*\\", b"/ #if X", b"#elif N"], "kkk-")?;
     // A splice comes before an escape: the backslash left takes the quote after it.
     check_steps(
         &rt,
-        alloc,
         WORDS,
         &[b"\"a\\\\", b"\" /* \"", b"#if X", b"#elif N"],
         "kkk-",
@@ -440,46 +365,21 @@ fn directives_are_found_across_splices(rt: HostRuntime) -> Result<(), Fail> {
     // An empty spliced line keeps the escape, and an empty line ends the literal.
     check_steps(
         &rt,
-        alloc,
         WORDS,
         &[b"\"\\\\", b"\\", b"\" /*", b"#if X", b"#elif N"],
         "kkkk-",
     )?;
     // A directive may stand on the second line of its logical line; there is one at most.
-    check_steps(
-        &rt,
-        alloc,
-        WORDS,
-        &[b"/* */ \\", b"#if X", b"#elif N"],
-        "kk-",
-    )?;
-    check_steps(
-        &rt,
-        alloc,
-        WORDS,
-        &[b"#if X /*", b"*/ #endif", b"#endif"],
-        "kkk",
-    )
+    check_steps(&rt, WORDS, &[b"/* */ \\", b"#if X", b"#elif N"], "kk-")?;
+    check_steps(&rt, WORDS, &[b"#if X /*", b"*/ #endif", b"#endif"], "kkk")
 }
 
 #[test]
 fn a_directive_before_a_splice_in_a_comment_is_valued(rt: HostRuntime) -> Result<(), Fail> {
     let alloc = rt.alloc();
-    check_steps(
-        &rt,
-        alloc,
-        WORDS,
-        &[b"#ifdef N", b"#elif X // c \\", b"d"],
-        "-ik",
-    )?;
+    check_steps(&rt, WORDS, &[b"#ifdef N", b"#elif X // c \\", b"d"], "-ik")?;
     // Where the splice cuts the condition itself, it is unknown.
-    check_steps(
-        &rt,
-        alloc,
-        WORDS,
-        &[b"#ifdef Y \\", b"", b"#elif N", b"x"],
-        "kk--",
-    )
+    check_steps(&rt, WORDS, &[b"#ifdef Y \\", b"", b"#elif N", b"x"], "kk--")
 }
 
 #[test]

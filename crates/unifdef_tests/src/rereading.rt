@@ -11,7 +11,8 @@ use unifdef::{Watched, plan, tool};
 
 /// What is left of the input of these words, parted by spaces. Nothing is said, and the status is that of a text of which
 /// some line differs exactly if the bytes do.
-fn left(rt: &impl Abort, alloc: Global, words: &str, input: &[u8]) -> Result<Vec<u8>, Fail> {
+fn left(rt: &(impl Abort + AllocGlobal), words: &str, input: &[u8]) -> Result<Vec<u8>, Fail> {
+    let alloc = rt.alloc();
     let parted: Vec<&str> = words.split_whitespace().collect(alloc)?;
     let owned = owned(alloc, parted.as_slice())?;
     let mode = plan(alloc, owned.as_slice())
@@ -40,9 +41,9 @@ fn status_of(mode: ExitMode, differs: bool) -> u8 {
 }
 
 /// Compares what is left of an input with what is left of that.
-fn check_twice(rt: &impl Abort, alloc: Global, words: &str, input: &[u8]) -> Result<(), Fail> {
-    let once = left(rt, alloc, words, input)?;
-    let twice = left(rt, alloc, words, once.as_slice())?;
+fn check_twice(rt: &(impl Abort + AllocGlobal), words: &str, input: &[u8]) -> Result<(), Fail> {
+    let once = left(rt, words, input)?;
+    let twice = left(rt, words, once.as_slice())?;
     assert_eq!(rt; twice.as_slice(), once.as_slice(), "under {words}");
     Ok(())
 }
@@ -63,83 +64,83 @@ fn nested(alloc: Global, count: usize) -> Result<Vec<u8>, Fail> {
 fn sections_are_read_again_as_they_are(rt: HostRuntime) -> Result<(), Fail> {
     let alloc = rt.alloc();
     let decided = b"#ifdef A\nx\n#else\ny\n#endif\n";
-    check_twice(&rt, alloc, "-DA", b"")?;
-    check_twice(&rt, alloc, "-DA", decided)?;
-    check_twice(&rt, alloc, "-x2 -DA", decided)?;
-    check_twice(&rt, alloc, "-x1 -DA", decided)?;
-    check_twice(&rt, alloc, "-x 1 -DA", b"x\n")?;
-    check_twice(&rt, alloc, "-DA -- -", b"x\n")?;
+    check_twice(&rt, "-DA", b"")?;
+    check_twice(&rt, "-DA", decided)?;
+    check_twice(&rt, "-x2 -DA", decided)?;
+    check_twice(&rt, "-x1 -DA", decided)?;
+    check_twice(&rt, "-x 1 -DA", b"x\n")?;
+    check_twice(&rt, "-DA -- -", b"x\n")?;
     let opened = b"#if B\n1\n#elif defined(A)\n2\n#else\n3\n#endif";
-    check_twice(&rt, alloc, "-UA", opened)?;
+    check_twice(&rt, "-UA", opened)?;
     let inner = b"#ifdef B\n#ifdef A /* x\n*/\n#endif\n#endif\nz\n";
-    check_twice(&rt, alloc, "-UB -DA", inner)
+    check_twice(&rt, "-UB -DA", inner)
 }
 
 #[test]
 fn edited_directives_are_read_again_as_they_are(rt: HostRuntime) -> Result<(), Fail> {
     let alloc = rt.alloc();
     let opened = b"#ifdef A\n1\n#elif X\n2\n#endif\n";
-    check_twice(&rt, alloc, "-UA", opened)?;
+    check_twice(&rt, "-UA", opened)?;
     let spliced = b"#ifdef A\n1\n#elif X && \\\nY\n2\n#endif\n";
-    check_twice(&rt, alloc, "-UA", spliced)?;
+    check_twice(&rt, "-UA", spliced)?;
     let ended = b"#if X\n1\n#elif defined A /* t */\n2\n#elif Y\n3\n#else\n4\n#endif\n";
-    check_twice(&rt, alloc, "-DA", ended)
+    check_twice(&rt, "-DA", ended)
 }
 
 #[test]
 fn conditions_are_read_again_as_they_are(rt: HostRuntime) -> Result<(), Fail> {
     let alloc = rt.alloc();
     let constant = b"#if 0\nx\n#endif\n";
-    check_twice(&rt, alloc, "-DA", constant)?;
-    check_twice(&rt, alloc, "-k -DA", constant)?;
+    check_twice(&rt, "-DA", constant)?;
+    check_twice(&rt, "-k -DA", constant)?;
     let either = b"#if defined(A) || B / 0\nx\n#endif\n";
-    check_twice(&rt, alloc, "-DA", either)?;
-    check_twice(&rt, alloc, "-K -DA", either)?;
+    check_twice(&rt, "-DA", either)?;
+    check_twice(&rt, "-K -DA", either)?;
     let both = b"#if A && X\nx\n#endif\n";
-    check_twice(&rt, alloc, "-UA", both)?;
-    check_twice(&rt, alloc, "-UA -K", both)?;
-    check_twice(&rt, alloc, "-DA=0", b"#if A - 1 < 0u\nx\n#endif\n")?;
-    check_twice(&rt, alloc, "-UA -D A=B -DB=3", b"#if A == 3\nx\n#endif\n")?;
-    check_twice(&rt, alloc, "-DF=1 -UG", b"#if F(2)\nx\n#endif\n")?;
-    check_twice(&rt, alloc, "-DF=1 -UG", b"#if G(1) || F\nx\n#endif\n")?;
+    check_twice(&rt, "-UA", both)?;
+    check_twice(&rt, "-UA -K", both)?;
+    check_twice(&rt, "-DA=0", b"#if A - 1 < 0u\nx\n#endif\n")?;
+    check_twice(&rt, "-UA -D A=B -DB=3", b"#if A == 3\nx\n#endif\n")?;
+    check_twice(&rt, "-DF=1 -UG", b"#if F(2)\nx\n#endif\n")?;
+    check_twice(&rt, "-DF=1 -UG", b"#if G(1) || F\nx\n#endif\n")?;
     let greatest = "-DA=9223372036854775807";
-    check_twice(&rt, alloc, greatest, b"#if A + 1 > 0\nx\n#endif\n")?;
-    check_twice(&rt, alloc, greatest, b"#if A > 0\nx\n#endif\n")
+    check_twice(&rt, greatest, b"#if A + 1 > 0\nx\n#endif\n")?;
+    check_twice(&rt, greatest, b"#if A > 0\nx\n#endif\n")
 }
 
 #[test]
 fn comments_and_splices_are_read_again_as_they_are(rt: HostRuntime) -> Result<(), Fail> {
     let alloc = rt.alloc();
     let hidden = b"/\\\n* c\n#ifdef A\n*\\\n/\n#ifdef A\nx\n#endif\n";
-    check_twice(&rt, alloc, "-DA", hidden)?;
+    check_twice(&rt, "-DA", hidden)?;
     let continued = b"#if defined A && \\\nB\nx\n#endif\n";
-    check_twice(&rt, alloc, "-DA", continued)?;
+    check_twice(&rt, "-DA", continued)?;
     let quoted = b"char *s = \"/*\";\n#error don't\n#ifdef A\nx\n#endif\n";
-    check_twice(&rt, alloc, "-DA", quoted)?;
-    check_twice(&rt, alloc, "-t -DA", b"/*\n#ifdef A\nx\n#endif\n")?;
-    check_twice(&rt, alloc, "-t -DA -UB", b"#ifdef C\nx\n#endif\n")
+    check_twice(&rt, "-DA", quoted)?;
+    check_twice(&rt, "-t -DA", b"/*\n#ifdef A\nx\n#endif\n")?;
+    check_twice(&rt, "-t -DA -UB", b"#ifdef C\nx\n#endif\n")
 }
 
 #[test]
 fn texts_at_the_limits_are_read_again_as_they_are(rt: HostRuntime) -> Result<(), Fail> {
     let alloc = rt.alloc();
-    check_twice(&rt, alloc, "-DA", nested(alloc, 64)?.as_slice())?;
+    check_twice(&rt, "-DA", nested(alloc, 64)?.as_slice())?;
     let mut longest = Vec::new(alloc);
     for _ in 0..4095 {
         longest.push(b'a')?;
     }
     longest.push(b'\n')?;
-    check_twice(&rt, alloc, "-DA", longest.as_slice())
+    check_twice(&rt, "-DA", longest.as_slice())
 }
 
 #[test]
 fn numbered_and_blanked_texts_are_read_again_as_they_are(rt: HostRuntime) -> Result<(), Fail> {
     let alloc = rt.alloc();
     let endings = b"a\r\n#ifdef A\r\nx\r\n#endif\r\nb\r\n";
-    check_twice(&rt, alloc, "-UA -n", endings)?;
-    check_twice(&rt, alloc, "-UA -n", b"#if A\n1\n#elif X\n2\n#endif")?;
-    check_twice(&rt, alloc, "-b -UA", b"#ifdef A\nx\n#endif")?;
-    check_twice(&rt, alloc, "-l -n -UA", b"#ifdef A\nx\n#endif\ny")?;
+    check_twice(&rt, "-UA -n", endings)?;
+    check_twice(&rt, "-UA -n", b"#if A\n1\n#elif X\n2\n#endif")?;
+    check_twice(&rt, "-b -UA", b"#ifdef A\nx\n#endif")?;
+    check_twice(&rt, "-l -n -UA", b"#ifdef A\nx\n#endif\ny")?;
     let nested = b"#if 1\r\n#ifdef A\r\nx\r\n#endif\r\n#endif\r\n";
-    check_twice(&rt, alloc, "-kbUA", nested)
+    check_twice(&rt, "-kbUA", nested)
 }

@@ -18,14 +18,14 @@ pub(crate) struct Answer<'a> {
 
 /// Compares the answer to these words, parted by spaces, and this input: read in one piece, and byte by byte.
 pub(crate) fn check(
-    rt: &impl Abort,
-    alloc: Global,
+    rt: &(impl Abort + AllocGlobal),
     words: &str,
     input: &[u8],
     output: &[u8],
     message: &str,
     status: u8,
 ) -> Result<(), Fail> {
+    let alloc = rt.alloc();
     let answer = Answer {
         output,
         message,
@@ -47,12 +47,11 @@ pub(crate) fn check(
 
 /// Compares an answer that has the input for its output, and nothing to say.
 pub(crate) fn check_copy(
-    rt: &impl Abort,
-    alloc: Global,
+    rt: &(impl Abort + AllocGlobal),
     words: &str,
     input: &[u8],
 ) -> Result<(), Fail> {
-    check(rt, alloc, words, input, input, "", 0)
+    check(rt, words, input, input, "", 0)
 }
 
 /// Compares the answer to these words, parted by spaces, from this source into this sink.
