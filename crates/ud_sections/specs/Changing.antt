@@ -8,6 +8,7 @@ use Rattle.ud_sections.specs.declared.level.Change.TheVariants.{Stay, Push, Repl
 abbrev pub last_of : List Level → Option Level
 last_of ls = slice_get ls (length ls - 1)
 
+-- the open sections after a change, the innermost one last
 abbrev pub changed : Change → List Level → List Level
 changed Stay old = old
 changed (Push l) old = old ++ l ∷ []

@@ -4,6 +4,7 @@ use Rattle.ud_sections.specs.declared.fault.SectionFault.{SectionFault}
 use Rattle.ud_sections.specs.declared.fault.SectionFault.TheVariants.{PrematureEof, EofInComment}
 use Rattle.ud_sections.specs.declared.level.Level.{Level}
 
+-- an open comment first, then an open section
 abbrev pub end_in : Bool → ℕ → Option Level → Result (Unit {0}) SectionFault
 end_in true n section = Err (EofInComment n)
 end_in false n (Some l) = Err (PrematureEof n l.if_line)

@@ -10,13 +10,16 @@ use Rattle.ud_sections.specs.declared.found.Directive.{Directive}
 use Rattle.ud_sections.specs.declared.found.Cut.{Cut}
 use Rattle.ud_sections.specs.StepViews.{as_span}
 
+-- a directive of the program as the definitions have it
 abbrev pub as_directive : Directive → model.Directive
 as_directive d = record { kind = d.kind; keyword = as_span d.keyword; after = d.after.now; broken = d.broken }
 
+-- a directive, or text if there is none
 abbrev pub directive_or_text : Option Directive → Content
 directive_or_text None = text
 directive_or_text (Some d) = model.directive (as_directive d)
 
+-- what an answer of `directive` says that the line carries
 abbrev pub content_found : Result (Option Directive) Cut → Content
 content_found (Ok found) = directive_or_text found
 content_found (Err cut) = cut_keyword

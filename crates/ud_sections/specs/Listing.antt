@@ -6,5 +6,6 @@ use Rattle.std.specs.Borrow.{MutBor, Fml}
 use Rattle.std.specs.Io.BufRead.{Rests}
 use Rattle.ud_sections.specs.contracts.lister.Lister.{the_row}
 
+-- what is lent is given back as it was
 abbrev pub StaysSame : MutBor Bool → Fml
 StaysSame lister = Rests the_row lister (λ new. new ≡ lister.now)

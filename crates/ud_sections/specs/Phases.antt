@@ -26,6 +26,7 @@ part_of AnIf = table.an_if
 part_of AnElif = table.an_elif
 part_of AnElse = table.an_else
 
+-- before the first group
 abbrev pub begun : Bool → Phase
 begun true = Seek
 begun false = Dead
@@ -46,6 +47,7 @@ next_phase Skip Unknown = Live
 next_phase Last c = Over
 next_phase Over c = Over
 
+-- the phase after groups with these conditions
 abbrev pub phase_after : Phase → List Cond → Phase
 phase_after p [] = p
 phase_after p (c ∷ cs) = phase_after (next_phase p c) cs
@@ -62,6 +64,7 @@ opener_verdict_in Skip part c = table.later_verdict part c
 opener_verdict_in Last part c = ToEndif
 opener_verdict_in Over part c = Remove
 
+-- the verdict of the `#endif`
 abbrev pub endif_verdict_in : Phase → Verdict
 endif_verdict_in Dead = Remove
 endif_verdict_in Seek = Remove
@@ -81,6 +84,7 @@ is_kept_in Skip = false
 is_kept_in Last = true
 is_kept_in Over = false
 
+-- the section lies in a removed place
 abbrev pub is_dead : Phase → Bool
 is_dead Dead = true
 is_dead Seek = false

@@ -10,6 +10,7 @@ use Rattle.ud_sections.specs.Styles.{blank_style, renumber_style, delete_stands,
 use Rattle.ud_sections.specs.declared.printer.Printer.{Printer}
 use Rattle.ud_sections.specs.declared.printer.Printer.TheVariants.{Deletes, Blanks, Renumbers, ComplementDeletes, ComplementBlanks, ComplementRenumbers}
 
+-- the printer was given these lines
 abbrev pub printer_stands : Printer → List Judged → Type 0
 printer_stands (Deletes p) before = delete_stands p before
 printer_stands (Blanks p) before = blank_stands p before
@@ -18,6 +19,7 @@ printer_stands (ComplementDeletes c) before = delete_stands (inner_of c) (map co
 printer_stands (ComplementBlanks c) before = blank_stands (inner_of c) (map complemented before)
 printer_stands (ComplementRenumbers c) before = renumber_stands (inner_of c) (map complemented before)
 
+-- what the printer prints of a line after these
 abbrev pub printer_piece : Printer → List Judged → Judged → List ℕ
 printer_piece (Deletes p) before j = piece_behind plain_style before j
 printer_piece (Blanks p) before j = piece_behind blank_style before j

@@ -72,6 +72,7 @@ pub record ReadsText (m : Machine) (o : Options) (xs : List (Item Reading)) (t :
 abbrev pub refusal : Machine → Option SectionFault
 refusal m = m.refused
 
+-- the machine once it has refused a line
 abbrev pub refused_with : Machine → SectionFault → Machine
 refused_with m f = record m { refused = Some f }
 

@@ -18,6 +18,7 @@ use Rattle.ud_sections.specs.declared.shape.Shape.{Shape}
 use Rattle.ud_sections.specs.declared.shape.Shape.TheVariants.{Text, If, Elif, Else, Endif}
 use Rattle.ud_sections.specs.declared.step.Span.{Span}
 
+-- what a directive of this kind is among the sections
 abbrev pub shape_in : kinds.Kind → Decision → Shape
 shape_in kind.If d = If d.cond d.ignoring
 shape_in kind.Ifdef d = If d.cond d.ignoring
@@ -30,14 +31,17 @@ shape_in kind.Endif d = Endif
 abbrev pub span_of : TextSpan → Span
 span_of s = record { at = s.at; len = s.len }
 
+-- what is kept of a line with this scan
 abbrev pub seen_with : Scan → TextSpan → Shape → Seen
 seen_with scan keyword shape = record { shape = shape; keyword = span_of keyword; spans = is_spanning scan; joins_before = scan.joins_before }
 
+-- what is kept of a line that carries this; nothing if its keyword is cut
 abbrev pub seen_on : Scan → List Argument → Rules → Content → Result Seen Cut
 seen_on scan table rules cut_keyword = Err (record {})
 seen_on scan table rules text = Ok (seen_with scan (record { at = 0; len = 0 }) Text)
 seen_on scan table rules (directive d) = Ok (seen_with scan d.keyword (shape_in d.kind (decision_on scan d table rules)))
 
+-- what an item is among the sections
 abbrev pub shape_of : Item Reading → Shape
 shape_of (text_line r) = Text
 shape_of (if_line o) = If o.cond o.ignoring

@@ -22,6 +22,7 @@ renumber_style = record { blank = false; complement = false; renumber = true }
 abbrev pub delete_stands : Delete → List Judged → Type 0
 delete_stands printer before = Unit {0}
 
+-- a blanking printer was given these lines: it keeps nothing of them
 abbrev pub blank_stands : Blank → List Judged → Type 0
 blank_stands printer before = Unit {0}
 
@@ -29,5 +30,6 @@ blank_stands printer before = Unit {0}
 abbrev pub renumber_stands : Renumber → List Judged → Type 0
 renumber_stands printer before = printer.removed ≡ last_removed before
 
+-- the printer that is wrapped
 abbrev pub inner_of : {S : Type 0} → Complement S → S
 inner_of c = c.inner

@@ -15,6 +15,7 @@ use Rattle.ud_sections.specs.declared.step.Span.{Span}
 use Rattle.ud_sections.specs.Changing.{last_of}
 use Rattle.ud_sections.specs.Judging.{judged_by}
 
+-- what stands before the next line
 abbrev pub before_in : Machine → Before
 before_in m = record {
   place = record { section = last_of m.open_sections.items; plain = m.settings.plain };
@@ -27,6 +28,7 @@ abbrev pub turn_with : Span → Result Action SectionFault → Result Turn Secti
 turn_with keyword (Ok a) = Ok (record { step = record { verdict = a.verdict; keyword = keyword }; change = a.change })
 turn_with keyword (Err f) = Err f
 
+-- what becomes of a line, and what it does to the open sections; a cut keyword is a fault
 abbrev pub turned : Before → ℕ → Result Seen Cut → Result Turn SectionFault
 turned before n (Ok seen) = turn_with seen.keyword (judged_by before seen n)
 turned before n (Err cut) = Err (Obfuscated n)

@@ -1,4 +1,4 @@
-mod LetterLemmas
-mod GivenLemmas
-mod OptionLemmas
-mod PlanLemmas
+pub mod LetterLemmas
+pub mod GivenLemmas
+pub mod OptionLemmas
+pub mod PlanLemmas
