@@ -149,7 +149,7 @@ fn decide(kind: Kind, text: &[u8], symbols: &Symbols, rules: Rules) -> Answer
 
 /// The condition of a directive that no continuation cuts, and whether its section is plain text.
 ///
-/// `text` is what follows the keyword on its masked line, at most 4,096 bytes. The answer is that of the list of calls
+/// `text` is what follows the keyword on its masked line, at most `LINE_BYTES`. The answer is that of the list of calls
 /// that `symbols` stands for. Text that isn't understood is unknown, and so are `#else` and `#endif`. Takes no memory.
 ///
 /// C11 6.10.1; unifdef(1), `-D`, `-U`, `-iD`, `-iU`, `-k` and `-K`.

@@ -48,7 +48,7 @@ fn name_alone(text: &[u8]) -> Names<'_>
 /// The names of a directive that no continuation cuts, in order and with repeats: of an `#if` or `#elif` those of its
 /// operands and of each `defined`, but none inside of arguments; of an `#ifdef` or `#ifndef` its one name.
 ///
-/// `text` is what follows the keyword on its masked line, at most 4,096 bytes. Text that isn't understood has no names,
+/// `text` is what follows the keyword on its masked line, at most `LINE_BYTES`. Text that isn't understood has no names,
 /// and neither have `#else` and `#endif`. Takes no memory.
 ///
 /// unifdef(1), `-s` and `-S`.

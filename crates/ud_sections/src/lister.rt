@@ -53,7 +53,7 @@ impl Lister {
 
     /// The names of a line that is seen so, in order and with repeats, where it is an `#if`, `#ifdef`, `#ifndef` or
     /// `#elif` that no continuation cuts, and its text is understood; no names where it is not. The masked line has at
-    /// most 4,096 bytes, as each has that `Scanner::read` gives. Takes no memory.
+    /// most `LINE_BYTES`, as each has that `Scanner::read` gives. Takes no memory.
     pub fn names<'a>(scan: &Scan<'a>) -> Names<'a>
         requires fits { length scan.now.masked.now ≤ LINE_BYTES }
         ensures { result ≡ names_in_content (content_of (as_scan scan.now)) }

@@ -65,7 +65,7 @@ impl Model for Lines {
 }
 
 impl Lines {
-    /// The lines of a text of which no byte was taken. It may have `last_line` lines, from 1 to 2,147,483,647.
+    /// The lines of a text of which no byte was taken. It may have `last_line` lines, from 1 to `TEXT_LINES`.
     pub fn new(last_line: u32) -> Lines
         requires low { 1 ≤ last_line }
         requires high { last_line ≤ TEXT_LINES }
@@ -85,13 +85,13 @@ impl Lines {
     /// Takes the next bytes of the text, up to and including the first line feed, or the whole piece.
     ///
     /// `piece` may have any length and any bytes; of an empty one nothing is taken. No whole line may be held, and
-    /// the text may not have ended. Where the answer is `whole`, a line is complete: read it with `line`, then
+    /// the text may not have ended. If the answer is `whole`, a line is complete: read it with `line`, then
     /// `clear`. The rest of the piece is the next one to be taken.
     ///
     /// # Errors
     /// In this order: `TooManyLines` at the first byte of a line after the last one that the text may have;
-    /// `LineTooLong` at byte 4,097 of a line, its ending counted. No byte of the piece is kept, and every later `take`
-    /// and `close` answers the same, also for an empty piece.
+    /// `LineTooLong` at the first byte of a line after `LINE_BYTES`, its ending counted. No byte of the piece is kept, and
+    /// every later `take` and `close` answers the same, also for an empty piece.
     ///
     /// Lines are those of POSIX XBD 3.206; the last may lack its line feed.
     pub fn take(&mut self, piece: &[u8]) -> Result<Taken, TextFault>
@@ -137,7 +137,7 @@ impl Lines {
         Ok(taken)
     }
 
-    /// How many bytes of the line are held, its ending counted; at most 4,096.
+    /// How many bytes of the line are held, its ending counted; at most `LINE_BYTES`.
     pub fn held(&self) -> usize
         ensures value { result ≡ length self.now.held }
         ensures bound { result ≤ LINE_BYTES }

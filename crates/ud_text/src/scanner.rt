@@ -234,7 +234,7 @@ impl Scanner {
 
     /// Reads the next line of the text, and tells what is seen of it. Lines that follow never count.
     ///
-    /// The line's body has at most 4,096 bytes, none of which is a line feed. In plain mode the line is seen as it
+    /// The line's body has at most `LINE_BYTES`, none of which is a line feed. In plain mode the line is seen as it
     /// stands, and the next line in C mode starts afresh. In C mode its masked bytes stand where they stand in the
     /// body (C11 5.1.1.2, phases 2 and 3, and 6.4.9).
     pub fn read<'s>(&'s mut self, mode: Mode, line: &Line<'_>) -> Scan<'s>
@@ -260,7 +260,7 @@ impl Scanner {
     /// they have: 0, or up to the end of a line.
     ///
     /// `lines` may have any length and any bytes, and end in the middle of a line. Limits aren't looked at: a line may have
-    /// more than 4,096 bytes, and lines aren't counted. The scanner then stands for one more reading in C mode for each of
+    /// more than `LINE_BYTES`, and lines aren't counted. The scanner then stands for one more reading in C mode for each of
     /// the lines up to there, as `read` would have it, whatever numbers they have; none of them carries a directive or a
     /// cut keyword (C11 5.1.1.2, phases 2 and 3, 6.4.9 and 6.10). Nothing is said of how far it goes: if the answer is
     /// less than all lines, the next one is to be read by `read`.
