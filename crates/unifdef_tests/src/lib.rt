@@ -26,6 +26,7 @@ mod lines;
 mod listing;
 #[cfg(test)]
 mod machines;
+#[cfg(test)]
 mod passing;
 #[cfg(test)]
 mod plain;
