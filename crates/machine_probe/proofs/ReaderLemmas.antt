@@ -1,16 +1,14 @@
 -- What a reader stands for once it has read a line.
-use Rattle.std.proofs.Common.{◌≡◌, List, [], ◌∷◌, ◌++◌, map, Result, Ok, Err, None, OnOk, IfOk, IfErr, refl, sym, ◌∙◌, ap, subst, append_assoc}
+use Rattle.std.proofs.Common.{◌≡◌, List, [], ◌∷◌, ◌++◌, map, Result, Ok, Err, None, OnOk, IfOk, IfErr, sym, ◌∙◌, ap, subst}
 use Rattle.ud_model.specs.text.Lines.{Line}
-use Rattle.ud_model.specs.text.Scans.{Reading}
 use Rattle.ud_model.specs.text.Scanning.{next_reading}
-use Rattle.ud_model.specs.sections.Tree.{Item, Tree}
-use Rattle.ud_model.specs.sections.Items.{Options, reading_of, line_of, mode_after, next_item}
+use Rattle.ud_model.specs.sections.Items.{Options, reading_of, mode_after, next_item}
 use Rattle.ud_model.specs.sections.Faults.{FaultOf}
 use Rattle.ud_model.specs.declared.kind.Mode.{Mode}
-use Rattle.ud_text.specs.Carrying.{Carried, Carries}
+use Rattle.ud_text.specs.Carrying.{Carries}
 use Rattle.ud_sections.specs.declared.fault.SectionFault.{SectionFault}
 use Rattle.ud_sections.specs.declared.step.Step.{Step}
-use Rattle.ud_sections.specs.Sections.{HasRead, ReadsLine, refusal, fault_of}
+use Rattle.ud_sections.specs.Sections.{ReadsLine, refusal, fault_of}
 use Rattle.ud_sections.proofs.NextLemmas.{readings_more, lines_more}
 use Rattle.machine_probe.specs.declared.reader.Reader.{Reader as TheReader}
 use Rattle.machine_probe.specs.Reading.{HasLines, Faulty}
