@@ -1,0 +1,4 @@
+pub mod SendingLemmas
+pub mod NameLemmas
+pub mod ReaderLemmas
+pub mod PrinterLemmas

@@ -1,0 +1,12 @@
+use Rattle.std.proofs.Common.{◌≡◌, ◌++◌, false}
+use Rattle.ud_model.specs.answer.Listing.{listed_names}
+use Rattle.ud_engine.proofs.NameLemmas.{NamesPut}
+use Rattle.ud_engine.proofs.listing.put_names.Given as goal
+
+abbrev pub invariant-loop-name : goal.invariant-loop-name
+invariant-loop-name g l = record {
+  can : (goal.iterator-loop-name g).can_next l.name-iterator;
+  ends : (goal.iterator-loop-name g).is_finite l.name-iterator;
+  works : l.out.failed ≡ false;
+  put : NamesPut (g.W.Write.contents l.initial.out.inner) (g.W.Write.contents l.out.inner) l.prefix l.fn.names l.name-iterator l.initial.output l.output;
+}

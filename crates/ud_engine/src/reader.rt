@@ -1,0 +1,115 @@
+//! Lines read one after another, by a scanner and a machine.
+
+ghost use Rattle.std.specs.Prelude.{◌≡◌, ◌∷◌, [], ◌++◌, List, IfOk, IfErr, OnOk, false};
+ghost use Rattle.ud_model.specs.text.Lines.{NoFeed};
+ghost use Rattle.ud_model.specs.text.Scans.{Reading};
+ghost use Rattle.ud_model.specs.sections.Tree.{Item, Tree, closed, nothing};
+ghost use Rattle.ud_model.specs.sections.Items.{Options, next_item};
+ghost use Rattle.ud_model.specs.sections.Faults.{FaultOf, end_fault};
+ghost use Rattle.ud_cond.specs.Standing.{StandsFor};
+ghost use Rattle.ud_text.specs.LineViews.{as_line};
+ghost use Rattle.ud_sections.specs.Limits.{IsWithin};
+ghost use Rattle.ud_sections.specs.StepViews.{HoldsKeyword};
+ghost use Rattle.ud_sections.specs.Sections.{fault_of, end_told};
+
+use crate::fault::RunFault;
+use crate::listing::put_names;
+use crate::output::Output;
+use crate::watched::Watched;
+use std::io::Write;
+use ud_cond::Symbols;
+use ud_model::Settings;
+use ud_sections::{Lister, Machine, SectionFault, Step};
+use ud_text::{Line, Scanner};
+
+/// Reads lines, and decides them.
+#[derive(Drop)]
+pub(crate) struct Reader {
+    scanner: Scanner,
+    machine: Machine,
+}
+
+impl Reader {
+    ghost use Rattle.ud_engine.specs.Reading.{HasItems, ReadsOne};
+    ghost use Rattle.ud_engine.specs.Listing.{ListsOne, ListFails};
+    ghost use Rattle.ud_engine.specs.Refusing.{LeavesOutput};
+
+    /// Has read no line.
+    pub(crate) fn new(settings: Settings) -> Reader
+        ensures { (o : Options) → o.settings ≡ settings → HasItems o result [] (closed nothing) }
+    {
+        Reader {
+            scanner: Scanner::new(),
+            machine: Machine::new(settings),
+        }
+    }
+
+    /// Reads the next line, and tells what becomes of it.
+    ///
+    /// # Errors
+    /// The line is faulty.
+    pub(crate) fn read(&mut self, line: &Line<'_>, symbols: &Symbols) -> Result<Step, SectionFault>
+        requires within { IsWithin (as_line line.now) }
+        requires one_line { NoFeed line.now.body.now }
+        ensures ok { (o : Options) → (xs : List (Item Reading)) → (t : Tree Reading) → StandsFor symbols.now o.table → HasItems o self.old xs t →
+            IfOk result (ReadsOne o self.new xs t (as_line line.now)) }
+        ensures err { (o : Options) → (xs : List (Item Reading)) → (t : Tree Reading) → StandsFor symbols.now o.table → HasItems o self.old xs t →
+            IfErr result (λ f. FaultOf xs (next_item o xs t (as_line line.now)) (fault_of f)) }
+        ensures place { IfOk result (λ s. HoldsKeyword s line.now) }
+    {
+        let mode = self.machine.mode();
+        let scan = self.scanner.read(mode, line);
+        self.machine.step(&scan, line, symbols)
+    }
+
+    /// Reads the next line, and puts its names after the run of bytes before it.
+    ///
+    /// # Errors
+    /// `Section` if the line is faulty: nothing is put. `Write` if a write fails: a front of all bytes to be written up to
+    /// the line's is written.
+    pub(crate) fn list<W: Write>(
+        &mut self,
+        line: &Line<'_>,
+        symbols: &Symbols,
+        lister: &mut Lister,
+        run: &[u8],
+        output: &mut Output,
+        out: &mut Watched<W>,
+    ) -> Result<(), RunFault>
+        requires within { IsWithin (as_line line.now) }
+        requires one_line { NoFeed line.now.body.now }
+        requires works { out.old.failed ≡ false }
+        ensures ok { (o : Options) → (xs : List (Item Reading)) → (t : Tree Reading) → StandsFor symbols.now o.table → HasItems o self.old xs t →
+            OnOk result (ListsOne o self.new xs t (as_line line.now) lister.old (W.contents out.old.inner) (W.contents out.new.inner) output.old output.new run.now) }
+        ensures err { (o : Options) → (xs : List (Item Reading)) → (t : Tree Reading) → StandsFor symbols.now o.table → HasItems o self.old xs t →
+            IfErr result (ListFails o xs t (as_line line.now) lister.old (W.contents out.old.inner) (W.contents out.new.inner) output.old run.now) }
+        ensures works { OnOk result (out.new.failed ≡ false) }
+        ensures leaves { IfErr result (LeavesOutput out.old out.new output.old output.new) }
+        ensures stays { lister.new ≡ lister.old }
+    {
+        let mode = self.machine.mode();
+        let scan = self.scanner.read(mode, line);
+        if let Err(fault) = self.machine.step(&scan, line, symbols) {
+            return Err(RunFault::Section(fault));
+        }
+        if !output.put(run, out) {
+            return Err(RunFault::Write);
+        }
+        let around = self.machine.depth().saturating_sub(1);
+        let prefix = lister.prefix(around);
+        if !put_names(output, prefix, Lister::names(&scan), out) {
+            return Err(RunFault::Write);
+        }
+        Ok(())
+    }
+
+    /// What the end of the text says.
+    ///
+    /// # Errors
+    /// The text ends in a block comment, or else in a section.
+    pub(crate) fn finish(&self) -> Result<(), SectionFault>
+        ensures { (o : Options) → (xs : List (Item Reading)) → (t : Tree Reading) → HasItems o self.now xs t → end_told result ≡ end_fault xs t }
+    {
+        self.machine.finish(self.scanner.in_comment())
+    }
+}
