@@ -1,11 +1,15 @@
 -- Feeds: the bytes of a piece up to its first line feed, found and found once.
-use Rattle.std.proofs.Common.{◌≡◌, ℕ, zero, suc, ◌+◌, ◌<◌, ◌≤◌, Bool, true, false, List, [], ◌∷◌, ◌++◌, length, take, get_or, refl, sym, ◌∙◌, ap, subst, arith}
+use Rattle.std.proofs.Common.{◌≡◌, ℕ, zero, suc, ◌+◌, ◌-◌, ◌<◌, ◌≤◌, nat_eq, Bool, true, false, if◌then◌else◌, List, [], ◌∷◌, ◌++◌, length, take, get_or, refl, sym, ◌∙◌, ap, subst, arith}
 use Rattle.std.proofs.lemmas.Bool.{eq-eqb, eqb-true}
-use Rattle.std.proofs.lemmas.List.{take_more, take_all, length-append}
+use Rattle.std.specs.List.{ends_with}
+use Rattle.std.proofs.lemmas.Bool.Decides.{Decides-eqb}
+use Rattle.std.proofs.lemmas.List.{take_more, take_all, take-append-le, length-append}
+use Rattle.std.proofs.lemmas.Slice.Eq.{ends_is}
 use Rattle.std.proofs.Math.ListN.{length-take}
 use Rattle.memchr.specs.Find.{Nowhere, NoneBefore, Passes, is_byte}
-use Rattle.ud_model.specs.text.Lines.{NoFeed}
+use Rattle.ud_model.specs.text.Lines.{NoFeed, IsWhole, line_at}
 use Rattle.ud_text.specs.Holding.{UpToFeed}
+use Rattle.ud_text.proofs.RunLemmas.{no_feed-take}
 
 -- bytes among which a search finds no line feed have none
 pub no_feed_front : (s : List ℕ) (n : ℕ) → Nowhere (Passes (is_byte 10) s) 0 n → NoFeed (take n s)
@@ -35,12 +39,6 @@ up_to_feed-none s none = record {
   all = λ e. (refl, subst NoFeed (take_all (length s) s (omega arith)) (no_feed_front s (length s) none));
   line = λ e. cc;
 }
-
--- a front of bytes without a line feed has none
-no_feed-take : (s : List ℕ) (n : ℕ) → NoFeed s → NoFeed (take n s)
-no_feed-take s zero h = tt
-no_feed-take [] (suc n) h = tt
-no_feed-take (b ∷ bs) (suc n) h = (h.0, no_feed-take bs n h.1)
 
 -- bytes that end with a line feed have one
 feed_at_end : (front : List ℕ) → NoFeed (front ++ 10 ∷ []) → ⊥
@@ -72,9 +70,9 @@ front_len s f n h e =
 pub up_to_feed-once : (piece : List ℕ) (used other : ℕ) (whole ended : Bool) → UpToFeed piece used whole → UpToFeed piece other ended → (whole ≡ ended) × (used ≡ other)
 up_to_feed-once piece used other false false a b = (refl, (a.all refl).0 ∙ sym (b.all refl).0)
 up_to_feed-once piece used other true false a b =
-    absurd (feed_at_end (a.line refl).0 (subst NoFeed (a.line refl).2 (no_feed-take piece used (b.all refl).1)))
+    absurd (feed_at_end (a.line refl).0 (subst NoFeed (a.line refl).2 (no_feed-take used piece (b.all refl).1)))
 up_to_feed-once piece used other false true a b =
-    absurd (feed_at_end (b.line refl).0 (subst NoFeed (b.line refl).2 (no_feed-take piece other (a.all refl).1)))
+    absurd (feed_at_end (b.line refl).0 (subst NoFeed (b.line refl).2 (no_feed-take other piece (a.all refl).1)))
 up_to_feed-once piece used other true true a b =
     let same : (a.line refl).0 ≡ (b.line refl).0 = same_front piece (a.line refl).0 (b.line refl).0 used other (a.line refl).1 (b.line refl).1 (a.line refl).2 (b.line refl).2 in
     (refl, front_len piece (a.line refl).0 used a.within (a.line refl).2 ∙ ap (λ (f : List ℕ). length f + 1) same ∙ sym (front_len piece (b.line refl).0 other b.within (b.line refl).2))
@@ -85,3 +83,20 @@ up_to_feed-some piece used false a some = let k : used ≡ length piece = (a.all
 up_to_feed-some piece used true a some =
     let k : used ≡ length (a.line refl).0 + 1 = front_len piece (a.line refl).0 used a.within (a.line refl).2 in
     omega arith
+
+-- a line that ends in its line feed has none in its body
+pub whole_feedless : (n : ℕ) (l : List ℕ) → IsWhole l → NoFeed (line_at n l).body
+whole_feedless n l w =
+    by_tests (ends_with nat_eq l (13 ∷ 10 ∷ [])) (ends_with nat_eq l (10 ∷ []))
+    ((ends_is Decides-eqb l (10 ∷ []) (ends_with nat_eq l (10 ∷ [])) refl).1 w.0 w.2)
+  where
+    len : length l ≡ length w.0 + 1
+    len = ap length w.2 ∙ length-append w.0 (10 ∷ [])
+
+    front_of : (k : ℕ) → k ≤ length w.0 → NoFeed (take k l)
+    front_of k h = subst (λ (t : List ℕ). NoFeed t) (sym (ap (take k) w.2 ∙ take-append-le k w.0 (10 ∷ []) h)) (no_feed-take k w.0 w.1)
+
+    by_tests : (a b : Bool) → b ≡ true → NoFeed (take (length l - length {A = ℕ} (if a then 13 ∷ 10 ∷ [] else if b then 10 ∷ [] else [])) l)
+    by_tests true b e = front_of (length l - 2) (omega (arith, len))
+    by_tests false true e = front_of (length l - 1) (omega (arith, len))
+    by_tests false false e = cc

@@ -1,6 +1,7 @@
 pub mod MarkLemmas
 pub mod FeedLemmas
 pub mod HoldingLemmas
+pub mod BorrowLemmas
 pub mod RunLemmas
 pub mod CarryLemmas
 pub mod QuietLemmas

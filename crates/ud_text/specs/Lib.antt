@@ -1,4 +1,5 @@
 pub mod Holding
+pub mod Borrowing
 pub mod LineViews
 pub mod Carrying
 pub mod Lending

@@ -5,8 +5,9 @@
 //! whole line, until `clear`; closed; refused, for good.
 //! A new way in which a line may end needs another `lines_of` and another `front`.
 
-ghost use Rattle.std.specs.Prelude.{◌≡◌, ℕ, suc, ◌+◌, ◌<◌, ◌≤◌, ◌↔◌, List, [], ◌∷◌, ◌++◌, length, take, true, false, Some, None, IfOk, IfErr, OnOk, OnErr, IfSome, IfNone, Ok, Err, IsTrue, MatchResult};
-ghost use Rattle.ud_model.specs.text.Lines.{whole_lines, open_rest, line_at, is_ending};
+ghost use Rattle.std.specs.Prelude.{◌≡◌, ℕ, suc, ◌+◌, ◌<◌, ◌≤◌, ◌↔◌, List, [], ◌∷◌, ◌++◌, length, take, true, false, Some, None, IfOk, IfErr, OnOk, OnErr, IfSome, OnSome, IfNone, Ok, Err, IsTrue, MatchResult};
+ghost use Rattle.ud_model.specs.text.Lines.{NoFeed, whole_lines, open_rest, line_at, text_of, is_ending};
+ghost use Rattle.ud_text.specs.Borrowing.{CanLend, IsFirstLine};
 ghost use Rattle.ud_text.specs.Holding.{Took, UpToFeed, Refuses, refused_with, IsComplete, IsLastLine, IsLineOf};
 ghost use Rattle.ud_text.specs.LineViews.{as_line};
 
@@ -137,6 +138,45 @@ impl Lines {
         Ok(taken)
     }
 
+    /// The next line, borrowed from the piece, if it stands whole in front of it; it counts as given up.
+    ///
+    /// `piece` may have any length and any bytes. No whole line may be held, and the text may not have ended. There is
+    /// no answer, and nothing changes, if bytes of the line are held, if a fault was refused, if the piece has no line
+    /// feed, or if the line passes a limit: `take` then takes the piece or tells the fault. The rest of the piece, after
+    /// the line's body and ending, is the next one to be taken.
+    ///
+    /// Lines are those of POSIX XBD 3.206.
+    pub fn whole_in<'a>(&mut self, piece: &'a [u8]) -> Option<Line<'a>>
+        requires part { self.old.whole ≡ false }
+        requires open { self.old.closed ≡ false }
+        ensures lent { IfSome result (λ line. CanLend self.old piece.now (length (text_of (as_line line)))) }
+        ensures value { IfSome result (λ line.
+            as_line line ≡ line_at (suc self.old.before) (take (length (text_of (as_line line))) piece.now)) }
+        ensures bytes { IfSome result (λ line.
+            text_of (as_line line) ≡ take (length (text_of (as_line line))) piece.now) }
+        ensures one_line { IfSome result (λ line. NoFeed line.body.now) }
+        ensures bound { IfSome result (λ line. line.number ≤ self.old.last_line) }
+        ensures counted { OnSome result (self.new ≡ record self.old { before = self.old.before + 1 }) }
+        ensures stands { IfSome result (λ line.
+            (text : List ℕ) → Took self.old text → Took self.new (text ++ text_of (as_line line))) }
+
+        ensures unlent { IfNone result ((used : ℕ) → CanLend self.old piece.now used → ⊥) }
+        ensures still { IfNone result (self.new ≡ self.old) }
+    {
+        if self.refused.is_some() || !self.held_bytes.is_empty() || self.given_up >= self.last {
+            return None;
+        }
+        let line = first_line(piece)?;
+        let (body, ending) = cut_ending(line);
+        let number = self.given_up + 1;
+        self.given_up = number;
+        Some(Line {
+            body,
+            ending,
+            number,
+        })
+    }
+
     /// How many bytes of the line are held, its ending counted; at most `LINE_BYTES`.
     pub fn held(&self) -> usize
         ensures value { result ≡ length self.now.held }
@@ -212,6 +252,20 @@ fn front(piece: &[u8]) -> Taken
             used: piece.len(),
             whole: false,
         },
+    }
+}
+
+/// The whole line in front of the piece, with its ending. No answer if the piece has no line feed, or if the line has more
+/// than `LINE_BYTES`.
+fn first_line(piece: &[u8]) -> Option<&[u8]>
+    ensures some { IfSome result (λ line. IsFirstLine piece.now line.now) }
+    ensures none { IfNone result ((used : ℕ) → UpToFeed piece.now used true → LINE_BYTES < used) }
+{
+    let taken = front(piece);
+    if taken.whole && taken.used <= LINE_BYTES {
+        Some(piece.split_at(taken.used).0)
+    } else {
+        None
     }
 }
 

@@ -1,10 +1,8 @@
 -- The intake: what the bytes of a piece do to the lines that are held.
-use Rattle.std.proofs.Common.{◌≡◌, ℕ, suc, ◌+◌, ◌-◌, ◌<◌, ◌≤◌, Bool, true, false, if◌then◌else◌, nat_eq, List, [], ◌∷◌, ◌++◌, length, take, drop, Option, None, refl, sym, ◌∙◌, ap, subst, append_assoc, append-nil, take-append-drop, take_all, arith, length-append}
+use Rattle.std.proofs.Common.{◌≡◌, ℕ, suc, ◌+◌, ◌-◌, ◌<◌, ◌≤◌, Bool, true, false, List, [], ◌∷◌, ◌++◌, length, take, drop, Option, None, refl, sym, ◌∙◌, ap, subst, append_assoc, append-nil, take-append-drop, take_all, arith, length-append}
 use Rattle.std.specs.List.{AllByRecursion}
 use Rattle.std.specs.Io.KnownBytes.{Consumes}
 use Rattle.std.proofs.Math.ListN.{length-take}
-use Rattle.std.proofs.lemmas.List.{take-append-le}
-use Rattle.std.proofs.lemmas.Bool.Decides.{Decides-eqb}
 use Rattle.ud_model.specs.text.Lines.{NoFeed, IsWhole, ending_of, Parts, parts_of, whole_lines, open_rest, last_line, texts_of, line_at, numbered_from}
 use Rattle.ud_model.specs.sections.Items.{Options}
 use Rattle.ud_model.specs.sections.Faults as model
@@ -13,8 +11,7 @@ use Rattle.ud_model.proofs.text.LinesLemmas.{AreWhole, are_whole, open_rest-open
 use Rattle.ud_text.specs.Holding.{Holding, Took, UpToFeed, Refuses}
 use Rattle.ud_text.proofs.HoldingLemmas.{took_before, took_rest}
 use Rattle.ud_text.proofs.RunLemmas.{no_feed-take}
-use Rattle.std.proofs.lemmas.Slice.Eq.{ends_is}
-use Rattle.std.specs.List.{ends_with}
+use Rattle.ud_text.proofs.FeedLemmas.{whole_feedless}
 use Rattle.ud_text.specs.declared.fault.TextFault.{TextFault}
 use Rattle.ud_text.specs.declared.fault.TextFault.TheVariants.{TooManyLines, LineTooLong}
 use Rattle.unifdef.specs.Limits.{IsWithin, Breaks, past_last, too_long}
@@ -370,23 +367,6 @@ fed_nothing o held lines holds took is =
       within = tt;
       holds = holds;
     }
-
--- a line that ends in its line feed has none in its body
-whole_feedless : (n : ℕ) (l : List ℕ) → IsWhole l → NoFeed (line_at n l).body
-whole_feedless n l w =
-    by_tests (ends_with nat_eq l (13 ∷ 10 ∷ [])) (ends_with nat_eq l (10 ∷ []))
-    ((ends_is Decides-eqb l (10 ∷ []) (ends_with nat_eq l (10 ∷ [])) refl).1 w.0 w.2)
-  where
-    len : length l ≡ length w.0 + 1
-    len = ap length w.2 ∙ length-append w.0 (10 ∷ [])
-
-    front_of : (k : ℕ) → k ≤ length w.0 → NoFeed (take k l)
-    front_of k h = subst (λ (t : List ℕ). NoFeed t) (sym (ap (take k) w.2 ∙ take-append-le k w.0 (10 ∷ []) h)) (no_feed-take k w.0 w.1)
-
-    by_tests : (a b : Bool) → b ≡ true → NoFeed (take (length l - length {A = ℕ} (if a then 13 ∷ 10 ∷ [] else if b then 10 ∷ [] else [])) l)
-    by_tests true b e = front_of (length l - 2) (omega (arith, len))
-    by_tests false true e = front_of (length l - 1) (omega (arith, len))
-    by_tests false false e = cc
 
 -- each whole line is one
 last_whole : (earlier : List (List ℕ)) (l : List ℕ) → AreWhole (earlier ++ l ∷ []) → IsWhole l

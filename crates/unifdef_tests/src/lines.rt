@@ -99,3 +99,80 @@ fn a_line_past_the_limit_is_refused_at_the_end_too(rt: HostRuntime) -> Result<()
     assert!(rt; again == fault);
     Ok(())
 }
+
+/// Passes if no line is lent.
+fn lend_none(lines: &mut Lines, piece: &[u8]) -> Result<(), Fail>
+    requires part { lines.old.whole ≡ false }
+    requires open { lines.old.closed ≡ false }
+    ensures { OnOk result (lines.new ≡ lines.old) }
+{
+    match lines.whole_in(piece) {
+        Some(_) => Err(Fail::new("no line is lent")),
+        None => Ok(()),
+    }
+}
+
+#[test]
+fn whole_lines_are_borrowed_from_the_piece(rt: HostRuntime) -> Result<(), Fail> {
+    let mut lines = Lines::new(2);
+    let Some(lent) = lines.whole_in(b"a\nb") else {
+        return Err(Fail::new("the first line is lent"));
+    };
+    let first = Line {
+        body: b"a",
+        ending: b"\n",
+        number: 1,
+    };
+    assert_eq!(rt; lent, first);
+    assert_eq!(rt; lines.held(), 0);
+    lend_none(&mut lines, b"b")?;
+    let part = lines.take(b"b")?;
+    assert_eq!(rt; part.used, 1);
+    if part.whole {
+        return Err(Fail::new("the second line lacks its line feed"));
+    }
+    lend_none(&mut lines, b"\n")?;
+    let rest = lines.take(b"\n")?;
+    assert_eq!(rt; rest.used, 1);
+    if !rest.whole {
+        return Err(Fail::new("the second line has its line feed"));
+    }
+    let second = Line {
+        body: b"b",
+        ending: b"\n",
+        number: 2,
+    };
+    assert_eq!(rt; lines.line(), second);
+    lines.clear();
+    lend_none(&mut lines, b"c\n")?;
+    let Err(fault) = lines.take(b"c\n") else {
+        return Err(Fail::new("a third line is refused"));
+    };
+    assert!(rt; fault == TextFault::TooManyLines { line: 3 });
+    lend_none(&mut lines, b"c\n")
+}
+
+#[test]
+fn a_line_of_4096_bytes_is_borrowed(rt: HostRuntime) -> Result<(), Fail> {
+    let mut piece = [b'a'; 4096];
+    piece[4095] = b'\n';
+    let Some(line) = Lines::new(1).whole_in(&piece) else {
+        return Err(Fail::new("the line is lent"));
+    };
+    assert_eq!(rt; line.body.len(), 4095);
+    assert_eq!(rt; line.ending, b"\n".as_slice());
+    Ok(())
+}
+
+#[test]
+fn a_line_of_4097_bytes_is_refused_and_not_borrowed(rt: HostRuntime) -> Result<(), Fail> {
+    let mut piece = [b'a'; 4097];
+    piece[4096] = b'\n';
+    let mut lines = Lines::new(1);
+    lend_none(&mut lines, &piece)?;
+    let Err(fault) = lines.take(&piece) else {
+        return Err(Fail::new("the line is too long"));
+    };
+    assert!(rt; fault == TextFault::LineTooLong { line: 1 });
+    lend_none(&mut lines, &piece)
+}

@@ -1,0 +1,78 @@
+-- Borrowing: a line in front of a piece, cut into its body and its ending, is the next line of the text.
+use Rattle.std.proofs.Common.{◌≡◌, ◌==◌, ℕ, suc, ◌+◌, ◌<◌, Bool, true, false, not, None, List, [], ◌∷◌, ◌++◌, length, take, refl, sym, ◌∙◌, ap, subst}
+use Rattle.std.proofs.lemmas.Bool.{eqb-true}
+use Rattle.ud_model.specs.declared.limits.TheConstants.{LINE_BYTES}
+use Rattle.ud_model.specs.text.Lines.{NoFeed, IsWhole, Line, text_of, line_at}
+use Rattle.ud_model.proofs.text.LinesLemmas.{text_of-line_at}
+use Rattle.ud_text.specs.Holding.{Holding, Took, UpToFeed, IsLineOf}
+use Rattle.ud_text.specs.Borrowing.{CanLend, IsFirstLine}
+use Rattle.ud_text.proofs.FeedLemmas.{up_to_feed-once, whole_feedless}
+use Rattle.ud_text.proofs.HoldingLemmas.{took_take, took_clear}
+
+-- where there is no byte, there are none
+pub none_held : (bytes : List ℕ) (empty : Bool) → empty ≡ (length bytes == 0) → not empty ≡ false → bytes ≡ []
+none_held [] empty e h = refl
+none_held (b ∷ bytes) true e h = let k : suc (length bytes) ≡ 0 = eqb-true (suc (length bytes)) 0 (sym e) in cc
+none_held (b ∷ bytes) false e h = cc
+
+-- where the front of a piece has no line feed or is too long, each whole line in front of it is too long
+pub none_fits : (piece : List ℕ) (used other : ℕ) (whole : Bool) → UpToFeed piece used whole → (whole ≡ true → LINE_BYTES < used) →
+    UpToFeed piece other true → LINE_BYTES < other
+none_fits piece used other whole a long b =
+    let once : (whole ≡ true) × (used ≡ other) = up_to_feed-once piece used other whole true a b in
+    subst (λ (n : ℕ). LINE_BYTES < n) once.1 (long once.0)
+
+-- the first line of a piece is whole
+first_whole : (piece line : List ℕ) → IsFirstLine piece line → IsWhole line
+first_whole piece line f =
+    let to : (front : List ℕ) × NoFeed front × (take (length line) piece ≡ front ++ 10 ∷ []) = f.front.line refl in
+    (to.0, to.1, f.bytes ∙ to.2)
+
+-- a body and an ending are the bytes of their line
+joined_is : (body ending line : List ℕ) (n : ℕ) → IsLineOf body ending n (line_at n line) → body ++ ending ≡ line
+joined_is body ending line n e = ap text_of e ∙ text_of-line_at n line
+
+-- the line is that of the piece's front
+pub lent_value : (piece body ending line : List ℕ) (n : ℕ) → IsFirstLine piece line → IsLineOf body ending n (line_at n line) →
+    IsLineOf body ending n (line_at n (take (length (body ++ ending)) piece))
+lent_value piece body ending line n f e =
+    e ∙ ap (line_at n) (f.bytes ∙ ap (λ (l : List ℕ). take (length l) piece) (sym (joined_is body ending line n e)))
+
+-- its bytes are the piece's front
+pub lent_bytes : (piece body ending line : List ℕ) (n : ℕ) → IsFirstLine piece line → IsLineOf body ending n (line_at n line) →
+    body ++ ending ≡ take (length (body ++ ending)) piece
+lent_bytes piece body ending line n f e =
+    let same : body ++ ending ≡ line = joined_is body ending line n e in
+    same ∙ (f.bytes ∙ ap (λ (l : List ℕ). take (length l) piece) (sym same))
+
+-- no line feed stands in its body
+pub lent_feedless : (piece body ending line : List ℕ) (n : ℕ) → IsFirstLine piece line → IsLineOf body ending n (line_at n line) → NoFeed body
+lent_feedless piece body ending line n f e =
+    subst NoFeed (ap (λ (l : Line). l.body) (sym e)) (whole_feedless n line (first_whole piece line f))
+
+-- it could be lent
+pub can_lend : (lines : Holding) (piece body ending line : List ℕ) (n : ℕ) → lines.held ≡ [] → lines.refusal ≡ None → lines.before < lines.last_line →
+    IsFirstLine piece line → IsLineOf body ending n (line_at n line) → CanLend lines piece (length (body ++ ending))
+can_lend lines piece body ending line n unheld unrefused numbered f e =
+    subst (λ (l : List ℕ). CanLend lines piece (length l)) (sym (joined_is body ending line n e)) (record {
+      unheld = unheld;
+      unrefused = unrefused;
+      front = f.front;
+      fits = f.fits;
+      numbered = numbered;
+    })
+
+-- a line that is taken and given up leaves nothing held, as before
+given_up : (lines : Holding) (text piece : List ℕ) (used : ℕ) → lines.held ≡ [] → lines.whole ≡ false → UpToFeed piece used true → Took lines text →
+    Took (record lines { before = lines.before + 1 }) (text ++ take used piece)
+given_up lines text piece used unheld part to h =
+    subst (λ (held : List ℕ). Took (record lines { held = held; before = lines.before + 1 }) (text ++ take used piece)) (sym unheld)
+    (subst (λ (whole : Bool). Took (record lines { held = []; whole = whole; before = lines.before + 1 }) (text ++ take used piece)) (sym part)
+    (took_clear (record lines { held = lines.held ++ take used piece; whole = true }) (text ++ take used piece) refl (took_take lines text piece used true part to h)))
+
+-- with it one line more is taken and given up
+pub took_lent : (lines : Holding) (text piece body ending line : List ℕ) (n : ℕ) → lines.held ≡ [] → lines.whole ≡ false →
+    IsFirstLine piece line → IsLineOf body ending n (line_at n line) → Took lines text → Took (record lines { before = lines.before + 1 }) (text ++ (body ++ ending))
+took_lent lines text piece body ending line n unheld part f e h =
+    subst (λ (l : List ℕ). Took (record lines { before = lines.before + 1 }) (text ++ l)) (sym (f.bytes) ∙ sym (joined_is body ending line n e))
+    (given_up lines text piece (length line) unheld part f.front h)

@@ -1,0 +1,12 @@
+-- The front of a piece is found once.
+use Rattle.std.proofs.Common.{◌<◌, ◌≡◌, true}
+use Rattle.ud_model.specs.declared.limits.TheConstants.{LINE_BYTES}
+use Rattle.ud_text.proofs.BorrowLemmas.{none_fits}
+use Rattle.ud_text.proofs.lines.first_line.Goals as goal
+use Rattle.ud_text.proofs.lines.first_line.Goals.{else-taken-via-then-taken+else-taken-le-LINE_BYTES, else-taken-via-else-taken}
+
+pub returns-else-taken-clause-none : goal.returns-else-taken-clause-none
+returns-else-taken-clause-none c = λ used to. none_fits c.args.piece.now c.front-taken.result.used used c.front-taken.result.whole c.front-taken.ensures long to
+  where
+    long : c.front-taken.result.whole ≡ true → LINE_BYTES < c.front-taken.result.used
+    long whole = elim c.else-taken.branch [ else-taken-via-then-taken+else-taken-le-LINE_BYTES w ↦ w.if-taken-le-LINE_BYTES.false | else-taken-via-else-taken w ↦ cc ]
