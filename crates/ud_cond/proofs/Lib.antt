@@ -1,4 +1,5 @@
 pub mod TableLemmas
+mod SortedLemmas
 pub mod ReadingLemmas
 pub mod DescentLemmas
 pub mod WorthLemmas

@@ -1,19 +1,25 @@
 -- Rows and what they say of names.
-use Rattle.std.proofs.Common.{◌≡◌, ◌<◌, ℕ, zero, suc, List, [], ◌∷◌, ◌++◌, length, get_or, Bool, true, false, Option, Some, None, bytes_eq, refl, sym, ◌∙◌, ap, subst, arith, if◌then◌else◌}
+use Rattle.std.proofs.Common.{◌≡◌, ◌<◌, ◌≤◌, ◌+◌, ℕ, zero, suc, List, [], ◌∷◌, ◌++◌, length, get_or, Bool, true, false, Option, Some, None, bytes_eq, refl, sym, ◌∙◌, ap, subst, arith, if◌then◌else◌}
 use Rattle.std.proofs.Math.ListN.{set}
+use Rattle.std.specs.List.{insert}
 use Rattle.std.proofs.lemmas.Slice.Eq.{bytes_eq-Decides}
 use Rattle.ud_model.specs.conditions.Table.{Argument, Entry, entry_from, entry_in}
-use Rattle.ud_cond.specs.Standing.{StandsFor, Changes, NoneFrom, IsLastRow, nobody}
+use Rattle.ud_cond.specs.Standing.{StandsFor, Changes, name_at, nobody}
+
+-- no row from this place on names it
+abbrev pub NoneFrom : List Argument → ℕ → List ℕ → Type 0
+NoneFrom rows i name = (k : ℕ) → i ≤ k → k < length rows → bytes_eq (name_at rows k) name ≡ false
+
+-- row i is the last that names it
+pub record IsLastRow (rows : List Argument) (i : ℕ) (name : List ℕ) : Type 0 where
+  pub within : i < length rows
+  pub named : name_at rows i ≡ name
+  pub last : NoneFrom rows (i + 1) name
 
 -- one call more, after the others
 pub entry_from-push : (e : Option Entry) (rows : List Argument) (a : Argument) (name : List ℕ) → entry_from e (rows ++ a ∷ []) name ≡ (if bytes_eq a.name name then Some a.entry else entry_from e rows name)
 entry_from-push e [] a name = refl
 entry_from-push e (r ∷ rows) a name = entry_from-push (if bytes_eq r.name name then Some r.entry else e) rows a name
-
--- a row added at the end changes what is said of its name
-pub changes-push : (old new : List Argument) (row a : Argument) → new ≡ old ++ row ∷ [] → row ≡ a → Changes old new a
-changes-push old new row a added same name =
-    ap (λ rows. entry_in rows name) added ∙ entry_from-push None old row name ∙ ap (λ r. if bytes_eq r.name name then Some r.entry else entry_in old name) same
 
 -- a table that changes as a call says stands for the calls with this one more
 pub stands-changes : (old new calls : List Argument) (a : Argument) → Changes old new a → StandsFor old calls → StandsFor new (calls ++ a ∷ [])
@@ -46,7 +52,7 @@ pub entry_from-set : (e : Option Entry) (rows : List Argument) (i : ℕ) (a : Ar
 entry_from-set e [] i a last name = absurd (let w : i < 0 = last.within in omega arith)
 entry_from-set e (r ∷ rows) zero a last name =
     let none : bytes_eq a.name name ≡ true → NoneFrom rows 0 name =
-    λ t k low high. subst (λ n. bytes_eq (get_or rows k nobody).name n ≡ false) ((bytes_eq-Decides a.name name).0 t) (last.last (suc k) (omega arith) (omega arith)) in
+    λ t k low high. subst (λ n. bytes_eq (name_at rows k) n ≡ false) ((bytes_eq-Decides a.name name).0 t) (last.last (suc k) (omega arith) (omega arith)) in
     rw last.named (changed_front (bytes_eq a.name name) e a.entry r.entry rows name none)
 entry_from-set e (r ∷ rows) (suc i) a last name =
     entry_from-set (if bytes_eq r.name name then Some r.entry else e) rows i a
@@ -56,3 +62,22 @@ entry_from-set e (r ∷ rows) (suc i) a last name =
 pub changes-set : (rows old : List Argument) (i : ℕ) (row a : Argument) → rows ≡ old → row ≡ a → IsLastRow rows i a.name → Changes old (set rows i row) a
 changes-set rows old i row a view same last name =
     ap (λ r. entry_in (set rows i r) name) same ∙ entry_from-set None rows i a last name ∙ ap (λ rs. if bytes_eq a.name name then Some a.entry else entry_in rs name) view
+
+-- a row in front, if no other one names it
+added_front : (t : Bool) (e : Option Entry) (new : Entry) (rows : List Argument) (name : List ℕ) → (t ≡ true → NoneFrom rows 0 name) → entry_from (if t then Some new else e) rows name ≡ (if t then Some new else entry_from e rows name)
+added_front true e new rows name none = entry_from-none (Some new) rows name (none refl)
+added_front false e new rows name none = refl
+
+-- a row more, if none names it from there on, where something is said before
+pub entry_from-insert : (e : Option Entry) (rows : List Argument) (i : ℕ) (a : Argument) → i ≤ length rows → NoneFrom rows i a.name → (name : List ℕ) → entry_from e (insert rows i a) name ≡ (if bytes_eq a.name name then Some a.entry else entry_from e rows name)
+entry_from-insert e rows zero a within none name =
+    added_front (bytes_eq a.name name) e a.entry rows name (λ t k low high. subst (λ n. bytes_eq (name_at rows k) n ≡ false) ((bytes_eq-Decides a.name name).0 t) (none k low high))
+entry_from-insert e [] (suc i) a within none name = absurd (omega arith)
+entry_from-insert e (r ∷ rows) (suc i) a within none name =
+    entry_from-insert (if bytes_eq r.name name then Some r.entry else e) rows i a (omega arith) (λ k low high. none (suc k) (omega arith) (omega arith)) name
+
+-- a row added for a name that no row has changes what is said of it
+pub changes-insert : (rows old new : List Argument) (i : ℕ) (row a : Argument) → rows ≡ old → row ≡ a → new ≡ insert rows i row → i ≤ length rows → NoneFrom rows i a.name → Changes old new a
+changes-insert rows old new i row a view same added within none name =
+    ap (λ rs. entry_in rs name) added ∙ ap (λ r. entry_in (insert rows i r) name) same ∙ entry_from-insert None rows i a within none name
+    ∙ ap (λ rs. if bytes_eq a.name name then Some a.entry else entry_in rs name) view

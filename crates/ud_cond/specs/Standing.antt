@@ -3,9 +3,15 @@
 --
 --   StandsFor table calls   the table says of every name what the accepted calls so far say
 --   Changes old new a       a table says this of one name, and of every other name what it said before
---   NoneFrom rows i name    no row from place i on names it
---   IsLastRow rows i name   row i is the last that names it
-use Rattle.std.specs.Prelude.{◌≡◌, ℕ, ◌<◌, ◌≤◌, ◌+◌, List, [], length, get_or, None, Some, bytes_eq, false, if◌then◌else◌}
+--   name_cmp m n            how one name stands to another: by their lengths, and by their bytes if these are equal
+--   AreSorted rows          each row's name comes before the names of the rows after it, so no two have one name
+--   IsRowOf rows i name     row i names it
+--   IsGapFor rows i name    the name comes after those of the rows before place i, and before those of the rows from there on
+use Rattle.std.specs.Prelude.{◌≡◌, ℕ, ◌<◌, ◌≤◌, List, [], length, get_or, None, Some, bytes_eq, false, if◌then◌else◌}
+use Rattle.std.specs.Ordering.{nat_cmp, ordering_then}
+use Rattle.std.specs.declared.cmp.Ordering.{Ordering}
+use Rattle.std.specs.declared.cmp.Ordering.TheVariants.{Less, Greater}
+use Rattle.std.specs.Cmp.Lexicographic.{slice_cmp}
 use Rattle.ud_model.specs.conditions.Table.{Argument, entry_in}
 
 -- the table says of every name what the accepted calls so far say
@@ -16,16 +22,29 @@ StandsFor table calls = (name : List ℕ) → entry_in table name ≡ entry_in c
 abbrev pub Changes : List Argument → List Argument → Argument → Type 0
 Changes old new a = (name : List ℕ) → entry_in new name ≡ (if bytes_eq a.name name then Some a.entry else entry_in old name)
 
--- an argument that stands if there is none
+-- how one name stands to another: by their lengths, and by their bytes if these are equal
+abbrev pub name_cmp : List ℕ → List ℕ → Ordering
+name_cmp m n = ordering_then (nat_cmp (length m) (length n)) (slice_cmp nat_cmp m n)
+
+-- a row that stands if there is none
 abbrev pub nobody : Argument
 nobody = record { name = []; entry = record { value = None; ignoring = false } }
 
--- no row from this place on names it
-abbrev pub NoneFrom : List Argument → ℕ → List ℕ → Type 0
-NoneFrom rows i name = (k : ℕ) → i ≤ k → k < length rows → bytes_eq (get_or rows k nobody).name name ≡ false
+-- the name of row i
+abbrev pub name_at : List Argument → ℕ → List ℕ
+name_at rows i = (get_or rows i nobody).name
 
--- row i is the last that names it
-pub record IsLastRow (rows : List Argument) (i : ℕ) (name : List ℕ) : Type 0 where
+-- each row's name comes before the names of the rows after it
+abbrev pub AreSorted : List Argument → Type 0
+AreSorted rows = (i j : ℕ) → i < j → j < length rows → name_cmp (name_at rows i) (name_at rows j) ≡ Less
+
+-- row i names it
+pub record IsRowOf (rows : List Argument) (i : ℕ) (name : List ℕ) : Type 0 where
   pub within : i < length rows
-  pub named : (get_or rows i nobody).name ≡ name
-  pub last : NoneFrom rows (i + 1) name
+  pub named : name_at rows i ≡ name
+
+-- the name comes after those of the rows before place i, and before those of the rows from there on
+pub record IsGapFor (rows : List Argument) (i : ℕ) (name : List ℕ) : Type 0 where
+  pub within : i ≤ length rows
+  pub after : (k : ℕ) → k < i → name_cmp (name_at rows k) name ≡ Less
+  pub before : (k : ℕ) → i ≤ k → k < length rows → name_cmp (name_at rows k) name ≡ Greater

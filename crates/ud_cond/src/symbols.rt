@@ -1,17 +1,19 @@
 //! The table of symbols.
 //!
-//! It has one row a name, in the order of the first calls; a later call for a name changes its row. Memory is taken
-//! before anything changes, so a refused call leaves the table as it was.
+//! It has one row a name, sorted by the names: a name is found by halving, and a later call for it changes its row.
+//! Memory is taken before anything changes, so a refused call leaves the table as it was.
 
-ghost use Rattle.std.specs.Prelude.{◌≡◌, ◌<◌, ◌++◌, ◌∷◌, [], List, ℕ, option_map, OnOk, OnErr, IfOk, IfSome, IfNone, IsErrOf, IsTrue, Some, None, ◌↔◌, false, length};
+ghost use Rattle.std.specs.Prelude.{◌≡◌, ◌++◌, ◌∷◌, [], List, option_map, OnOk, OnErr, IfOk, IfErr, IsErrOf, Some, None, ◌↔◌, false, length};
+ghost use Rattle.std.specs.List.{insert};
 ghost use Rattle.ud_model.specs.conditions.Table.{Argument, entry_in};
 ghost use Rattle.ud_model.specs.answer.Arguments as names;
 ghost use Rattle.ud_model.specs.conditions.Symbols as ends;
-ghost use Rattle.ud_cond.specs.Standing.{StandsFor, Changes, IsLastRow};
+ghost use Rattle.ud_cond.specs.Standing.{StandsFor, Changes, name_cmp, IsRowOf, IsGapFor};
 ghost use Rattle.ud_cond.specs.CondViews.{as_entry, said};
 
 use crate::fault::SymbolFault;
 use std::alloc::Global;
+use std::cmp::Ordering;
 use std::marker::Model;
 use ud_model::bytes::{is_identifier, is_name};
 
@@ -46,11 +48,14 @@ impl Model for Row {
 }
 
 impl Row {
-    /// Whether the row is that of this name.
-    fn is_of(&self, name: &[u8]) -> bool
-        ensures { IsTrue result ↔ self.now.name ≡ name.now }
+    /// How the row's name stands to a name: by their lengths, and by their bytes if these are equal.
+    fn compare(&self, name: &[u8]) -> Ordering
+        ensures { result ≡ name_cmp self.now.name name.now }
     {
-        self.symbol.as_slice() == name
+        match self.symbol.len().cmp(&name.len()) {
+            Ordering::Equal => self.symbol.as_slice().cmp(&name),
+            other => other,
+        }
     }
 
     /// What the row says of its name.
@@ -72,17 +77,20 @@ impl Row {
 pub struct Symbols {
     /// Where memory comes from.
     alloc: Global,
-    /// The rows, one a name.
+    /// The rows, one a name, shorter names first and those of one length by their bytes.
     rows: Vec<Row>,
 }
 
 impl Model for Symbols {
     ghost use Rattle.std.specs.Prelude.{List};
     ghost use Rattle.ud_model.specs.conditions.Table.{Argument};
+    ghost use Rattle.ud_cond.specs.Standing.{AreSorted};
 
     ghost Value = { List Argument };
 
     ghost view = { λ s. s.rows.items };
+
+    ghost invariant = { λ s. AreSorted s.rows.items };
 }
 
 impl Symbols {
@@ -130,8 +138,10 @@ impl Symbols {
         ensures value { option_map as_entry result ≡ entry_in self.now name.now }
         ensures stands { (calls : List Argument) → StandsFor self.now calls → option_map as_entry result ≡ entry_in calls name.now }
     {
-        let i = self.place(name)?;
-        Some(self.rows[i].entry())
+        match self.search(name) {
+            Ok(i) => Some(self.rows[i].entry()),
+            Err(_) => None,
+        }
     }
 
     /// How many rows there are.
@@ -166,19 +176,12 @@ impl Symbols {
         None
     }
 
-    /// The place of the last row of a name.
-    fn place(&self, name: &[u8]) -> Option<usize>
-        ensures none { IfNone result (entry_in self.now name.now ≡ None) }
-        ensures some { IfSome result (λ i. IsLastRow self.now i name.now) }
+    /// The place of a name's row, or the one at which it would stand.
+    fn search(&self, name: &[u8]) -> Result<usize, usize>
+        ensures found { IfOk result (λ i. IsRowOf self.now i name.now) }
+        ensures absent { IfErr result (λ i. IsGapFor self.now i name.now) }
     {
-        let mut i = self.rows.len();
-        'rows: while 0 < i {
-            i -= 1;
-            if self.rows[i].is_of(name) {
-                return Some(i);
-            }
-        }
-        None
+        self.rows.binary_search_by(|row| row.compare(name))
     }
 
     /// Says of a name that it has this value, or that it is undefined.
@@ -200,31 +203,33 @@ impl Symbols {
         ensures fault { OnErr result (IsErrOf result SymbolFault.OutOfMemory) }
     {
         let text = copy_of(self.alloc, value)?;
-        match self.place(name) {
-            Some(i) => {
+        match self.search(name) {
+            Ok(i) => {
                 let row = &mut self.rows[i];
                 row.text = text;
                 row.ignores = ignoring;
                 Ok(())
             }
-            None => {
+            Err(i) => {
                 let symbol = Vec::from_slice(self.alloc, name)?;
-                self.add(Row {
+                let row = Row {
                     symbol,
                     text,
                     ignores: ignoring,
-                })
+                };
+                self.add(i, row)
             }
         }
     }
 
-    /// Adds a row at the end.
-    fn add(&mut self, row: Row) -> Result<(), SymbolFault>
-        ensures ok { OnOk result (self.new ≡ self.old ++ row ∷ []) }
+    /// Adds a row at the place of its name.
+    fn add(&mut self, i: usize, row: Row) -> Result<(), SymbolFault>
+        requires { IsGapFor self.old i row.name }
+        ensures ok { OnOk result (self.new ≡ insert self.old i row) }
         ensures err { OnErr result (self.new ≡ self.old) }
         ensures fault { OnErr result (IsErrOf result SymbolFault.OutOfMemory) }
     {
-        match self.rows.push(row) {
+        match self.rows.insert(i, row) {
             Ok(()) => Ok(()),
             Err(_) => Err(SymbolFault::OutOfMemory),
         }
