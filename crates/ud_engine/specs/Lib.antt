@@ -5,3 +5,7 @@ pub mod Reading
 pub mod Listing
 pub mod Printing
 pub mod Refusing
+pub mod Feeding
+pub mod Advancing
+pub mod Ending
+pub mod Running

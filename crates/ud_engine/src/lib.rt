@@ -2,13 +2,17 @@
 #![tactic(auto)]
 
 mod emitting;
+mod engine;
 mod fault;
 mod line_printer;
 mod listing;
 mod output;
 mod reader;
+mod running;
 mod watched;
 
+pub use engine::Engine;
 pub use emitting::emit;
 pub use fault::RunFault;
+pub use running::run;
 pub use watched::Watched;

@@ -1,6 +1,6 @@
 //! Reading lines, and printing what is left of them.
 
-ghost use Rattle.std.specs.Prelude.{◌≡◌, ◌∷◌, [], ◌++◌, List, ℕ, IfOk, IfErr, IfSome, IfNone, OnOk, false, is_none};
+ghost use Rattle.std.specs.Prelude.{◌≡◌, ◌∷◌, [], ◌++◌, List, ℕ, IfOk, IfErr, IfSome, IfNone, OnOk, true, false, is_none};
 ghost use Rattle.ud_model.specs.text.Lines.{NoFeed, text_of};
 ghost use Rattle.ud_model.specs.text.Scans.{Reading};
 ghost use Rattle.ud_model.specs.sections.Tree.{Item, Tree, closed, nothing};
@@ -108,6 +108,44 @@ impl<S: Show> LinePrinter<S> {
                     }
                 },
             },
+        }
+    }
+
+    /// Reads the next line, and puts what is printed of it after the run of bytes before it.
+    ///
+    /// # Errors
+    /// As `print`.
+    pub(crate) fn put_line<W: Write>(
+        &mut self,
+        line: &Line<'_>,
+        symbols: &Symbols,
+        run: &[u8],
+        output: &mut Output,
+        out: &mut Watched<W>,
+    ) -> Result<(), RunFault>
+        requires within { IsWithin (as_line line.now) }
+        requires one_line { NoFeed line.now.body.now }
+        requires works { out.old.failed ≡ false }
+        ensures ok { (o : Options) → (piece : List Judged → Judged → List ℕ) → (xs : List (Item Reading)) → (t : Tree Reading) →
+            StandsFor symbols.now o.table → HasPrinted S.stands S.piece self.old o piece xs t →
+            OnOk result (PrintsLine S.stands S.piece self.new o piece xs t (as_line line.now) true
+            (W.contents out.old.inner) (W.contents out.new.inner) output.old output.new run.now) }
+        ensures err { (o : Options) → (piece : List Judged → Judged → List ℕ) → (xs : List (Item Reading)) → (t : Tree Reading) →
+            StandsFor symbols.now o.table → HasPrinted S.stands S.piece self.old o piece xs t →
+            IfErr result (PrintFails o piece xs t (as_line line.now) (W.contents out.old.inner) (W.contents out.new.inner) output.old run.now) }
+        ensures works { OnOk result (out.new.failed ≡ false) }
+        ensures leaves { IfErr result (LeavesOutput out.old out.new output.old output.new) }
+    {
+        match self.print(line, symbols, run, output, out) {
+            Err(fault) => Err(fault),
+            Ok(true) => Ok(()),
+            Ok(false) => {
+                if output.put_parts(&[run, line.body, line.ending], out) {
+                    Ok(())
+                } else {
+                    Err(RunFault::Write)
+                }
+            }
         }
     }
 

@@ -1,0 +1,351 @@
+//! The engine: a text comes in pieces, and what is left of its lines goes out.
+//!
+//! An engine holds one line at most, the one that the last piece's end cut, and what the machine keeps of the open sections. What is
+//! printed of a piece's lines is written before `feed` returns: lines that stay as they are and lie side by side go out
+//! together, and smaller parts are gathered.
+
+ghost use Rattle.std.specs.Prelude.{◌≡◌, ◌++◌, [], ◌<◌, ◌≤◌, List, ℕ, length, drop, true, false, IfOk, IfErr, OnOk, IfSome, None, Some, Err, take, not};
+ghost use Rattle.ud_model.specs.sections.Items.{Options};
+ghost use Rattle.ud_model.specs.answer.Printing.{Judged};
+ghost use Rattle.ud_cond.specs.Standing.{StandsFor};
+ghost use Rattle.ud_engine.specs.Sending.{Puts};
+ghost use Rattle.ud_engine.specs.Feeding.{IsOpen, Fed};
+ghost use Rattle.ud_engine.specs.Ending.{EndsIll, PrintsAll, at_rest};
+
+use crate::fault::RunFault;
+use crate::line_printer::LinePrinter;
+use crate::output::Output;
+use crate::watched::Watched;
+use std::io::Write;
+use std::marker::Model;
+use ud_cond::Symbols;
+use ud_model::TEXT_LINES;
+use ud_sections::Show;
+use ud_text::Lines;
+use ud_words::Plan;
+
+/// How far a piece is read. The bytes from one place to the other are to be written as they are.
+#[derive(Clone, Copy)]
+struct Reached {
+    from: usize,
+    at: usize,
+}
+
+/// unifdef(1) over a text that comes in pieces.
+#[derive(Drop)]
+pub struct Engine<'p, S: Show> {
+    /// What the words say.
+    plan: &'p Plan,
+    /// The line so far.
+    lines: Lines,
+    /// What reads the lines, and prints them.
+    printer: LinePrinter<S>,
+    /// What is to be written.
+    output: Output,
+    /// What was refused, for good.
+    fault: Option<RunFault>,
+}
+
+impl<'p, S: Show> Model for Engine<'p, S> {
+    ghost use Rattle.ud_engine.specs.Feeding.{Running, IsOpen};
+
+    ghost Value = { Running S };
+
+    ghost view = { λ e. record {
+      symbols = e.plan.now.symbols;
+      lines = e.lines;
+      printer = e.printer;
+      gathered = e.output;
+      refused = e.fault;
+    } };
+
+    ghost invariant = { λ e. IsOpen e.lines };
+}
+
+impl<'p, S: Show> Engine<'p, S> {
+    ghost use Rattle.ud_engine.specs.Feeding.{Fed, HasTaken, Goes, Fails};
+    ghost use Rattle.ud_engine.specs.Ending.{EndsWell, EndsIll};
+    ghost use Rattle.ud_engine.specs.Advancing.{Advances, StopsAt, between};
+    ghost use Rattle.ud_engine.specs.Refusing.{LeavesOutput, LeavesWorking, StoppedBy};
+
+    /// An engine that was fed nothing. It prints by `show`, or if the plan asks for it lists names.
+    ///
+    /// `show` was given no line. Takes no memory.
+    pub fn new(plan: &'p Plan, show: S) -> Engine<'p, S>
+        ensures { (o : Options) → (piece : List Judged → Judged → List ℕ) → o.settings ≡ plan.now.settings → StandsFor plan.now.symbols o.table →
+            S.stands show [] → ((before : List Judged) → (j : Judged) → S.piece show before j ≡ piece before j) →
+            Fed S.stands S.piece result o piece [] [] }
+    {
+        Engine {
+            plan,
+            lines: Lines::new(TEXT_LINES),
+            printer: LinePrinter::new(plan.settings(), show),
+            output: Output::new(),
+            fault: None,
+        }
+    }
+
+    /// Takes the next bytes of the text, and writes what is left of the lines that they end.
+    ///
+    /// `piece` may have any length and any bytes. What it begins of a line, at most `LINE_BYTES`, is held until the line
+    /// ends. `out` hasn't failed, unless the engine has refused.
+    ///
+    /// # Errors
+    /// `Text` or `Section` if a line is faulty, after what is left of the lines before it; `Write` if a write fails, after a
+    /// front of what is left. Every later `feed` and `finish` answers the same, and writes nothing.
+    pub fn feed<W: Write>(&mut self, piece: &[u8], out: &mut Watched<W>) -> Result<(), RunFault>
+        requires { self.old.refused ≡ None → out.old.failed ≡ false }
+        ensures fed { (o : Options) → (pieces : List Judged → Judged → List ℕ) → (text : List ℕ) → (printed : List ℕ) →
+            Fed S.stands S.piece self.old o pieces text printed →
+            OnOk result (Goes S.stands S.piece self.new o pieces (text ++ piece.now) printed (W.contents out.old.inner) (W.contents out.new.inner)) }
+        ensures fails { (o : Options) → (pieces : List Judged → Judged → List ℕ) → (text : List ℕ) → (printed : List ℕ) →
+            Fed S.stands S.piece self.old o pieces text printed →
+            IfErr result (Fails o pieces out.new.failed (W.contents out.old.inner) (W.contents out.new.inner) (text ++ piece.now) printed) }
+        ensures works { OnOk result (out.new.failed ≡ false) }
+        ensures refused { IfErr result (λ f. self.new.refused ≡ Some f) }
+        ensures again { IfSome self.old.refused (λ f. (result ≡ Err f) × (self.new ≡ self.old) × (out.new ≡ out.old)) }
+    {
+        if let Some(fault) = self.fault {
+            return Err(fault);
+        }
+        match self.read_piece(piece, out) {
+            Ok(()) => Ok(()),
+            Err(fault) => {
+                self.fault = Some(fault);
+                Err(fault)
+            }
+        }
+    }
+
+    /// Ends the text: writes what is left of its last line, if that lacks its line feed, and answers whether some line is
+    /// printed otherwise than it is; `false` if names are listed.
+    ///
+    /// `out` hasn't failed, unless the engine has refused.
+    ///
+    /// # Errors
+    /// What `feed` refused, again, and nothing is written. `Section` if the last line is faulty, after what is left of the
+    /// lines before it, or if the text ends in a block comment or a section, after what is left of all lines; `Write` if a write fails.
+    pub fn finish<W: Write>(self, out: &mut Watched<W>) -> Result<bool, RunFault>
+        requires { self.refused ≡ None → out.old.failed ≡ false }
+        ensures ended { (o : Options) → (pieces : List Judged → Judged → List ℕ) → (text : List ℕ) → (printed : List ℕ) →
+            Fed S.stands S.piece self.entry o pieces text printed →
+            IfOk result (EndsWell o pieces text printed (W.contents out.old.inner) (W.contents out.new.inner)) }
+        ensures fails { (o : Options) → (pieces : List Judged → Judged → List ℕ) → (text : List ℕ) → (printed : List ℕ) →
+            Fed S.stands S.piece self.entry o pieces text printed →
+            IfErr result (EndsIll o pieces out.new.failed (W.contents out.old.inner) (W.contents out.new.inner) text printed) }
+        ensures works { OnOk result (out.new.failed ≡ false) }
+        ensures again { IfSome self.entry.refused (λ f. (result ≡ Err f) × (out.new ≡ out.old)) }
+    {
+        let Engine {
+            plan,
+            mut lines,
+            mut printer,
+            mut output,
+            fault,
+        } = self;
+        if let Some(fault) = fault {
+            return Err(fault);
+        }
+        match print_last(&mut lines, &mut printer, plan.symbols(), &mut output, out) {
+            Err(fault) => Err(fault),
+            Ok(()) => match printer.finish() {
+                Err(fault) => Err(RunFault::Section(fault)),
+                Ok(()) => Ok(printer.differs()),
+            },
+        }
+    }
+
+    /// Takes all of a piece, and writes what is left of the lines that it ends.
+    ///
+    /// # Errors
+    /// As `feed`.
+    fn read_piece<W: Write>(
+        &mut self,
+        piece: &[u8],
+        out: &mut Watched<W>,
+    ) -> Result<(), RunFault>
+        requires works { out.old.failed ≡ false }
+        ensures fed { (o : Options) → (pieces : List Judged → Judged → List ℕ) → (text : List ℕ) → (printed : List ℕ) →
+            Fed S.stands S.piece self.old o pieces text printed →
+            OnOk result (Goes S.stands S.piece self.new o pieces (text ++ piece.now) printed (W.contents out.old.inner) (W.contents out.new.inner)) }
+        ensures fails { (o : Options) → (pieces : List Judged → Judged → List ℕ) → (text : List ℕ) → (printed : List ℕ) →
+            Fed S.stands S.piece self.old o pieces text printed →
+            IfErr result (Fails o pieces out.new.failed (W.contents out.old.inner) (W.contents out.new.inner) (text ++ piece.now) printed) }
+        ensures works { OnOk result (out.new.failed ≡ false) }
+    {
+        let mut reached = Reached { from: 0, at: 0 };
+        while reached.at < piece.len() {
+            match self.advance(piece, reached, out) {
+                Ok(next) => reached = next,
+                Err(fault) => return Err(self.stop(fault, &piece[reached.from..reached.at], out)),
+            }
+        }
+        if self.write_out(&piece[reached.from..reached.at], out) {
+            Ok(())
+        } else {
+            Err(RunFault::Write)
+        }
+    }
+
+    /// Takes the next line of a piece that is read so far, or what it begins of one.
+    ///
+    /// # Errors
+    /// As `feed`, but what is to be written of the lines before isn't written yet.
+    fn advance<W: Write>(
+        &mut self,
+        piece: &[u8],
+        reached: Reached,
+        out: &mut Watched<W>,
+    ) -> Result<Reached, RunFault>
+        requires works { out.old.failed ≡ false }
+        requires from { reached.from ≤ reached.at }
+        requires at { reached.at < length piece.now }
+        ensures forth { IfOk result (λ next. (reached.at < next.at) × (next.at ≤ length piece.now) × (next.from ≤ next.at)) }
+        ensures taken { (o : Options) → (pieces : List Judged → Judged → List ℕ) → (text : List ℕ) → (printed : List ℕ) →
+            HasTaken S.stands S.piece self.old o pieces text printed →
+            IfOk result (λ next. Advances S.stands S.piece self.new o pieces text printed (between piece.now reached.at next.at)
+            (W.contents out.old.inner) (W.contents out.new.inner)
+            (self.old.gathered ++ between piece.now reached.from reached.at) (self.new.gathered ++ between piece.now next.from next.at)) }
+        ensures stops { (o : Options) → (pieces : List Judged → Judged → List ℕ) → (text : List ℕ) → (printed : List ℕ) →
+            HasTaken S.stands S.piece self.old o pieces text printed →
+            IfErr result (StopsAt o pieces (text ++ drop reached.at piece.now) printed (W.contents out.old.inner) (W.contents out.new.inner)
+            (self.old.gathered ++ between piece.now reached.from reached.at)) }
+        ensures works { OnOk result (out.new.failed ≡ false) }
+        ensures leaves { IfErr result (LeavesOutput out.old out.new self.old.gathered self.new.gathered) }
+        ensures refused { self.new.refused ≡ self.old.refused }
+    {
+        let run = &piece[reached.from..reached.at];
+        let rest = &piece[reached.at..];
+        let Some(line) = self.lines.whole_in(rest) else {
+            return match self.take(rest, run, out) {
+                Err(fault) => Err(fault),
+                Ok(used) => Ok(Reached {
+                    from: reached.at + used,
+                    at: reached.at + used,
+                }),
+            };
+        };
+        let end = reached.at + line.body.len() + line.ending.len();
+        match self.printer.print(&line, self.plan.symbols(), run, &mut self.output, out) {
+            Err(fault) => Err(fault),
+            Ok(true) => Ok(Reached { from: end, at: end }),
+            Ok(false) => Ok(Reached {
+                from: reached.from,
+                at: end,
+            }),
+        }
+    }
+
+    /// Takes bytes up to the first line feed, and puts what is printed of the line that they end after the run of bytes
+    /// before it. If they end none, the run is put.
+    ///
+    /// # Errors
+    /// As `advance`.
+    fn take<W: Write>(
+        &mut self,
+        rest: &[u8],
+        run: &[u8],
+        out: &mut Watched<W>,
+    ) -> Result<usize, RunFault>
+        requires works { out.old.failed ≡ false }
+        requires some { 0 < length rest.now }
+        ensures forth { IfOk result (λ used. (0 < used) × (used ≤ length rest.now)) }
+        ensures taken { (o : Options) → (pieces : List Judged → Judged → List ℕ) → (text : List ℕ) → (printed : List ℕ) →
+            HasTaken S.stands S.piece self.old o pieces text printed →
+            IfOk result (λ used. Advances S.stands S.piece self.new o pieces text printed (take used rest.now)
+            (W.contents out.old.inner) (W.contents out.new.inner) (self.old.gathered ++ run.now) self.new.gathered) }
+        ensures stops { (o : Options) → (pieces : List Judged → Judged → List ℕ) → (text : List ℕ) → (printed : List ℕ) →
+            HasTaken S.stands S.piece self.old o pieces text printed →
+            IfErr result (StopsAt o pieces (text ++ rest.now) printed (W.contents out.old.inner) (W.contents out.new.inner)
+            (self.old.gathered ++ run.now)) }
+        ensures works { OnOk result (out.new.failed ≡ false) }
+        ensures leaves { IfErr result (LeavesOutput out.old out.new self.old.gathered self.new.gathered) }
+        ensures refused { self.new.refused ≡ self.old.refused }
+    {
+        let taken = match self.lines.take(rest) {
+            Ok(taken) => taken,
+            Err(fault) => return Err(RunFault::Text(fault)),
+        };
+        if !taken.whole {
+            return if self.output.put(run, out) {
+                Ok(taken.used)
+            } else {
+                Err(RunFault::Write)
+            };
+        }
+        let printed = self.printer.put_line(
+            &self.lines.line(),
+            self.plan.symbols(),
+            run,
+            &mut self.output,
+            out,
+        );
+        self.lines.clear();
+        match printed {
+            Ok(()) => Ok(taken.used),
+            Err(fault) => Err(fault),
+        }
+    }
+
+    /// What ends the run: this fault, after what is to be written of the lines before it; or a write that fails.
+    fn stop<W: Write>(&mut self, fault: RunFault, run: &[u8], out: &mut Watched<W>) -> RunFault
+        requires works { LeavesWorking out.old.failed fault }
+        ensures written { StoppedBy out.new.failed (W.contents out.old.inner) (W.contents out.new.inner) (self.old.gathered ++ run.now) fault result }
+    {
+        match fault {
+            RunFault::Write => RunFault::Write,
+            _ if self.write_out(run, out) => fault,
+            _ => RunFault::Write,
+        }
+    }
+
+    /// Writes what is gathered, and this run of bytes after it.
+    ///
+    /// # Errors
+    /// `false` if a write fails: a front of all these bytes is written, and `out` has failed.
+    fn write_out<W: Write>(&mut self, run: &[u8], out: &mut Watched<W>) -> bool
+        requires works { out.old.failed ≡ false }
+        ensures puts { Puts result (W.contents out.old.inner) (W.contents out.new.inner) (self.old.gathered ++ run.now) [] }
+        ensures failed { out.new.failed ≡ not result }
+        ensures rest { (gathered : List ℕ) × (self.new ≡ record self.old { gathered = gathered }) × (result ≡ true → gathered ≡ []) }
+    {
+        self.output.put(run, out) && self.output.write_out(out)
+    }
+}
+
+/// Reads and prints the text's last line, if it lacks its line feed.
+///
+/// # Errors
+/// As `Engine::finish`.
+fn print_last<S: Show, W: Write>(
+    lines: &mut Lines,
+    printer: &mut LinePrinter<S>,
+    symbols: &Symbols,
+    output: &mut Output,
+    out: &mut Watched<W>,
+) -> Result<(), RunFault>
+    requires works { out.old.failed ≡ false }
+    requires opened { IsOpen lines.old }
+    ensures last { (o : Options) → (pieces : List Judged → Judged → List ℕ) → (text : List ℕ) → (printed : List ℕ) →
+        Fed S.stands S.piece (at_rest symbols.now lines.old printer.old output.old) o pieces text printed →
+        OnOk result (PrintsAll S.stands S.piece printer.new o pieces text printed (W.contents out.old.inner) (W.contents out.new.inner)) }
+    ensures fails { (o : Options) → (pieces : List Judged → Judged → List ℕ) → (text : List ℕ) → (printed : List ℕ) →
+        Fed S.stands S.piece (at_rest symbols.now lines.old printer.old output.old) o pieces text printed →
+        IfErr result (EndsIll o pieces out.new.failed (W.contents out.old.inner) (W.contents out.new.inner) text printed) }
+    ensures works { OnOk result (out.new.failed ≡ false) }
+{
+    match lines.close() {
+        Err(fault) => Err(RunFault::Text(fault)),
+        Ok(false) => Ok(()),
+        Ok(true) => match printer.put_line(&lines.line(), symbols, &[], output, out) {
+            Err(fault) => Err(fault),
+            Ok(()) => {
+                if output.write_out(out) {
+                    Ok(())
+                } else {
+                    Err(RunFault::Write)
+                }
+            }
+        },
+    }
+}
