@@ -2,3 +2,8 @@ pub mod SendingLemmas
 pub mod NameLemmas
 pub mod ReaderLemmas
 pub mod PrinterLemmas
+pub mod TakingLemmas
+pub mod StepLemmas
+pub mod FeedLemmas
+pub mod EndLemmas
+pub mod RunLemmas

@@ -1,12 +1,12 @@
 -- Names that are put one after another, and which lines have names.
-use Rattle.std.proofs.Common.{◌≡◌, ℕ, suc, ◌+◌, ◌-◌, List, [], ◌∷◌, ◌++◌, length, Bool, true, false, codes, if◌then◌else◌, refl, sym, ap, ap₂, subst, ◌∙◌, append_assoc, append-nil, Option, arith}
+use Rattle.std.proofs.Common.{◌≡◌, ℕ, suc, ◌-◌, List, [], ◌∷◌, ◌++◌, length, Bool, true, false, if◌then◌else◌, refl, sym, ap, ap₂, subst, ◌∙◌, append_assoc, append-nil, Option, arith}
 use Rattle.ud_model.specs.text.Lines.{Line}
 use Rattle.ud_model.specs.text.Scans.{Reading}
 use Rattle.ud_model.specs.sections.Directives.{Content, cut_keyword, directive, text, content_of}
-use Rattle.ud_model.specs.sections.Tree.{Item, Tree, lines, depth}
-use Rattle.ud_model.specs.sections.Items.{Options, reading_of, item_of, item_by, directive_item, read_after, mode_after, next_item}
+use Rattle.ud_model.specs.sections.Tree.{Item, Tree, depth}
+use Rattle.ud_model.specs.sections.Items.{Options, item_of, item_by, directive_item, read_after, mode_after, next_item}
 use Rattle.ud_model.specs.sections.Faults.{AreSound}
-use Rattle.ud_model.specs.conditions.Conditions.{Decision, decision_on}
+use Rattle.ud_model.specs.conditions.Conditions.{Decision}
 use Rattle.ud_model.specs.conditions.Names.{names_of}
 use Rattle.ud_model.specs.answer.Listing.{levels, listed, listed_names, depth_prefix, names_at, names_in_content}
 use Rattle.ud_model.specs.declared.kind.Kind.{Kind}

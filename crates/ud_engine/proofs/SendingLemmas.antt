@@ -234,3 +234,13 @@ pub parts_behind : (a b c : Option (List ℕ)) (old run mid new parts piece : Li
     Sent a b (old ++ run) mid → Sent b c (mid ++ parts) new → Sent a c (old ++ (run ++ piece)) new
 parts_behind a b c old run mid new parts piece e s h =
     subst (λ x. Sent a c x new) (append_assoc old run piece) (sent_then a b c (old ++ run) mid piece new s (subst (λ x. Sent b c (mid ++ x) new) e h))
+
+-- what was put is written out
+pub puts_out : (done : Bool) (a b c : Option (List ℕ)) (bytes all mid rest : List ℕ) → all ≡ bytes → Sent a b all mid → Puts done b c mid rest →
+    (done ≡ true → rest ≡ []) → Puts done a c bytes []
+puts_out true a b c bytes all mid rest e s t none =
+    subst (λ x. Sent a c x []) (append-nil all ∙ e)
+    (sent_then a b c all mid [] [] s (subst (λ x. Sent b c x []) (sym (append-nil mid)) (subst (λ x. Sent b c mid x) (none refl) t)))
+puts_out false a b c bytes all mid rest e s t none =
+    subst (λ x. AppendsFront a c x) (append-nil all ∙ e)
+    (sent_then_front a b c all mid [] s (subst (λ x. AppendsFront b c x) (sym (append-nil mid)) t))

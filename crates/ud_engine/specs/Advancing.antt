@@ -3,7 +3,7 @@
 --   run_in piece reached       the bytes of the piece that are to be written as they are
 --   Advances .. next           the bytes up to the next place were taken
 --   StopsAt .. f               the bytes after this place are faulty, or a write failed
-use Rattle.std.specs.Prelude.{◌≡◌, ℕ, ◌-◌, List, [], ◌++◌, take, drop, Option}
+use Rattle.std.specs.Prelude.{ℕ, ◌-◌, List, ◌++◌, take, drop, Option}
 use Rattle.ud_model.specs.sections.Items.{Options}
 use Rattle.ud_model.specs.answer.Printing.{Judged}
 use Rattle.ud_sections.specs.Sections.{fault_of}

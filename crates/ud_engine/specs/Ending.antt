@@ -7,7 +7,7 @@
 --   RanAs result r          what a run answers is this outcome
 use Rattle.std.specs.Prelude.{◌≡◌, ℕ, List, ◌++◌, Bool, true, false, Option, Some, None, Result, Ok, Err}
 use Rattle.std.specs.Io.KnownBytes.{Appends}
-use Rattle.ud_model.specs.text.Lines.{Line, lines_of}
+use Rattle.ud_model.specs.text.Lines.{lines_of}
 use Rattle.ud_model.specs.text.Scans.{Reading}
 use Rattle.ud_model.specs.conditions.Table.{Argument}
 use Rattle.ud_model.specs.sections.Tree.{Item, Tree}

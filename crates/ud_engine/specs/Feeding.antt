@@ -8,15 +8,15 @@
 --   Fails .. old new longer f    what was fed next is faulty, or a write failed
 use Rattle.std.specs.Prelude.{◌≡◌, ℕ, ◌<◌, ◌≤◌, List, [], ◌++◌, length, Bool, true, false, Option, Some, None}
 use Rattle.std.specs.Io.KnownBytes.{Appends}
-use Rattle.ud_model.specs.text.Lines.{Line, NoFeed, open_rest}
+use Rattle.ud_model.specs.text.Lines.{Line, NoFeed}
 use Rattle.ud_model.specs.text.Scans.{Reading}
 use Rattle.ud_model.specs.conditions.Table.{Argument}
-use Rattle.ud_model.specs.sections.Tree.{Item, Tree, depth}
+use Rattle.ud_model.specs.sections.Tree.{Item, Tree}
 use Rattle.ud_model.specs.sections.Items.{Options}
 use Rattle.ud_model.specs.sections.Faults.{Fault, too_many_lines, line_too_long}
 use Rattle.ud_model.specs.answer.Printing.{Judged}
 use Rattle.ud_model.specs.answer.Runs.{GoesThrough, ReadsSoFar, lines_so_far}
-use Rattle.ud_model.specs.declared.limits.TheConstants.{LINE_BYTES, TEXT_LINES, OPEN_SECTIONS}
+use Rattle.ud_model.specs.declared.limits.TheConstants.{LINE_BYTES, TEXT_LINES}
 use Rattle.ud_cond.specs.Standing.{StandsFor}
 use Rattle.ud_text.specs.Holding.{Holding, Took}
 use Rattle.ud_text.specs.declared.fault.TextFault.{TextFault}
@@ -26,7 +26,6 @@ use Rattle.ud_engine.specs.declared.fault.RunFault.{RunFault}
 use Rattle.ud_engine.specs.declared.fault.RunFault.TheVariants.{Text, Section, Read, Write}
 use Rattle.ud_engine.specs.declared.line_printer.LinePrinter.{LinePrinter}
 use Rattle.ud_engine.specs.Printing.{HasPrinted, text_by}
-use Rattle.ud_engine.specs.Sending.{Sent}
 use Rattle.ud_engine.specs.Watching.{AppendsFront}
 
 -- what the table says, the line so far, what has read the lines and prints them, what is gathered, and what was refused
@@ -58,6 +57,7 @@ pub record HasTaken {S : Type 0} (stands : S → List Judged → Type 0) (piece_
   pub took : Took e.lines text
   pub unrefused : e.lines.refusal ≡ None
   pub begun : 0 < length e.lines.held → e.lines.before < TEXT_LINES
+  pub count : e.lines.before ≤ TEXT_LINES
 
 -- so it is, nothing was refused, and nothing is left to be written
 pub record Fed {S : Type 0} (stands : S → List Judged → Type 0) (piece_of : S → List Judged → Judged → List ℕ) (e : Running S) (o : Options)

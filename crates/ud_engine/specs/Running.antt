@@ -1,10 +1,12 @@
 -- Running: how far a run is at its end.
 --
 --   KeptUp o read_old read_new old new   what was given but for the last piece has no fault, and what is printed of it is appended
-use Rattle.std.specs.Prelude.{◌≡◌, ℕ, ◌-◌, List, ◌++◌, length, take, Option, None}
+use Rattle.std.specs.Prelude.{◌≡◌, ℕ, ◌+◌, ◌*◌, ◌-◌, List, ◌++◌, length, take, Option, None}
 use Rattle.std.specs.Io.KnownBytes.{Appends, Consumes}
 use Rattle.ud_model.specs.sections.Items.{Options}
 use Rattle.ud_model.specs.answer.Runs.{Outcome, RunsSoFar}
+use Rattle.ud_model.specs.declared.limits.TheConstants.{LINE_BYTES, TEXT_LINES}
+use Rattle.ud_text.specs.Holding.{Holding}
 use Rattle.ud_engine.specs.declared.running.TheConstants.{PIECE_BYTES}
 
 -- of these bytes all but the last ones, of which a read gives no more
@@ -21,3 +23,7 @@ pub record KeptUp (o : Options) (read_old read_new old new : Option (List ℕ)) 
   pub right : outcome.fault ≡ None
   pub more : List ℕ
   pub appended : Appends old new (outcome.output ++ more)
+
+-- no more bytes than this fit before a limit is met
+abbrev pub room : Holding → ℕ
+room lines = (LINE_BYTES + 1) * (TEXT_LINES - lines.before) + (LINE_BYTES - length lines.held)

@@ -159,11 +159,7 @@ impl<'p, S: Show> Engine<'p, S> {
     ///
     /// # Errors
     /// As `feed`.
-    fn read_piece<W: Write>(
-        &mut self,
-        piece: &[u8],
-        out: &mut Watched<W>,
-    ) -> Result<(), RunFault>
+    fn read_piece<W: Write>(&mut self, piece: &[u8], out: &mut Watched<W>) -> Result<(), RunFault>
         requires works { out.old.failed ≡ false }
         ensures fed { (o : Options) → (pieces : List Judged → Judged → List ℕ) → (text : List ℕ) → (printed : List ℕ) →
             Fed S.stands S.piece self.old o pieces text printed →
@@ -225,15 +221,19 @@ impl<'p, S: Show> Engine<'p, S> {
                 }),
             };
         };
-        let end = reached.at + line.body.len() + line.ending.len();
-        match self.printer.print(&line, self.plan.symbols(), run, &mut self.output, out) {
-            Err(fault) => Err(fault),
-            Ok(true) => Ok(Reached { from: end, at: end }),
-            Ok(false) => Ok(Reached {
-                from: reached.from,
-                at: end,
-            }),
+        let end = reached.at + (line.body.len() + line.ending.len());
+        let printer = &mut self.printer;
+        let put = match printer.print(&line, self.plan.symbols(), run, &mut self.output, out) {
+            Ok(put) => put,
+            Err(fault) => return Err(fault),
+        };
+        if put {
+            return Ok(Reached { from: end, at: end });
         }
+        Ok(Reached {
+            from: reached.from,
+            at: end,
+        })
     }
 
     /// Takes bytes up to the first line feed, and puts what is printed of the line that they end after the run of bytes
@@ -267,11 +267,10 @@ impl<'p, S: Show> Engine<'p, S> {
             Err(fault) => return Err(RunFault::Text(fault)),
         };
         if !taken.whole {
-            return if self.output.put(run, out) {
-                Ok(taken.used)
-            } else {
-                Err(RunFault::Write)
-            };
+            if !self.output.put(run, out) {
+                return Err(RunFault::Write);
+            }
+            return Ok(taken.used);
         }
         let printed = self.printer.put_line(
             &self.lines.line(),
@@ -281,10 +280,10 @@ impl<'p, S: Show> Engine<'p, S> {
             out,
         );
         self.lines.clear();
-        match printed {
-            Ok(()) => Ok(taken.used),
-            Err(fault) => Err(fault),
+        if let Err(fault) = printed {
+            return Err(fault);
         }
+        Ok(taken.used)
     }
 
     /// What ends the run: this fault, after what is to be written of the lines before it; or a write that fails.

@@ -11,8 +11,8 @@ mod reader;
 mod running;
 mod watched;
 
-pub use engine::Engine;
 pub use emitting::emit;
+pub use engine::Engine;
 pub use fault::RunFault;
 pub use running::run;
 pub use watched::Watched;

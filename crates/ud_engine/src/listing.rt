@@ -36,12 +36,7 @@ pub(crate) fn put_names<W: Write>(
 ///
 /// # Errors
 /// As `put_names`.
-fn put_name<W: Write>(
-    output: &mut Output,
-    prefix: &[u8],
-    name: &[u8],
-    out: &mut Watched<W>,
-) -> bool
+fn put_name<W: Write>(output: &mut Output, prefix: &[u8], name: &[u8], out: &mut Watched<W>) -> bool
     requires works { out.old.failed ≡ false }
     ensures puts { Puts result (W.contents out.old.inner) (W.contents out.new.inner) (output.old ++ name_line prefix.now name.now) output.new }
     ensures failed { out.new.failed ≡ not result }

@@ -1,4 +1,4 @@
-use Rattle.std.proofs.Common.{rules, ◌++◌, ◌∙◌, ap, subst, sym, not, bytes_eq}
+use Rattle.std.proofs.Common.{◌∙◌, ap, not, bytes_eq}
 use Rattle.ud_model.specs.text.Lines.{text_of}
 use Rattle.ud_text.specs.LineViews.{as_line}
 use Rattle.ud_engine.proofs.SendingLemmas.{run_refused, parts_refused_behind, parts_behind}

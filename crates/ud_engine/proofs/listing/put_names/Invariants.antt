@@ -1,5 +1,4 @@
-use Rattle.std.proofs.Common.{◌≡◌, ◌++◌, false}
-use Rattle.ud_model.specs.answer.Listing.{listed_names}
+use Rattle.std.proofs.Common.{◌≡◌, false}
 use Rattle.ud_engine.proofs.NameLemmas.{NamesPut}
 use Rattle.ud_engine.proofs.listing.put_names.Given as goal
 

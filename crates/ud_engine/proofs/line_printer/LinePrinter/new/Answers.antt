@@ -1,4 +1,4 @@
-use Rattle.std.proofs.Common.{ap, sym, subst, ◌∙◌}
+use Rattle.std.proofs.Common.{ap, sym, ◌∙◌}
 use Rattle.ud_model.specs.declared.settings.Settings.{Settings}
 use Rattle.ud_engine.specs.Printing.{lister_of}
 use Rattle.ud_engine.proofs.PrinterLemmas.{none_differ}

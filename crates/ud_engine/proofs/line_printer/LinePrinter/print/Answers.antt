@@ -1,4 +1,4 @@
-use Rattle.std.proofs.Common.{refl, sym, rules, ◌≡◌, Option, Some, None, Bool}
+use Rattle.std.proofs.Common.{refl, rules}
 use Rattle.ud_text.specs.LineViews.{as_line}
 use Rattle.ud_model.specs.answer.Printing.{judged_lines}
 use Rattle.ud_model.specs.sections.Pruning.{marks}

@@ -1,5 +1,4 @@
-use Rattle.std.proofs.Common.{rules, ◌++◌, [], ℕ, List, Bor, take}
-use Rattle.std.specs.List.{flat_map}
+use Rattle.std.proofs.Common.{rules, [], ℕ, List, Bor}
 use Rattle.ud_engine.proofs.SendingLemmas.{parts_put, parts_refused}
 use Rattle.ud_engine.proofs.output.Output.put_parts.Goals as goal
 

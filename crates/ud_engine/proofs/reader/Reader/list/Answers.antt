@@ -1,11 +1,9 @@
-use Rattle.std.proofs.Common.{map, ap, sym, ◌∙◌, ◌≡◌, ◌-◌, ◌++◌, IfOk, IfErr, Result, rules}
+use Rattle.std.proofs.Common.{map, ap, ◌∙◌, ◌-◌}
 use Rattle.ud_model.specs.text.Scanning.{scan_after}
 use Rattle.ud_model.specs.sections.Items.{reading_of}
 use Rattle.ud_model.specs.sections.Directives.{content_of}
 use Rattle.ud_model.specs.answer.Listing.{names_in_content, depth_prefix}
-use Rattle.ud_sections.specs.Sections.{ReadsLine}
-use Rattle.ud_text.specs.LineViews.{as_line, as_scan}
-use Rattle.ud_engine.specs.Reading.{ReadsOne}
+use Rattle.ud_text.specs.LineViews.{as_line}
 use Rattle.ud_engine.proofs.ReaderLemmas.{has_next}
 use Rattle.ud_engine.proofs.NameLemmas.{lists_one, listing_fails, run_fails}
 use Rattle.ud_engine.proofs.reader.Reader.list.Goals as goal

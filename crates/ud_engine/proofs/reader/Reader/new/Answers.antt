@@ -1,4 +1,3 @@
-use Rattle.std.proofs.Common.{refl, []}
 use Rattle.ud_engine.proofs.reader.Reader.new.Goals as goal
 
 pub returns : goal.returns

@@ -1,0 +1,184 @@
+-- Ending: what the end of a text leaves of an engine.
+use Rattle.std.proofs.Common.{◌≡◌, ℕ, suc, ◌<◌, Bool, true, false, List, [], ◌∷◌, ◌++◌, length, Option, Some, None, refl, sym, ◌∙◌, ap, subst, append-nil, arith}
+use Rattle.std.specs.Io.KnownBytes.{Appends}
+use Rattle.std.proofs.KnownBytes.{Appends-nil}
+use Rattle.ud_model.specs.text.Lines.{Line, whole_lines, last_line, line_at, numbered_from, lines_of}
+use Rattle.ud_model.specs.sections.Items.{Options, next_item}
+use Rattle.ud_model.specs.sections.Faults.{Fault, end_fault}
+use Rattle.ud_model.specs.answer.Printing.{Judged}
+use Rattle.ud_model.specs.answer.Runs.{GoesThrough, ReadsAs, lines_so_far, stops, ends}
+use Rattle.ud_model.proofs.text.LinesLemmas.{last_line-some, numbered_from-next}
+use Rattle.ud_model.specs.conditions.Table.{Argument}
+use Rattle.ud_cond.specs.Standing.{StandsFor}
+use Rattle.ud_text.specs.Holding.{Holding}
+use Rattle.ud_sections.proofs.NextLemmas.{lines_more}
+use Rattle.ud_sections.specs.Sections.{fault_of}
+use Rattle.ud_engine.specs.declared.fault.RunFault.{RunFault}
+use Rattle.ud_engine.specs.declared.fault.RunFault.TheVariants.{Text, Section, Read, Write}
+use Rattle.ud_engine.specs.declared.line_printer.LinePrinter.{LinePrinter}
+use Rattle.ud_engine.specs.Ending.{at_rest, PrintsAll, EndsAt, EndsShort, EndsWell, EndsIll}
+use Rattle.ud_engine.specs.Feeding.{Running, HasTaken, Fed}
+use Rattle.ud_engine.specs.Printing.{PrintsLine, PrintFails, differs_in}
+use Rattle.ud_engine.specs.Refusing.{LeavesOutput}
+use Rattle.ud_engine.specs.Sending.{Sent}
+use Rattle.ud_engine.specs.Watching.{Watching, AppendsFront}
+use Rattle.ud_engine.proofs.SendingLemmas.{sent_then_front, sent_part}
+use Rattle.ud_engine.proofs.TakingLemmas.{before_is, rest_is}
+
+-- a rest of no bytes is no line
+no_last : (r : List ℕ) → (0 < length r → ⊥) → last_line r ≡ []
+no_last [] none = refl
+no_last (b ∷ bs) none = absurd (none (omega arith))
+
+module _ {S : Type 0} (stands : S → List Judged → Type 0) (piece_of : S → List Judged → Judged → List ℕ) (o : Options) (piece : List Judged → Judged → List ℕ)
+    (e : Running S) (text printed : List ℕ) (fed : Fed stands piece_of e o piece text printed) where
+  abbrev h : HasTaken stands piece_of e o piece text printed
+  h = fed.taken
+
+  -- the same engine, by its parts
+  pub rests : (symbols : List Argument) → symbols ≡ e.symbols → Fed stands piece_of (at_rest symbols e.lines e.printer e.gathered) o piece text printed
+  rests symbols same = record {
+    taken = record {
+      items = h.items;
+      tree = h.tree;
+      goes = h.goes;
+      has = h.has;
+      printed_is = h.printed_is;
+      symbols = subst (λ s. StandsFor s o.table) (sym same) h.symbols;
+      opened = h.opened;
+      took = h.took;
+      unrefused = h.unrefused;
+      begun = h.begun;
+      count = h.count;
+    };
+    works = refl;
+    written = fed.written;
+  }
+
+  -- if nothing is held, all lines are read
+  pub all_read : (0 < length e.lines.held → ⊥) → lines_of text ≡ lines_so_far text
+  all_read none =
+      ap (numbered_from 1)
+      (ap (λ (r : List ℕ). whole_lines text ++ last_line r) (rest_is stands piece_of o piece e text printed h)
+      ∙ ap (λ (ls : List (List ℕ)). whole_lines text ++ ls) (no_last e.lines.held none) ∙ append-nil (whole_lines text))
+
+  pub ends_held : (a : Option (List ℕ)) → (0 < length e.lines.held → ⊥) → PrintsAll stands piece_of e.printer o piece text printed a a
+  ends_held a none = record {
+    items = h.items;
+    tree = h.tree;
+    goes = record { sound = h.goes.sound; are = all_read none ∙ h.goes.are };
+    has = h.has;
+    more = [];
+    printed_is = append-nil printed ∙ h.printed_is;
+    appended = Appends-nil a;
+  }
+
+  module _ (some : 0 < length e.lines.held) (lines : Holding) (closed : lines ≡ record e.lines { closed = true }) (l : Line) (is : l ≡ line_at (suc lines.before) lines.held) where
+    -- what is held is the last line
+    pub last_is : lines_of text ≡ lines_so_far text ++ l ∷ []
+    last_is =
+        ap (numbered_from 1)
+        (ap (λ (r : List ℕ). whole_lines text ++ last_line r) (rest_is stands piece_of o piece e text printed h)
+        ∙ ap (λ (ls : List (List ℕ)). whole_lines text ++ ls) (last_line-some e.lines.held (λ none. let z = ap length none in omega (arith, z, some))))
+        ∙ numbered_from-next (whole_lines text) e.lines.held []
+        ∙ ap (λ k. lines_so_far text ++ k ∷ [])
+        (ap (λ n. line_at (suc n) e.lines.held) (sym (before_is stands piece_of o piece e text printed h))
+        ∙ sym (ap (λ (k : Holding). line_at (suc k.before) k.held) closed) ∙ sym is)
+
+    module _ (p : LinePrinter S) (a b : Option (List ℕ)) (left : List ℕ) (prints : PrintsLine stands piece_of p o piece h.items h.tree l true a b e.gathered left []) where
+      last_goes : GoesThrough o (lines_of text) (h.items ++ next_item o h.items h.tree l ∷ []) prints.tree
+      last_goes = record {
+        sound = prints.has.has.read.sound;
+        are = last_is ∙ ap (λ ls. ls ++ l ∷ []) h.goes.are ∙ sym (lines_more o h.items h.tree l);
+      }
+
+      last_sent : Sent a b prints.more left
+      last_sent = subst (λ x. Sent a b (x ++ ([] ++ prints.more)) left) fed.written prints.goes
+
+      -- the last line is printed, and all is written
+      pub last_printed : (c : Option (List ℕ)) → Sent b c left [] → PrintsAll stands piece_of p o piece text printed a c
+      last_printed c s = record {
+        items = h.items ++ next_item o h.items h.tree l ∷ [];
+        tree = prints.tree;
+        goes = last_goes;
+        has = prints.has;
+        more = prints.more;
+        printed_is = ap (λ x. x ++ prints.more) h.printed_is ∙ sym prints.is_more;
+        appended =
+            let all = sent_part a b c prints.more left [] (subst (λ x. Sent a b prints.more x) (sym (append-nil left)) last_sent)
+            (subst (λ x. Appends b c x) (sym (s.joined ∙ append-nil s.front)) s.appended) in
+            subst (λ x. Appends a c x) (sym (all.joined ∙ append-nil all.front)) all.appended;
+      }
+
+      -- a write fails after it is printed
+      pub last_cut : (c : Option (List ℕ)) → AppendsFront b c left → EndsShort o piece text printed a c
+      last_cut c front = record {
+        items = h.items ++ next_item o h.items h.tree l ∷ [];
+        tree = prints.tree;
+        goes = last_goes;
+        more = prints.more;
+        printed_is = ap (λ x. x ++ prints.more) h.printed_is ∙ sym prints.is_more;
+        front =
+            subst (λ x. AppendsFront a c x) (append-nil prints.more)
+            (sent_then_front a b c prints.more left [] last_sent (subst (λ x. AppendsFront b c x) (sym (append-nil left)) front));
+      }
+
+    -- the last line is faulty, or a write fails
+    pub last_fails : {W : Type 0} (contents : W → Option (List ℕ)) (old new : Watching W) (gathered left : List ℕ) → gathered ≡ [] → old.failed ≡ false → (f : RunFault) →
+        PrintFails o piece h.items h.tree l (contents old.inner) (contents new.inner) gathered [] f → LeavesOutput old new gathered left f →
+        EndsIll o piece new.failed (contents old.inner) (contents new.inner) text printed f
+    last_fails contents old new gathered left none works (Section f) fails leaves = (
+      ap (λ w. w.failed) leaves.0 ∙ works,
+      record {
+        items = h.items;
+        tree = h.tree;
+        reads = stops h.items h.tree (fault_of f) (record {
+          sound = h.goes.sound;
+          faulty = l;
+          later = [];
+          are = last_is ∙ ap (λ ls. ls ++ l ∷ []) h.goes.are;
+          fault = fails;
+        });
+        more = [];
+        printed_is = append-nil printed ∙ h.printed_is;
+        appended = subst (λ x. Appends (contents old.inner) x []) (sym (ap (λ w. contents w.inner) leaves.0)) (Appends-nil (contents old.inner));
+      },
+    )
+    last_fails contents old new gathered left none works Write fails leaves = (
+      leaves,
+      record {
+        items = h.items ++ next_item o h.items h.tree l ∷ [];
+        tree = fails.tree;
+        goes = record { sound = fails.sound; are = last_is ∙ ap (λ ls. ls ++ l ∷ []) h.goes.are ∙ sym (lines_more o h.items h.tree l) };
+        more = fails.more;
+        printed_is = ap (λ x. x ++ fails.more) h.printed_is ∙ sym fails.is_more;
+        front = subst (λ x. AppendsFront (contents old.inner) (contents new.inner) (x ++ ([] ++ fails.more))) none fails.front;
+      },
+    )
+    last_fails contents old new gathered left none works (Text f) fails leaves = absurd fails
+    last_fails contents old new gathered left none works Read fails leaves = absurd fails
+
+module _ {S : Type 0} (stands : S → List Judged → Type 0) (piece_of : S → List Judged → Judged → List ℕ) (p : LinePrinter S) (o : Options) (piece : List Judged → Judged → List ℕ)
+    (text printed : List ℕ) (a b : Option (List ℕ)) (all : PrintsAll stands piece_of p o piece text printed a b) where
+  -- the end is faulty
+  pub ends_at : (f : Fault) → Some f ≡ end_fault all.items all.tree → EndsAt o piece text printed a b f
+  ends_at f e = record {
+    items = all.items;
+    tree = all.tree;
+    reads = subst (λ k. ReadsAs o text all.items all.tree k) (sym e) (ends all.items all.tree all.goes);
+    more = all.more;
+    printed_is = all.printed_is;
+    appended = all.appended;
+  }
+
+  -- the text is right
+  pub ends_well : (differs : Bool) → None ≡ end_fault all.items all.tree → differs ≡ differs_in o.settings.listing piece all.items all.tree → EndsWell o piece text printed a b differs
+  ends_well differs e d = record {
+    items = all.items;
+    tree = all.tree;
+    reads = subst (λ k. ReadsAs o text all.items all.tree k) (sym e) (ends all.items all.tree all.goes);
+    more = all.more;
+    printed_is = all.printed_is;
+    appended = all.appended;
+    differs_is = d;
+  }
