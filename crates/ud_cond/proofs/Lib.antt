@@ -1,7 +1,8 @@
 pub mod TableLemmas
 mod SortedLemmas
 pub mod ReadingLemmas
-pub mod DescentLemmas
+pub mod AskingLemmas
+pub mod StackLemmas
 pub mod WorthLemmas
 pub mod NamingLemmas
 pub mod DigitLemmas

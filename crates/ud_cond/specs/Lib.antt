@@ -1,5 +1,6 @@
 pub mod Standing
 pub mod CondViews
 pub mod Worth
-pub mod Descent
+pub mod Stacks
+pub mod Asking
 pub mod Naming

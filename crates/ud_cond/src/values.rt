@@ -14,7 +14,7 @@ use crate::symbols::{Entry, Symbols};
 use ud_model::Operator;
 
 /// What a part of an expression is worth.
-#[derive(Clone, Copy)]
+#[derive(Clone, Copy, Default)]
 pub(crate) struct Value {
     /// Its number; `None` where it is unknown.
     pub(crate) number: Option<i64>,
