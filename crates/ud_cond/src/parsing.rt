@@ -24,13 +24,19 @@ use ud_model::LINE_BYTES;
 const SHORT_BYTES: usize = 64;
 
 /// The most operands that wait in a short text.
-const SHORT_OPERANDS: usize = 32;
+const SHORT_OPERANDS: usize = SHORT_BYTES / 2;
 
-/// The most bytes of a text of middle size.
-const MIDDLE_BYTES: usize = 1024;
+/// The most bytes of a longer text.
+const LONGER_BYTES: usize = 256;
 
-/// The most operands that wait in a text of middle size.
-const MIDDLE_OPERANDS: usize = 512;
+/// The most operands that wait in a longer text.
+const LONGER_OPERANDS: usize = LONGER_BYTES / 2;
+
+/// The most bytes of a long text.
+const LONG_BYTES: usize = 1024;
+
+/// The most operands that wait in a long text.
+const LONG_OPERANDS: usize = LONG_BYTES / 2;
 
 /// The most operands that wait in a line.
 const LINE_OPERANDS: usize = LINE_BYTES / 2;
@@ -165,6 +171,7 @@ fn finish<const BYTES: usize, const OPERANDS: usize>(
 }
 
 /// What the expression of a text of at most `BYTES` bytes is worth; `None` where the text isn't one expression.
+#[inline(never)]
 fn read<const BYTES: usize, const OPERANDS: usize>(scope: &Scope<'_>, text: &[u8]) -> Option<Value>
     requires fits { length text.now ≤ BYTES }
     requires stacks { Suffice BYTES OPERANDS }
@@ -197,11 +204,10 @@ pub(crate) fn whole(scope: &Scope<'_>, text: &[u8]) -> Option<Value>
     requires fits { length text.now ≤ LINE_BYTES }
     ensures { result ≡ spec.reads (worth_in scope.now) (spec.needs []) text.now }
 {
-    if text.len() <= SHORT_BYTES {
-        read::<SHORT_BYTES, SHORT_OPERANDS>(scope, text)
-    } else if text.len() <= MIDDLE_BYTES {
-        read::<MIDDLE_BYTES, MIDDLE_OPERANDS>(scope, text)
-    } else {
-        read::<LINE_BYTES, LINE_OPERANDS>(scope, text)
+    match text.len() {
+        0..=SHORT_BYTES => read::<SHORT_BYTES, SHORT_OPERANDS>(scope, text),
+        0..=LONGER_BYTES => read::<LONGER_BYTES, LONGER_OPERANDS>(scope, text),
+        0..=LONG_BYTES => read::<LONG_BYTES, LONG_OPERANDS>(scope, text),
+        _ => read::<LINE_BYTES, LINE_OPERANDS>(scope, text),
     }
 }

@@ -18,12 +18,12 @@ use ud_model::Operator;
 /// What waits on the stack of operators.
 #[derive(Clone, Copy)]
 pub(crate) enum Waiting {
+    /// An open parenthesis.
+    Opening,
     /// An operator whose left operand waits on the other stack.
     Between(Operator),
     /// An operator before its one operand.
     Before(Operator),
-    /// An open parenthesis.
-    Opening,
 }
 
 impl Default for Waiting {
