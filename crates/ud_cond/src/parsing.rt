@@ -27,7 +27,7 @@ const SHORT_BYTES: usize = 64;
 const SHORT_OPERANDS: usize = SHORT_BYTES / 2;
 
 /// The most bytes of a longer text.
-const LONGER_BYTES: usize = 256;
+const LONGER_BYTES: usize = 128;
 
 /// The most operands that wait in a longer text.
 const LONGER_OPERANDS: usize = LONGER_BYTES / 2;

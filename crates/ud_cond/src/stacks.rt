@@ -32,13 +32,68 @@ impl Default for Waiting {
     }
 }
 
+/// A left operand, in no more room than its number and facts take.
+#[derive(Default, Drop)]
+struct Operand {
+    /// Its number, if that is known.
+    number: i64,
+    /// Whether the number is known.
+    is_known: bool,
+    /// A constant in it, or one at which the value of a symbol in it ends, has a `u`.
+    has_u: bool,
+    /// A symbol of the table stands in it.
+    is_listed: bool,
+    /// An undefined symbol with arguments stands in it.
+    is_spoiled: bool,
+}
+
+impl Model for Operand {
+    ghost use Rattle.std.specs.Prelude.{Some, None, if◌then◌else◌};
+    ghost use Rattle.ud_cond.specs.declared.values.Value as declared;
+
+    ghost Value = { declared.Value };
+
+    ghost view = { λ o. record { number = if o.is_known then Some o.number else None; unsigned = o.has_u; listed = o.is_listed; spoiled = o.is_spoiled } };
+}
+
+impl Operand {
+    /// A value as it waits.
+    fn of(value: Value) -> Operand
+        ensures { result ≡ value }
+    {
+        Operand {
+            number: value.number.unwrap_or(0),
+            is_known: value.number.is_some(),
+            has_u: value.unsigned,
+            is_listed: value.listed,
+            is_spoiled: value.spoiled,
+        }
+    }
+
+    /// The value that waits.
+    fn value(&self) -> Value
+        ensures { result ≡ self.now }
+    {
+        Value {
+            number: if self.is_known {
+                Some(self.number)
+            } else {
+                None
+            },
+            unsigned: self.has_u,
+            listed: self.is_listed,
+            spoiled: self.is_spoiled,
+        }
+    }
+}
+
 /// What waits while a text of at most `BYTES` bytes is read.
 #[derive(Drop)]
 pub(crate) struct Stacks<const BYTES: usize, const OPERANDS: usize> {
     /// Operators and parentheses; the last one is the innermost.
     operators: ArrayVec<Waiting, BYTES>,
     /// The left operands of those operators that have one.
-    operands: ArrayVec<Value, OPERANDS>,
+    operands: ArrayVec<Operand, OPERANDS>,
 }
 
 impl<const BYTES: usize, const OPERANDS: usize> Model for Stacks<BYTES, OPERANDS> {
@@ -80,7 +135,7 @@ impl<const BYTES: usize, const OPERANDS: usize> Stacks<BYTES, OPERANDS> {
         ensures { self.new ≡ left operator operand ∷ self.old }
     {
         self.operators.push(Waiting::Between(operator));
-        self.operands.push(operand);
+        self.operands.push(Operand::of(operand));
     }
 
     /// An operator waits before its operand.
@@ -126,7 +181,7 @@ impl<const BYTES: usize, const OPERANDS: usize> Stacks<BYTES, OPERANDS> {
                     return None;
                 }
                 let operand = self.operands.pop().unwrap();
-                Some((operator, Some(operand)))
+                Some((operator, Some(operand.value())))
             }
             Some(Waiting::Before(operator)) => Some((operator, None)),
             Some(Waiting::Opening) => {

@@ -15,7 +15,7 @@ use ud_model::Operator;
 use ud_model::bytes::is_identifier;
 
 /// What a part of an expression is worth.
-#[derive(Clone, Copy, Default)]
+#[derive(Clone, Copy)]
 pub(crate) struct Value {
     /// Its number; `None` where it is unknown.
     pub(crate) number: Option<i64>,
