@@ -1,5 +1,6 @@
 pub mod TableLemmas
 mod SortedLemmas
+mod MarkLemmas
 pub mod ReadingLemmas
 pub mod AskingLemmas
 pub mod StackLemmas
