@@ -1,7 +1,10 @@
 pub mod TableLemmas
 mod SortedLemmas
+mod MarkLemmas
 pub mod ReadingLemmas
-pub mod DescentLemmas
+pub mod AskingLemmas
+pub mod StackLemmas
+pub mod NamedLemmas
 pub mod WorthLemmas
 pub mod NamingLemmas
 pub mod DigitLemmas

@@ -1,5 +1,7 @@
 pub mod Standing
+pub mod Marking
 pub mod CondViews
 pub mod Worth
-pub mod Descent
+pub mod Stacks
+pub mod Asking
 pub mod Naming

@@ -5,13 +5,14 @@
 --   worth table strict u   what each part of an expression is worth, u saying whether the whole has a `u`
 --   worth_of table strict u e   what a tree is worth
 --   decided rules v        what a value decides
-use Rattle.std.specs.Prelude.{ℕ, List, [], Option, Some, None, Bool, false, ◌||◌, ◌&&◌, not, if◌then◌else◌}
+use Rattle.std.specs.Prelude.{ℕ, List, [], Option, Some, None, Bool, true, false, ◌||◌, ◌&&◌, not, if◌then◌else◌}
 use Rattle.std.specs.Borrow.{Bor}
 use Rattle.ud_model.specs.conditions.Table.{Argument, entry_in}
 use Rattle.ud_model.specs.conditions.Constants.{has_u}
+use Rattle.ud_model.specs.conditions.Symbols.{end_of}
 use Rattle.ud_model.specs.conditions.Expressions.{Expression}
 use Rattle.ud_model.specs.aids.Parsing.{Meaning}
-use Rattle.ud_model.specs.conditions.Values.{constant_value, name_value, name_has_u, defined_value, alter, combine, number_of, has_unsigned}
+use Rattle.ud_model.specs.conditions.Values.{constant_value, end_value, name_value, name_has_u, defined_value, alter, combine, number_of, has_unsigned}
 use Rattle.ud_model.specs.conditions.Conditions.{Rules, is_listed, undefined_by, names_listed, calls_undefined, truth_of}
 use Rattle.ud_model.specs.declared.operator.Operator.{Operator}
 use Rattle.ud_model.specs.declared.cond.Cond.{Cond}
@@ -26,6 +27,10 @@ module _ (table : List Argument) where
   abbrev pub name_worth : Bool → List ℕ → Bool → Value
   name_worth u n arguments =
       record { number = name_value table u n; unsigned = name_has_u table n; listed = is_listed table n; spoiled = arguments && undefined_by (entry_in table n) }
+
+  -- of a name that the table defines
+  abbrev pub defined_name_worth : Bool → List ℕ → Value
+  defined_name_worth u n = record { number = end_value u (end_of table n); unsigned = name_has_u table n; listed = true; spoiled = false }
 
   abbrev pub defined_worth : List ℕ → Value
   defined_worth n = record { number = defined_value table n; unsigned = false; listed = is_listed table n; spoiled = false }

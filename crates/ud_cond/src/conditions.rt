@@ -48,6 +48,7 @@ fn decided(rules: Rules, value: Value) -> Cond
 
 /// What is decided of the text of an `#if` or `#elif`.
 fn expression_cond(text: &[u8], symbols: &Symbols, rules: Rules) -> Cond
+    requires fits { length text.now ≤ LINE_BYTES }
     ensures { result ≡ spec.expression_cond text.now symbols.now (as_rules rules) }
 {
     let signed = Scope {
@@ -125,6 +126,7 @@ fn negated(cond: Cond) -> Cond
 
 /// What is decided by these very rows.
 fn decide(kind: Kind, text: &[u8], symbols: &Symbols, rules: Rules) -> Answer
+    requires fits { length text.now ≤ LINE_BYTES }
     ensures { as_decision result ≡ spec.condition_of kind text.now symbols.now (as_rules rules) }
 {
     match kind {

@@ -2,15 +2,18 @@
 //!
 //! What a list of calls says of a name stands in ud_model, specs/conditions/Table.antt; what a condition is, in specs/conditions/Conditions.antt.
 //! `specs/Standing.antt` says what a `Symbols` stands for, `specs/Worth.antt` what is kept of an expression while
-//! `parsing` reads it, and `specs/Descent.antt` how.
+//! `parsing` reads it, and `specs/Stacks.antt` what waits meanwhile.
 #![tactic(auto)]
 
 mod conditions;
 mod constants;
 mod fault;
 mod listed;
+mod marks;
 mod naming;
+mod operators;
 mod parsing;
+mod stacks;
 mod symbols;
 mod tokens;
 mod values;

@@ -14,6 +14,7 @@ use ud_model::Kind;
 
 /// Whether a text is one expression.
 fn is_expression(text: &[u8]) -> bool
+    requires fits { length text.now ≤ LINE_BYTES }
     ensures { result ≡ is_some (expression_of text.now) }
 {
     let scope = Scope {
@@ -26,6 +27,7 @@ fn is_expression(text: &[u8]) -> bool
 
 /// The names of an expression; none where the text isn't one.
 fn expression_names(text: &[u8]) -> Names<'_>
+    requires fits { length text.now ≤ LINE_BYTES }
     ensures { result ≡ names_in_tree (expression_of text.now) }
 {
     if is_expression(text) {

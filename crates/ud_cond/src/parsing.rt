@@ -1,53 +1,49 @@
-//! What an expression is worth, by recursive descent over its bytes.
+//! What an expression is worth, read token by token over two stacks of fixed size.
 //!
-//! No tree is built and no memory is taken. A call goes one deeper for each prefix operator, open parenthesis and right
-//! operand, each of which has a byte, so the calls go no deeper than twice as many as the text has bytes.
-//! `specs/Descent.antt` says what the front of a text is read as; an operator of another level needs a `level` alone.
+//! No tree is built and no memory is taken. ud_model, specs/aids/Parsing.antt, says what a text means in a state; what waits in
+//! it are the stacks, and an operand has come or has to come. A stack of the longest line is costly to clear, so a short
+//! text is read with short stacks.
 
-ghost use Rattle.std.specs.Prelude.{◌≡◌, ◌≤◌, option_map, []};
+ghost use Rattle.std.specs.Prelude.{◌≡◌, ◌≤◌, ◌<◌, ◌+◌, ◌*◌, option_map, length, IfSome, IfNone, None, []};
 ghost use Rattle.ud_model.specs.conditions.Tokens.{next_token as token_of};
-ghost use Rattle.ud_model.specs.conditions.Expressions as trees;
 ghost use Rattle.ud_model.specs.aids.Parsing as spec;
-ghost use Rattle.ud_cond.specs.Descent as descent;
-ghost use Rattle.ud_cond.specs.Descent.{Parses, Asks};
+ghost use Rattle.ud_model.specs.declared.limits.TheConstants.{LINE_BYTES};
+ghost use Rattle.ud_cond.specs.Asking as asking;
+ghost use Rattle.ud_cond.specs.Asking.{Asks};
+ghost use Rattle.ud_cond.specs.CondViews.{as_token};
+ghost use Rattle.ud_cond.specs.Stacks.{Suffice, weight, state, pending};
 ghost use Rattle.ud_cond.specs.Worth.{worth_in};
 
+use crate::operators::{is_prefix, level};
+use crate::stacks::Stacks;
 use crate::tokens::{Next, Token, next_token};
-use crate::values::{Scope, Value, binary, constant, defined, named, unary};
-use ud_model::Operator;
+use crate::values::{Scope, Value, constant, defined, named};
+use ud_model::LINE_BYTES;
 
-/// The level of an operator between two operands, 1 being the loosest; 0 where it stands between none.
-fn level(operator: Operator) -> u8
-    ensures value { result ≡ trees.level operator }
-    ensures bound { result ≤ 9 }
-{
-    match operator {
-        Operator::Or => 1,
-        Operator::And => 2,
-        Operator::BitOr => 3,
-        Operator::BitXor => 4,
-        Operator::BitAnd => 5,
-        Operator::Equal | Operator::NotEqual => 6,
-        Operator::Less | Operator::LessEqual | Operator::Greater | Operator::GreaterEqual => 7,
-        Operator::Plus | Operator::Minus => 8,
-        Operator::Times | Operator::Over | Operator::Remainder => 9,
-        Operator::Not | Operator::Complement => 0,
-    }
-}
+/// The most bytes of a short text.
+const SHORT_BYTES: usize = 64;
 
-/// Whether an operator may stand before its one operand.
-fn is_prefix(operator: Operator) -> bool
-    ensures { result ≡ trees.is_prefix operator }
-{
-    matches!(
-        operator,
-        Operator::Not | Operator::Complement | Operator::Minus
-    )
-}
+/// The most operands that wait in a short text.
+const SHORT_OPERANDS: usize = SHORT_BYTES / 2;
+
+/// The most bytes of a longer text.
+const LONGER_BYTES: usize = 128;
+
+/// The most operands that wait in a longer text.
+const LONGER_OPERANDS: usize = LONGER_BYTES / 2;
+
+/// The most bytes of a long text.
+const LONG_BYTES: usize = 1024;
+
+/// The most operands that wait in a long text.
+const LONG_OPERANDS: usize = LONG_BYTES / 2;
+
+/// The most operands that wait in a line.
+const LINE_OPERANDS: usize = LINE_BYTES / 2;
 
 /// A name without arguments in front, and what follows it.
 fn plain_name(text: &[u8]) -> Option<(&[u8], &[u8])>
-    ensures { option_map (λ r. (r.0.now, r.1.now)) result ≡ descent.plain_name (token_of text.now) }
+    ensures { option_map (λ r. (r.0.now, r.1.now)) result ≡ asking.plain_name (token_of text.now) }
 {
     match next_token(text) {
         Next::Found(Token::Name(name, false), rest) => Some((name, rest)),
@@ -57,7 +53,7 @@ fn plain_name(text: &[u8]) -> Option<(&[u8], &[u8])>
 
 /// What follows a `(` in front.
 fn behind_opening(text: &[u8]) -> Option<&[u8]>
-    ensures { option_map (λ r. r.now) result ≡ descent.behind_opening (token_of text.now) }
+    ensures { option_map (λ r. r.now) result ≡ asking.behind_opening (token_of text.now) }
 {
     match next_token(text) {
         Next::Found(Token::Opening, rest) => Some(rest),
@@ -67,20 +63,10 @@ fn behind_opening(text: &[u8]) -> Option<&[u8]>
 
 /// What follows a `)` in front.
 fn behind_closing(text: &[u8]) -> Option<&[u8]>
-    ensures { option_map (λ r. r.now) result ≡ descent.behind_closing (token_of text.now) }
+    ensures { option_map (λ r. r.now) result ≡ asking.behind_closing (token_of text.now) }
 {
     match next_token(text) {
         Next::Found(Token::Closing, rest) => Some(rest),
-        _ => None,
-    }
-}
-
-/// An operator in front, and what follows it.
-fn next_operator(text: &[u8]) -> Option<(Operator, &[u8])>
-    ensures { option_map (λ r. (r.0, r.1.now)) result ≡ descent.next_operator (token_of text.now) }
-{
-    match next_token(text) {
-        Next::Found(Token::Operator(operator), rest) => Some((operator, rest)),
         _ => None,
     }
 }
@@ -100,61 +86,128 @@ fn definition<'a>(scope: &Scope<'_>, text: &'a [u8]) -> Option<(Value, &'a [u8])
     }
 }
 
-/// What the operand in front is worth, and what follows it; `None` if no expression begins so.
-#[cycle(descent)]
-fn operand<'a>(scope: &Scope<'_>, text: &'a [u8]) -> Option<(Value, &'a [u8])>
-    ensures { Parses (worth_in scope.now) 10 text.now (option_map (λ r. (r.0, r.1.now)) result) }
+/// Reads a token where an operand has to come: the operand that has come then, if one has, and what follows it; `None` if
+/// no expression goes on so.
+fn begin<'a, const BYTES: usize, const OPERANDS: usize>(
+    scope: &Scope<'_>,
+    stacks: &mut Stacks<BYTES, OPERANDS>,
+    token: Token<'a>,
+    rest: &'a [u8],
+) -> Option<(Option<Value>, &'a [u8])>
+    requires { weight stacks.old + 1 ≤ BYTES }
+    ensures none { IfNone result (spec.reads (worth_in scope.now) (spec.step (worth_in scope.now) (spec.needs stacks.old) (as_token token.entry)) rest.now ≡ None) }
+    ensures some { IfSome result (λ r. spec.reads (worth_in scope.now) (spec.step (worth_in scope.now) (spec.needs stacks.old) (as_token token.entry)) rest.now ≡ spec.reads (worth_in scope.now) (state r.0 stacks.new) r.1.now) }
+    ensures room { IfSome result (λ r. (weight stacks.new + pending r.0 ≤ weight stacks.old + 1) × (length r.1.now ≤ length rest.now)) }
 {
-    let Next::Found(token, rest) = next_token(text) else {
-        return None;
-    };
     match token {
-        Token::Number(word) => Some((constant(word), rest)),
-        Token::Name(name, arguments) => Some((named(scope, name, arguments), rest)),
-        Token::Defined => definition(scope, rest),
+        Token::Number(word) => Some((Some(constant(word)), rest)),
+        Token::Name(name, arguments) => Some((Some(named(scope, name, arguments)), rest)),
+        Token::Defined => {
+            let (value, end) = definition(scope, rest)?;
+            Some((Some(value), end))
+        }
         Token::Operator(operator) => {
             if !is_prefix(operator) {
                 return None;
             }
-            let (under, end) = operand(scope, rest)?;
-            Some((unary(scope, operator, under), end))
+            stacks.push_before(operator);
+            Some((None, rest))
         }
         Token::Opening => {
-            let (inside, end) = expression(scope, 1, rest)?;
-            let behind = behind_closing(end)?;
-            Some((inside, behind))
+            stacks.push_opening();
+            Some((None, rest))
         }
         Token::Closing => None,
     }
 }
 
-/// What the operand of a level in front is worth, from 1 to 10, and what follows it; `None` if no expression begins so.
-#[cycle(descent)]
-fn expression<'a>(scope: &Scope<'_>, least: u8, text: &'a [u8]) -> Option<(Value, &'a [u8])>
-    requires { (1 ≤ least) × (least ≤ 10) }
-    ensures { Parses (worth_in scope.now) least text.now (option_map (λ r. (r.0, r.1.now)) result) }
+/// Reads a token after an operand: the operand that has come then, if one has; `None` if no expression goes on so.
+fn go_on<const BYTES: usize, const OPERANDS: usize>(
+    scope: &Scope<'_>,
+    stacks: &mut Stacks<BYTES, OPERANDS>,
+    value: Value,
+    token: Token<'_>,
+) -> Option<Option<Value>>
+    requires { weight stacks.old + 2 ≤ BYTES }
+    ensures none { IfNone result (spec.step (worth_in scope.now) (spec.has value stacks.old) (as_token token.entry) ≡ spec.stuck) }
+    ensures some { IfSome result (λ r. spec.step (worth_in scope.now) (spec.has value stacks.old) (as_token token.entry) ≡ state r stacks.new) }
+    ensures room { IfSome result (λ r. weight stacks.new + pending r ≤ weight stacks.old + 2) }
 {
-    let (mut value, mut rest) = operand(scope, text)?;
-    'operators: while let Some((operator, behind)) = next_operator(rest) {
-        let tightness = level(operator);
-        if tightness < least {
-            break;
+    match token {
+        Token::Operator(operator) => {
+            let tightness = level(operator);
+            if tightness == 0 {
+                return None;
+            }
+            let operand = stacks.reduce(scope, tightness, value);
+            stacks.push_left(operator, operand);
+            Some(None)
         }
-        let (right, end) = expression(scope, tightness + 1, behind)?;
-        value = binary(scope, operator, value, right);
-        rest = end;
+        Token::Closing => {
+            let inside = stacks.reduce(scope, 0, value);
+            if stacks.close() {
+                Some(Some(inside))
+            } else {
+                None
+            }
+        }
+        Token::Number(_) => None,
+        Token::Name(_, _) => None,
+        Token::Defined => None,
+        Token::Opening => None,
     }
-    Some((value, rest))
+}
+
+/// What a whole expression is worth at its end.
+fn finish<const BYTES: usize, const OPERANDS: usize>(
+    scope: &Scope<'_>,
+    stacks: &mut Stacks<BYTES, OPERANDS>,
+    operand: Option<Value>,
+) -> Option<Value>
+    ensures { result ≡ spec.finish (worth_in scope.now) (state operand stacks.old) }
+{
+    let value = stacks.reduce(scope, 0, operand?);
+    if stacks.is_empty() { Some(value) } else { None }
+}
+
+/// What the expression of a text of at most `BYTES` bytes is worth; `None` where the text isn't one expression.
+#[inline(never)]
+fn read<const BYTES: usize, const OPERANDS: usize>(scope: &Scope<'_>, text: &[u8]) -> Option<Value>
+    requires fits { length text.now ≤ BYTES }
+    requires stacks { Suffice BYTES OPERANDS }
+    ensures { result ≡ spec.reads (worth_in scope.now) (spec.needs []) text.now }
+{
+    let mut stacks = Stacks::<BYTES, OPERANDS>::new();
+    let mut operand: Option<Value> = None;
+    let mut rest = text;
+    'tokens: loop {
+        match next_token(rest) {
+            Next::AtEnd => return finish(scope, &mut stacks, operand),
+            Next::Unreadable => return None,
+            Next::Found(token, behind) => match operand {
+                None => {
+                    let (next, end) = begin(scope, &mut stacks, token, behind)?;
+                    operand = next;
+                    rest = end;
+                }
+                Some(value) => {
+                    operand = go_on(scope, &mut stacks, value, token)?;
+                    rest = behind;
+                }
+            },
+        }
+    }
 }
 
 /// What the expression of a text is worth; `None` where the text isn't one expression.
 pub(crate) fn whole(scope: &Scope<'_>, text: &[u8]) -> Option<Value>
+    requires fits { length text.now ≤ LINE_BYTES }
     ensures { result ≡ spec.reads (worth_in scope.now) (spec.needs []) text.now }
 {
-    let (value, rest) = expression(scope, 1, text)?;
-    match next_token(rest) {
-        Next::AtEnd => Some(value),
-        Next::Unreadable => None,
-        Next::Found(_, _) => None,
+    match text.len() {
+        0..=SHORT_BYTES => read::<SHORT_BYTES, SHORT_OPERANDS>(scope, text),
+        0..=LONGER_BYTES => read::<LONGER_BYTES, LONGER_OPERANDS>(scope, text),
+        0..=LONG_BYTES => read::<LONG_BYTES, LONG_OPERANDS>(scope, text),
+        _ => read::<LINE_BYTES, LINE_OPERANDS>(scope, text),
     }
 }

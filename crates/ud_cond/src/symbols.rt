@@ -12,6 +12,7 @@ ghost use Rattle.ud_cond.specs.Standing.{StandsFor, Changes, name_cmp, IsRowOf, 
 ghost use Rattle.ud_cond.specs.CondViews.{as_entry, said};
 
 use crate::fault::SymbolFault;
+use crate::marks::Marks;
 use std::alloc::Global;
 use std::cmp::Ordering;
 use std::marker::Model;
@@ -79,18 +80,21 @@ pub struct Symbols {
     alloc: Global,
     /// The rows, one a name, shorter names first and those of one length by their bytes.
     rows: Vec<Row>,
+    /// The marks of their names.
+    marks: Marks,
 }
 
 impl Model for Symbols {
     ghost use Rattle.std.specs.Prelude.{List};
     ghost use Rattle.ud_model.specs.conditions.Table.{Argument};
     ghost use Rattle.ud_cond.specs.Standing.{AreSorted};
+    ghost use Rattle.ud_cond.specs.Marking.{AreNoted};
 
     ghost Value = { List Argument };
 
     ghost view = { λ s. s.rows.items };
 
-    ghost invariant = { λ s. AreSorted s.rows.items };
+    ghost invariant = { λ s. AreSorted s.rows.items × AreNoted s.marks.noted s.rows.items };
 }
 
 impl Symbols {
@@ -102,6 +106,7 @@ impl Symbols {
         Symbols {
             alloc,
             rows: Vec::new(alloc),
+            marks: Marks::new(),
         }
     }
 
@@ -138,6 +143,9 @@ impl Symbols {
         ensures value { option_map as_entry result ≡ entry_in self.now name.now }
         ensures stands { (calls : List Argument) → StandsFor self.now calls → option_map as_entry result ≡ entry_in calls name.now }
     {
+        if !self.marks.has(name) {
+            return None;
+        }
         match self.search(name) {
             Ok(i) => Some(self.rows[i].entry()),
             Err(_) => None,
@@ -217,18 +225,20 @@ impl Symbols {
                     text,
                     ignores: ignoring,
                 };
-                self.add(i, row)
+                self.add(i, name, row)
             }
         }
     }
 
     /// Adds a row at the place of its name.
-    fn add(&mut self, i: usize, row: Row) -> Result<(), SymbolFault>
-        requires { IsGapFor self.old i row.name }
+    fn add(&mut self, i: usize, name: &[u8], row: Row) -> Result<(), SymbolFault>
+        requires gap { IsGapFor self.old i row.name }
+        requires named { row.name ≡ name.now }
         ensures ok { OnOk result (self.new ≡ insert self.old i row) }
         ensures err { OnErr result (self.new ≡ self.old) }
         ensures fault { OnErr result (IsErrOf result SymbolFault.OutOfMemory) }
     {
+        self.marks.note(name);
         match self.rows.insert(i, row) {
             Ok(()) => Ok(()),
             Err(_) => Err(SymbolFault::OutOfMemory),

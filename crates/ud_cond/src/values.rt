@@ -2,16 +2,17 @@
 //!
 //! Numbers are those of ud_model, specs/conditions/Values.antt (C11 6.10.1p4 and 6.5); `specs/Worth.antt` says what is kept beside them.
 
-ghost use Rattle.std.specs.Prelude.{◌≡◌, option_and_then, option_map};
+ghost use Rattle.std.specs.Prelude.{◌≡◌, Some, option_and_then, option_map};
 ghost use Rattle.ud_model.specs.conditions.Table.{entry_in};
-ghost use Rattle.ud_model.specs.conditions.Symbols.{end_of};
+ghost use Rattle.ud_model.specs.conditions.Symbols.{end_of, defined_text};
 ghost use Rattle.ud_model.specs.conditions.Values as spec;
 ghost use Rattle.ud_cond.specs.CondViews.{as_entry};
-ghost use Rattle.ud_cond.specs.Worth.{table_in, constant_worth, name_worth, defined_worth, unary_worth, binary_worth};
+ghost use Rattle.ud_cond.specs.Worth.{table_in, constant_worth, name_worth, defined_name_worth, defined_worth, unary_worth, binary_worth};
 
 use crate::constants::{constant_value, has_u, is_constant};
 use crate::symbols::{Entry, Symbols};
 use ud_model::Operator;
+use ud_model::bytes::is_identifier;
 
 /// What a part of an expression is worth.
 #[derive(Clone, Copy)]
@@ -43,6 +44,18 @@ impl Scope<'_> {
         ensures { option_map as_entry result ≡ entry_in (table_in self.now) name.now }
     {
         self.symbols?.find(name)
+    }
+
+    /// The text at which the value of a name ends that is defined as this text.
+    fn end_from<'a>(&'a self, name: &'a [u8], text: &'a [u8]) -> Option<&'a [u8]>
+        requires { defined_text (table_in self.now) name.now ≡ Some text.now }
+        ensures { option_map (λ v. v.now) result ≡ end_of (table_in self.now) name.now }
+    {
+        if is_identifier(text) {
+            self.end_of(name)
+        } else {
+            Some(text)
+        }
     }
 
     /// The text at which the value of a name ends.
@@ -97,39 +110,46 @@ fn text_has_u(text: &[u8]) -> bool
     }
 }
 
+/// What a name is worth that is defined as this text.
+#[tactic(auto, unfolding(ud_model::specs::conditions::Values::name_has_u))]
+fn defined_as(scope: &Scope<'_>, name: &[u8], text: &[u8]) -> Value
+    requires { defined_text (table_in scope.now) name.now ≡ Some text.now }
+    ensures { result ≡ defined_name_worth (table_in scope.now) scope.now.unsigned name.now }
+{
+    let end = scope.end_from(name, text);
+    Value {
+        number: match end {
+            Some(text) => text_value(scope.unsigned, text),
+            None => None,
+        },
+        unsigned: match end {
+            Some(text) => text_has_u(text),
+            None => false,
+        },
+        listed: true,
+        spoiled: false,
+    }
+}
+
 /// What a name with or without arguments is worth.
-#[tactic(auto, unfolding(ud_model::specs::conditions::Values::name_value, ud_model::specs::conditions::Values::name_has_u))]
 pub(crate) fn named(scope: &Scope<'_>, name: &[u8], arguments: bool) -> Value
     ensures { result ≡ name_worth (table_in scope.now) scope.now.unsigned name.now arguments }
 {
-    let end = scope.end_of(name);
-    let unsigned = match end {
-        Some(text) => text_has_u(text),
-        None => false,
-    };
     match scope.find(name) {
         None => Value {
             number: None,
-            unsigned,
+            unsigned: false,
             listed: false,
             spoiled: false,
         },
         Some(entry) => match entry.value {
             None => Value {
                 number: Some(0),
-                unsigned,
+                unsigned: false,
                 listed: true,
                 spoiled: arguments,
             },
-            Some(_) => Value {
-                number: match end {
-                    Some(text) => text_value(scope.unsigned, text),
-                    None => None,
-                },
-                unsigned,
-                listed: true,
-                spoiled: false,
-            },
+            Some(text) => defined_as(scope, name, text),
         },
     }
 }

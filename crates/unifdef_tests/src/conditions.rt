@@ -204,6 +204,43 @@ fn names_come_in_order(rt: HostRuntime) -> Result<(), Fail> {
 #[test]
 fn parentheses_are_read_to_the_longest_line(rt: HostRuntime) -> Result<(), Fail> {
     let symbols = five(rt.alloc())?;
-    check(&rt, &symbols, USUAL, &[b'('; 4096], Cond::Unknown);
+    let middle = LINE_BYTES / 2;
+    let mut closed = [b')'; LINE_BYTES];
+    closed[0] = b' ';
+    closed[1..middle].fill(b'(');
+    closed[middle] = b'A';
+    check(&rt, &symbols, USUAL, &closed, Cond::Yes);
+    check(&rt, &symbols, USUAL, &[b'('; LINE_BYTES], Cond::Unknown);
+    Ok(())
+}
+
+#[test]
+fn operators_are_read_to_the_longest_line(rt: HostRuntime) -> Result<(), Fail> {
+    let symbols = five(rt.alloc())?;
+    let mut negated = [b'!'; LINE_BYTES];
+    negated[LINE_BYTES - 1] = b'A';
+    check(&rt, &symbols, USUAL, &negated, Cond::No);
+    let mut sum = [b'+'; LINE_BYTES];
+    for i in (0..LINE_BYTES).step_by(2) {
+        sum[i] = b'A';
+    }
+    sum[LINE_BYTES - 1] = b' ';
+    check(&rt, &symbols, USUAL, &sum, Cond::Yes);
+    Ok(())
+}
+
+/// Texts around the sizes at which longer stacks are taken.
+#[test]
+fn texts_of_each_size_are_read(rt: HostRuntime) -> Result<(), Fail> {
+    let symbols = five(rt.alloc())?;
+    let mut text = [b'('; LINE_BYTES];
+    for size in [31, 32, 33, 63, 64, 65, 127, 128, 129, 1023, 1024, 1025, 2047] {
+        let end = 2 * size + 1;
+        text[..size].fill(b'(');
+        text[size] = b'A';
+        text[size + 1..end].fill(b')');
+        check(&rt, &symbols, USUAL, &text[..end], Cond::Yes);
+        check(&rt, &symbols, USUAL, &text[..end - 1], Cond::Unknown);
+    }
     Ok(())
 }

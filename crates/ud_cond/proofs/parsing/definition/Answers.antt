@@ -1,6 +1,6 @@
 use Rattle.std.proofs.Common.{sym}
 use Rattle.ud_cond.specs.Worth.{worth_in}
-use Rattle.ud_cond.proofs.DescentLemmas as step
+use Rattle.ud_cond.proofs.AskingLemmas as step
 use Rattle.ud_cond.proofs.parsing.definition.Goals as goal
 
 pub returns-in_err-inside-in-None : goal.returns-in_err-inside-in-None

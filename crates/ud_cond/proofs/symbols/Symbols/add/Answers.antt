@@ -1,9 +1,16 @@
-use Rattle.std.proofs.Common.{is_ok, sym, subst}
+use Rattle.std.proofs.Common.{◌≡◌, ◌∙◌, true, is_ok, sym, ap, subst}
 use Rattle.ud_cond.specs.Standing.{IsGapFor}
+use Rattle.ud_cond.specs.Marking.{has_mark}
 use Rattle.ud_cond.proofs.SortedLemmas.{sorted-added}
+use Rattle.ud_cond.proofs.MarkLemmas.{noted-kept, noted-added}
 use Rattle.ud_cond.proofs.symbols.Symbols.add.Goals as goal
 
 pub invariant_of-self : goal.invariant_of-self
 invariant_of-self c =
-    rw c.insert.ensures.items
-    (sorted-added c.self.inside.rows.items c.args.i c.args.row (is_ok c.insert.result) c.self.invariant (subst (λ rows. IsGapFor rows c.args.i c.args.row.name) (sym c.self.view_is) c.requires))
+    let gap : IsGapFor c.self.inside.rows.items c.args.i c.args.row.name = subst (λ rows. IsGapFor rows c.args.i c.args.row.name) (sym c.self.view_is) c.requires.gap in
+    let new : has_mark c.note.new.self.noted c.args.row.name ≡ true = ap (has_mark c.note.new.self.noted) c.requires.named ∙ c.note.ensures.noted in
+    rw c.insert.ensures.items (
+      sorted-added c.self.inside.rows.items c.args.i c.args.row (is_ok c.insert.result) c.self.invariant.0 gap,
+      noted-added c.note.new.self.noted c.self.inside.rows.items c.args.i c.args.row (is_ok c.insert.result)
+          (noted-kept c.self.inside.marks.noted c.note.new.self.noted c.self.inside.rows.items c.note.ensures.kept c.self.invariant.1) gap.within new,
+    )

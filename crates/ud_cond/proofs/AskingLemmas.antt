@@ -1,0 +1,98 @@
+-- What stands after `defined`, one way each: it means the same in every state that asks for it.
+use Rattle.std.proofs.Common.{◌≡◌, ℕ, List, true, false, Some, None, refl, sym, ◌∙◌, ap, arith}
+use Rattle.std.proofs.lemmas.Option.{none-some, same_Some}
+use Rattle.ud_model.specs.conditions.Tokens.{number, name, defined, operator, opening, closing, Next, at_end, unreadable, found, next_token}
+use Rattle.ud_model.specs.aids.Parsing.{Meaning, Frame, asks, asks_inside, asks_end}
+use Rattle.ud_cond.specs.Asking.{plain_name, behind_opening, behind_closing, Asked, Asks}
+use Rattle.ud_model.proofs.conditions.TokenLemmas.{shorter}
+use Rattle.ud_cond.proofs.ReadingLemmas.{reads_on, reads-on, reads-stuck, reads-found}
+
+module _ {A : Type 0} (m : Meaning A) where
+  -- `defined` and a name
+  pub asks-plain : (text n rest : List ℕ) → next_token text ≡ found (name n false) rest → Asked m text (m.is_defined n false) rest
+  asks-plain text n rest e = record { same = λ s. reads-found m (asks s) text (name n false) rest e; shorter = shorter text rest (name n false) e }
+
+  -- `defined` and a name in parentheses
+  pub asks-parens : (text inside n end rest : List ℕ) → next_token text ≡ found opening inside → next_token inside ≡ found (name n false) end → next_token end ≡ found closing rest →
+      Asked m text (m.is_defined n true) rest
+  asks-parens text inside n end rest e f g = record {
+    same = λ s. reads-found m (asks s) text opening inside e ∙ reads-found m (asks_inside s) inside (name n false) end f ∙ reads-found m (asks_end n s) end closing rest g;
+    shorter = omega (arith, shorter text inside opening e, shorter inside end (name n false) f, shorter end rest closing g);
+  }
+
+  neither : (s : List (Frame A)) (x : Next) → plain_name x ≡ None → behind_opening x ≡ None → reads_on m (asks s) x ≡ None
+  neither s at_end e f = refl
+  neither s unreadable e f = refl
+  neither s (found (number w) rest) e f = reads-stuck m rest
+  neither s (found (name n false) rest) e f = absurd (none-some (n, rest) (sym e))
+  neither s (found (name n true) rest) e f = reads-stuck m rest
+  neither s (found defined rest) e f = reads-stuck m rest
+  neither s (found (operator o) rest) e f = reads-stuck m rest
+  neither s (found opening rest) e f = absurd (none-some rest (sym f))
+  neither s (found closing rest) e f = reads-stuck m rest
+
+  -- no name and no parenthesis after `defined`
+  pub asks-neither : (text : List ℕ) → plain_name (next_token text) ≡ None → behind_opening (next_token text) ≡ None → Asks m text None
+  asks-neither text e f s = reads-on m (asks s) text ∙ neither s (next_token text) e f
+
+  nameless : (s : List (Frame A)) (x : Next) → plain_name x ≡ None → reads_on m (asks_inside s) x ≡ None
+  nameless s at_end e = refl
+  nameless s unreadable e = refl
+  nameless s (found (number w) rest) e = reads-stuck m rest
+  nameless s (found (name n false) rest) e = absurd (none-some (n, rest) (sym e))
+  nameless s (found (name n true) rest) e = reads-stuck m rest
+  nameless s (found defined rest) e = reads-stuck m rest
+  nameless s (found (operator o) rest) e = reads-stuck m rest
+  nameless s (found opening rest) e = reads-stuck m rest
+  nameless s (found closing rest) e = reads-stuck m rest
+
+  -- no name in the parenthesis
+  pub asks-nameless : (text inside : List ℕ) → next_token text ≡ found opening inside → plain_name (next_token inside) ≡ None → Asks m text None
+  asks-nameless text inside e f s = reads-found m (asks s) text opening inside e ∙ reads-on m (asks_inside s) inside ∙ nameless s (next_token inside) f
+
+  endless : (n : List ℕ) (s : List (Frame A)) (x : Next) → behind_closing x ≡ None → reads_on m (asks_end n s) x ≡ None
+  endless n s at_end e = refl
+  endless n s unreadable e = refl
+  endless n s (found (number w) rest) e = reads-stuck m rest
+  endless n s (found (name k a) rest) e = reads-stuck m rest
+  endless n s (found defined rest) e = reads-stuck m rest
+  endless n s (found (operator o) rest) e = reads-stuck m rest
+  endless n s (found opening rest) e = reads-stuck m rest
+  endless n s (found closing rest) e = absurd (none-some rest (sym e))
+
+  -- the parenthesis doesn't close after the name
+  pub asks-endless : (text inside n end : List ℕ) → next_token text ≡ found opening inside → next_token inside ≡ found (name n false) end → behind_closing (next_token end) ≡ None → Asks m text None
+  asks-endless text inside n end e f g s =
+      reads-found m (asks s) text opening inside e ∙ reads-found m (asks_inside s) inside (name n false) end f ∙ reads-on m (asks_end n s) end ∙ endless n s (next_token end) g
+
+-- what a test of the front found
+pub found-plain_name : (x : Next) (n rest : List ℕ) → Some (n, rest) ≡ plain_name x → x ≡ found (name n false) rest
+found-plain_name at_end n rest e = absurd (none-some (n, rest) (sym e))
+found-plain_name unreadable n rest e = absurd (none-some (n, rest) (sym e))
+found-plain_name (found (number w) r) n rest e = absurd (none-some (n, rest) (sym e))
+found-plain_name (found (name k false) r) n rest e = let same : (n, rest) ≡ (k, r) = same_Some (n, rest) (k, r) e in ap (λ (q : List ℕ × List ℕ). found (name q.0 false) q.1) (sym same)
+found-plain_name (found (name k true) r) n rest e = absurd (none-some (n, rest) (sym e))
+found-plain_name (found defined r) n rest e = absurd (none-some (n, rest) (sym e))
+found-plain_name (found (operator o) r) n rest e = absurd (none-some (n, rest) (sym e))
+found-plain_name (found opening r) n rest e = absurd (none-some (n, rest) (sym e))
+found-plain_name (found closing r) n rest e = absurd (none-some (n, rest) (sym e))
+
+pub found-opening : (x : Next) (rest : List ℕ) → Some rest ≡ behind_opening x → x ≡ found opening rest
+found-opening at_end rest e = absurd (none-some rest (sym e))
+found-opening unreadable rest e = absurd (none-some rest (sym e))
+found-opening (found (number w) r) rest e = absurd (none-some rest (sym e))
+found-opening (found (name k a) r) rest e = absurd (none-some rest (sym e))
+found-opening (found defined r) rest e = absurd (none-some rest (sym e))
+found-opening (found (operator o) r) rest e = absurd (none-some rest (sym e))
+found-opening (found opening r) rest e = cc
+found-opening (found closing r) rest e = absurd (none-some rest (sym e))
+
+pub found-closing : (x : Next) (rest : List ℕ) → Some rest ≡ behind_closing x → x ≡ found closing rest
+found-closing at_end rest e = absurd (none-some rest (sym e))
+found-closing unreadable rest e = absurd (none-some rest (sym e))
+found-closing (found (number w) r) rest e = absurd (none-some rest (sym e))
+found-closing (found (name k a) r) rest e = absurd (none-some rest (sym e))
+found-closing (found defined r) rest e = absurd (none-some rest (sym e))
+found-closing (found (operator o) r) rest e = absurd (none-some rest (sym e))
+found-closing (found opening r) rest e = absurd (none-some rest (sym e))
+found-closing (found closing r) rest e = cc

@@ -1,0 +1,31 @@
+-- Asking: what stands after `defined`, and what comes next.
+-- ud_model, specs/aids/Parsing.antt, says what a text means in a state. A name that is read after `defined` means the same there: the
+-- state that asks for it comes to the state that has its value, after fewer bytes.
+--
+--   Asks m text r          r is a name after `defined` and what follows it; or there is none
+use Rattle.std.specs.Prelude.{◌≡◌, ℕ, ◌<◌, false, List, length, Option, Some, None}
+use Rattle.ud_model.specs.conditions.Tokens.{name, opening, closing, Next, found}
+use Rattle.ud_model.specs.aids.Parsing.{Meaning, Frame, has, asks, reads}
+
+-- what comes next, if it is a name without arguments or a parenthesis
+abbrev pub plain_name : Next → Option (List ℕ × List ℕ)
+plain_name (found (name n false) rest) = Some (n, rest)
+plain_name _ = None
+
+abbrev pub behind_opening : Next → Option (List ℕ)
+behind_opening (found opening rest) = Some rest
+behind_opening _ = None
+
+abbrev pub behind_closing : Next → Option (List ℕ)
+behind_closing (found closing rest) = Some rest
+behind_closing _ = None
+
+module _ {A : Type 0} (m : Meaning A) where
+  -- the value is that of a `defined`
+  pub record Asked (text : List ℕ) (v : A) (rest : List ℕ) : Type 0 where
+    pub same : (s : List (Frame A)) → reads m (asks s) text ≡ reads m (has v s) rest
+    pub shorter : length rest < length text
+
+  abbrev pub Asks : List ℕ → Option (A × List ℕ) → Type 0
+  Asks text None = (s : List (Frame A)) → reads m (asks s) text ≡ None
+  Asks text (Some r) = Asked text r.0 r.1

@@ -1,0 +1,209 @@
+//! What waits while an expression is read, on two stacks of fixed size: operators, and their left operands.
+//!
+//! Each parenthesis and prefix operator that waits has a byte of the text, and each left operand with its operator has two.
+//! So a stack of as many operators as the text has bytes, and one of half as many operands, suffice.
+
+ghost use Rattle.std.specs.Prelude.{◌≡◌, ◌≤◌, ◌<◌, ◌+◌, ◌*◌, ◌∷◌, ◌↔◌, [], List, length, IfSome, IfNone, IsTrue, false};
+ghost use Rattle.ud_model.specs.aids.Parsing.{left, before, paren, reduce};
+ghost use Rattle.ud_cond.specs.Stacks as spec;
+ghost use Rattle.ud_cond.specs.Stacks.{weight};
+ghost use Rattle.ud_cond.specs.Worth.{worth_in};
+
+use crate::operators::level;
+use crate::values::{Scope, Value, binary, unary};
+use arrayvec::ArrayVec;
+use std::marker::Model;
+use ud_model::Operator;
+
+/// What waits on the stack of operators.
+#[derive(Clone, Copy)]
+pub(crate) enum Waiting {
+    /// An open parenthesis.
+    Opening,
+    /// An operator whose left operand waits on the other stack.
+    Between(Operator),
+    /// An operator before its one operand.
+    Before(Operator),
+}
+
+impl Default for Waiting {
+    fn default() -> Self {
+        Waiting::Opening
+    }
+}
+
+/// A left operand, in no more room than its number and facts take.
+#[derive(Default, Drop)]
+struct Operand {
+    /// Its number, if that is known.
+    number: i64,
+    /// Whether the number is known.
+    is_known: bool,
+    /// A constant in it, or one at which the value of a symbol in it ends, has a `u`.
+    has_u: bool,
+    /// A symbol of the table stands in it.
+    is_listed: bool,
+    /// An undefined symbol with arguments stands in it.
+    is_spoiled: bool,
+}
+
+impl Model for Operand {
+    ghost use Rattle.std.specs.Prelude.{Some, None, if◌then◌else◌};
+    ghost use Rattle.ud_cond.specs.declared.values.Value as declared;
+
+    ghost Value = { declared.Value };
+
+    ghost view = { λ o. record { number = if o.is_known then Some o.number else None; unsigned = o.has_u; listed = o.is_listed; spoiled = o.is_spoiled } };
+}
+
+impl Operand {
+    /// A value as it waits.
+    fn of(value: Value) -> Operand
+        ensures { result ≡ value }
+    {
+        Operand {
+            number: value.number.unwrap_or(0),
+            is_known: value.number.is_some(),
+            has_u: value.unsigned,
+            is_listed: value.listed,
+            is_spoiled: value.spoiled,
+        }
+    }
+
+    /// The value that waits.
+    fn value(&self) -> Value
+        ensures { result ≡ self.now }
+    {
+        Value {
+            number: if self.is_known {
+                Some(self.number)
+            } else {
+                None
+            },
+            unsigned: self.has_u,
+            listed: self.is_listed,
+            spoiled: self.is_spoiled,
+        }
+    }
+}
+
+/// What waits while a text of at most `BYTES` bytes is read.
+#[derive(Drop)]
+pub(crate) struct Stacks<const BYTES: usize, const OPERANDS: usize> {
+    /// Operators and parentheses; the last one is the innermost.
+    operators: ArrayVec<Waiting, BYTES>,
+    /// The left operands of those operators that have one.
+    operands: ArrayVec<Operand, OPERANDS>,
+}
+
+impl<const BYTES: usize, const OPERANDS: usize> Model for Stacks<BYTES, OPERANDS> {
+    ghost use Rattle.std.specs.Prelude.{◌≤◌, List, reverse};
+    ghost use Rattle.arrayvec.specs.ArrayVec.{array_vec_len};
+    ghost use Rattle.ud_model.specs.aids.Parsing.{Frame};
+    ghost use Rattle.ud_cond.specs.Stacks.{frames, AreMatched, Suffice};
+    ghost use Rattle.ud_cond.specs.declared.values.Value as declared;
+
+    ghost Value = { List (Frame declared.Value) };
+
+    ghost view = { λ s. frames (reverse s.operators.items) (reverse s.operands.items) };
+
+    ghost invariant = { λ s. AreMatched (reverse s.operators.items) (reverse s.operands.items) × (array_vec_len s.operators ≤ BYTES) × Suffice BYTES OPERANDS };
+}
+
+impl<const BYTES: usize, const OPERANDS: usize> Stacks<BYTES, OPERANDS> {
+    /// Nothing waits.
+    pub(crate) fn new() -> Self
+        requires { spec.Suffice BYTES OPERANDS }
+        ensures { result ≡ [] }
+    {
+        Stacks {
+            operators: ArrayVec::new(),
+            operands: ArrayVec::new(),
+        }
+    }
+
+    /// Whether nothing waits.
+    pub(crate) fn is_empty(&self) -> bool
+        ensures { result ≡ spec.is_nothing self.now }
+    {
+        self.operators.is_empty()
+    }
+
+    /// An operator waits with its left operand.
+    pub(crate) fn push_left(&mut self, operator: Operator, operand: Value)
+        requires { weight self.old + 2 ≤ BYTES }
+        ensures { self.new ≡ left operator operand ∷ self.old }
+    {
+        self.operators.push(Waiting::Between(operator));
+        self.operands.push(Operand::of(operand));
+    }
+
+    /// An operator waits before its operand.
+    pub(crate) fn push_before(&mut self, operator: Operator)
+        requires { weight self.old + 1 ≤ BYTES }
+        ensures { self.new ≡ before operator ∷ self.old }
+    {
+        self.operators.push(Waiting::Before(operator));
+    }
+
+    /// A parenthesis waits for its end.
+    pub(crate) fn push_opening(&mut self)
+        requires { weight self.old + 1 ≤ BYTES }
+        ensures { self.new ≡ paren ∷ self.old }
+    {
+        self.operators.push(Waiting::Opening);
+    }
+
+    /// Takes the innermost parenthesis, if nothing waits inside.
+    pub(crate) fn close(&mut self) -> bool
+        ensures yes { IsTrue result → self.old ≡ paren ∷ self.new }
+        ensures no { result ≡ false → spec.IsNoParen self.old }
+    {
+        match self.operators.pop() {
+            Some(Waiting::Opening) => true,
+            Some(other) => {
+                self.operators.push(other);
+                false
+            }
+            None => false,
+        }
+    }
+
+    /// Takes the innermost operator, with its left operand if it has one, if it is of this level or tighter.
+    fn take(&mut self, least: u8) -> Option<(Operator, Option<Value>)>
+        ensures none { IfNone result (self.new ≡ self.old × spec.IsSettled least self.old) }
+        ensures some { IfSome result (λ t. self.old ≡ spec.taken t.0 t.1 ∷ self.new × spec.Takes least t.0 t.1) }
+    {
+        match self.operators.pop() {
+            Some(Waiting::Between(operator)) => {
+                if level(operator) < least {
+                    self.operators.push(Waiting::Between(operator));
+                    return None;
+                }
+                let operand = self.operands.pop().unwrap();
+                Some((operator, Some(operand.value())))
+            }
+            Some(Waiting::Before(operator)) => Some((operator, None)),
+            Some(Waiting::Opening) => {
+                self.operators.push(Waiting::Opening);
+                None
+            }
+            None => None,
+        }
+    }
+
+    /// The operators of a level or tighter take their operands, of which this is the last.
+    pub(crate) fn reduce(&mut self, scope: &Scope<'_>, least: u8, last: Value) -> Value
+        ensures value { reduce (worth_in scope.now) least last self.old ≡ (result, self.new) }
+        ensures lighter { weight self.new ≤ weight self.old }
+    {
+        let mut value = last;
+        'waiting: while let Some((operator, operand)) = self.take(least) {
+            value = match operand {
+                Some(operand) => binary(scope, operator, operand, value),
+                None => unary(scope, operator, value),
+            };
+        }
+        value
+    }
+}
