@@ -1,4 +1,5 @@
 pub mod MarkLemmas
+pub mod LaneLemmas
 pub mod FeedLemmas
 pub mod HoldingLemmas
 pub mod BorrowLemmas

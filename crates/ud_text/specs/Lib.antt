@@ -1,6 +1,7 @@
 pub mod Holding
 pub mod Borrowing
 pub mod LineViews
+pub mod Searches
 pub mod Carrying
 pub mod Lending
 pub mod Passing

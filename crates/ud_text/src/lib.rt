@@ -6,6 +6,7 @@
 #![tactic(auto)]
 
 mod fault;
+mod lanes;
 mod line;
 mod lines;
 mod marks;

@@ -4,6 +4,7 @@ ghost use Rattle.std.specs.Prelude.{◌≡◌, ◌≤◌, ◌<◌, ◌+◌, leng
 ghost use Rattle.std.specs.List.{position_or_len};
 ghost use Rattle.ud_text.specs.Spans.{is_special, is_pair, NoPair, LastBegins};
 
+use crate::lanes::first_far;
 use memchr::memrchr;
 
 /// Whether a byte may matter outside comments and literals.
@@ -19,10 +20,7 @@ pub(crate) fn first_special(bytes: &[u8]) -> usize
     ensures value { result ≡ position_or_len is_special bytes.now }
     ensures bound { result ≤ length bytes.now }
 {
-    bytes
-        .iter()
-        .position(|byte| is_special(*byte))
-        .unwrap_or(bytes.len())
+    first_far(bytes, [b'/', b'"', b'\'', b'\\', b'#'])
 }
 
 /// Whether two bytes are a star before a slash or a backslash.
