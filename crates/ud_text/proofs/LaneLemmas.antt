@@ -19,7 +19,7 @@ lane_or true false = refl
 lane_or false true = refl
 lane_or false false = refl
 
-lane_and : (a b : Bool) → bit_and (lane a) (lane b) ≡ lane (a && b)
+pub lane_and : (a b : Bool) → bit_and (lane a) (lane b) ≡ lane (a && b)
 lane_and true true = refl
 lane_and true false = refl
 lane_and false true = refl
@@ -60,6 +60,10 @@ lowest_lane {X} p v n r z long few lanes found =
     let bits : mask_l (map (top 7) z) % 2 ^ 64 ≡ mask_l (map p v) =
     ap (λ (l : List Bool). mask_l l % 2 ^ 64) tops ∙ mask_l-mod (map p v) 64 (omega (arith, length-map v p, long)) in
     found ∙ ap (λ (m : ℕ). lowest_bit m n) bits ∙ first_set_mask_l p v n long few
+
+-- a search finds a place within the bytes, or their end
+pub search_bound : {X : Type 0} (p : X → Bool) (xs : List X) (at : ℕ) → at ≡ position_or_len p xs → at ≤ length xs
+search_bound p xs at e = omega (arith, e, prefix_len-le-length (λ x. not (p x)) xs)
 
 -- a search over a front of bytes finds the first, if it is among them
 pub search_take : {X : Type 0} (p : X → Bool) (n : ℕ) (xs : List X) → position_or_len p (take n xs) ≡ min n (position_or_len p xs)

@@ -1,5 +1,6 @@
 pub mod MarkLemmas
 pub mod LaneLemmas
+pub mod PairLemmas
 pub mod FeedLemmas
 pub mod HoldingLemmas
 pub mod BorrowLemmas

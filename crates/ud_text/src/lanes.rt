@@ -22,7 +22,7 @@ fn is_one_of(byte: u8, set: ByteSet) -> bool
 
 /// The place of the lowest bit that is set, or `lanes` if none is.
 #[inline(always)]
-fn lowest_bit(bits: u64, lanes: usize) -> usize
+pub(crate) fn lowest_bit(bits: u64, lanes: usize) -> usize
     ensures { result ≡ lowest_bit bits lanes }
 {
     if bits == 0 {
@@ -72,7 +72,8 @@ fn first_by<const N: usize>(bytes: &[u8], set: ByteSet) -> usize
 /// The place of the first of these bytes, where one is near. The number of bytes if there is none.
 #[inline(always)]
 pub(crate) fn first_near(bytes: &[u8], set: ByteSet) -> usize
-    ensures { result ≡ position_or_len (is_one_of set) bytes.now }
+    ensures value { result ≡ position_or_len (is_one_of set) bytes.now }
+    ensures bound { result ≤ length bytes.now }
 {
     if bytes.len() >= 16 {
         first_by::<16>(bytes, set)
@@ -89,7 +90,8 @@ pub(crate) fn first_near(bytes: &[u8], set: ByteSet) -> usize
 /// The place of the first of these bytes, where one may be far. The number of bytes if there is none.
 #[inline(always)]
 pub(crate) fn first_far(bytes: &[u8], set: ByteSet) -> usize
-    ensures { result ≡ position_or_len (is_one_of set) bytes.now }
+    ensures value { result ≡ position_or_len (is_one_of set) bytes.now }
+    ensures bound { result ≤ length bytes.now }
 {
     if bytes.len() >= 64 {
         first_by::<64>(bytes, set)

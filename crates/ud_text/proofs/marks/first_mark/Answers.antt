@@ -4,4 +4,4 @@ use Rattle.ud_text.proofs.LaneLemmas.{search_marks}
 use Rattle.ud_text.proofs.marks.first_mark.Goals as goal
 
 pub returns : goal.returns
-returns c = c.first_near.ensures ∙ search_marks c.args.bytes.now
+returns c = c.first_near.ensures.value ∙ search_marks c.args.bytes.now
