@@ -13,5 +13,6 @@ pub mod PlainLemmas
 pub mod SpanLemmas
 pub mod LookLemmas
 pub mod ProgressLemmas
+pub mod SkipLemmas
 pub mod BlockLemmas
 pub mod StepLemmas

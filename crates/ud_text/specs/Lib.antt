@@ -8,3 +8,4 @@ pub mod Passing
 pub mod States
 pub mod Spans
 pub mod Progress
+pub mod Skipping

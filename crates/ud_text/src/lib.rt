@@ -6,6 +6,7 @@
 #![tactic(auto)]
 
 mod fault;
+mod feeds;
 mod lanes;
 mod line;
 mod lines;
