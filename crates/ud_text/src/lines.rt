@@ -2,7 +2,8 @@
 //!
 //! One line is held at a time, at most `LINE_BYTES` bytes with its ending. However the bytes are cut into pieces,
 //! the lines are those of the definitions (ud_model, specs/text/Lines.antt). States: nothing held; part of a line; a
-//! whole line, until `clear`; closed; refused, for good.
+//! whole line, until `clear`; closed; refused, for good. Lines that stand whole in a piece needn't be held: `whole_in`
+//! lends one, and `skip` gives up many at once.
 //! A new way in which a line may end needs another `lines_of` and another `front`.
 
 ghost use Rattle.std.specs.Prelude.{◌≡◌, ℕ, suc, ◌+◌, ◌<◌, ◌≤◌, ◌↔◌, List, [], ◌∷◌, ◌++◌, length, take, true, false, Some, None, IfOk, IfErr, OnOk, OnErr, IfSome, OnSome, IfNone, Ok, Err, IsTrue, MatchResult};

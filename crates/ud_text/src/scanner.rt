@@ -1,7 +1,8 @@
 //! What is seen of a text's lines, each read in its mode.
 //!
-//! A scanner holds no line but the last one as it was shown: of the lines before it carries where their joined text
-//! leaves off, whether the last logical line is white, and whether the last line joins the next one.
+//! A scanner holds no line but the last one as it was shown, and not even that if it is shown as it stands: its bytes are
+//! then lent. Of the lines before, a scanner carries where their joined text leaves off, whether the last logical line is
+//! white, and whether the last line joins the next one.
 
 ghost use Rattle.std.specs.Prelude.{◌≡◌, ◌≤◌, ◌||◌, ℕ, List, [], ◌∷◌, ◌++◌, length, true, false, take};
 ghost use Rattle.std.specs.Borrow.{sem};
@@ -69,7 +70,7 @@ struct Seen<'a> {
 pub struct Scanner {
     /// What the lines so far leave.
     carry: Carry,
-    /// The last line as it was shown.
+    /// The last line as it was shown, if its own bytes weren't lent.
     masked: ArrayVec<u8, LINE_BYTES>,
 }
 
