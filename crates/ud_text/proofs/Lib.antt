@@ -1,4 +1,6 @@
 pub mod MarkLemmas
+pub mod LaneLemmas
+pub mod PairLemmas
 pub mod FeedLemmas
 pub mod HoldingLemmas
 pub mod BorrowLemmas
@@ -11,5 +13,6 @@ pub mod PlainLemmas
 pub mod SpanLemmas
 pub mod LookLemmas
 pub mod ProgressLemmas
+pub mod SkipLemmas
 pub mod BlockLemmas
 pub mod StepLemmas

@@ -1,13 +1,14 @@
 -- Runs: bytes that leave the place as it is, and how a text is shown with them.
 use Rattle.std.proofs.Common.{◌≡◌, ℕ, zero, suc, ◌+◌, ◌-◌, ◌<◌, ◌≤◌, ◌==◌, List, [], ◌∷◌, ◌++◌, length, take, drop, replicate, get_or, Bool, true, false, not, cond, ◌&&◌, ◌||◌, if◌then◌else◌, Option, Some, None, unwrap_or, is_some, refl, sym, ◌∙◌, ap, subst, append_assoc, append-nil, arith, ne_eqb, one-add}
 use Rattle.std.specs.List.{position_or_len}
-use Rattle.std.proofs.lemmas.List.{take_more, take_rest, length-take-le, drop-take, take-take, take-append-drop}
+use Rattle.std.proofs.lemmas.List.{take_more, take_all, take_rest, length-take-le, drop-take, take-take, take-append-drop}
 use Rattle.std.specs.Option.{option_to_list}
 use Rattle.memchr.specs.Find.{IsFirstByte, is_byte}
 use Rattle.ud_model.specs.text.Bytes.{are_white, slash, star, space, backslash, is_quote, is_mark, is_white}
 use Rattle.ud_model.specs.text.Lines.{NoFeed}
-use Rattle.ud_model.specs.aids.Places.{Place, in_text, at_slash, in_literal, in_block, at_star, next, opens, shows, whitens, blank_last, Masks}
+use Rattle.ud_model.specs.aids.Places.{Place, in_text, at_slash, in_literal, in_block, at_star, next, opens, shows, whitens, blank_last, Reads, Masks}
 use Rattle.ud_model.proofs.text.PlaceLemmas.{Masks-step, blank_last-last}
+use Rattle.ud_model.proofs.text.ScanLemmas.{Masks-start}
 
 -- facts of how a text is shown, under other names of the same things
 pub Masks-same : {n : ℕ} {t u : List ℕ} {w x : Place} {b c : Bool} {m k : List ℕ} → t ≡ u → w ≡ x → b ≡ c → m ≡ k → Masks n t w b m → Masks n u x c k
@@ -181,3 +182,23 @@ block_run text rest old new {w} r count m e f h p =
     let bound : count ≤ length rest = subst (λ (k : ℕ). k ≤ length rest) (sym h) (first_star-bound rest r f) in
     Masks-same refl (sym e) refl (ap (λ (k : ℕ). old ++ replicate k 32) (length-take-le count rest bound) ∙ sym p)
     (Masks-block (take count rest) text old none (Masks-same refl e refl refl m))
+
+-- a line that is white before bytes is white after them where they are
+pub and_at_true : (a b : Bool) → b ≡ true → a ≡ (a && b)
+and_at_true true b e = sym e
+and_at_true false b e = refl
+
+-- where the bytes aren't white, it isn't
+pub and_at_false : (a b : Bool) → b ≡ false → b ≡ (a && b)
+and_at_false false b e = e
+and_at_false true b e = refl
+
+-- bytes without a mark are shown as they stand
+pub plain_run : (text bytes : List ℕ) {w : Place} {white : Bool} (now_white : Bool) (count : ℕ) →
+    Reads text w white → w ≡ in_text → count ≡ position_or_len is_mark bytes → count ≡ length bytes → NoFeed bytes →
+    now_white ≡ (white && are_white bytes) → Masks (length text) (text ++ bytes) in_text now_white bytes
+plain_run text bytes {w} {white} now_white count r e f whole h q =
+    let all : take (position_or_len is_mark bytes) bytes ≡ bytes = take_all (position_or_len is_mark bytes) bytes (omega (arith, f, whole)) in
+    Masks-same refl refl (sym q) refl
+    (Masks-text bytes text white [] (subst NoMark all (no_mark_before bytes)) h
+    (Masks-same refl e refl refl (Masks-start r)))

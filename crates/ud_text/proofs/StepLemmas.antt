@@ -2,7 +2,8 @@
 use Rattle.std.proofs.Common.{◌≡◌, ℕ, zero, suc, ◌+◌, ◌-◌, ◌<◌, ◌≤◌, ◌==◌, List, [], ◌∷◌, ◌++◌, length, take, drop, get_or, Bool, true, false, ◌&&◌, ◌||◌, ◌⊎◌, inl, inr, refl, sym, ◌∙◌, ap, ap₂, subst, append_assoc, arith, add-one}
 use Rattle.std.specs.List.{position_or_len}
 use Rattle.std.proofs.lemmas.Bool.{eqb-true}
-use Rattle.std.proofs.lemmas.List.{take_more, take_rest, take-append-drop, take-take}
+use Rattle.std.proofs.lemmas.List.{take_more, take_rest, take-append-drop, take-take, get_or-drop}
+use Rattle.std.proofs.lemmas.List.Sums.{fails_before_first, passes_at_first}
 use Rattle.std.proofs.Math.ListN.{length-drop}
 use Rattle.std.proofs.Math.Seq.{drop-cons, drop-nil}
 use Rattle.ud_model.specs.text.Bytes.{is_quote, is_white, are_white, slash, number_sign, line_feed, carriage_return, star, backslash}
@@ -17,6 +18,7 @@ use Rattle.ud_text.proofs.ProgressLemmas.{read_text, read_line, plain_of, plain_
 use Rattle.ud_text.proofs.BlockLemmas.{pair_front, block_same, block_later, block_closed}
 use Rattle.ud_text.specs.Spans.{black, NoPair, NoSpecial, is_pair, LineSpan, all_white, LastBegins, TextSpan, is_special, SeenWhite, new_line}
 use Rattle.ud_text.specs.Progress.{ReadTo, ReadOutside}
+use Rattle.ud_text.specs.Searches.{is_one_of}
 
 take_two : (l : List ℕ) → 2 ≤ length l → take 2 l ≡ get_or l 0 0 ∷ get_or l 1 0 ∷ []
 take_two [] h = absurd (omega arith)
@@ -62,6 +64,52 @@ pub literal_ends : (l : List ℕ) (q at : ℕ) → at < length l → is_quote q 
 literal_ends l q at h k e white r =
     subst (λ (x : List ℕ). TextSpan white x) (sym (take_more l at 0 h ∙ ap (λ (n : ℕ). take at l ++ n ∷ []) (eqb-true (get_or l at 0) q e)))
     (literal_closed white q (take at l) r k)
+
+others_fail : (a b c : Bool) → ((((a || b) || c) || c) || c) ≡ false → (a ≡ false) × (b ≡ false) × (c ≡ false)
+others_fail true b c h = cc
+others_fail false true c h = cc
+others_fail false false true h = cc
+others_fail false false false h = (refl, refl, refl)
+
+second_passes : (a b c : Bool) → ((((a || b) || c) || c) || c) ≡ true → a ≡ false → c ≡ false → b ≡ true
+second_passes true b c h f g = cc
+second_passes false true c h f g = refl
+second_passes false false true h f g = cc
+second_passes false false false h f g = cc
+
+-- what a search in a literal stops at: the quote, a backslash or a line feed
+abbrev pub ends_run : ℕ → ℕ → Bool
+ends_run q b = is_one_of (q ∷ backslash ∷ line_feed ∷ line_feed ∷ line_feed ∷ []) b
+
+module _ (l : List ℕ) (q at count : ℕ) (is : count ≡ position_or_len (ends_run q) (take (length l - at) (drop at l))) where
+  found : count ≡ position_or_len (ends_run q) (drop at l)
+  found = is ∙ ap (λ (x : List ℕ). position_or_len (ends_run q) x) (take_rest l at)
+
+  fails : (k : ℕ) → k < count → ends_run q (get_or l (at + k) 0) ≡ false
+  fails k h = subst (λ (b : ℕ). ends_run q b ≡ false) (get_or-drop at l k 0) (fails_before_first (ends_run q) (drop at l) k 0 (omega (arith, found)))
+
+  run_more : (white : Bool) → LiteralFront white q (take at l) → (j : ℕ) → j ≤ count → LiteralFront white q (take (at + j) l)
+  run_more white r zero h = let same : at ≡ at + 0 = omega arith in subst (λ (n : ℕ). LiteralFront white q (take n l)) same r
+  run_more white r (suc j) h =
+      let inside : at + j < length l = omega (arith, found, position_or_len-bound (ends_run q) (drop at l), length-drop at l) in
+      let next : at + j + 1 ≡ at + suc j = omega arith in
+      let none = others_fail (get_or l (at + j) 0 == q) (get_or l (at + j) 0 == backslash) (get_or l (at + j) 0 == line_feed) (fails j (omega arith)) in
+      subst (λ (n : ℕ). LiteralFront white q (take n l)) next
+      (literal_more l q (at + j) inside none.2 none.0 none.1 white (run_more white r j (omega arith)))
+
+  -- the bytes of a literal up to which none ends it or takes a byte along
+  pub literal_run : (white : Bool) → LiteralFront white q (take at l) → LiteralFront white q (take (at + count) l)
+  literal_run white r = run_more white r count (omega arith)
+
+  -- where neither the quote nor a line feed stands after them, a backslash does
+  pub literal_backslash : at + count < length l → (get_or l (at + count) 0 == line_feed) ≡ false → (get_or l (at + count) 0 == q) ≡ false →
+      (get_or l (at + count) 0 == backslash) ≡ true
+  literal_backslash h f g =
+      let short : position_or_len (ends_run q) (drop at l) < length (drop at l) = omega (arith, found, length-drop at l) in
+      let stop : ends_run q (get_or (drop at l) count 0) ≡ true =
+      ap (λ (n : ℕ). ends_run q (get_or (drop at l) n 0)) found ∙ passes_at_first (ends_run q) (drop at l) 0 short in
+      second_passes (get_or l (at + count) 0 == q) (get_or l (at + count) 0 == backslash) (get_or l (at + count) 0 == line_feed)
+      (subst (λ (b : ℕ). ends_run q b ≡ true) (get_or-drop at l count 0) stop) g f
 
 -- a line comment is in front, up to its line feed
 pub comment_spans : (l : List ℕ) (k : ℕ) → take 2 l ≡ slash ∷ slash ∷ [] → NoBreak (take k (drop 2 l)) → k < length (drop 2 l) → (get_or l (2 + k) 0 == line_feed) ≡ true →

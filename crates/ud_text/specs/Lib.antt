@@ -1,9 +1,11 @@
 pub mod Holding
 pub mod Borrowing
 pub mod LineViews
+pub mod Searches
 pub mod Carrying
 pub mod Lending
 pub mod Passing
 pub mod States
 pub mod Spans
 pub mod Progress
+pub mod Skipping

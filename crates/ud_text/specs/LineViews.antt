@@ -3,8 +3,11 @@
 --   as_line line      the line with its body, its ending and its number
 --   as_scan scan      the scan
 --   place_of place    where a text leaves off
+--   shown_in lent m   the masked bytes: those that are lent or, if none are, these
 --
 -- Example: the scan of a line in plain mode, as `as_scan` gives it, is `plain_scan` of the line.
+use Rattle.std.specs.Prelude.{ℕ, List, Option, Some, None}
+use Rattle.std.specs.Borrow.{Bor}
 use Rattle.ud_model.specs.text.Lines.{Line as TextLine}
 use Rattle.ud_model.specs.text.Scans.{Scan as LineScan}
 use Rattle.ud_model.specs.aids.Places.{Place as TextPlace, in_text, at_slash, in_block, at_star, in_line, in_literal, at_backslash}
@@ -37,3 +40,8 @@ place_of Star = at_star
 place_of ToLineEnd = in_line
 place_of (Literal quote) = in_literal quote
 place_of (Backslash quote) = at_backslash quote
+
+-- the masked bytes of a line: those that are lent or, if none are, these
+abbrev pub shown_in : Option (Bor (List ℕ)) → List ℕ → List ℕ
+shown_in None masked = masked
+shown_in (Some bytes) masked = bytes.now

@@ -6,6 +6,8 @@
 #![tactic(auto)]
 
 mod fault;
+mod feeds;
+mod lanes;
 mod line;
 mod lines;
 mod marks;

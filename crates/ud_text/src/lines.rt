@@ -2,7 +2,8 @@
 //!
 //! One line is held at a time, at most `LINE_BYTES` bytes with its ending. However the bytes are cut into pieces,
 //! the lines are those of the definitions (ud_model, specs/text/Lines.antt). States: nothing held; part of a line; a
-//! whole line, until `clear`; closed; refused, for good.
+//! whole line, until `clear`; closed; refused, for good. Lines that stand whole in a piece needn't be held: `whole_in`
+//! lends one, and `skip` gives up many at once.
 //! A new way in which a line may end needs another `lines_of` and another `front`.
 
 ghost use Rattle.std.specs.Prelude.{◌≡◌, ℕ, suc, ◌+◌, ◌<◌, ◌≤◌, ◌↔◌, List, [], ◌∷◌, ◌++◌, length, take, true, false, Some, None, IfOk, IfErr, OnOk, OnErr, IfSome, OnSome, IfNone, Ok, Err, IsTrue, MatchResult};
@@ -10,8 +11,10 @@ ghost use Rattle.ud_model.specs.text.Lines.{NoFeed, whole_lines, open_rest, line
 ghost use Rattle.ud_text.specs.Borrowing.{CanLend, IsFirstLine};
 ghost use Rattle.ud_text.specs.Holding.{Took, UpToFeed, Refuses, refused_with, IsComplete, IsLastLine, IsLineOf};
 ghost use Rattle.ud_text.specs.LineViews.{as_line};
+ghost use Rattle.ud_text.specs.Skipping.{CanSkip};
 
 use crate::fault::TextFault;
+use crate::feeds::{count_lines, fitting_lines};
 use crate::line::Line;
 use arrayvec::ArrayVec;
 use memchr::memchr;
@@ -175,6 +178,36 @@ impl Lines {
             ending,
             number,
         })
+    }
+
+    /// How many bytes in front of the piece are whole lines that `skip` may give up at once.
+    ///
+    /// `piece` may have any length and any bytes. The answer is 0 if bytes of a line are held, if a fault was refused, or
+    /// if the text might have too many lines. Nothing else is said of how far it goes: where it is 0, `whole_in` and `take`
+    /// tell more.
+    pub fn whole_run(&self, piece: &[u8]) -> usize
+        ensures bound { result ≤ length piece.now }
+        ensures run { 0 < result → CanSkip self.now (take result piece.now) }
+    {
+        if self.refused.is_some() || !self.held_bytes.is_empty() {
+            return 0;
+        }
+        let count = fitting_lines(piece);
+        if count > (self.last - self.given_up) as usize {
+            return 0;
+        }
+        count
+    }
+
+    /// Takes these whole lines and gives them up. `whole_run` tells which lines may be skipped.
+    pub fn skip(&mut self, lines: &[u8])
+        requires run { CanSkip self.old lines.now }
+        requires open { self.old.closed ≡ false }
+        ensures value { self.new ≡ record self.old { before = self.old.before + length (whole_lines lines.now) } }
+        ensures stands { (text : List ℕ) → Took self.old text → Took self.new (text ++ lines.now) }
+    {
+        let before = self.given_up;
+        self.given_up = before + count_lines(lines) as u32;
     }
 
     /// How many bytes of the line are held, its ending counted; at most `LINE_BYTES`.

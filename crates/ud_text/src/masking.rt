@@ -9,7 +9,7 @@ ghost use Rattle.arrayvec.specs.ArrayVec.{array_vec_len};
 ghost use Rattle.ud_model.specs.text.Lines.{NoFeed};
 ghost use Rattle.ud_model.specs.text.Scanning.{is_block};
 ghost use Rattle.ud_model.specs.aids.Places.{Reads, Masks, next, opens, shows, whitens, blank_last, place_kind, fresh_at};
-ghost use Rattle.ud_text.specs.LineViews.{place_of};
+ghost use Rattle.ud_text.specs.LineViews.{place_of, shown_in};
 
 use crate::marks::first_mark;
 use arrayvec::ArrayVec;
@@ -220,11 +220,7 @@ fn mask_run(
 }
 
 /// Reads the content of a line, and puts it into `masked` as it is shown.
-pub(crate) fn mask_content(
-    reached: Reached,
-    content: &[u8],
-    masked: &mut ArrayVec<u8, LINE_BYTES>,
-) -> Reached
+fn mask_content(reached: Reached, content: &[u8], masked: &mut ArrayVec<u8, LINE_BYTES>) -> Reached
     requires empty { masked.old.items ≡ [] }
     requires fits { length content.now ≤ LINE_BYTES }
     requires one_line { NoFeed content.now }
@@ -243,6 +239,29 @@ pub(crate) fn mask_content(
         }
     }
     inside
+}
+
+/// Reads the content of a line. If the text leaves off outside comments and literals before it, and no mark stands in it,
+/// it is shown as it stands, and lent; else it is put into `masked` as it is shown.
+pub(crate) fn show_content<'a>(
+    reached: Reached,
+    content: &'a [u8],
+    masked: &mut ArrayVec<u8, LINE_BYTES>,
+) -> (Reached, Option<&'a [u8]>)
+    requires empty { masked.old.items ≡ [] }
+    requires fits { length content.now ≤ LINE_BYTES }
+    requires one_line { NoFeed content.now }
+    ensures len { length (shown_in result.1 masked.new.items) ≡ length content.now }
+    ensures masks { (text : List ℕ) → Reads text (place_of reached.place) reached.white → Masks (length text) (text ++ content.now) (place_of result.0.place) result.0.white (shown_in result.1 masked.new.items) }
+{
+    if let Place::Text = reached.place {
+        if first_mark(content) == content.len() {
+            let white = are_white(content) && reached.white;
+            let place = Place::Text;
+            return (Reached { place, white }, Some(content));
+        }
+    }
+    (mask_content(reached, content, masked), None)
 }
 
 /// Whether a line is fresh that goes on with these bytes.

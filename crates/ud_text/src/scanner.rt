@@ -1,9 +1,10 @@
 //! What is seen of a text's lines, each read in its mode.
 //!
-//! A scanner holds no line but the last one as it was shown: of the lines before it carries where their joined text
-//! leaves off, whether the last logical line is white, and whether the last line joins the next one.
+//! A scanner holds no line but the last one as it was shown, and not even that if it is shown as it stands: its bytes are
+//! then lent. Of the lines before, a scanner carries where their joined text leaves off, whether the last logical line is
+//! white, and whether the last line joins the next one.
 
-ghost use Rattle.std.specs.Prelude.{◌≡◌, ◌≤◌, ◌||◌, List, [], ◌∷◌, ◌++◌, length, true, false, take};
+ghost use Rattle.std.specs.Prelude.{◌≡◌, ◌≤◌, ◌||◌, ℕ, List, [], ◌∷◌, ◌++◌, length, true, false, take};
 ghost use Rattle.std.specs.Borrow.{sem};
 ghost use Rattle.ud_model.specs.text.Lines.{NoFeed};
 ghost use Rattle.ud_model.specs.text.Lines.{Line as TextLine};
@@ -12,7 +13,7 @@ ghost use Rattle.ud_model.specs.text.Splicing.{is_spliced, content, stays_open};
 ghost use Rattle.ud_model.specs.text.Scans.{Reading};
 ghost use Rattle.ud_model.specs.text.Scanning.{comment_at, scan_after, next_reading};
 ghost use Rattle.ud_model.specs.aids.Places.{place_kind, closed_place, closed_white};
-ghost use Rattle.ud_text.specs.LineViews.{as_line, as_scan, place_of};
+ghost use Rattle.ud_text.specs.LineViews.{as_line, as_scan, place_of, shown_in};
 ghost use Rattle.ud_text.specs.Carrying.{Carried, Carries, carried_by, nothing_carried, scan_with, ends_in_block};
 ghost use Rattle.ud_text.specs.Lending.{ReadsLine};
 ghost use Rattle.ud_text.specs.Passing.{EndsLine, PassesText};
@@ -21,7 +22,7 @@ ghost use Rattle.ud_model.specs.text.Scanning.{is_block};
 
 use crate::line::Line;
 use crate::masking::{
-    Place, Reached, is_fresh, is_in_block, is_white_with, mask_content, next_place,
+    Place, Reached, is_fresh, is_in_block, is_white_with, next_place, show_content,
 };
 use crate::passing::pass_run;
 use crate::scan::Scan;
@@ -53,12 +54,23 @@ struct Facts {
     comment: CommentAt,
 }
 
+/// What a line leaves, and what is seen of it.
+#[derive(Clone, Copy)]
+struct Seen<'a> {
+    /// What it leaves.
+    carry: Carry,
+    /// What is seen of it beside its masked bytes.
+    facts: Facts,
+    /// Its masked bytes if they are bytes of the line itself. Else they were put into the scanner.
+    lent: Option<&'a [u8]>,
+}
+
 /// Reads the lines of a text in order, each in its mode.
 #[derive(Drop)]
 pub struct Scanner {
     /// What the lines so far leave.
     carry: Carry,
-    /// The last line as it was shown.
+    /// The last line as it was shown, if its own bytes weren't lent.
     masked: ArrayVec<u8, LINE_BYTES>,
 }
 
@@ -119,19 +131,19 @@ fn comment_at(spliced: bool, place: Place) -> CommentAt
     }
 }
 
-/// Reads a line in C mode, and puts it into `masked` as it is shown.
-fn scan_code(carry: Carry, line: &Line<'_>, masked: &mut ArrayVec<u8, LINE_BYTES>) -> (Carry, Facts)
+/// Reads a line in C mode. Where its masked bytes aren't lent, they are put into `masked`.
+fn scan_code<'a>(carry: Carry, line: &Line<'a>, masked: &mut ArrayVec<u8, LINE_BYTES>) -> Seen<'a>
     requires empty { masked.old.items ≡ [] }
     requires fits { length line.now.body.now ≤ LINE_BYTES }
     requires one_line { NoFeed line.now.body.now }
-    ensures stands { (before : List Reading) → Carries (carried_by carry) before → Carries (carried_by result.0) (before ++ next_reading before Mode.C (as_line line.now) ∷ []) }
-    ensures value { (before : List Reading) → Carries (carried_by carry) before → scan_with masked.new.items result.1 ≡ scan_after before Mode.C (as_line line.now) }
-    ensures fits { length masked.new.items ≤ length line.now.body.now }
+    ensures stands { (before : List Reading) → Carries (carried_by carry) before → Carries (carried_by result.carry) (before ++ next_reading before Mode.C (as_line line.now) ∷ []) }
+    ensures value { (before : List Reading) → Carries (carried_by carry) before → scan_with (shown_in result.lent masked.new.items) result.facts ≡ scan_after before Mode.C (as_line line.now) }
+    ensures fits { length (shown_in result.lent masked.new.items) ≤ length line.now.body.now }
 {
     let spliced = is_spliced(line);
     let bytes = content(line);
     let fresh = is_fresh(carry.reached, bytes);
-    let inside = mask_content(carry.reached, bytes, masked);
+    let (inside, lent) = show_content(carry.reached, bytes, masked);
     let reached = close(line, inside);
     let joins = spliced || is_in_block(reached.place);
     let facts = Facts {
@@ -141,18 +153,16 @@ fn scan_code(carry: Carry, line: &Line<'_>, masked: &mut ArrayVec<u8, LINE_BYTES
         spliced,
         comment: comment_at(spliced, reached.place),
     };
-    (Carry { reached, joins }, facts)
+    let carry = Carry { reached, joins };
+    Seen { carry, facts, lent }
 }
 
-/// Reads a line in plain mode, and puts it into `masked` as it stands.
-fn scan_plain(line: &Line<'_>, masked: &mut ArrayVec<u8, LINE_BYTES>) -> (Carry, Facts)
-    requires empty { masked.old.items ≡ [] }
-    requires fits { length line.now.body.now ≤ LINE_BYTES }
-    ensures stands { (before : List Reading) → Carries (carried_by result.0) (before ++ next_reading before Mode.Plain (as_line line.now) ∷ []) }
-    ensures value { (before : List Reading) → scan_with masked.new.items result.1 ≡ scan_after before Mode.Plain (as_line line.now) }
-    ensures fits { length masked.new.items ≤ length line.now.body.now }
+/// Reads a line in plain mode, in which it is seen as it stands.
+fn scan_plain<'a>(line: &Line<'a>) -> Seen<'a>
+    ensures stands { (before : List Reading) → Carries (carried_by result.carry) (before ++ next_reading before Mode.Plain (as_line line.now) ∷ []) }
+    ensures value { (masked : List ℕ) → (before : List Reading) → scan_with (shown_in result.lent masked) result.facts ≡ scan_after before Mode.Plain (as_line line.now) }
+    ensures fits { (masked : List ℕ) → length (shown_in result.lent masked) ≤ length line.now.body.now }
 {
-    let _ = masked.try_extend_from_slice(line.body);
     let facts = Facts {
         fresh: true,
         joins_before: false,
@@ -160,26 +170,30 @@ fn scan_plain(line: &Line<'_>, masked: &mut ArrayVec<u8, LINE_BYTES>) -> (Carry,
         spliced: false,
         comment: CommentAt::Outside,
     };
-    (nothing(), facts)
+    let carry = nothing();
+    let lent = Some(line.body);
+    Seen { carry, facts, lent }
 }
 
-/// Reads a line in its mode, and puts it into `masked` as it is shown.
-fn scan_line(
+/// Reads a line in its mode. Where its masked bytes aren't lent, they are put into `masked`.
+fn scan_line<'a>(
     mode: Mode,
     carry: Carry,
-    line: &Line<'_>,
+    line: &Line<'a>,
     masked: &mut ArrayVec<u8, LINE_BYTES>,
-) -> (Carry, Facts)
+) -> Seen<'a>
     requires fits { length line.now.body.now ≤ LINE_BYTES }
     requires one_line { NoFeed line.now.body.now }
-    ensures stands { (before : List Reading) → Carries (carried_by carry) before → Carries (carried_by result.0) (before ++ next_reading before mode (as_line line.now) ∷ []) }
-    ensures value { (before : List Reading) → Carries (carried_by carry) before → scan_with masked.new.items result.1 ≡ scan_after before mode (as_line line.now) }
-    ensures fits { length masked.new.items ≤ length line.now.body.now }
+    ensures stands { (before : List Reading) → Carries (carried_by carry) before → Carries (carried_by result.carry) (before ++ next_reading before mode (as_line line.now) ∷ []) }
+    ensures value { (before : List Reading) → Carries (carried_by carry) before → scan_with (shown_in result.lent masked.new.items) result.facts ≡ scan_after before mode (as_line line.now) }
+    ensures fits { length (shown_in result.lent masked.new.items) ≤ length line.now.body.now }
 {
-    masked.clear();
     match mode {
-        Mode::C => scan_code(carry, line, masked),
-        Mode::Plain => scan_plain(line, masked),
+        Mode::C => {
+            masked.clear();
+            scan_code(carry, line, masked)
+        }
+        Mode::Plain => scan_plain(line),
     }
 }
 
@@ -237,22 +251,26 @@ impl Scanner {
     /// The line's body has at most `LINE_BYTES`, none of which is a line feed. In plain mode the line is seen as it
     /// stands, and the next line in C mode starts afresh. In C mode its masked bytes stand where they stand in the
     /// body (C11 5.1.1.2, phases 2 and 3, and 6.4.9).
-    pub fn read<'s>(&'s mut self, mode: Mode, line: &Line<'_>) -> Scan<'s>
+    pub fn read<'s, 'a: 's>(&'s mut self, mode: Mode, line: &Line<'a>) -> Scan<'s>
         requires fits { length line.now.body.now ≤ LINE_BYTES }
         requires one_line { NoFeed line.now.body.now }
         ensures* stands { sem 𝓛 (ReadsLine self.entry mode (as_line line.now)) }
         ensures value { (before : List Reading) → Carries self.old before → as_scan result ≡ scan_after before mode (as_line line.now) }
         ensures fits { length result.masked.now ≤ length line.now.body.now }
     {
-        let (carry, facts) = scan_line(mode, self.carry, line, &mut self.masked);
-        self.carry = carry;
+        let seen = scan_line(mode, self.carry, line, &mut self.masked);
+        self.carry = seen.carry;
+        let masked = match seen.lent {
+            Some(bytes) => bytes,
+            None => self.masked.as_slice(),
+        };
         Scan {
-            masked: self.masked.as_slice(),
-            fresh: facts.fresh,
-            joins_before: facts.joins_before,
-            joins_after: facts.joins_after,
-            spliced: facts.spliced,
-            comment: facts.comment,
+            masked,
+            fresh: seen.facts.fresh,
+            joins_before: seen.facts.joins_before,
+            joins_after: seen.facts.joins_after,
+            spliced: seen.facts.spliced,
+            comment: seen.facts.comment,
         }
     }
 

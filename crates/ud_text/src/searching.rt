@@ -1,10 +1,14 @@
 //! Searches for the bytes at which the reading of many lines has to look closer.
 
-ghost use Rattle.std.specs.Prelude.{◌≡◌, ◌≤◌, ◌<◌, ◌+◌, length, take, slice_index, true};
+ghost use Rattle.std.specs.Prelude.{◌≡◌, ◌≤◌, ◌<◌, ◌+◌, ◌-◌, length, take, drop, slice_index, true};
 ghost use Rattle.std.specs.List.{position_or_len};
+ghost use Rattle.ud_text.specs.Searches.{pairs_of, is_found};
 ghost use Rattle.ud_text.specs.Spans.{is_special, is_pair, NoPair, LastBegins};
 
+use crate::lanes::{first_far, lowest_bit};
 use memchr::memrchr;
+use std::simd::Simd;
+use std::simd::prelude::*;
 
 /// Whether a byte may matter outside comments and literals.
 pub(crate) fn is_special(byte: u8) -> bool
@@ -19,10 +23,7 @@ pub(crate) fn first_special(bytes: &[u8]) -> usize
     ensures value { result ≡ position_or_len is_special bytes.now }
     ensures bound { result ≤ length bytes.now }
 {
-    bytes
-        .iter()
-        .position(|byte| is_special(*byte))
-        .unwrap_or(bytes.len())
+    first_far(bytes, [b'/', b'"', b'\'', b'\\', b'#'])
 }
 
 /// Whether two bytes are a star before a slash or a backslash.
@@ -30,6 +31,69 @@ fn is_pair(first: u8, second: u8) -> bool
     ensures { result ≡ is_pair first second }
 {
     first == b'*' && (second == b'/' || second == b'\\')
+}
+
+/// How many of the `N` bytes from a place on stand before the first that makes a pair with the next; all if none does.
+#[inline(always)]
+fn pair_among<const N: usize>(bytes: &[u8], at: usize) -> usize
+    requires few { N ≤ 64 }
+    requires room { at + N < length bytes.now }
+    ensures value { result ≡ position_or_len is_found (take N (drop at (pairs_of bytes.now))) }
+    ensures bound { result ≤ N }
+{
+    let first = Simd::<u8, N>::from_slice(&bytes[at..]);
+    let second = Simd::<u8, N>::from_slice(&bytes[at + 1..]);
+    let ends = second.simd_eq(Simd::splat(b'/')) | second.simd_eq(Simd::splat(b'\\'));
+    let found = first.simd_eq(Simd::splat(b'*')) & ends;
+    lowest_bit(found.to_bitmask(), N)
+}
+
+/// How many bytes stand before the first pair, by `N` lanes; all but the last if there is none.
+#[inline(always)]
+fn pair_by<const N: usize>(bytes: &[u8]) -> usize
+    requires some { 0 < N }
+    requires few { N ≤ 64 }
+    requires room { N < length bytes.now }
+    ensures { result ≡ position_or_len is_found (pairs_of bytes.now) }
+{
+    let last = bytes.len() - 1 - N;
+    let mut at = 0;
+    while at < last {
+        let count = pair_among::<N>(bytes, at);
+        if count < N {
+            return at + count;
+        }
+        at += N;
+    }
+    last + pair_among::<N>(bytes, last)
+}
+
+/// The same, one by one.
+fn pair_one_by_one(bytes: &[u8]) -> usize
+    ensures { result ≡ position_or_len is_found (pairs_of bytes.now) }
+{
+    let mut at = 0;
+    while at + 1 < bytes.len() {
+        if is_pair(bytes[at], bytes[at + 1]) {
+            return at;
+        }
+        at += 1;
+    }
+    at
+}
+
+/// How many bytes stand before the first pair; all but the last if there is none.
+fn pair_place(bytes: &[u8]) -> usize
+    ensures value { result ≡ position_or_len is_found (pairs_of bytes.now) }
+    ensures bound { result ≤ length bytes.now - 1 }
+{
+    if bytes.len() > 64 {
+        pair_by::<64>(bytes)
+    } else if bytes.len() > 16 {
+        pair_by::<16>(bytes)
+    } else {
+        pair_one_by_one(bytes)
+    }
 }
 
 /// The place of the first star before a slash, which closes a block comment, or before a backslash, by which a splice may
@@ -41,14 +105,12 @@ pub(crate) fn first_pair(bytes: &[u8]) -> usize
     ensures found { result < length bytes.now →
         is_pair (slice_index bytes.now result) (slice_index bytes.now (result + 1)) ≡ true }
 {
-    let mut at = 0;
-    while at + 1 < bytes.len() {
-        if is_pair(bytes[at], bytes[at + 1]) {
-            return at;
-        }
-        at += 1;
+    let at = pair_place(bytes);
+    if at + 1 < bytes.len() {
+        at
+    } else {
+        bytes.len()
     }
-    bytes.len()
 }
 
 /// The beginning of the last line of these bytes; their end if they end with a line feed.

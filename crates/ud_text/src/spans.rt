@@ -7,6 +7,7 @@ ghost use Rattle.std.specs.Prelude.{◌≡◌, ◌≤◌, ◌<◌, Bool, [], ◌
 ghost use Rattle.ud_model.specs.text.Bytes.{slash, backslash, is_quote};
 ghost use Rattle.ud_text.specs.Spans.{is_special, TextSpan, LineSpan};
 
+use crate::lanes::first_near;
 use crate::searching::is_special;
 use memchr::memchr2;
 
@@ -69,24 +70,23 @@ fn literal_span(rest: &[u8], quote: u8) -> Option<usize>
 {
     let mut at = 1;
     while at < rest.len() {
-        let byte = rest[at];
-        if byte == b'\n' {
+        let end = at + first_near(&rest[at..], [quote, b'\\', b'\n', b'\n', b'\n']);
+        if end >= rest.len() {
             return None;
         }
-        if byte == quote {
-            return Some(at + 1);
+        if rest[end] == b'\n' {
+            return None;
         }
-        if byte == b'\\' {
-            if at + 1 >= rest.len() {
-                return None;
-            }
-            if rest[at + 1] == b'\n' {
-                return None;
-            }
-            at += 2;
-        } else {
-            at += 1;
+        if rest[end] == quote {
+            return Some(end + 1);
         }
+        if end + 1 >= rest.len() {
+            return None;
+        }
+        if rest[end + 1] == b'\n' {
+            return None;
+        }
+        at = end + 2;
     }
     None
 }

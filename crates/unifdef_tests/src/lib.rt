@@ -27,6 +27,8 @@ mod listing;
 #[cfg(test)]
 mod machines;
 #[cfg(test)]
+mod marks;
+#[cfg(test)]
 mod passing;
 #[cfg(test)]
 mod plain;

@@ -176,3 +176,52 @@ fn a_line_of_4097_bytes_is_refused_and_not_borrowed(rt: HostRuntime) -> Result<(
     assert!(rt; fault == TextFault::LineTooLong { line: 1 });
     lend_none(&mut lines, &piece)
 }
+
+#[test]
+fn whole_lines_are_skipped_at_once(rt: HostRuntime) -> Result<(), Fail> {
+    let piece = b"a\nb\r\n\nc";
+    let mut lines = Lines::new(100);
+    let run = lines.whole_run(piece);
+    assert_eq!(rt; run, 6);
+    if run > 0 {
+        lines.skip(&piece[..run]);
+    }
+    assert_eq!(rt; lines.held(), 0);
+    if !lines.take(b"c\n")?.whole {
+        return Err(Fail::new("the line has its line feed"));
+    }
+    assert_eq!(rt; lines.line().number, 4);
+    assert_eq!(rt; lines.whole_run(b"d\n"), 0);
+    Ok(())
+}
+
+#[test]
+fn no_line_past_a_limit_is_skipped(rt: HostRuntime) -> Result<(), Fail> {
+    let mut piece = [b'a'; 4200];
+    piece[100] = b'\n';
+    piece[4196] = b'\n';
+    assert_eq!(rt; Lines::new(5000).whole_run(&piece), 4197);
+    piece[4196] = b'a';
+    piece[4197] = b'\n';
+    assert_eq!(rt; Lines::new(5000).whole_run(&piece), 101);
+    assert_eq!(rt; Lines::new(1).whole_run(b"a\nb\n"), 0);
+    Ok(())
+}
+
+#[test]
+fn each_skipped_line_is_counted(rt: HostRuntime) -> Result<(), Fail> {
+    let piece = [b'\n'; 300];
+    for count in 1..300 {
+        let mut lines = Lines::new(300);
+        let run = lines.whole_run(&piece[..count]);
+        assert_eq!(rt; run, count);
+        if run > 0 {
+            lines.skip(&piece[..run]);
+        }
+        let Some(line) = lines.whole_in(b"a\n") else {
+            return Err(Fail::new("the next line is lent"));
+        };
+        assert_eq!(rt; line.number as usize, count.saturating_add(1));
+    }
+    Ok(())
+}

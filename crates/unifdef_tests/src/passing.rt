@@ -248,3 +248,37 @@ fn a_pass_stops_at_the_line_that_may_be_none(rt: HostRuntime) -> Result<(), Fail
     goes(&rt, b"don't\n", 0);
     Ok(())
 }
+
+/// A line with so many bytes between its beginning and its end.
+fn spanning(alloc: Global, begin: &[u8], count: usize, end: &[u8]) -> Result<Vec<u8>, AllocError> {
+    let mut line = Vec::new(alloc);
+    line.extend_from_slice(begin)?;
+    for _ in 0..count {
+        line.push(b'x')?;
+    }
+    line.extend_from_slice(end)?;
+    Ok(line)
+}
+
+#[test]
+fn a_pass_goes_through_spans_of_each_length(rt: HostRuntime) -> Result<(), Fail> {
+    let spans: [(&[u8], &[u8]); 7] = [
+        (b"", b"\n"),
+        (b"a # ", b"\n"),
+        (b"//", b"\n"),
+        (b"/*", b"*/\n"),
+        (b"/**", b"* ** /*/\n"),
+        (b"\"\\\"", b"\"\n"),
+        (b"'", b"\\''\n"),
+    ];
+    for count in 0..200 {
+        for (begin, end) in spans {
+            let mut lines = spanning(rt.alloc(), begin, count, end)?;
+            let passed = lines.len();
+            goes(&rt, lines.as_slice(), passed);
+            lines.extend_from_slice(b"#if X\n")?;
+            goes(&rt, lines.as_slice(), passed);
+        }
+    }
+    Ok(())
+}

@@ -1,16 +1,8 @@
 -- Runs of bytes that leave the place as it is.
-use Rattle.std.proofs.Common.{sym, ◌∙◌, ap, Bool, true, false, ◌≡◌, ◌&&◌, refl}
+use Rattle.std.proofs.Common.{sym, ◌∙◌, ap}
 use Rattle.ud_text.specs.LineViews.{place_of}
-use Rattle.ud_text.proofs.RunLemmas.{text_run, block_run}
+use Rattle.ud_text.proofs.RunLemmas.{and_at_true, and_at_false, text_run, block_run}
 use Rattle.ud_text.proofs.masking.mask_run.Goals as goal
-
-and_at_true : (a b : Bool) → b ≡ true → a ≡ (a && b)
-and_at_true true b e = sym e
-and_at_true false b e = refl
-
-and_at_false : (a b : Bool) → b ≡ false → b ≡ (a && b)
-and_at_false true b e = refl
-and_at_false false b e = e
 
 pub returns-then-are_white-clause-masks : goal.returns-then-are_white-clause-masks
 returns-then-are_white-clause-masks c n text m =

@@ -5,24 +5,24 @@ use Rattle.ud_model.specs.text.Scans.{Reading}
 use Rattle.ud_model.specs.text.Splicing.{is_spliced, content, joined, run_of}
 use Rattle.ud_model.specs.text.Scanning.{is_block, comment_at}
 use Rattle.ud_model.specs.aids.Places.{Place, Masks, place_kind, fresh_at}
-use Rattle.ud_text.specs.LineViews.{as_line, place_of}
+use Rattle.ud_text.specs.LineViews.{as_line, place_of, shown_in}
 use Rattle.ud_text.specs.Carrying.{Carries, carried_by}
 use Rattle.ud_text.proofs.CarryLemmas.{carries_code, scan_carried, same_parts, no_feed-content}
 use Rattle.ud_text.proofs.scanner.scan_code.Goals as goal
 use Rattle.ud_text.proofs.scanner.scan_code.Goals.{After-comment_at, then-spliced, else-spliced}
 
-pub mask_content-inside-requires-clause-one_line : goal.mask_content-inside-requires-clause-one_line
-mask_content-inside-requires-clause-one_line c =
+pub show_content-requires-clause-one_line : goal.show_content-requires-clause-one_line
+show_content-requires-clause-one_line c =
     subst NoFeed (sym c.content-bytes.ensures) (no_feed-content (as_line c.args.line.now) c.requires.one_line)
 
 -- how the content is shown after the joined text of the run
 shown_content : (c : After-comment_at) (before : List Reading) → Carries (carried_by c.args.carry) before →
-    Masks (length (joined (run_of before))) (joined (run_of before) ++ content (as_line c.args.line.now)) (place_of c.mask_content-inside.result.place)
-    c.mask_content-inside.result.white c.mask_content-inside.new.masked.items
+    Masks (length (joined (run_of before))) (joined (run_of before) ++ content (as_line c.args.line.now)) (place_of c.show_content.result.0.place)
+    c.show_content.result.0.white (shown_in c.show_content.result.1 c.show_content.new.masked.items)
 shown_content c before h =
-    subst (λ (l : List ℕ). Masks (length (joined (run_of before))) (joined (run_of before) ++ l) (place_of c.mask_content-inside.result.place)
-    c.mask_content-inside.result.white c.mask_content-inside.new.masked.items) c.content-bytes.ensures
-    (c.mask_content-inside.ensures.masks (joined (run_of before)) h.reads)
+    subst (λ (l : List ℕ). Masks (length (joined (run_of before))) (joined (run_of before) ++ l) (place_of c.show_content.result.0.place)
+    c.show_content.result.0.white (shown_in c.show_content.result.1 c.show_content.new.masked.items)) c.content-bytes.ensures
+    (c.show_content.ensures.masks (joined (run_of before)) h.reads)
 
 or_true : (a b : Bool) → a ≡ true → a ≡ (a || b)
 or_true true b e = refl
@@ -41,8 +41,8 @@ joins_is c =
 
 pub returns-clause-stands : goal.returns-clause-stands
 returns-clause-stands c = λ before h.
-    carries_code (carried_by c.args.carry) before (as_line c.args.line.now) c.mask_content-inside.new.masked.items
-    (place_of c.mask_content-inside.result.place) c.mask_content-inside.result.white _ h (shown_content c before h)
+    carries_code (carried_by c.args.carry) before (as_line c.args.line.now) (shown_in c.show_content.result.1 c.show_content.new.masked.items)
+    (place_of c.show_content.result.0.place) c.show_content.result.0.white _ h (shown_content c before h)
     c.close-reached.ensures.place c.close-reached.ensures.white (joins_is c)
 
 pub returns-clause-value : goal.returns-clause-value
@@ -53,5 +53,5 @@ returns-clause-value c = λ before h.
     (joins_is c ∙ ap (λ (p : Place). is_spliced (as_line c.args.line.now) || is_block (place_kind p)) c.close-reached.ensures.place)
     c.is_spliced-spliced.ensures
     (c.comment_at.ensures ∙ ap₂ (λ (s : Bool) (p : Place). comment_at s (place_kind p)) c.is_spliced-spliced.ensures c.close-reached.ensures.place)
-    ∙ sym (scan_carried (carried_by c.args.carry) before (as_line c.args.line.now) c.mask_content-inside.new.masked.items
-    (place_of c.mask_content-inside.result.place) c.mask_content-inside.result.white h (shown_content c before h))
+    ∙ sym (scan_carried (carried_by c.args.carry) before (as_line c.args.line.now) (shown_in c.show_content.result.1 c.show_content.new.masked.items)
+    (place_of c.show_content.result.0.place) c.show_content.result.0.white h (shown_content c before h))

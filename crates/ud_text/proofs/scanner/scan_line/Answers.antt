@@ -7,4 +7,4 @@ use Rattle.ud_text.proofs.scanner.scan_line.Goals as goal
 
 pub returns-in-Plain-clause-value : goal.returns-in-Plain-clause-value
 returns-in-Plain-clause-value c = λ before h.
-    c.scan_plain.ensures.value before ∙ sym (ap (λ (m : Mode). scan_after before m (as_line c.args.line.now)) c.in-Plain.is)
+    c.scan_plain.ensures.value _ before ∙ sym (ap (λ (m : Mode). scan_after before m (as_line c.args.line.now)) c.in-Plain.is)

@@ -9,5 +9,5 @@ use Rattle.ud_text.proofs.scanner.scan_plain.Goals as goal
 
 pub returns-clause-stands : goal.returns-clause-stands
 returns-clause-stands c = λ before.
-    subst (λ (k : Carried). Carries k (before ++ next_reading before Plain (as_line c.args.line.now) ∷ [])) (sym c.nothing.ensures)
+    subst (λ (k : Carried). Carries k (before ++ next_reading before Plain (as_line c.args.line.now) ∷ [])) (sym c.nothing-carry.ensures)
     (carries_plain before (as_line c.args.line.now))

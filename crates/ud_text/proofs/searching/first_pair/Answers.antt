@@ -1,10 +1,12 @@
--- One byte more.
-use Rattle.std.proofs.Common.{sym, ◌∙◌, arith}
-use Rattle.ud_text.proofs.StepLemmas.{pair_more}
+-- By the place of the first pair.
+use Rattle.ud_text.proofs.PairLemmas.{before_first_pair, no_pair, at_first_pair}
 use Rattle.ud_text.proofs.searching.first_pair.Goals as goal
 
-pub loop-at-preserved : goal.loop-at-preserved
-loop-at-preserved c = record {
-  within = omega arith;
-  before = pair_more c.args.bytes.now c.loop-at.at c.loop-at-test.true c.loop-at.invariant.before (sym c.is_pair.ensures ∙ c.if-is_pair.false);
-}
+pub returns-then-at-bytes-clause-before : goal.returns-then-at-bytes-clause-before
+returns-then-at-bytes-clause-before c = before_first_pair c.args.bytes.now c.pair_place-at.result c.pair_place-at.ensures.value
+
+pub returns-then-at-bytes-clause-found : goal.returns-then-at-bytes-clause-found
+returns-then-at-bytes-clause-found c = λ _. at_first_pair c.args.bytes.now c.pair_place-at.result c.pair_place-at.ensures.value c.if-at-bytes.true
+
+pub returns-else-at-bytes-clause-before : goal.returns-else-at-bytes-clause-before
+returns-else-at-bytes-clause-before c = no_pair c.args.bytes.now c.pair_place-at.result c.pair_place-at.ensures.value c.if-at-bytes.false
