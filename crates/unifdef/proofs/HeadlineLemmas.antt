@@ -1,40 +1,28 @@
 -- Headline: from what a run answered to the answer of the definitions.
-use Rattle.std.proofs.Common.{◌≡◌, ℕ, List, [], ◌++◌, Bool, true, false, not, Option, Some, None, Result, Ok, Err, refl, sym, ◌∙◌, ap, subst, append-nil, ◌⊎◌, inl, inr}
+use Rattle.std.proofs.Common.{◌≡◌, ℕ, List, [], ◌++◌, Bool, true, false, not, Option, Some, None, Result, Ok, Err, refl, sym, ◌∙◌, ap, subst, ◌⊎◌, inl, inr}
 use Rattle.std.specs.Prelude.{IfSome}
 use Rattle.std.proofs.lemmas.Option.{IfSome_then}
-use Rattle.std.specs.Io.KnownBytes.{Appends, Keeps}
+use Rattle.std.specs.Io.KnownBytes.{Keeps}
+use Rattle.std.proofs.KnownBytes.{Appends-nil}
 use Rattle.ud_model.specs.sections.Items.{Options}
-use Rattle.ud_model.specs.sections.Faults.{Fault}
 use Rattle.ud_model.specs.answer.CommandLine.{given_in, usage_fault, options_of, input_name}
 use Rattle.ud_model.specs.answer.Answer.{usage_answer, memory_answer, refused, ran, message_or_none, status_of, status_under}
-use Rattle.ud_model.specs.answer.Messages.{message_of, write_error}
+use Rattle.ud_model.specs.answer.Messages.{write_error}
 use Rattle.ud_model.specs.answer.Runs.{Outcome}
 use Rattle.ud_model.specs.declared.settings.Settings.{Settings}
-use Rattle.ud_sections.specs.Sections.{fault_of}
 use Rattle.ud_words.specs.Saying.{IsUsageOf}
 use Rattle.ud_words.specs.Storing.{PutsSymbol}
 use Rattle.ud_words.specs.declared.usage.Usage.{Usage}
+use Rattle.ud_engine.proofs.SendingLemmas.{kept}
 use Rattle.ud_engine.specs.Ending.{Ran, RanAs}
-use Rattle.ud_engine.specs.Feeding.{limit_of}
 use Rattle.ud_engine.specs.Running.{KeptUp}
 use Rattle.ud_engine.specs.Watching.{Watching, Says}
 use Rattle.ud_engine.specs.declared.fault.RunFault.{RunFault}
 use Rattle.ud_engine.specs.declared.fault.RunFault.TheVariants.{Text, Section, Read, Write}
-use Rattle.unifdef.specs.Gave.{streams, Gave, GivesAnswer, LacksMemory}
+use Rattle.unifdef.specs.Gave.{streams, GivesAnswer, LacksMemory}
 use Rattle.unifdef.specs.Refusals.{refusal_text}
-use Rattle.unifdef.specs.Told.{ended_by, fault_message, message_told, status_told}
-use Rattle.unifdef.proofs.RefusalLemmas.{TellsFault, tells-IsUsageOf, right_is_no_fault}
-
-nothing_written : (c : Option (List ℕ)) → Appends c c []
-nothing_written None = tt
-nothing_written (Some xs) = sym (append-nil xs)
-
--- a flush keeps what was written
-appends_keeps : (a b c : Option (List ℕ)) (x : List ℕ) → Appends a b x → Keeps b c → Appends a c x
-appends_keeps None b c x h k = tt
-appends_keeps (Some xs) None c x h k = absurd h
-appends_keeps (Some xs) (Some ys) None x h k = absurd k
-appends_keeps (Some xs) (Some ys) (Some zs) x h k = k ∙ h
+use Rattle.unifdef.specs.Told.{ended_by, message_told, status_told}
+use Rattle.unifdef.proofs.RefusalLemmas.{TellsFault, tells-IsUsageOf}
 
 -- what is told of how a run ended is what the definitions tell of its outcome
 record TellsOutcome (name : List ℕ) (s : Settings) (ended : Result Bool RunFault) (r : Outcome) : Type 0 where
@@ -62,13 +50,13 @@ pub run_answers : (words : List (List ℕ)) (input : List ℕ) (ended : Result B
     usage_fault words ≡ None → Ran (options_of words) input uo um ended → Keeps um un →
     Says e eo en (message_told (input_name words) ended) → s ≡ status_told (options_of words).settings ended →
     GivesAnswer words input (streams uo eo) (streams un en) e s
-run_answers words input ended uo um un e eo en s right r kept said status =
+run_answers words input ended uo um un e eo en s right r keeps said status =
     let told = tells_outcome (input_name words) (options_of words).settings ended r.outcome r.answered in
     (
       _,
       ran r.outcome right r.runs,
       record {
-        output = appends_keeps uo um un r.outcome.output r.output kept;
+        output = kept uo um un r.outcome.output r.output keeps;
         message = subst (λ (x : List ℕ). Says e eo en x) told.message said;
         answered = status ∙ told.status;
       },
@@ -92,24 +80,24 @@ pub flushed_answers : (words : List (List ℕ)) (before : Option (List ℕ)) (an
     (mid ≡ false → new ≡ not flushed) → (mid ≡ true → new ≡ true) → new ≡ false →
     Says e eo en (message_told (input_name words) (ended_by answer flushed)) → s ≡ status_told (options_of words).settings (ended_by answer flushed) →
     IfSome before (λ input. GivesAnswer words input (streams uo eo) (streams un en) e s)
-flushed_answers words before answer mid new flushed uo um un e eo en s right ran_so kept after again stays said status =
+flushed_answers words before answer mid new flushed uo um un e eo en s right ran_so keeps after again stays said status =
     let works : mid ≡ false = worked mid new again stays in
     let same : ended_by answer flushed ≡ answer = flushed_well mid new flushed answer after works stays in
     IfSome_then before (ran_so works) (λ input r.
-    run_answers words input answer uo um un e eo en s right r kept
+    run_answers words input answer uo um un e eo en s right r keeps
     (subst (λ (a : Result Bool RunFault). Says e eo en (message_told (input_name words) a)) same said)
     (status ∙ ap (status_told (options_of words).settings) same))
 
 -- what was kept up with stays so after a flush
 pub flushed_kept_up : (o : Options) (read_old read_new uo um un : Option (List ℕ)) → KeptUp o read_old read_new uo um → Keeps um un → KeptUp o read_old read_new uo un
-flushed_kept_up o read_old read_new uo um un k kept = record {
+flushed_kept_up o read_old read_new uo um un k keeps = record {
   given = k.given;
   consumed = k.consumed;
   outcome = k.outcome;
   runs = k.runs;
   right = k.right;
   more = k.more;
-  appended = appends_keeps uo um un (k.outcome.output ++ k.more) k.appended kept;
+  appended = kept uo um un (k.outcome.output ++ k.more) k.appended keeps;
 }
 
 -- a failed write, or a failed flush after a run without a fault, ends in a write error; after a fault the fault stays
@@ -129,7 +117,7 @@ pub failed_told : (words : List (List ℕ)) (before : Option (List ℕ)) (answer
     (mid ≡ true → answer ≡ Err Write) → (mid ≡ false → new ≡ not flushed) → new ≡ true →
     Says e eo en (message_told (input_name words) (ended_by answer flushed)) → s ≡ status_told (options_of words).settings (ended_by answer flushed) →
     IfSome before (λ input. Says e eo en (write_error (input_name words)) ⊎ GivesAnswer words input (streams uo eo) (streams un en) e s)
-failed_told words before answer mid new flushed uo um un e eo en s right ran_so kept wrote after fails said status =
+failed_told words before answer mid new flushed uo um un e eo en s right ran_so keeps wrote after fails said status =
     by_end (ends_failed answer mid new flushed wrote after fails)
   where
     by_end : EndsFailed answer mid flushed → IfSome before (λ input. Says e eo en (write_error (input_name words)) ⊎ GivesAnswer words input (streams uo eo) (streams un en) e s)
@@ -141,7 +129,7 @@ failed_told words before answer mid new flushed uo um un e eo en s right ran_so 
         some_input (Some input) h = inl h
     by_end (by_fault works same) =
         IfSome_then before (ran_so works) (λ input r.
-        inr (run_answers words input answer uo um un e eo en s right r kept
+        inr (run_answers words input answer uo um un e eo en s right r keeps
         (subst (λ (a : Result Bool RunFault). Says e eo en (message_told (input_name words) a)) same said)
         (status ∙ ap (status_told (options_of words).settings) same)))
 
@@ -160,7 +148,7 @@ usage_answers words u reader out (Some input) uo e eo en s wrong said status = b
           usage_answer t.told,
           refused t.told t.is,
           record {
-            output = nothing_written uo;
+            output = Appends-nil uo;
             message = subst (λ (x : List ℕ). Says e eo en x) t.text said;
             answered = status;
           },
@@ -171,7 +159,7 @@ usage_answers words u reader out (Some input) uo e eo en s wrong said status = b
           unread = refl;
           unwritten = refl;
           gave = record {
-            output = nothing_written uo;
+            output = Appends-nil uo;
             message = subst (λ (x : List ℕ). Says e eo en x) t.1 said;
             answered = status;
           };

@@ -1,4 +1,4 @@
-use Rattle.std.proofs.Common.{ℕ, List, [], ◌∙◌, Bor}
+use Rattle.std.proofs.Common.{ℕ, List, [], Bor}
 use Rattle.ud_engine.proofs.SendingLemmas.{parts_sent, parts_failed}
 use Rattle.unifdef.proofs.emit.emit_parts.Goals as goal
 

@@ -1,4 +1,4 @@
-use Rattle.std.proofs.Common.{◌≡◌, ℕ, List, Bool, refl, sym, ap₂, map, string_bytes, ◌∙◌, inl}
+use Rattle.std.proofs.Common.{◌≡◌, refl, sym, ap₂, map, string_bytes, ◌∙◌, inl}
 use Rattle.std.proofs.lemmas.Option.{IfSome_then}
 use Rattle.ud_model.specs.answer.CommandLine.{options_of, input_name}
 use Rattle.ud_engine.specs.Watching.{Says}
