@@ -40,7 +40,8 @@ sent_front a b c bytes part rest s (front, back, joined, p) = (
   Appends-trans a b c s.front front s.appended p,
 )
 
-kept : (a b c : Option (List ℕ)) (x : List ℕ) → Appends a b x → Keeps b c → Appends a c x
+-- what was appended stays so while what is held stays
+pub kept : (a b c : Option (List ℕ)) (x : List ℕ) → Appends a b x → Keeps b c → Appends a c x
 kept None b c x p q = tt
 kept (Some u) None c x p q = absurd p
 kept (Some u) (Some v) None x p q = absurd q

@@ -1,170 +1,166 @@
--- Headline: from what a reader gave to the answer of the definitions.
-use Rattle.std.proofs.Common.{◌≡◌, ℕ, suc, List, [], ◌∷◌, ◌++◌, length, Bool, true, false, not, Option, Some, None, refl, sym, ◌∙◌, ap, subst, append-nil, ◌≤◌, arith, ◌⊎◌, inl, inr}
+-- Headline: from what a run answered to the answer of the definitions.
+use Rattle.std.proofs.Common.{◌≡◌, ℕ, List, [], ◌++◌, Bool, true, false, not, Option, Some, None, Result, Ok, Err, refl, sym, ◌∙◌, ap, subst, ◌⊎◌, inl, inr}
 use Rattle.std.specs.Prelude.{IfSome}
-use Rattle.std.specs.Io.KnownBytes.{Appends, Keeps}
-use Rattle.std.proofs.lemmas.List.{length-map}
-use Rattle.ud_model.specs.text.Lines.{Line, lines_of, numbered_from}
+use Rattle.std.proofs.lemmas.Option.{IfSome_then}
+use Rattle.std.specs.Io.KnownBytes.{Keeps}
+use Rattle.std.proofs.KnownBytes.{Appends-nil}
 use Rattle.ud_model.specs.sections.Items.{Options}
-use Rattle.ud_model.specs.conditions.Table.{entry_in}
 use Rattle.ud_model.specs.answer.CommandLine.{given_in, usage_fault, options_of, input_name}
-use Rattle.ud_model.specs.answer.Answer.{usage_answer, memory_answer, refused, ran}
-use Rattle.ud_model.specs.declared.limits.TheConstants.{TEXT_LINES}
-use Rattle.ud_model.proofs.text.LinesLemmas.{length-numbered_from}
+use Rattle.ud_model.specs.answer.Answer.{usage_answer, memory_answer, refused, ran, message_or_none, status_of, status_under}
+use Rattle.ud_model.specs.answer.Messages.{write_error}
+use Rattle.ud_model.specs.answer.Runs.{Outcome}
 use Rattle.ud_model.specs.declared.settings.Settings.{Settings}
-use Rattle.unifdef.specs.declared.held.Held.{Held}
-use Rattle.unifdef.specs.declared.intake.End.{End}
-use Rattle.unifdef.specs.declared.intake.End.TheVariants.{Ended, Failed, Broken}
-use Rattle.unifdef.specs.declared.outcome.Outcome.{Outcome}
-use Rattle.ud_words.specs.declared.usage.Usage.{Usage}
-use Rattle.unifdef.specs.declared.seen.Seen.{Seen}
-use Rattle.unifdef.specs.Limits.{Breaks, ended, broken}
-use Rattle.unifdef.specs.Intake.{HeldOf, text_fault_told}
-use Rattle.unifdef.specs.Gave.{streams, Gave, GivesAnswer, HeldInput, GivesRun, Comes}
-use Rattle.unifdef.specs.Held.{Holds}
-use Rattle.unifdef.specs.Inside.{items_in}
-use Rattle.unifdef.specs.Shapes.{AreSeen}
-use Rattle.unifdef.specs.Watching.{Says}
-use Rattle.unifdef.specs.Outcomes.{output_told, differs_told}
-use Rattle.unifdef.specs.Ending.{message_told, status_told}
-use Rattle.unifdef.specs.Refusals.{refusal_text}
 use Rattle.ud_words.specs.Saying.{IsUsageOf}
 use Rattle.ud_words.specs.Storing.{PutsSymbol}
+use Rattle.ud_words.specs.declared.usage.Usage.{Usage}
+use Rattle.ud_engine.proofs.SendingLemmas.{kept}
+use Rattle.ud_engine.specs.Ending.{Ran, RanAs}
+use Rattle.ud_engine.specs.Running.{KeptUp}
+use Rattle.ud_engine.specs.Watching.{Watching, Says}
+use Rattle.ud_engine.specs.declared.fault.RunFault.{RunFault}
+use Rattle.ud_engine.specs.declared.fault.RunFault.TheVariants.{Text, Section, Read, Write}
+use Rattle.unifdef.specs.Gave.{streams, GivesAnswer, LacksMemory}
+use Rattle.unifdef.specs.Refusals.{refusal_text}
+use Rattle.unifdef.specs.Told.{ended_by, message_told, status_told}
 use Rattle.unifdef.proofs.RefusalLemmas.{TellsFault, tells-IsUsageOf}
-use Rattle.unifdef.proofs.HeldLemmas.{are_seen}
-use Rattle.unifdef.proofs.ReadLemmas.{length_items}
-use Rattle.unifdef.proofs.RunsSame.{runs_same}
 
-nothing_written : (c : Option (List ℕ)) → Appends c c []
-nothing_written None = tt
-nothing_written (Some xs) = sym (append-nil xs)
+-- what is told of how a run ended is what the definitions tell of its outcome
+record TellsOutcome (name : List ℕ) (s : Settings) (ended : Result Bool RunFault) (r : Outcome) : Type 0 where
+  message : message_told name ended ≡ message_or_none name r.fault
+  status : status_told s ended ≡ status_of s r.differs r.fault
 
--- a flush keeps what was written
-pub appends_keeps : (a b c : Option (List ℕ)) (x : List ℕ) → Appends a b x → Keeps b c → Appends a c x
-appends_keeps None b c x h k = tt
-appends_keeps (Some xs) None c x h k = absurd h
-appends_keeps (Some xs) (Some ys) None x h k = absurd k
-appends_keeps (Some xs) (Some ys) (Some zs) x h k = k ∙ h
-
--- memory is refused, and nothing is written to `out`
-pub memory_gave : (uo : Option (List ℕ)) (e : Bool) (eo en : Option (List ℕ)) (s : ℕ) → Says e eo en memory_answer.message → s ≡ 2 →
-    Gave (streams uo eo) (streams uo en) e s memory_answer
-memory_gave uo e eo en s said status = record { output = nothing_written uo; message = said; answered = status }
-
-read_all : (given left : List ℕ) (input : List ℕ) → input ≡ given ++ left → left ≡ [] → input ≡ given
-read_all given left input e n = e ∙ ap (λ xs. given ++ xs) n ∙ append-nil given
-
--- what is held of a reader that hasn't failed is its input
-held_input : (o : Options) (input left : List ℕ) (held : Held) (end : End) → HeldOf o (Some input) (Some left) false held end → HeldInput o input held end
-held_input o input left held Ended h = record {
-  texts = h.texts;
-  more = [];
-  limit = None;
-  lines = ap lines_of (read_all h.given left input h.read h.stops.1) ∙ sym h.lines ∙ sym (append-nil (numbered_from 1 h.texts));
-  rest = ended;
-  ends = refl;
-  nonempty = h.nonempty;
-  within = h.within;
-  holds = h.holds;
+tells_outcome : (name : List ℕ) (s : Settings) (ended : Result Bool RunFault) (r : Outcome) → RanAs ended r → TellsOutcome name s ended r
+tells_outcome name s (Ok differs) r h = record {
+  message = sym (ap (message_or_none name) h.0);
+  status = ap (status_under s.listing s.exit_mode) h.1 ∙ sym (ap (status_of s r.differs) h.0);
 }
-held_input o input left held Failed h = let clash : false ≡ true = h.stops in cc
-held_input o input left held (Broken f) h =
-    let b : (l : Line) × (later : List Line) × (lines_of (h.given ++ left) ≡ numbered_from 1 h.texts ++ l ∷ later)
-    × (l.number ≡ suc (length (numbered_from 1 h.texts))) × Breaks l (text_fault_told f) = h.lines left in
-    record {
-      texts = h.texts;
-      more = b.0 ∷ b.1;
-      limit = Some (text_fault_told f);
-      lines = ap lines_of h.read ∙ b.2;
-      rest = broken b.0 b.1 (text_fault_told f) b.4;
-      ends = refl;
-      nonempty = h.nonempty;
-      within = h.within;
-      holds = h.holds;
-    }
+tells_outcome name s (Err (Text f)) r h = record {
+  message = sym (ap (message_or_none name) h.0);
+  status = sym (ap (status_of s r.differs) h.0);
+}
+tells_outcome name s (Err (Section f)) r h = record {
+  message = sym (ap (message_or_none name) h.0);
+  status = sym (ap (status_of s r.differs) h.0);
+}
+tells_outcome name s (Err Read) r h = absurd (h.1 h.0)
+tells_outcome name s (Err Write) r h = absurd (h.1 h.0)
 
--- what the text that was held gives is what the reader's bytes give
-pub held_gives : (o : Options) (before after : Option (List ℕ)) (held : Held) (end : End) (P : List ℕ → Type 0) →
-    HeldOf o before after false held end → ((input : List ℕ) → HeldInput o input held end → P input) → IfSome before P
-held_gives o None after held end P h gives = tt
-held_gives o (Some input) None held end P h gives = absurd h.read
-held_gives o (Some input) (Some left) held end P h gives = gives input (held_input o input left held end h)
+-- a run that ended so gave the answer of the definitions
+pub run_answers : (words : List (List ℕ)) (input : List ℕ) (ended : Result Bool RunFault) (uo um un : Option (List ℕ)) (e : Bool) (eo en : Option (List ℕ)) (s : ℕ) →
+    usage_fault words ≡ None → Ran (options_of words) input uo um ended → Keeps um un →
+    Says e eo en (message_told (input_name words) ended) → s ≡ status_told (options_of words).settings ended →
+    GivesAnswer words input (streams uo eo) (streams un en) e s
+run_answers words input ended uo um un e eo en s right r keeps said status =
+    let told = tells_outcome (input_name words) (options_of words).settings ended r.outcome r.answered in
+    (
+      _,
+      ran r.outcome right r.runs,
+      record {
+        output = kept uo um un r.outcome.output r.output keeps;
+        message = subst (λ (x : List ℕ). Says e eo en x) told.message said;
+        answered = status ∙ told.status;
+      },
+    )
 
--- so many lines are held
-pub held_count : (o : Options) (before after : Option (List ℕ)) (failed : Bool) (held : Held) (end : End) → HeldOf o before after failed held end →
-    length held.seen.items ≤ TEXT_LINES
-held_count o before after failed held end h =
-    let e : length held.seen.items ≡ length h.texts =
-    ap length h.holds.seen ∙ length-map (items_in o (numbered_from 1 h.texts)) _ ∙ length_items o (numbered_from 1 h.texts) ∙ length-numbered_from 1 h.texts in
-    let few = h.count in omega (arith, e, few)
+-- a flush that leaves a stream that hasn't failed has changed no answer
+flushed_well : (mid new flushed : Bool) (answer : Result Bool RunFault) → (mid ≡ false → new ≡ not flushed) → mid ≡ false → new ≡ false → ended_by answer flushed ≡ answer
+flushed_well mid new true (Ok differs) after works stays = refl
+flushed_well mid new true (Err f) after works stays = refl
+flushed_well mid new false (Ok differs) after works stays = let clash : true ≡ false = sym (after works) ∙ stays in cc
+flushed_well mid new false (Err f) after works stays = refl
 
--- what is kept of the lines that are held is of their items
-pub held_seen : (o : Options) (held : Held) (texts : List (List ℕ)) (rest : List Seen) → rest ≡ held.seen.items → Holds o held (numbered_from 1 texts) →
-    AreSeen 0 rest (items_in o (numbered_from 1 texts))
-held_seen o held texts rest e h = subst (λ (ss : List Seen). AreSeen 0 ss (items_in o (numbered_from 1 texts))) (sym (e ∙ h.seen)) (are_seen o texts)
+-- if the stream hasn't failed after a flush, it hadn't before
+worked : (mid new : Bool) → (mid ≡ true → new ≡ true) → new ≡ false → mid ≡ false
+worked true new again stays = let clash : true ≡ false = sym (again refl) ∙ stays in cc
+worked false new again stays = refl
 
-not_false : (b : Bool) → false ≡ not b → b ≡ true
-not_false true e = refl
-not_false false e = cc
+-- the output was flushed, and neither reading nor writing failed: the answer is that of the definitions
+pub flushed_answers : (words : List (List ℕ)) (before : Option (List ℕ)) (answer : Result Bool RunFault) (mid new flushed : Bool) (uo um un : Option (List ℕ)) (e : Bool) (eo en : Option (List ℕ)) (s : ℕ) →
+    usage_fault words ≡ None → (mid ≡ false → IfSome before (λ input. Ran (options_of words) input uo um answer)) → Keeps um un →
+    (mid ≡ false → new ≡ not flushed) → (mid ≡ true → new ≡ true) → new ≡ false →
+    Says e eo en (message_told (input_name words) (ended_by answer flushed)) → s ≡ status_told (options_of words).settings (ended_by answer flushed) →
+    IfSome before (λ input. GivesAnswer words input (streams uo eo) (streams un en) e s)
+flushed_answers words before answer mid new flushed uo um un e eo en s right ran_so keeps after again stays said status =
+    let works : mid ≡ false = worked mid new again stays in
+    let same : ended_by answer flushed ≡ answer = flushed_well mid new flushed answer after works stays in
+    IfSome_then before (ran_so works) (λ input r.
+    run_answers words input answer uo um un e eo en s right r keeps
+    (subst (λ (a : Result Bool RunFault). Says e eo en (message_told (input_name words) a)) same said)
+    (status ∙ ap (status_told (options_of words).settings) same))
 
--- a flush that leaves a stream that hasn't failed has worked
-pub flush_works : (old new flushed : Bool) → old ≡ false → (old ≡ false → new ≡ not flushed) → new ≡ false → flushed ≡ true
-flush_works old new flushed works after stays = not_false flushed (sym stays ∙ after works)
+-- what was kept up with stays so after a flush
+pub flushed_kept_up : (o : Options) (read_old read_new uo um un : Option (List ℕ)) → KeptUp o read_old read_new uo um → Keeps um un → KeptUp o read_old read_new uo un
+flushed_kept_up o read_old read_new uo um un k keeps = record {
+  given = k.given;
+  consumed = k.consumed;
+  outcome = k.outcome;
+  runs = k.runs;
+  right = k.right;
+  more = k.more;
+  appended = kept uo um un (k.outcome.output ++ k.more) k.appended keeps;
+}
 
--- the pieces were printed and flushed, and the outcome was told
-pub comes_gives : (o : Options) (name input : List ℕ) (texts : List (List ℕ)) (ms : List _) (outcome : Outcome) (uo um un : Option (List ℕ)) (p e : Bool) (eo en : Option (List ℕ)) (s : ℕ) (d : Bool) →
-    Comes o name input (numbered_from 1 texts) ms outcome → p ≡ false →
-    Says p uo um (output_told o.settings.listing o.settings (items_in o (numbered_from 1 texts)) ms) → Keeps um un →
-    d ≡ differs_told o.settings.listing o.settings (items_in o (numbered_from 1 texts)) ms →
-    Says e eo en (message_told name outcome true) → s ≡ status_told o.settings outcome d true → GivesRun o name input (streams uo eo) (streams un en) e s
-comes_gives o name input texts ms outcome uo um un p e eo en s d c works printed kept differs said status = (
-  c.run,
-  c.runs,
-  record {
-    output = appends_keeps uo um un c.run.output
-        (subst (λ (x : List ℕ). Appends uo um x) (sym c.output)
-        (subst (λ (f : Bool). Says f uo um (output_told o.settings.listing o.settings (items_in o (numbered_from 1 texts)) ms)) works printed)) kept;
-    message = subst (λ (x : List ℕ). Says e eo en x) c.message said;
-    answered = status ∙ ap (λ b. status_told o.settings outcome b true) differs ∙ c.status;
-  },
-)
+-- a failed write, or a failed flush after a run without a fault, ends in a write error; after a fault the fault stays
+data EndsFailed (answer : Result Bool RunFault) (mid flushed : Bool) : Type 0 where
+  by_write : ended_by answer flushed ≡ Err Write → EndsFailed answer mid flushed
+  by_fault : mid ≡ false → ended_by answer flushed ≡ answer → EndsFailed answer mid flushed
 
--- the words have a fault, or memory for them was refused, and nothing is written to `out`
-pub usage_answers : (words : List (List ℕ)) (u : Usage) (before uo : Option (List ℕ)) (e : Bool) (eo en : Option (List ℕ)) (s : ℕ) →
+ends_failed : (answer : Result Bool RunFault) (mid new flushed : Bool) → (mid ≡ true → answer ≡ Err Write) → (mid ≡ false → new ≡ not flushed) → new ≡ true → EndsFailed answer mid flushed
+ends_failed answer true new flushed wrote after fails = by_write (ap (λ (a : Result Bool RunFault). ended_by a flushed) (wrote refl))
+ends_failed (Err f) false new flushed wrote after fails = by_fault refl refl
+ends_failed (Ok differs) false new true wrote after fails = let clash : true ≡ false = sym fails ∙ after refl in cc
+ends_failed (Ok differs) false new false wrote after fails = by_write refl
+
+-- if writing or the flush failed, that is told, or the fault before it
+pub failed_told : (words : List (List ℕ)) (before : Option (List ℕ)) (answer : Result Bool RunFault) (mid new flushed : Bool) (uo um un : Option (List ℕ)) (e : Bool) (eo en : Option (List ℕ)) (s : ℕ) →
+    usage_fault words ≡ None → (mid ≡ false → IfSome before (λ input. Ran (options_of words) input uo um answer)) → Keeps um un →
+    (mid ≡ true → answer ≡ Err Write) → (mid ≡ false → new ≡ not flushed) → new ≡ true →
+    Says e eo en (message_told (input_name words) (ended_by answer flushed)) → s ≡ status_told (options_of words).settings (ended_by answer flushed) →
+    IfSome before (λ input. Says e eo en (write_error (input_name words)) ⊎ GivesAnswer words input (streams uo eo) (streams un en) e s)
+failed_told words before answer mid new flushed uo um un e eo en s right ran_so keeps wrote after fails said status =
+    by_end (ends_failed answer mid new flushed wrote after fails)
+  where
+    by_end : EndsFailed answer mid flushed → IfSome before (λ input. Says e eo en (write_error (input_name words)) ⊎ GivesAnswer words input (streams uo eo) (streams un en) e s)
+    by_end (by_write is) = some_input before (subst (λ (a : Result Bool RunFault). Says e eo en (message_told (input_name words) a)) is said)
+      where
+        some_input : (b : Option (List ℕ)) → Says e eo en (write_error (input_name words)) →
+            IfSome b (λ input. Says e eo en (write_error (input_name words)) ⊎ GivesAnswer words input (streams uo eo) (streams un en) e s)
+        some_input None h = tt
+        some_input (Some input) h = inl h
+    by_end (by_fault works same) =
+        IfSome_then before (ran_so works) (λ input r.
+        inr (run_answers words input answer uo um un e eo en s right r keeps
+        (subst (λ (a : Result Bool RunFault). Says e eo en (message_told (input_name words) a)) same said)
+        (status ∙ ap (status_told (options_of words).settings) same)))
+
+-- the words have a fault, or memory for a symbol was refused; nothing is read, and nothing written to `out`
+pub usage_answers : {R W : Type 0} (words : List (List ℕ)) (u : Usage) (reader : Watching R) (out : Watching W) (before uo : Option (List ℕ)) (e : Bool) (eo en : Option (List ℕ)) (s : ℕ) →
     IsUsageOf (given_in words) u → Says e eo en (refusal_text u) → s ≡ 2 →
-    IfSome before (λ input. GivesAnswer words input (streams uo eo) (streams uo en) e s ⊎ Gave (streams uo eo) (streams uo en) e s memory_answer)
-usage_answers words u None uo e eo en s wrong said status = tt
-usage_answers words u (Some input) uo e eo en s wrong said status = by_case (tells-IsUsageOf (given_in words) u wrong)
+    IfSome before (λ input. GivesAnswer words input (streams uo eo) (streams uo en) e s
+    ⊎ LacksMemory words reader reader out out (streams uo eo) (streams uo en) e s)
+usage_answers words u reader out None uo e eo en s wrong said status = tt
+usage_answers words u reader out (Some input) uo e eo en s wrong said status = by_case (tells-IsUsageOf (given_in words) u wrong)
   where
     by_case : TellsFault (usage_fault words) u ⊎ (PutsSymbol (given_in words) × (refusal_text u ≡ memory_answer.message)) →
-        GivesAnswer words input (streams uo eo) (streams uo en) e s ⊎ Gave (streams uo eo) (streams uo en) e s memory_answer
+        GivesAnswer words input (streams uo eo) (streams uo en) e s ⊎ LacksMemory words reader reader out out (streams uo eo) (streams uo en) e s
     by_case (inl t) =
         inl (
           usage_answer t.told,
           refused t.told t.is,
           record {
-            output = nothing_written uo;
+            output = Appends-nil uo;
             message = subst (λ (x : List ℕ). Says e eo en x) t.text said;
             answered = status;
           },
         )
-    by_case (inr t) = inr (memory_gave uo e eo en s (subst (λ (x : List ℕ). Says e eo en x) t.1 said) status)
-
--- a run under what the words say is their answer
-pub run_answers : (words : List (List ℕ)) (o : Options) (name : List ℕ) (before uo un : Option (List ℕ)) (e : Bool) (eo en : Option (List ℕ)) (s : ℕ) →
-    usage_fault words ≡ None → o.settings ≡ (options_of words).settings → ((n : List ℕ) → entry_in o.table n ≡ entry_in (options_of words).table n) →
-    name ≡ input_name words →
-    IfSome before (λ input. GivesRun o name input (streams uo eo) (streams un en) e s ⊎ Gave (streams uo eo) (streams un en) e s memory_answer) →
-    IfSome before (λ input. GivesAnswer words input (streams uo eo) (streams un en) e s ⊎ Gave (streams uo eo) (streams un en) e s memory_answer)
-run_answers words o name None uo un e eo en s right settings table called gives = tt
-run_answers words o name (Some input) uo un e eo en s right settings table called (inr m) = inr m
-run_answers words o name (Some input) uo un e eo en s right settings table called (inl r) = inl (from_run (same_settings settings table r))
-  where
-    from_run : GivesRun (options_of words) name input (streams uo eo) (streams un en) e s → GivesAnswer words input (streams uo eo) (streams un en) e s
-    from_run r = subst (λ n. GivesRun (options_of words) n input (streams uo eo) (streams un en) e s → GivesAnswer words input (streams uo eo) (streams un en) e s) (sym called) (λ q. (_, ran q.0 right q.1, q.2)) r
-
-    same_settings : o.settings ≡ (options_of words).settings → ((n : List ℕ) → entry_in o.table n ≡ entry_in (options_of words).table n) →
-        GivesRun o name input (streams uo eo) (streams un en) e s → GivesRun (options_of words) name input (streams uo eo) (streams un en) e s
-    same_settings p q r =
-        let k : GivesRun (record { settings = (options_of words).settings; table = o.table }) name input (streams uo eo) (streams un en) e s =
-        subst (λ (w : Settings). GivesRun (record { settings = w; table = o.table }) name input (streams uo eo) (streams un en) e s) p r in
-        (k.0, runs_same (options_of words).settings o.table (options_of words).table q k.1, k.2)
+    by_case (inr t) =
+        inr (record {
+          asked = t.0;
+          unread = refl;
+          unwritten = refl;
+          gave = record {
+            output = Appends-nil uo;
+            message = subst (λ (x : List ℕ). Says e eo en x) t.1 said;
+            answered = status;
+          };
+        })

@@ -1,40 +1,34 @@
--- The faults that the code tells, as the faults of the definitions.
+-- Told: how a run ended, as the tool tells it.
 --
---   fault_told f          a text's fault
---   limit_fault f         what the code tells of a limit that a line breaks
---   misplaced_by s n      what it tells of a directive of this shape out of its place, on the line with this number
-use Rattle.std.specs.Prelude.{ℕ, Option, Some, None}
-use Rattle.ud_text.specs.declared.fault.TextFault.{TextFault as LimitFault}
-use Rattle.ud_text.specs.declared.fault.TextFault.TheVariants as limits
-use Rattle.unifdef.specs.declared.shape.Shape.{Shape}
-use Rattle.unifdef.specs.declared.shape.Shape.TheVariants.{Text, If, Elif, Else, Endif, Cut}
-use Rattle.ud_model.specs.sections.Faults.{Fault as TextFault, too_many_lines, line_too_long, obfuscated, inappropriate_elif, inappropriate_else, inappropriate_endif, too_many_levels, eof_in_comment, premature_eof}
-use Rattle.unifdef.specs.declared.faults.Fault.{Fault}
-use Rattle.unifdef.specs.declared.faults.Fault.TheVariants.{TooManyLines, LineTooLong, Obfuscated, InappropriateElif, InappropriateElse, InappropriateEndif, TooManyLevels, EofInComment, PrematureEof}
+--   ended_by ran flushed    how a run ended that answered this, after its output was flushed or couldn't be
+--   fault_message name f    the message of a fault, with the input's name
+--   message_told name e     what is said of how a run ended; nothing if it ended well
+--   status_told s e         its status
+use Rattle.std.specs.Prelude.{ℕ, List, [], Bool, true, false, Result, Ok, Err}
+use Rattle.ud_model.specs.answer.Messages.{message_of, read_error, write_error}
+use Rattle.ud_model.specs.answer.Answer.{status_under}
+use Rattle.ud_model.specs.declared.settings.Settings.{Settings}
+use Rattle.ud_sections.specs.Sections.{fault_of}
+use Rattle.ud_engine.specs.Feeding.{limit_of}
+use Rattle.ud_engine.specs.declared.fault.RunFault.{RunFault}
+use Rattle.ud_engine.specs.declared.fault.RunFault.TheVariants.{Text, Section, Read, Write}
 
--- a text's fault
-abbrev pub fault_told : Fault → TextFault
-fault_told (TooManyLines line) = too_many_lines line
-fault_told (LineTooLong line) = line_too_long line
-fault_told (Obfuscated line) = obfuscated line
-fault_told (InappropriateElif line) = inappropriate_elif line
-fault_told (InappropriateElse line) = inappropriate_else line
-fault_told (InappropriateEndif line) = inappropriate_endif line
-fault_told (TooManyLevels line) = too_many_levels line
-fault_told (EofInComment line) = eof_in_comment line
-fault_told (PrematureEof line if_line) = premature_eof line if_line
+-- a failed flush is a failed write, and changes no fault
+abbrev pub ended_by : Result Bool RunFault → Bool → Result Bool RunFault
+ended_by (Ok differs) true = Ok differs
+ended_by (Ok differs) false = Err Write
+ended_by (Err f) flushed = Err f
 
--- a limit that a line breaks
-abbrev pub limit_fault : LimitFault → Fault
-limit_fault (limits.TooManyLines line) = TooManyLines line
-limit_fault (limits.LineTooLong line) = LineTooLong line
+abbrev pub fault_message : List ℕ → RunFault → List ℕ
+fault_message name (Text f) = message_of name (limit_of f)
+fault_message name (Section f) = message_of name (fault_of f)
+fault_message name Read = read_error name
+fault_message name Write = write_error name
 
--- a directive of this shape out of its place
-abbrev pub misplaced_by : Option Shape → ℕ → Fault
-misplaced_by None n = InappropriateEndif n
-misplaced_by (Some Text) n = InappropriateEndif n
-misplaced_by (Some (If c)) n = InappropriateEndif n
-misplaced_by (Some (Elif c)) n = InappropriateElif n
-misplaced_by (Some Else) n = InappropriateElse n
-misplaced_by (Some Endif) n = InappropriateEndif n
-misplaced_by (Some Cut) n = InappropriateEndif n
+abbrev pub message_told : List ℕ → Result Bool RunFault → List ℕ
+message_told name (Ok differs) = []
+message_told name (Err f) = fault_message name f
+
+abbrev pub status_told : Settings → Result Bool RunFault → ℕ
+status_told s (Ok differs) = status_under s.listing s.exit_mode differs
+status_told s (Err f) = 2

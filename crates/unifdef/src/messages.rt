@@ -1,38 +1,69 @@
 //! The text of each fault, which ends in a line feed, and goes to the error stream alone.
 
 ghost use Rattle.std.specs.Prelude.{◌≡◌, false};
-ghost use Rattle.ud_model.specs.answer.Messages.{about, about_line, message_of, read_error, write_error, out_of_memory};
+ghost use Rattle.ud_model.specs.answer.Messages.{about, about_line, message_of};
 ghost use Rattle.ud_model.specs.sections.Faults.{premature_eof};
-ghost use Rattle.unifdef.specs.Told.{fault_told};
-ghost use Rattle.unifdef.specs.Watching.{Says};
+ghost use Rattle.ud_sections.specs.Sections.{fault_of};
+ghost use Rattle.ud_engine.specs.Feeding.{limit_of};
+ghost use Rattle.ud_engine.specs.Watching.{Says};
+ghost use Rattle.unifdef.specs.Told.{fault_message};
 
-use crate::emit::{emit, emit_parts};
-use crate::faults::Fault;
-use crate::watched::Watched;
+use crate::emit::emit_parts;
 use itoa::Buffer;
 use std::io::Write;
+use ud_engine::{RunFault, Watched};
+use ud_sections::SectionFault;
+use ud_text::TextFault;
 
-/// Says which line of the text is faulty, and why. Where a write fails, a front of the message is written.
-pub(crate) fn report<E: Write>(err: &mut Watched<E>, name: &[u8], fault: Fault)
+/// Says why a run ended. If a write fails, a front of the message is written.
+pub(crate) fn report<E: Write>(err: &mut Watched<E>, name: &[u8], fault: RunFault)
     requires works { err.old.failed ≡ false }
-    ensures { Says err.new.failed (E.contents err.old.inner) (E.contents err.new.inner)
-        (message_of name.now (fault_told fault)) }
+    ensures { Says err.new.failed (E.contents err.old.inner) (E.contents err.new.inner) (fault_message name.now fault) }
 {
     match fault {
-        Fault::TooManyLines { line } => report_at(err, name, line, b"Too many lines"),
-        Fault::LineTooLong { line } => report_at(err, name, line, b"Line too long"),
-        Fault::Obfuscated { line } => report_at(
-            err,
-            name,
-            line,
-            b"Obfuscated preprocessor control line",
-        ),
-        Fault::InappropriateElif { line } => report_at(err, name, line, b"Inappropriate #elif"),
-        Fault::InappropriateElse { line } => report_at(err, name, line, b"Inappropriate #else"),
-        Fault::InappropriateEndif { line } => report_at(err, name, line, b"Inappropriate #endif"),
-        Fault::TooManyLevels { line } => report_at(err, name, line, b"Too many levels of nesting"),
-        Fault::EofInComment { line } => report_at(err, name, line, b"EOF in comment"),
-        Fault::PrematureEof { line, if_line } => report_premature_eof(err, name, line, if_line),
+        RunFault::Text(fault) => report_limit(err, name, fault),
+        RunFault::Section(fault) => report_section(err, name, fault),
+        RunFault::Read => report_on(err, name, b"Read error"),
+        RunFault::Write => report_on(err, name, b"Write error"),
+    }
+}
+
+/// Says which limit the text passes, and in which line.
+fn report_limit<E: Write>(err: &mut Watched<E>, name: &[u8], fault: TextFault)
+    requires works { err.old.failed ≡ false }
+    ensures { Says err.new.failed (E.contents err.old.inner) (E.contents err.new.inner) (message_of name.now (limit_of fault)) }
+{
+    match fault {
+        TextFault::TooManyLines { line } => report_at(err, name, line, b"Too many lines"),
+        TextFault::LineTooLong { line } => report_at(err, name, line, b"Line too long"),
+    }
+}
+
+/// Says which line is faulty among the sections, and why, or what the text ends in.
+fn report_section<E: Write>(err: &mut Watched<E>, name: &[u8], fault: SectionFault)
+    requires works { err.old.failed ≡ false }
+    ensures { Says err.new.failed (E.contents err.old.inner) (E.contents err.new.inner) (message_of name.now (fault_of fault)) }
+{
+    match fault {
+        SectionFault::InappropriateElif { line } => {
+            report_at(err, name, line, b"Inappropriate #elif");
+        }
+        SectionFault::InappropriateElse { line } => {
+            report_at(err, name, line, b"Inappropriate #else");
+        }
+        SectionFault::InappropriateEndif { line } => {
+            report_at(err, name, line, b"Inappropriate #endif");
+        }
+        SectionFault::TooManyLevels { line } => {
+            report_at(err, name, line, b"Too many levels of nesting");
+        }
+        SectionFault::Obfuscated { line } => {
+            report_at(err, name, line, b"Obfuscated preprocessor control line");
+        }
+        SectionFault::PrematureEof { line, if_line } => {
+            report_premature_eof(err, name, line, if_line);
+        }
+        SectionFault::EofInComment { line } => report_at(err, name, line, b"EOF in comment"),
     }
 }
 
@@ -81,30 +112,4 @@ fn report_on<E: Write>(err: &mut Watched<E>, name: &[u8], text: &[u8])
         (about name.now text.now) }
 {
     emit_parts(err, &[b"unifdef: ", name, b": ", text, b"\n"]);
-}
-
-/// Says that reading the text failed. Where a write fails, a front of the message is written.
-pub(crate) fn report_read_error<E: Write>(err: &mut Watched<E>, name: &[u8])
-    requires works { err.old.failed ≡ false }
-    ensures { Says err.new.failed (E.contents err.old.inner) (E.contents err.new.inner) (read_error name.now) }
-{
-    report_on(err, name, b"Read error");
-}
-
-/// Says that writing the output failed. Where a write fails, a front of the message is written.
-pub(crate) fn report_write_error<E: Write>(err: &mut Watched<E>, name: &[u8])
-    requires works { err.old.failed ≡ false }
-    ensures { Says err.new.failed (E.contents err.old.inner) (E.contents err.new.inner)
-        (write_error name.now) }
-{
-    report_on(err, name, b"Write error");
-}
-
-/// Says that memory was refused. Where a write fails, a front of the message is written.
-pub(crate) fn report_out_of_memory<E: Write>(err: &mut Watched<E>)
-    requires works { err.old.failed ≡ false }
-    ensures { Says err.new.failed (E.contents err.old.inner) (E.contents err.new.inner)
-        out_of_memory }
-{
-    emit(err, b"unifdef: Out of memory\n");
 }

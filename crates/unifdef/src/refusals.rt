@@ -1,16 +1,16 @@
 //! The message of what is wrong with the words of a command line.
 
 ghost use Rattle.std.specs.Prelude.{◌≡◌, ◌++◌, false, codes, decimal, encode_utf8};
+ghost use Rattle.ud_engine.specs.Watching.{Says};
 ghost use Rattle.unifdef.specs.Refusals.{refusal_text};
-ghost use Rattle.unifdef.specs.Watching.{Says};
 
-use crate::emit::{emit, emit_parts};
-use crate::watched::Watched;
+use crate::emit::emit_parts;
 use itoa::Buffer;
 use std::io::Write;
+use ud_engine::{Watched, emit};
 use ud_words::Usage;
 
-/// Says what is wrong with the words, or that memory was refused. Where a write fails, a front of the message is written.
+/// Says what is wrong with the words, or that memory was refused. If a write fails, a front of the message is written.
 pub(crate) fn report_refusal<E: Write>(err: &mut Watched<E>, usage: Usage)
     requires works { err.old.failed ≡ false }
     ensures { Says err.new.failed (E.contents err.old.inner) (E.contents err.new.inner)

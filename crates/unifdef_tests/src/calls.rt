@@ -105,6 +105,30 @@ fn the_end_is_read_once(rt: HostRuntime) -> Result<(), Fail> {
 }
 
 #[test]
+fn output_leaves_in_one_write_a_piece(rt: HostRuntime) -> Result<(), Fail> {
+    let line = b"a line that stays as it is, of any length\n".as_slice();
+    let mut input = Vec::new(rt.alloc());
+    let mut output = Vec::new(rt.alloc());
+    for _ in 0..200 {
+        input.extend_from_slice(line)?;
+        input.extend_from_slice(b"#if X\n#elif A\ng\n#else\n#endif\n")?;
+        output.extend_from_slice(line)?;
+        output.extend_from_slice(b"#if X\n#else\ng\n#endif\n")?;
+    }
+    let answer = Answer {
+        output: output.as_slice(),
+        message: "",
+        status: 1,
+    };
+    let source = CountedSource::of(input.as_slice(), usize::MAX);
+    let sink = CountedSink::of(rt.alloc(), usize::MAX);
+    let calls = count_calls(&rt, rt.alloc(), &["-DA"], source, sink, answer)?;
+    assert_eq!(rt; calls.reads, 3);
+    assert_eq!(rt; calls.writes, 2);
+    Ok(())
+}
+
+#[test]
 fn an_interrupted_write_is_not_made_again(rt: HostRuntime) -> Result<(), Fail> {
     let output = b"a\nb\n".as_slice();
     for write in 1..=output.len() {

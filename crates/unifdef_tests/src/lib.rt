@@ -15,6 +15,8 @@ mod deciding;
 #[cfg(test)]
 mod directives;
 #[cfg(test)]
+mod engine;
+#[cfg(test)]
 mod faults;
 #[cfg(test)]
 mod ignoring;

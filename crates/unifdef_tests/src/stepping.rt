@@ -13,6 +13,13 @@ use ud_sections::{Machine, SectionFault, Step};
 use ud_text::{Line, Scanner};
 use unifdef::{Plan, plan};
 
+/// The plan of these words, parted by spaces, which have no fault.
+pub(crate) fn planned(rt: &impl Abort, alloc: Global, words: &str) -> Result<Plan, Fail> {
+    let parted: Vec<&str> = words.split_whitespace().collect(alloc)?;
+    let owned = owned(alloc, parted.as_slice())?;
+    Ok(plan(alloc, owned.as_slice()).expect(rt, "the words have no fault"))
+}
+
 /// A machine with the scanner whose scans it is given, and the words' settings and symbols.
 #[derive(Drop)]
 pub(crate) struct Stepper {
@@ -26,9 +33,7 @@ pub(crate) struct Stepper {
 impl Stepper {
     /// Under these words, parted by spaces; no line is read.
     pub(crate) fn new(rt: &impl Abort, alloc: Global, words: &str) -> Result<Stepper, Fail> {
-        let parted: Vec<&str> = words.split_whitespace().collect(alloc)?;
-        let owned = owned(alloc, parted.as_slice())?;
-        let plan = plan(alloc, owned.as_slice()).expect(rt, "the words have no fault");
+        let plan = planned(rt, alloc, words)?;
         let machine = Machine::new(plan.settings());
         Ok(Stepper {
             plan,

@@ -1,5 +1,5 @@
-use Rattle.std.proofs.Common.{ℕ, List, [], ◌∙◌, Bor}
-use Rattle.unifdef.proofs.WatchingLemmas.{parts_sent, parts_failed, parts_empty}
+use Rattle.std.proofs.Common.{ℕ, List, [], Bor}
+use Rattle.ud_engine.proofs.SendingLemmas.{parts_sent, parts_failed}
 use Rattle.unifdef.proofs.emit.emit_parts.Goals as goal
 
 pub returns-then-not-emit-clause-written : goal.returns-then-not-emit-clause-written
@@ -8,22 +8,10 @@ returns-then-not-emit-clause-written g c =
     (g.W.Write.contents c.args.out.now.inner) (g.W.Write.contents c.loop-part.out.inner) (g.W.Write.contents c.emit.new.out.inner)
     c.loop-part-test.true c.loop-part.invariant.sent c.if-not-emit.ensures.failed c.if-not-emit.ensures.written
 
-pub returns-then-not-emit-clause-empty : goal.returns-then-not-emit-clause-empty
-returns-then-not-emit-clause-empty g c = λ e.
-    c.emit.ensures.empty
-    (parts_empty (λ (p : Bor (List ℕ)). p.now) c.args.parts.now c.loop-part.part-index (record { ref_ptr = (0, 0); now = [] })
-    (g.W.Write.contents c.args.out.now.inner) (g.W.Write.contents c.loop-part.out.inner) c.loop-part-test.true c.loop-part.invariant.sent e)
-    ∙ c.loop-part.invariant.empty e
-
 pub loop-part-preserved : goal.loop-part-preserved
 loop-part-preserved g c = record {
   works = c.if-not-emit.ensures.failed;
   sent = parts_sent (λ (p : Bor (List ℕ)). p.now) c.args.parts.now c.loop-part.part-index (record { ref_ptr = (0, 0); now = [] }) c.emit.new.out.failed
       (g.W.Write.contents c.args.out.now.inner) (g.W.Write.contents c.loop-part.out.inner) (g.W.Write.contents c.emit.new.out.inner)
       c.loop-part-test.true c.loop-part.invariant.sent c.if-not-emit.ensures.failed c.if-not-emit.ensures.written;
-  empty = λ e.
-      c.emit.ensures.empty
-      (parts_empty (λ (p : Bor (List ℕ)). p.now) c.args.parts.now c.loop-part.part-index (record { ref_ptr = (0, 0); now = [] })
-      (g.W.Write.contents c.args.out.now.inner) (g.W.Write.contents c.loop-part.out.inner) c.loop-part-test.true c.loop-part.invariant.sent e)
-      ∙ c.loop-part.invariant.empty e;
 }

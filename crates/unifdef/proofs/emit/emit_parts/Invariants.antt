@@ -1,6 +1,6 @@
-use Rattle.std.proofs.Common.{◌≡◌, [], false, drop}
+use Rattle.std.proofs.Common.{◌≡◌, false, drop}
 use Rattle.std.specs.List.{flat_map}
-use Rattle.unifdef.proofs.WatchingLemmas.{Sent}
+use Rattle.ud_engine.specs.Sending.{Sent}
 use Rattle.unifdef.proofs.emit.emit_parts.Given as goal
 
 abbrev pub invariant-loop-part : goal.invariant-loop-part
@@ -8,5 +8,4 @@ invariant-loop-part g l = record {
   works : l.out.failed ≡ false;
   sent : Sent (g.W.Write.contents l.initial.out.inner) (g.W.Write.contents l.out.inner)
       (flat_map (λ p. p.now) l.parts) (flat_map (λ p. p.now) (drop l.part-index l.parts));
-  empty : flat_map (λ p. p.now) l.parts ≡ [] → l.out ≡ l.initial.out;
 }

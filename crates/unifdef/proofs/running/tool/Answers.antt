@@ -1,26 +1,47 @@
-use Rattle.std.proofs.Common.{refl, ap, map, string_bytes, ◌∙◌}
-use Rattle.ud_model.specs.answer.CommandLine.{given_in, usage_fault}
-use Rattle.ud_model.specs.conditions.Table.{entry_in}
-use Rattle.unifdef.proofs.HeadlineLemmas.{usage_answers, run_answers}
-use Rattle.unifdef.proofs.RefusalLemmas.{right_is_no_fault, usage_tells}
+use Rattle.std.proofs.Common.{◌≡◌, refl, sym, ap₂, map, string_bytes, ◌∙◌, inl}
+use Rattle.std.proofs.lemmas.Option.{IfSome_then}
+use Rattle.ud_model.specs.answer.CommandLine.{options_of, input_name}
+use Rattle.ud_engine.specs.Watching.{Says}
+use Rattle.ud_engine.proofs.SendingLemmas.{says_same}
+use Rattle.unifdef.specs.Told.{ended_by, message_told, status_told}
+use Rattle.unifdef.proofs.HeadlineLemmas.{usage_answers, flushed_answers, flushed_kept_up, failed_told}
 use Rattle.unifdef.proofs.running.tool.Goals as goal
+use Rattle.unifdef.proofs.running.tool.Given.{Over}
+
+-- what was told is of the words' input, and of how the run and the flush ended
+message_is : (g : Over) (c : goal.After-drop-plan-inside g) →
+    Says c.tell.new.err.failed (g.E.Write.contents c.args.err.now.inner) (g.E.Write.contents c.tell.new.err.inner)
+    (message_told (input_name (map string_bytes c.args.words.now)) (ended_by c.run-ran.result c.flush-flushed.result))
+message_is g c =
+    says_same c.tell.new.err.failed _ _ _ _ (ap₂ message_told (c.input_name.ensures c.in-Ok.ensures.ok.right) c.ended_by-ended.ensures) c.tell.ensures.message
+
+-- and so is the status
+status_is : (g : Over) (c : goal.After-drop-plan-inside g) →
+    c.tell.result ≡ status_told (options_of (map string_bytes c.args.words.now)).settings (ended_by c.run-ran.result c.flush-flushed.result)
+status_is g c = c.tell.ensures.status ∙ ap₂ status_told (c.settings.ensures ∙ c.in-Ok.ensures.ok.said) c.ended_by-ended.ensures
 
 pub returns-in-Err-clause-headline : goal.returns-in-Err-clause-headline
 returns-in-Err-clause-headline g c = λ read_works write_works.
-    usage_answers (map string_bytes c.args.words.now) c.in-Err.fault _ _ _ _ _ 2 c.in-Err.ensures.err c.report_refusal.ensures refl
+    usage_answers (map string_bytes c.args.words.now) c.in-Err.fault c.args.reader.now c.args.out.now _ _ _ _ _ 2 c.in-Err.ensures.err c.report_refusal.ensures refl
 
-pub returns-in-Err-clause-refused : goal.returns-in-Err-clause-refused
-returns-in-Err-clause-refused g c =
-    usage_tells (given_in (map string_bytes c.args.words.now)) c.in-Err.fault _ _ _ 2 c.in-Err.ensures.err c.report_refusal.ensures refl
-
-pub returns-in-Ok-clause-untouched : goal.returns-in-Ok-clause-untouched
-returns-in-Ok-clause-untouched g c = λ wrong. absurd (right_is_no_fault (usage_fault (map string_bytes c.args.words.now)) c.in-Ok.ensures.ok.right wrong)
-
-pub returns-in-Ok-clause-refused : goal.returns-in-Ok-clause-refused
-returns-in-Ok-clause-refused g c = rw (c.in-Ok.ensures.ok.right) tt
+pub returns-in-Ok-clause-kept_up : goal.returns-in-Ok-clause-kept_up
+returns-in-Ok-clause-kept_up g c = λ right.
+    inl (flushed_kept_up (options_of (map string_bytes c.args.words.now)) _ _ _ _ _
+    (c.run-ran.ensures.kept_up (options_of (map string_bytes c.args.words.now)) (sym c.in-Ok.ensures.ok.said) c.in-Ok.ensures.ok.stands)
+    c.flush-flushed.ensures.kept)
 
 pub returns-in-Ok-clause-headline : goal.returns-in-Ok-clause-headline
 returns-in-Ok-clause-headline g c = λ read_works write_works.
-    run_answers (map string_bytes c.args.words.now) _ _ _ _ _ _ _ _ _ c.in-Ok.ensures.ok.right (c.settings.ensures ∙ c.in-Ok.ensures.ok.said)
-    (λ n. ap (λ t. entry_in t n) c.symbols.ensures ∙ c.in-Ok.ensures.ok.stands n) (c.input_name.ensures c.in-Ok.ensures.ok.right)
-    (c.run.ensures.gives read_works write_works)
+    IfSome_then _
+    (flushed_answers (map string_bytes c.args.words.now) _ c.run-ran.result c.run-ran.new.out.failed c.flush-flushed.new.self.failed c.flush-flushed.result _ _ _ _ _ _ _
+    c.in-Ok.ensures.ok.right
+    (c.run-ran.ensures.ran (options_of (map string_bytes c.args.words.now)) (sym c.in-Ok.ensures.ok.said) c.in-Ok.ensures.ok.stands read_works)
+    c.flush-flushed.ensures.kept c.flush-flushed.ensures.failed c.flush-flushed.ensures.again write_works (message_is g c) (status_is g c))
+    (λ input gave. inl gave)
+
+pub returns-in-Ok-clause-write_told : goal.returns-in-Ok-clause-write_told
+returns-in-Ok-clause-write_told g c = λ fails read_works.
+    failed_told (map string_bytes c.args.words.now) _ c.run-ran.result c.run-ran.new.out.failed c.flush-flushed.new.self.failed c.flush-flushed.result _ _ _ _ _ _ _
+    c.in-Ok.ensures.ok.right
+    (c.run-ran.ensures.ran (options_of (map string_bytes c.args.words.now)) (sym c.in-Ok.ensures.ok.said) c.in-Ok.ensures.ok.stands read_works)
+    c.flush-flushed.ensures.kept c.run-ran.ensures.write_fails.0 c.flush-flushed.ensures.failed fails (message_is g c) (status_is g c)

@@ -1,0 +1,66 @@
+//! How it all ends: the status, and the message that goes with it.
+
+ghost use Rattle.std.specs.Prelude.{◌≡◌, false};
+ghost use Rattle.ud_model.specs.answer.Answer.{status_by, status_under};
+ghost use Rattle.ud_engine.specs.Watching.{Says};
+ghost use Rattle.unifdef.specs.Told.{ended_by, message_told, status_told};
+
+use crate::messages::report;
+use std::io::Write;
+use ud_engine::{RunFault, Watched};
+use ud_model::{ExitMode, Listing, Settings};
+
+/// The status of a fault, of any kind.
+pub(crate) const TROUBLE: u8 = 2;
+
+/// How a run ended that answered this, after its output was flushed or couldn't be: a failed flush is a failed write,
+/// and changes no fault.
+pub(crate) fn ended_by(ran: Result<bool, RunFault>, flushed: bool) -> Result<bool, RunFault>
+    ensures { result ≡ ended_by ran flushed }
+{
+    match ran {
+        Ok(_) if !flushed => Err(RunFault::Write),
+        ended => ended,
+    }
+}
+
+/// Writes the message of how a run ended, if it has one, and answers the status.
+pub(crate) fn tell<E: Write>(
+    err: &mut Watched<E>,
+    name: &[u8],
+    settings: Settings,
+    ended: Result<bool, RunFault>,
+) -> u8
+    requires works { err.old.failed ≡ false }
+    ensures message { Says err.new.failed (E.contents err.old.inner) (E.contents err.new.inner) (message_told name.now ended) }
+    ensures status { result ≡ status_told settings ended }
+{
+    match ended {
+        Ok(differs) => status_under(settings, differs),
+        Err(fault) => {
+            report(err, name, fault);
+            TROUBLE
+        }
+    }
+}
+
+/// The status of a text without a fault: where names are listed it is 0 in every mode.
+fn status_under(settings: Settings, differs: bool) -> u8
+    ensures { result ≡ status_under settings.listing settings.exit_mode differs }
+{
+    match settings.listing {
+        Listing::Off => status_by(settings.exit_mode, differs),
+        Listing::Names | Listing::Depths => 0,
+    }
+}
+
+/// The status of a text that is printed.
+fn status_by(mode: ExitMode, differs: bool) -> u8
+    ensures { result ≡ status_by mode differs }
+{
+    match mode {
+        ExitMode::Zero => u8::from(differs),
+        ExitMode::One => u8::from(!differs),
+        ExitMode::Two => 0,
+    }
+}
