@@ -17,6 +17,8 @@ mod directives;
 #[cfg(test)]
 mod faults;
 #[cfg(test)]
+mod fronts;
+#[cfg(test)]
 mod ignoring;
 #[cfg(test)]
 mod limits;
