@@ -19,6 +19,8 @@ mod engine;
 #[cfg(test)]
 mod faults;
 #[cfg(test)]
+mod fronts;
+#[cfg(test)]
 mod ignoring;
 #[cfg(test)]
 mod limits;

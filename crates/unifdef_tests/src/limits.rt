@@ -5,7 +5,7 @@ use std::alloc::{AllocError, Global};
 use std::test::Fail;
 
 /// The text so many times.
-fn repeated(alloc: Global, text: &[u8], count: usize) -> Result<Vec<u8>, AllocError> {
+pub(crate) fn repeated(alloc: Global, text: &[u8], count: usize) -> Result<Vec<u8>, AllocError> {
     let mut whole = Vec::new(alloc);
     for _ in 0..count {
         whole.extend_from_slice(text)?;
@@ -43,7 +43,7 @@ fn a_line_that_is_too_long_is_told_behind_the_lines_before(rt: HostRuntime) -> R
 }
 
 /// A text that opens so many sections, and closes them.
-fn nested(alloc: Global, depth: usize) -> Result<Vec<u8>, AllocError> {
+pub(crate) fn nested(alloc: Global, depth: usize) -> Result<Vec<u8>, AllocError> {
     let opening = repeated(alloc, b"#ifdef X\n", depth)?;
     let closing = repeated(alloc, b"#endif\n", depth)?;
     joined(alloc, opening.as_slice(), closing.as_slice())

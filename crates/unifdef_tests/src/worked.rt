@@ -6,6 +6,7 @@ use std::alloc::{AllocError, Global};
 use std::process::Abort;
 use std::test::Fail;
 use unifdef::{Watched, tool};
+use unifdef_reference::answer_to;
 
 /// What a run has to write, say and answer.
 #[derive(Clone, Copy)]
@@ -16,7 +17,8 @@ pub(crate) struct Answer<'a> {
     pub status: u8,
 }
 
-/// Compares the answer to these words, parted by spaces, and this input: read in one piece, and byte by byte.
+/// Compares the answer to these words, parted by spaces, and this input: that of the reference, and the tool's where it
+/// reads the input in one piece, in pieces of two sizes, and byte by byte.
 pub(crate) fn check(
     rt: &(impl Abort + AllocGlobal),
     words: &str,
@@ -31,7 +33,8 @@ pub(crate) fn check(
         message,
         status,
     };
-    for step in [usize::MAX, 1] {
+    check_reference(rt, alloc, words, input, answer)?;
+    for step in [usize::MAX, 64, 7, 1] {
         let source = Source {
             step,
             ..Source::whole(input)
@@ -63,8 +66,7 @@ pub(crate) fn check_run(
     sink: Sink,
     answer: Answer<'_>,
 ) -> Result<(), Fail> {
-    let parted: Vec<&str> = words.split_whitespace().collect(alloc)?;
-    let owned = owned(alloc, parted.as_slice())?;
+    let owned = parted(alloc, words)?;
     let mut reader = Watched::new(source);
     let mut out = Watched::new(sink);
     let mut err = Watched::new(Vec::<u8>::new(alloc));
@@ -82,6 +84,41 @@ pub(crate) fn check_run(
     );
     assert_eq!(rt; status, answer.status, "status under {words}");
     Ok(())
+}
+
+/// Compares the reference's answer to these words, parted by spaces, and this input.
+fn check_reference(
+    rt: &impl Abort,
+    alloc: Global,
+    words: &str,
+    input: &[u8],
+    answer: Answer<'_>,
+) -> Result<(), Fail> {
+    let owned = parted(alloc, words)?;
+    let reference = answer_to(alloc, owned.as_slice(), input)?;
+    let message = with_feed(alloc, answer.message)?;
+    assert_eq!(rt;
+        reference.output.as_slice(),
+        answer.output,
+        "the reference's output under {words}"
+    );
+    assert_eq!(rt;
+        reference.message.as_slice(),
+        message.as_slice(),
+        "the reference's message under {words}"
+    );
+    assert_eq!(rt;
+        reference.status,
+        answer.status,
+        "the reference's status under {words}"
+    );
+    Ok(())
+}
+
+/// The words of a text, parted by spaces.
+pub(crate) fn parted(alloc: Global, words: &str) -> Result<Vec<String>, AllocError> {
+    let parted: Vec<&str> = words.split_whitespace().collect(alloc)?;
+    owned(alloc, parted.as_slice())
 }
 
 /// Words that own their text.

@@ -1,0 +1,18 @@
+//! unifdef(1) over a text that is held whole: the plain program with which tests compare the tool.
+//!
+//! `reading` cuts the text into lines and nests them into the tree of its sections; `pruning` gives each line its mark, by
+//! the table of verdicts over each section as a whole; `printing` prints what is left, or the names. Nothing is decided
+//! before the text is read. Contracts say here what safety needs, and nothing of the meaning.
+#![tactic(auto)]
+
+mod answering;
+mod cutting;
+mod messages;
+mod printing;
+mod pruning;
+mod reading;
+mod seeing;
+mod spoiled;
+mod tree;
+
+pub use answering::{Answer, answer_to};

@@ -1,0 +1,61 @@
+//! Printing what is left of a text, or the names in it.
+
+use crate::pruning::Mark;
+use crate::seeing::Row;
+use std::alloc::{AllocError, Global};
+use ud_model::{Listing, Settings};
+use ud_sections::{Printer, Show, Step};
+use ud_text::Line;
+
+/// What is printed of lines, and whether some line differs from what is printed of it.
+#[derive(Drop)]
+pub(crate) struct Printed {
+    pub output: Vec<u8>,
+    pub differs: bool,
+}
+
+/// Prints lines by their marks, or lists the names on them. Where names are listed no line differs.
+pub(crate) fn print(
+    alloc: Global,
+    rows: &[Row<'_>],
+    marks: &[Mark],
+    settings: Settings,
+) -> Result<Printed, AllocError> {
+    let mut printed = Printed {
+        output: Vec::new(alloc),
+        differs: false,
+    };
+    let mut printer = Printer::of(&settings);
+    for (row, mark) in rows.iter().zip(marks) {
+        if settings.listing == Listing::Off {
+            let same = print_row(&mut printed.output, &mut printer, row, *mark)?;
+            printed.differs |= !same;
+        } else {
+            printed.output.extend_from_slice(row.names.as_slice())?;
+        }
+    }
+    Ok(printed)
+}
+
+/// Prints a line, and answers whether what is printed is the line itself.
+fn print_row(
+    output: &mut Vec<u8>,
+    printer: &mut Printer,
+    row: &Row<'_>,
+    mark: Mark,
+) -> Result<bool, AllocError> {
+    let line = Line {
+        body: row.line.body,
+        ending: row.line.ending,
+        number: row.line.number,
+    };
+    let step = Step {
+        verdict: mark.verdict,
+        keyword: row.keyword,
+    };
+    let pieces = printer.pieces(&line, step);
+    for part in pieces.parts() {
+        output.extend_from_slice(part)?;
+    }
+    Ok(pieces.same())
+}
