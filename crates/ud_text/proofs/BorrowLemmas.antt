@@ -1,12 +1,15 @@
 -- Borrowing: a line in front of a piece, cut into its body and its ending, is the next line of the text.
-use Rattle.std.proofs.Common.{◌≡◌, ◌==◌, ℕ, suc, ◌+◌, ◌<◌, Bool, true, false, not, None, List, [], ◌∷◌, ◌++◌, length, take, refl, sym, ◌∙◌, ap, subst}
-use Rattle.std.proofs.lemmas.Bool.{eqb-true}
+use Rattle.std.proofs.Common.{◌≡◌, ◌==◌, ℕ, suc, ◌+◌, ◌<◌, Bool, true, false, not, None, List, [], ◌∷◌, ◌++◌, length, take, refl, sym, ◌∙◌, ap, subst, min, inl, inr, arith}
+use Rattle.std.proofs.lemmas.Bool.{eqb-true, cases_lt}
+use Rattle.std.proofs.lemmas.List.{take-take, length-append}
+use Rattle.std.proofs.Math.ListN.{length-take}
 use Rattle.ud_model.specs.declared.limits.TheConstants.{LINE_BYTES}
 use Rattle.ud_model.specs.text.Lines.{NoFeed, IsWhole, Line, text_of, line_at}
 use Rattle.ud_model.proofs.text.LinesLemmas.{text_of-line_at}
 use Rattle.ud_text.specs.Holding.{Holding, Took, UpToFeed, IsLineOf}
 use Rattle.ud_text.specs.Borrowing.{CanLend, IsFirstLine}
-use Rattle.ud_text.proofs.FeedLemmas.{up_to_feed-once, whole_feedless}
+use Rattle.ud_text.proofs.FeedLemmas.{up_to_feed-once, whole_feedless, feed_at_end}
+use Rattle.ud_text.proofs.RunLemmas.{no_feed-take}
 use Rattle.ud_text.proofs.HoldingLemmas.{took_take, took_clear}
 
 -- where there is no byte, there are none
@@ -21,6 +24,22 @@ pub none_fits : (piece : List ℕ) (used other : ℕ) (whole : Bool) → UpToFee
 none_fits piece used other whole a long b =
     let once : (whole ≡ true) × (used ≡ other) = up_to_feed-once piece used other whole true a b in
     subst (λ (n : ℕ). LINE_BYTES < n) once.1 (long once.0)
+
+-- where no line feed stands in so much as a line may have, each whole line in front is too long
+pub none_here : (rest : List ℕ) (size : ℕ) → size ≡ min (length rest) LINE_BYTES → NoFeed (take size rest) → (used : ℕ) → UpToFeed rest used true → LINE_BYTES < used
+none_here rest size e none used to =
+    elim (cases_lt LINE_BYTES used) [
+      | inl long ↦ long
+      | inr short ↦
+          let line : (front : List ℕ) × NoFeed front × (take used rest ≡ front ++ 10 ∷ []) = to.line refl in
+          absurd (feed_at_end line.0 (subst NoFeed (take-take used size rest (omega (arith, e, to.within)) ∙ line.2) (no_feed-take used (take size rest) none)))
+    ]
+
+-- no line stands in front of nothing
+pub none_after : (rest : List ℕ) → length rest ≡ 0 → (used : ℕ) → UpToFeed rest used true → LINE_BYTES < used
+none_after rest e used to =
+    let line : (front : List ℕ) × NoFeed front × (take used rest ≡ front ++ 10 ∷ []) = to.line refl in
+    absurd (omega (arith, e, ap length line.2, length-append line.0 (10 ∷ []), length-take used rest))
 
 -- the first line of a piece is whole
 first_whole : (piece line : List ℕ) → IsFirstLine piece line → IsWhole line

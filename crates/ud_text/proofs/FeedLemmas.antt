@@ -41,7 +41,7 @@ up_to_feed-none s none = record {
 }
 
 -- bytes that end with a line feed have one
-feed_at_end : (front : List ℕ) → NoFeed (front ++ 10 ∷ []) → ⊥
+pub feed_at_end : (front : List ℕ) → NoFeed (front ++ 10 ∷ []) → ⊥
 feed_at_end [] h = h.0 refl
 feed_at_end (b ∷ bs) h = feed_at_end bs h.1
 

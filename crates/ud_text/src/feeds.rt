@@ -1,8 +1,9 @@
 //! Line feeds: how many lines they end, and how far the lines go that fit.
 
-ghost use Rattle.std.specs.Prelude.{◌≡◌, ◌≤◌, ◌+◌, length, take, drop};
+ghost use Rattle.std.specs.Prelude.{◌≡◌, ◌≤◌, ◌<◌, ◌+◌, ℕ, length, take, drop, true};
 ghost use Rattle.std.specs.List.{count_by};
 ghost use Rattle.ud_model.specs.text.Lines.{whole_lines};
+ghost use Rattle.ud_text.specs.Holding.{UpToFeed};
 ghost use Rattle.ud_text.specs.Passing.{EndsLine};
 ghost use Rattle.ud_text.specs.Skipping.{is_feed, EachFits};
 
@@ -44,11 +45,12 @@ pub(crate) fn count_lines(bytes: &[u8]) -> usize
     count + feeds_one_by_one(&bytes[at..])
 }
 
-/// How many bytes in front are whole lines of at most `LINE_BYTES` each.
+/// How many bytes in front are whole lines of at most `LINE_BYTES` each. As many as there are.
 pub(crate) fn fitting_lines(piece: &[u8]) -> usize
     ensures bound { result ≤ length piece.now }
     ensures ends { EndsLine (take result piece.now) }
     ensures fits { EachFits (whole_lines (take result piece.now)) }
+    ensures most { (used : ℕ) → UpToFeed (drop result piece.now) used true → LINE_BYTES < used }
 {
     let mut at = 0;
     while at < piece.len() {

@@ -6,7 +6,7 @@
 //! lends one, and `skip` gives up many at once.
 //! A new way in which a line may end needs another `lines_of` and another `front`.
 
-ghost use Rattle.std.specs.Prelude.{◌≡◌, ℕ, suc, ◌+◌, ◌<◌, ◌≤◌, ◌↔◌, List, [], ◌∷◌, ◌++◌, length, take, true, false, Some, None, IfOk, IfErr, OnOk, OnErr, IfSome, OnSome, IfNone, Ok, Err, IsTrue, MatchResult};
+ghost use Rattle.std.specs.Prelude.{◌≡◌, ℕ, suc, ◌+◌, ◌<◌, ◌≤◌, ◌↔◌, List, [], ◌∷◌, ◌++◌, length, take, drop, true, false, Some, None, IfOk, IfErr, OnOk, OnErr, IfSome, OnSome, IfNone, Ok, Err, IsTrue, MatchResult};
 ghost use Rattle.ud_model.specs.text.Lines.{NoFeed, whole_lines, open_rest, line_at, text_of, is_ending};
 ghost use Rattle.ud_text.specs.Borrowing.{CanLend, IsFirstLine};
 ghost use Rattle.ud_text.specs.Holding.{Took, UpToFeed, Refuses, refused_with, IsComplete, IsLastLine, IsLineOf};
@@ -183,11 +183,13 @@ impl Lines {
     /// How many bytes in front of the piece are whole lines that `skip` may give up at once.
     ///
     /// `piece` may have any length and any bytes. The answer is 0 if bytes of a line are held, if a fault was refused, or
-    /// if the text might have too many lines. Nothing else is said of how far it goes: where it is 0, `whole_in` and `take`
-    /// tell more.
+    /// if the text might have too many lines, as when it has no more left than the piece has bytes. Else these are all lines
+    /// up to the first that is too long or isn't whole. Of the next line `whole_in` and `take` tell more.
     pub fn whole_run(&self, piece: &[u8]) -> usize
         ensures bound { result ≤ length piece.now }
         ensures run { 0 < result → CanSkip self.now (take result piece.now) }
+        ensures most { self.now.held ≡ [] → self.now.refusal ≡ None → self.now.before + length piece.now ≤ self.now.last_line →
+            (used : ℕ) → UpToFeed (drop result piece.now) used true → LINE_BYTES < used }
     {
         if self.refused.is_some() || !self.held_bytes.is_empty() {
             return 0;
