@@ -5,6 +5,7 @@
 # make bench      measures ./unifdef on a large text, and how fast conditions are decided (bench/README.md)
 # make trees      runs ./unifdef over real trees beside the released program (bench/README.md)
 # make selects    compares what a C compiler selects of real files before and after ./unifdef (bench/README.md)
+# make hostile    holds ./unifdef's library against its reference on N hostile texts from SEED on, in JOBS processes
 # make clean      removes what was built
 
 PREFIX ?= /usr/local
@@ -20,7 +21,7 @@ SOURCES := crates.txt HANDLES \
 	$(shell find crates -name out -prune -o \( -name '*.rt' -o -name '*.antt' \) -print)
 
 .DELETE_ON_ERROR:
-.PHONY: all build kit check examples install uninstall bench bench-text bench-conditions trees selects clean
+.PHONY: all build kit check examples install uninstall bench bench-text bench-conditions trees selects hostile clean
 
 all: build
 
@@ -64,6 +65,10 @@ trees: unifdef
 
 selects: unifdef
 	bench/selects.py $(SELECTS)
+
+hostile: kit
+	cd crates/hostile_runs && $(RT) run < /dev/null > /dev/null
+	N='$(N)' SEED='$(SEED)' JOBS='$(JOBS)' bench/hostile.sh
 
 clean:
 	rm -f unifdef

@@ -21,6 +21,8 @@ mod faults;
 #[cfg(test)]
 mod fronts;
 #[cfg(test)]
+mod hostile;
+#[cfg(test)]
 mod ignoring;
 #[cfg(test)]
 mod limits;

@@ -1,0 +1,24 @@
+#!/usr/bin/env bash
+# Holds the tool against the reference on hostile texts: see README.md in this folder.
+# N: how many cases; SEED: the first seed; JOBS: how many processes.
+set -eu -o pipefail
+export LC_ALL=C
+here=$(cd "$(dirname "$0")" && pwd)
+program=$(dirname "$here")/crates/hostile_runs/out/hostile_runs
+cases=${N:-100000}
+seed=${SEED:-0}
+jobs=${JOBS:-$(nproc)}
+
+[ -x "$program" ] || { echo "hostile: $program is not there: run make hostile" >&2; exit 1; }
+
+# Each process takes blocks of cases in turn, so that none waits long for the others.
+block=$(( (cases + jobs * 8 - 1) / (jobs * 8) ))
+[ "$block" -gt 0 ] || block=1
+from=$seed
+end=$((seed + cases))
+while [ "$from" -lt "$end" ]; do
+  count=$((end - from < block ? end - from : block))
+  echo "$from $count"
+  from=$((from + count))
+done | xargs -P "$jobs" -L 1 "$program"
+echo "hostile: $cases cases from seed $seed on: no mismatch"

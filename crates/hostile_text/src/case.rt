@@ -1,0 +1,31 @@
+//! A case: words and a text.
+
+use crate::random::Random;
+use crate::sections::write_text;
+use crate::words::words_of;
+use crate::writer::Writer;
+use std::alloc::{AllocError, Global};
+
+/// Words and a text, and the seed of the pieces in which the tool reads it.
+#[derive(Drop)]
+pub struct Case {
+    pub words: Vec<String>,
+    pub text: Vec<u8>,
+    pub seed: u64,
+}
+
+/// The case of a seed.
+///
+/// # Errors
+/// Memory is refused.
+pub fn case_of(alloc: Global, seed: u64) -> Result<Case, AllocError> {
+    let mut random = Random::new(seed);
+    let words = words_of(alloc, &mut random)?;
+    let mut writer = Writer::new(alloc, random);
+    write_text(&mut writer)?;
+    Ok(Case {
+        words,
+        text: writer.text,
+        seed,
+    })
+}

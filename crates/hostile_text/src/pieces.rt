@@ -1,0 +1,39 @@
+//! A reader over memory that gives pieces of random sizes.
+
+use crate::random::Random;
+use std::io::{self, Read};
+
+/// The most bytes of a piece are one of these.
+const SIZES: [usize; 6] = [1, 2, 5, 64, 1000, 10_000];
+
+/// Gives its bytes in pieces, and then ends.
+#[derive(Drop)]
+pub struct Pieces<'a> {
+    bytes: &'a [u8],
+    most: usize,
+    random: Random,
+}
+
+impl<'a> Pieces<'a> {
+    /// Gives these bytes, in pieces that come from the seed.
+    pub fn new(bytes: &'a [u8], seed: u64) -> Pieces<'a> {
+        let mut random = Random::new(seed);
+        let most = SIZES[random.below(SIZES.len())];
+        Pieces {
+            bytes,
+            most,
+            random,
+        }
+    }
+}
+
+impl Read for Pieces<'_> {
+    fn read(&mut self, buf: &mut [u8]) -> io::Result<usize> {
+        let size = self.random.below(self.most.max(1)).saturating_add(1);
+        let count = buf.len().min(self.bytes.len()).min(size);
+        let (given, left) = self.bytes.split_at(count);
+        buf[..count].copy_from_slice(given);
+        self.bytes = left;
+        Ok(count)
+    }
+}

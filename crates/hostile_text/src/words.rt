@@ -1,0 +1,72 @@
+//! Words of a command line.
+
+use crate::random::Random;
+use std::alloc::{AllocError, Global};
+
+/// What says something of a symbol, each of one word.
+const SYMBOLS: [&str; 26] = [
+    "-DA",
+    "-UA",
+    "-iDA",
+    "-iUA",
+    "-DA=0",
+    "-DA=B",
+    "-DA=-1",
+    "-DA=9223372036854775807",
+    "-DB",
+    "-UB",
+    "-iDB",
+    "-iUB",
+    "-DB=A",
+    "-DB=2",
+    "-DB=0x10u",
+    "-DB=",
+    "-DC",
+    "-UC",
+    "-iDC",
+    "-iUC",
+    "-DC=C",
+    "-DC=07",
+    "-DC=x y",
+    "-DC=1L",
+    "-DA=(1)",
+    "-DB=defined",
+];
+
+const FLAGS: [&str; 16] = [
+    "-b", "-c", "-k", "-K", "-l", "-n", "-s", "-S", "-t", "-bc", "-cn", "-bn", "-kK", "-x0", "-x1",
+    "-x2",
+];
+
+/// Words that are wrong, or that need others around them.
+const ODD: [&str; 14] = [
+    "-",
+    "--",
+    "f.c",
+    "-x3",
+    "-B",
+    "-D",
+    "-U1A",
+    "-iX",
+    "-Ddefined",
+    "",
+    "-é",
+    "-tD",
+    "-x",
+    "-i",
+];
+
+/// A few words: what is said of one symbol at least, flags at times, and something odd seldom.
+pub(crate) fn words_of(alloc: Global, random: &mut Random) -> Result<Vec<String>, AllocError> {
+    let mut words = Vec::new(alloc);
+    for _ in 0..1 + random.below(4) {
+        words.push(String::from_str(alloc, SYMBOLS[random.below(SYMBOLS.len())])?)?;
+    }
+    for _ in 0..random.below(3) {
+        words.push(String::from_str(alloc, FLAGS[random.below(FLAGS.len())])?)?;
+    }
+    if random.one_in(40) {
+        words.push(String::from_str(alloc, ODD[random.below(ODD.len())])?)?;
+    }
+    Ok(words)
+}
