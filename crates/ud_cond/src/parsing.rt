@@ -4,7 +4,7 @@
 //! it are the stacks, and an operand has come or has to come. A stack of the longest line is costly to clear, so a short
 //! text is read with short stacks.
 
-ghost use Rattle.std.specs.Prelude.{◌≡◌, ◌≤◌, ◌<◌, ◌+◌, ◌*◌, option_map, length, IfSome, IfNone, None, []};
+ghost use Rattle.std.specs.Prelude.{◌≡◌, ◌≤◌, ◌+◌, option_map, length, IfSome, IfNone, None, []};
 ghost use Rattle.ud_model.specs.conditions.Tokens.{next_token as token_of};
 ghost use Rattle.ud_model.specs.aids.Parsing as spec;
 ghost use Rattle.ud_model.specs.declared.limits.TheConstants.{LINE_BYTES};

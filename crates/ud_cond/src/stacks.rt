@@ -3,7 +3,7 @@
 //! Each parenthesis and prefix operator that waits has a byte of the text, and each left operand with its operator has two.
 //! So a stack of as many operators as the text has bytes, and one of half as many operands, suffice.
 
-ghost use Rattle.std.specs.Prelude.{◌≡◌, ◌≤◌, ◌<◌, ◌+◌, ◌*◌, ◌∷◌, ◌↔◌, [], List, length, IfSome, IfNone, IsTrue, false};
+ghost use Rattle.std.specs.Prelude.{◌≡◌, ◌≤◌, ◌+◌, ◌∷◌, [], IfSome, IfNone, IsTrue, false};
 ghost use Rattle.ud_model.specs.aids.Parsing.{left, before, paren, reduce};
 ghost use Rattle.ud_cond.specs.Stacks as spec;
 ghost use Rattle.ud_cond.specs.Stacks.{weight};
