@@ -21,7 +21,7 @@ use Rattle.ud_engine.specs.Sending.{Sent}
 use Rattle.ud_engine.specs.Watching.{Watching, AppendsFront}
 use Rattle.ud_engine.proofs.SendingLemmas.{sent_none, sent_then, sent_then_front, sent_part, sent_all}
 use Rattle.ud_engine.proofs.StepLemmas.{between_none, take_more_of}
-use Rattle.ud_engine.proofs.TakingLemmas.{run_falls_short}
+use Rattle.ud_engine.proofs.TakingLemmas.{run_falls_short, reads_so_far, one_line, few_sections}
 
 -- a text of no bytes has no lines
 pub none_so_far : lines_so_far [] ≡ []
@@ -156,29 +156,34 @@ module _ {S : Type 0} (stands : S → List Judged → Type 0) (piece_of : S → 
         Sent b c left [] → Goes stands piece_of f o piece (text ++ bytes) printed a c
     feed_ends f c gathered is none works end s = record {
       more = h.more;
-      fed = subst (λ x. Fed stands piece_of x o piece (text ++ bytes) (printed ++ h.more)) (sym is) (record {
-        taken = record {
-          items = taken.items;
-          tree = taken.tree;
-          goes = taken.goes;
-          has = taken.has;
-          printed_is = taken.printed_is;
-          symbols = taken.symbols;
-          opened = taken.opened;
-          took = taken.took;
-          unrefused = taken.unrefused;
-          begun = taken.begun;
-          count = taken.count;
-        };
-        works = works;
-        written = none;
-      });
-      appended =
-          text_ends c (subst (λ x. Appends b c x) (sym (s.joined ∙ append-nil s.front)) s.appended);
+      fed = fed;
+      appended = text_ends c (subst (λ x. Appends b c x) (sym (s.joined ∙ append-nil s.front)) s.appended);
+      right = reads_so_far stands piece_of o piece f (text ++ bytes) (printed ++ h.more) fed.taken;
+      one_line = one_line stands piece_of o piece f (text ++ bytes) (printed ++ h.more) fed.taken;
+      few_sections = few_sections stands piece_of o piece f (text ++ bytes) (printed ++ h.more) fed.taken;
     }
       where
         taken : HasTaken stands piece_of e o piece (text ++ bytes) (printed ++ h.more)
         taken = subst (λ x. HasTaken stands piece_of e o piece (text ++ x) (printed ++ h.more)) (take_all at bytes end) h.taken
+
+        fed : Fed stands piece_of f o piece (text ++ bytes) (printed ++ h.more)
+        fed = subst (λ x. Fed stands piece_of x o piece (text ++ bytes) (printed ++ h.more)) (sym is) (record {
+          taken = record {
+            items = taken.items;
+            tree = taken.tree;
+            goes = taken.goes;
+            has = taken.has;
+            printed_is = taken.printed_is;
+            symbols = taken.symbols;
+            opened = taken.opened;
+            took = taken.took;
+            unrefused = taken.unrefused;
+            begun = taken.begun;
+            count = taken.count;
+          };
+          works = works;
+          written = none;
+        })
 
     -- a write fails at the end
     pub feed_falls_short : (c : Option (List ℕ)) (failed : Bool) → failed ≡ true → AppendsFront b c left → Fails o piece failed a c (text ++ bytes) printed Write

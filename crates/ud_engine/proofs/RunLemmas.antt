@@ -1,5 +1,5 @@
 -- Running: what a run leaves, read by read.
-use Rattle.std.proofs.Common.{◌≡◌, ℕ, suc, ◌+◌, ◌-◌, ◌<◌, ◌≤◌, Bool, true, false, List, [], ◌∷◌, ◌++◌, length, take, drop, Option, Some, None, Result, Ok, Err, IfOk, IfErr, OnOk, IfSome, refl, sym, ◌∙◌, ap, subst, append_assoc, append-nil, take-append-drop, arith, length-append}
+use Rattle.std.proofs.Common.{◌≡◌, ℕ, ◌+◌, ◌-◌, ◌<◌, ◌≤◌, Bool, true, false, List, ◌∷◌, ◌++◌, length, take, drop, Option, Some, None, Result, Ok, Err, IfOk, IfErr, OnOk, IfSome, refl, sym, ◌∙◌, ap, subst, append_assoc, append-nil, take-append-drop, arith, length-append}
 use Rattle.std.specs.Io.KnownBytes.{Appends, Consumes, IsAtEnd}
 use Rattle.std.proofs.lemmas.List.{take-append-le}
 use Rattle.std.proofs.KnownBytes.{Appends-trans}
@@ -9,19 +9,15 @@ use Rattle.ud_model.specs.sections.Tree.{Item, Tree}
 use Rattle.ud_model.specs.sections.Items.{Options}
 use Rattle.ud_model.specs.sections.Faults.{Fault}
 use Rattle.ud_model.specs.answer.Printing.{Judged, piece_behind, style_of}
-use Rattle.ud_model.specs.answer.Runs.{Outcome, RunsSoFar, ReadsAs, ReadsSoFar, IsLimit, by_lines, by_bytes, outcome_of, output_by, differs_by, ran_as, came_as, goes_on, line_so_far}
+use Rattle.ud_model.specs.answer.Runs.{Outcome, RunsSoFar, ReadsAs, outcome_of, output_by, differs_by, ran_as, came_as}
 use Rattle.ud_model.specs.declared.settings.Listing.{Listing}
 use Rattle.ud_model.specs.declared.settings.Listing.TheVariants.{Off, Names, Depths}
 use Rattle.ud_model.specs.declared.settings.Settings.{Settings}
-use Rattle.ud_model.specs.declared.limits.TheConstants.{LINE_BYTES, TEXT_LINES}
 use Rattle.ud_model.proofs.sections.Exists.{run_so_far_exists}
 use Rattle.ud_model.proofs.sections.FaultStays.{fault_stays, reads_stay}
-use Rattle.ud_model.proofs.sections.Soundness.{one_run_so_far, reading_of-next}
+use Rattle.ud_model.proofs.sections.Soundness.{one_run_so_far}
 use Rattle.ud_model.proofs.answer.Onward.{prints_further}
-use Rattle.ud_model.proofs.text.LinesLemmas.{Growth, stays_open, ends_line, grows, text_of-line_at}
-use Rattle.ud_model.specs.text.Lines.{Line, text_of}
-use Rattle.ud_model.specs.sections.Faults.{Case, Holds}
-use Rattle.ud_model.specs.sections.Items.{next_item}
+use Rattle.ud_model.proofs.text.LinesLemmas.{Growth, stays_open, ends_line, grows}
 use Rattle.ud_sections.specs.Sections.{fault_of}
 use Rattle.ud_engine.specs.declared.fault.RunFault.{RunFault}
 use Rattle.ud_engine.specs.declared.fault.RunFault.TheVariants.{Text, Section, Read, Write}
@@ -30,7 +26,7 @@ use Rattle.ud_engine.specs.Ending.{EndsAt, EndsWell, EndsIll, Ran, RanAs, fault_
 use Rattle.ud_engine.specs.Feeding.{Running, HasTaken, Fails, Stops, limit_of}
 use Rattle.ud_engine.specs.Printing.{text_by, differs_in}
 use Rattle.ud_engine.specs.Running.{KeptUp, settled, room}
-use Rattle.ud_engine.proofs.TakingLemmas.{before_is, rest_is}
+use Rattle.ud_engine.proofs.TakingLemmas.{before_is, rest_is, reads_so_far}
 
 -- what a definition prints is its output
 same_text : (q : Listing) (s : Settings) (xs : List (Item Reading)) (t : Tree Reading) → text_by q (piece_behind (style_of s)) xs t ≡ output_by q s xs t
@@ -110,32 +106,6 @@ module _ (o : Options) where
 
   module _ {S : Type 0} (stands : S → List Judged → Type 0) (piece_of : S → List Judged → Judged → List ℕ) (e : Running S) (text printed : List ℕ)
       (h : HasTaken stands piece_of e o own_piece text printed) where
-    no_limit : (w : Case) → IsLimit w → 0 < length e.lines.held → Holds h.items (next_item o h.items h.tree (line_so_far text)) w → ⊥
-    no_limit _ by_lines some k =
-        let b = before_is stands piece_of o own_piece e text printed h in
-        let n = h.begun some in
-        let past : TEXT_LINES < suc (length (whole_lines text)) =
-        subst (λ (l : Line). TEXT_LINES < l.number) (reading_of-next o h.items h.tree (line_so_far text)) k in
-        omega (arith, b, n, past)
-    no_limit _ by_bytes some k =
-        let r = ap length (rest_is stands piece_of o own_piece e text printed h) in
-        let s = h.opened.short in
-        let long : LINE_BYTES < length (open_rest text) =
-        subst (λ (x : List ℕ). LINE_BYTES < length x) (text_of-line_at (suc (length (whole_lines text))) (open_rest text))
-        (subst (λ (l : Line). LINE_BYTES < length (text_of l)) (reading_of-next o h.items h.tree (line_so_far text)) k) in
-        omega (arith, r, s, long)
-
-    some_held : (r : List ℕ) → (r ≡ [] → ⊥) → 0 < length r
-    some_held [] n = absurd (n refl)
-    some_held (x ∷ xs) n = omega arith
-
-    -- nothing in the text is faulty
-    pub reads_so_far : ReadsSoFar o text h.items h.tree None
-    reads_so_far =
-        goes_on h.items h.tree h.goes
-        (λ f k. no_limit k.fault.which k.limit
-        (subst (λ (r : List ℕ). 0 < length r) (rest_is stands piece_of o own_piece e text printed h) (some_held (open_rest text) k.some)) k.fault.holds)
-
     abbrev so_far : Outcome
     so_far = outcome_of o.settings h.items h.tree None
 
@@ -143,7 +113,7 @@ module _ (o : Options) where
     right q more r is runs None e₁ = refl
     right q more r is runs (Some f) e₁ =
         let longer : RunsSoFar o text r = subst (λ x. RunsSoFar o x r) is (fault_stays o q more r runs f e₁).0 in
-        let same : r ≡ so_far = one_run_so_far longer (came_as reads_so_far) in
+        let same : r ≡ so_far = one_run_so_far longer (came_as (reads_so_far stands piece_of o own_piece e text printed h)) in
         let no : r.fault ≡ None = ap (λ (s : Outcome). s.fault) same in
         sym e₁ ∙ no
 
@@ -158,7 +128,7 @@ module _ (o : Options) where
         let joined : settled (text ++ last) ++ drop n text ≡ text = ap (λ x. x ++ drop n text) front ∙ take-append-drop n text in
         let r : (r : Outcome) × RunsSoFar o (settled (text ++ last)) r = run_so_far_exists o (settled (text ++ last)) in
         let grown : (rest : List ℕ) × (so_far.output ≡ r.0.output ++ rest) =
-        prints_further o (settled (text ++ last)) (drop n text) r.1 (subst (λ x. RunsSoFar o x so_far) (sym joined) (came_as reads_so_far)) in
+        prints_further o (settled (text ++ last)) (drop n text) r.1 (subst (λ x. RunsSoFar o x so_far) (sym joined) (came_as (reads_so_far stands piece_of o own_piece e text printed h))) in
         record {
           given = text ++ last;
           consumed = consumed;

@@ -1,14 +1,16 @@
 -- Taking: what an engine stands for once it has taken more bytes.
 use Rattle.std.proofs.Common.{◌≡◌, ℕ, suc, ◌+◌, ◌<◌, ◌≤◌, Bool, true, false, List, [], ◌∷◌, ◌++◌, length, take, drop, Option, Some, None, refl, sym, ◌∙◌, ap, subst, append_assoc, append-nil, take-append-drop, take_all, arith, length-append}
 use Rattle.std.proofs.Math.ListN.{length-take}
+use Rattle.ud_model.proofs.output.SoundBounds.{sound_low}
+use Rattle.ud_model.proofs.sections.Heights.{depth_height}
 use Rattle.ud_model.specs.text.Lines.{Line, NoFeed, Parts, parts_of, whole_lines, open_rest, line_at, numbered_from, text_of}
 use Rattle.ud_model.specs.text.Scans.{Reading}
-use Rattle.ud_model.specs.sections.Tree.{Item, Tree}
+use Rattle.ud_model.specs.sections.Tree.{Item, Tree, depth}
 use Rattle.ud_model.specs.sections.Items.{Options, line_of, next_item}
-use Rattle.ud_model.specs.sections.Faults.{Fault, FaultOf, past_last, too_long, too_many_lines, line_too_long}
+use Rattle.ud_model.specs.sections.Faults.{Fault, FaultOf, past_last, too_long, too_many_lines, line_too_long, Case, Holds}
 use Rattle.ud_model.specs.answer.Printing.{Judged}
-use Rattle.ud_model.specs.answer.Runs.{IsLimit, by_lines, by_bytes, lines_so_far, line_so_far, stops, breaks}
-use Rattle.ud_model.specs.declared.limits.TheConstants.{LINE_BYTES, TEXT_LINES}
+use Rattle.ud_model.specs.answer.Runs.{IsLimit, by_lines, by_bytes, lines_so_far, line_so_far, stops, breaks, ReadsSoFar, goes_on}
+use Rattle.ud_model.specs.declared.limits.TheConstants.{LINE_BYTES, TEXT_LINES, OPEN_SECTIONS}
 use Rattle.ud_model.proofs.sections.Soundness.{reading_of-next}
 use Rattle.ud_model.proofs.text.LinesLemmas.{parts_of-append-open, parts_of-append-line, text_of-line_at, numbered_from-next, lines_so_far-append}
 use Rattle.ud_cond.specs.Standing.{StandsFor}
@@ -242,3 +244,41 @@ module _ {S : Type 0} (stands : S → List Judged → Type 0) (piece_of : S → 
       (line_at (suc (length (whole_lines text))) (e.lines.held ++ take r.2.0 rest)) line (reading_of-next o h.items h.tree _)
       (omega (arith, b, is)) (omega (arith, b, k, fits, is))
       (subst (λ (t : List ℕ). LINE_BYTES < length t) (sym (text_of-line_at (suc (length (whole_lines text))) (e.lines.held ++ take r.2.0 rest))) bytes))
+
+  -- no limit is passed by what is held
+  no_limit : (w : Case) → IsLimit w → 0 < length e.lines.held → Holds h.items (next_item o h.items h.tree (line_so_far text)) w → ⊥
+  no_limit _ by_lines some k =
+      let b = before_is in
+      let n = h.begun some in
+      let past : TEXT_LINES < suc (length (whole_lines text)) =
+      subst (λ (l : Line). TEXT_LINES < l.number) (reading_of-next o h.items h.tree (line_so_far text)) k in
+      omega (arith, b, n, past)
+  no_limit _ by_bytes some k =
+      let r = ap length (rest_is) in
+      let s = h.opened.short in
+      let long : LINE_BYTES < length (open_rest text) =
+      subst (λ (x : List ℕ). LINE_BYTES < length x) (text_of-line_at (suc (length (whole_lines text))) (open_rest text))
+      (subst (λ (l : Line). LINE_BYTES < length (text_of l)) (reading_of-next o h.items h.tree (line_so_far text)) k) in
+      omega (arith, r, s, long)
+
+  some_held : (r : List ℕ) → (r ≡ [] → ⊥) → 0 < length r
+  some_held [] n = absurd (n refl)
+  some_held (x ∷ xs) n = omega arith
+
+  -- nothing in the text is faulty
+  pub reads_so_far : ReadsSoFar o text h.items h.tree None
+  reads_so_far =
+      goes_on h.items h.tree h.goes
+      (λ f k. no_limit k.fault.which k.limit
+      (subst (λ (r : List ℕ). 0 < length r) (rest_is) (some_held (open_rest text) k.some)) k.fault.holds)
+
+  -- what it begins of a line is no longer than a line
+  pub one_line : length (open_rest text) ≤ LINE_BYTES
+  one_line = subst (λ (r : List ℕ). length r ≤ LINE_BYTES) (sym rest_is) h.opened.short
+
+  -- and no more sections are open than may be
+  pub few_sections : depth h.tree ≤ OPEN_SECTIONS
+  few_sections =
+      let low = sound_low o h.items h.tree h.goes.sound in
+      let d = depth_height h.tree in
+      omega (arith, low, d)

@@ -8,15 +8,15 @@
 --   Fails .. old new longer f    what was fed next is faulty, or a write failed
 use Rattle.std.specs.Prelude.{◌≡◌, ℕ, ◌<◌, ◌≤◌, List, [], ◌++◌, length, Bool, true, false, Option, Some, None}
 use Rattle.std.specs.Io.KnownBytes.{Appends}
-use Rattle.ud_model.specs.text.Lines.{Line, NoFeed}
+use Rattle.ud_model.specs.text.Lines.{Line, NoFeed, open_rest}
 use Rattle.ud_model.specs.text.Scans.{Reading}
 use Rattle.ud_model.specs.conditions.Table.{Argument}
-use Rattle.ud_model.specs.sections.Tree.{Item, Tree}
+use Rattle.ud_model.specs.sections.Tree.{Item, Tree, depth}
 use Rattle.ud_model.specs.sections.Items.{Options}
 use Rattle.ud_model.specs.sections.Faults.{Fault, too_many_lines, line_too_long}
 use Rattle.ud_model.specs.answer.Printing.{Judged}
 use Rattle.ud_model.specs.answer.Runs.{GoesThrough, ReadsSoFar, lines_so_far}
-use Rattle.ud_model.specs.declared.limits.TheConstants.{LINE_BYTES, TEXT_LINES}
+use Rattle.ud_model.specs.declared.limits.TheConstants.{LINE_BYTES, TEXT_LINES, OPEN_SECTIONS}
 use Rattle.ud_cond.specs.Standing.{StandsFor}
 use Rattle.ud_text.specs.Holding.{Holding, Took}
 use Rattle.ud_text.specs.declared.fault.TextFault.{TextFault}
@@ -66,12 +66,16 @@ pub record Fed {S : Type 0} (stands : S → List Judged → Type 0) (piece_of : 
   pub works : e.refused ≡ None
   pub written : e.gathered ≡ []
 
--- the longer text is fed, and this was appended, which is printed of its lines after what is printed already
+-- The longer text is fed, and this was appended, which is printed of its lines after what is printed already. Nothing in the
+-- text is faulty so far; what it begins of a line is held, and so many sections are open.
 pub record Goes {S : Type 0} (stands : S → List Judged → Type 0) (piece_of : S → List Judged → Judged → List ℕ) (e : Running S) (o : Options)
     (piece : List Judged → Judged → List ℕ) (longer printed : List ℕ) (old new : Option (List ℕ)) : Type 0 where
   pub more : List ℕ
   pub fed : Fed stands piece_of e o piece longer (printed ++ more)
   pub appended : Appends old new more
+  pub right : ReadsSoFar o longer fed.taken.items fed.taken.tree None
+  pub one_line : length (open_rest longer) ≤ LINE_BYTES
+  pub few_sections : depth fed.taken.tree ≤ OPEN_SECTIONS
 
 -- a limit that the text passes, as the definitions have it
 abbrev pub limit_of : TextFault → Fault
