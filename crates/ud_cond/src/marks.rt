@@ -1,12 +1,12 @@
 //! A quick test by which most names that the table doesn't list are told.
 
-ghost use Rattle.std.specs.Prelude.{◌≡◌, ◌<◌, ◌-◌, List, ℕ, true, length, slice_index};
+ghost use Rattle.std.specs.Prelude.{◌≡◌, ◌<◌, ◌-◌, ◌/◌, List, ℕ, true, length, slice_index};
 ghost use Rattle.ud_cond.specs.Marking as spec;
 
 /// How many marks there are.
 pub(crate) const MARKS: usize = 2048;
 
-/// Which marks were noted. A name's mark is told by its length and by its first and last byte, so many names have the same.
+/// Which marks were noted. A name's mark is told by its length and two of its bytes, so many names have the same.
 #[derive(Drop)]
 pub(crate) struct Marks {
     /// Whether each mark was noted.
@@ -37,13 +37,13 @@ impl Marks {
     }
 }
 
-/// The first byte of a name; 0 if it has none.
-fn first_of(name: &[u8]) -> u8
-    ensures { result ≡ slice_index name.now 0 }
+/// The byte in the middle of a name; 0 if it has none.
+fn middle_of(name: &[u8]) -> u8
+    ensures { result ≡ slice_index name.now (length name.now / 2) }
 {
-    match name {
-        [first, ..] => *first,
-        [] => 0,
+    match name.get(name.len() / 2) {
+        Some(middle) => *middle,
+        None => 0,
     }
 }
 
@@ -63,7 +63,7 @@ fn mark_of(name: &[u8]) -> usize
     ensures bound { result < MARKS }
 {
     let length = name.len() % MARKS;
-    let first = usize::from(first_of(name));
+    let middle = usize::from(middle_of(name));
     let last = usize::from(last_of(name));
-    (length + 32 * first + 5 * last) % MARKS
+    (length + 101 * middle + 37 * last) % MARKS
 }

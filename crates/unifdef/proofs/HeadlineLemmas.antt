@@ -1,5 +1,5 @@
 -- Headline: from what a run answered to the answer of the definitions.
-use Rattle.std.proofs.Common.{◌≡◌, ℕ, List, [], ◌++◌, Bool, true, false, not, Option, Some, None, Result, Ok, Err, refl, sym, ◌∙◌, ap, subst, ◌⊎◌, inl, inr}
+use Rattle.std.proofs.Common.{◌≡◌, ℕ, List, ◌++◌, Bool, true, false, not, Option, Some, None, Result, Ok, Err, refl, sym, ◌∙◌, ap, subst, ◌⊎◌, inl, inr}
 use Rattle.std.specs.Prelude.{IfSome}
 use Rattle.std.proofs.lemmas.Option.{IfSome_then}
 use Rattle.std.specs.Io.KnownBytes.{Keeps}
@@ -51,8 +51,7 @@ pub run_answers : (words : List (List ℕ)) (input : List ℕ) (ended : Result B
     Says e eo en (message_told (input_name words) ended) → s ≡ status_told (options_of words).settings ended →
     GivesAnswer words input (streams uo eo) (streams un en) e s
 run_answers words input ended uo um un e eo en s right r keeps said status =
-    let told = tells_outcome (input_name words) (options_of words).settings ended r.outcome r.answered in
-    (
+    let told = tells_outcome (input_name words) (options_of words).settings ended r.outcome r.answered in (
       _,
       ran r.outcome right r.runs,
       record {
