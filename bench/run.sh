@@ -32,5 +32,4 @@ add() {
 }
 add released /usr/bin/unifdef
 add rebuilt "$work/rebuilt"
-
 python3 "$here/compare.py" "$work" "${programs[@]}"

@@ -9,6 +9,7 @@ from pathlib import Path
 DECIDED = ["-D__cplusplus", "-U__KERNEL__"]
 COMMENTS = b"""/* What the function below does, in words that nobody would leave out;
  * each line begins with a star, as in many a source, and isn't short.
+ * Quotes don't matter here, nor does a # at its usual place.
  */
 int value; // a comment that ends with its line
 """
