@@ -2,7 +2,7 @@
 # make check      the merge gate: every proof from nothing, the edits that must be refused, the tests, the stored run
 # make examples   runs the examples of README.md and docs/EXAMPLES.md with ./unifdef
 # make install    installs ./unifdef and its manual under DESTDIR and PREFIX; make uninstall takes them away
-# make bench      measures ./unifdef on a large text, and how fast conditions are decided (bench/README.md)
+# make bench      measures ./unifdef beside the released program, and how fast conditions are decided (bench/README.md)
 # make trees      runs ./unifdef over real trees beside the released program (bench/README.md)
 # make selects    compares what a C compiler selects of real files before and after ./unifdef (bench/README.md)
 # make hostile    holds ./unifdef's library against its reference on N hostile texts from SEED on, in JOBS processes

@@ -1,55 +1,47 @@
-"""Runs a filter on a file and prints its best time in seconds and its peak memory in KiB.
+"""Runs a filter on a file and prints its best processor time in seconds, the user's and the system's together.
 
-measure.py RUNS INPUT STATUS COMMAND..: the output goes to /dev/null, and each run must end with STATUS. The time is
-the best of RUNS runs. The memory is that of one more run, read from /proc while it goes on, so that nothing of this
-program counts. What is taken after the last look, just before the end, is missed.
+measure.py RUNS INPUT COMMAND..: the output goes to /dev/null, and each run must end with status 0.
 """
 
+import fcntl
 import os
+import re
+import shutil
 import subprocess
 import sys
-import time
+import termios
+from pathlib import Path
 
 
-def start(command, path):
-    with open(path, "rb") as text:
-        return subprocess.Popen(command, stdin=text, stdout=subprocess.DEVNULL)
+def finished(command, source, output):
+    """The status of one run and its processor time in seconds."""
+    actions = [
+        (os.POSIX_SPAWN_OPEN, 0, source, os.O_RDONLY, 0),
+        (os.POSIX_SPAWN_OPEN, 1, output, os.O_WRONLY | os.O_CREAT, 0o600),
+    ]
+    pid = os.posix_spawn(shutil.which(command[0]), command, os.environ, file_actions=actions)
+    _, status, usage = os.wait4(pid, 0)
+    return os.waitstatus_to_exitcode(status), usage.ru_utime + usage.ru_stime
 
 
-def check(command, status, wanted):
-    if status != wanted:
-        sys.exit(f"{os.path.basename(command[0])} ended with status {status} in place of {wanted}")
+def peak(command, source):
+    """The status of one run and the most memory in KiB that it held before it saw the end of the text: it is looked at when
+    it has read everything from a pipe and waits for more."""
+    child = subprocess.Popen(command, stdin=subprocess.PIPE, stdout=subprocess.DEVNULL, bufsize=0)
+    with open(source, "rb") as text:
+        shutil.copyfileobj(text, child.stdin)
+    waits, most = False, 0
+    while not waits:
+        unread = any(fcntl.ioctl(child.stdin, termios.FIONREAD, bytes(4)))
+        told = Path(f"/proc/{child.pid}/status").read_text()
+        waits = not unread and "State:\tR" not in told
+        most = int((re.findall(r"VmHWM:\s*(\d+)", told) or [0])[0])
+    child.stdin.close()
+    return child.wait(), most
 
 
-def seconds(command, path, wanted):
-    """The time of one run."""
-    begin = time.perf_counter()
-    status = start(command, path).wait()
-    taken = time.perf_counter() - begin
-    check(command, status, wanted)
-    return taken
-
-
-def peak(command, path, wanted):
-    """The most memory that one run held."""
-    child = start(command, path)
-    most = 0
-    while child.poll() is None:
-        try:
-            with open(f"/proc/{child.pid}/status") as status:
-                held = [line for line in status if line.startswith("VmHWM:")]
-        except (FileNotFoundError, ProcessLookupError):
-            continue
-        if held:
-            most = max(most, int(held[0].split()[1]))
-    check(command, child.returncode, wanted)
-    return most
-
-
-def main():
-    runs, path, wanted, command = int(sys.argv[1]), sys.argv[2], int(sys.argv[3]), sys.argv[4:]
-    best = min(seconds(command, path, wanted) for _ in range(runs))
-    print(f"{best:.4f} {peak(command, path, wanted)}")
-
-
-main()
+if __name__ == "__main__":
+    outcomes = [finished(sys.argv[3:], sys.argv[2], os.devnull) for _ in range(int(sys.argv[1]))]
+    if any(status for status, _ in outcomes):
+        sys.exit(f"measure: {sys.argv[3]} failed")
+    print(f"{min(seconds for _, seconds in outcomes):.4f}")

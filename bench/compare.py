@@ -1,0 +1,158 @@
+"""Measures unifdef programs and `cat` in turns, and prints tables: see README.md in this folder.
+
+compare.py WORK NAME=PROGRAM..: texts and outputs lie in WORK. The others are held against the first program; the status is 1
+if its memory isn't below MOST_KIB.
+"""
+
+import hashlib
+import os
+import re
+import shutil
+import statistics
+import subprocess
+import sys
+from concurrent.futures import ThreadPoolExecutor
+from pathlib import Path
+from typing import NamedTuple
+
+import texts
+from measure import finished, peak
+
+BYTES = int(os.environ.get("BENCH_BYTES", "20000000"))
+RUNS = int(os.environ.get("BENCH_RUNS", "5"))
+FILES = int(os.environ.get("BENCH_FILES", "10000"))
+HEADERS = os.environ.get("BENCH_HEADERS", "/usr/include")
+COUNTED_BYTES = min(BYTES // 10, 1_000_000)
+EMPTY_LINES = 20_000_000
+MOST_KIB = 2048
+
+
+class Case(NamedTuple):
+    name: str
+    text: Path
+    words: list
+
+
+def row(*cells):
+    print("| " + " | ".join(cells) + " |", flush=True)
+
+
+def heading(title, *cells):
+    print(f"\n{title}\n")
+    row(*cells)
+    row(*["---"] * len(cells))
+
+
+def cases(work, programs):
+    c, comments = work / "c", work / "comments"
+    c.write_bytes(texts.headers(HEADERS, BYTES, list(programs.values())))
+    for symbols in (0, 50, 1000):
+        yield Case(f"C, {symbols:,} symbols", c, texts.c_words(symbols))
+    for option in ("-t", "-b", "-n", "-c", "-s"):
+        yield Case(f"C, 50 symbols, `{option}`", c, [*texts.c_words(50), option])
+    comments.write_bytes(texts.COMMENTS * (BYTES // len(texts.COMMENTS)))
+    yield Case("comments, 50 symbols", comments, texts.c_words(50))
+    for symbols in (50, 1000):
+        conditionals = work / f"conditionals{symbols}"
+        conditionals.write_bytes(texts.conditionals(BYTES, symbols))
+        yield Case(f"conditionals, {symbols:,} symbols", conditionals, texts.conditional_words(symbols))
+
+
+def commands(programs, words, other):
+    return {name: [program, *words] for name, program in programs.items()} | {other: [other]}
+
+
+def measured(name, outcome):
+    """What was measured, if the run ended without a fault."""
+    status, value = outcome
+    if status not in (0, 1):
+        sys.exit(f"bench: {name}: status {status}")
+    return value
+
+
+def speeds(measures, programs, work):
+    first, *others = [*programs, "cat"]
+    columns = [f"{name} MB/s" for name in (first, *others)] + [f"{first} / {name}" for name in others]
+    heading("Speed", "text and options", "bytes", *columns, "output")
+    for case in measures:
+        times = {name: [] for name in (first, *others)}
+        outputs = set()
+        for turn in range(RUNS):
+            for name, command in commands(programs, case.words, "cat").items():
+                output = work / f"{name}.{turn}"
+                times[name].append(measured(case.name, finished(command, case.text, output)))
+                if name != "cat":
+                    outputs.add(hashlib.sha256(output.read_bytes()).digest())
+                output.unlink()
+        best = {name: min(of) for name, of in times.items()}
+        rates = [f"{case.text.stat().st_size / seconds / 1e6:,.0f}" for seconds in best.values()]
+        ratios = [f"{best[name] / best[first]:.2f}" for name in others]
+        row(case.name, f"{case.text.stat().st_size:,}", *rates, *ratios, "the same" if len(outputs) == 1 else "differs")
+
+
+def counted(command, text):
+    """How many instructions a run takes."""
+    valgrind = ["valgrind", "--tool=callgrind", "--callgrind-out-file=/dev/null"]
+    run = subprocess.run([*valgrind, *command], input=text, capture_output=True)
+    return int(re.search(rb"Collected : (\d+)", run.stderr).group(1))
+
+
+def instructions(measures, programs):
+    """Instructions a byte of the text's first lines, without those of a run with the same options on an empty text."""
+
+    def of_byte(job):
+        case, program = job
+        command, short = [program, *case.words], case.text.read_bytes()[:COUNTED_BYTES]
+        short = short[: short.rfind(b"\n") + 1]
+        return (counted(command, short) - counted(command, b"")) / len(short)
+
+    if not shutil.which("valgrind"):
+        return print("bench: left out: instructions: valgrind is not there", file=sys.stderr)
+    heading("Instructions a byte", "text and options", *programs)
+    with ThreadPoolExecutor(2) as pool:
+        results = pool.map(of_byte, [(case, program) for case in measures for program in programs.values()])
+        for case in measures:
+            row(case.name, *[f"{next(results):.1f}" for _ in programs])
+
+
+def starts(programs, work):
+    """Processor time of starting and running a small file, beside `true`: the median over files."""
+    paths = [work / f"{n}.h" for n in range(FILES)]
+    for n, path in enumerate(paths):
+        path.write_text(texts.SMALL.format(n))
+    times = {}
+    for path in paths:
+        for name, command in commands(programs, texts.DECIDED, "true").items():
+            whole = [*command, path] if name in programs else command
+            times.setdefault(name, []).append(measured("small", finished(whole, os.devnull, os.devnull)))
+    heading(f"Start: {FILES:,} headers of {paths[0].stat().st_size} bytes or a few more", "", *times)
+    middle = [statistics.median(of) for of in times.values()]
+    row("microseconds a file", *[f"{seconds * 1e6:.0f}" for seconds in middle])
+    row("beside `true`", *[f"{seconds / middle[-1]:.2f}" for seconds in middle])
+
+
+def memory(measures, programs, work):
+    """The most that the first program held in KiB."""
+    (work / "empty").write_bytes(b"\n" * EMPTY_LINES)
+    measures = [*measures, Case(f"{EMPTY_LINES:,} empty lines, 50 symbols", work / "empty", texts.c_words(50))]
+    heading("Peak memory in KiB", "text and options", *programs, "cat")
+    most = 0
+    for case in measures:
+        held = [measured(case.name, peak(c, case.text)) for c in commands(programs, case.words, "cat").values()]
+        most = max(most, held[0])
+        row(case.name, *[f"{kib:,}" for kib in held])
+    return most
+
+
+def main():
+    work, programs = Path(sys.argv[1]), dict(argument.split("=", 1) for argument in sys.argv[2:])
+    measures = list(cases(work, programs))
+    speeds(measures, programs, work)
+    instructions(measures, programs)
+    starts(programs, work)
+    most = memory(measures, programs, work)
+    if most >= MOST_KIB:
+        sys.exit(f"bench: {most} KiB were held; it should be less than {MOST_KIB}")
+
+
+main()

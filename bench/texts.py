@@ -1,0 +1,59 @@
+"""The texts that compare.py measures on, and the options that belong to them."""
+
+import os
+import random
+import subprocess
+from concurrent.futures import ThreadPoolExecutor
+from pathlib import Path
+
+DECIDED = ["-D__cplusplus", "-U__KERNEL__"]
+COMMENTS = b"""/* What the function below does, in words that nobody would leave out;
+ * each line begins with a star, as in many a source, and isn't short.
+ * Quotes don't matter here, nor does a # at its usual place.
+ */
+int value; // a comment that ends with its line
+"""
+SMALL = """#ifndef SMALL_{0}_H\n#define SMALL_{0}_H\n\n/* Small. */\n#ifdef __cplusplus
+extern "C" {{\n#endif\nint small_{0}(int value);\n#ifdef __cplusplus\n}}\n#endif\n\n#endif
+"""
+
+
+def c_words(symbols):
+    """Options for so many symbols: two that real headers ask for, and others that stand nowhere in them."""
+    return (DECIDED + [f"-DSTANDS_NOWHERE_{n}={n}" for n in range(symbols - len(DECIDED))])[:symbols]
+
+
+def right_body(path, programs):
+    """A header's bytes, if all programs do the same with it, as C and as plain text, and none finds a fault; or none."""
+    for mode in ([], ["-t"]):
+        runs = [subprocess.run([program, *mode, *DECIDED, path], capture_output=True) for program in programs]
+        if len({(run.returncode, run.stdout) for run in runs}) != 1 or runs[0].returncode not in (0, 1):
+            return b""
+    return path.read_bytes() + b"\n"
+
+
+def headers(folder, limit, programs):
+    """At least so many bytes of whole headers, in an order that a fixed seed gives, read as often as needed."""
+    paths = sorted(path for path in Path(folder).rglob("*.h") if path.is_file())
+    random.Random(1).shuffle(paths)
+    text = bytearray()
+    with ThreadPoolExecutor(os.cpu_count()) as pool:
+        while paths and len(text) < limit:
+            text += b"".join(pool.map(lambda path: right_body(path, programs), paths[:64]))
+            del paths[:64]
+    if not text:
+        raise SystemExit(f"bench: no headers in {folder}")
+    return bytes(text) * -(-limit // len(text))
+
+
+def conditional_words(symbols):
+    """Options for every other name of `conditionals`: three in four are defined."""
+    return [f"-UNAME_{n:04}" if n % 8 == 0 else f"-DNAME_{n:04}={n % 3}" for n in range(0, 2 * symbols, 2)]
+
+
+def conditionals(limit, symbols):
+    """Conditionals alone, 16 bytes a line, over twice as many names as there are options for."""
+    rng = random.Random(symbols)
+    form = "#ifdef {}\n#if {} > 1 && {}\n#elif !defined({})\n#endif\n#else\n#endif\n"
+    name = lambda: f"NAME_{rng.randrange(2 * symbols):04}"
+    return "".join(form.format(name(), name(), name(), name()) for _ in range(limit // 94)).encode()
