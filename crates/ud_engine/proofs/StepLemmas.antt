@@ -1,10 +1,7 @@
 -- Steps: what a step through a piece leaves of an engine.
-use Rattle.std.proofs.Common.{◌≡◌, ℕ, suc, ◌+◌, ◌-◌, ◌<◌, ◌≤◌, Bool, true, false, nat_eq, if◌then◌else◌, List, [], ◌∷◌, ◌++◌, length, take, drop, Option, None, refl, sym, ◌∙◌, ap, subst, ap₂, append_assoc, append-nil, take-append-drop, arith, length-append}
+use Rattle.std.proofs.Common.{◌≡◌, ℕ, suc, ◌+◌, ◌-◌, ◌<◌, ◌≤◌, Bool, true, false, List, [], ◌∷◌, ◌++◌, length, take, drop, Option, None, sym, ◌∙◌, ap, subst, ap₂, append_assoc, append-nil, take-append-drop, arith}
 use Rattle.std.proofs.lemmas.Grind.{common_steps}
-use Rattle.std.proofs.lemmas.List.{take-append-le, drop-take}
-use Rattle.std.proofs.lemmas.Bool.Decides.{Decides-eqb}
-use Rattle.std.proofs.lemmas.Slice.Eq.{ends_is}
-use Rattle.std.specs.List.{ends_with}
+use Rattle.std.proofs.lemmas.List.{drop-take}
 use Rattle.ud_model.specs.text.Lines.{Line, NoFeed, IsWhole, Parts, ending_of, whole_lines, line_at, text_of}
 use Rattle.ud_model.specs.sections.Items.{Options}
 use Rattle.ud_model.specs.answer.Printing.{Judged}
@@ -27,24 +24,7 @@ use Rattle.ud_engine.specs.Watching.{AppendsFront}
 use Rattle.ud_engine.proofs.SendingLemmas.{sent_none}
 use Rattle.ud_engine.proofs.TakingLemmas.{before_is, rest_is, parts_of-front_of, parts_behind, line_taken, open_taken, line_next, line_stops, line_falls_short, run_falls_short}
 
--- a line that ends in its line feed has none in its body
-pub whole_feedless : (n : ℕ) (l : List ℕ) → IsWhole l → NoFeed (line_at n l).body
-whole_feedless n l w =
-    by_tests (ends_with nat_eq l (13 ∷ 10 ∷ [])) (ends_with nat_eq l (10 ∷ []))
-    ((ends_is Decides-eqb l (10 ∷ []) (ends_with nat_eq l (10 ∷ [])) refl).1 w.0 w.2)
-  where
-    len : length l ≡ length w.0 + 1
-    len = ap length w.2 ∙ length-append w.0 (10 ∷ [])
-
-    front_of : (k : ℕ) → k ≤ length w.0 → NoFeed (take k l)
-    front_of k h = subst (λ (t : List ℕ). NoFeed t) (sym (ap (take k) w.2 ∙ take-append-le k w.0 (10 ∷ []) h)) (no_feed-take k w.0 w.1)
-
-    by_tests : (a b : Bool) → b ≡ true → NoFeed (take (length l - length {A = ℕ} (if a then 13 ∷ 10 ∷ [] else if b then 10 ∷ [] else [])) l)
-    by_tests true b e = front_of (length l - 2) (omega (arith, len))
-    by_tests false true e = front_of (length l - 1) (omega (arith, len))
-    by_tests false false e = cc
-
--- a last line without one has none
+-- a last line that has no line feed has none in its body
 pub rest_feedless : (n : ℕ) (l : List ℕ) → NoFeed l → NoFeed (line_at n l).body
 rest_feedless n l h = no_feed-take (length l - length (ending_of l)) l h
 

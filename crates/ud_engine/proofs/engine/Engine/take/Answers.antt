@@ -4,10 +4,10 @@ use Rattle.ud_model.specs.text.Lines.{Line, NoFeed, IsWhole}
 use Rattle.ud_text.specs.Holding.{Holding, Refuses}
 use Rattle.ud_text.specs.LineViews.{as_line}
 use Rattle.ud_text.specs.declared.fault.TextFault.{TextFault}
-use Rattle.ud_text.proofs.FeedLemmas.{up_to_feed-some}
+use Rattle.ud_text.proofs.FeedLemmas.{up_to_feed-some, whole_feedless}
 use Rattle.ud_engine.specs.Feeding.{Running, HasTaken}
 use Rattle.ud_engine.proofs.TakingLemmas.{limit_stops}
-use Rattle.ud_engine.proofs.StepLemmas.{whole_feedless, held_whole, is_within, still_open, open_step, line_step, line_refused, run_refused_by}
+use Rattle.ud_engine.proofs.StepLemmas.{held_whole, is_within, still_open, open_step, line_step, line_refused, run_refused_by}
 use Rattle.ud_engine.proofs.engine.Engine.take.Goals as goal
 
 pub returns-in-Err-clause-stops : goal.returns-in-Err-clause-stops
