@@ -1,16 +1,32 @@
 # make            proves the crates, builds the program and copies it to ./unifdef
 # make check      the merge gate: every proof from nothing, the edits that must be refused, the tests, the stored run
 # make examples   runs the examples of README.md and docs/EXAMPLES.md with ./unifdef
-# make install    installs ./unifdef and its manual under DESTDIR and PREFIX; make uninstall takes them away
+# make differences  runs what the manual says of the released unifdef, with both programs
+# make faults     runs ./unifdef with failing streams, refused memory and a small stack (faults/README.md)
+# make fail-alloc lets each allocation of the program fail in turn, by the kit's fault injection
+# make tree-test  tries tree/unifdef-tree on trees with every trap, and interrupts it
+# make install    installs ./unifdef, unifdef-tree, manuals and completions under DESTDIR and PREFIX; make uninstall takes them away
+# make dist       makes unifdef-VERSION.tar.gz of the last commit, which builds by itself
+# make deb        makes a Debian package of ./unifdef
+# make packages-test  installs and takes away in folders of its own, makes both packages, and tries the completions
+# make manuals    checks that the version is the same everywhere, and the manuals by mandoc and the scripts by shellcheck
+# make around     all that is quick of what stands around the program: manuals, examples, differences, faults and the tests
 # make bench      measures ./unifdef beside the released program, and how fast conditions are decided (bench/README.md)
+# make pictures   draws docs/line.svg by graphviz, and bench/speed.svg from the numbers in bench/README.md
 # make trees      runs ./unifdef over real trees beside the released program (bench/README.md)
 # make selects    compares what a C compiler selects of real files before and after ./unifdef (bench/README.md)
 # make hostile    holds ./unifdef's library against its reference on N hostile texts from SEED on, in JOBS processes
+# make fronts     holds ./unifdef against its reference on fronts of N real files from SEED on (bench/README.md)
 # make clean      removes what was built
 
 PREFIX ?= /usr/local
 BINDIR ?= $(PREFIX)/bin
-MANDIR ?= $(PREFIX)/share/man
+DATADIR ?= $(PREFIX)/share
+MANDIR ?= $(DATADIR)/man
+DOCDIR ?= $(DATADIR)/doc/unifdef
+BASHDIR ?= $(DATADIR)/bash-completion/completions
+ZSHDIR ?= $(DATADIR)/zsh/site-functions
+FISHDIR ?= $(DATADIR)/fish/vendor_completions.d
 INSTALL ?= install
 
 # Rattle's command: the one on PATH, or `make RT=PLACE`.
@@ -21,7 +37,8 @@ SOURCES := crates.txt HANDLES \
 	$(shell find crates -name out -prune -o \( -name '*.rt' -o -name '*.antt' \) -print)
 
 .DELETE_ON_ERROR:
-.PHONY: all build kit check examples install uninstall bench bench-text bench-conditions trees selects hostile clean
+.PHONY: all build kit check examples differences faults fail-alloc tree-test install uninstall dist deb packages-test manuals
+.PHONY: around bench bench-text bench-conditions pictures trees selects hostile fronts clean
 
 all: build
 
@@ -42,14 +59,54 @@ check: kit
 examples: unifdef
 	@examples/run.sh README.md
 	@examples/run.sh docs/EXAMPLES.md
+	@examples/quotes.sh docs/LIBRARY.md crates/library_uses/src/*.rt
+
+differences: unifdef
+	@examples/differences.sh
+
+faults: unifdef
+	cd crates/memory_runs && $(RT) run < /dev/null > /dev/null
+	faults/run.sh
+
+fail-alloc: kit
+	RT='$(RT)' faults/fail-alloc.sh
+
+tree-test: unifdef
+	@tree/test.sh
 
 install: unifdef
-	$(INSTALL) -d $(DESTDIR)$(BINDIR) $(DESTDIR)$(MANDIR)/man1
-	$(INSTALL) -m 755 unifdef $(DESTDIR)$(BINDIR)/unifdef
-	$(INSTALL) -m 644 docs/unifdef.1 $(DESTDIR)$(MANDIR)/man1/unifdef.1
+	$(INSTALL) -d "$(DESTDIR)$(BINDIR)" "$(DESTDIR)$(MANDIR)/man1" "$(DESTDIR)$(DOCDIR)"
+	$(INSTALL) -d "$(DESTDIR)$(BASHDIR)" "$(DESTDIR)$(ZSHDIR)" "$(DESTDIR)$(FISHDIR)"
+	$(INSTALL) -m 755 unifdef tree/unifdef-tree "$(DESTDIR)$(BINDIR)"
+	$(INSTALL) -m 644 docs/unifdef.1 docs/unifdef-tree.1 "$(DESTDIR)$(MANDIR)/man1"
+	$(INSTALL) -m 644 docs/DEFINITIONS.md LICENSE "$(DESTDIR)$(DOCDIR)"
+	$(INSTALL) -m 644 completions/unifdef.bash "$(DESTDIR)$(BASHDIR)/unifdef"
+	$(INSTALL) -m 644 completions/unifdef.bash "$(DESTDIR)$(BASHDIR)/unifdef-tree"
+	$(INSTALL) -m 644 completions/_unifdef "$(DESTDIR)$(ZSHDIR)"
+	$(INSTALL) -m 644 completions/unifdef.fish completions/unifdef-tree.fish "$(DESTDIR)$(FISHDIR)"
+	@test -n "$(DESTDIR)" || packaging/warn.sh "$(BINDIR)"
 
 uninstall:
-	rm -f $(DESTDIR)$(BINDIR)/unifdef $(DESTDIR)$(MANDIR)/man1/unifdef.1
+	rm -f "$(DESTDIR)$(BINDIR)/unifdef" "$(DESTDIR)$(BINDIR)/unifdef-tree"
+	rm -f "$(DESTDIR)$(MANDIR)/man1/unifdef.1" "$(DESTDIR)$(MANDIR)/man1/unifdef-tree.1"
+	rm -rf "$(DESTDIR)$(DOCDIR)"
+	rm -f "$(DESTDIR)$(BASHDIR)/unifdef" "$(DESTDIR)$(BASHDIR)/unifdef-tree" "$(DESTDIR)$(ZSHDIR)/_unifdef"
+	rm -f "$(DESTDIR)$(FISHDIR)/unifdef.fish" "$(DESTDIR)$(FISHDIR)/unifdef-tree.fish"
+
+dist:
+	@packaging/dist.sh
+
+deb: unifdef
+	@MAKE="$(MAKE)" packaging/deb.sh
+
+packages-test: unifdef
+	@MAKE="$(MAKE)" packaging/test.sh
+	@completions/test.sh
+
+manuals:
+	@packaging/lint.sh
+
+around: manuals examples differences faults tree-test packages-test
 
 bench: bench-text bench-conditions
 
@@ -59,6 +116,11 @@ bench-text: unifdef
 bench-conditions: kit
 	cd crates/conditions_bench && $(RT) run -- conditions 1 < /dev/null > /dev/null
 	bench/conditions.sh
+
+pictures:
+	@command -v dot > /dev/null || { echo "make: graphviz's dot is not there" >&2; exit 1; }
+	dot -Tsvg docs/line.dot > docs/line.svg
+	python3 bench/chart.py bench/README.md > bench/speed.svg
 
 trees: unifdef
 	bench/trees.sh
@@ -70,6 +132,10 @@ hostile: kit
 	cd crates/hostile_runs && $(RT) run < /dev/null > /dev/null
 	N='$(N)' SEED='$(SEED)' JOBS='$(JOBS)' bench/hostile.sh
 
+fronts: unifdef
+	cd crates/reference_cli && $(RT) run < /dev/null > /dev/null
+	N='$(N)' SEED='$(SEED)' bench/fronts.sh
+
 clean:
-	rm -f unifdef
+	rm -f unifdef unifdef-*.tar.gz *.deb
 	rm -rf crates/*/out

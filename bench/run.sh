@@ -32,4 +32,6 @@ add() {
 }
 add released /usr/bin/unifdef
 add rebuilt "$work/rebuilt"
-python3 "$here/compare.py" "$work" "${programs[@]}"
+python3 "$here/compare.py" "$work" "${programs[@]}" | tee "$work/tables"
+python3 "$here/chart.py" "$work/tables" > "$work/speed.svg"
+cp "$work/speed.svg" "$here/speed.svg"

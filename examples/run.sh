@@ -4,9 +4,10 @@
 # run.sh [PAGE] [PROGRAM]: README.md by default, and the program beside this folder.
 #
 # An example is a fenced block that begins with ```console. A line that begins with "$ " is a command, and the lines up to
-# the next command are what it prints, on either stream. The commands of a block run in order in a folder of their own, in
-# which ./unifdef is the program. Where a block begins by showing a header of the machine that isn't the one that is written,
-# the block is left out.
+# the next command are what it prints, on either stream. A command that goes on has "> " at the front of its other lines. The
+# commands of a block run in order in a folder of their own, in which ./unifdef is the program; the folder is on PATH. If a
+# block begins by showing a header of the machine that isn't the one that is written, or needs git or a C compiler and there
+# is none, the rest of the block is left out.
 set -eu -o pipefail
 export LC_ALL=C
 unset MAKEFLAGS MAKELEVEL
@@ -22,8 +23,15 @@ right=0 wrong=0 left_out=0
 
 # Runs one command in the block's folder, and compares what it prints with $work/wanted.
 run_command() {
-  local command=$1 printed="$work/printed"
-  (cd "$work/folder" && bash -c "$command") > "$printed" 2>&1 < /dev/null || true
+  local command=$1 printed="$work/printed" needed
+  for needed in git cc; do
+    if [[ " $command" == *" $needed "* ]] && ! command -v "$needed" > /dev/null; then
+      echo "examples: left out, since $needed isn't there: $command"
+      left_out=$((left_out + 1))
+      return 1
+    fi
+  done
+  (cd "$work/folder" && PATH=$work/folder:$PATH bash -c "$command") > "$printed" 2>&1 < /dev/null || true
   if cmp -s "$work/wanted" "$printed"; then
     right=$((right + 1))
     return 0
@@ -39,12 +47,13 @@ run_command() {
   return 1
 }
 
-# The block that $work/block holds: each command with the lines behind it.
+# The block that $work/block holds: each command with the lines after it.
 run_block() {
   local line command="" first=yes
   rm -rf "$work/folder"
   mkdir "$work/folder"
   ln -s "$program" "$work/folder/unifdef"
+  ln -s "$here/../tree/unifdef-tree" "$work/folder/unifdef-tree"
   while IFS= read -r line || [ -n "$line" ]; do
     if [[ "$line" == "$ "* ]]; then
       if [ -n "$command" ]; then
@@ -53,6 +62,8 @@ run_block() {
       fi
       command=${line#"$ "}
       : > "$work/wanted"
+    elif [[ "$line" == "> "* ]]; then
+      command+=$'\n'${line#"> "}
     else
       printf '%s\n' "$line" >> "$work/wanted"
     fi

@@ -109,13 +109,14 @@ const TRAILS: [&[u8]; 14] = [
 
 const ENDINGS: [&[u8]; 4] = [b"\r\n", b"", b"\r\r\n", b"\n\n"];
 
-const OTHERS: [&[u8]; 8] = [
+const OTHERS: [&[u8]; 9] = [
     b"define A",
     b"include <a>",
     b"i",
     b"els",
     b"endi\\\nf",
-    b"elifdef A",
+    b"elifd\\\nef A",
+    b"elifs A",
     b"",
     b"error don't",
 ];
@@ -169,10 +170,7 @@ pub(crate) fn write_directive(writer: &mut Writer, turn: Turn) -> Result<(), All
             writer.sections.push(false)?;
             write_opener(writer)?;
         }
-        Turn::Parts => {
-            writer.put(b"elif ")?;
-            write_expression(writer, 3)?;
-        }
+        Turn::Parts => write_further_opener(writer)?,
         Turn::PartsLast => {
             let _ = writer.sections.pop();
             writer.sections.push(true)?;
@@ -197,6 +195,21 @@ fn write_opener(writer: &mut Writer) -> Result<(), AllocError> {
         return write_expression(writer, 4);
     }
     writer.put_one(&[b"ifdef", b"ifndef"])?;
+    write_name(writer)
+}
+
+/// Writes what opens a further group by a condition, after its `#`.
+fn write_further_opener(writer: &mut Writer) -> Result<(), AllocError> {
+    if writer.one_in(3) {
+        writer.put_one(&[b"elifdef", b"elifndef"])?;
+        return write_name(writer);
+    }
+    writer.put(b"elif ")?;
+    write_expression(writer, 3)
+}
+
+/// Writes what follows a keyword that asks for a name.
+fn write_name(writer: &mut Writer) -> Result<(), AllocError> {
     writer.put_odd(&GAPS)?;
     writer.put(b" ")?;
     if writer.is_odd() {

@@ -1,39 +1,44 @@
 -- What stands after `defined`, one way each: it means the same in every state that asks for it.
-use Rattle.std.proofs.Common.{◌≡◌, ℕ, List, true, false, Some, None, refl, sym, ◌∙◌, ap, arith}
+use Rattle.std.proofs.Common.{◌≡◌, ℕ, List, true, false, Option, Some, None, refl, sym, ◌∙◌, ap, arith}
 use Rattle.std.proofs.lemmas.Option.{none-some, same_Some}
-use Rattle.ud_model.specs.conditions.Tokens.{number, name, defined, operator, opening, closing, Next, at_end, unreadable, found, next_token}
-use Rattle.ud_model.specs.aids.Parsing.{Meaning, Frame, asks, asks_inside, asks_end}
-use Rattle.ud_cond.specs.Asking.{plain_name, behind_opening, behind_closing, Asked, Asks}
+use Rattle.ud_model.specs.conditions.Tokens.{number, name, defined, operator, opening, closing, Token, Next, at_end, unreadable, found, next_token}
+use Rattle.ud_model.specs.aids.Parsing.{Meaning, Frame, State, step, stuck, reads, asks, asks_inside, asks_end}
+use Rattle.ud_cond.specs.Asking.{plain_name, behind_closing, Asked, Asks, Encloses}
 use Rattle.ud_model.proofs.conditions.TokenLemmas.{shorter}
 use Rattle.ud_cond.proofs.ReadingLemmas.{reads_on, reads-on, reads-stuck, reads-found}
 
 module _ {A : Type 0} (m : Meaning A) where
   -- `defined` and a name
-  pub asks-plain : (text n rest : List ℕ) → next_token text ≡ found (name n false) rest → Asked m text (m.is_defined n false) rest
+  pub asks-plain : (text n rest : List ℕ) → next_token text ≡ found (name n false) rest → Asked m asks text (m.is_defined n false) rest
   asks-plain text n rest e = record { same = λ s. reads-found m (asks s) text (name n false) rest e; shorter = shorter text rest (name n false) e }
 
-  -- `defined` and a name in parentheses
-  pub asks-parens : (text inside n end rest : List ℕ) → next_token text ≡ found opening inside → next_token inside ≡ found (name n false) end → next_token end ≡ found closing rest →
-      Asked m text (m.is_defined n true) rest
-  asks-parens text inside n end rest e f g = record {
-    same = λ s. reads-found m (asks s) text opening inside e ∙ reads-found m (asks_inside s) inside (name n false) end f ∙ reads-found m (asks_end n s) end closing rest g;
-    shorter = omega (arith, shorter text inside opening e, shorter inside end (name n false) f, shorter end rest closing g);
+  -- a name and a closing parenthesis after `defined (`
+  pub encloses : (inside n end rest : List ℕ) → next_token inside ≡ found (name n false) end → next_token end ≡ found closing rest →
+      Asked m asks_inside inside (m.is_defined n true) rest
+  encloses inside n end rest f g = record {
+    same = λ s. reads-found m (asks_inside s) inside (name n false) end f ∙ reads-found m (asks_end n s) end closing rest g;
+    shorter = omega (arith, shorter inside end (name n false) f, shorter end rest closing g);
   }
 
-  neither : (s : List (Frame A)) (x : Next) → plain_name x ≡ None → behind_opening x ≡ None → reads_on m (asks s) x ≡ None
-  neither s at_end e f = refl
-  neither s unreadable e f = refl
-  neither s (found (number w) rest) e f = reads-stuck m rest
-  neither s (found (name n false) rest) e f = absurd (none-some (n, rest) (sym e))
-  neither s (found (name n true) rest) e f = reads-stuck m rest
-  neither s (found defined rest) e f = reads-stuck m rest
-  neither s (found (operator o) rest) e f = reads-stuck m rest
-  neither s (found opening rest) e f = absurd (none-some rest (sym f))
-  neither s (found closing rest) e f = reads-stuck m rest
+  -- `defined` and what stands in parentheses
+  pub asks-parens : (text inside : List ℕ) (r : Option (A × List ℕ)) → next_token text ≡ found opening inside → Encloses m inside r → Asks m text r
+  asks-parens text inside None e none = λ s. reads-found m (asks s) text opening inside e ∙ none s
+  asks-parens text inside (Some r) e some = record {
+    same = λ s. reads-found m (asks s) text opening inside e ∙ some.same s;
+    shorter = omega (arith, shorter text inside opening e, some.shorter);
+  }
 
-  -- no name and no parenthesis after `defined`
-  pub asks-neither : (text : List ℕ) → plain_name (next_token text) ≡ None → behind_opening (next_token text) ≡ None → Asks m text None
-  asks-neither text e f s = reads-on m (asks s) text ∙ neither s (next_token text) e f
+  -- a token that no name begins with
+  pub stuck-at : (start : List (Frame A) → State A) (text rest : List ℕ) (t : Token) → ((s : List (Frame A)) → step m (start s) t ≡ stuck) → found t rest ≡ next_token text →
+      (s : List (Frame A)) → reads m (start s) text ≡ None
+  stuck-at start text rest t e f s = reads-found m (start s) text t rest (sym f) ∙ ap (λ q. reads m q rest) (e s) ∙ reads-stuck m rest
+
+  -- no token
+  pub asks-at_end : (text : List ℕ) → at_end ≡ next_token text → Asks m text None
+  asks-at_end text f s = reads-on m (asks s) text ∙ ap (reads_on m (asks s)) (sym f)
+
+  pub asks-unreadable : (text : List ℕ) → unreadable ≡ next_token text → Asks m text None
+  asks-unreadable text f s = reads-on m (asks s) text ∙ ap (reads_on m (asks s)) (sym f)
 
   nameless : (s : List (Frame A)) (x : Next) → plain_name x ≡ None → reads_on m (asks_inside s) x ≡ None
   nameless s at_end e = refl
@@ -47,8 +52,8 @@ module _ {A : Type 0} (m : Meaning A) where
   nameless s (found closing rest) e = reads-stuck m rest
 
   -- no name in the parenthesis
-  pub asks-nameless : (text inside : List ℕ) → next_token text ≡ found opening inside → plain_name (next_token inside) ≡ None → Asks m text None
-  asks-nameless text inside e f s = reads-found m (asks s) text opening inside e ∙ reads-on m (asks_inside s) inside ∙ nameless s (next_token inside) f
+  pub encloses-nameless : (inside : List ℕ) → plain_name (next_token inside) ≡ None → Encloses m inside None
+  encloses-nameless inside f s = reads-on m (asks_inside s) inside ∙ nameless s (next_token inside) f
 
   endless : (n : List ℕ) (s : List (Frame A)) (x : Next) → behind_closing x ≡ None → reads_on m (asks_end n s) x ≡ None
   endless n s at_end e = refl
@@ -61,9 +66,9 @@ module _ {A : Type 0} (m : Meaning A) where
   endless n s (found closing rest) e = absurd (none-some rest (sym e))
 
   -- the parenthesis doesn't close after the name
-  pub asks-endless : (text inside n end : List ℕ) → next_token text ≡ found opening inside → next_token inside ≡ found (name n false) end → behind_closing (next_token end) ≡ None → Asks m text None
-  asks-endless text inside n end e f g s =
-      reads-found m (asks s) text opening inside e ∙ reads-found m (asks_inside s) inside (name n false) end f ∙ reads-on m (asks_end n s) end ∙ endless n s (next_token end) g
+  pub encloses-endless : (inside n end : List ℕ) → next_token inside ≡ found (name n false) end → behind_closing (next_token end) ≡ None → Encloses m inside None
+  encloses-endless inside n end f g s =
+      reads-found m (asks_inside s) inside (name n false) end f ∙ reads-on m (asks_end n s) end ∙ endless n s (next_token end) g
 
 -- what a test of the front found
 pub found-plain_name : (x : Next) (n rest : List ℕ) → Some (n, rest) ≡ plain_name x → x ≡ found (name n false) rest
@@ -76,16 +81,6 @@ found-plain_name (found defined r) n rest e = absurd (none-some (n, rest) (sym e
 found-plain_name (found (operator o) r) n rest e = absurd (none-some (n, rest) (sym e))
 found-plain_name (found opening r) n rest e = absurd (none-some (n, rest) (sym e))
 found-plain_name (found closing r) n rest e = absurd (none-some (n, rest) (sym e))
-
-pub found-opening : (x : Next) (rest : List ℕ) → Some rest ≡ behind_opening x → x ≡ found opening rest
-found-opening at_end rest e = absurd (none-some rest (sym e))
-found-opening unreadable rest e = absurd (none-some rest (sym e))
-found-opening (found (number w) r) rest e = absurd (none-some rest (sym e))
-found-opening (found (name k a) r) rest e = absurd (none-some rest (sym e))
-found-opening (found defined r) rest e = absurd (none-some rest (sym e))
-found-opening (found (operator o) r) rest e = absurd (none-some rest (sym e))
-found-opening (found opening r) rest e = cc
-found-opening (found closing r) rest e = absurd (none-some rest (sym e))
 
 pub found-closing : (x : Next) (rest : List ℕ) → Some rest ≡ behind_closing x → x ≡ found closing rest
 found-closing at_end rest e = absurd (none-some rest (sym e))

@@ -4,19 +4,20 @@ use Rattle.std.proofs.Math.ListN.{set}
 use Rattle.std.specs.List.{insert}
 use Rattle.std.proofs.lemmas.Slice.Eq.{bytes_eq-Decides}
 use Rattle.ud_model.specs.conditions.Table.{Argument}
+use Rattle.ud_cond.specs.Keys.{key_of}
 use Rattle.ud_cond.specs.Standing.{name_at}
 use Rattle.ud_cond.specs.Marking.{has_mark, AreNoted}
 use Rattle.ud_cond.proofs.TableLemmas.{NoneFrom}
 
 module _ (noted : List Bool) where
-  apart_by : (m n : List ℕ) (b : Bool) → has_mark noted m ≡ true → has_mark noted n ≡ false → bytes_eq m n ≡ b → b ≡ false
+  apart_by : (m n : List ℕ) (b : Bool) → has_mark noted (key_of m) ≡ true → has_mark noted (key_of n) ≡ false → bytes_eq m n ≡ b → b ≡ false
   apart_by m n true hit miss e =
-      let same : has_mark noted m ≡ has_mark noted n = ap (has_mark noted) ((bytes_eq-Decides m n).0 e) in
+      let same : has_mark noted (key_of m) ≡ has_mark noted (key_of n) = ap (λ k. has_mark noted (key_of k)) ((bytes_eq-Decides m n).0 e) in
       absurd (let wrong : true ≡ false = sym hit ∙ same ∙ miss in cc)
   apart_by m n false hit miss e = refl
 
   -- a name whose mark wasn't noted is that of no row
-  pub none-unmarked : (rows : List Argument) (name : List ℕ) → AreNoted noted rows → has_mark noted name ≡ false → NoneFrom rows 0 name
+  pub none-unmarked : (rows : List Argument) (name : List ℕ) → AreNoted noted rows → has_mark noted (key_of name) ≡ false → NoneFrom rows 0 name
   none-unmarked [] name marks miss k low high = absurd (omega arith)
   none-unmarked (r ∷ rows) name marks miss zero low high = apart_by r.name name (bytes_eq r.name name) marks.0 miss refl
   none-unmarked (r ∷ rows) name marks miss (suc k) low high = none-unmarked rows name marks.1 miss k (omega arith) (omega arith)
@@ -24,20 +25,20 @@ module _ (noted : List Bool) where
   -- a row that is changed, its name staying
   pub noted-set : (rows : List Argument) (i : ℕ) (a : Argument) → AreNoted noted rows → i < length rows → name_at rows i ≡ a.name → AreNoted noted (set rows i a)
   noted-set [] i a marks within same = absurd (omega arith)
-  noted-set (r ∷ rows) zero a marks within same = (ap (has_mark noted) (sym same) ∙ marks.0, marks.1)
+  noted-set (r ∷ rows) zero a marks within same = (ap (λ k. has_mark noted (key_of k)) (sym same) ∙ marks.0, marks.1)
   noted-set (r ∷ rows) (suc i) a marks within same = (marks.0, noted-set rows i a marks.1 (omega arith) same)
 
   -- a row that is added, its mark being noted
-  pub noted-insert : (rows : List Argument) (i : ℕ) (a : Argument) → AreNoted noted rows → i ≤ length rows → has_mark noted a.name ≡ true → AreNoted noted (insert rows i a)
+  pub noted-insert : (rows : List Argument) (i : ℕ) (a : Argument) → AreNoted noted rows → i ≤ length rows → has_mark noted (key_of a.name) ≡ true → AreNoted noted (insert rows i a)
   noted-insert rows zero a marks within new = (new, marks)
   noted-insert [] (suc i) a marks within new = absurd (omega arith)
   noted-insert (r ∷ rows) (suc i) a marks within new = (marks.0, noted-insert rows i a marks.1 (omega arith) new)
 
-  pub noted-added : (rows : List Argument) (i : ℕ) (a : Argument) (b : Bool) → AreNoted noted rows → i ≤ length rows → has_mark noted a.name ≡ true → AreNoted noted (if b then insert rows i a else rows)
+  pub noted-added : (rows : List Argument) (i : ℕ) (a : Argument) (b : Bool) → AreNoted noted rows → i ≤ length rows → has_mark noted (key_of a.name) ≡ true → AreNoted noted (if b then insert rows i a else rows)
   noted-added rows i a true marks within new = noted-insert rows i a marks within new
   noted-added rows i a false marks within new = marks
 
 -- marks that stay noted
-pub noted-kept : (old new : List Bool) (rows : List Argument) → ((n : List ℕ) → has_mark old n ≡ true → has_mark new n ≡ true) → AreNoted old rows → AreNoted new rows
+pub noted-kept : (old new : List Bool) (rows : List Argument) → ((key : ℕ) → has_mark old key ≡ true → has_mark new key ≡ true) → AreNoted old rows → AreNoted new rows
 noted-kept old new [] kept marks = tt
-noted-kept old new (r ∷ rows) kept marks = (kept r.name marks.0, noted-kept old new rows kept marks.1)
+noted-kept old new (r ∷ rows) kept marks = (kept (key_of r.name) marks.0, noted-kept old new rows kept marks.1)

@@ -14,21 +14,32 @@ use Rattle.std.proofs.lemmas.List.Sorted.{searchable_from_sorted}
 use Rattle.std.proofs.lemmas.Map.Text.{is_eq-slice_cmp}
 use Rattle.std.proofs.lemmas.Slice.Eq.{bytes_eq-Decides}
 use Rattle.ud_model.specs.conditions.Table.{Argument}
-use Rattle.ud_cond.specs.Standing.{name_cmp, name_at, nobody, AreSorted, IsRowOf, IsGapFor}
+use Rattle.ud_cond.specs.Keys.{key_of}
+use Rattle.ud_cond.specs.Standing.{alike_cmp, name_cmp, name_at, nobody, AreSorted, IsRowOf, IsGapFor}
 use Rattle.ud_cond.proofs.TableLemmas.{NoneFrom, IsLastRow}
 
+alike_total : IsTotalOrder alike_cmp
+alike_total = then_total (on_total length nat_cmp_total) nat_list_cmp_total
+
 name_total : IsTotalOrder name_cmp
-name_total = then_total (on_total length nat_cmp_total) nat_list_cmp_total
+name_total = then_total (on_total key_of nat_cmp_total) alike_total
 
 then_equal : (a b : Ordering) → ordering_then a b ≡ Equal → b ≡ Equal
 then_equal Less b e = absurd (let no : true ≡ false = ap is_lt e in cc)
 then_equal Equal b e = e
 then_equal Greater b e = absurd (let no : false ≡ true = ap is_eq e in cc)
 
+-- what comes after another doesn't come before it by its key
+then_greater : (a b : Ordering) → ordering_then a b ≡ Greater → is_lt a ≡ false
+then_greater Less b e = absurd (let no : true ≡ false = ap is_lt e in cc)
+then_greater Equal b e = refl
+then_greater Greater b e = refl
+
 -- names that stand to each other as equal are the same
 name_ties : (m n : List ℕ) → name_cmp m n ≡ Equal → m ≡ n
 name_ties m n e =
-    let tied : slice_cmp nat_cmp m n ≡ Equal = then_equal (nat_cmp (length m) (length n)) (slice_cmp nat_cmp m n) e in
+    let alike : alike_cmp m n ≡ Equal = then_equal (nat_cmp (key_of m) (key_of n)) (alike_cmp m n) e in
+    let tied : slice_cmp nat_cmp m n ≡ Equal = then_equal (nat_cmp (length m) (length n)) (slice_cmp nat_cmp m n) alike in
     (bytes_eq-Decides m n).0 (sym (is_eq-slice_cmp m n) ∙ ap is_eq tied)
 
 apart_by : (m n : List ℕ) (b : Bool) → bytes_eq m n ≡ b → is_eq (name_cmp m n) ≡ false → b ≡ false
@@ -65,6 +76,16 @@ module _ (rows : List Argument) (sorted : AreSorted rows) where
       default : (k : ℕ) (d : Argument) → k < length rows → (get_or rows k d).name ≡ name_at rows k
       default k d high = ap (λ a. a.name) (get_or_default rows k d nobody high)
 
+  -- the keys rise too
+  pub rise-keys : (key : ℕ) → IsNonDecreasingBy (λ a. ordering_index (nat_cmp (key_of a.name) key)) rows
+  rise-keys key = searchable_from_sorted nat_cmp_total (λ a. key_of a.name) rows key (λ k d low high.
+      let less : name_cmp (get_or rows k d).name (get_or rows (k + 1) d).name ≡ Less =
+      ap₂ name_cmp (default k d (omega arith)) (default (k + 1) d high) ∙ sorted k (k + 1) (omega arith) high in
+      then_greater _ _ (turned (get_or rows k d).name (get_or rows (k + 1) d).name less))
+    where
+      default : (k : ℕ) (d : Argument) → k < length rows → (get_or rows k d).name ≡ name_at rows k
+      default k d high = ap (λ a. a.name) (get_or_default rows k d nobody high)
+
   -- a search by halving ends at the name's row, or at its gap
   pub searched : (name : List ℕ) (r : Result ℕ ℕ) → IsSearchInRange r (length rows) → IsBinarySearchResult (λ a. name_cmp a.name name) rows r →
       IfOk r (λ i. IsRowOf rows i name) × IfErr r (λ i. IsGapFor rows i name)
@@ -81,6 +102,16 @@ none-at_all rows i name gap k low high = elim (cases_lt k i) [
   | inl below ↦ apart (name_at rows k) name Less (gap.after k below) refl
   | inr above ↦ none-gap rows i name gap k above high
 ]
+
+-- a search by keys that finds none ends at the name's gap
+pub gap-keys : (rows : List Argument) (sorted : AreSorted rows) (name : List ℕ) (r : Result ℕ ℕ) → IsSearchInRange r (length rows) →
+    IsBinarySearchResult (λ a. nat_cmp (key_of a.name) (key_of name)) rows r → IfErr r (λ i. IsGapFor rows i name)
+gap-keys rows sorted name (Ok i) within same = tt
+gap-keys rows sorted name (Err i) within parted = record {
+  within = within;
+  after = λ k low. ap (λ o. ordering_then o (alike_cmp (name_at rows k) name)) ((parted (rise-keys rows sorted (key_of name))).0 k nobody (omega arith) low);
+  before = λ k low high. ap (λ o. ordering_then o (alike_cmp (name_at rows k) name)) ((parted (rise-keys rows sorted (key_of name))).1 k nobody low high);
+}
 
 -- a row that is changed, its name staying
 pub sorted-set : (rows : List Argument) (i : ℕ) (a : Argument) → AreSorted rows → IsRowOf rows i a.name → AreSorted (set rows i a)

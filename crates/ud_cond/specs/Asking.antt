@@ -3,29 +3,35 @@
 -- state that asks for it comes to the state that has its value, after fewer bytes.
 --
 --   Asks m text r          r is a name after `defined` and what follows it; or there is none
+--   Encloses m text r      r is a name after `defined (` and what follows the parenthesis; or there is none
 use Rattle.std.specs.Prelude.{◌≡◌, ℕ, ◌<◌, false, List, length, Option, Some, None}
-use Rattle.ud_model.specs.conditions.Tokens.{name, opening, closing, Next, found}
-use Rattle.ud_model.specs.aids.Parsing.{Meaning, Frame, has, asks, reads}
+use Rattle.ud_model.specs.conditions.Tokens.{name, closing, Next, found}
+use Rattle.ud_model.specs.aids.Parsing.{Meaning, Frame, State, has, asks, asks_inside, reads}
 
--- what comes next, if it is a name without arguments or a parenthesis
+-- what comes next, if it is a name without arguments or a closing parenthesis
 abbrev pub plain_name : Next → Option (List ℕ × List ℕ)
 plain_name (found (name n false) rest) = Some (n, rest)
 plain_name _ = None
-
-abbrev pub behind_opening : Next → Option (List ℕ)
-behind_opening (found opening rest) = Some rest
-behind_opening _ = None
 
 abbrev pub behind_closing : Next → Option (List ℕ)
 behind_closing (found closing rest) = Some rest
 behind_closing _ = None
 
-module _ {A : Type 0} (m : Meaning A) where
+module _ {A : Type 0} (m : Meaning A) (start : List (Frame A) → State A) where
   -- the value is that of a `defined`
   pub record Asked (text : List ℕ) (v : A) (rest : List ℕ) : Type 0 where
-    pub same : (s : List (Frame A)) → reads m (asks s) text ≡ reads m (has v s) rest
+    pub same : (s : List (Frame A)) → reads m (start s) text ≡ reads m (has v s) rest
     pub shorter : length rest < length text
 
-  abbrev pub Asks : List ℕ → Option (A × List ℕ) → Type 0
-  Asks text None = (s : List (Frame A)) → reads m (asks s) text ≡ None
-  Asks text (Some r) = Asked text r.0 r.1
+  -- a value and what follows it; or no expression goes on so
+  abbrev pub Comes : List ℕ → Option (A × List ℕ) → Type 0
+  Comes text None = (s : List (Frame A)) → reads m (start s) text ≡ None
+  Comes text (Some r) = Asked text r.0 r.1
+
+-- after `defined`
+abbrev pub Asks : {A : Type 0} → Meaning A → List ℕ → Option (A × List ℕ) → Type 0
+Asks m = Comes m asks
+
+-- after `defined (`
+abbrev pub Encloses : {A : Type 0} → Meaning A → List ℕ → Option (A × List ℕ) → Type 0
+Encloses m = Comes m asks_inside

@@ -1,4 +1,5 @@
 pub mod Standing
+pub mod Keys
 pub mod Marking
 pub mod CondViews
 pub mod Worth

@@ -1,21 +1,22 @@
 -- Marking: marks by which most names that the table doesn't list are told.
 --
---   mark_of n          the mark of a name, by its length, the byte in its middle and its last one
---   has_mark noted n   the mark of the name was noted
---   AreNoted noted rows   the mark of each row's name was noted
-use Rattle.std.specs.Prelude.{◌≡◌, ℕ, ◌+◌, ◌-◌, ◌*◌, ◌/◌, ◌%◌, List, [], ◌∷◌, length, get_or, slice_index, Bool, true, false}
+--   mark_of key        the mark of a key, by the product of the key and a number
+--   has_mark noted key   the mark of the key was noted
+--   AreNoted noted rows   the mark of the key of each row's name was noted
+use Rattle.std.specs.Prelude.{◌≡◌, ℕ, ◌*◌, ◌/◌, ◌%◌, ◌^◌, List, [], ◌∷◌, get_or, Bool, true, false}
 use Rattle.ud_model.specs.conditions.Table.{Argument}
-use Rattle.ud_cond.specs.declared.marks.TheConstants.{MARKS}
+use Rattle.ud_cond.specs.Keys.{key_of}
+use Rattle.ud_cond.specs.declared.marks.TheConstants.{MARKS, SPREAD, LOW_BITS}
 
--- the mark of a name
-abbrev pub mark_of : List ℕ → ℕ
-mark_of n = (length n % MARKS + 101 * slice_index n (length n / 2) + 37 * slice_index n (length n - 1)) % MARKS
+-- the mark of a key
+unfoldable pub mark_of : ℕ → ℕ
+mark_of key = key * SPREAD % 2 ^ 64 / 2 ^ LOW_BITS % MARKS
 
--- the mark of the name was noted
-abbrev pub has_mark : List Bool → List ℕ → Bool
-has_mark noted n = get_or noted (mark_of n) false
+-- the mark of the key was noted
+abbrev pub has_mark : List Bool → ℕ → Bool
+has_mark noted key = get_or noted (mark_of key) false
 
--- the mark of each row's name was noted
+-- the mark of the key of each row's name was noted
 abbrev pub AreNoted : List Bool → List Argument → Type 0
 AreNoted noted [] = Unit {0}
-AreNoted noted (r ∷ rows) = (has_mark noted r.name ≡ true) × AreNoted noted rows
+AreNoted noted (r ∷ rows) = (has_mark noted (key_of r.name) ≡ true) × AreNoted noted rows

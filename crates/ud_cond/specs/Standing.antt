@@ -3,7 +3,7 @@
 --
 --   StandsFor table calls   the table says of every name what the accepted calls so far say
 --   Changes old new a       a table says this of one name, and of every other name what it said before
---   name_cmp m n            how one name stands to another: by their lengths, and by their bytes if these are equal
+--   name_cmp m n            how one name stands to another: by their keys, then by their lengths, then by their bytes
 --   AreSorted rows          each row's name comes before the names of the rows after it, so no two have one name
 --   IsRowOf rows i name     row i names it
 --   IsGapFor rows i name    the name comes after those of the rows before place i, and before those of the rows from there on
@@ -13,6 +13,7 @@ use Rattle.std.specs.declared.cmp.Ordering.{Ordering}
 use Rattle.std.specs.declared.cmp.Ordering.TheVariants.{Less, Greater}
 use Rattle.std.specs.Cmp.Lexicographic.{slice_cmp}
 use Rattle.ud_model.specs.conditions.Table.{Argument, entry_in}
+use Rattle.ud_cond.specs.Keys.{key_of}
 
 -- the table says of every name what the accepted calls so far say
 abbrev pub StandsFor : List Argument → List Argument → Type 0
@@ -22,9 +23,13 @@ StandsFor table calls = (name : List ℕ) → entry_in table name ≡ entry_in c
 abbrev pub Changes : List Argument → List Argument → Argument → Type 0
 Changes old new a = (name : List ℕ) → entry_in new name ≡ (if bytes_eq a.name name then Some a.entry else entry_in old name)
 
--- how one name stands to another: by their lengths, and by their bytes if these are equal
+-- how one name stands to another with the same key: by their lengths, and by their bytes if these are equal
+abbrev pub alike_cmp : List ℕ → List ℕ → Ordering
+alike_cmp m n = ordering_then (nat_cmp (length m) (length n)) (slice_cmp nat_cmp m n)
+
+-- how one name stands to another: by their keys, then by their lengths, then by their bytes
 abbrev pub name_cmp : List ℕ → List ℕ → Ordering
-name_cmp m n = ordering_then (nat_cmp (length m) (length n)) (slice_cmp nat_cmp m n)
+name_cmp m n = ordering_then (nat_cmp (key_of m) (key_of n)) (alike_cmp m n)
 
 -- a row that stands if there is none
 abbrev pub nobody : Argument

@@ -1,6 +1,7 @@
 //! What the table decides of a directive.
 
-ghost use Rattle.std.specs.Prelude.{◌≡◌, ◌≤◌, List, length, option_map};
+ghost use Rattle.std.specs.Prelude.{◌≡◌, ◌≤◌, List, length, option_map, true};
+ghost use Rattle.ud_model.specs.text.Bytes.{are_word_bytes, is_identifier};
 ghost use Rattle.ud_model.specs.conditions.Table.{Argument};
 ghost use Rattle.ud_model.specs.conditions.Conditions as spec;
 ghost use Rattle.ud_model.specs.declared.limits.TheConstants.{LINE_BYTES};
@@ -11,8 +12,8 @@ ghost use Rattle.ud_cond.specs.Worth.{decided};
 use crate::parsing::whole;
 use crate::symbols::Symbols;
 use crate::values::{Scope, Value};
-use ud_model::bytes::{are_white, is_identifier, past_white, word_len};
-use ud_model::{Cond, Kind};
+use ud_model::bytes::{are_white, is_digit, past_white, word_len};
+use ud_model::{Cond, Kind, Role, Test};
 
 /// How expressions are valued.
 #[derive(Clone, Copy, Debug, PartialEq, Eq)]
@@ -47,6 +48,7 @@ fn decided(rules: Rules, value: Value) -> Cond
 }
 
 /// What is decided of the text of an `#if` or `#elif`.
+#[inline(never)]
 fn expression_cond(text: &[u8], symbols: &Symbols, rules: Rules) -> Cond
     requires fits { length text.now ≤ LINE_BYTES }
     ensures { result ≡ spec.expression_cond text.now symbols.now (as_rules rules) }
@@ -81,15 +83,27 @@ pub(crate) fn sole_name(text: &[u8]) -> Option<&[u8]>
 {
     let text = past_white(text);
     let length = word_len(text);
-    let name = &text[..length];
-    if is_identifier(name) && are_white(&text[length..]) {
-        Some(name)
+    let word = &text[..length];
+    if is_name_word(word) && are_white(&text[length..]) {
+        Some(word)
     } else {
         None
     }
 }
 
+/// Whether a run of word bytes is an identifier.
+fn is_name_word(word: &[u8]) -> bool
+    requires { are_word_bytes word.now ≡ true }
+    ensures { result ≡ is_identifier word.now }
+{
+    match word.first() {
+        Some(first) => !is_digit(*first),
+        None => false,
+    }
+}
+
 /// What is decided of the text of an `#ifdef`.
+#[inline(never)]
 fn ifdef_answer(text: &[u8], symbols: &Symbols) -> Answer
     ensures { as_decision result ≡ spec.ifdef_decision (spec.sole_name text.now) symbols.now }
 {
@@ -124,28 +138,42 @@ fn negated(cond: Cond) -> Cond
     }
 }
 
-/// What is decided by these very rows.
-fn decide(kind: Kind, text: &[u8], symbols: &Symbols, rules: Rules) -> Answer
+/// What is decided of a text by what makes its condition true.
+#[inline(always)]
+fn decided_by(test: Test, text: &[u8], symbols: &Symbols, rules: Rules) -> Answer
     requires fits { length text.now ≤ LINE_BYTES }
-    ensures { as_decision result ≡ spec.condition_of kind text.now symbols.now (as_rules rules) }
+    ensures { as_decision result ≡ spec.decided_by test text.now symbols.now (as_rules rules) }
 {
-    match kind {
-        Kind::If | Kind::Elif => Answer {
+    match test {
+        Test::Nonzero => Answer {
             cond: expression_cond(text, symbols, rules),
             ignoring: false,
         },
-        Kind::Ifdef => ifdef_answer(text, symbols),
-        Kind::Ifndef => {
+        Test::Defined => ifdef_answer(text, symbols),
+        Test::Undefined => {
             let answer = ifdef_answer(text, symbols);
             Answer {
                 cond: negated(answer.cond),
                 ignoring: answer.ignoring,
             }
         }
-        Kind::Else | Kind::Endif => Answer {
+        Test::Nothing => Answer {
             cond: Cond::Unknown,
             ignoring: false,
         },
+    }
+}
+
+/// What is decided by these very rows. Only a directive that begins a section makes it plain text.
+#[inline(always)]
+fn decide(kind: Kind, text: &[u8], symbols: &Symbols, rules: Rules) -> Answer
+    requires fits { length text.now ≤ LINE_BYTES }
+    ensures { as_decision result ≡ spec.condition_of kind text.now symbols.now (as_rules rules) }
+{
+    let answer = decided_by(kind.test(), text, symbols, rules);
+    Answer {
+        cond: answer.cond,
+        ignoring: kind.role() == Role::IfGroup && answer.ignoring,
     }
 }
 
@@ -155,6 +183,7 @@ fn decide(kind: Kind, text: &[u8], symbols: &Symbols, rules: Rules) -> Answer
 /// that `symbols` stands for. Text that isn't understood is unknown, and so are `#else` and `#endif`. Takes no memory.
 ///
 /// C11 6.10.1; unifdef(1), `-D`, `-U`, `-iD`, `-iU`, `-k` and `-K`.
+#[inline(always)]
 pub fn condition(kind: Kind, text: &[u8], symbols: &Symbols, rules: Rules) -> Answer
     requires fits { length text.now ≤ LINE_BYTES }
     ensures { (calls : List Argument) → StandsFor symbols.now calls → as_decision result ≡ spec.condition_of kind text.now calls (as_rules rules) }

@@ -119,7 +119,9 @@ fn is_among(mut words: &[&[u8]], text: &[u8]) -> bool
 fn suffix_sign(suffix: &[u8]) -> Option<bool>
     ensures { result ≡ spec.suffix_sign suffix.now }
 {
-    if is_among(&UNSIGNED, suffix) {
+    if suffix.is_empty() {
+        Some(false)
+    } else if is_among(&UNSIGNED, suffix) {
         Some(true)
     } else if is_among(&SIGNED, suffix) {
         Some(false)

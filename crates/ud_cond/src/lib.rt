@@ -9,6 +9,7 @@
 mod conditions;
 mod constants;
 mod fault;
+mod keys;
 mod listed;
 mod marks;
 mod naming;

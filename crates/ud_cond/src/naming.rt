@@ -10,7 +10,7 @@ use crate::conditions::sole_name;
 use crate::listed::Names;
 use crate::parsing::whole;
 use crate::values::Scope;
-use ud_model::Kind;
+use ud_model::{Kind, Test};
 
 /// Whether a text is one expression.
 fn is_expression(text: &[u8]) -> bool
@@ -48,7 +48,8 @@ fn name_alone(text: &[u8]) -> Names<'_>
 }
 
 /// The names of a directive that no continuation cuts, in order and with repeats: of an `#if` or `#elif` those of its
-/// operands and of each `defined`, but none inside of arguments; of an `#ifdef` or `#ifndef` its one name.
+/// operands and of each `defined`, but none inside of arguments; of an `#ifdef`, `#ifndef`, `#elifdef` or `#elifndef` its
+/// one name.
 ///
 /// `text` is what follows the keyword on its masked line, at most `LINE_BYTES`. Text that isn't understood has no names,
 /// and neither have `#else` and `#endif`. Takes no memory.
@@ -58,9 +59,9 @@ pub fn names(kind: Kind, text: &[u8]) -> Names<'_>
     requires fits { length text.now ≤ LINE_BYTES }
     ensures { result ≡ names_of kind text.now }
 {
-    match kind {
-        Kind::If | Kind::Elif => expression_names(text),
-        Kind::Ifdef | Kind::Ifndef => name_alone(text),
-        Kind::Else | Kind::Endif => Names::none(),
+    match kind.test() {
+        Test::Nonzero => expression_names(text),
+        Test::Defined | Test::Undefined => name_alone(text),
+        Test::Nothing => Names::none(),
     }
 }

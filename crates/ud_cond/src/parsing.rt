@@ -9,7 +9,7 @@ ghost use Rattle.ud_model.specs.conditions.Tokens.{next_token as token_of};
 ghost use Rattle.ud_model.specs.aids.Parsing as spec;
 ghost use Rattle.ud_model.specs.declared.limits.TheConstants.{LINE_BYTES};
 ghost use Rattle.ud_cond.specs.Asking as asking;
-ghost use Rattle.ud_cond.specs.Asking.{Asks};
+ghost use Rattle.ud_cond.specs.Asking.{Asks, Encloses};
 ghost use Rattle.ud_cond.specs.CondViews.{as_token};
 ghost use Rattle.ud_cond.specs.Stacks.{Suffice, weight, state, pending};
 ghost use Rattle.ud_cond.specs.Worth.{worth_in};
@@ -19,6 +19,12 @@ use crate::stacks::Stacks;
 use crate::tokens::{Next, Token, next_token};
 use crate::values::{Scope, Value, constant, defined, named};
 use ud_model::LINE_BYTES;
+
+/// The most bytes of a very short text.
+const LEAST_BYTES: usize = 32;
+
+/// The most operands that wait in a very short text.
+const LEAST_OPERANDS: usize = LEAST_BYTES / 2;
 
 /// The most bytes of a short text.
 const SHORT_BYTES: usize = 64;
@@ -51,16 +57,6 @@ fn plain_name(text: &[u8]) -> Option<(&[u8], &[u8])>
     }
 }
 
-/// What follows a `(` in front.
-fn behind_opening(text: &[u8]) -> Option<&[u8]>
-    ensures { option_map (λ r. r.now) result ≡ asking.behind_opening (token_of text.now) }
-{
-    match next_token(text) {
-        Next::Found(Token::Opening, rest) => Some(rest),
-        _ => None,
-    }
-}
-
 /// What follows a `)` in front.
 fn behind_closing(text: &[u8]) -> Option<&[u8]>
     ensures { option_map (λ r. r.now) result ≡ asking.behind_closing (token_of text.now) }
@@ -71,18 +67,35 @@ fn behind_closing(text: &[u8]) -> Option<&[u8]>
     }
 }
 
+/// What a `defined` is worth by the name that is to stand after a `(`, and what follows the `)` after the name.
+fn enclosed<'a>(scope: &Scope<'_>, inside: &'a [u8]) -> Option<(Value, &'a [u8])>
+    ensures { Encloses (worth_in scope.now) inside.now (option_map (λ r. (r.0, r.1.now)) result) }
+{
+    let (name, end) = plain_name(inside)?;
+    let rest = behind_closing(end)?;
+    Some((defined(scope, name), rest))
+}
+
 /// What a `defined` is worth by the name after it, in parentheses or not, and what follows the name.
 fn definition<'a>(scope: &Scope<'_>, text: &'a [u8]) -> Option<(Value, &'a [u8])>
     ensures { Asks (worth_in scope.now) text.now (option_map (λ r. (r.0, r.1.now)) result) }
 {
-    match plain_name(text) {
-        Some((name, rest)) => Some((defined(scope, name), rest)),
-        None => {
-            let inside = behind_opening(text)?;
-            let (name, end) = plain_name(inside)?;
-            let rest = behind_closing(end)?;
-            Some((defined(scope, name), rest))
-        }
+    match next_token(text) {
+        Next::AtEnd => None,
+        Next::Unreadable => None,
+        Next::Found(token, rest) => match token {
+            Token::Opening => enclosed(scope, rest),
+            Token::Name(name, arguments) => {
+                if arguments {
+                    return None;
+                }
+                Some((defined(scope, name), rest))
+            }
+            Token::Number(_) => None,
+            Token::Defined => None,
+            Token::Operator(_) => None,
+            Token::Closing => None,
+        },
     }
 }
 
@@ -200,11 +213,13 @@ fn read<const BYTES: usize, const OPERANDS: usize>(scope: &Scope<'_>, text: &[u8
 }
 
 /// What the expression of a text is worth; `None` where the text isn't one expression.
+#[inline(always)]
 pub(crate) fn whole(scope: &Scope<'_>, text: &[u8]) -> Option<Value>
     requires fits { length text.now ≤ LINE_BYTES }
     ensures { result ≡ spec.reads (worth_in scope.now) (spec.needs []) text.now }
 {
     match text.len() {
+        0..=LEAST_BYTES => read::<LEAST_BYTES, LEAST_OPERANDS>(scope, text),
         0..=SHORT_BYTES => read::<SHORT_BYTES, SHORT_OPERANDS>(scope, text),
         0..=LONGER_BYTES => read::<LONGER_BYTES, LONGER_OPERANDS>(scope, text),
         0..=LONG_BYTES => read::<LONG_BYTES, LONG_OPERANDS>(scope, text),

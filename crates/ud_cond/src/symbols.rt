@@ -1,17 +1,20 @@
 //! The table of symbols.
 //!
-//! It has one row a name, sorted by the names: a name is found by halving, and a later call for it changes its row.
+//! It has one row a name, sorted by the names' keys, which are numbers, and then by the names: a name is found by halving, and
+//! a later call for it changes its row.
 //! Memory is taken before anything changes, so a refused call leaves the table as it was.
 
-ghost use Rattle.std.specs.Prelude.{◌≡◌, ◌++◌, ◌∷◌, [], List, option_map, OnOk, OnErr, IfOk, IfErr, IsErrOf, Some, None, ◌↔◌, false, length};
+ghost use Rattle.std.specs.Prelude.{◌≡◌, ◌++◌, ◌∷◌, [], List, option_map, OnOk, OnErr, IfOk, IfErr, IsErrOf, Some, None, ◌↔◌, false, length, bytes_eq};
 ghost use Rattle.std.specs.List.{insert};
 ghost use Rattle.ud_model.specs.conditions.Table.{Argument, entry_in};
 ghost use Rattle.ud_model.specs.answer.Arguments as names;
 ghost use Rattle.ud_model.specs.conditions.Symbols as ends;
-ghost use Rattle.ud_cond.specs.Standing.{StandsFor, Changes, name_cmp, IsRowOf, IsGapFor};
+ghost use Rattle.ud_cond.specs.Keys as spec;
+ghost use Rattle.ud_cond.specs.Standing.{StandsFor, Changes, name_cmp, alike_cmp, IsRowOf, IsGapFor};
 ghost use Rattle.ud_cond.specs.CondViews.{as_entry, said};
 
 use crate::fault::SymbolFault;
+use crate::keys::key_of;
 use crate::marks::Marks;
 use std::alloc::Global;
 use std::cmp::Ordering;
@@ -32,6 +35,8 @@ pub struct Entry<'a> {
 struct Row {
     /// The name.
     symbol: Vec<u8>,
+    /// Its key.
+    number: u64,
     /// The value that it is defined with; `None` where it is undefined.
     text: Option<Vec<u8>>,
     /// Whether the sections that it controls are plain text.
@@ -39,19 +44,47 @@ struct Row {
 }
 
 impl Model for Row {
-    ghost use Rattle.std.specs.Prelude.{option_map};
+    ghost use Rattle.std.specs.Prelude.{◌≡◌, option_map};
     ghost use Rattle.ud_model.specs.conditions.Table.{Argument};
     ghost use Rattle.ud_cond.specs.CondViews.{said};
+    ghost use Rattle.ud_cond.specs.Keys.{key_of};
 
     ghost Value = { Argument };
 
     ghost view = { λ r. said r.symbol.items (option_map (λ v. v.items) r.text) r.ignores };
+
+    ghost invariant = { λ r. r.number ≡ key_of r.symbol.items };
 }
 
 impl Row {
-    /// How the row's name stands to a name: by their lengths, and by their bytes if these are equal.
-    fn compare(&self, name: &[u8]) -> Ordering
+    /// The key of the row's name.
+    fn key(&self) -> u64
+        ensures { result ≡ spec.key_of self.now.name }
+    {
+        self.number
+    }
+
+    /// Whether the row names it.
+    fn names(&self, name: &[u8]) -> bool
+        ensures { result ≡ bytes_eq self.now.name name.now }
+    {
+        self.symbol.as_slice() == name
+    }
+
+    /// How the row's name stands to a name with this key.
+    fn compare(&self, key: u64, name: &[u8]) -> Ordering
+        requires { key ≡ spec.key_of name.now }
         ensures { result ≡ name_cmp self.now.name name.now }
+    {
+        match self.number.cmp(&key) {
+            Ordering::Equal => self.compare_alike(name),
+            other => other,
+        }
+    }
+
+    /// How the row's name stands to a name with the same key.
+    fn compare_alike(&self, name: &[u8]) -> Ordering
+        ensures { result ≡ alike_cmp self.now.name name.now }
     {
         match self.symbol.len().cmp(&name.len()) {
             Ordering::Equal => self.symbol.as_slice().cmp(&name),
@@ -78,7 +111,7 @@ impl Row {
 pub struct Symbols {
     /// Where memory comes from.
     alloc: Global,
-    /// The rows, one a name, shorter names first and those of one length by their bytes.
+    /// The rows, one a name, by their keys, and those of one key by their lengths and bytes.
     rows: Vec<Row>,
     /// The marks of their names.
     marks: Marks,
@@ -139,14 +172,16 @@ impl Symbols {
     }
 
     /// What the last accepted call for a name said of it; `None` if no call named it.
+    #[inline(always)]
     pub fn find(&self, name: &[u8]) -> Option<Entry<'_>>
         ensures value { option_map as_entry result ≡ entry_in self.now name.now }
         ensures stands { (calls : List Argument) → StandsFor self.now calls → option_map as_entry result ≡ entry_in calls name.now }
     {
-        if !self.marks.has(name) {
+        let key = key_of(name);
+        if !self.marks.has(key) {
             return None;
         }
-        match self.search(name) {
+        match self.search(key, name) {
             Ok(i) => Some(self.rows[i].entry()),
             Err(_) => None,
         }
@@ -184,12 +219,32 @@ impl Symbols {
         None
     }
 
-    /// The place of a name's row, or the one at which it would stand.
-    fn search(&self, name: &[u8]) -> Result<usize, usize>
+    /// The place of the row of a name with this key, or the one at which it would stand. Most names have a key of their own.
+    #[inline(never)]
+    fn search(&self, key: u64, name: &[u8]) -> Result<usize, usize>
+        requires keyed { key ≡ spec.key_of name.now }
         ensures found { IfOk result (λ i. IsRowOf self.now i name.now) }
         ensures absent { IfErr result (λ i. IsGapFor self.now i name.now) }
     {
-        self.rows.binary_search_by(|row| row.compare(name))
+        match self.rows.binary_search_by_key(&key, |row| row.key()) {
+            Err(i) => Err(i),
+            Ok(i) => {
+                if self.rows[i].names(name) {
+                    return Ok(i);
+                }
+                self.search_alike(key, name)
+            }
+        }
+    }
+
+    /// The same, where rows of other names have the same key.
+    #[inline(never)]
+    fn search_alike(&self, key: u64, name: &[u8]) -> Result<usize, usize>
+        requires keyed { key ≡ spec.key_of name.now }
+        ensures found { IfOk result (λ i. IsRowOf self.now i name.now) }
+        ensures absent { IfErr result (λ i. IsGapFor self.now i name.now) }
+    {
+        self.rows.binary_search_by(|row| row.compare(key, name))
     }
 
     /// Says of a name that it has this value, or that it is undefined.
@@ -211,7 +266,8 @@ impl Symbols {
         ensures fault { OnErr result (IsErrOf result SymbolFault.OutOfMemory) }
     {
         let text = copy_of(self.alloc, value)?;
-        match self.search(name) {
+        let key = key_of(name);
+        match self.search(key, name) {
             Ok(i) => {
                 let row = &mut self.rows[i];
                 row.text = text;
@@ -222,23 +278,24 @@ impl Symbols {
                 let symbol = Vec::from_slice(self.alloc, name)?;
                 let row = Row {
                     symbol,
+                    number: key,
                     text,
                     ignores: ignoring,
                 };
-                self.add(i, name, row)
+                self.add(i, key, row)
             }
         }
     }
 
     /// Adds a row at the place of its name.
-    fn add(&mut self, i: usize, name: &[u8], row: Row) -> Result<(), SymbolFault>
+    fn add(&mut self, i: usize, key: u64, row: Row) -> Result<(), SymbolFault>
         requires gap { IsGapFor self.old i row.name }
-        requires named { row.name ≡ name.now }
+        requires keyed { key ≡ spec.key_of row.name }
         ensures ok { OnOk result (self.new ≡ insert self.old i row) }
         ensures err { OnErr result (self.new ≡ self.old) }
         ensures fault { OnErr result (IsErrOf result SymbolFault.OutOfMemory) }
     {
-        self.marks.note(name);
+        self.marks.note(key);
         match self.rows.insert(i, row) {
             Ok(()) => Ok(()),
             Err(_) => Err(SymbolFault::OutOfMemory),

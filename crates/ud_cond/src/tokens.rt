@@ -2,7 +2,7 @@
 //!
 //! What the tokens of an expression are stands in ud_model, specs/conditions/Tokens.antt (C11 6.4).
 
-ghost use Rattle.std.specs.Prelude.{◌≡◌, drop, length, option_map, slice_index, ◌-◌};
+ghost use Rattle.std.specs.Prelude.{◌≡◌, drop, length, option_map, slice_index, ◌-◌, bytes_eq, codes};
 ghost use Rattle.ud_model.specs.conditions.Tokens as spec;
 ghost use Rattle.ud_model.specs.conditions.Constants as texts;
 ghost use Rattle.ud_model.specs.text.Bytes as bytes;
@@ -75,6 +75,7 @@ fn behind_closing(text: &[u8]) -> Option<&[u8]>
 }
 
 /// A name, and the arguments after it if a `(` comes next.
+#[inline(always)]
 fn name_token<'a>(word: &'a [u8], rest: &'a [u8]) -> Next<'a>
     ensures { as_next result ≡ spec.name_token word.now rest.now }
 {
@@ -105,7 +106,16 @@ fn begins_with_digit(word: &[u8]) -> bool
     }
 }
 
+/// Whether a word is `defined`.
+#[inline(always)]
+fn is_defined(word: &[u8]) -> bool
+    ensures { result ≡ bytes_eq word.now (codes "defined") }
+{
+    matches!(word, b"defined")
+}
+
 /// The token of a word, which is a constant where it begins with a digit.
+#[inline(always)]
 fn word_token<'a>(word: &'a [u8], rest: &'a [u8]) -> Next<'a>
     ensures { as_next result ≡ spec.word_token word.now rest.now }
 {
@@ -115,7 +125,7 @@ fn word_token<'a>(word: &'a [u8], rest: &'a [u8]) -> Next<'a>
         } else {
             Next::Unreadable
         }
-    } else if word == b"defined".as_slice() {
+    } else if is_defined(word) {
         Next::Found(Token::Defined, rest)
     } else {
         name_token(word, rest)
@@ -123,6 +133,7 @@ fn word_token<'a>(word: &'a [u8], rest: &'a [u8]) -> Next<'a>
 }
 
 /// The operator of two bytes where the second one follows, else the one of one byte.
+#[inline(always)]
 fn longer_of<'a>(second: u8, long: Operator, short: Operator, rest: &'a [u8]) -> Next<'a>
     ensures { as_next result ≡ spec.longer_of second long short rest.now }
 {
@@ -134,6 +145,7 @@ fn longer_of<'a>(second: u8, long: Operator, short: Operator, rest: &'a [u8]) ->
 }
 
 /// An operator of one byte.
+#[inline(always)]
 fn single(operator: Operator, rest: &[u8]) -> Next<'_>
     ensures { as_next result ≡ spec.found (spec.operator operator) rest.now }
 {
@@ -141,6 +153,7 @@ fn single(operator: Operator, rest: &[u8]) -> Next<'_>
 }
 
 /// The token that begins with a byte that is in no word.
+#[inline(always)]
 fn sign_token(byte: u8, rest: &[u8]) -> Next<'_>
     ensures { as_next result ≡ spec.sign_token byte rest.now }
 {
@@ -166,6 +179,7 @@ fn sign_token(byte: u8, rest: &[u8]) -> Next<'_>
 
 /// The token at the front of a text, and the text after it.
 #[tactic(auto, unfolding(ud_model::specs::conditions::Tokens::next_token))]
+#[inline(always)]
 pub(crate) fn next_token(text: &[u8]) -> Next<'_>
     ensures { as_next result ≡ spec.next_token text.now }
 {

@@ -1,9 +1,13 @@
 pub mod SendingLemmas
 pub mod NameLemmas
 pub mod ReaderLemmas
+pub mod PassLemmas
 pub mod PrinterLemmas
+pub mod RunPrintLemmas
 pub mod TakingLemmas
 pub mod StepLemmas
+pub mod RunStepLemmas
 pub mod FeedLemmas
 pub mod EndLemmas
 pub mod RunLemmas
+pub mod WentLemmas

@@ -2,15 +2,17 @@
 use Rattle.std.proofs.Common.{◌≡◌, ℕ, suc, ◌-◌, List, [], ◌∷◌, ◌++◌, length, Bool, true, false, if◌then◌else◌, refl, sym, ap, ap₂, subst, ◌∙◌, append_assoc, append-nil, Option, arith}
 use Rattle.ud_model.specs.text.Lines.{Line}
 use Rattle.ud_model.specs.text.Scans.{Reading}
-use Rattle.ud_model.specs.sections.Directives.{Content, cut_keyword, directive, text, content_of}
+use Rattle.ud_model.specs.sections.Directives.{Content, cut_keyword, directive, text, content_of, role_of, test_of}
 use Rattle.ud_model.specs.sections.Tree.{Item, Tree, depth}
 use Rattle.ud_model.specs.sections.Items.{Options, item_of, item_by, directive_item, read_after, mode_after, next_item}
 use Rattle.ud_model.specs.sections.Faults.{AreSound}
 use Rattle.ud_model.specs.conditions.Conditions.{Decision}
-use Rattle.ud_model.specs.conditions.Names.{names_of}
+use Rattle.ud_model.specs.conditions.Names.{names_by}
 use Rattle.ud_model.specs.answer.Listing.{levels, listed, listed_names, depth_prefix, names_at, names_in_content}
 use Rattle.ud_model.specs.declared.kind.Kind.{Kind}
-use Rattle.ud_model.specs.declared.kind.Kind.TheVariants.{If, Ifdef, Ifndef, Elif, Else, Endif}
+use Rattle.ud_model.specs.declared.kind.Kind.TheVariants.{If, Ifdef, Ifndef, Elif, Elifdef, Elifndef, Else, Endif}
+use Rattle.ud_model.specs.declared.kind.Test.{Test}
+use Rattle.ud_model.specs.declared.kind.Test.TheVariants.{Nothing}
 use Rattle.ud_model.proofs.answer.LevelLemmas.{length_levels}
 use Rattle.ud_model.proofs.sections.Growth.{Adds}
 use Rattle.ud_model.proofs.sections.Soundness.{sound_lines, reading_of-item_of}
@@ -70,21 +72,24 @@ pub all_put : (a b : Option (List ℕ)) (prefix : List ℕ) (names left : List (
 all_put a b prefix names left old new e p =
     subst (λ x. Sent a b (old ++ x) new) (sym (p.are ∙ ap (λ ns. p.done ++ listed_names prefix ns) e ∙ append-nil p.done)) p.sent
 
-by_kind : (r : Reading) (k : Kind) (d : Decision) (after : List ℕ) (broken : Bool) → has_condition (directive_item r k d) ≡ false →
-    (if broken then [] else names_of k after) ≡ []
-by_kind r If d after broken e = cc
-by_kind r Ifdef d after broken e = cc
-by_kind r Ifndef d after broken e = cc
-by_kind r Elif d after broken e = cc
-by_kind r Else d after true e = refl
-by_kind r Else d after false e = refl
-by_kind r Endif d after true e = refl
-by_kind r Endif d after false e = refl
+untested : (r : Reading) (k : Kind) (d : Decision) → has_condition (directive_item r (role_of k) d) ≡ false → test_of k ≡ Nothing
+untested r If d e = cc
+untested r Ifdef d e = cc
+untested r Ifndef d e = cc
+untested r Elif d e = cc
+untested r Elifdef d e = cc
+untested r Elifndef d e = cc
+untested r Else d e = refl
+untested r Endif d e = refl
+
+nameless : (broken : Bool) (after : List ℕ) → (if broken then [] else names_by Nothing after) ≡ []
+nameless true after = refl
+nameless false after = refl
 
 by_content : (o : Options) (r : Reading) (c : Content) → has_condition (item_by o r c) ≡ false → names_in_content c ≡ []
 by_content o r cut_keyword e = refl
 by_content o r text e = refl
-by_content o r (directive d) e = by_kind r d.kind _ d.after d.broken e
+by_content o r (directive d) e = ap (λ (p : Test). if d.broken then [] else names_by p d.after) (untested r d.kind _ e) ∙ nameless d.broken d.after
 
 -- a line without a condition has no names
 no_names : (o : Options) (r : Reading) → has_condition (item_of o r) ≡ false → names_in_content (content_of r.scan) ≡ []

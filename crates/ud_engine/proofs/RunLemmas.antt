@@ -29,7 +29,7 @@ use Rattle.ud_engine.specs.Running.{KeptUp, settled, room}
 use Rattle.ud_engine.proofs.TakingLemmas.{before_is, rest_is, reads_so_far}
 
 -- what a definition prints is its output
-same_text : (q : Listing) (s : Settings) (xs : List (Item Reading)) (t : Tree Reading) → text_by q (piece_behind (style_of s)) xs t ≡ output_by q s xs t
+pub same_text : (q : Listing) (s : Settings) (xs : List (Item Reading)) (t : Tree Reading) → text_by q (piece_behind (style_of s)) xs t ≡ output_by q s xs t
 same_text Off s xs t = refl
 same_text Names s xs t = refl
 same_text Depths s xs t = refl

@@ -6,6 +6,7 @@
 --   Fed .. e o piece text printed        so it did, it has refused nothing, and all of this is written
 --   Goes .. old new more         what was fed next was taken, and this was appended
 --   Fails .. old new longer f    what was fed next is faulty, or a write failed
+--   TellsWriter failed f         a write error is told exactly if the writer has failed, and a read error never
 use Rattle.std.specs.Prelude.{◌≡◌, ℕ, ◌<◌, ◌≤◌, List, [], ◌++◌, length, Bool, true, false, Option, Some, None}
 use Rattle.std.specs.Io.KnownBytes.{Appends}
 use Rattle.ud_model.specs.text.Lines.{Line, NoFeed, open_rest}
@@ -109,3 +110,10 @@ Fails o piece failed old new longer printed (Section f) =
 Fails o piece failed old new longer printed Read = ⊥
 Fails o piece failed old new longer printed Write =
     (failed ≡ true) × ((more : List ℕ) × Reaches o piece longer (printed ++ more) × AppendsFront old new more)
+
+-- what an engine refuses: `Write` exactly if the writer has failed, and `Read` never
+abbrev pub TellsWriter : Bool → RunFault → Type 0
+TellsWriter failed (Text f) = failed ≡ false
+TellsWriter failed (Section f) = failed ≡ false
+TellsWriter failed Read = ⊥
+TellsWriter failed Write = failed ≡ true

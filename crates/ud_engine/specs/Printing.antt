@@ -4,14 +4,16 @@
 --   differs_in listing piece xs t   some line's piece isn't the line itself; if names are listed, none is
 --   HasPrinted stands piece_of p o piece xs t    these lines were read and printed
 --   PrintsLine .. l put ..          the line l too: its piece was put after the run, or it is the line itself, and wasn't
+--   printed_of passed bytes         what is printed of lines that were read at once, of these bytes
+--   PrintsRun .. ls more            the lines ls too, and this is printed of them
 --   PrintFails .. l f ..            the line is faulty, or a write failed within the bytes up to its piece
-use Rattle.std.specs.Prelude.{◌≡◌, ℕ, List, [], ◌∷◌, ◌++◌, Bool, true, false, not, bytes_eq, Option, Some, None}
+use Rattle.std.specs.Prelude.{◌≡◌, ℕ, List, [], ◌∷◌, ◌++◌, take, map, Bool, true, false, not, bytes_eq, if◌then◌else◌, Option, Some, None}
 use Rattle.std.specs.List.{concat}
 use Rattle.ud_model.specs.text.Lines.{Line, text_of}
 use Rattle.ud_model.specs.text.Scans.{Reading}
 use Rattle.ud_model.specs.sections.Tree.{Item, Tree}
 use Rattle.ud_model.specs.sections.Pruning.{marks}
-use Rattle.ud_model.specs.sections.Items.{Options, next_item}
+use Rattle.ud_model.specs.sections.Items.{Options, line_of, next_item}
 use Rattle.ud_model.specs.sections.Faults.{AreSound, FaultOf}
 use Rattle.ud_model.specs.answer.Printing.{Judged, judged_lines, pieces_by, some_other}
 use Rattle.ud_model.specs.answer.Listing.{levels, listed}
@@ -21,6 +23,7 @@ use Rattle.ud_sections.specs.Sections.{fault_of}
 use Rattle.ud_engine.specs.declared.fault.RunFault.{RunFault}
 use Rattle.ud_engine.specs.declared.fault.RunFault.TheVariants.{Text, Section, Read, Write}
 use Rattle.ud_engine.specs.declared.line_printer.LinePrinter.{LinePrinter}
+use Rattle.ud_engine.specs.declared.line_printer.Passed.{Passed}
 use Rattle.ud_engine.specs.Reading.{HasItems}
 use Rattle.ud_engine.specs.Sending.{Sent}
 use Rattle.ud_engine.specs.Watching.{AppendsFront}
@@ -75,6 +78,19 @@ pub record PrintsLine {S : Type 0} (stands : S → List Judged → Type 0) (piec
   pub more : List ℕ
   pub is_more : IsMore o piece xs t l tree more
   pub goes : IsPut put old new gathered left run more (text_of l)
+
+-- all of these lines, or nothing
+abbrev pub printed_of : Passed → List ℕ → List ℕ
+printed_of passed bytes = if passed.kept then take passed.count bytes else []
+
+-- the lines were read and printed too, if there are any: this is printed of them
+pub record PrintsRun {S : Type 0} (stands : S → List Judged → Type 0) (piece_of : S → List Judged → Judged → List ℕ) (p : LinePrinter S) (o : Options)
+    (piece : List Judged → Judged → List ℕ) (xs : List (Item Reading)) (t : Tree Reading) (ls : List Line) (more : List ℕ) : Type 0 where
+  pub items : List (Item Reading)
+  pub tree : Tree Reading
+  pub has : HasPrinted stands piece_of p o piece (xs ++ items) tree
+  pub lines_are : map line_of items ≡ ls
+  pub is_more : text_by o.settings.listing piece (xs ++ items) tree ≡ text_by o.settings.listing piece xs t ++ more
 
 -- a write failed within the bytes up to what is printed of the line, which isn't faulty
 pub record WriteFails (o : Options) (piece : List Judged → Judged → List ℕ) (xs : List (Item Reading)) (t : Tree Reading) (l : Line)

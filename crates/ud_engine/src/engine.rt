@@ -9,8 +9,9 @@ ghost use Rattle.ud_model.specs.sections.Items.{Options};
 ghost use Rattle.ud_model.specs.answer.Printing.{Judged};
 ghost use Rattle.ud_cond.specs.Standing.{StandsFor};
 ghost use Rattle.ud_engine.specs.Sending.{Puts};
-ghost use Rattle.ud_engine.specs.Feeding.{IsOpen, Fed};
+ghost use Rattle.ud_engine.specs.Feeding.{IsOpen, Fed, TellsWriter};
 ghost use Rattle.ud_engine.specs.Ending.{EndsIll, PrintsAll, at_rest};
+ghost use Rattle.ud_engine.specs.Advancing.{IsPlace};
 
 use crate::fault::RunFault;
 use crate::line_printer::LinePrinter;
@@ -20,15 +21,54 @@ use std::io::Write;
 use std::marker::Model;
 use ud_cond::Symbols;
 use ud_model::TEXT_LINES;
+use ud_model::bytes::past_white;
 use ud_sections::Show;
 use ud_text::Lines;
 use ud_words::Plan;
 
-/// How far a piece is read. The bytes from one place to the other are to be written as they are.
+/// How far a piece is read. The bytes from `from` to `at` are to be written as they are.
 #[derive(Clone, Copy)]
 struct Reached {
     from: usize,
     at: usize,
+    /// If it lies after `at`, the bytes up to here are whole lines within the limits.
+    whole: usize,
+    /// Whether the next lines were tried to be read at once, so that one of them goes by itself.
+    tried: bool,
+}
+
+/// A place in a piece, before which nothing is to be written.
+fn place_in(lines: &Lines, piece: &[u8], at: usize) -> Reached
+    requires { at ≤ length piece.now }
+    ensures place { IsPlace lines.now piece.now result }
+    ensures from { result.from ≡ at }
+    ensures at { result.at ≡ at }
+{
+    Reached {
+        from: at,
+        at,
+        whole: at + lines.whole_run(&piece[at..]),
+        tried: false,
+    }
+}
+
+/// Whether a line begins as most conditionals do.
+fn begins_conditional(line: &[u8]) -> bool {
+    match line {
+        [b'#', rest @ ..] => {
+            matches!(past_white(rest), [b'i', b'f', ..] | [b'e', b'l' | b'n', ..])
+        }
+        _ => false,
+    }
+}
+
+/// Whether the next lines may be read at once. It isn't tried at a conditional, which stops the reading.
+fn may_pass(piece: &[u8], reached: Reached) -> bool
+    requires { reached.at ≤ length piece.now }
+    ensures untried { result ≡ true → reached.tried ≡ false }
+    ensures some { result ≡ true → reached.at < reached.whole }
+{
+    !reached.tried && reached.at < reached.whole && !begins_conditional(&piece[reached.at..])
 }
 
 /// unifdef(1) over a text that comes in pieces.
@@ -63,18 +103,19 @@ impl<'p, S: Show> Model for Engine<'p, S> {
 }
 
 impl<'p, S: Show> Engine<'p, S> {
-    ghost use Rattle.ud_engine.specs.Feeding.{Fed, HasTaken, Goes, Fails};
+    ghost use Rattle.ud_engine.specs.Feeding.{Fed, HasTaken, Goes, Fails, TellsWriter};
     ghost use Rattle.ud_engine.specs.Ending.{EndsWell, EndsIll};
-    ghost use Rattle.ud_engine.specs.Advancing.{Advances, StopsAt, between};
+    ghost use Rattle.ud_engine.specs.Advancing.{Advances, StopsAt, IsPlace, between, todo};
     ghost use Rattle.ud_engine.specs.Refusing.{LeavesOutput, LeavesWorking, StoppedBy};
 
     /// An engine that was fed nothing. It prints by `show`, or if the plan asks for it lists names.
     ///
     /// `show` was given no line. Takes no memory.
     pub fn new(plan: &'p Plan, show: S) -> Engine<'p, S>
-        ensures { (o : Options) → (piece : List Judged → Judged → List ℕ) → o.settings ≡ plan.now.settings → StandsFor plan.now.symbols o.table →
+        ensures fed { (o : Options) → (piece : List Judged → Judged → List ℕ) → o.settings ≡ plan.now.settings → StandsFor plan.now.symbols o.table →
             S.stands show [] → ((before : List Judged) → (j : Judged) → S.piece show before j ≡ piece before j) →
             Fed S.stands S.piece result o piece [] [] }
+        ensures unrefused { result.refused ≡ None }
     {
         Engine {
             plan,
@@ -102,6 +143,7 @@ impl<'p, S: Show> Engine<'p, S> {
             Fed S.stands S.piece self.old o pieces text printed →
             IfErr result (Fails o pieces out.new.failed (W.contents out.old.inner) (W.contents out.new.inner) (text ++ piece.now) printed) }
         ensures works { OnOk result (out.new.failed ≡ false) }
+        ensures tells { self.old.refused ≡ None → IfErr result (TellsWriter out.new.failed) }
         ensures refused { IfErr result (λ f. self.new.refused ≡ Some f) }
         ensures again { IfSome self.old.refused (λ f. (result ≡ Err f) × (self.new ≡ self.old) × (out.new ≡ out.old)) }
     {
@@ -134,25 +176,47 @@ impl<'p, S: Show> Engine<'p, S> {
             Fed S.stands S.piece self.entry o pieces text printed →
             IfErr result (EndsIll o pieces out.new.failed (W.contents out.old.inner) (W.contents out.new.inner) text printed) }
         ensures works { OnOk result (out.new.failed ≡ false) }
+        ensures tells { self.entry.refused ≡ None → IfErr result (TellsWriter out.new.failed) }
         ensures again { IfSome self.entry.refused (λ f. (result ≡ Err f) × (out.new ≡ out.old)) }
     {
-        let Engine {
-            plan,
-            mut lines,
-            mut printer,
-            mut output,
-            fault,
-        } = self;
-        if let Some(fault) = fault {
+        let mut engine = self;
+        engine.end(out)
+    }
+
+    /// Ends the text, as `finish` does, and stands before another one, which isn't to be fed.
+    ///
+    /// # Errors
+    /// As `finish`.
+    pub(crate) fn end<W: Write>(&mut self, out: &mut Watched<W>) -> Result<bool, RunFault>
+        requires { self.old.refused ≡ None → out.old.failed ≡ false }
+        ensures ended { (o : Options) → (pieces : List Judged → Judged → List ℕ) → (text : List ℕ) → (printed : List ℕ) →
+            Fed S.stands S.piece self.old o pieces text printed →
+            IfOk result (EndsWell o pieces text printed (W.contents out.old.inner) (W.contents out.new.inner)) }
+        ensures fails { (o : Options) → (pieces : List Judged → Judged → List ℕ) → (text : List ℕ) → (printed : List ℕ) →
+            Fed S.stands S.piece self.old o pieces text printed →
+            IfErr result (EndsIll o pieces out.new.failed (W.contents out.old.inner) (W.contents out.new.inner) text printed) }
+        ensures works { OnOk result (out.new.failed ≡ false) }
+        ensures tells { self.old.refused ≡ None → IfErr result (TellsWriter out.new.failed) }
+        ensures again { IfSome self.old.refused (λ f. (result ≡ Err f) × (out.new ≡ out.old)) }
+    {
+        if let Some(refused) = self.fault {
+            return Err(refused);
+        }
+        let ended = print_last(
+            &mut self.lines,
+            &mut self.printer,
+            self.plan.symbols(),
+            &mut self.output,
+            out,
+        );
+        self.lines.restart();
+        if let Err(fault) = ended {
             return Err(fault);
         }
-        match print_last(&mut lines, &mut printer, plan.symbols(), &mut output, out) {
-            Err(fault) => Err(fault),
-            Ok(()) => match printer.finish() {
-                Err(fault) => Err(RunFault::Section(fault)),
-                Ok(()) => Ok(printer.differs()),
-            },
+        if let Err(fault) = self.printer.finish() {
+            return Err(RunFault::Section(fault));
         }
+        Ok(self.printer.differs())
     }
 
     /// Takes all of a piece, and writes what is left of the lines that it ends.
@@ -168,8 +232,9 @@ impl<'p, S: Show> Engine<'p, S> {
             Fed S.stands S.piece self.old o pieces text printed →
             IfErr result (Fails o pieces out.new.failed (W.contents out.old.inner) (W.contents out.new.inner) (text ++ piece.now) printed) }
         ensures works { OnOk result (out.new.failed ≡ false) }
+        ensures tells { IfErr result (TellsWriter out.new.failed) }
     {
-        let mut reached = Reached { from: 0, at: 0 };
+        let mut reached = place_in(&self.lines, piece, 0);
         while reached.at < piece.len() {
             match self.advance(piece, reached, out) {
                 Ok(next) => reached = next,
@@ -183,7 +248,8 @@ impl<'p, S: Show> Engine<'p, S> {
         }
     }
 
-    /// Takes the next line of a piece that is read so far, or what it begins of one.
+    /// Takes some of the next lines of a piece that is read so far, or what it begins of one, or finds that one is to be
+    /// taken by itself.
     ///
     /// # Errors
     /// As `feed`, but what is to be written of the lines before isn't written yet.
@@ -194,9 +260,98 @@ impl<'p, S: Show> Engine<'p, S> {
         out: &mut Watched<W>,
     ) -> Result<Reached, RunFault>
         requires works { out.old.failed ≡ false }
-        requires from { reached.from ≤ reached.at }
-        requires at { reached.at < length piece.now }
-        ensures forth { IfOk result (λ next. (reached.at < next.at) × (next.at ≤ length piece.now) × (next.from ≤ next.at)) }
+        requires place { IsPlace self.old.lines piece.now reached }
+        requires some { reached.at < length piece.now }
+        ensures place { IfOk result (λ next. IsPlace self.new.lines piece.now next) }
+        ensures forth { IfOk result (λ next. (reached.at ≤ next.at) × (todo piece.now next < todo piece.now reached)) }
+        ensures taken { (o : Options) → (pieces : List Judged → Judged → List ℕ) → (text : List ℕ) → (printed : List ℕ) →
+            HasTaken S.stands S.piece self.old o pieces text printed →
+            IfOk result (λ next. Advances S.stands S.piece self.new o pieces text printed (between piece.now reached.at next.at)
+            (W.contents out.old.inner) (W.contents out.new.inner)
+            (self.old.gathered ++ between piece.now reached.from reached.at) (self.new.gathered ++ between piece.now next.from next.at)) }
+        ensures stops { (o : Options) → (pieces : List Judged → Judged → List ℕ) → (text : List ℕ) → (printed : List ℕ) →
+            HasTaken S.stands S.piece self.old o pieces text printed →
+            IfErr result (StopsAt o pieces (text ++ drop reached.at piece.now) printed (W.contents out.old.inner) (W.contents out.new.inner)
+            (self.old.gathered ++ between piece.now reached.from reached.at)) }
+        ensures works { OnOk result (out.new.failed ≡ false) }
+        ensures leaves { IfErr result (LeavesOutput out.old out.new self.old.gathered self.new.gathered) }
+        ensures refused { self.new.refused ≡ self.old.refused }
+    {
+        if may_pass(piece, reached) {
+            self.advance_lines(piece, reached, out)
+        } else {
+            self.advance_line(piece, reached, out)
+        }
+    }
+
+    /// Takes as many of the next lines as are seen to be text, all at once. Those that are printed lengthen the run of bytes
+    /// to be written; if they are removed, the run is put, and another one begins after them.
+    ///
+    /// # Errors
+    /// As `advance`; `Write` alone.
+    fn advance_lines<W: Write>(
+        &mut self,
+        piece: &[u8],
+        reached: Reached,
+        out: &mut Watched<W>,
+    ) -> Result<Reached, RunFault>
+        requires works { out.old.failed ≡ false }
+        requires place { IsPlace self.old.lines piece.now reached }
+        requires untried { reached.tried ≡ false }
+        requires some { reached.at < reached.whole }
+        ensures place { IfOk result (λ next. IsPlace self.new.lines piece.now next) }
+        ensures forth { IfOk result (λ next. (reached.at ≤ next.at) × (todo piece.now next < todo piece.now reached)) }
+        ensures taken { (o : Options) → (pieces : List Judged → Judged → List ℕ) → (text : List ℕ) → (printed : List ℕ) →
+            HasTaken S.stands S.piece self.old o pieces text printed →
+            IfOk result (λ next. Advances S.stands S.piece self.new o pieces text printed (between piece.now reached.at next.at)
+            (W.contents out.old.inner) (W.contents out.new.inner)
+            (self.old.gathered ++ between piece.now reached.from reached.at) (self.new.gathered ++ between piece.now next.from next.at)) }
+        ensures stops { (o : Options) → (pieces : List Judged → Judged → List ℕ) → (text : List ℕ) → (printed : List ℕ) →
+            HasTaken S.stands S.piece self.old o pieces text printed →
+            IfErr result (StopsAt o pieces (text ++ drop reached.at piece.now) printed (W.contents out.old.inner) (W.contents out.new.inner)
+            (self.old.gathered ++ between piece.now reached.from reached.at)) }
+        ensures works { OnOk result (out.new.failed ≡ false) }
+        ensures leaves { IfErr result (LeavesOutput out.old out.new self.old.gathered self.new.gathered) }
+        ensures refused { self.new.refused ≡ self.old.refused }
+    {
+        let pending = &piece[reached.from..reached.at];
+        let lines = &piece[reached.at..reached.whole];
+        let passed = self.printer.pass(lines, &mut self.lines);
+        let at = reached.at + passed.count;
+        if passed.kept {
+            return Ok(Reached {
+                from: reached.from,
+                at,
+                whole: reached.whole,
+                tried: true,
+            });
+        }
+        if !self.output.put(pending, out) {
+            return Err(RunFault::Write);
+        }
+        Ok(Reached {
+            from: at,
+            at,
+            whole: reached.whole,
+            tried: true,
+        })
+    }
+
+    /// Takes the next line, or what the piece begins of one.
+    ///
+    /// # Errors
+    /// As `advance`.
+    fn advance_line<W: Write>(
+        &mut self,
+        piece: &[u8],
+        reached: Reached,
+        out: &mut Watched<W>,
+    ) -> Result<Reached, RunFault>
+        requires works { out.old.failed ≡ false }
+        requires place { IsPlace self.old.lines piece.now reached }
+        requires some { reached.at < length piece.now }
+        ensures place { IfOk result (λ next. IsPlace self.new.lines piece.now next) }
+        ensures forth { IfOk result (λ next. (reached.at ≤ next.at) × (todo piece.now next < todo piece.now reached)) }
         ensures taken { (o : Options) → (pieces : List Judged → Judged → List ℕ) → (text : List ℕ) → (printed : List ℕ) →
             HasTaken S.stands S.piece self.old o pieces text printed →
             IfOk result (λ next. Advances S.stands S.piece self.new o pieces text printed (between piece.now reached.at next.at)
@@ -213,13 +368,10 @@ impl<'p, S: Show> Engine<'p, S> {
         let run = &piece[reached.from..reached.at];
         let rest = &piece[reached.at..];
         let Some(line) = self.lines.whole_in(rest) else {
-            return match self.take(rest, run, out) {
-                Err(fault) => Err(fault),
-                Ok(used) => Ok(Reached {
-                    from: reached.at + used,
-                    at: reached.at + used,
-                }),
-            };
+            match self.take(rest, run, out) {
+                Err(fault) => return Err(fault),
+                Ok(used) => return Ok(place_in(&self.lines, piece, reached.at + used)),
+            }
         };
         let end = reached.at + (line.body.len() + line.ending.len());
         let printer = &mut self.printer;
@@ -228,11 +380,18 @@ impl<'p, S: Show> Engine<'p, S> {
             Err(fault) => return Err(fault),
         };
         if put {
-            return Ok(Reached { from: end, at: end });
+            return Ok(Reached {
+                from: end,
+                at: end,
+                whole: reached.whole,
+                tried: false,
+            });
         }
         Ok(Reached {
             from: reached.from,
             at: end,
+            whole: reached.whole,
+            tried: false,
         })
     }
 
@@ -332,6 +491,8 @@ fn print_last<S: Show, W: Write>(
         Fed S.stands S.piece (at_rest symbols.now lines.old printer.old output.old) o pieces text printed →
         IfErr result (EndsIll o pieces out.new.failed (W.contents out.old.inner) (W.contents out.new.inner) text printed) }
     ensures works { OnOk result (out.new.failed ≡ false) }
+    ensures tells { IfErr result (TellsWriter out.new.failed) }
+    ensures limit { lines.new.last_line ≡ lines.old.last_line }
 {
     match lines.close() {
         Err(fault) => Err(RunFault::Text(fault)),

@@ -8,6 +8,7 @@
 mod emitting;
 mod engine;
 mod fault;
+mod gathered;
 mod line_printer;
 mod listing;
 mod output;

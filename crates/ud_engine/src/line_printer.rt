@@ -1,18 +1,23 @@
 //! Reading lines, and printing what is left of them.
 
-ghost use Rattle.std.specs.Prelude.{◌≡◌, ◌∷◌, [], ◌++◌, List, ℕ, IfOk, IfErr, IfSome, IfNone, OnOk, true, false, is_none};
-ghost use Rattle.ud_model.specs.text.Lines.{NoFeed, text_of};
+ghost use Rattle.std.specs.Prelude.{◌≡◌, ◌∷◌, [], ◌++◌, ◌≤◌, List, ℕ, suc, length, take, IfOk, IfErr, IfSome, IfNone, OnOk, true, false, is_none};
+ghost use Rattle.ud_model.specs.text.Lines.{NoFeed, text_of, whole_lines, numbered_from};
 ghost use Rattle.ud_model.specs.text.Scans.{Reading};
 ghost use Rattle.ud_model.specs.sections.Tree.{Item, Tree, closed, nothing};
 ghost use Rattle.ud_model.specs.sections.Items.{Options};
 ghost use Rattle.ud_model.specs.sections.Faults.{end_fault};
 ghost use Rattle.ud_model.specs.answer.Printing.{Judged};
 ghost use Rattle.ud_cond.specs.Standing.{StandsFor};
+ghost use Rattle.ud_model.specs.declared.limits.TheConstants.{TEXT_LINES};
+ghost use Rattle.ud_text.specs.Holding.{Took};
 ghost use Rattle.ud_text.specs.LineViews.{as_line};
+ghost use Rattle.ud_text.specs.Passing.{EndsLine};
+ghost use Rattle.ud_text.specs.Skipping.{CanSkip};
 ghost use Rattle.ud_sections.specs.Limits.{IsWithin};
 ghost use Rattle.ud_sections.specs.Sections.{end_told};
 ghost use Rattle.ud_sections.specs.StepViews.{judged, HoldsKeyword};
-ghost use Rattle.ud_engine.specs.Printing.{ShowsLine, lister_of};
+ghost use Rattle.ud_engine.specs.Printing.{ShowsLine, lister_of, printed_of};
+ghost use Rattle.ud_engine.specs.Reading.{skipped};
 ghost use Rattle.ud_engine.specs.Refusing.{LeavesOutput};
 ghost use Rattle.ud_engine.specs.Watching.{AppendsFront};
 
@@ -23,8 +28,8 @@ use crate::watched::Watched;
 use std::io::Write;
 use ud_cond::Symbols;
 use ud_model::{Listing, Settings};
-use ud_sections::{Lister, SectionFault, Show, Step};
-use ud_text::Line;
+use ud_sections::{Lister, Run, SectionFault, Show, Step};
+use ud_text::{Line, Lines};
 
 /// Reads the lines of a text in order, and prints what is left of each, or lists its names.
 #[derive(Drop)]
@@ -36,6 +41,15 @@ pub(crate) struct LinePrinter<S> {
     lister: Option<Lister>,
     /// Whether what was printed of some line isn't the line itself.
     differs: bool,
+}
+
+/// Lines that were read at once, all of them text.
+#[derive(Clone, Copy)]
+pub(crate) struct Passed {
+    /// How many bytes they have; 0 if none was read.
+    pub(crate) count: usize,
+    /// Whether each of them is printed as it is. Else nothing is printed of them.
+    pub(crate) kept: bool,
 }
 
 /// What lists names, if they are to be listed.
@@ -50,7 +64,7 @@ fn lister_of(listing: Listing) -> Option<Lister>
 }
 
 impl<S: Show> LinePrinter<S> {
-    ghost use Rattle.ud_engine.specs.Printing.{HasPrinted, PrintsLine, PrintFails, differs_in};
+    ghost use Rattle.ud_engine.specs.Printing.{HasPrinted, PrintsLine, PrintFails, PrintsRun, differs_in};
 
     /// Has read no line, and prints by this printer.
     pub(crate) fn new(settings: Settings, printer: S) -> LinePrinter<S>
@@ -149,6 +163,45 @@ impl<S: Show> LinePrinter<S> {
         }
     }
 
+    /// Reads as many of these whole lines, which come next, as are seen to be text, if it is known what is printed of them
+    /// all, and gives them up. Nothing is put.
+    pub(crate) fn pass(&mut self, bytes: &[u8], lines: &mut Lines) -> Passed
+        requires run { CanSkip lines.old bytes.now }
+        requires goes_on { lines.old.closed ≡ false }
+        requires limit { lines.old.last_line ≤ TEXT_LINES }
+        ensures bound { result.count ≤ length bytes.now }
+        ensures ends { EndsLine (take result.count bytes.now) }
+        ensures given_up { lines.new ≡ skipped lines.old (take result.count bytes.now) }
+        ensures stands { (text : List ℕ) → Took lines.old text → Took lines.new (text ++ take result.count bytes.now) }
+        ensures printed { (o : Options) → (piece : List Judged → Judged → List ℕ) → (xs : List (Item Reading)) → (t : Tree Reading) →
+            HasPrinted S.stands S.piece self.old o piece xs t →
+            PrintsRun S.stands S.piece self.new o piece xs t (numbered_from (suc lines.old.before) (whole_lines (take result.count bytes.now)))
+            (printed_of result bytes.now) }
+    {
+        let none = Passed {
+            count: 0,
+            kept: true,
+        };
+        if self.lister.is_some() {
+            return none;
+        }
+        match self.printer.run(self.reader.text_verdict()) {
+            Run::OneByOne => none,
+            Run::Copied => Passed {
+                count: self.reader.pass(bytes, lines),
+                kept: true,
+            },
+            Run::Dropped => {
+                let count = self.reader.pass(bytes, lines);
+                if count == 0 {
+                    return none;
+                }
+                self.differs = true;
+                Passed { count, kept: false }
+            }
+        }
+    }
+
     /// What the end of the text says.
     ///
     /// # Errors
@@ -174,6 +227,7 @@ impl<S: Show> LinePrinter<S> {
 ///
 /// # Errors
 /// `None` if a write fails: a front of all these bytes is written, and `out` has failed.
+#[inline(always)]
 fn show_line<S: Show, W: Write>(
     show: &mut S,
     line: &Line<'_>,

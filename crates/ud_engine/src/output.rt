@@ -5,19 +5,15 @@ ghost use Rattle.std.specs.List.{flat_map};
 ghost use Rattle.ud_engine.specs.Sending.{Puts};
 
 use crate::emitting::emit;
+use crate::gathered::Gathered;
 use crate::watched::Watched;
-use arrayvec::ArrayVec;
 use std::io::Write;
 use std::marker::Model;
-
-/// How many bytes are gathered before they are written: a piece of the input, and a line that was cut by its beginning,
-/// leave in one write.
-const OUTPUT_BYTES: usize = 16_384;
 
 /// What is to be written, and isn't yet.
 #[derive(Drop)]
 pub(crate) struct Output {
-    gathered: ArrayVec<u8, OUTPUT_BYTES>,
+    gathered: Gathered,
 }
 
 impl Model for Output {
@@ -25,7 +21,7 @@ impl Model for Output {
 
     ghost Value = { List ℕ };
 
-    ghost view = { λ o. o.gathered.items };
+    ghost view = { λ o. o.gathered };
 }
 
 impl Output {
@@ -34,7 +30,7 @@ impl Output {
         ensures { result ≡ [] }
     {
         Output {
-            gathered: ArrayVec::new(),
+            gathered: Gathered::new(),
         }
     }
 
@@ -42,18 +38,31 @@ impl Output {
     ///
     /// # Errors
     /// `false` if a write fails: a front of all these bytes is written, and `out` has failed.
+    #[inline(always)]
     pub(crate) fn put<W: Write>(&mut self, bytes: &[u8], out: &mut Watched<W>) -> bool
         requires works { out.old.failed ≡ false }
         ensures puts { Puts result (W.contents out.old.inner) (W.contents out.new.inner) (self.old ++ bytes.now) self.new }
         ensures failed { out.new.failed ≡ not result }
     {
-        if self.gathered.try_extend_from_slice(bytes).is_ok() {
+        if bytes.is_empty() {
+            return true;
+        }
+        self.put_some(bytes, out)
+    }
+
+    /// The same of bytes of which there are some.
+    fn put_some<W: Write>(&mut self, bytes: &[u8], out: &mut Watched<W>) -> bool
+        requires works { out.old.failed ≡ false }
+        ensures puts { Puts result (W.contents out.old.inner) (W.contents out.new.inner) (self.old ++ bytes.now) self.new }
+        ensures failed { out.new.failed ≡ not result }
+    {
+        if self.gathered.push(bytes) {
             return true;
         }
         if !self.write_out(out) {
             return false;
         }
-        if self.gathered.try_extend_from_slice(bytes).is_ok() {
+        if self.gathered.push(bytes) {
             return true;
         }
         emit(out, bytes)

@@ -1,16 +1,21 @@
 //! Lines read one after another, by a scanner and a machine.
 
-ghost use Rattle.std.specs.Prelude.{◌≡◌, ◌∷◌, [], ◌++◌, List, IfOk, IfErr, OnOk, false};
-ghost use Rattle.ud_model.specs.text.Lines.{NoFeed};
+ghost use Rattle.std.specs.Prelude.{◌≡◌, ◌≤◌, ◌+◌, ◌∷◌, [], ◌++◌, ℕ, suc, List, length, take, IfOk, IfErr, OnOk, false};
+ghost use Rattle.ud_model.specs.text.Lines.{NoFeed, whole_lines, numbered_from};
 ghost use Rattle.ud_model.specs.text.Scans.{Reading};
 ghost use Rattle.ud_model.specs.sections.Tree.{Item, Tree, closed, nothing};
 ghost use Rattle.ud_model.specs.sections.Items.{Options, next_item};
 ghost use Rattle.ud_model.specs.sections.Faults.{FaultOf, end_fault};
 ghost use Rattle.ud_cond.specs.Standing.{StandsFor};
+ghost use Rattle.ud_model.specs.declared.limits.TheConstants.{TEXT_LINES};
+ghost use Rattle.ud_text.specs.Holding.{Took};
 ghost use Rattle.ud_text.specs.LineViews.{as_line};
+ghost use Rattle.ud_text.specs.Passing.{EndsLine};
+ghost use Rattle.ud_text.specs.Skipping.{CanSkip};
 ghost use Rattle.ud_sections.specs.Limits.{IsWithin};
 ghost use Rattle.ud_sections.specs.StepViews.{HoldsKeyword};
 ghost use Rattle.ud_sections.specs.Sections.{fault_of, end_told};
+ghost use Rattle.ud_sections.specs.Turning.{text_verdict};
 
 use crate::fault::RunFault;
 use crate::listing::put_names;
@@ -18,9 +23,9 @@ use crate::output::Output;
 use crate::watched::Watched;
 use std::io::Write;
 use ud_cond::Symbols;
-use ud_model::Settings;
+use ud_model::{Settings, Verdict};
 use ud_sections::{Lister, Machine, SectionFault, Step};
-use ud_text::{Line, Scanner};
+use ud_text::{Line, Lines, Scanner};
 
 /// Reads lines, and decides them.
 #[derive(Drop)]
@@ -30,7 +35,7 @@ pub(crate) struct Reader {
 }
 
 impl Reader {
-    ghost use Rattle.ud_engine.specs.Reading.{HasItems, ReadsOne};
+    ghost use Rattle.ud_engine.specs.Reading.{HasItems, ReadsOne, ReadsAll, skipped};
     ghost use Rattle.ud_engine.specs.Listing.{ListsOne, ListFails};
     ghost use Rattle.ud_engine.specs.Refusing.{LeavesOutput};
 
@@ -48,6 +53,7 @@ impl Reader {
     ///
     /// # Errors
     /// The line is faulty.
+    #[inline(always)]
     pub(crate) fn read(&mut self, line: &Line<'_>, symbols: &Symbols) -> Result<Step, SectionFault>
         requires within { IsWithin (as_line line.now) }
         requires one_line { NoFeed line.now.body.now }
@@ -67,6 +73,7 @@ impl Reader {
     /// # Errors
     /// `Section` if the line is faulty: nothing is put. `Write` if a write fails: a front of all bytes to be written up to
     /// the line's is written.
+    #[inline(never)]
     pub(crate) fn list<W: Write>(
         &mut self,
         line: &Line<'_>,
@@ -101,6 +108,36 @@ impl Reader {
             return Err(RunFault::Write);
         }
         Ok(())
+    }
+
+    /// The verdict of the next line, if it is text.
+    pub(crate) fn text_verdict(&self) -> Verdict
+        ensures { result ≡ text_verdict self.now.machine }
+    {
+        self.machine.text_verdict()
+    }
+
+    /// Reads as many of these whole lines, which come next, as are seen to be text, and gives them up. Answers how many
+    /// bytes they have: 0, or up to the end of a line.
+    pub(crate) fn pass(&mut self, bytes: &[u8], lines: &mut Lines) -> usize
+        requires run { CanSkip lines.old bytes.now }
+        requires goes_on { lines.old.closed ≡ false }
+        requires limit { lines.old.last_line ≤ TEXT_LINES }
+        ensures bound { result ≤ length bytes.now }
+        ensures ends { EndsLine (take result bytes.now) }
+        ensures given_up { lines.new ≡ skipped lines.old (take result bytes.now) }
+        ensures stands { (text : List ℕ) → Took lines.old text → Took lines.new (text ++ take result bytes.now) }
+        ensures read { (o : Options) → (xs : List (Item Reading)) → (t : Tree Reading) → HasItems o self.old xs t →
+            ReadsAll o self.new xs t (numbered_from (suc lines.old.before) (whole_lines (take result bytes.now))) (text_verdict self.old.machine) }
+    {
+        let mode = self.machine.mode();
+        let count = self.scanner.pass(mode, bytes);
+        if count == 0 {
+            return 0;
+        }
+        let last = lines.skip(&bytes[..count]);
+        let _ = self.machine.text(last);
+        count
     }
 
     /// What the end of the text says.

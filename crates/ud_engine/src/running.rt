@@ -4,7 +4,7 @@ ghost use Rattle.std.specs.Prelude.{◌≡◌, true, false, Ok, Err, IfSome, IfE
 ghost use Rattle.ud_model.specs.sections.Items.{Options};
 ghost use Rattle.ud_cond.specs.Standing.{StandsFor};
 ghost use Rattle.ud_engine.specs.Ending.{Ran};
-ghost use Rattle.ud_engine.specs.Running.{KeptUp};
+ghost use Rattle.ud_engine.specs.Running.{KeptUp, Went};
 
 use crate::engine::Engine;
 use crate::fault::RunFault;
@@ -39,6 +39,8 @@ pub fn run<R: Read, W: Write>(
         Ran o input (W.contents out.old.inner) (W.contents out.new.inner) result) }
     ensures kept_up { (o : Options) → o.settings ≡ plan.now.settings → StandsFor plan.now.symbols o.table →
         KeptUp o (R.remaining reader.old.inner) (R.remaining reader.new.inner) (W.contents out.old.inner) (W.contents out.new.inner) }
+    ensures went { (o : Options) → o.settings ≡ plan.now.settings → StandsFor plan.now.symbols o.table →
+        Went o (R.remaining reader.old.inner) (R.remaining reader.new.inner) (W.contents out.old.inner) (W.contents out.new.inner) result }
     ensures works { OnOk result ((reader.new.failed ≡ false) × (out.new.failed ≡ false)) }
     ensures read_fails { (reader.new.failed ≡ true → result ≡ Err RunFault.Read) × (result ≡ Err RunFault.Read → reader.new.failed ≡ true) }
     ensures write_fails { (out.new.failed ≡ true → result ≡ Err RunFault.Write) × (result ≡ Err RunFault.Write → out.new.failed ≡ true) }
@@ -48,7 +50,7 @@ pub fn run<R: Read, W: Write>(
     loop {
         match reader.read(&mut buffer) {
             None => return Err(RunFault::Read),
-            Some(0) => return engine.finish(out),
+            Some(0) => return engine.end(out),
             Some(count) => {
                 if let Err(fault) = engine.feed(&buffer[..count], out) {
                     return Err(fault);

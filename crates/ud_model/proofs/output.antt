@@ -17,6 +17,7 @@ pub mod SameShape
 pub mod PrintedPruned
 pub mod SelectedPruned
 pub mod Each
+pub mod ByLength
 pub mod Changed
 pub mod KeywordSizes
 pub mod Edits

@@ -6,6 +6,7 @@ pub mod Heights
 pub mod Soundness
 pub mod FaultStays
 pub mod Counts
+pub mod Keywords
 pub mod KeywordLies
 pub mod Stages
 pub mod Exists

@@ -1,5 +1,6 @@
 -- Lemmas on lines, joined texts and scans.
 pub mod ByteLemmas
+pub mod ByteTables
 pub mod LinesLemmas
 pub mod Pushes
 pub mod Steps

@@ -8,10 +8,11 @@ ghost use Rattle.ud_model.specs.text.Bytes.{is_white, is_digit, is_word_byte, is
 ghost use Rattle.ud_model.specs.answer.Arguments.{is_name};
 
 /// Whether a byte is white space within a line: space, tab, vertical tab, form feed or carriage return.
+#[inline(always)]
 pub fn is_white(byte: u8) -> bool
     ensures { result ≡ is_white byte }
 {
-    matches!(byte, b' ' | b'\t' | b'\x0b' | b'\x0c' | b'\r')
+    byte <= b' ' && matches!(byte, b' ' | b'\t' | b'\x0b' | b'\x0c' | b'\r')
 }
 
 /// Whether a byte is a digit.
@@ -21,11 +22,23 @@ pub fn is_digit(byte: u8) -> bool
     byte.is_ascii_digit()
 }
 
+/// Each letter, digit and underscore at its own place, and a point at every other place.
+static WORD_BYTES: [u8; 256] = *b"\
+    ................................\
+    ................0123456789......\
+    .ABCDEFGHIJKLMNOPQRSTUVWXYZ...._\
+    .abcdefghijklmnopqrstuvwxyz.....\
+    ................................\
+    ................................\
+    ................................\
+    ................................";
+
 /// Whether a byte is a letter, a digit or an underscore.
+#[inline(always)]
 pub fn is_word_byte(byte: u8) -> bool
     ensures { result ≡ is_word_byte byte }
 {
-    byte.is_ascii_alphanumeric() || byte == b'_'
+    WORD_BYTES[byte as usize] != b'.'
 }
 
 /// Whether a text is an identifier: word bytes, at least one, of which the first is no digit.
@@ -53,6 +66,7 @@ pub fn are_word_bytes(bytes: &[u8]) -> bool
 }
 
 /// Whether each byte is white space.
+#[inline(always)]
 pub fn are_white(bytes: &[u8]) -> bool
     ensures { result ≡ are_white bytes.now }
 {
@@ -60,6 +74,7 @@ pub fn are_white(bytes: &[u8]) -> bool
 }
 
 /// The bytes after the white space in front.
+#[inline(always)]
 pub fn past_white(bytes: &[u8]) -> &[u8]
     ensures { result.now ≡ past_white bytes.now }
 {
@@ -74,6 +89,7 @@ pub fn past_white(bytes: &[u8]) -> &[u8]
 }
 
 /// How many word bytes stand in front.
+#[inline(always)]
 pub fn word_len(bytes: &[u8]) -> usize
     ensures bound { result ≤ length bytes.now }
     ensures word { take result bytes.now ≡ word_in_front bytes.now }

@@ -17,7 +17,7 @@ mod settings;
 mod verdict;
 
 pub use cond::Cond;
-pub use kind::{CommentAt, Kind, Mode};
+pub use kind::{CommentAt, Kind, Mode, Role, Test};
 pub use limits::{LINE_BYTES, OPEN_SECTIONS, TEXT_LINES};
 pub use operator::Operator;
 pub use settings::{ExitMode, Listing, Settings};

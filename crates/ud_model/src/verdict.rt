@@ -7,9 +7,10 @@ pub enum Verdict {
     Keep,
     /// It is deleted.
     Remove,
-    /// It is an `#elif` that becomes an `#if`, since no group before it is left.
+    /// It is an `#elif`, `#elifdef` or `#elifndef` that becomes an `#if`, `#ifdef` or `#ifndef`, since no group before it is
+    /// left.
     ToIf,
-    /// It is an `#elif` that becomes an `#else`, since its condition is true.
+    /// It is an `#elif`, `#elifdef` or `#elifndef` that becomes an `#else`, since its condition is true.
     ToElse,
     /// It is the opener after such an `#else`, and becomes the `#endif`.
     ToEndif,

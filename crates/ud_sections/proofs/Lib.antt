@@ -1,5 +1,6 @@
 pub mod JoiningLemmas
 pub mod RenumberLemmas
+pub mod PrintedRuns
 pub mod FindingLemmas
 pub mod PhaseLemmas
 pub mod Moves

@@ -2,7 +2,7 @@
 use Rattle.std.proofs.Common.{◌≡◌, ◌≤◌, List, [], ◌∷◌, ◌++◌, length, true, false, Result, Ok, Err, refl, sym, ◌∙◌, ap, ap₂, subst, arith}
 use Rattle.ud_model.specs.text.Lines.{Line}
 use Rattle.ud_model.specs.text.Scans.{Scan, Reading, is_spanning}
-use Rattle.ud_model.specs.sections.Directives.{Span, Content, cut_keyword, directive, text, content_of}
+use Rattle.ud_model.specs.sections.Directives.{Span, Content, cut_keyword, directive, text, content_of, role_of}
 use Rattle.ud_model.specs.conditions.Conditions.{Decision, decision_on}
 use Rattle.ud_model.specs.conditions.Table.{Argument}
 use Rattle.ud_model.specs.sections.Tree.{Item, Tree, lines, depth}
@@ -10,8 +10,8 @@ use Rattle.ud_model.specs.sections.Pruning.{Mark, marks, is_removed}
 use Rattle.ud_model.specs.sections.Items.{Options, reading_of, line_of, item_by, directive_item, rules_of, mode_after, read_after, next_item}
 use Rattle.ud_model.specs.sections.Faults.{FaultOf, NoneHolds, cases, is_cut, ends_removed, last_number, obfuscated}
 use Rattle.ud_model.specs.answer.Printing.{keyword_in, judged}
-use Rattle.ud_model.specs.declared.kind.Kind as kinds
-use Rattle.ud_model.specs.declared.kind.Kind.TheVariants as kind
+use Rattle.ud_model.specs.declared.kind.Role.{Role}
+use Rattle.ud_model.specs.declared.kind.Role.TheVariants.{IfGroup, ElifGroup, ElseGroup, EndifLine}
 use Rattle.ud_model.specs.declared.limits.TheConstants.{OPEN_SECTIONS}
 use Rattle.ud_model.proofs.sections.FaultStays.{reading_of-item_by}
 use Rattle.ud_model.proofs.sections.Soundness.{reading_of-item_of, reading_of-next, sound_lines}
@@ -36,13 +36,11 @@ use Rattle.ud_sections.proofs.LineFaults.{cut_fault}
 use Rattle.ud_sections.proofs.Moves.{mark_of, innermost_level, depth_levels}
 use Rattle.ud_sections.proofs.Judgements.{before_next, IsSeen, Follows, judged_well, judged_ill}
 
-shape_of_kind : (r : Reading) (k : kinds.Kind) (d : Decision) → shape_of (directive_item r k d) ≡ shape_in k d
-shape_of_kind r kind.If d = refl
-shape_of_kind r kind.Ifdef d = refl
-shape_of_kind r kind.Ifndef d = refl
-shape_of_kind r kind.Elif d = refl
-shape_of_kind r kind.Else d = refl
-shape_of_kind r kind.Endif d = refl
+shape_of_role : (r : Reading) (p : Role) (d : Decision) → shape_of (directive_item r p d) ≡ shape_in p d
+shape_of_role r IfGroup d = refl
+shape_of_role r ElifGroup d = refl
+shape_of_role r ElseGroup d = refl
+shape_of_role r EndifLine d = refl
 
 -- what is seen of a line that carries this
 pub record SeenOn (o : Options) (r : Reading) (c : Content) (s : Seen) : Type 0 where
@@ -57,11 +55,11 @@ module _ (o : Options) (r : Reading) where
       let q : seen_with r.scan (record { at = 0; len = 0 }) (shape_of (item_by o r text)) ≡ s = cc in
       subst (SeenOn o r text) q (record { seen = record { shape = refl; spans = refl; joins = refl }; whole = refl; keyword = refl })
   seen_well (directive d) s e =
-      let q : seen_with r.scan d.keyword (shape_in d.kind (decision_on r.scan d o.table (rules_of o.settings))) ≡ s = cc in
+      let q : seen_with r.scan d.keyword (shape_in (role_of d.kind) (decision_on r.scan d o.table (rules_of o.settings))) ≡ s = cc in
       let k : reading_of (item_by o r (directive d)) ≡ r = reading_of-item_by o r (directive d) in
       subst (SeenOn o r (directive d)) q (record {
         seen = record {
-          shape = sym (shape_of_kind r d.kind (decision_on r.scan d o.table (rules_of o.settings)));
+          shape = sym (shape_of_role r (role_of d.kind) (decision_on r.scan d o.table (rules_of o.settings)));
           spans = ap (λ (v : Reading). is_spanning v.scan) (sym k);
           joins = ap (λ (v : Reading). v.scan.joins_before) (sym k);
         };

@@ -1,6 +1,7 @@
 pub mod Joining
 pub mod StepViews
 pub mod Styles
+pub mod Runs
 pub mod Printers
 pub mod Finding
 pub mod Listing

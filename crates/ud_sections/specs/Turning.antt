@@ -1,8 +1,10 @@
 -- Turning: what the machine answers to the next line.
 --
 --   before_in m             what stands before the line
+--   text_verdict m          what becomes of the line, if it is text
 --   turned before n seen    what becomes of a line of number n of which this is kept; one whose keyword is cut is faulty
 use Rattle.std.specs.Prelude.{ℕ, length, Result, Ok, Err}
+use Rattle.ud_model.specs.declared.verdict.Verdict.{Verdict}
 use Rattle.ud_sections.specs.declared.fault.SectionFault.{SectionFault}
 use Rattle.ud_sections.specs.declared.fault.SectionFault.TheVariants.{Obfuscated}
 use Rattle.ud_sections.specs.declared.found.Cut.{Cut}
@@ -12,6 +14,7 @@ use Rattle.ud_sections.specs.declared.machine.Machine.{Machine}
 use Rattle.ud_sections.specs.declared.machine.Turn.{Turn}
 use Rattle.ud_sections.specs.declared.seeing.Seen.{Seen}
 use Rattle.ud_sections.specs.declared.step.Span.{Span}
+use Rattle.ud_sections.specs.Acting.{kept_at, text_action}
 use Rattle.ud_sections.specs.Changing.{last_of}
 use Rattle.ud_sections.specs.Judging.{judged_by}
 
@@ -22,6 +25,10 @@ before_in m = record {
   depth = length m.open_sections.items;
   removed = m.removed;
 }
+
+-- a text line is kept or removed by the innermost open section
+abbrev pub text_verdict : Machine → Verdict
+text_verdict m = (text_action (kept_at (last_of m.open_sections.items))).verdict
 
 -- with the place of the keyword
 abbrev pub turn_with : Span → Result Action SectionFault → Result Turn SectionFault

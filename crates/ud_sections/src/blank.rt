@@ -1,8 +1,10 @@
 //! Printing removed lines as blank ones.
 
 use crate::pieces::Pieces;
+use crate::run::Run;
 use crate::show::Show;
 use crate::step::Step;
+use ud_model::Verdict;
 use ud_text::Line;
 
 /// A printer by which of a removed line its ending is left (unifdef(1), `-b`).
@@ -31,5 +33,12 @@ impl Show for Blank {
 
     fn pieces<'a>(&'a mut self, line: &Line<'a>, step: Step) -> Pieces<'a> {
         Pieces::alone(line, step, line.ending)
+    }
+
+    fn run(&self, verdict: Verdict) -> Run {
+        match verdict {
+            Verdict::Keep => Run::Copied,
+            _ => Run::OneByOne,
+        }
     }
 }

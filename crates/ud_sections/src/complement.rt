@@ -4,6 +4,7 @@ ghost use Rattle.std.specs.Prelude.{◌≡◌};
 ghost use Rattle.ud_model.specs.answer.Printing.{turned};
 
 use crate::pieces::Pieces;
+use crate::run::Run;
 use crate::show::Show;
 use crate::step::Step;
 use ud_model::Verdict;
@@ -41,6 +42,10 @@ impl<S: Show> Show for Complement<S> {
             keyword: step.keyword,
         };
         self.inner.pieces(line, turned)
+    }
+
+    fn run(&self, verdict: Verdict) -> Run {
+        self.inner.run(complement_of(verdict))
     }
 }
 

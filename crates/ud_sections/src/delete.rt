@@ -1,8 +1,10 @@
 //! Printing what is kept.
 
 use crate::pieces::Pieces;
+use crate::run::Run;
 use crate::show::Show;
 use crate::step::Step;
+use ud_model::Verdict;
 use ud_text::Line;
 
 /// A printer by which removed lines are deleted (unifdef(1), without options).
@@ -29,7 +31,16 @@ impl Show for Delete {
 
     ghost piece = { λ d. piece_behind plain_style };
 
+    #[inline(always)]
     fn pieces<'a>(&'a mut self, line: &Line<'a>, step: Step) -> Pieces<'a> {
         Pieces::alone(line, step, &[])
+    }
+
+    fn run(&self, verdict: Verdict) -> Run {
+        match verdict {
+            Verdict::Keep => Run::Copied,
+            Verdict::Remove => Run::Dropped,
+            _ => Run::OneByOne,
+        }
     }
 }

@@ -3,7 +3,7 @@
 /// Why a text has no right sections.
 #[derive(Clone, Copy, Debug, PartialEq, Eq)]
 pub enum SectionFault {
-    /// An `#elif` outside a section, or after its `#else`.
+    /// An `#elif`, `#elifdef` or `#elifndef` outside a section, or after its `#else`.
     InappropriateElif {
         /// The number of its line.
         line: u32,

@@ -26,6 +26,7 @@ pub(crate) struct Before {
 /// # Errors
 /// The first of the cases in which the line is faulty: it is a directive out of its place, it opens one section too
 /// many, or it is a directive that spans lines and would have to be edited or removed.
+#[inline(always)]
 pub(crate) fn judge(before: Before, seen: Seen, number: u32) -> Result<Action, SectionFault>
     ensures { result ≡ judged_by before seen number }
 {

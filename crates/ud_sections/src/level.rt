@@ -80,6 +80,7 @@ impl Level {
     }
 
     /// What becomes of the next group's opener, and the section after it.
+    #[inline(always)]
     fn open(self, part: Part, cond: Cond) -> (Verdict, Level)
         ensures verdict { result.0 ≡ opener_verdict_in self.phase (part_of part) cond }
         ensures level { result.1 ≡ opened_level self (part_of part) cond }
@@ -95,6 +96,7 @@ impl Level {
     }
 
     /// What becomes of another opener; none may follow an `#else`.
+    #[inline(always)]
     fn opener_action(self, part: Part, cond: Cond) -> Option<Action>
         ensures { result ≡ opener_action self (part_of part) cond }
     {
@@ -110,6 +112,7 @@ impl Level {
     }
 
     /// What becomes of the section's `#endif`.
+    #[inline(always)]
     fn endif_action(self) -> Action
         ensures { result ≡ endif_action self }
     {
@@ -143,6 +146,7 @@ impl Place {
     }
 
     /// What becomes of a text line.
+    #[inline(always)]
     pub(crate) fn text_action(self) -> Action
         ensures { result ≡ text_action (kept_at self.section) }
     {
@@ -155,6 +159,7 @@ impl Place {
     }
 
     /// What becomes of a section's first directive.
+    #[inline(always)]
     fn if_action(self, cond: Cond, ignoring: bool, number: u32) -> Action
         ensures { result ≡ if_action (kept_at self.section) (plain_at self.plain self.section) cond ignoring number }
     {
@@ -169,6 +174,7 @@ impl Place {
     }
 
     /// What becomes of a line of this shape and number; `None` if it is a directive out of its place.
+    #[inline(always)]
     pub(crate) fn act(self, shape: Shape, number: u32) -> Option<Action>
         ensures { result ≡ act self.plain self.section shape number }
     {

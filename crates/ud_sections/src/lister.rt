@@ -51,9 +51,10 @@ impl Lister {
         }
     }
 
-    /// The names of a line that is seen so, in order and with repeats, where it is an `#if`, `#ifdef`, `#ifndef` or
-    /// `#elif` that no continuation cuts, and its text is understood; no names where it is not. The masked line has at
-    /// most `LINE_BYTES`, as each has that `Scanner::read` gives. Takes no memory.
+    /// The names of a line that is seen so, in order and with repeats, where it is a directive with a condition (an `#if`,
+    /// `#ifdef`, `#ifndef`, `#elif`, `#elifdef` or `#elifndef`) that no continuation cuts, and its text is understood; no
+    /// names where it is not. The masked line has at most `LINE_BYTES`, as each has that `Scanner::read` gives. Takes no
+    /// memory.
     pub fn names<'a>(scan: &Scan<'a>) -> Names<'a>
         requires fits { length scan.now.masked.now ≤ LINE_BYTES }
         ensures { result ≡ names_in_content (content_of (as_scan scan.now)) }

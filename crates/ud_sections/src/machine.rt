@@ -8,7 +8,7 @@ ghost use Rattle.std.specs.Prelude.{◌≡◌, ◌≤◌, ◌<◌, ◌+◌, ◌�
 ghost use Rattle.arrayvec.specs.ArrayVec.{array_vec_len};
 ghost use Rattle.ud_model.specs.text.Scans.{Reading};
 ghost use Rattle.ud_model.specs.sections.Tree.{Item, Tree, text_line, closed, nothing, depth};
-ghost use Rattle.ud_model.specs.sections.Directives.{content_of};
+ghost use Rattle.ud_model.specs.sections.Directives.{content_of, past_sign};
 ghost use Rattle.ud_model.specs.conditions.Table.{Argument};
 ghost use Rattle.ud_model.specs.sections.Items.{Options, mode_after, next_item, rules_of};
 ghost use Rattle.ud_model.specs.sections.Faults.{FaultOf, ends_in_comment, end_fault, last_number};
@@ -22,7 +22,7 @@ ghost use Rattle.ud_model.specs.sections.Pruning.{is_removed};
 ghost use Rattle.ud_sections.specs.Judging.{is_push};
 
 use crate::fault::SectionFault;
-use crate::finding::is_plainly_text;
+use crate::finding::sign_on;
 use crate::judging::{Before, judge};
 use crate::level::{Change, Level, Place};
 use crate::seeing::see;
@@ -58,7 +58,7 @@ pub struct Machine {
 
 impl Machine {
     ghost use Rattle.ud_sections.specs.Sections.{HasRead, ComesNext, ReadsLine, AreText, ReadsText, refusal, refused_with, fault_of, end_told};
-    ghost use Rattle.ud_sections.specs.Turning.{before_in, turned};
+    ghost use Rattle.ud_sections.specs.Turning.{before_in, turned, text_verdict};
     ghost use Rattle.ud_sections.specs.Acting.{kept_at, text_action};
     ghost use Rattle.ud_sections.specs.Seeing.{seen_on};
     ghost use Rattle.ud_sections.specs.Ending.{end_in};
@@ -96,6 +96,14 @@ impl Machine {
         self.open_sections.len()
     }
 
+    /// The verdict of the next line, if it is text.
+    pub fn text_verdict(&self) -> Verdict
+        ensures value { result ≡ text_verdict self.now }
+        ensures fits { array_vec_len self.now.open_sections ≤ OPEN_SECTIONS }
+    {
+        self.place().text_action().verdict
+    }
+
     /// Reads the next line, and tells what becomes of it. Lines that follow never count.
     ///
     /// The scan is that of the line after the lines before it, read in the mode that `mode` gives. The line's number and
@@ -105,6 +113,7 @@ impl Machine {
     /// The line is faulty; the first of these cases counts. The keyword of its directive can't be known; it is a directive
     /// out of its place; it opens one section too many; it is a directive that spans lines and would have to be edited or
     /// removed. The open sections stay as they are, and every later `step` and `finish` answers the same.
+    #[inline(always)]
     pub fn step(
         &mut self,
         scan: &Scan<'_>,
@@ -129,13 +138,13 @@ impl Machine {
         if let Some(fault) = self.refused {
             return Err(fault);
         }
-        if is_plainly_text(scan) {
+        let Some(behind) = sign_on(scan) else {
             return Ok(Step {
                 verdict: self.read_text(line.number),
                 keyword: Span { at: 0, len: 0 },
             });
-        }
-        match self.turn(scan, line.number, symbols) {
+        };
+        match self.turn(scan, behind, line.number, symbols) {
             Ok(turn) => {
                 change(&mut self.open_sections, turn.change);
                 self.removed = turn.step.verdict.is_removed();
@@ -169,6 +178,7 @@ impl Machine {
         ensures value { (o : Options) → (xs : List (Item Reading)) → (t : Tree Reading) → HasRead self.old o xs t →
             (r : Reading) → (rs : List Reading) → AreText o (mode_after o t) xs (r ∷ rs) → last ≡ last_number (xs ++ map text_line (r ∷ rs)) →
             ReadsText self.new o xs t (r ∷ rs) result }
+        ensures verdict { result ≡ text_verdict self.old }
         ensures refusal { refusal self.new ≡ refusal self.old }
     {
         self.read_text(last)
@@ -176,11 +186,11 @@ impl Machine {
 
     /// Reads text lines, the last of which has this number, and tells their verdict.
     fn read_text(&mut self, last: u32) -> Verdict
-        ensures value { result ≡ (text_action (kept_at (last_of self.old.open_sections.items))).verdict }
+        ensures value { result ≡ text_verdict self.old }
         ensures rest { self.new ≡ record self.old { removed = is_removed result; last = last } }
         ensures fits { array_vec_len self.old.open_sections ≤ OPEN_SECTIONS }
     {
-        let verdict = self.place().text_action().verdict;
+        let verdict = self.text_verdict();
         self.removed = verdict.is_removed();
         self.last = last;
         verdict
@@ -197,9 +207,17 @@ impl Machine {
         }
     }
 
-    /// What becomes of the next line, and what it does to the open sections.
-    fn turn(&self, scan: &Scan<'_>, number: u32, symbols: &Symbols) -> Result<Turn, SectionFault>
-        requires { length scan.now.masked.now ≤ LINE_BYTES }
+    /// What becomes of the next line, of which this follows the `#`, and what it does to the open sections.
+    #[inline(always)]
+    fn turn<'a>(
+        &self,
+        scan: &Scan<'a>,
+        behind: &'a [u8],
+        number: u32,
+        symbols: &Symbols,
+    ) -> Result<Turn, SectionFault>
+        requires fits { length scan.now.masked.now ≤ LINE_BYTES }
+        requires behind { past_sign scan.now.masked.now ≡ Some behind.now }
         ensures value { (calls : List Argument) → StandsFor symbols.now calls →
             result ≡ turned (before_in self.now) number (seen_on (as_scan scan.now) calls (rules_of self.now.settings) (content_of (as_scan scan.now))) }
         ensures place { IfOk result (λ turn. turn.step.keyword.at + turn.step.keyword.len ≤ length scan.now.masked.now) }
@@ -211,7 +229,7 @@ impl Machine {
             depth: self.open_sections.len(),
             removed: self.removed,
         };
-        let Ok(seen) = see(scan, symbols, self.settings) else {
+        let Ok(seen) = see(scan, behind, symbols, self.settings) else {
             return Err(SectionFault::Obfuscated { line: number });
         };
         let action = judge(before, seen, number)?;
@@ -244,6 +262,7 @@ impl Machine {
 }
 
 /// Does to the open sections what a line does.
+#[inline(always)]
 fn change(open_sections: &mut ArrayVec<Level, OPEN_SECTIONS>, change: Change)
     requires fits { array_vec_len open_sections.old ≤ OPEN_SECTIONS }
     requires room { IsTrue (is_push change) → array_vec_len open_sections.old < OPEN_SECTIONS }

@@ -11,7 +11,7 @@ use ud_model::{Cond, Verdict};
 pub(crate) enum Part {
     /// `#if`, `#ifdef` or `#ifndef`.
     AnIf,
-    /// `#elif`.
+    /// `#elif`, `#elifdef` or `#elifndef`.
     AnElif,
     /// `#else`.
     AnElse,
@@ -45,6 +45,7 @@ impl Phase {
     }
 
     /// The table of a section: what becomes of the next group's opener, and the phase after it.
+    #[inline(always)]
     pub(crate) fn open(self, part: Part, cond: Cond) -> (Verdict, Phase)
         ensures verdict { result.0 ≡ opener_verdict_in self (part_of part) cond }
         ensures phase { result.1 ≡ next_phase self cond }

@@ -3,6 +3,7 @@
 ghost use Rattle.std.specs.Prelude.{◌≡◌, ◌≤◌, bytes_eq};
 ghost use Rattle.std.specs.List.{flat_map};
 ghost use Rattle.ud_model.specs.text.Lines.{text_of};
+ghost use Rattle.ud_model.specs.answer.Printing.{if_word};
 ghost use Rattle.ud_text.specs.LineViews.{as_line};
 
 use crate::step::Step;
@@ -21,6 +22,18 @@ pub struct Pieces<'a> {
     ghost few: { count ≤ 5 },
 }
 
+/// What stands in place of a keyword of this length in a directive that becomes the first one of its section: `ifdef` for
+/// `elifdef`, `ifndef` for `elifndef`, else `if`, each with two spaces for the bytes that are lost.
+fn if_word<'a>(len: usize) -> &'a [u8]
+    ensures { result.now ≡ if_word len }
+{
+    match len {
+        7 => b"ifdef  ",
+        8 => b"ifndef  ",
+        _ => b"if  ",
+    }
+}
+
 impl<'a> Pieces<'a> {
     ghost use Rattle.std.specs.Prelude.{◌+◌, ◌++◌, length, take, if◌then◌else◌};
     ghost use Rattle.ud_model.specs.answer.Printing.{piece_by};
@@ -29,6 +42,7 @@ impl<'a> Pieces<'a> {
     ghost use Rattle.ud_sections.specs.StepViews.{as_span, HoldsKeyword};
 
     /// The first `count` of these parts, printed in place of a line.
+    #[inline(always)]
     fn new(slices: [&'a [u8]; 5], count: usize, line: &Line<'_>) -> Pieces<'a>
         requires few { count ≤ 5 }
         ensures parts { joined result ≡ flat_map (λ s. s.now) (take count slices.entry) }
@@ -44,6 +58,7 @@ impl<'a> Pieces<'a> {
     }
 
     /// A line as it is.
+    #[inline(always)]
     fn whole(line: &Line<'a>) -> Pieces<'a>
         ensures parts { joined result ≡ text_of (as_line line.now) }
         ensures count { count_of result ≡ 2 }
@@ -57,6 +72,7 @@ impl<'a> Pieces<'a> {
     }
 
     /// What a line's step leaves of it by itself, with `blank` in place of a line that is removed.
+    #[inline(always)]
     pub(crate) fn alone(line: &Line<'a>, step: Step, blank: &'a [u8]) -> Pieces<'a>
         requires keyword { HoldsKeyword step line.now }
         ensures parts { joined result ≡ (if is_removed step.verdict then blank.now else piece_by step.verdict (as_span step.keyword) (as_line line.now)) }
@@ -69,7 +85,8 @@ impl<'a> Pieces<'a> {
             Verdict::ToIf => {
                 let before = &line.body[..step.keyword.at];
                 let behind = &line.body[step.keyword.at + step.keyword.len..];
-                Pieces::new([before, b"if  ", behind, line.ending, &[]], 4, line)
+                let word = if_word(step.keyword.len);
+                Pieces::new([before, word, behind, line.ending, &[]], 4, line)
             }
             Verdict::ToElse => {
                 let before = &line.body[..step.keyword.at];
@@ -110,12 +127,16 @@ impl<'a> Pieces<'a> {
 }
 
 /// Whether these parts joined are a line with its ending.
+#[inline(always)]
 fn is_joined(parts: &[&[u8]], line: &Line<'_>) -> bool
     ensures { result ≡ bytes_eq (flat_map (λ p. p.now) parts.now) (text_of (as_line line.now)) }
 {
     let mut body = line.body;
     let mut ending = line.ending;
     for part in parts {
+        if part.is_empty() {
+            continue;
+        }
         let (in_body, in_ending) = part.split_at(part.len().min(body.len()));
         match body.strip_prefix(in_body) {
             Some(rest) => body = rest,

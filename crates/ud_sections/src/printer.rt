@@ -5,9 +5,10 @@ use crate::complement::Complement;
 use crate::delete::Delete;
 use crate::pieces::Pieces;
 use crate::renumber::Renumber;
+use crate::run::Run;
 use crate::show::Show;
 use crate::step::Step;
-use ud_model::Settings;
+use ud_model::{Settings, Verdict};
 use ud_text::Line;
 
 /// One of the printers.
@@ -55,6 +56,7 @@ impl Show for Printer {
 
     ghost piece = { printer_piece };
 
+    #[inline(never)]
     fn pieces<'a>(&'a mut self, line: &Line<'a>, step: Step) -> Pieces<'a> {
         match self {
             Printer::Deletes(printer) => printer.pieces(line, step),
@@ -63,6 +65,17 @@ impl Show for Printer {
             Printer::ComplementDeletes(printer) => printer.pieces(line, step),
             Printer::ComplementBlanks(printer) => printer.pieces(line, step),
             Printer::ComplementRenumbers(printer) => printer.pieces(line, step),
+        }
+    }
+
+    fn run(&self, verdict: Verdict) -> Run {
+        match self {
+            Printer::Deletes(printer) => printer.run(verdict),
+            Printer::Blanks(printer) => printer.run(verdict),
+            Printer::Renumbers(printer) => printer.run(verdict),
+            Printer::ComplementDeletes(printer) => printer.run(verdict),
+            Printer::ComplementBlanks(printer) => printer.run(verdict),
+            Printer::ComplementRenumbers(printer) => printer.run(verdict),
         }
     }
 }

@@ -6,10 +6,12 @@ ghost use Rattle.ud_text.specs.LineViews.{as_line};
 
 use crate::appending::append;
 use crate::pieces::Pieces;
+use crate::run::Run;
 use crate::show::Show;
 use crate::step::Step;
 use arrayvec::ArrayVec;
 use itoa::Buffer;
+use ud_model::Verdict;
 use ud_text::Line;
 
 /// The most bytes of a `#line` directive: its keyword, a space, ten digits and an ending.
@@ -61,6 +63,14 @@ impl Show for Renumber {
         }
         write_number_line(&mut self.number_line, line);
         alone.behind(self.number_line.as_slice(), line)
+    }
+
+    fn run(&self, verdict: Verdict) -> Run {
+        match verdict {
+            Verdict::Keep if !self.removed => Run::Copied,
+            Verdict::Remove if self.removed => Run::Dropped,
+            _ => Run::OneByOne,
+        }
     }
 }
 

@@ -1,8 +1,8 @@
 //! What is kept of a line while it is judged.
 
-ghost use Rattle.std.specs.Prelude.{◌≡◌, ◌≤◌, ◌+◌, List, length, IfOk};
+ghost use Rattle.std.specs.Prelude.{◌≡◌, ◌≤◌, ◌+◌, List, length, IfOk, Some};
 ghost use Rattle.ud_model.specs.text.Scans.{is_spanning};
-ghost use Rattle.ud_model.specs.sections.Directives.{content_of};
+ghost use Rattle.ud_model.specs.sections.Directives.{content_of, past_sign};
 ghost use Rattle.ud_model.specs.conditions.Conditions.{decision_on};
 ghost use Rattle.ud_model.specs.sections.Items.{rules_of};
 ghost use Rattle.ud_model.specs.conditions.Table.{Argument};
@@ -13,12 +13,12 @@ ghost use Rattle.ud_text.specs.LineViews.{as_scan};
 ghost use Rattle.ud_sections.specs.Finding.{as_directive};
 ghost use Rattle.ud_sections.specs.Seeing.{shape_in, seen_on};
 
-use crate::finding::directive;
+use crate::finding::directive_behind;
 use crate::found::{Cut, Directive};
 use crate::shape::Shape;
 use crate::step::Span;
 use ud_cond::{Answer, Rules, Symbols, condition};
-use ud_model::{Cond, Kind, Settings};
+use ud_model::{Cond, Role, Settings};
 use ud_text::Scan;
 
 /// What is kept of a line while it is judged.
@@ -34,18 +34,25 @@ pub(crate) struct Seen {
     pub joins_before: bool,
 }
 
-/// What is kept of a line with this scan, with what the symbols decide of its condition.
+/// What is kept of a line with this scan, of which this follows the `#`, with what the symbols decide of its condition.
 ///
 /// # Errors
 /// The keyword of its directive can't be known.
-pub(crate) fn see(scan: &Scan<'_>, symbols: &Symbols, settings: Settings) -> Result<Seen, Cut>
-    requires { length scan.now.masked.now ≤ LINE_BYTES }
+#[inline(always)]
+pub(crate) fn see<'a>(
+    scan: &Scan<'a>,
+    behind: &'a [u8],
+    symbols: &Symbols,
+    settings: Settings,
+) -> Result<Seen, Cut>
+    requires fits { length scan.now.masked.now ≤ LINE_BYTES }
+    requires behind { past_sign scan.now.masked.now ≡ Some behind.now }
     ensures value { (calls : List Argument) → StandsFor symbols.now calls → result ≡ seen_on (as_scan scan.now) calls (rules_of settings) (content_of (as_scan scan.now)) }
     ensures place { IfOk result (λ seen. seen.keyword.at + seen.keyword.len ≤ length scan.now.masked.now) }
 {
-    let (shape, keyword) = match directive(scan)? {
+    let (shape, keyword) = match directive_behind(scan, behind)? {
         Some(found) => (
-            shape_in(found.kind, decide(scan, &found, symbols, settings)),
+            shape_in(found.kind.role(), decide(scan, &found, symbols, settings)),
             found.keyword,
         ),
         None => (Shape::Text, Span { at: 0, len: 0 }),
@@ -67,6 +74,7 @@ fn spans(scan: &Scan<'_>) -> bool
 
 /// What the symbols decide of a line's directive: a broken one is undecided, and one that joins the next line opens no
 /// section that is plain text.
+#[inline(always)]
 fn decide(scan: &Scan<'_>, found: &Directive<'_>, symbols: &Symbols, settings: Settings) -> Answer
     requires { length found.now.after.now ≤ LINE_BYTES }
     ensures { (calls : List Argument) → StandsFor symbols.now calls →
@@ -95,17 +103,18 @@ fn rules_of(settings: Settings) -> Rules
     }
 }
 
-/// What a directive of this kind is among the sections, with what is decided of it.
-fn shape_in(kind: Kind, answer: Answer) -> Shape
-    ensures { result ≡ shape_in kind (as_decision answer) }
+/// What a directive with this role is among the sections, with what is decided of it.
+#[inline(always)]
+fn shape_in(role: Role, answer: Answer) -> Shape
+    ensures { result ≡ shape_in role (as_decision answer) }
 {
-    match kind {
-        Kind::If | Kind::Ifdef | Kind::Ifndef => Shape::If {
+    match role {
+        Role::IfGroup => Shape::If {
             cond: answer.cond,
             ignoring: answer.ignoring,
         },
-        Kind::Elif => Shape::Elif { cond: answer.cond },
-        Kind::Else => Shape::Else,
-        Kind::Endif => Shape::Endif,
+        Role::ElifGroup => Shape::Elif { cond: answer.cond },
+        Role::ElseGroup => Shape::Else,
+        Role::EndifLine => Shape::Endif,
     }
 }

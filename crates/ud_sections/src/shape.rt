@@ -9,7 +9,7 @@ pub(crate) enum Shape {
     Text,
     /// `#if`, `#ifdef` or `#ifndef`, and whether its section is plain text.
     If { cond: Cond, ignoring: bool },
-    /// `#elif`.
+    /// `#elif`, `#elifdef` or `#elifndef`.
     Elif { cond: Cond },
     /// `#else`.
     Else,

@@ -7,10 +7,13 @@ ghost use Rattle.ud_model.specs.text.Lines.{text_of};
 ghost use Rattle.ud_model.specs.answer.Printing.{Judged};
 ghost use Rattle.ud_text.specs.LineViews.{as_line};
 ghost use Rattle.ud_sections.specs.Joining.{joined, is_same};
+ghost use Rattle.ud_sections.specs.Runs.{RunsAs};
 ghost use Rattle.ud_sections.specs.StepViews.{judged, HoldsKeyword};
 
 use crate::pieces::Pieces;
+use crate::run::Run;
 use crate::step::Step;
+use ud_model::Verdict;
 use ud_text::Line;
 
 /// A printer: it is given the lines of a text in order, each with its step, and says what is printed of each.
@@ -32,4 +35,12 @@ pub trait Show: Drop {
         ensures* after { sem 𝓛 (Rests Self.row self.entry (λ new.
             ((before : List Judged) → stands self.entry.now before → stands new (before ++ judged line.now step ∷ []))
             × ((before : List Judged) (j : Judged) → piece new before j ≡ piece self.entry.now before j))) };
+
+    /// What is printed of the next lines, as many as come, if all of them are text with this verdict. They needn't be
+    /// given then: the printer stands for them as it is.
+    fn run(&self, verdict: Verdict) -> Run
+        ensures run { RunsAs (stands self.now) (piece self.now) verdict result }
+    {
+        Run::OneByOne
+    }
 }

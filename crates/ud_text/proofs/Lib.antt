@@ -1,5 +1,6 @@
 pub mod MarkLemmas
 pub mod LaneLemmas
+pub mod SpecialLemmas
 pub mod PairLemmas
 pub mod FeedLemmas
 pub mod HoldingLemmas
@@ -14,5 +15,7 @@ pub mod SpanLemmas
 pub mod LookLemmas
 pub mod ProgressLemmas
 pub mod SkipLemmas
+pub mod SignLemmas
 pub mod BlockLemmas
 pub mod StepLemmas
+mod NearFeeds

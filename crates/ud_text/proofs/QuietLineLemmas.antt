@@ -10,12 +10,13 @@ use Rattle.ud_model.specs.text.Splicing.{is_spliced, is_empty, content, stays_op
 use Rattle.ud_model.specs.text.Scanning.{is_block, comment_at, scan_after, next_reading, readings_after}
 use Rattle.ud_model.specs.aids.Places.{Place, in_text, at_slash, in_block, at_star, in_line, in_literal, at_backslash, next, whitens, place_kind, fresh_at, closed_place, closed_white, Masks}
 use Rattle.ud_model.specs.sections.Directives.{content_of, text, is_cut_off, is_outside, past_sign}
+use Rattle.ud_model.specs.declared.kind.Mode.{Mode}
 use Rattle.ud_model.specs.declared.kind.Mode.TheVariants.{C}
 use Rattle.ud_model.proofs.text.LinesLemmas.{AreWhole, body-ending, parts_joined, are_whole}
 use Rattle.ud_model.proofs.text.ScanLaws.{place_after, white_after, masked_after, Masks-append}
 use Rattle.ud_model.proofs.text.ScanLemmas.{Masks-start}
 use Rattle.ud_text.specs.Carrying.{Carried, Carries}
-use Rattle.ud_text.specs.Passing.{coded, AreText, EndsLine, PassesText}
+use Rattle.ud_text.specs.Passing.{lines_in, AreText, EndsLine, PassesText}
 use Rattle.ud_text.specs.States.{line_state, State, state_after, is_other_name, Passed, IsQuiet, can_start, ignores_splice}
 use Rattle.ud_text.proofs.RunLemmas.{no_feed-take}
 use Rattle.ud_text.proofs.CarryLemmas.{scan_carried, carries_code, no_feed-content}
@@ -299,8 +300,8 @@ module _ (w : Place) (white : Bool) (before : List Reading) (line : Line) (bytes
 
 -- lines that are read quietly are text, and leave this state
 pub record QuietLines (before : List Reading) (n : ℕ) (ls : List (List ℕ)) (now : State) : Type 0 where
-  pub stands : Carries (carried_at now.place now.white) (readings_after before (coded n ls))
-  pub texts : AreText before (numbered_from n ls)
+  pub stands : Carries (carried_at now.place now.white) (readings_after before (lines_in C n ls))
+  pub texts : AreText C before (numbered_from n ls)
 
 -- lines that are read quietly, one after another
 pub lines_read : (ls : List (List ℕ)) (n : ℕ) (w : Place) (white : Bool) (before : List Reading) → AreWhole ls → begins_line w ≡ true →
@@ -323,7 +324,7 @@ lines_read (l ∷ ls) n w white before whole at quiet carried =
     let there : state_after (line_state now.place now.white) (concat ls) ≡ state_after (line_state w white) (l ++ concat ls) =
     ap (λ (s : State). state_after s (concat ls)) (sym ran.at_next) ∙ sym (state_after-append (line_state w white) l (concat ls)) in
     record {
-      stands = subst (λ (s : State). Carries (carried_at s.place s.white) (readings_after (before ++ next_reading before C (line_at n l) ∷ []) (coded (suc n) ls))) there more.stands;
+      stands = subst (λ (s : State). Carries (carried_at s.place s.white) (readings_after (before ++ next_reading before C (line_at n l) ∷ []) (lines_in C (suc n) ls))) there more.stands;
       texts = (ran.is_text, more.texts);
     }
 
@@ -333,22 +334,22 @@ ended_lines bytes e = parts_joined bytes ∙ ap (λ (r : List ℕ). concat (whol
 
 -- whole lines that are read quietly are passed as text
 pub passes_text : (w : Place) (white : Bool) (bytes : List ℕ) (now : Place) (now_white : Bool) → begins_line w ≡ true → Passed (line_state w white) bytes (line_state now now_white) →
-    PassesText (carried_at w white) (carried_at now now_white) bytes
+    PassesText C (carried_at w white) (carried_at now now_white) bytes
 passes_text w white bytes now now_white at p =
     let ls : List (List ℕ) = whole_lines bytes in
     let is : bytes ≡ concat ls = ended_lines bytes p.ends in
     let quiet : IsQuiet (line_state w white) (concat ls) = subst (λ (x : List ℕ). IsQuiet (line_state w white) x) is p.quiet in
     let there : state_after (line_state w white) (concat ls) ≡ line_state now now_white = ap (λ (x : List ℕ). state_after (line_state w white) x) (sym is) ∙ p.leads in
     record {
-      stands = λ n before h. subst (λ (s : State). Carries (carried_at s.place s.white) (readings_after before (coded n ls))) there
+      stands = λ n before h. subst (λ (s : State). Carries (carried_at s.place s.white) (readings_after before (lines_in C n ls))) there
           (lines_read ls n w white before (are_whole bytes) at quiet h).stands;
       texts = λ n before h. (lines_read ls n w white before (are_whole bytes) at quiet h).texts;
     }
 
 -- no lines change nothing
-pub passes_none : (c : Carried) → PassesText c c []
+pub passes_none : (mode : Mode) (c : Carried) → PassesText mode c c []
 unfolding parts_of
-passes_none c = record { stands = λ n before h. h; texts = λ n before h. tt }
+passes_none mode c = record { stands = λ n before h. h; texts = λ n before h. tt }
 
 -- a line may begin where lines can be read
 pub starts_begins : (w : Place) (white : Bool) → can_start w white ≡ true → begins_line w ≡ true
@@ -364,8 +365,8 @@ starts_begins (at_backslash q) white e = cc
 pub passes_run : (w : Place) (white j : Bool) (bytes : List ℕ) (now : Place) (now_white k : Bool) → can_start w white ≡ true →
     j ≡ is_block (place_kind w) → k ≡ is_block (place_kind now) →
     Passed (line_state w white) bytes (line_state now now_white) →
-    PassesText (record { place = w; white = white; joins = j }) (record { place = now; white = now_white; joins = k }) bytes
+    PassesText C (record { place = w; white = white; joins = j }) (record { place = now; white = now_white; joins = k }) bytes
 passes_run w white j bytes now now_white k s e f p =
-    subst (λ (x : Bool). PassesText (record { place = w; white = white; joins = x }) (record { place = now; white = now_white; joins = k }) bytes) (sym e)
-    (subst (λ (x : Bool). PassesText (carried_at w white) (record { place = now; white = now_white; joins = x }) bytes) (sym f)
+    subst (λ (x : Bool). PassesText C (record { place = w; white = white; joins = x }) (record { place = now; white = now_white; joins = k }) bytes) (sym e)
+    (subst (λ (x : Bool). PassesText C (carried_at w white) (record { place = now; white = now_white; joins = x }) bytes) (sym f)
     (passes_text w white bytes now now_white (starts_begins w white s) p))

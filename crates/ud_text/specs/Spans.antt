@@ -1,6 +1,7 @@
 -- Spans: runs of bytes that the program reads in one go, and what its searches find.
 --
 --   is_special b                a byte that may matter outside comments and literals: `/`, a quote, a backslash or `#`
+--   NoSign bytes                no byte is a `#`
 --   is_pair a b                 a star before a slash or a backslash; NoPair says that bytes have none
 --   LastBegins bytes n          the last line of the bytes begins after the first n of them
 --   TextSpan white bytes        the bytes lead from outside comments and literals to outside them, and have no comment
@@ -24,6 +25,11 @@ is_special b = (b == slash) || is_quote b || (b == backslash) || (b == number_si
 abbrev pub NoSpecial : List ℕ → Type 0
 NoSpecial [] = Unit {0}
 NoSpecial (b ∷ bytes) = (is_special b ≡ false) × NoSpecial bytes
+
+-- none of these bytes is a `#`
+abbrev pub NoSign : List ℕ → Type 0
+NoSign [] = Unit {0}
+NoSign (b ∷ bytes) = ((b == number_sign) ≡ false) × NoSign bytes
 
 -- a star before a slash or a backslash
 abbrev pub is_pair : ℕ → ℕ → Bool

@@ -32,17 +32,42 @@ fn feeds_one_by_one(bytes: &[u8]) -> usize
     bytes.iter().filter(|byte| **byte == b'\n').count()
 }
 
+/// Line feeds among bytes in front.
+#[derive(Clone, Copy)]
+struct Counted {
+    /// How many line feeds.
+    feeds: usize,
+    /// Among so many bytes.
+    at: usize,
+}
+
+/// How many line feeds are in front, `N` bytes after `N`, up to the last ones.
+#[inline(always)]
+fn feeds_by<const N: usize>(bytes: &[u8]) -> Counted
+    requires some { 0 < N }
+    requires few { N ≤ 64 }
+    ensures within { result.at ≤ length bytes.now }
+    ensures counted { result.feeds ≡ count_by is_feed (take result.at bytes.now) }
+    ensures low { result.feeds ≤ result.at }
+{
+    let mut feeds = 0;
+    let mut at = 0;
+    while bytes.len() - at >= N {
+        feeds += feeds_among::<N>(bytes, at);
+        at += N;
+    }
+    Counted { feeds, at }
+}
+
 /// How many whole lines these bytes have.
 pub(crate) fn count_lines(bytes: &[u8]) -> usize
     ensures { result ≡ length (whole_lines bytes.now) }
 {
-    let mut count = 0;
-    let mut at = 0;
-    while bytes.len() - at >= 64 {
-        count += feeds_among::<64>(bytes, at);
-        at += 64;
-    }
-    count + feeds_one_by_one(&bytes[at..])
+    let front = feeds_by::<64>(bytes);
+    let rest = &bytes[front.at..];
+    let middle = feeds_by::<16>(rest);
+    let more = middle.feeds + feeds_one_by_one(&rest[middle.at..]);
+    front.feeds + more
 }
 
 /// How many bytes in front are whole lines of at most `LINE_BYTES` each. As many as there are.

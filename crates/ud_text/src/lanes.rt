@@ -34,7 +34,7 @@ pub(crate) fn lowest_bit(bits: u64, lanes: usize) -> usize
 
 /// How many of the `N` bytes from a place on stand before the first of these bytes; all if there is none.
 #[inline(always)]
-fn first_among<const N: usize>(bytes: &[u8], at: usize, set: ByteSet) -> usize
+pub(crate) fn first_among<const N: usize>(bytes: &[u8], at: usize, set: ByteSet) -> usize
     requires few { N ≤ 64 }
     requires room { at + N ≤ length bytes.now }
     ensures value { result ≡ position_or_len (is_one_of set) (take N (drop at bytes.now)) }
@@ -79,23 +79,12 @@ pub(crate) fn first_near(bytes: &[u8], set: ByteSet) -> usize
         first_by::<16>(bytes, set)
     } else if bytes.len() >= 8 {
         first_by::<8>(bytes, set)
+    } else if bytes.len() >= 4 {
+        first_by::<4>(bytes, set)
     } else {
         bytes
             .iter()
             .position(|byte| is_one_of(*byte, set))
             .unwrap_or(bytes.len())
-    }
-}
-
-/// The place of the first of these bytes, where one may be far. The number of bytes if there is none.
-#[inline(always)]
-pub(crate) fn first_far(bytes: &[u8], set: ByteSet) -> usize
-    ensures value { result ≡ position_or_len (is_one_of set) bytes.now }
-    ensures bound { result ≤ length bytes.now }
-{
-    if bytes.len() >= 64 {
-        first_by::<64>(bytes, set)
-    } else {
-        first_near(bytes, set)
     }
 }

@@ -13,6 +13,7 @@ mod lines;
 mod marks;
 mod masking;
 mod passing;
+mod plain_lines;
 mod scan;
 mod scanner;
 mod searching;

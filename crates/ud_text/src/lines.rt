@@ -15,11 +15,15 @@ ghost use Rattle.ud_text.specs.Skipping.{CanSkip};
 
 use crate::fault::TextFault;
 use crate::feeds::{count_lines, fitting_lines};
+use crate::lanes::first_among;
 use crate::line::Line;
 use arrayvec::ArrayVec;
 use memchr::memchr;
 use std::marker::Model;
 use ud_model::{LINE_BYTES, TEXT_LINES};
+
+/// How many bytes are searched for a line feed at once.
+const NEAR_BYTES: usize = 32;
 
 /// What was taken of a piece.
 #[derive(Clone, Copy, Debug, PartialEq, Eq)]
@@ -201,15 +205,18 @@ impl Lines {
         count
     }
 
-    /// Takes these whole lines and gives them up. `whole_run` tells which lines may be skipped.
-    pub fn skip(&mut self, lines: &[u8])
+    /// Takes these whole lines and gives them up. Answers the number of the last line that was given up. `whole_run` tells
+    /// which lines may be skipped.
+    pub fn skip(&mut self, lines: &[u8]) -> u32
         requires run { CanSkip self.old lines.now }
         requires open { self.old.closed ≡ false }
         ensures value { self.new ≡ record self.old { before = self.old.before + length (whole_lines lines.now) } }
         ensures stands { (text : List ℕ) → Took self.old text → Took self.new (text ++ lines.now) }
+        ensures number { result ≡ self.new.before }
     {
         let before = self.given_up;
         self.given_up = before + count_lines(lines) as u32;
+        self.given_up
     }
 
     /// How many bytes of the line are held, its ending counted; at most `LINE_BYTES`.
@@ -272,13 +279,50 @@ impl Lines {
         self.is_closed = true;
         Ok(!self.held_bytes.is_empty())
     }
+
+    /// Forgets the text, whatever was taken of it, and stands before another one, which may have as many lines.
+    pub fn restart(&mut self)
+        ensures value { self.new ≡ record { held = []; whole = false; before = 0; closed = false; refusal = None; last_line = self.old.last_line } }
+        ensures stands { Took self.new [] }
+    {
+        self.held_bytes.truncate(0);
+        self.is_whole = false;
+        self.given_up = 0;
+        self.is_closed = false;
+        self.refused = None;
+    }
+}
+
+/// The place of the first line feed, if one is among the first bytes. Of lines of code and of directives most are so short.
+#[inline(always)]
+fn near_feed(piece: &[u8]) -> Option<usize>
+    ensures { IfSome result (λ at. UpToFeed piece.now (at + 1) true) }
+{
+    if piece.len() < NEAR_BYTES {
+        return None;
+    }
+    let at = first_among::<NEAR_BYTES>(piece, 0, [b'\n'; 5]);
+    if at < NEAR_BYTES { Some(at) } else { None }
+}
+
+/// The place of the first line feed, if there is one.
+#[inline(always)]
+fn first_feed(piece: &[u8]) -> Option<usize>
+    ensures found { IfSome result (λ at. UpToFeed piece.now (at + 1) true) }
+    ensures none { IfNone result (UpToFeed piece.now (length piece.now) false) }
+{
+    match near_feed(piece) {
+        Some(at) => Some(at),
+        None => memchr(b'\n', piece),
+    }
 }
 
 /// How many bytes stand in front of the piece up to its first line feed, that one counted, or all if there is none.
+#[inline(always)]
 fn front(piece: &[u8]) -> Taken
     ensures { UpToFeed piece.now result.used result.whole }
 {
-    match memchr(b'\n', piece) {
+    match first_feed(piece) {
         Some(at) => Taken {
             used: at + 1,
             whole: true,

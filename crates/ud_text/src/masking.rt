@@ -220,6 +220,7 @@ fn mask_run(
 }
 
 /// Reads the content of a line, and puts it into `masked` as it is shown.
+#[inline(never)]
 fn mask_content(reached: Reached, content: &[u8], masked: &mut ArrayVec<u8, LINE_BYTES>) -> Reached
     requires empty { masked.old.items ≡ [] }
     requires fits { length content.now ≤ LINE_BYTES }
@@ -243,6 +244,7 @@ fn mask_content(reached: Reached, content: &[u8], masked: &mut ArrayVec<u8, LINE
 
 /// Reads the content of a line. If the text leaves off outside comments and literals before it, and no mark stands in it,
 /// it is shown as it stands, and lent; else it is put into `masked` as it is shown.
+#[inline(always)]
 pub(crate) fn show_content<'a>(
     reached: Reached,
     content: &'a [u8],

@@ -13,7 +13,7 @@ ghost use Rattle.ud_text.specs.Progress.{ReadTo, state_of, InOrder, ReadBy, Pass
 ghost use Rattle.ud_text.specs.LineViews.{place_of};
 
 use crate::masking::{Place, Reached};
-use crate::searching::{first_pair, first_special, line_begin};
+use crate::searching::{first_pair, first_special, is_special, line_begin};
 use crate::signs::{is_text_sign, line_white};
 use crate::spans::{comment_span, text_span};
 
@@ -220,6 +220,9 @@ fn plain_step(lines: &[u8], p: Progress) -> Progress
     ensures further { p.at ≤ result.at }
     ensures read { (start : State) → ReadBy start lines.now p → ReadBy start lines.now result }
 {
+    if p.at < lines.len() && is_special(lines[p.at]) {
+        return p;
+    }
     Progress {
         at: p.at + first_special(&lines[p.at..]),
         ..p

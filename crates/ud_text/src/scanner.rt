@@ -25,6 +25,7 @@ use crate::masking::{
     Place, Reached, is_fresh, is_in_block, is_white_with, next_place, show_content,
 };
 use crate::passing::pass_run;
+use crate::plain_lines::signless_lines;
 use crate::scan::Scan;
 use arrayvec::ArrayVec;
 use std::marker::Model;
@@ -95,10 +96,11 @@ fn is_spliced(line: &Line<'_>) -> bool
 }
 
 /// The line's body without a splice's backslash.
-fn content<'a>(line: &Line<'a>) -> &'a [u8]
+fn content<'a>(line: &Line<'a>, spliced: bool) -> &'a [u8]
+    requires { spliced ≡ is_spliced (as_line line.now) }
     ensures { result.now ≡ content (as_line line.now) }
 {
-    if is_spliced(line) {
+    if spliced {
         &line.body[..line.body.len() - 1]
     } else {
         line.body
@@ -106,11 +108,12 @@ fn content<'a>(line: &Line<'a>) -> &'a [u8]
 }
 
 /// How far the text is read after the line's new-line, if it has one.
-fn close(line: &Line<'_>, inside: Reached) -> Reached
+fn close(line: &Line<'_>, spliced: bool, inside: Reached) -> Reached
+    requires { spliced ≡ is_spliced (as_line line.now) }
     ensures place { place_of result.place ≡ closed_place (stays_open (as_line line.now)) (place_of inside.place) }
     ensures white { result.white ≡ closed_white (stays_open (as_line line.now)) (place_of inside.place) inside.white }
 {
-    if is_spliced(line) || line.ending.is_empty() {
+    if spliced || line.ending.is_empty() {
         inside
     } else {
         Reached {
@@ -132,6 +135,7 @@ fn comment_at(spliced: bool, place: Place) -> CommentAt
 }
 
 /// Reads a line in C mode. Where its masked bytes aren't lent, they are put into `masked`.
+#[inline(always)]
 fn scan_code<'a>(carry: Carry, line: &Line<'a>, masked: &mut ArrayVec<u8, LINE_BYTES>) -> Seen<'a>
     requires empty { masked.old.items ≡ [] }
     requires fits { length line.now.body.now ≤ LINE_BYTES }
@@ -141,10 +145,10 @@ fn scan_code<'a>(carry: Carry, line: &Line<'a>, masked: &mut ArrayVec<u8, LINE_B
     ensures fits { length (shown_in result.lent masked.new.items) ≤ length line.now.body.now }
 {
     let spliced = is_spliced(line);
-    let bytes = content(line);
+    let bytes = content(line, spliced);
     let fresh = is_fresh(carry.reached, bytes);
     let (inside, lent) = show_content(carry.reached, bytes, masked);
-    let reached = close(line, inside);
+    let reached = close(line, spliced, inside);
     let joins = spliced || is_in_block(reached.place);
     let facts = Facts {
         fresh,
@@ -158,6 +162,7 @@ fn scan_code<'a>(carry: Carry, line: &Line<'a>, masked: &mut ArrayVec<u8, LINE_B
 }
 
 /// Reads a line in plain mode, in which it is seen as it stands.
+#[inline(always)]
 fn scan_plain<'a>(line: &Line<'a>) -> Seen<'a>
     ensures stands { (before : List Reading) → Carries (carried_by result.carry) (before ++ next_reading before Mode.Plain (as_line line.now) ∷ []) }
     ensures value { (masked : List ℕ) → (before : List Reading) → scan_with (shown_in result.lent masked) result.facts ≡ scan_after before Mode.Plain (as_line line.now) }
@@ -176,6 +181,7 @@ fn scan_plain<'a>(line: &Line<'a>) -> Seen<'a>
 }
 
 /// Reads a line in its mode. Where its masked bytes aren't lent, they are put into `masked`.
+#[inline(always)]
 fn scan_line<'a>(
     mode: Mode,
     carry: Carry,
@@ -209,11 +215,11 @@ fn can_pass(carry: Carry) -> bool
     }
 }
 
-/// Reads as many of these lines as are seen to be text. Answers how many bytes they have, and what they leave.
-fn pass_lines(carry: Carry, lines: &[u8]) -> (usize, Carry)
+/// Reads in C mode as many of these lines as are seen to be text. Answers how many bytes they have, and what they leave.
+fn pass_code(carry: Carry, lines: &[u8]) -> (usize, Carry)
     ensures bound { result.0 ≤ length lines.now }
     ensures ends { EndsLine (take result.0 lines.now) }
-    ensures passes { PassesText (carried_by carry) (carried_by result.1) (take result.0 lines.now) }
+    ensures passes { PassesText Mode.C (carried_by carry) (carried_by result.1) (take result.0 lines.now) }
 {
     if !can_pass(carry) {
         return (0, carry);
@@ -225,6 +231,31 @@ fn pass_lines(carry: Carry, lines: &[u8]) -> (usize, Carry)
         joins,
     };
     (next.at, left)
+}
+
+/// The same in plain mode.
+fn pass_plain(carry: Carry, lines: &[u8]) -> (usize, Carry)
+    ensures bound { result.0 ≤ length lines.now }
+    ensures ends { EndsLine (take result.0 lines.now) }
+    ensures passes { PassesText Mode.Plain (carried_by carry) (carried_by result.1) (take result.0 lines.now) }
+{
+    let count = signless_lines(lines);
+    if count == 0 {
+        return (0, carry);
+    }
+    (count, nothing())
+}
+
+/// The same in a mode.
+fn pass_lines(mode: Mode, carry: Carry, lines: &[u8]) -> (usize, Carry)
+    ensures bound { result.0 ≤ length lines.now }
+    ensures ends { EndsLine (take result.0 lines.now) }
+    ensures passes { PassesText mode (carried_by carry) (carried_by result.1) (take result.0 lines.now) }
+{
+    match mode {
+        Mode::C => pass_code(carry, lines),
+        Mode::Plain => pass_plain(carry, lines),
+    }
 }
 
 impl Model for Scanner {
@@ -251,6 +282,7 @@ impl Scanner {
     /// The line's body has at most `LINE_BYTES`, none of which is a line feed. In plain mode the line is seen as it
     /// stands, and the next line in C mode starts afresh. In C mode its masked bytes stand where they stand in the
     /// body (C11 5.1.1.2, phases 2 and 3, and 6.4.9).
+    #[inline(always)]
     pub fn read<'s, 'a: 's>(&'s mut self, mode: Mode, line: &Line<'a>) -> Scan<'s>
         requires fits { length line.now.body.now ≤ LINE_BYTES }
         requires one_line { NoFeed line.now.body.now }
@@ -274,20 +306,20 @@ impl Scanner {
         }
     }
 
-    /// Reads in C mode, all at once, as many of the next lines as it sees to be text. Answers how many bytes of `lines`
+    /// Reads in this mode, all at once, as many of the next lines as it sees to be text. Answers how many bytes of `lines`
     /// they have: 0, or up to the end of a line.
     ///
     /// `lines` may have any length and any bytes, and end in the middle of a line. Limits aren't looked at: a line may have
-    /// more than `LINE_BYTES`, and lines aren't counted. The scanner then stands for one more reading in C mode for each of
-    /// the lines up to there, as `read` would have it, whatever numbers they have; none of them carries a directive or a
+    /// more than `LINE_BYTES`, and lines aren't counted. The scanner then stands for one more reading in this mode for each
+    /// of the lines up to there, as `read` would have it, whatever numbers they have; none of them carries a directive or a
     /// cut keyword (C11 5.1.1.2, phases 2 and 3, 6.4.9 and 6.10). Nothing is said of how far it goes: if the answer is
     /// less than all lines, the next one is to be read by `read`.
-    pub fn pass(&mut self, lines: &[u8]) -> usize
+    pub fn pass(&mut self, mode: Mode, lines: &[u8]) -> usize
         ensures bound { result ≤ length lines.now }
         ensures ends { EndsLine (take result lines.now) }
-        ensures passes { PassesText self.old self.new (take result lines.now) }
+        ensures passes { PassesText mode self.old self.new (take result lines.now) }
     {
-        let (count, carry) = pass_lines(self.carry, lines);
+        let (count, carry) = pass_lines(mode, self.carry, lines);
         self.carry = carry;
         count
     }

@@ -1,3 +1,4 @@
 pub mod MessageLemmas
 pub mod RefusalLemmas
 pub mod HeadlineLemmas
+pub mod EndedLemmas

@@ -1,3 +1,4 @@
 pub mod Told
 pub mod Gave
 pub mod Refusals
+pub mod Ended

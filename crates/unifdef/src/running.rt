@@ -6,6 +6,7 @@ ghost use Rattle.ud_model.specs.answer.Messages.{read_error, write_error};
 ghost use Rattle.ud_engine.specs.Running.{KeptUp};
 ghost use Rattle.ud_engine.specs.Watching.{Says};
 ghost use Rattle.unifdef.specs.Refusals.{TellsUsage};
+ghost use Rattle.unifdef.specs.Ended.{Ended};
 ghost use Rattle.unifdef.specs.Gave.{Streams, streams, GivesAnswer, LacksMemory};
 
 use crate::ending::{TROUBLE, ended_by, tell};
@@ -55,6 +56,14 @@ pub fn tool<R: Read, W: Write, E: Write>(
         usage_fault (map string_bytes words.now) ≡ None →
         KeptUp (options_of (map string_bytes words.now)) (R.remaining reader.old.inner) (R.remaining reader.new.inner)
         (W.contents out.old.inner) (W.contents out.new.inner)
+        ⊎ LacksMemory (map string_bytes words.now) reader.old reader.new out.old out.new before after err.new.failed result }
+    // However it ends, with streams that tell their bytes or don't: what was written goes with what was read, and the message and
+    // the status with why it ended.
+    ensures ended { let before : Streams = streams (W.contents out.old.inner) (E.contents err.old.inner) in
+        let after : Streams = streams (W.contents out.new.inner) (E.contents err.new.inner) in
+        usage_fault (map string_bytes words.now) ≡ None →
+        Ended (map string_bytes words.now) reader.new.failed out.new.failed (R.remaining reader.old.inner) (R.remaining reader.new.inner)
+        before after err.new.failed result
         ⊎ LacksMemory (map string_bytes words.now) reader.old reader.new out.old out.new before after err.new.failed result }
     // At a fault of the words nothing is read, nothing is done with `out`, and the fault is told, or that memory for a
     // symbol before it was refused.

@@ -2,7 +2,7 @@
 
 use crate::tree::{Group, Node, Section};
 use std::alloc::AllocError;
-use ud_model::{Cond, Kind, Verdict};
+use ud_model::{Cond, Role, Verdict};
 
 /// What becomes of a line, and whether the line, or of a directive its section, stands in a kept place.
 #[derive(Clone, Copy)]
@@ -83,7 +83,7 @@ impl Table {
 
     /// The verdict of a group's opener.
     fn opener_verdict(self, at: usize, group: &Group) -> Verdict {
-        let is_elif = group.kind == Some(Kind::Elif);
+        let is_elif = group.role == Some(Role::ElifGroup);
         if self.gives_way() {
             Verdict::Remove
         } else if self.first_kept == Some(at) && is_elif {

@@ -10,7 +10,7 @@ use crate::seeing::{Row, list, see};
 use crate::tree::{Group, Node, Section};
 use std::alloc::{AllocError, Global};
 use ud_cond::Symbols;
-use ud_model::{Kind, LINE_BYTES, Mode, OPEN_SECTIONS, Settings, TEXT_LINES};
+use ud_model::{LINE_BYTES, Mode, OPEN_SECTIONS, Role, Settings, TEXT_LINES};
 use ud_text::{Line, Scanner};
 
 /// What reads a text.
@@ -50,7 +50,7 @@ impl<'a> Reader<'a> {
         };
         let Place { nodes, closer } = self.place(mode, 0)?;
         if let Some(row) = closer {
-            self.refuse(row.line.number, misplaced(row.kind));
+            self.refuse(row.line.number, misplaced(row.role));
         }
         if self.scanner.in_comment() {
             self.refuse(self.last, Fault::EofInComment);
@@ -118,18 +118,18 @@ impl<'a> Reader<'a> {
     {
         let mut nodes = Vec::new(self.alloc);
         'lines: while let Some(row) = self.next(mode, level)? {
-            match row.kind {
+            match row.role {
                 None => {
                     self.rows.push(row)?;
                     nodes.push(Node::Text)?;
                 }
-                Some(Kind::If | Kind::Ifdef | Kind::Ifndef) if level == OPEN_SECTIONS => {
+                Some(Role::IfGroup) if level == OPEN_SECTIONS => {
                     self.refuse(row.line.number, Fault::TooManyLevels);
                 }
-                Some(Kind::If | Kind::Ifdef | Kind::Ifndef) => {
+                Some(Role::IfGroup) => {
                     nodes.push(Node::Section(self.section(row, mode, level)?))?;
                 }
-                Some(Kind::Elif | Kind::Else | Kind::Endif) => {
+                Some(Role::ElifGroup | Role::ElseGroup | Role::EndifLine) => {
                     return Ok(Place {
                         nodes,
                         closer: Some(row),
@@ -154,10 +154,10 @@ impl<'a> Reader<'a> {
         let mut groups = Vec::new(self.alloc);
         let mut row = first;
         'groups: loop {
-            let (kind, cond) = (row.kind, row.cond);
+            let (role, cond) = (row.role, row.cond);
             self.rows.push(row)?;
             let Place { nodes, closer } = self.place(mode, level + 1)?;
-            groups.push(Group { kind, cond, nodes })?;
+            groups.push(Group { role, cond, nodes })?;
             let Some(next) = closer else {
                 self.open = self.open.or(Some(if_line));
                 return Ok(Section {
@@ -165,15 +165,15 @@ impl<'a> Reader<'a> {
                     is_closed: false,
                 });
             };
-            if next.kind == Some(Kind::Endif) {
+            if next.role == Some(Role::EndifLine) {
                 self.rows.push(next)?;
                 return Ok(Section {
                     groups,
                     is_closed: true,
                 });
             }
-            if kind == Some(Kind::Else) {
-                self.refuse(next.line.number, misplaced(next.kind));
+            if role == Some(Role::ElseGroup) {
+                self.refuse(next.line.number, misplaced(next.role));
                 return Ok(Section {
                     groups,
                     is_closed: false,
@@ -185,10 +185,10 @@ impl<'a> Reader<'a> {
 }
 
 /// The fault of a directive out of its place.
-fn misplaced(kind: Option<Kind>) -> Fault {
-    match kind {
-        Some(Kind::Elif) => Fault::InappropriateElif,
-        Some(Kind::Else) => Fault::InappropriateElse,
+fn misplaced(role: Option<Role>) -> Fault {
+    match role {
+        Some(Role::ElifGroup) => Fault::InappropriateElif,
+        Some(Role::ElseGroup) => Fault::InappropriateElse,
         _ => Fault::InappropriateEndif,
     }
 }

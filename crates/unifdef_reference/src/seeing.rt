@@ -5,7 +5,7 @@ ghost use Rattle.ud_model.specs.declared.limits.TheConstants.{LINE_BYTES};
 
 use std::alloc::{AllocError, Global};
 use ud_cond::{Answer, Rules, Symbols, condition};
-use ud_model::{Cond, Kind, Listing, Settings};
+use ud_model::{Cond, Listing, Role, Settings};
 use ud_sections::{Cut, Directive, Lister, Span, directive};
 use ud_text::{Line, Scan};
 
@@ -13,8 +13,8 @@ use ud_text::{Line, Scan};
 #[derive(Drop)]
 pub(crate) struct Row<'a> {
     pub line: Line<'a>,
-    /// Its directive, if it carries one.
-    pub kind: Option<Kind>,
+    /// What its directive is in its section, if it carries one.
+    pub role: Option<Role>,
     /// What is decided of its condition; that of an `#else` is true.
     pub cond: Cond,
     /// It opens a section that is plain text.
@@ -50,17 +50,17 @@ pub(crate) fn see<'a>(
     requires masked { length scan.now.masked.now ≤ length line.body.now }
     requires fits { length line.body.now ≤ LINE_BYTES }
 {
-    let (kind, keyword, answer) = match directive(scan)? {
+    let (role, keyword, answer) = match directive(scan)? {
         None => (None, Span { at: 0, len: 0 }, UNDECIDED),
         Some(found) => (
-            Some(found.kind),
+            Some(found.kind.role()),
             found.keyword,
             decide(scan, &found, symbols, settings),
         ),
     };
     Ok(Row {
         line,
-        kind,
+        role,
         cond: answer.cond,
         ignoring: answer.ignoring,
         keyword,
@@ -75,7 +75,7 @@ pub(crate) fn see<'a>(
 fn decide(scan: &Scan<'_>, found: &Directive<'_>, symbols: &Symbols, settings: Settings) -> Answer
     requires fits { length found.now.after.now ≤ LINE_BYTES }
 {
-    if found.kind == Kind::Else {
+    if found.kind.role() == Role::ElseGroup {
         return Answer {
             cond: Cond::Yes,
             ignoring: false,
@@ -111,7 +111,7 @@ pub(crate) fn list(
         Listing::Depths => Lister::new(true),
     };
     let depth = match directive(scan) {
-        Ok(Some(found)) if found.kind == Kind::Elif => level.saturating_sub(1),
+        Ok(Some(found)) if found.kind.role() == Role::ElifGroup => level.saturating_sub(1),
         _ => level,
     };
     for name in Lister::names(scan) {

@@ -22,5 +22,5 @@ fn is_spoiled(row: &Row<'_>, mark: Mark, removed: bool) -> bool {
         Verdict::Keep | Verdict::ToIf => !(row.joins_before && removed),
         Verdict::Remove | Verdict::ToElse | Verdict::ToEndif => false,
     };
-    row.kind.is_some() && row.spans && mark.kept && !stays
+    row.role.is_some() && row.spans && mark.kept && !stays
 }

@@ -1,6 +1,6 @@
 //! The tree of a text (C11 6.10). A walk over it meets the lines of the text in their order.
 
-use ud_model::{Cond, Kind};
+use ud_model::{Cond, Role};
 
 /// A text line, or a section.
 #[cycle(tree)]
@@ -22,7 +22,7 @@ pub(crate) struct Section {
 #[cycle(tree)]
 #[derive(Drop)]
 pub(crate) struct Group {
-    pub kind: Option<Kind>,
+    pub role: Option<Role>,
     pub cond: Cond,
     pub nodes: Vec<Node>,
 }

@@ -1,11 +1,11 @@
 //! How often a reader and a writer are called. The library says nothing of that, so no clause can.
 
-use crate::counted::{CountedSink, CountedSource};
 use crate::worked::{Answer, owned, with_feed};
 use std::alloc::Global;
 use std::process::Abort;
 use std::test::Fail;
 use unifdef::{Watched, tool};
+use worked_rows::{CountedSink, CountedSource, Sink, Source, repeated};
 
 const READ_ERROR: &str = "unifdef: stdin: Read error";
 
@@ -86,6 +86,57 @@ fn an_interrupted_read_is_not_made_again(rt: HostRuntime) -> Result<(), Fail> {
         let calls = count_calls(&rt, rt.alloc(), &["-DA"], source, sink, answer)?;
         assert_eq!(rt; calls.reads, read);
         assert_eq!(rt; calls.flushes, 1);
+    }
+    Ok(())
+}
+
+#[test]
+fn no_read_is_made_after_a_fault(rt: HostRuntime) -> Result<(), Fail> {
+    let input = b"a\n#ifdef A /* x\n";
+    let source = Source {
+        fails: true,
+        ..Source::whole(input)
+    };
+    let source = CountedSource {
+        source,
+        ..CountedSource::of(input, usize::MAX)
+    };
+    let answer = Answer {
+        output: b"a\n",
+        message: "unifdef: stdin: 2: Obfuscated preprocessor control line",
+        status: 2,
+    };
+    let sink = CountedSink::of(rt.alloc(), usize::MAX);
+    let calls = count_calls(&rt, rt.alloc(), &["-DA"], source, sink, answer)?;
+    assert_eq!(rt; calls.reads, 1);
+    Ok(())
+}
+
+#[test]
+fn little_is_read_before_a_write_that_takes_nothing(rt: HostRuntime) -> Result<(), Fail> {
+    let input = repeated(rt.alloc(), b"x\n", 20_000)?;
+    for refuses in [true, false] {
+        let words = owned(rt.alloc(), &["-DA"])?;
+        let mut reader = Watched::new(Source::whole(input.as_slice()));
+        let mut out = Watched::new(Sink {
+            room: 0,
+            refuses,
+            ..Sink::wide(rt.alloc())
+        });
+        let mut err = Watched::new(Vec::<u8>::new(rt.alloc()));
+        let status = tool(
+            rt.alloc(),
+            words.as_slice(),
+            &mut reader,
+            &mut out,
+            &mut err,
+        );
+        let given = input.len().saturating_sub(reader.inner().bytes.len());
+        assert!(rt; given <= 8193);
+        assert_eq!(rt; out.inner().taken.len(), 0);
+        let message = with_feed(rt.alloc(), WRITE_ERROR)?;
+        assert_eq!(rt; err.inner().as_slice(), message.as_slice());
+        assert_eq!(rt; status, 2);
     }
     Ok(())
 }

@@ -1,15 +1,13 @@
 //! The engine fed piece by piece, and the run over it: when what is left is written, in how many writes, and what is
 //! answered.
 
-use crate::counted::{CountedSink, CountedSource};
-use crate::sink::Sink;
-use crate::source::Source;
-use crate::stepping::planned;
+use crate::worked::planned;
 use std::process::Abort;
 use std::test::Fail;
 use ud_sections::{Blank, Complement, Delete, Printer, SectionFault};
 use ud_text::TextFault;
 use unifdef::{Engine, RunFault, Watched, run};
+use worked_rows::{CountedSink, CountedSource, Sink, Source};
 
 /// Five lines, of which the second is left if `A` is defined.
 const INPUT: &[u8] = b"#ifdef A\nx\n#else\ny\n#endif\n";

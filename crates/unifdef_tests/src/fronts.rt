@@ -1,78 +1,12 @@
 //! Fronts of the worked inputs: on each the tool, fed whole and in two pieces cut at each place, is held against the
 //! reference.
 
-use crate::limits::{nested, repeated};
-use crate::worked::parted;
 use std::io::Read;
 use std::process::Abort;
 use std::test::Fail;
 use unifdef::{Watched, tool};
 use unifdef_reference::answer_to;
-
-/// Words, parted by spaces, and an input.
-const ROWS: [(&str, &[u8]); 49] = [
-    ("-DA", b""),
-    ("-DA", b"#ifdef A\nx\n#else\ny\n#endif\n"),
-    ("-UA", b"#if B\n1\n#elif defined(A)\n2\n#else\n3\n#endif"),
-    ("-UA", b"#ifdef A\n1\n#elif X\n2\n#endif\n"),
-    ("-UA", b"#ifdef A\n1\n#elif X && \\\nY\n2\n#endif\n"),
-    (
-        "-DA",
-        b"#if X\n1\n#elif defined A /* t */\n2\n#elif Y\n3\n#else\n4\n#endif\n",
-    ),
-    ("-DA", b"a\n#ifdef A /* x\n*/\nb\n#endif\n"),
-    (
-        "-UB -DA",
-        b"#ifdef B\n#ifdef A /* x\n*/\n#endif\n#endif\nz\n",
-    ),
-    ("-DA", b"#if 0\nx\n#endif\n"),
-    ("-k -DA", b"#if 0\nx\n#endif\n"),
-    ("-DA", b"#if defined(A) || B / 0\nx\n#endif\n"),
-    ("-K -DA", b"#if defined(A) || B / 0\nx\n#endif\n"),
-    ("-UA -n", b"a\r\n#ifdef A\r\nx\r\n#endif\r\nb\r\n"),
-    ("-c -n -DA", b"#line 2\n#ifdef A\n#endif\n"),
-    ("-b -UA", b"#ifdef A\nx\n#endif"),
-    ("-l -n -UA", b"#ifdef A\nx\n#endif\ny"),
-    ("-DA=0", b"#if A - 1 < 0u\nx\n#endif\n"),
-    ("-DA", b"/\\\n* c\n#ifdef A\n*\\\n/\n#ifdef A\nx\n#endif\n"),
-    ("-iUN", b"#ifndef N\nsee /* open\n#endif\nz\n"),
-    ("-UN", b"#ifndef N\nsee /* open\n#endif\nz\n"),
-    (
-        "-S",
-        b"#if A && defined(B)\n#ifdef C\n#elif D << 1\n#endif\n#endif\n",
-    ),
-    ("-UA -D A=B -DB=3", b"#if A == 3\nx\n#endif\n"),
-    ("-t -DA", b"/*\n#ifdef A\nx\n#endif\n"),
-    ("-t -DA -UB", b"#ifdef C\nx\n#endif\n"),
-    ("-x2 -DA", b"#ifdef A\nx\n#else\ny\n#endif\n"),
-    ("-x 1 -DA", b"x\n"),
-    ("-x1 -DA", b"#ifdef A\nx\n#else\ny\n#endif\n"),
-    ("-DA", b"#ifdef A\nx\n"),
-    ("-DA", b"x\n#endif\n"),
-    ("-DA", b"#elif A\n"),
-    ("-DA", b"#if X\n#else\n#else\n#endif\n"),
-    ("-UA", b"#if X\n1\n#elif A\n/* c\n*/ #endif\n"),
-    ("-DA", b"#if\\\ndef A\n"),
-    ("-DA", b"#if defined A && \\\nB\nx\n#endif\n"),
-    ("-UA", b"#if A && X\nx\n#endif\n"),
-    ("-UA -K", b"#if A && X\nx\n#endif\n"),
-    ("-b -c -DA", b"\n#ifdef A\nx\n#endif\n"),
-    ("-b -c -DA", b"\n\n"),
-    ("-DF=1 -UG", b"#if F(2)\nx\n#endif\n"),
-    ("-DF=1 -UG", b"#if G(1) || F\nx\n#endif\n"),
-    ("-DA=9223372036854775807", b"#if A + 1 > 0\nx\n#endif\n"),
-    ("-DA=9223372036854775807", b"#if A > 0\nx\n#endif\n"),
-    ("-UA -n", b"#if A\n1\n#elif X\n2\n#endif"),
-    ("-iUN", b"#ifndef N\na\n#else\n/* b\n#endif\nz\n"),
-    ("-DA f.c", b"#else\n"),
-    ("-DA -- -", b"x\n"),
-    ("-kbUA", b"#if 1\r\n#ifdef A\r\nx\r\n#endif\r\n#endif\r\n"),
-    (
-        "-DA",
-        b"char *s = \"/*\";\n#error don't\n#ifdef A\nx\n#endif\n",
-    ),
-    ("-s -DA", b"#ifdef A\n#if A + A\n#endif\n#endif\n"),
-];
+use worked_rows::{ROWS, nested, parted, repeated};
 
 /// Of inputs at a limit only so many last fronts are looked at, and of each only so many last cuts.
 const LAST: usize = 8;
@@ -124,6 +58,22 @@ fn check_fronts(
 #[test]
 fn each_front_of_a_row_is_answered_as_by_the_reference(rt: HostRuntime) -> Result<(), Fail> {
     for (words, input) in ROWS {
+        check_fronts(&rt, words, input, input.len())?;
+    }
+    Ok(())
+}
+
+#[test]
+fn each_front_of_named_conditions_is_answered_as_by_the_reference(
+    rt: HostRuntime,
+) -> Result<(), Fail> {
+    let rows: [(&str, &[u8]); 4] = [
+        ("-DA", b"#ifdef X\n1\n#elifdef A\n2\n#else\n3\n#endif\n"),
+        ("-UA -n", b"#ifdef A\n1\n#elifndef X\n2\n#endif"),
+        ("-S", b"#ifdef A\n#elifndef B\n#elifdef C D\n#endif\n"),
+        ("-iUN", b"#if X\n#elifdef N\n/* a\n#endif\nz\n"),
+    ];
+    for (words, input) in rows {
         check_fronts(&rt, words, input, input.len())?;
     }
     Ok(())

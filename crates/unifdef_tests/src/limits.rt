@@ -3,15 +3,7 @@
 use crate::worked::{check, check_copy};
 use std::alloc::{AllocError, Global};
 use std::test::Fail;
-
-/// The text so many times.
-pub(crate) fn repeated(alloc: Global, text: &[u8], count: usize) -> Result<Vec<u8>, AllocError> {
-    let mut whole = Vec::new(alloc);
-    for _ in 0..count {
-        whole.extend_from_slice(text)?;
-    }
-    Ok(whole)
-}
+use worked_rows::{nested, repeated};
 
 /// One text behind another.
 fn joined(alloc: Global, first: &[u8], second: &[u8]) -> Result<Vec<u8>, AllocError> {
@@ -40,13 +32,6 @@ fn a_line_that_is_too_long_is_told_behind_the_lines_before(rt: HostRuntime) -> R
     let input = joined(rt.alloc(), b"#ifdef A\nx\n", long.as_slice())?;
     let message = "unifdef: stdin: 3: Line too long";
     check(&rt, "-DA", input.as_slice(), b"x\n", message, 2)
-}
-
-/// A text that opens so many sections, and closes them.
-pub(crate) fn nested(alloc: Global, depth: usize) -> Result<Vec<u8>, AllocError> {
-    let opening = repeated(alloc, b"#ifdef X\n", depth)?;
-    let closing = repeated(alloc, b"#endif\n", depth)?;
-    joined(alloc, opening.as_slice(), closing.as_slice())
 }
 
 #[test]

@@ -1,13 +1,12 @@
 //! The tool run again on its own output.
 
-use crate::sink::Sink;
-use crate::source::Source;
 use crate::worked::owned;
 use std::alloc::Global;
 use std::process::Abort;
 use std::test::Fail;
 use ud_model::ExitMode;
 use unifdef::{Watched, plan, tool};
+use worked_rows::{Sink, Source};
 
 /// What is left of the input of these words, parted by spaces. Nothing is said, and the status is that of a text of which
 /// some line differs exactly if the bytes do.
@@ -84,7 +83,11 @@ fn edited_directives_are_read_again_as_they_are(rt: HostRuntime) -> Result<(), F
     let spliced = b"#ifdef A\n1\n#elif X && \\\nY\n2\n#endif\n";
     check_twice(&rt, "-UA", spliced)?;
     let ended = b"#if X\n1\n#elif defined A /* t */\n2\n#elif Y\n3\n#else\n4\n#endif\n";
-    check_twice(&rt, "-DA", ended)
+    check_twice(&rt, "-DA", ended)?;
+    let named = b"#ifdef X\n1\n#elifdef A\n2\n#else\n3\n#endif\n";
+    check_twice(&rt, "-DA", named)?;
+    check_twice(&rt, "-UA", b"#ifdef A\n1\n#elifndef X\n2\n#endif\n")?;
+    check_twice(&rt, "-UA", b"#ifdef A\n1\n#elifdef X /* c\n*/\n2\n#endif\n")
 }
 
 #[test]

@@ -1,10 +1,9 @@
 //! Readers and writers that fail, or give and take a few bytes at a time.
 
-use crate::sink::Sink;
-use crate::source::Source;
 use crate::worked::{Answer, check_run, owned};
 use std::test::Fail;
 use unifdef::{Watched, tool};
+use worked_rows::{Sink, Source};
 
 /// Six lines, of which the last lacks its line feed.
 const INPUT: &[u8] = b"/*\n*/\n#ifdef A\nx\r\n#endif\ny";

@@ -1,12 +1,11 @@
 //! Runs of the tool over memory, held against what they have to answer.
 
-use crate::sink::Sink;
-use crate::source::Source;
 use std::alloc::{AllocError, Global};
 use std::process::Abort;
 use std::test::Fail;
-use unifdef::{Watched, tool};
+use unifdef::{Plan, Watched, plan, tool};
 use unifdef_reference::answer_to;
+use worked_rows::{Sink, Source, parted};
 
 /// What a run has to write, say and answer.
 #[derive(Clone, Copy)]
@@ -115,10 +114,10 @@ fn check_reference(
     Ok(())
 }
 
-/// The words of a text, parted by spaces.
-pub(crate) fn parted(alloc: Global, words: &str) -> Result<Vec<String>, AllocError> {
-    let parted: Vec<&str> = words.split_whitespace().collect(alloc)?;
-    owned(alloc, parted.as_slice())
+/// The plan of these words, parted by spaces, which have no fault.
+pub(crate) fn planned(rt: &impl Abort, alloc: Global, words: &str) -> Result<Plan, Fail> {
+    let owned = parted(alloc, words)?;
+    Ok(plan(alloc, owned.as_slice()).expect(rt, "the words have no fault"))
 }
 
 /// Words that own their text.

@@ -1,13 +1,15 @@
 -- Conditions: tables that say the same of every name decide the same.
 use Rattle.std.proofs.Common.{◌≡◌, ℕ, List, Bool, false, ◌&&◌, ◌||◌, Option, Some, None, is_some, refl, ◌∙◌, ap, ap₂}
+use Rattle.ud_model.specs.sections.Directives.{role_of, test_of}
 use Rattle.ud_model.specs.conditions.Table.{Argument, Entry}
 use Rattle.ud_model.specs.conditions.Expressions.{Expression, constant, named, is_defined, unary, binary, parens}
 use Rattle.ud_model.specs.aids.Parsing.{expression_of}
 use Rattle.ud_model.specs.conditions.Values.{alter, combine, name_value, name_value_by, name_has_u, end_has_u, defined_value, defined_value_by, number_of, has_unsigned, value_of}
-use Rattle.ud_model.specs.conditions.Conditions.{Rules, names_listed, undefined_by, calls_undefined, tree_cond, tree_cond_if, expression_cond, condition_of, Decision, sole_name, ifdef_by, ifdef_decision, negated}
+use Rattle.ud_model.specs.conditions.Conditions.{Rules, names_listed, undefined_by, calls_undefined, tree_cond, tree_cond_if, expression_cond, decided_by, begins_section, condition_of, Decision, sole_name, ifdef_by, ifdef_decision, negated}
 use Rattle.ud_model.specs.declared.cond.Cond.{Cond}
 use Rattle.ud_model.specs.declared.kind.Kind.{Kind}
-use Rattle.ud_model.specs.declared.kind.Kind.TheVariants.{If, Ifdef, Ifndef, Elif, Else, Endif}
+use Rattle.ud_model.specs.declared.kind.Test.{Test}
+use Rattle.ud_model.specs.declared.kind.Test.TheVariants.{Nonzero, Defined, Undefined, Nothing}
 use Rattle.ud_model.proofs.conditions.SymbolLemmas.{SaySame, end_same}
 
 module _ (t u : List Argument) (same : SaySame t u) where
@@ -82,11 +84,13 @@ module _ (t u : List Argument) (same : SaySame t u) where
   ifdef_decision_same None = refl
   ifdef_decision_same (Some n) = ap ifdef_by (same n)
 
+  decided_by_same : (p : Test) (text : List ℕ) (rules : Rules) → decided_by p text t rules ≡ decided_by p text u rules
+  decided_by_same Nonzero text rules = ap (λ (c : Cond). record { cond = c; ignoring = false }) (expression_cond_same text rules)
+  decided_by_same Defined text rules = ifdef_decision_same (sole_name text)
+  decided_by_same Undefined text rules = ap (λ (d : Decision). record d { cond = negated d.cond }) (ifdef_decision_same (sole_name text))
+  decided_by_same Nothing text rules = refl
+
   -- each condition is decided alike
   pub condition_of_same : (k : Kind) (text : List ℕ) (rules : Rules) → condition_of k text t rules ≡ condition_of k text u rules
-  condition_of_same If text rules = ap (λ (c : Cond). record { cond = c; ignoring = false }) (expression_cond_same text rules)
-  condition_of_same Elif text rules = ap (λ (c : Cond). record { cond = c; ignoring = false }) (expression_cond_same text rules)
-  condition_of_same Ifdef text rules = ifdef_decision_same (sole_name text)
-  condition_of_same Ifndef text rules = ap (λ (d : Decision). record d { cond = negated d.cond }) (ifdef_decision_same (sole_name text))
-  condition_of_same Else text rules = refl
-  condition_of_same Endif text rules = refl
+  condition_of_same k text rules =
+      ap (λ (d : Decision). record d { ignoring = begins_section (role_of k) && d.ignoring }) (decided_by_same (test_of k) text rules)

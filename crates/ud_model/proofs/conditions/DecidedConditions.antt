@@ -1,15 +1,18 @@
 -- Decided conditions: what is decided of a text is decided of its tree, and a decided truth is C's.
 use Rattle.std.proofs.Common.{◌≡◌, ◌≢◌, ℕ, List, [], Bool, true, false, not, ◌||◌, if◌then◌else◌, Option, Some, None, refl, sym, ◌∙◌, ap, ℤ, pos}
 use Rattle.std.proofs.lemmas.Bool.{false≢true}
-use Rattle.ud_model.specs.conditions.Table.{Argument}
+use Rattle.ud_model.specs.conditions.Table.{Argument, Entry, entry_in}
 use Rattle.ud_model.specs.conditions.Expressions.{Expression, IsWritten}
 use Rattle.ud_model.specs.aids.Parsing.{expression_of}
 use Rattle.ud_model.specs.conditions.Values.{is_zero, value_of}
-use Rattle.ud_model.specs.conditions.Conditions.{Rules, names_listed, calls_undefined, truth_of, tree_cond, tree_cond_if, expression_cond}
+use Rattle.ud_model.specs.conditions.Conditions.{Rules, names_listed, calls_undefined, truth_of, tree_cond, tree_cond_if, expression_cond, sole_name, ifdef_by, ifdef_decision, negated, decided_by}
 use Rattle.ud_model.specs.conditions.Names.{names_in, names_in_tree, names_of}
 use Rattle.ud_model.specs.conditions.CValues.{Number, number, IsCValue}
+use Rattle.ud_model.specs.declared.cond.Cond.{Cond}
 use Rattle.ud_model.specs.declared.cond.Cond.TheVariants.{Yes, No, Unknown}
 use Rattle.ud_model.specs.declared.kind.Kind.TheVariants.{If}
+use Rattle.ud_model.specs.declared.kind.Test.{Test}
+use Rattle.ud_model.specs.declared.kind.Test.TheVariants.{Nonzero, Defined, Undefined, Nothing}
 use Rattle.ud_model.proofs.conditions.OneExpression.{expression_only, expression_is}
 use Rattle.ud_model.proofs.conditions.KnownNumbers.{zero_decides}
 use Rattle.ud_model.proofs.conditions.KnownStays.{known_stays}
@@ -70,3 +73,28 @@ pub no_is_false : (table : List Argument) (rules : Rules) (e : Expression) (c : 
 no_is_false table rules e c d v =
     let q : (z : ℤ) × (value_of table rules.strict e ≡ Some z) × (is_zero z ≡ true) = no_by (calls_undefined table e || not (rules.constants || names_listed table e)) (value_of table rules.strict e) d in
     known_stays table rules.strict e q.0 c q.1 v ∙ (zero_decides q.0).0 q.2
+
+-- an entry decides
+entry_heeds : (v : Option (List ℕ)) (i : Bool) → (ifdef_by (Some (record { value = v; ignoring = i }))).cond ≡ Unknown → i ≡ false
+entry_heeds None i e = cc
+entry_heeds (Some x) i e = cc
+
+by_entry : (o : Option Entry) → (ifdef_by o).cond ≡ Unknown → (ifdef_by o).ignoring ≡ false
+by_entry None e = refl
+by_entry (Some x) e = entry_heeds x.value x.ignoring e
+
+by_name : (o : Option (List ℕ)) (table : List Argument) → (ifdef_decision o table).cond ≡ Unknown → (ifdef_decision o table).ignoring ≡ false
+by_name None table e = refl
+by_name (Some n) table e = by_entry (entry_in table n) e
+
+negated_unknown : (c : Cond) → negated c ≡ Unknown → c ≡ Unknown
+negated_unknown Yes e = cc
+negated_unknown No e = cc
+negated_unknown Unknown e = refl
+
+-- a condition that is unknown makes no section plain text
+pub unknown_heeds : (p : Test) (after : List ℕ) (table : List Argument) (rules : Rules) → (decided_by p after table rules).cond ≡ Unknown → (decided_by p after table rules).ignoring ≡ false
+unknown_heeds Nonzero after table rules e = refl
+unknown_heeds Defined after table rules e = by_name (sole_name after) table e
+unknown_heeds Undefined after table rules e = by_name (sole_name after) table (negated_unknown (ifdef_decision (sole_name after) table).cond e)
+unknown_heeds Nothing after table rules e = refl

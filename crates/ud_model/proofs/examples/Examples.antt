@@ -1,5 +1,5 @@
 -- Examples: what the definitions give for small inputs, computed by the checker.
-use Rattle.std.proofs.Common.{◌≡◌, zero, refl, ◌∙◌, ap, ℕ, suc, ◌+◌, List, [], ◌∷◌, ◌++◌, codes, map, replicate, length, length-append, Option, Some, Bool, true, false, ◌==◌, ◌||◌, arith}
+use Rattle.std.proofs.Common.{◌≡◌, zero, refl, ◌∙◌, ap, ℕ, suc, ◌+◌, ◌-◌, List, [], ◌∷◌, ◌++◌, codes, map, replicate, length, length-append, Option, Some, None, Bool, true, false, ◌==◌, ◌||◌, arith}
 use Rattle.std.proofs.lemmas.List.{length-replicate}
 use Rattle.std.proofs.lemmas.Fmt.{decimal_digit}
 use Rattle.ud_model.specs.text.Lines.{Line, NoFeed, Parts, lines_of, parts_of, last_line, text_of, line_at, numbered_from}
@@ -15,7 +15,8 @@ use Rattle.ud_model.specs.sections.Faults.{inappropriate_elif, inappropriate_els
 use Rattle.ud_model.specs.answer.Messages.{message_of}
 use Rattle.ud_model.specs.declared.cond.Cond.{Cond}
 use Rattle.ud_model.specs.declared.cond.Cond.TheVariants.{Yes, No, Unknown}
-use Rattle.ud_model.specs.declared.kind.Kind.TheVariants.{Ifdef, Ifndef, Endif}
+use Rattle.ud_model.specs.declared.kind.Kind.TheVariants.{Ifdef, Ifndef, Elifdef, Elifndef, Endif}
+use Rattle.ud_model.specs.declared.limits.TheConstants.{LINE_BYTES}
 use Rattle.ud_model.specs.declared.kind.CommentAt.{CommentAt}
 use Rattle.ud_model.specs.declared.kind.CommentAt.TheVariants.{Outside, InLine}
 use Rattle.ud_model.specs.declared.verdict.Verdict.{Verdict}
@@ -76,9 +77,9 @@ bytes_of_letters n =
     ap (λ (l : List ℕ). length l) (text_of-line_at 1 (replicate n 97 ++ 10 ∷ []))
     ∙ length-append (replicate n 97) (10 ∷ []) ∙ ap (λ (k : ℕ). k + 1) (length-replicate n 97)
 
--- 4,095 letters and a line feed have 4,096 bytes
-pub bytes_of_longest_line : length (text_of (line_at 1 (replicate 4095 97 ++ 10 ∷ []))) ≡ 4096
-bytes_of_longest_line = bytes_of_letters 4095
+-- a line of as many bytes as a line may have
+pub bytes_of_longest_line : length (text_of (line_at 1 (replicate (LINE_BYTES - 1) 97 ++ 10 ∷ []))) ≡ LINE_BYTES
+bytes_of_longest_line = bytes_of_letters (LINE_BYTES - 1)
 
 -- the scan of a fresh line that is joined to the next one
 abbrev pub joined_scan : List ℕ → CommentAt → Scan
@@ -104,6 +105,13 @@ endif_before_splice = refl
 -- `if` before a splice may become `ifdef`
 pub if_before_splice : content_of (joined_scan (codes "#if") Outside) ≡ cut_keyword
 if_before_splice = refl
+
+-- and `elifd` may become `elifdef`, but no keyword begins with `elifx`
+pub elifd_before_splice : content_of (joined_scan (codes "#elifd") Outside) ≡ cut_keyword
+elifd_before_splice = refl
+
+pub elifx_before_splice : content_of (joined_scan (codes "#elifx") Outside) ≡ no_directive
+elifx_before_splice = refl
 
 -- a `#` alone before a splice
 pub sign_before_splice : content_of (joined_scan (codes "#") Outside) ≡ cut_keyword
@@ -253,6 +261,23 @@ ifdef_of_name = refl
 -- `#ifndef` is the other way round
 pub ifndef_of_name : condition_of Ifndef (codes " A ") with_name usual_rules ≡ record { cond = No; ignoring = false }
 ifndef_of_name = refl
+
+-- `#elifdef` and `#elifndef` are decided as these are
+pub elifdef_of_name : condition_of Elifdef (codes " A ") with_name usual_rules ≡ record { cond = Yes; ignoring = false }
+elifdef_of_name = refl
+
+pub elifndef_of_name : condition_of Elifndef (codes " A") with_name usual_rules ≡ record { cond = No; ignoring = false }
+elifndef_of_name = refl
+
+-- an ignoring argument makes the section of an `#ifdef` plain text, and no `#elifdef` does
+abbrev with_ignoring : List Argument
+with_ignoring = record { name = codes "A"; entry = record { value = None; ignoring = true } } ∷ []
+
+pub ignoring_ifdef : condition_of Ifdef (codes " A") with_ignoring usual_rules ≡ record { cond = No; ignoring = true }
+ignoring_ifdef = refl
+
+pub heeding_elifdef : condition_of Elifdef (codes " A") with_ignoring usual_rules ≡ record { cond = No; ignoring = false }
+heeding_elifdef = refl
 
 -- in plain mode a comment after the name is seen, and the condition is undecided
 pub ifdef_before_comment : condition_of Ifdef (codes " A /* c */") with_name usual_rules ≡ undecided

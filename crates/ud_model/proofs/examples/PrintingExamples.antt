@@ -1,8 +1,9 @@
 -- Printing under options, computed: `-b`, `-c`, `-n` and some of them together.
-use Rattle.std.proofs.Common.{◌≡◌, ℕ, List, [], ◌∷◌, Bool, true, false, codes, refl, arith}
+use Rattle.std.proofs.Common.{◌≡◌, ℕ, List, [], ◌∷◌, map, Bool, true, false, codes, refl, arith}
 use Rattle.std.proofs.lemmas.Fmt.{decimal_digit}
 use Rattle.std.specs.List.{concat}
-use Rattle.ud_model.specs.answer.Printing.{Judged, Style, piece_behind, pieces_by, some_other}
+use Rattle.ud_model.specs.sections.Directives.{Span}
+use Rattle.ud_model.specs.answer.Printing.{Judged, Style, piece_by, piece_behind, pieces_by, some_other}
 use Rattle.ud_model.specs.declared.verdict.Verdict.{Verdict}
 use Rattle.ud_model.specs.declared.verdict.Verdict.TheVariants.{Keep, Remove, ToIf}
 
@@ -43,6 +44,12 @@ complemented_numbers = rw (decimal_digit 2 (omega arith)) refl
 pub edited_number : shown (style false false true) (line (codes "#if A") (codes "\n") 1 Remove ∷ line (codes "#elif X") [] 2 ToIf ∷ [])
     ≡ codes "#line 2\n#if   X"
 edited_number = rw (decimal_digit 2 (omega arith)) refl
+
+-- a directive that becomes the first one of its section, by its keyword's length
+pub undone_words : map (λ (k : Span). piece_by ToIf k (record { body = codes "#elifndef X"; ending = codes "\n"; number = 1 }))
+    (record { at = 1; len = 4 } ∷ record { at = 1; len = 7 } ∷ record { at = 1; len = 8 } ∷ [])
+    ≡ codes "#if  ndef X\n" ∷ codes "#ifdef  f X\n" ∷ codes "#ifndef   X\n" ∷ []
+undone_words = refl
 
 -- `-c -n`: a removed line and an added `#line` may be the same bytes, and yet lines differ
 abbrev same_bytes : List Judged

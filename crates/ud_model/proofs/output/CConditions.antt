@@ -1,20 +1,23 @@
 -- A condition that is decided has the truth that C gives it.
 use Rattle.std.proofs.Common.{◌≡◌, ◌≢◌, ℕ, List, Bool, true, false, not, ◌&&◌, Option, Some, None, is_some, option_map, if◌then◌else◌, refl, ap, subst, pos}
 use Rattle.ud_model.specs.text.Scans.{Reading}
-use Rattle.ud_model.specs.sections.Directives.{Content, cut_keyword, directive, text, content_of}
+use Rattle.ud_model.specs.sections.Directives.{Content, cut_keyword, directive, text, content_of, role_of, test_of}
 use Rattle.ud_model.specs.conditions.Table.{Argument, Entry, entry_in}
 use Rattle.ud_model.specs.conditions.Expressions.{Expression, is_defined, unary}
 use Rattle.ud_model.specs.aids.Parsing.{expression_of}
 use Rattle.ud_model.specs.conditions.Values.{truth, is_zero, change, alter, defined_value, defined_value_by, value_of}
-use Rattle.ud_model.specs.conditions.Conditions.{Decision, Rules, undecided, sole_name, ifdef_by, ifdef_decision, negated, tree_cond, tree_cond_if, expression_cond, condition_of, decision_on}
+use Rattle.ud_model.specs.conditions.Conditions.{Decision, Rules, undecided, sole_name, ifdef_by, ifdef_decision, negated, tree_cond, tree_cond_if, expression_cond, decided_by, condition_of, decision_on}
 use Rattle.ud_model.specs.conditions.CValues.{Number, number}
-use Rattle.ud_model.specs.output.CSelection.{condition_after, condition_by, condition_in, HasTruth, MayBe}
+use Rattle.ud_model.specs.output.CSelection.{condition_by_test, condition_after, condition_by, condition_in, HasTruth, MayBe}
 use Rattle.ud_model.specs.sections.Tree.{Item, text_line, if_line, elif_line, else_line, endif_line}
 use Rattle.ud_model.specs.sections.Items.{Options, rules_of, directive_item, item_by, item_of}
 use Rattle.ud_model.specs.declared.cond.Cond.{Cond}
 use Rattle.ud_model.specs.declared.cond.Cond.TheVariants.{Yes, No, Unknown}
 use Rattle.ud_model.specs.declared.kind.Kind.{Kind}
-use Rattle.ud_model.specs.declared.kind.Kind.TheVariants.{If, Ifdef, Ifndef, Elif, Else, Endif}
+use Rattle.ud_model.specs.declared.kind.Role.{Role}
+use Rattle.ud_model.specs.declared.kind.Role.TheVariants.{IfGroup, ElifGroup, ElseGroup, EndifLine}
+use Rattle.ud_model.specs.declared.kind.Test.{Test}
+use Rattle.ud_model.specs.declared.kind.Test.TheVariants.{Nonzero, Defined, Undefined, Nothing}
 use Rattle.ud_model.specs.declared.operator.Operator.TheVariants.{Not}
 use Rattle.ud_model.proofs.conditions.DecidedConditions.{yes_is_true, no_is_false}
 use Rattle.ud_model.proofs.conditions.KnownStays.{known_stays}
@@ -87,13 +90,14 @@ module _ (table : List Argument) where
   ifndef_fits None b h = tt
   ifndef_fits (Some n) b h = no_entry_fits n b h (entry_in table n) refl
 
+  test_fits : (rules : Rules) (p : Test) (after : List ℕ) (b : Bool) → MayBe table (condition_by_test p after) b → Fits (decided_by p after table rules).cond b
+  test_fits rules Nonzero after b h = expression_fits rules after b h
+  test_fits rules Defined after b h = ifdef_fits (sole_name after) b h
+  test_fits rules Undefined after b h = ifndef_fits (sole_name after) b h
+  test_fits rules Nothing after b h = tt
+
   condition_fits : (rules : Rules) (k : Kind) (after : List ℕ) (b : Bool) → MayBe table (condition_after k after) b → Fits (condition_of k after table rules).cond b
-  condition_fits rules If after b h = expression_fits rules after b h
-  condition_fits rules Elif after b h = expression_fits rules after b h
-  condition_fits rules Ifdef after b h = ifdef_fits (sole_name after) b h
-  condition_fits rules Ifndef after b h = ifndef_fits (sole_name after) b h
-  condition_fits rules Else after b h = tt
-  condition_fits rules Endif after b h = tt
+  condition_fits rules k after b h = test_fits rules (test_of k) after b h
 
 -- a directive that a continuation doesn't cut
 unless_broken : (broken b : Bool) (d : Decision) (i : Bool) → Fits d.cond b → Fits (if broken then undecided else record d { ignoring = i }).cond b
@@ -108,19 +112,17 @@ ItemFits (elif_line p) b = Fits p.cond b
 ItemFits (else_line r) b = Unit {0}
 ItemFits (endif_line r) b = Unit {0}
 
-directive_fits : (r : Reading) (k : Kind) (d : Decision) (b : Bool) → Fits d.cond b → ItemFits (directive_item r k d) b
-directive_fits r If d b h = h
-directive_fits r Ifdef d b h = h
-directive_fits r Ifndef d b h = h
-directive_fits r Elif d b h = h
-directive_fits r Else d b h = tt
-directive_fits r Endif d b h = tt
+directive_fits : (r : Reading) (p : Role) (d : Decision) (b : Bool) → Fits d.cond b → ItemFits (directive_item r p d) b
+directive_fits r IfGroup d b h = h
+directive_fits r ElifGroup d b h = h
+directive_fits r ElseGroup d b h = tt
+directive_fits r EndifLine d b h = tt
 
 content_fits : (o : Options) (r : Reading) (c : Content) (b : Bool) → r.scan.joins_after ≡ false → MayBe o.table (condition_by r.scan c) b → ItemFits (item_by o r c) b
 content_fits o r cut_keyword b j h = tt
 content_fits o r text b j h = tt
 content_fits o r (directive d) b j h =
-    directive_fits r d.kind (decision_on r.scan d o.table (rules_of o.settings)) b
+    directive_fits r (role_of d.kind) (decision_on r.scan d o.table (rules_of o.settings)) b
     (unless_broken d.broken b (condition_of d.kind d.after o.table (rules_of o.settings)) ((condition_of d.kind d.after o.table (rules_of o.settings)).ignoring && not r.scan.joins_after)
     (condition_fits o.table (rules_of o.settings) d.kind d.after b
     (subst (λ (t : Bool). MayBe o.table (if t then None else condition_after d.kind d.after) b) j h)))

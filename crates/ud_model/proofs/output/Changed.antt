@@ -95,7 +95,7 @@ module _ (blank : Bool) where
       fits_one f (judged x (marked kept v))
       (keeps_size blank (marked kept v).verdict (keyword_in (content_of (reading_of x).scan)) (line_of x) (keeps_mark kept v h))
 
-  -- a line whose keyword has four bytes
+  -- a line whose keyword has four bytes at least
   word_size : (x : Item Reading) → HasWord (reading_of x) 4 → (v : Verdict) →
       AtMost v (length (f (judged x (record { kept = true; verdict = v })))) (length (text_of (line_of x)))
   word_size x w v = edited_size blank v (keyword_in (content_of (reading_of x).scan)) (line_of x) w.size w.within
@@ -132,8 +132,9 @@ module _ (blank : Bool) where
   closing_size : (x : Item Reading) → HasWord (reading_of x) 5 → length (f (judged x (marked true Remove))) + 2 ≤ length (whole (judged x (marked true Remove)))
   closing_size x w =
       let s = removed_size blank (keyword_in (content_of (reading_of x).scan)) (line_of x) in
+      let a = w.size in
       let h = w.within in
-      omega (arith, s, h)
+      omega (arith, s, a, h)
 
   endif_step : (kept past : Bool) (xs : List (Item Reading)) (ms : List Mark) (x : Item Reading) (v : Verdict) → length xs ≡ length ms → HasWord (reading_of x) 5 →
       KeepsOrGoes v → (past ≡ true → v ≡ Remove) → Held (kept && past) xs ms → ItemsFit (xs ++ x ∷ []) (ms ++ marked kept v ∷ [])

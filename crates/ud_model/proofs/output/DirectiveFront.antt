@@ -1,15 +1,14 @@
 -- What stands before a directive's keyword, and the keyword itself.
-use Rattle.std.proofs.Common.{◌≡◌, ◌≢◌, ℕ, ◌+◌, ◌-◌, ◌==◌, List, [], ◌∷◌, ◌++◌, length, Bool, true, false, not, ◌&&◌, ◌||◌, Option, Some, None, bytes_eq, codes, if◌then◌else◌, refl, sym, ◌∙◌, ap, ap₂, subst, append_assoc, arith, length-append, eqb-true, ◌⊎◌, inl, inr}
+use Rattle.std.proofs.Common.{◌≡◌, ◌≢◌, ℕ, ◌+◌, ◌-◌, ◌==◌, List, [], ◌∷◌, ◌++◌, length, Bool, true, false, not, ◌&&◌, ◌||◌, Option, Some, None, if◌then◌else◌, refl, sym, ◌∙◌, ap, ap₂, subst, append_assoc, arith, length-append, eqb-true, ◌⊎◌, inl, inr}
 use Rattle.std.proofs.lemmas.Bool.{and_parts, not-true}
-use Rattle.std.proofs.lemmas.Slice.Eq.{bytes_eq-Decides}
 use Rattle.ud_model.specs.text.Bytes.{slash, space, line_feed, is_quote, is_white, is_word_byte, past_white, word_in_front, past_word}
 use Rattle.ud_model.specs.text.Scans.{Scan}
 use Rattle.ud_model.specs.sections.Directives.{Content, Directive, cut_keyword, directive, text, content_of, past_sign, past_sign_of, has_cut_keyword, found_behind, directive_at, kind_of, is_cut_off}
 use Rattle.ud_model.specs.declared.kind.Kind.{Kind}
-use Rattle.ud_model.specs.declared.kind.Kind.TheVariants.{If, Ifdef, Ifndef, Elif, Else, Endif}
 use Rattle.ud_model.proofs.output.Each.{Each}
 use Rattle.ud_model.proofs.output.EditedScan.{has_quote, ends_in_slash}
 use Rattle.ud_model.proofs.output.KeywordPlace.{IsInert}
+use Rattle.ud_model.proofs.sections.Keywords.{each_keyword}
 
 -- it is white space
 abbrev pub IsWhite : ℕ → Type 0
@@ -127,29 +126,29 @@ each_white P p q r s t b e = go (either ((b == 32) || (b == 9) || (b == 11) || (
     go (inl f) = go2 (either ((b == 32) || (b == 9) || (b == 11)) (b == 12) f)
     go (inr f) = at 13 t f
 
--- what holds of each keyword
-pub each_keyword : (P : List ℕ → Type 0) → P (codes "if") → P (codes "ifdef") → P (codes "ifndef") → P (codes "elif") → P (codes "else") → P (codes "endif") →
-    (w : List ℕ) (k : Kind) → kind_of w ≡ Some k → P w
-each_keyword P p q r s t u w k e =
-    chain (bytes_eq w (codes "if")) (bytes_eq w (codes "ifdef")) (bytes_eq w (codes "ifndef")) (bytes_eq w (codes "elif")) (bytes_eq w (codes "else")) (bytes_eq w (codes "endif"))
-    (λ f. at (codes "if") p f) (λ f. at (codes "ifdef") q f) (λ f. at (codes "ifndef") r f) (λ f. at (codes "elif") s f) (λ f. at (codes "else") t f) (λ f. at (codes "endif") u f) e
-  where
-    at : (v : List ℕ) → P v → bytes_eq w v ≡ true → P w
-    at v h f = subst P (sym ((bytes_eq-Decides w v).0 f)) h
+-- the byte begins no comment and no literal
+abbrev is_inert : ℕ → Bool
+is_inert c = not (c == slash) && not (is_quote c) && not (c == line_feed)
 
-    chain : (a b c d e f : Bool) → (a ≡ true → P w) → (b ≡ true → P w) → (c ≡ true → P w) → (d ≡ true → P w) → (e ≡ true → P w) → (f ≡ true → P w) →
-        (if a then Some If else if b then Some Ifdef else if c then Some Ifndef else if d then Some Elif else if e then Some Else else if f then Some Endif else None) ≡ Some k → P w
-    chain true b c d e f g h i j l m n = g refl
-    chain false true c d e f g h i j l m n = h refl
-    chain false false true d e f g h i j l m n = i refl
-    chain false false false true e f g h i j l m n = j refl
-    chain false false false false true f g h i j l m n = l refl
-    chain false false false false false true g h i j l m n = m refl
-    chain false false false false false false g h i j l m n = cc
+inert_byte : (c : ℕ) → is_inert c ≡ true → IsInert c
+inert_byte c e =
+    let q : ((not (c == slash) && not (is_quote c)) ≡ true) × (not (c == line_feed) ≡ true) = and_parts (not (c == slash) && not (is_quote c)) (not (c == line_feed)) e in
+    let r : (not (c == slash) ≡ true) × (not (is_quote c) ≡ true) = and_parts (not (c == slash)) (not (is_quote c)) q.0 in
+    record { no_slash = not-true (c == slash) r.0; no_quote = not-true (is_quote c) r.1; no_feed = not-true (c == line_feed) q.1 }
+
+-- each of these bytes is so
+abbrev pub are_inert : List ℕ → Bool
+are_inert [] = true
+are_inert (c ∷ w) = is_inert c && are_inert w
+
+-- such bytes begin nothing
+pub inert_word : (w : List ℕ) → are_inert w ≡ true → Each IsInert w
+inert_word [] e = tt
+inert_word (c ∷ w) e = let p : (is_inert c ≡ true) × (are_inert w ≡ true) = and_parts (is_inert c) (are_inert w) e in (inert_byte c p.0, inert_word w p.1)
 
 -- the bytes of a word begin nothing, and aren't white
 abbrev pub is_quiet : ℕ → Bool
-is_quiet c = not (c == slash) && not (is_quote c) && not (c == line_feed) && not (c == space)
+is_quiet c = is_inert c && not (c == space)
 
 -- each of these bytes is so
 abbrev pub are_quiet : List ℕ → Bool
@@ -158,10 +157,8 @@ are_quiet (c ∷ w) = is_quiet c && are_quiet w
 
 quiet_inert : (c : ℕ) → is_quiet c ≡ true → IsInert c × (c ≢ space)
 quiet_inert c e =
-    let p : ((not (c == slash) && not (is_quote c) && not (c == line_feed)) ≡ true) × (not (c == space) ≡ true) = and_parts (not (c == slash) && not (is_quote c) && not (c == line_feed)) (not (c == space)) e in
-    let q : ((not (c == slash) && not (is_quote c)) ≡ true) × (not (c == line_feed) ≡ true) = and_parts (not (c == slash) && not (is_quote c)) (not (c == line_feed)) p.0 in
-    let r : (not (c == slash) ≡ true) × (not (is_quote c) ≡ true) = and_parts (not (c == slash)) (not (is_quote c)) q.0 in (
-      record { no_slash = not-true (c == slash) r.0; no_quote = not-true (is_quote c) r.1; no_feed = not-true (c == line_feed) q.1 },
+    let p : (is_inert c ≡ true) × (not (c == space) ≡ true) = and_parts (is_inert c) (not (c == space)) e in (
+      inert_byte c p.0,
       λ h. let f : true ≡ false = sym (ap (λ (x : ℕ). x == space) h) ∙ not-true (c == space) p.1 in cc,
     )
 
@@ -176,16 +173,24 @@ quiet_word (c ∷ w) e =
 
 -- a keyword's bytes begin nothing
 pub keyword_quiet : (w : List ℕ) (k : Kind) → kind_of w ≡ Some k → are_quiet w ≡ true
-keyword_quiet w k e = each_keyword (λ v. are_quiet v ≡ true) refl refl refl refl refl refl w k e
+keyword_quiet w k e = each_keyword (λ row. are_quiet row.0) refl w k e
 
 -- and its first byte isn't white
 abbrev pub StartsDark : List ℕ → Type 0
 StartsDark [] = ⊥
 StartsDark (c ∷ w) = is_white c ≡ false
 
+abbrev starts_dark : List ℕ → Bool
+starts_dark [] = false
+starts_dark (c ∷ w) = not (is_white c)
+
+dark_by : (w : List ℕ) → starts_dark w ≡ true → StartsDark w
+dark_by [] e = cc
+dark_by (c ∷ w) e = not-true (is_white c) e
+
 -- a keyword's first byte isn't white
 pub keyword_dark : (w : List ℕ) (k : Kind) → kind_of w ≡ Some k → StartsDark w
-keyword_dark w k e = each_keyword StartsDark refl refl refl refl refl refl w k e
+keyword_dark w k e = dark_by w (each_keyword (λ row. starts_dark row.0) refl w k e)
 
 white_unquoted : (ws t : List ℕ) → Each IsWhite ws → has_quote (ws ++ t) ≡ has_quote t
 white_unquoted [] t h = refl

@@ -1,10 +1,10 @@
 -- Edits: no more is printed of a text than there was, but that a directive that becomes the `#endif` may grow by a byte.
-use Rattle.std.proofs.Common.{◌≡◌, ℕ, suc, ◌+◌, ◌≤◌, List, [], ◌∷◌, ◌++◌, length, Bool, true, false, not, ◌&&◌, if◌then◌else◌, refl, ap₂, arith, length-append, length-take, length-drop}
+use Rattle.std.proofs.Common.{◌≡◌, ℕ, suc, ◌+◌, ◌≤◌, List, [], ◌∷◌, ◌++◌, length, Bool, true, false, not, ◌&&◌, ◌==◌, eqb-true, if◌then◌else◌, refl, ap₂, arith, length-append, length-take, length-drop}
 use Rattle.ud_model.specs.text.Lines.{Line, text_of}
 use Rattle.ud_model.specs.sections.Directives.{Span}
 use Rattle.ud_model.specs.sections.Pruning.{Part, an_if, an_elif, an_else, is_removed, any_true, gives_way, ends_with_first_true, endif_verdict, later_verdict}
 use Rattle.ud_model.specs.aids.SoFar.{verdict_so_far}
-use Rattle.ud_model.specs.answer.Printing.{Judged, piece_alone, complemented}
+use Rattle.ud_model.specs.answer.Printing.{Judged, if_word, piece_alone, complemented}
 use Rattle.ud_model.specs.declared.cond.Cond.{Cond}
 use Rattle.ud_model.specs.declared.cond.Cond.TheVariants.{Yes, No, Unknown}
 use Rattle.ud_model.specs.declared.verdict.Verdict.{Verdict}
@@ -114,13 +114,23 @@ AtMost ToIf n m = n ≤ m
 AtMost ToElse n m = n ≤ m
 AtMost ToEndif n m = n ≤ suc m
 
--- of a directive whose keyword has four bytes
-pub edited_size : (blank : Bool) (v : Verdict) (k : Span) (l : Line) → k.len ≡ 4 → k.at + 4 ≤ length l.body →
+fits_by : (a b c : List ℕ) (t u : Bool) (n : ℕ) → (t ≡ true → length a ≤ n) → (u ≡ true → length b ≤ n) → length c ≤ n → length (if t then a else if u then b else c) ≤ n
+fits_by a b c true u n f g h = f refl
+fits_by a b c false true n f g h = g refl
+fits_by a b c false false n f g h = h
+
+-- the word of a first directive in place of a keyword of four bytes at least isn't longer
+if_size : (n : ℕ) → 4 ≤ n → length (if_word n) ≤ n
+if_size n h =
+    fits_by _ _ _ (n == 7) (n == 8) n (λ e. let q : n ≡ 7 = eqb-true n 7 e in omega (arith, q)) (λ e. let q : n ≡ 8 = eqb-true n 8 e in omega (arith, q)) h
+
+-- of a directive whose keyword has four bytes at least
+pub edited_size : (blank : Bool) (v : Verdict) (k : Span) (l : Line) → 4 ≤ k.len → k.at + k.len ≤ length l.body →
     AtMost v (length (piece_alone blank (record { line = l; verdict = v; keyword = k }))) (length (text_of l))
 edited_size blank Keep k l e h = keeps_size blank Keep k l tt
 edited_size blank Remove k l e h = keeps_size blank Remove k l tt
-edited_size true ToIf k l e h = simp (length-append, length-take, length-drop) (omega arith)
-edited_size false ToIf k l e h = simp (length-append, length-take, length-drop) (omega arith)
+edited_size true ToIf k l e h = simp (length-append, length-take, length-drop) (omega (arith, if_size k.len e))
+edited_size false ToIf k l e h = simp (length-append, length-take, length-drop) (omega (arith, if_size k.len e))
 edited_size true ToElse k l e h = simp (length-append, length-take) (omega arith)
 edited_size false ToElse k l e h = simp (length-append, length-take) (omega arith)
 edited_size true ToEndif k l e h = simp (length-append, length-take) (omega arith)

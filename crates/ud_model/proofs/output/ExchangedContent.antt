@@ -1,12 +1,16 @@
 -- What a masked line carries that was made from one with a directive.
-use Rattle.std.proofs.Common.{◌≡◌, ℕ, ◌+◌, ◌-◌, List, [], ◌∷◌, ◌++◌, length, take, Bool, true, false, not, ◌&&◌, Option, Some, codes, if◌then◌else◌, refl, sym, ◌∙◌, ap, ap₂, append_assoc, arith, length-append, ◌⊎◌, inl, inr}
+use Rattle.std.proofs.Common.{◌≡◌, ℕ, ◌+◌, ◌-◌, ◌==◌, List, [], ◌∷◌, ◌++◌, length, take, Bool, true, false, not, ◌&&◌, Option, Some, if◌then◌else◌, refl, sym, ◌∙◌, ap, ap₂, append_assoc, arith, length-append, ◌⊎◌, inl, inr}
 use Rattle.std.proofs.Math.Bool.{and-false}
 use Rattle.std.proofs.lemmas.List.{take_at}
 use Rattle.ud_model.specs.text.Bytes.{past_white, word_in_front, past_word}
 use Rattle.ud_model.specs.text.Scans.{Scan}
-use Rattle.ud_model.specs.sections.Directives.{Directive, cut_keyword, directive, text, content_of, past_sign, past_sign_of, has_cut_keyword, leaves_keyword, found_behind, directive_at, kind_of, is_cut_off, is_in_line}
+use Rattle.ud_model.specs.sections.Directives.{Directive, cut_keyword, directive, text, content_of, past_sign, past_sign_of, has_cut_keyword, leaves_keyword, found_behind, directive_at, kind_of, role_of, test_of, is_cut_off, is_in_line}
+use Rattle.ud_model.specs.answer.Printing.{by_length, if_word}
 use Rattle.ud_model.specs.declared.kind.Kind.{Kind}
-use Rattle.ud_model.specs.declared.kind.Kind.TheVariants.{If}
+use Rattle.ud_model.specs.declared.kind.Kind.TheVariants.{If, Ifdef, Ifndef}
+use Rattle.ud_model.specs.declared.kind.Role.TheVariants.{IfGroup, ElifGroup}
+use Rattle.ud_model.proofs.sections.Keywords.{keyword_holds}
+use Rattle.ud_model.proofs.output.ByLength.{each_length}
 use Rattle.ud_model.proofs.output.Each.{Each}
 use Rattle.ud_model.proofs.output.DirectiveFront.{IsWhite, Front, directive_front, StartsDark}
 
@@ -63,17 +67,70 @@ module _ (now : Scan) (ws gs tail : List ℕ) (k : Kind) (w : Each IsWhite ws) (
       ∙ ap (λ (o : Option Kind). directive_at now tail o) kind
       ∙ ap (λ (n : ℕ). directive (record { kind = k; keyword = record { at = n; len = length (word_in_front tail) }; after = past_word tail; broken = is_cut_off now })) at_is
 
--- `#elif X` with two spaces after an `if` in place of its keyword is an `#if` with the same text after two spaces
-pub to_if_content : (scan now : Scan) (d : Directive) → content_of scan ≡ directive d → now.masked ≡ take d.keyword.at scan.masked ++ (codes "if  " ++ d.after) →
-    now.fresh ≡ scan.fresh → is_cut_off now ≡ is_cut_off scan →
-    content_of now ≡ directive (record { kind = If; keyword = record { at = d.keyword.at; len = 2 }; after = 32 ∷ 32 ∷ d.after; broken = d.broken })
-to_if_content scan now d e m f c =
+-- a directive with another keyword, and two spaces more after it
+abbrev pub spaced : Directive → Kind → ℕ → Directive
+spaced d k n = record { kind = k; keyword = record { at = d.keyword.at; len = n }; after = 32 ∷ 32 ∷ d.after; broken = d.broken }
+
+-- the kind of a directive that becomes the first one of its section, by the length of the keyword that it had
+abbrev pub if_kind : ℕ → Kind
+if_kind n = by_length n Ifdef Ifndef If
+
+-- its condition is tested as before
+pub tested_alike : (w : List ℕ) (k : Kind) → kind_of w ≡ Some k → role_of k ≡ ElifGroup → test_of (if_kind (length w)) ≡ test_of k
+tested_alike w k e =
+    keyword_holds (λ row. role_of row.1 ≡ ElifGroup → test_of (if_kind (length row.0)) ≡ test_of row.1)
+    ((λ h. cc), ((λ h. cc), ((λ h. cc), ((λ h. refl), ((λ h. refl), ((λ h. refl), ((λ h. cc), ((λ h. cc), tt)))))))) w k e
+
+-- it begins its section
+pub if_begins : (n : ℕ) → role_of (if_kind n) ≡ IfGroup
+if_begins n = each_length (λ (k : Kind). role_of k ≡ IfGroup) refl refl refl n
+
+-- how long its keyword then is
+abbrev pub if_len : ℕ → ℕ
+if_len n = by_length n 5 6 2
+
+-- its condition is tested as before
+pub to_if_test : (scan : Scan) (d : Directive) → content_of scan ≡ directive d → role_of d.kind ≡ ElifGroup → test_of (if_kind d.keyword.len) ≡ test_of d.kind
+to_if_test scan d e h =
     let p : Front scan d = directive_front scan d e in
-    let head : take d.keyword.at scan.masked ≡ p.white ++ 35 ∷ p.gap =
-    ap₂ (λ (n : ℕ) (t : List ℕ). take n t) p.at_is p.masked_is ∙ take_at (p.white ++ 35 ∷ p.gap) (p.word ++ d.after) (length (p.white ++ 35 ∷ p.gap)) refl in
-    carries now p.white p.gap (codes "if  " ++ d.after) If p.whites p.gaps refl (m ∙ ap (λ (t : List ℕ). t ++ (codes "if  " ++ d.after)) head) (f ∙ p.fresh_is)
-    (inr (and-false (is_cut_off now))) refl
-    ∙ ap₂ (λ (n : ℕ) (b : Bool). directive (record { kind = If; keyword = record { at = n; len = 2 }; after = 32 ∷ 32 ∷ d.after; broken = b })) (sym p.at_is) (c ∙ sym p.broken_is)
+    ap (λ (n : ℕ). test_of (if_kind n)) p.len_is ∙ tested_alike p.word d.kind p.kind_is h
+
+module _ (scan now : Scan) (d : Directive) (e : content_of scan ≡ directive d) (f : now.fresh ≡ scan.fresh) (c : is_cut_off now ≡ is_cut_off scan) where
+  with_tail : (tail : List ℕ) (k : Kind) (n : ℕ) → now.masked ≡ take d.keyword.at scan.masked ++ tail → StartsDark tail → Settled now tail →
+      kind_of (word_in_front tail) ≡ Some k → length (word_in_front tail) ≡ n → past_word tail ≡ 32 ∷ 32 ∷ d.after → content_of now ≡ directive (spaced d k n)
+  with_tail tail k n m dark settled kind long rest =
+      let p : Front scan d = directive_front scan d e in
+      let head : take d.keyword.at scan.masked ≡ p.white ++ 35 ∷ p.gap =
+      ap₂ (λ (n : ℕ) (t : List ℕ). take n t) p.at_is p.masked_is ∙ take_at (p.white ++ 35 ∷ p.gap) (p.word ++ d.after) (length (p.white ++ 35 ∷ p.gap)) refl in
+      carries now p.white p.gap tail k p.whites p.gaps dark (m ∙ ap (λ (t : List ℕ). t ++ tail) head) (f ∙ p.fresh_is) settled kind
+      ∙ ap₂ (λ (q : ℕ) (b : Bool). directive (record { kind = k; keyword = record { at = q; len = length (word_in_front tail) }; after = past_word tail; broken = b }))
+      (sym p.at_is) (c ∙ sym p.broken_is)
+      ∙ ap₂ (λ (u : ℕ) (t : List ℕ). directive (record { kind = k; keyword = record { at = d.keyword.at; len = u }; after = t; broken = d.broken })) long rest
+
+  -- the word and what follows are this keyword and two spaces more
+  record IsWord (word : List ℕ) (k : Kind) (n : ℕ) : Type 0 where
+    dark : StartsDark (word ++ d.after)
+    settled : leaves_keyword now (word ++ d.after) ≡ false
+    kind : kind_of (word_in_front (word ++ d.after)) ≡ Some k
+    long : length (word_in_front (word ++ d.after)) ≡ n
+    rest : past_word (word ++ d.after) ≡ 32 ∷ 32 ∷ d.after
+
+  with_word : (word : List ℕ) (k : Kind) (n : ℕ) → IsWord word k n → now.masked ≡ take d.keyword.at scan.masked ++ (word ++ d.after) → content_of now ≡ directive (spaced d k n)
+  with_word word k n w m = with_tail (word ++ d.after) k n m w.dark (inr w.settled) w.kind w.long w.rest
+
+  by_words : {a b c : List ℕ} {i j k : Kind} {l m n : ℕ} → IsWord a i l → IsWord b j m → IsWord c k n → (t u : Bool) →
+      now.masked ≡ take d.keyword.at scan.masked ++ ((if t then a else if u then b else c) ++ d.after) →
+      content_of now ≡ directive (spaced d (if t then i else if u then j else k) (if t then l else if u then m else n))
+  by_words {a} {b} {c} {i} {j} {k} {l} {m} {n} x y z true u e = with_word a i l x e
+  by_words {a} {b} {c} {i} {j} {k} {l} {m} {n} x y z false true e = with_word b j m y e
+  by_words {a} {b} {c} {i} {j} {k} {l} {m} {n} x y z false false e = with_word c k n z e
+
+  -- with the word of a first directive in place of its keyword it is one, with the same text after two spaces
+  pub to_if_content : now.masked ≡ take d.keyword.at scan.masked ++ (if_word d.keyword.len ++ d.after) → content_of now ≡ directive (spaced d (if_kind d.keyword.len) (if_len d.keyword.len))
+  to_if_content m =
+      by_words (record { dark = refl; settled = and-false (is_cut_off now); kind = refl; long = refl; rest = refl })
+      (record { dark = refl; settled = and-false (is_cut_off now); kind = refl; long = refl; rest = refl })
+      (record { dark = refl; settled = and-false (is_cut_off now); kind = refl; long = refl; rest = refl }) (d.keyword.len == 7) (d.keyword.len == 8) m
 
 -- a line that ends after `else` or `endif` in place of its keyword, and joins no other
 pub cut_content : (scan now : Scan) (d : Directive) (word : List ℕ) (k : Kind) → content_of scan ≡ directive d → now.masked ≡ take d.keyword.at scan.masked ++ word →

@@ -124,12 +124,13 @@ pub record Exchanged (w : Place) (white before : Bool) (l k : Line) (d : Directi
   pub white_is : white_after w white (content k) ≡ white_after w white (content l)
 
 -- if the new keyword begins nothing either, a line is seen so
-pub exchanged_scan : (w : Place) (white before : Bool) (l k : Line) (d : Directive) (c : ℕ) (word : List ℕ) → Sane w white →
-    content_of (scan_from w white before l) ≡ directive d → Each IsInert (c ∷ word) → is_white c ≡ false →
-    content k ≡ take d.keyword.at (content l) ++ ((c ∷ word) ++ drop (d.keyword.at + d.keyword.len) (content l)) →
-    Exchanged w white before l k d (c ∷ word)
+pub exchanged_scan : (w : Place) (white before : Bool) (l k : Line) (d : Directive) (word : List ℕ) → Sane w white →
+    content_of (scan_from w white before l) ≡ directive d → Each IsInert word → StartsDark word →
+    content k ≡ take d.keyword.at (content l) ++ (word ++ drop (d.keyword.at + d.keyword.len) (content l)) →
+    Exchanged w white before l k d word
 unfolding scan_from
-exchanged_scan w white before l k d c word s e i n are =
+exchanged_scan w white before l k d [] s e i n are = absurd n
+exchanged_scan w white before l k d (c ∷ word) s e i n are =
     let p : Spelled w white (content l) d = spelled w white before l d s e in
     let head : take d.keyword.at (content l) ≡ p.before =
     ap₂ (λ (m : ℕ) (t : List ℕ). take m t) p.at_is p.are ∙ take_at p.before ((p.first ∷ p.word) ++ p.more) (length p.before) refl in

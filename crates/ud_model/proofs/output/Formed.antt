@@ -7,9 +7,10 @@ use Rattle.std.proofs.lemmas.Slice.Eq.{ends_is}
 use Rattle.std.proofs.lemmas.List.{take-append-drop, take_at, same_from_push}
 use Rattle.ud_model.specs.text.Lines.{NoFeed, IsWhole, IsUnended, AreFormed, ending_of, Line, line_at}
 use Rattle.ud_model.specs.sections.Directives.{Span}
-use Rattle.ud_model.specs.answer.Printing.{piece_by}
+use Rattle.ud_model.specs.answer.Printing.{if_word, piece_by}
 use Rattle.ud_model.specs.declared.verdict.Verdict.{Verdict}
 use Rattle.ud_model.specs.declared.verdict.Verdict.TheVariants.{Keep, Remove, ToIf, ToElse, ToEndif}
+use Rattle.ud_model.proofs.output.ByLength.{each_length}
 use Rattle.ud_model.proofs.text.Pushes.{ByPush, none, push, by_push}
 use Rattle.ud_model.proofs.text.LinesLemmas.{no_feed-append, body-ending}
 
@@ -59,7 +60,7 @@ whole_body t (front, n, e) = go (whole_ending t (front, n, e))
 unfoldable pub edited_body : Verdict → Span → List ℕ → List ℕ
 edited_body Keep k b = b
 edited_body Remove k b = b
-edited_body ToIf k b = (take k.at b ++ codes "if  ") ++ drop (k.at + k.len) b
+edited_body ToIf k b = (take k.at b ++ if_word k.len) ++ drop (k.at + k.len) b
 edited_body ToElse k b = take k.at b ++ codes "else"
 edited_body ToEndif k b = take k.at b ++ codes "endif"
 
@@ -94,8 +95,9 @@ unfolding edited_body
 edited_no_feed Keep k b n = n
 edited_no_feed Remove k b n = n
 edited_no_feed ToIf k b n =
-    no_feed-append (take k.at b ++ codes "if  ") (drop (k.at + k.len) b)
-    (no_feed-append (take k.at b) (codes "if  ") (no_feed_cut k.at b n).0 (word_no_feed (codes "if  ") refl)) (no_feed_cut (k.at + k.len) b n).1
+    no_feed-append (take k.at b ++ if_word k.len) (drop (k.at + k.len) b)
+    (no_feed-append (take k.at b) (if_word k.len) (no_feed_cut k.at b n).0 (word_no_feed (if_word k.len) (each_length (λ w. has_feed w ≡ false) refl refl refl k.len)))
+    (no_feed_cut (k.at + k.len) b n).1
 edited_no_feed ToElse k b n = no_feed-append (take k.at b) (codes "else") (no_feed_cut k.at b n).0 (word_no_feed (codes "else") refl)
 edited_no_feed ToEndif k b n = no_feed-append (take k.at b) (codes "endif") (no_feed_cut k.at b n).0 (word_no_feed (codes "endif") refl)
 
@@ -119,9 +121,11 @@ unended_piece Keep k n t h (s, w) = (subst (λ (x : List ℕ). x ≢ []) (sym (b
 unended_piece Remove k n t h w = absurd h
 unended_piece ToIf k n t h (s, w) =
     let p : NoFeed (body_of t) × NoFeed (ending_of t) = no_feed_parts (body_of t) (ending_of t) (subst NoFeed (sym (body-ending t)) w) in (
-      nil_front ((take k.at (body_of t) ++ codes "if  ") ++ drop (k.at + k.len) (body_of t)) (ending_of t)
-          (nil_front (take k.at (body_of t) ++ codes "if  ") (drop (k.at + k.len) (body_of t)) (not_nil (take k.at (body_of t)) (codes "f  ") 105)),
-      no_feed-append ((take k.at (body_of t) ++ codes "if  ") ++ drop (k.at + k.len) (body_of t)) (ending_of t) (edited_no_feed ToIf k (body_of t) p.0) p.1,
+      nil_front ((take k.at (body_of t) ++ if_word k.len) ++ drop (k.at + k.len) (body_of t)) (ending_of t)
+          (nil_front (take k.at (body_of t) ++ if_word k.len) (drop (k.at + k.len) (body_of t))
+          (each_length (λ w. take k.at (body_of t) ++ w ≢ []) (not_nil (take k.at (body_of t)) (codes "fdef  ") 105) (not_nil (take k.at (body_of t)) (codes "fndef  ") 105)
+          (not_nil (take k.at (body_of t)) (codes "f  ") 105) k.len)),
+      no_feed-append ((take k.at (body_of t) ++ if_word k.len) ++ drop (k.at + k.len) (body_of t)) (ending_of t) (edited_no_feed ToIf k (body_of t) p.0) p.1,
     )
 unended_piece ToElse k n t h (s, w) =
     let p : NoFeed (body_of t) × NoFeed (ending_of t) = no_feed_parts (body_of t) (ending_of t) (subst NoFeed (sym (body-ending t)) w) in (
@@ -175,7 +179,9 @@ edited_end q o Keep k b h = h
 edited_end q o Remove k b h = h
 edited_end q o ToIf k b h =
     end_drop q (k.at + k.len) b
-    (end_front q (take k.at b ++ codes "if  ") (drop (k.at + k.len) b) (by_push (drop (k.at + k.len) b)) refl (λ r. not_end q (take k.at b) (codes "if ") 32 o.no_space) h)
+    (end_front q (take k.at b ++ if_word k.len) (drop (k.at + k.len) b) (by_push (drop (k.at + k.len) b)) refl
+    (λ r. each_length (λ w. EndsIn q (take k.at b ++ w) → ⊥) (not_end q (take k.at b) (codes "ifdef ") 32 o.no_space) (not_end q (take k.at b) (codes "ifndef ") 32 o.no_space)
+    (not_end q (take k.at b) (codes "if ") 32 o.no_space) k.len) h)
 edited_end q o ToElse k b h = absurd (not_end q (take k.at b) (codes "els") 101 o.no_else h)
 edited_end q o ToEndif k b h = absurd (not_end q (take k.at b) (codes "endi") 102 o.no_endif h)
 

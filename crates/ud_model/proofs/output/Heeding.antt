@@ -1,17 +1,20 @@
 -- If no argument has plain sections, no section ignores, and every line is read in one mode.
 use Rattle.std.proofs.Common.{◌≡◌, ℕ, List, [], ◌∷◌, ◌++◌, Bool, true, false, not, ◌&&◌, ◌||◌, Option, Some, None, bytes_eq, if◌then◌else◌, refl, sym, ◌∙◌, ap, ap₂, subst}
-use Rattle.std.proofs.Math.Bool.{or-false}
+use Rattle.std.proofs.Math.Bool.{and-false, or-false}
 use Rattle.ud_model.specs.text.Lines.{Line}
 use Rattle.ud_model.specs.text.Scans.{Reading}
-use Rattle.ud_model.specs.sections.Directives.{Content, cut_keyword, directive, text, content_of}
+use Rattle.ud_model.specs.sections.Directives.{Content, cut_keyword, directive, text, content_of, role_of, test_of}
 use Rattle.ud_model.specs.conditions.Table.{Argument, Entry, entry_in, entry_from}
-use Rattle.ud_model.specs.conditions.Conditions.{Decision, Rules, decision_on, condition_of, ifdef_by, ifdef_decision, sole_name, undecided}
+use Rattle.ud_model.specs.conditions.Conditions.{Decision, Rules, decision_on, decided_by, begins_section, condition_of, ifdef_by, ifdef_decision, sole_name, undecided}
 use Rattle.ud_model.specs.sections.Tree.{Item, Elifs, Head, Tree, text_line, if_line, elif_line, else_line, endif_line, nothing, first, elif, if_head, elif_head, else_head, closed, open_section, lines, lines_of_nodes, lines_of_elifs, lines_of_head, is_ignoring, opener_of_elifs, opener_of_head}
 use Rattle.ud_model.specs.sections.Items.{Options, item_of, item_by, directive_item, mode_by, mode_after, read_after, next_item, rules_of}
 use Rattle.ud_model.specs.sections.Faults.{AreSound, no_lines, one_more}
 use Rattle.ud_model.specs.output.Rereading.{NoneIgnores, AreRead, no_items, one_item}
 use Rattle.ud_model.specs.declared.kind.Kind.{Kind}
-use Rattle.ud_model.specs.declared.kind.Kind.TheVariants.{If, Ifdef, Ifndef, Elif, Else, Endif}
+use Rattle.ud_model.specs.declared.kind.Role.{Role}
+use Rattle.ud_model.specs.declared.kind.Role.TheVariants.{IfGroup, ElifGroup, ElseGroup, EndifLine}
+use Rattle.ud_model.specs.declared.kind.Test.{Test}
+use Rattle.ud_model.specs.declared.kind.Test.TheVariants.{Nonzero, Defined, Undefined, Nothing}
 use Rattle.ud_model.specs.declared.kind.Mode.{Mode}
 use Rattle.ud_model.proofs.output.Each.{Each, each_parts, each_both}
 use Rattle.ud_model.proofs.sections.Growth.{Adds}
@@ -55,31 +58,31 @@ calm_ifdef : (name : Option (List ℕ)) (table : List Argument) → NoneIgnores 
 calm_ifdef None table n = refl
 calm_ifdef (Some name) table n = calm_by (entry_in table name) (calm_from None table name tt n)
 
+calm_test : (p : Test) (after : List ℕ) (table : List Argument) (rules : Rules) → NoneIgnores table → (decided_by p after table rules).ignoring ≡ false
+calm_test Nonzero after table rules n = refl
+calm_test Defined after table rules n = calm_ifdef (sole_name after) table n
+calm_test Undefined after table rules n = calm_ifdef (sole_name after) table n
+calm_test Nothing after table rules n = refl
+
 calm_condition : (k : Kind) (after : List ℕ) (table : List Argument) (rules : Rules) → NoneIgnores table → (condition_of k after table rules).ignoring ≡ false
-calm_condition If after table rules n = refl
-calm_condition Elif after table rules n = refl
-calm_condition Ifdef after table rules n = calm_ifdef (sole_name after) table n
-calm_condition Ifndef after table rules n = calm_ifdef (sole_name after) table n
-calm_condition Else after table rules n = refl
-calm_condition Endif after table rules n = refl
+calm_condition k after table rules n =
+    ap (λ (t : Bool). begins_section (role_of k) && t) (calm_test (test_of k) after table rules n) ∙ and-false (begins_section (role_of k))
 
 calm_unless : (b : Bool) (d : Decision) (j : Bool) → d.ignoring ≡ false → (if b then undecided else record d { ignoring = d.ignoring && not j }).ignoring ≡ false
 calm_unless true d j h = refl
 calm_unless false d j h = ap (λ (t : Bool). t && not j) h
 
-calm_item : (r : Reading) (k : Kind) (d : Decision) → d.ignoring ≡ false → Heeds (directive_item r k d)
-calm_item r If d h = h
-calm_item r Ifdef d h = h
-calm_item r Ifndef d h = h
-calm_item r Elif d h = h
-calm_item r Else d h = tt
-calm_item r Endif d h = tt
+calm_item : (r : Reading) (p : Role) (d : Decision) → d.ignoring ≡ false → Heeds (directive_item r p d)
+calm_item r IfGroup d h = h
+calm_item r ElifGroup d h = h
+calm_item r ElseGroup d h = tt
+calm_item r EndifLine d h = tt
 
 by_content : (o : Options) (r : Reading) (c : Content) → NoneIgnores o.table → Heeds (item_by o r c)
 by_content o r cut_keyword n = tt
 by_content o r text n = tt
 by_content o r (directive d) n =
-    calm_item r d.kind (decision_on r.scan d o.table (rules_of o.settings))
+    calm_item r (role_of d.kind) (decision_on r.scan d o.table (rules_of o.settings))
     (calm_unless d.broken (condition_of d.kind d.after o.table (rules_of o.settings)) r.scan.joins_after (calm_condition d.kind d.after o.table (rules_of o.settings) n))
 
 -- an item that was read so heeds

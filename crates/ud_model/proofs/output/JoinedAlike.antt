@@ -73,14 +73,14 @@ module _ {L : Type 0} where
     mark = marked kept (verdict_so_far (o.cond ∷ []) an_elif p.cond);
     more = simp (append-nil, append_assoc);
     does = does_elif p kept (is_kept [] o.cond) (verdict_so_far (o.cond ∷ []) an_elif p.cond) (is_kept (o.cond ∷ []) p.cond) (keeps_inside (o.cond ∷ []) an_elif p.cond);
-    suits = suits_marked kept (verdict_so_far (o.cond ∷ []) an_elif p.cond) (elif_line p) (suits_elif (verdict_so_far (o.cond ∷ []) an_elif p.cond) p);
+    suits = suits_marked kept (verdict_so_far (o.cond ∷ []) an_elif p.cond) (elif_line p) (suits_elif (o.cond ∷ []) p);
   }
   grows kept (elif_after_elif {es = es} {o = o} {p = p}) =
       let cs : List Cond = conds_of_elifs es ++ o.cond ∷ [] in record {
         mark = marked kept (verdict_so_far cs an_elif p.cond);
         more = simp (append-nil, append_assoc);
         does = does_elif p kept (is_kept (conds_of_elifs es) o.cond) (verdict_so_far cs an_elif p.cond) (is_kept cs p.cond) (keeps_inside cs an_elif p.cond);
-        suits = suits_marked kept (verdict_so_far cs an_elif p.cond) (elif_line p) (suits_elif (verdict_so_far cs an_elif p.cond) p);
+        suits = suits_marked kept (verdict_so_far cs an_elif p.cond) (elif_line p) (suits_elif cs p);
       }
   grows kept (else_after_if {o = o} {l = l}) = record {
     mark = marked kept (verdict_so_far (o.cond ∷ []) an_else Yes);

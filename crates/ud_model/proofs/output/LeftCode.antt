@@ -134,7 +134,7 @@ module _ (o : Options) where
         subst (λ (r : Scan). SeenAsIf r (scan_after (map reading_of ys) C k) d.0) (sym seen_before)
         (subst (λ (r : Scan). SeenAsIf (scan_from w white on l) r d.0) (sym seen_now) f.seen) in
         record {
-          left = left_if o (read_after xs C l) (read_after ys C k) d.0 d.1 d.2 seen e;
+          left = left_if o (read_after xs C l) (read_after ys C k) d.0 d.1 d.2 d.3 seen e;
           carry = kept_carry f.next seen.joins_is;
         }
     left_code ToElse h s u m b e =

@@ -28,7 +28,7 @@ module _ (o : Options) (xs ys : List (Item Reading)) (l k : Line) where
       (ap (λ (t : List ℕ). plain_scan (record { body = t; ending = l.ending; number = 0 })) (b.body ∙ kept_body (keyword_in (content_of (plain_scan l))) l.body)) e u
   left_plain ToIf h s u b e =
       let d = becomes_if o (read_after xs Plain l) s in
-      left_if o (read_after xs Plain l) (read_after ys Plain k) d.0 d.1 d.2
+      left_if o (read_after xs Plain l) (read_after ys Plain k) d.0 d.1 d.2 d.3
       (plain_if l k d.0 d.1 (subst (λ (p : Span). LeftLine ToIf p l k) (ap keyword_in d.1) b)) e
   left_plain ToElse h s u b e =
       let d = becomes_else o (read_after xs Plain l) s in

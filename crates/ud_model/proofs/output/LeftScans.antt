@@ -1,6 +1,6 @@
 -- What is seen of what is left of a line.
-use Rattle.std.proofs.Common.{◌≡◌, ℕ, ◌+◌, ◌==◌, ◌≤◌, List, [], ◌∷◌, ◌++◌, length, take, drop, Bool, true, false, ◌&&◌, ◌||◌, codes, refl, ◌∙◌, ap, ap₂, append_assoc, arith}
-use Rattle.ud_model.specs.text.Bytes.{backslash, is_quote}
+use Rattle.std.proofs.Common.{◌≡◌, ℕ, ◌+◌, ◌≤◌, List, [], ◌∷◌, ◌++◌, length, take, drop, Bool, true, false, ◌&&◌, ◌||◌, refl, ◌∙◌, ap, ap₂, append_assoc, arith}
+use Rattle.ud_model.specs.text.Bytes.{backslash}
 use Rattle.ud_model.specs.text.Lines.{Line}
 use Rattle.ud_model.specs.text.Scans.{Scan, plain_scan}
 use Rattle.ud_model.specs.text.Splicing.{is_spliced, content, stays_open}
@@ -9,12 +9,13 @@ use Rattle.ud_model.specs.text.Scanning.{is_block, comment_at}
 use Rattle.ud_model.specs.aids.Places.{Place, in_text, place_kind, closed_place}
 use Rattle.ud_model.specs.sections.Directives.{Content, Directive, Span, directive, content_of, is_cut_off, is_outside}
 use Rattle.ud_model.specs.sections.Faults.{is_in_block}
-use Rattle.ud_model.specs.answer.Printing.{keyword_in}
+use Rattle.ud_model.specs.answer.Printing.{if_word, keyword_in}
 use Rattle.ud_model.specs.declared.kind.CommentAt.{CommentAt}
 use Rattle.ud_model.specs.declared.verdict.Verdict.TheVariants.{ToIf}
+use Rattle.ud_model.proofs.output.ByLength.{each_length}
 use Rattle.ud_model.proofs.output.Each.{Each}
 use Rattle.ud_model.proofs.output.Formed.{EndsIn, edited_body}
-use Rattle.ud_model.proofs.output.DirectiveFront.{Front, directive_front}
+use Rattle.ud_model.proofs.output.DirectiveFront.{Front, directive_front, StartsDark, are_inert, inert_word}
 use Rattle.ud_model.proofs.output.ExchangedScan.{Sane, drop_two, Exchanged, exchanged_scan, CutOff, cut_scan}
 use Rattle.ud_model.proofs.sections.KeywordLies.{keyword_lies}
 use Rattle.ud_model.proofs.output.KeywordPlace.{IsInert, length-masked_after}
@@ -23,7 +24,7 @@ use Rattle.ud_model.proofs.text.ScanLaws.{place_after, white_after, masked_after
 
 -- a line that becomes an `#if` is seen as before but for its keyword
 pub record SeenAsIf (s now : Scan) (d : Directive) : Type 0 where
-  pub masked_is : now.masked ≡ take d.keyword.at s.masked ++ (codes "if  " ++ d.after)
+  pub masked_is : now.masked ≡ take d.keyword.at s.masked ++ (if_word d.keyword.len ++ d.after)
   pub fresh_is : now.fresh ≡ s.fresh
   pub cut_is : is_cut_off now ≡ is_cut_off s
   pub joins_is : now.joins_after ≡ s.joins_after
@@ -55,8 +56,8 @@ plain_after l d e =
 pub plain_if : (l k : Line) (d : Directive) → content_of (plain_scan l) ≡ directive d → LeftLine ToIf d.keyword l k → SeenAsIf (plain_scan l) (plain_scan k) d
 unfolding edited_body
 plain_if l k d e h = record {
-  masked_is = h.body ∙ append_assoc (take d.keyword.at l.body) (codes "if  ") (drop (d.keyword.at + d.keyword.len) l.body)
-      ∙ ap (λ (t : List ℕ). take d.keyword.at l.body ++ (codes "if  " ++ t)) (plain_after l d e);
+  masked_is = h.body ∙ append_assoc (take d.keyword.at l.body) (if_word d.keyword.len) (drop (d.keyword.at + d.keyword.len) l.body)
+      ∙ ap (λ (t : List ℕ). take d.keyword.at l.body ++ (if_word d.keyword.len ++ t)) (plain_after l d e);
   fresh_is = refl;
   cut_is = refl;
   joins_is = refl;
@@ -97,8 +98,9 @@ pub if_scan : (w : Place) (white on : Bool) (l k : Line) (d : Directive) → San
 unfolding scan_from
 if_scan w white on l k d s e h =
     let within : d.keyword.at + d.keyword.len ≤ length (content l) = keyword_within w white on l d e in
-    let x : Exchanged w white on l k d (codes "if  ") =
-    exchanged_scan w white on l k d 105 (102 ∷ 32 ∷ 32 ∷ []) s e inert_if refl (if_line_content d.keyword l k within h) in
+    let x : Exchanged w white on l k d (if_word d.keyword.len) =
+    exchanged_scan w white on l k d (if_word d.keyword.len) s e (inert_word (if_word d.keyword.len) (each_length (λ v. are_inert v ≡ true) refl refl refl d.keyword.len))
+    (each_length StartsDark refl refl refl d.keyword.len) (if_line_content d.keyword l k within h) in
     let p : is_spliced k ≡ is_spliced l = if_splice d.keyword l k within h in
     let t : stays_open k ≡ stays_open l = same_open l k p h.ending in
     let v : closed_place (stays_open k) (place_after w (content k)) ≡ closed_place (stays_open l) (place_after w (content l)) =
@@ -116,12 +118,6 @@ if_scan w white on l k d s e h =
       };
       next = record { stays_is = t; place_is = x.place_is; white_is = x.white_is };
     }
-  where
-    inert : (c : ℕ) → (c == 47) ≡ false → is_quote c ≡ false → (c == 10) ≡ false → IsInert c
-    inert c a b e = record { no_slash = a; no_quote = b; no_feed = e }
-
-    inert_if : Each IsInert (codes "if  ")
-    inert_if = (inert 105 refl refl refl, (inert 102 refl refl refl, (inert 32 refl refl refl, (inert 32 refl refl refl, tt))))
 
 calm_in_text : (t : Bool) → place_kind (closed_place t in_text) ≡ single
 calm_in_text true = refl

@@ -1,11 +1,11 @@
 -- A directive is edited only if it can be: an `#elif` to an `#if` or `#else`, an `#elif` or `#else` to an `#endif`.
-use Rattle.std.proofs.Common.{List, [], Bool, true, false, sym, subst}
+use Rattle.std.proofs.Common.{◌≡◌, List, [], Bool, true, false, refl, sym, subst}
 use Rattle.ud_model.specs.declared.cond.Cond.{Cond}
-use Rattle.ud_model.specs.declared.cond.Cond.TheVariants.{Yes}
+use Rattle.ud_model.specs.declared.cond.Cond.TheVariants.{Yes, No, Unknown}
 use Rattle.ud_model.specs.declared.verdict.Verdict.{Verdict}
 use Rattle.ud_model.specs.declared.verdict.Verdict.TheVariants.{Keep, Remove, ToIf, ToElse, ToEndif}
 use Rattle.ud_model.specs.sections.Tree.{Item, Opener, if_line, elif_line, else_line, endif_line}
-use Rattle.ud_model.specs.sections.Pruning.{an_if, an_else, marked, endif_verdict}
+use Rattle.ud_model.specs.sections.Pruning.{an_if, an_elif, an_else, marked, endif_verdict}
 use Rattle.ud_model.specs.aids.SoFar.{verdict_so_far}
 use Rattle.ud_model.proofs.output.Edits.{KeepsOrGoes, endif_keeps, if_keeps}
 use Rattle.ud_model.proofs.sections.Stages.{Stage, leading, given, going, at_true, past, stage, verdict_at, verdict_by_stage}
@@ -14,7 +14,7 @@ use Rattle.ud_model.proofs.sections.Stages.{Stage, leading, given, going, at_tru
 abbrev pub Suits : {L : Type 0} → Verdict → Item L → Type 0
 Suits Keep x = Unit {0}
 Suits Remove x = Unit {0}
-Suits ToIf (elif_line o) = Unit {0}
+Suits ToIf (elif_line o) = o.cond ≡ Unknown
 Suits ToIf x = ⊥
 Suits ToElse (elif_line o) = Unit {0}
 Suits ToElse x = ⊥
@@ -40,13 +40,20 @@ module _ {L : Type 0} where
   pub suits_if : (o : Opener L) (c : Cond) → Suits (verdict_so_far [] an_if c) (if_line o)
   suits_if o c = keeps_suit (verdict_so_far [] an_if c) (if_line o) (if_keeps c)
 
-  -- an `#elif`
-  pub suits_elif : (v : Verdict) (o : Opener L) → Suits v (elif_line o)
-  suits_elif Keep o = tt
-  suits_elif Remove o = tt
-  suits_elif ToIf o = tt
-  suits_elif ToElse o = tt
-  suits_elif ToEndif o = tt
+  elif_at : (s : Stage) (o : Opener L) (c : Cond) → o.cond ≡ c → Suits (verdict_at s an_elif c) (elif_line o)
+  elif_at leading o Yes e = tt
+  elif_at leading o No e = tt
+  elif_at leading o Unknown e = e
+  elif_at given o c e = tt
+  elif_at going o Yes e = tt
+  elif_at going o No e = tt
+  elif_at going o Unknown e = tt
+  elif_at at_true o c e = tt
+  elif_at past o c e = tt
+
+  -- a directive that opens a further group; it becomes the first one only if its condition is unknown
+  pub suits_elif : (cs : List Cond) (o : Opener L) → Suits (verdict_so_far cs an_elif o.cond) (elif_line o)
+  suits_elif cs o = subst (λ (v : Verdict). Suits v (elif_line o)) (sym (verdict_by_stage cs an_elif o.cond)) (elif_at (stage cs) o o.cond refl)
 
   else_at : (s : Stage) (l : L) → Suits (verdict_at s an_else Yes) (else_line l)
   else_at leading l = tt

@@ -2,7 +2,7 @@
 use Rattle.std.proofs.Common.{◌≡◌, ◌≢◌, ℕ, suc, ◌≤◌, List, [], ◌∷◌, ◌++◌, length, map, Some, None, refl, sym, ◌∙◌, ap, ap₂, subst, append_assoc, length-append, arith}
 use Rattle.ud_model.specs.text.Lines.{Line, text_of, line_at, lines_of, whole_lines, open_rest, texts_of, numbered_from}
 use Rattle.ud_model.specs.text.Scans.{Reading}
-use Rattle.ud_model.specs.sections.Directives.{Content, cut_keyword, directive, text, content_of}
+use Rattle.ud_model.specs.sections.Directives.{Content, cut_keyword, directive, text, content_of, role_of}
 use Rattle.ud_model.specs.conditions.Conditions.{Decision, decision_on}
 use Rattle.ud_model.specs.sections.Tree.{Item, Tree}
 use Rattle.ud_model.specs.sections.Items.{Options, rules_of, directive_item, item_by, reading_of, line_of, mode_after, read_after, next_item}
@@ -10,24 +10,22 @@ use Rattle.ud_model.specs.sections.Faults.{Fault, Case, FaultOf, Holds, NoneHold
 use Rattle.ud_model.specs.answer.Runs.{Outcome, StopsAt, GoesThrough, ReadsAs, ReadsSoFar, Runs, ran_as, RunsSoFar, came_as, RestBreaks, IsLimit, by_lines, by_bytes, lines_so_far, line_so_far, breaks}
 use Rattle.ud_model.specs.answer.Runs.ReadsSoFar.{stops as stops_so_far}
 use Rattle.ud_model.specs.answer.Runs.ReadsAs.{stops}
-use Rattle.ud_model.specs.declared.kind.Kind.{Kind}
-use Rattle.ud_model.specs.declared.kind.Kind.TheVariants.{If, Ifdef, Ifndef, Elif, Else, Endif}
+use Rattle.ud_model.specs.declared.kind.Role.{Role}
+use Rattle.ud_model.specs.declared.kind.Role.TheVariants.{IfGroup, ElifGroup, ElseGroup, EndifLine}
 use Rattle.ud_model.proofs.text.LinesLemmas.{Growth, stays_open, ends_line, grows, text_of-line_at, numbered_from-next, lines_so_far-append, lines_of-append, texts_of_grows, some_front}
 
 -- a directive's item has the line that it was read from
-pub reading_of-directive_item : (r : Reading) (k : Kind) (d : Decision) → reading_of (directive_item r k d) ≡ r
-reading_of-directive_item r If d = refl
-reading_of-directive_item r Ifdef d = refl
-reading_of-directive_item r Ifndef d = refl
-reading_of-directive_item r Elif d = refl
-reading_of-directive_item r Else d = refl
-reading_of-directive_item r Endif d = refl
+pub reading_of-directive_item : (r : Reading) (p : Role) (d : Decision) → reading_of (directive_item r p d) ≡ r
+reading_of-directive_item r IfGroup d = refl
+reading_of-directive_item r ElifGroup d = refl
+reading_of-directive_item r ElseGroup d = refl
+reading_of-directive_item r EndifLine d = refl
 
 -- an item keeps how its line was read
 pub reading_of-item_by : (o : Options) (r : Reading) (c : Content) → reading_of (item_by o r c) ≡ r
 reading_of-item_by o r cut_keyword = refl
 reading_of-item_by o r text = refl
-reading_of-item_by o r (directive d) = reading_of-directive_item r d.kind (decision_on r.scan d o.table (rules_of o.settings))
+reading_of-item_by o r (directive d) = reading_of-directive_item r (role_of d.kind) (decision_on r.scan d o.table (rules_of o.settings))
 
 -- an item keeps its line
 pub line_of-next_item : (o : Options) (xs : List (Item Reading)) (t : Tree Reading) (l : Line) → line_of (next_item o xs t l) ≡ l

@@ -61,3 +61,12 @@ one_off false b bs rest h = omega arith
 pub length-past_white : (bytes : List ℕ) → length (past_white bytes) ≤ length bytes
 length-past_white [] = omega arith
 length-past_white (b ∷ bs) = one_off (is_white b) b bs (past_white bs) (length-past_white bs)
+
+one_word : (w : Bool) (b : ℕ) (front : List ℕ) → is_word_byte b ≡ w → are_word_bytes front ≡ true → are_word_bytes (if w then b ∷ front else []) ≡ true
+one_word true b front e h = rw e h
+one_word false b front e h = refl
+
+-- the word in front has word bytes alone
+pub word_in_front-word : (bytes : List ℕ) → are_word_bytes (word_in_front bytes) ≡ true
+word_in_front-word [] = refl
+word_in_front-word (b ∷ bs) = one_word (is_word_byte b) b (word_in_front bs) refl (word_in_front-word bs)

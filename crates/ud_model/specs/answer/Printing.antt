@@ -8,7 +8,7 @@
 --   some_differ_by settings ..    some line's piece isn't the line itself
 --
 -- Example: of a line `x` that follows a removed one, `#line 5` and the line are printed under `-n`, 5 being its number.
-use Rattle.std.specs.Prelude.{ℕ, ◌+◌, List, [], ◌∷◌, ◌++◌, take, drop, map, Bool, false, not, ◌&&◌, ◌||◌, bytes_eq, codes, decimal, if◌then◌else◌}
+use Rattle.std.specs.Prelude.{ℕ, ◌+◌, ◌==◌, List, [], ◌∷◌, ◌++◌, take, drop, map, Bool, false, not, ◌&&◌, ◌||◌, bytes_eq, codes, decimal, if◌then◌else◌}
 use Rattle.std.specs.List.{concat}
 use Rattle.ud_model.specs.text.Bytes.{line_feed}
 use Rattle.ud_model.specs.text.Lines.{Line, text_of}
@@ -27,12 +27,20 @@ keyword_in cut_keyword = record { at = 0; len = 0 }
 keyword_in (directive d) = d.keyword
 keyword_in text = record { at = 0; len = 0 }
 
--- An edited directive keeps what stands before its keyword. An `#elif` that becomes an `#if` keeps what follows, too,
--- with two spaces in place of the bytes that it loses.
+-- one of three by a keyword's length: the first for that of `elifdef`, the second for that of `elifndef`, else the third
+abbrev pub by_length : {A : Type 0} → ℕ → A → A → A → A
+by_length len a b c = if len == 7 then a else if len == 8 then b else c
+
+-- What stands in place of a keyword of this length in a directive that becomes the first one of its section: `ifdef` in
+-- place of `elifdef`, `ifndef` in place of `elifndef`, else `if`, each with two spaces for the bytes that are lost.
+abbrev pub if_word : ℕ → List ℕ
+if_word len = by_length len (codes "ifdef  ") (codes "ifndef  ") (codes "if  ")
+
+-- An edited directive keeps what stands before its keyword. One that becomes the first of its section keeps what follows, too.
 abbrev pub piece_by : Verdict → Span → Line → List ℕ
 piece_by Keep keyword l = text_of l
 piece_by Remove keyword l = []
-piece_by ToIf keyword l = take keyword.at l.body ++ codes "if  " ++ drop (keyword.at + keyword.len) l.body ++ l.ending
+piece_by ToIf keyword l = take keyword.at l.body ++ if_word keyword.len ++ drop (keyword.at + keyword.len) l.body ++ l.ending
 piece_by ToElse keyword l = take keyword.at l.body ++ codes "else" ++ l.ending
 piece_by ToEndif keyword l = take keyword.at l.body ++ codes "endif" ++ l.ending
 

@@ -4,14 +4,15 @@
 --   Decision                               a condition, and whether its section is plain text
 --   tree_cond e table rules                what is decided of the tree of an `#if` or `#elif`
 --   expression_cond after table rules      the same of its text; a text without a tree is unknown
+--   decided_by test after table rules      the decision on a text by what makes its condition true
 --   condition_of kind after table rules    the decision on the text after a keyword
 --   decision_on scan d table rules         the decision on a directive in its line
 --
 -- Example: with A undefined, `A && X` is no, and unknown under `strict`; `X || 1` is unknown unless `constants`.
-use Rattle.std.specs.Prelude.{ℕ, List, Bool, false, not, ◌&&◌, ◌||◌, Option, Some, None, is_some, if◌then◌else◌, ℤ}
+use Rattle.std.specs.Prelude.{ℕ, List, Bool, true, false, not, ◌&&◌, ◌||◌, Option, Some, None, is_some, if◌then◌else◌, ℤ}
 use Rattle.ud_model.specs.text.Bytes.{past_white, word_in_front, past_word, are_white, is_identifier}
 use Rattle.ud_model.specs.text.Scans.{Scan}
-use Rattle.ud_model.specs.sections.Directives.{Directive}
+use Rattle.ud_model.specs.sections.Directives.{Directive, role_of, test_of}
 use Rattle.ud_model.specs.conditions.Table.{Argument, Entry, entry_in}
 use Rattle.ud_model.specs.conditions.Expressions.{Expression, constant, named, is_defined, unary, binary, parens}
 use Rattle.ud_model.specs.aids.Parsing.{expression_of}
@@ -19,7 +20,10 @@ use Rattle.ud_model.specs.conditions.Values.{is_zero, value_of}
 use Rattle.ud_model.specs.declared.cond.Cond.{Cond}
 use Rattle.ud_model.specs.declared.cond.Cond.TheVariants.{Yes, No, Unknown}
 use Rattle.ud_model.specs.declared.kind.Kind.{Kind}
-use Rattle.ud_model.specs.declared.kind.Kind.TheVariants.{If, Ifdef, Ifndef, Elif, Else, Endif}
+use Rattle.ud_model.specs.declared.kind.Role.{Role}
+use Rattle.ud_model.specs.declared.kind.Role.TheVariants.{IfGroup, ElifGroup, ElseGroup, EndifLine}
+use Rattle.ud_model.specs.declared.kind.Test.{Test}
+use Rattle.ud_model.specs.declared.kind.Test.TheVariants.{Nonzero, Defined, Undefined, Nothing}
 
 -- a condition, and whether its section is plain text
 pub record Decision : Type 0 where
@@ -109,14 +113,24 @@ tree_cond_if (Some e) table rules = tree_cond e table rules
 unfoldable pub expression_cond : List ℕ → List Argument → Rules → Cond
 expression_cond after table rules = tree_cond_if (expression_of after) table rules
 
--- the decision on the text after a keyword
+-- the decision on a text by what makes its condition true
+abbrev pub decided_by : Test → List ℕ → List Argument → Rules → Decision
+decided_by Nonzero after table rules = record { cond = expression_cond after table rules; ignoring = false }
+decided_by Defined after table rules = ifdef_decision (sole_name after) table
+decided_by Undefined after table rules = record (ifdef_decision (sole_name after) table) { cond = negated (ifdef_decision (sole_name after) table).cond }
+decided_by Nothing after table rules = undecided
+
+-- a directive with this role begins a section
+abbrev pub begins_section : Role → Bool
+begins_section IfGroup = true
+begins_section ElifGroup = false
+begins_section ElseGroup = false
+begins_section EndifLine = false
+
+-- the decision on the text after a keyword; only a directive that begins a section makes it plain text
 abbrev pub condition_of : Kind → List ℕ → List Argument → Rules → Decision
-condition_of If after table rules = record { cond = expression_cond after table rules; ignoring = false }
-condition_of Elif after table rules = record { cond = expression_cond after table rules; ignoring = false }
-condition_of Ifdef after table rules = ifdef_decision (sole_name after) table
-condition_of Ifndef after table rules = record (ifdef_decision (sole_name after) table) { cond = negated (ifdef_decision (sole_name after) table).cond }
-condition_of Else after table rules = undecided
-condition_of Endif after table rules = undecided
+condition_of kind after table rules =
+    record (decided_by (test_of kind) after table rules) { ignoring = begins_section (role_of kind) && (decided_by (test_of kind) after table rules).ignoring }
 
 -- a broken directive is undecided; one that joins the next line isn't ignoring
 abbrev pub decision_on : Scan → Directive → List Argument → Rules → Decision

@@ -2,17 +2,19 @@
 -- unifdef(1), `-s` and `-S`.
 --
 --   names_in e             the name of each operand and each `defined` of a tree, in order and with repeats
---   names_of kind after    the names of the text after a keyword, where it is understood
+--   names_by test after    the names of a text by what makes its condition true, where it is understood
+--   names_of kind after    the names of the text after a keyword
 --   names_on d             the names of a directive; a broken one has none
 --
 -- Example: ` F(X) + defined(Y) > 1` has the names F and Y.
 use Rattle.std.specs.Prelude.{ℕ, List, [], ◌∷◌, ◌++◌, Option, Some, None, if◌then◌else◌}
-use Rattle.ud_model.specs.sections.Directives.{Directive}
+use Rattle.ud_model.specs.sections.Directives.{Directive, test_of}
 use Rattle.ud_model.specs.conditions.Expressions.{Expression, constant, named, is_defined, unary, binary, parens}
 use Rattle.ud_model.specs.aids.Parsing.{expression_of}
 use Rattle.ud_model.specs.conditions.Conditions.{sole_name}
 use Rattle.ud_model.specs.declared.kind.Kind.{Kind}
-use Rattle.ud_model.specs.declared.kind.Kind.TheVariants.{If, Ifdef, Ifndef, Elif, Else, Endif}
+use Rattle.ud_model.specs.declared.kind.Test.{Test}
+use Rattle.ud_model.specs.declared.kind.Test.TheVariants.{Nonzero, Defined, Undefined, Nothing}
 
 -- the names of a tree
 abbrev pub names_in : Expression → List (List ℕ)
@@ -33,14 +35,16 @@ abbrev pub name_alone : Option (List ℕ) → List (List ℕ)
 name_alone None = []
 name_alone (Some name) = name ∷ []
 
+-- the names of a text by what makes its condition true
+abbrev pub names_by : Test → List ℕ → List (List ℕ)
+names_by Nonzero after = names_in_tree (expression_of after)
+names_by Defined after = name_alone (sole_name after)
+names_by Undefined after = name_alone (sole_name after)
+names_by Nothing after = []
+
 -- the names of the text after a keyword
 abbrev pub names_of : Kind → List ℕ → List (List ℕ)
-names_of If after = names_in_tree (expression_of after)
-names_of Elif after = names_in_tree (expression_of after)
-names_of Ifdef after = name_alone (sole_name after)
-names_of Ifndef after = name_alone (sole_name after)
-names_of Else after = []
-names_of Endif after = []
+names_of kind after = names_by (test_of kind) after
 
 -- the names of a directive
 abbrev pub names_on : Directive → List (List ℕ)

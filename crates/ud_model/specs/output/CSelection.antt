@@ -1,7 +1,8 @@
 -- C selection: what C may make of the conditions of a text, whatever the symbols are that the options don't name.
 -- C11 6.10.1p4: each unlisted symbol stands for a number, which may be another one at each place (CValues).
 --
---   condition_after kind after   the expression that a directive's condition is, by what follows its keyword
+--   condition_by_test test after the expression that a condition is, by what makes it true
+--   condition_after kind after   the same of what follows a keyword
 --   condition_in r               the same of a line's directive, if its condition ends on the line
 --   MayBe table e b              C may find the condition true, or false
 --   IsCWorld table w ns          C may give each condition that it evaluates in the world w the truth that w gives it
@@ -13,7 +14,7 @@
 -- second one true or false. Of `#if 1 / 0` there is no C world, since C gives its condition no value.
 use Rattle.std.specs.Prelude.{ℕ, List, Bool, true, false, Option, Some, None, option_map, if◌then◌else◌}
 use Rattle.ud_model.specs.text.Scans.{Scan, Reading}
-use Rattle.ud_model.specs.sections.Directives.{Content, cut_keyword, directive, text, content_of}
+use Rattle.ud_model.specs.sections.Directives.{Content, cut_keyword, directive, text, content_of, test_of}
 use Rattle.ud_model.specs.conditions.Table.{Argument}
 use Rattle.ud_model.specs.conditions.Expressions.{Expression, is_defined, unary}
 use Rattle.ud_model.specs.aids.Parsing.{expression_of}
@@ -22,17 +23,20 @@ use Rattle.ud_model.specs.conditions.CValues.{Number, IsZero, IsCValue}
 use Rattle.ud_model.specs.sections.Tree.{Nodes}
 use Rattle.ud_model.specs.output.Worlds.{World, EachReached}
 use Rattle.ud_model.specs.declared.kind.Kind.{Kind}
-use Rattle.ud_model.specs.declared.kind.Kind.TheVariants.{If, Ifdef, Ifndef, Elif, Else, Endif}
+use Rattle.ud_model.specs.declared.kind.Test.{Test}
+use Rattle.ud_model.specs.declared.kind.Test.TheVariants.{Nonzero, Defined, Undefined, Nothing}
 use Rattle.ud_model.specs.declared.operator.Operator.TheVariants.{Not}
 
 -- `#ifdef n` is `#if defined n`, and `#ifndef n` is `#if !defined n` (6.10.1p5)
+abbrev pub condition_by_test : Test → List ℕ → Option Expression
+condition_by_test Nonzero after = expression_of after
+condition_by_test Defined after = option_map (λ n. is_defined n false) (sole_name after)
+condition_by_test Undefined after = option_map (λ n. unary Not (is_defined n false)) (sole_name after)
+condition_by_test Nothing after = None
+
+-- the expression that the text after a keyword is
 abbrev pub condition_after : Kind → List ℕ → Option Expression
-condition_after If after = expression_of after
-condition_after Elif after = expression_of after
-condition_after Ifdef after = option_map (λ n. is_defined n false) (sole_name after)
-condition_after Ifndef after = option_map (λ n. unary Not (is_defined n false)) (sole_name after)
-condition_after Else after = None
-condition_after Endif after = None
+condition_after kind after = condition_by_test (test_of kind) after
 
 -- of a line that joins the next one it isn't known
 abbrev pub condition_by : Scan → Content → Option Expression

@@ -1,8 +1,10 @@
 -- Directives: what a scan carries.
--- C11 6.10: a directive is a line whose first byte that isn't white space is `#`.
+-- C11 6.10, C23 6.10: a directive is a line whose first byte that isn't white space is `#`.
 --
 --   content_of scan      a cut keyword, else a directive, else text
 --   Directive            its kind, the keyword's place, what follows the keyword, and whether a continuation cuts it
+--   role_of kind         what a directive of this kind is in its section
+--   test_of kind         what makes its condition true
 --
 -- Example: `  # ifdef A` is an `#ifdef` whose keyword lies at 4 and has 5 bytes, and ` A` follows it.
 use Rattle.std.specs.Prelude.{ℕ, ◌-◌, ◌==◌, List, [], ◌∷◌, length, Bool, true, false, not, ◌&&◌, ◌||◌, if◌then◌else◌, Option, Some, None, bytes_eq, codes}
@@ -11,7 +13,11 @@ use Rattle.std.specs.Prelude.{nat_eq}
 use Rattle.ud_model.specs.text.Bytes.{past_white, word_in_front, past_word, are_word_bytes}
 use Rattle.ud_model.specs.text.Scans.{Scan}
 use Rattle.ud_model.specs.declared.kind.Kind.{Kind}
-use Rattle.ud_model.specs.declared.kind.Kind.TheVariants.{If, Ifdef, Ifndef, Elif, Else, Endif}
+use Rattle.ud_model.specs.declared.kind.Kind.TheVariants.{If, Ifdef, Ifndef, Elif, Elifdef, Elifndef, Else, Endif}
+use Rattle.ud_model.specs.declared.kind.Role.{Role}
+use Rattle.ud_model.specs.declared.kind.Role.TheVariants.{IfGroup, ElifGroup, ElseGroup, EndifLine}
+use Rattle.ud_model.specs.declared.kind.Test.{Test}
+use Rattle.ud_model.specs.declared.kind.Test.TheVariants.{Nonzero, Defined, Undefined, Nothing}
 use Rattle.ud_model.specs.declared.kind.CommentAt.{CommentAt}
 use Rattle.ud_model.specs.declared.kind.CommentAt.TheVariants.{Outside, InLine, InBlock}
 
@@ -38,7 +44,31 @@ pub data Content : Type 0 where
 abbrev pub keywords : List (List ℕ × Kind)
 keywords =
     (codes "if", If) ∷ (codes "ifdef", Ifdef) ∷ (codes "ifndef", Ifndef)
-    ∷ (codes "elif", Elif) ∷ (codes "else", Else) ∷ (codes "endif", Endif) ∷ []
+    ∷ (codes "elif", Elif) ∷ (codes "elifdef", Elifdef) ∷ (codes "elifndef", Elifndef)
+    ∷ (codes "else", Else) ∷ (codes "endif", Endif) ∷ []
+
+-- what a directive is in its section: it begins one, opens a further group with a condition or the last one, or ends it
+abbrev pub role_of : Kind → Role
+role_of If = IfGroup
+role_of Ifdef = IfGroup
+role_of Ifndef = IfGroup
+role_of Elif = ElifGroup
+role_of Elifdef = ElifGroup
+role_of Elifndef = ElifGroup
+role_of Else = ElseGroup
+role_of Endif = EndifLine
+
+-- what makes its condition true: the value of an expression; that a name is defined, or isn't; an `#else` and an `#endif`
+-- have none
+abbrev pub test_of : Kind → Test
+test_of If = Nonzero
+test_of Ifdef = Defined
+test_of Ifndef = Undefined
+test_of Elif = Nonzero
+test_of Elifdef = Defined
+test_of Elifndef = Undefined
+test_of Else = Nothing
+test_of Endif = Nothing
 
 -- the kind of the first row that has this word
 abbrev pub kind_among : List (List ℕ × Kind) → List ℕ → Option Kind

@@ -12,15 +12,15 @@ use Rattle.std.specs.Prelude.{List, map, Bool, true, false, ◌||◌}
 use Rattle.ud_model.specs.text.Lines.{Line}
 use Rattle.ud_model.specs.text.Scans.{Reading}
 use Rattle.ud_model.specs.text.Scanning.{scan_after}
-use Rattle.ud_model.specs.sections.Directives.{Content, cut_keyword, directive, text, content_of}
+use Rattle.ud_model.specs.sections.Directives.{Content, cut_keyword, directive, text, content_of, role_of}
 use Rattle.ud_model.specs.conditions.Table.{Argument}
 use Rattle.ud_model.specs.conditions.Conditions.{Decision, Rules, decision_on}
 use Rattle.ud_model.specs.sections.Tree.{Item, Opener, Tree, text_line, if_line, elif_line, else_line, endif_line, is_ignoring}
 use Rattle.ud_model.specs.declared.settings.Settings.{Settings}
 use Rattle.ud_model.specs.declared.kind.Mode.{Mode}
 use Rattle.ud_model.specs.declared.kind.Mode.TheVariants.{C, Plain}
-use Rattle.ud_model.specs.declared.kind.Kind.{Kind}
-use Rattle.ud_model.specs.declared.kind.Kind.TheVariants.{If, Ifdef, Ifndef, Elif, Else, Endif}
+use Rattle.ud_model.specs.declared.kind.Role.{Role}
+use Rattle.ud_model.specs.declared.kind.Role.TheVariants.{IfGroup, ElifGroup, ElseGroup, EndifLine}
 
 pub record Options : Type 0 where
   pub settings : Settings
@@ -32,19 +32,18 @@ rules_of s = record { constants = s.constants; strict = s.strict }
 abbrev pub opener_at : Reading → Decision → Opener Reading
 opener_at r d = record { line = r; cond = d.cond; ignoring = d.ignoring }
 
-abbrev pub directive_item : Reading → Kind → Decision → Item Reading
-directive_item r If d = if_line (opener_at r d)
-directive_item r Ifdef d = if_line (opener_at r d)
-directive_item r Ifndef d = if_line (opener_at r d)
-directive_item r Elif d = elif_line (opener_at r d)
-directive_item r Else d = else_line r
-directive_item r Endif d = endif_line r
+-- a directive with this role
+abbrev pub directive_item : Reading → Role → Decision → Item Reading
+directive_item r IfGroup d = if_line (opener_at r d)
+directive_item r ElifGroup d = elif_line (opener_at r d)
+directive_item r ElseGroup d = else_line r
+directive_item r EndifLine d = endif_line r
 
 -- a line with a cut keyword is faulty, and counts as text up to there
 abbrev pub item_by : Options → Reading → Content → Item Reading
 item_by o r cut_keyword = text_line r
 item_by o r text = text_line r
-item_by o r (directive d) = directive_item r d.kind (decision_on r.scan d o.table (rules_of o.settings))
+item_by o r (directive d) = directive_item r (role_of d.kind) (decision_on r.scan d o.table (rules_of o.settings))
 
 abbrev pub item_of : Options → Reading → Item Reading
 item_of o r = item_by o r (content_of r.scan)

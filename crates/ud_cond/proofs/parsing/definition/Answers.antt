@@ -1,29 +1,50 @@
-use Rattle.std.proofs.Common.{sym}
+use Rattle.std.proofs.Common.{◌∙◌, true, ap, sym, refl}
+use Rattle.ud_model.specs.conditions.Tokens.{name, found}
+use Rattle.ud_model.specs.aids.Parsing.{asks}
+use Rattle.ud_cond.specs.CondViews.{as_token}
 use Rattle.ud_cond.specs.Worth.{worth_in}
 use Rattle.ud_cond.proofs.AskingLemmas as step
 use Rattle.ud_cond.proofs.parsing.definition.Goals as goal
 
-pub returns-in_err-inside-in-None : goal.returns-in_err-inside-in-None
-returns-in_err-inside-in-None c =
-    rw c.from_residual.ensures (step.asks-neither (worth_in c.args.scope.now) c.args.text.now (sym c.in-None.ensures) (sym c.in_err-inside-in-None.ensures))
+pub returns-in-AtEnd : goal.returns-in-AtEnd
+returns-in-AtEnd c = step.asks-at_end (worth_in c.args.scope.now) c.args.text.now c.in-AtEnd.ensures
 
-pub returns-in_err-name-in-None : goal.returns-in_err-name-in-None
-returns-in_err-name-in-None c =
-    rw c.from_residual-in_err-name-in-None.ensures
-    (step.asks-nameless (worth_in c.args.scope.now) c.args.text.now c.in_ok-inside-in-None.inside.now (step.found-opening _ _ c.in_ok-inside-in-None.ensures) (sym c.in_err-name-in-None.ensures))
+pub returns-in-Unreadable : goal.returns-in-Unreadable
+returns-in-Unreadable c = step.asks-unreadable (worth_in c.args.scope.now) c.args.text.now c.in-Unreadable.ensures
 
-pub returns-in_err-rest-in-None : goal.returns-in_err-rest-in-None
-returns-in_err-rest-in-None c =
-    rw c.from_residual-in_err-rest-in-None.ensures
-    (step.asks-endless (worth_in c.args.scope.now) c.args.text.now c.in_ok-inside-in-None.inside.now c.in_ok-name-in-None.name.now c.in_ok-name-in-None.end.now
-    (step.found-opening _ _ c.in_ok-inside-in-None.ensures) (step.found-plain_name _ _ _ c.in_ok-name-in-None.ensures) (sym c.in_err-rest-in-None.ensures))
+pub returns-in-Opening : goal.returns-in-Opening
+returns-in-Opening c =
+    let front = ap (λ t. found (as_token t) c.in-Found.rest.now) (sym c.in-Opening.is) ∙ c.in-Found.ensures in
+    step.asks-parens (worth_in c.args.scope.now) c.args.text.now c.in-Found.rest.now _ (sym front) c.enclosed.ensures
 
-pub returns-in-Some : goal.returns-in-Some
-returns-in-Some c =
-    rw c.defined.ensures (step.asks-plain (worth_in c.args.scope.now) c.args.text.now c.in-Some.name.now c.in-Some.rest.now (step.found-plain_name _ _ _ c.in-Some.ensures))
+pub returns-then-arguments : goal.returns-then-arguments
+returns-then-arguments c =
+    let front = ap (λ t. found (as_token t) c.in-Found.rest.now) (sym c.in-Name.is) ∙ c.in-Found.ensures in
+    let called = ap (λ a. found (name c.in-Name.name.now a) c.in-Found.rest.now) (sym c.if-arguments.true) ∙ front in
+    step.stuck-at (worth_in c.args.scope.now) (λ s. asks s) c.args.text.now c.in-Found.rest.now (name c.in-Name.name.now true) (λ s. refl) called
 
-pub returns-in_ok-rest-in-None : goal.returns-in_ok-rest-in-None
-returns-in_ok-rest-in-None c =
-    rw c.defined-in-None.ensures
-    (step.asks-parens (worth_in c.args.scope.now) c.args.text.now c.in_ok-inside-in-None.inside.now c.in_ok-name-in-None.name.now c.in_ok-name-in-None.end.now c.in_ok-rest-in-None.rest.now
-    (step.found-opening _ _ c.in_ok-inside-in-None.ensures) (step.found-plain_name _ _ _ c.in_ok-name-in-None.ensures) (step.found-closing _ _ c.in_ok-rest-in-None.ensures))
+pub returns-else-arguments : goal.returns-else-arguments
+returns-else-arguments c =
+    let front = ap (λ t. found (as_token t) c.in-Found.rest.now) (sym c.in-Name.is) ∙ c.in-Found.ensures in
+    let plain = ap (λ a. found (name c.in-Name.name.now a) c.in-Found.rest.now) (sym c.if-arguments.false) ∙ front in
+    rw c.defined.ensures (step.asks-plain (worth_in c.args.scope.now) c.args.text.now c.in-Name.name.now c.in-Found.rest.now (sym plain))
+
+pub returns-in-Number : goal.returns-in-Number
+returns-in-Number c =
+    let front = ap (λ t. found (as_token t) c.in-Found.rest.now) (sym c.in-Number.is) ∙ c.in-Found.ensures in
+    step.stuck-at (worth_in c.args.scope.now) (λ s. asks s) c.args.text.now c.in-Found.rest.now _ (λ s. refl) front
+
+pub returns-in-Defined : goal.returns-in-Defined
+returns-in-Defined c =
+    let front = ap (λ t. found (as_token t) c.in-Found.rest.now) (sym c.in-Defined.is) ∙ c.in-Found.ensures in
+    step.stuck-at (worth_in c.args.scope.now) (λ s. asks s) c.args.text.now c.in-Found.rest.now _ (λ s. refl) front
+
+pub returns-in-Operator : goal.returns-in-Operator
+returns-in-Operator c =
+    let front = ap (λ t. found (as_token t) c.in-Found.rest.now) (sym c.in-Operator.is) ∙ c.in-Found.ensures in
+    step.stuck-at (worth_in c.args.scope.now) (λ s. asks s) c.args.text.now c.in-Found.rest.now _ (λ s. refl) front
+
+pub returns-in-Closing : goal.returns-in-Closing
+returns-in-Closing c =
+    let front = ap (λ t. found (as_token t) c.in-Found.rest.now) (sym c.in-Closing.is) ∙ c.in-Found.ensures in
+    step.stuck-at (worth_in c.args.scope.now) (λ s. asks s) c.args.text.now c.in-Found.rest.now _ (λ s. refl) front

@@ -1,14 +1,12 @@
--- The line feeds in front, and those that come after them.
-use Rattle.std.proofs.Common.{arith}
-use Rattle.ud_text.proofs.SkipLemmas.{counted_more, counted_all}
+-- The line feeds in front, those that come after them, and those of the last bytes.
+use Rattle.std.proofs.Common.{◌∙◌, ◌-◌, ◌+◌, length, take, drop}
+use Rattle.ud_text.proofs.SkipLemmas.{counted_all, lines_counted}
 use Rattle.ud_text.proofs.feeds.count_lines.Goals as goal
 
-pub loop-at-preserved : goal.loop-at-preserved
-loop-at-preserved c = record {
-  within = omega arith;
-  counted = counted_more c.args.bytes.now c.loop-at.at 64 c.loop-at.count c.feeds_among-count.result c.loop-at.invariant.counted c.feeds_among-count.ensures.value;
-  low = omega (arith, c.loop-at.invariant.low, c.feeds_among-count.ensures.bound);
-}
-
 pub returns : goal.returns
-returns c = counted_all c.args.bytes.now c.loop-at.at c.loop-at.count c.feeds_one_by_one.result c.loop-at.invariant.counted c.feeds_one_by_one.ensures.value
+returns c =
+    let rest = take (length c.args.bytes.now - c.feeds_by-front.result.at) (drop c.feeds_by-front.result.at c.args.bytes.now) in
+    counted_all c.args.bytes.now c.feeds_by-front.result.at c.feeds_by-front.result.feeds (c.feeds_by-middle.result.feeds + c.feeds_one_by_one.result)
+    c.feeds_by-front.ensures.counted
+    (counted_all rest c.feeds_by-middle.result.at c.feeds_by-middle.result.feeds c.feeds_one_by_one.result c.feeds_by-middle.ensures.counted c.feeds_one_by_one.ensures.value
+    ∙ lines_counted rest)

@@ -14,14 +14,17 @@ found c =
     let at = position_from_yields_List (λ b. is_one_of c.args.set b) _ _ c.position.result c.position.ensures.ran (YieldsList-from_slice c.args.bytes.now cc) (λ x b q k. search (rules, tests)) in
     c.unwrap_or.ensures ∙ ap (λ p. unwrap_or p (length c.args.bytes.now)) at ∙ unwrap_or-position (λ b. is_one_of c.args.set b) c.args.bytes.now
 
-pub returns-else-bytes-ge8-clause-value : goal.returns-else-bytes-ge8-clause-value
-returns-else-bytes-ge8-clause-value c = found c
+pub returns-else-bytes-ge4-clause-value : goal.returns-else-bytes-ge4-clause-value
+returns-else-bytes-ge4-clause-value c = found c
 
-pub returns-else-bytes-ge8-clause-bound : goal.returns-else-bytes-ge8-clause-bound
-returns-else-bytes-ge8-clause-bound c = search_bound (is_one_of c.args.set) c.args.bytes.now _ (found c)
+pub returns-else-bytes-ge4-clause-bound : goal.returns-else-bytes-ge4-clause-bound
+returns-else-bytes-ge4-clause-bound c = search_bound (is_one_of c.args.set) c.args.bytes.now _ (found c)
 
 pub returns-then-bytes-ge16-clause-bound : goal.returns-then-bytes-ge16-clause-bound
 returns-then-bytes-ge16-clause-bound c = search_bound (is_one_of c.args.set) c.args.bytes.now _ c.first_by.ensures
 
 pub returns-then-bytes-ge8-clause-bound : goal.returns-then-bytes-ge8-clause-bound
 returns-then-bytes-ge8-clause-bound c = search_bound (is_one_of c.args.set) c.args.bytes.now _ c.first_by-then-bytes-ge8.ensures
+
+pub returns-then-bytes-ge4-clause-bound : goal.returns-then-bytes-ge4-clause-bound
+returns-then-bytes-ge4-clause-bound c = search_bound (is_one_of c.args.set) c.args.bytes.now _ c.first_by-then-bytes-ge4.ensures

@@ -4,6 +4,7 @@ use Rattle.ud_model.specs.answer.CommandLine.{options_of, input_name}
 use Rattle.ud_engine.specs.Watching.{Says}
 use Rattle.ud_engine.proofs.SendingLemmas.{says_same}
 use Rattle.unifdef.specs.Told.{ended_by, message_told, status_told}
+use Rattle.unifdef.proofs.EndedLemmas.{flushed_went, read_told, write_told}
 use Rattle.unifdef.proofs.HeadlineLemmas.{usage_answers, flushed_answers, flushed_kept_up, failed_told}
 use Rattle.unifdef.proofs.running.tool.Goals as goal
 use Rattle.unifdef.proofs.running.tool.Given.{Over}
@@ -29,6 +30,21 @@ returns-in-Ok-clause-kept_up g c = λ right.
     inl (flushed_kept_up (options_of (map string_bytes c.args.words.now)) _ _ _ _ _
     (c.run-ran.ensures.kept_up (options_of (map string_bytes c.args.words.now)) (sym c.in-Ok.ensures.ok.said) c.in-Ok.ensures.ok.stands)
     c.flush-flushed.ensures.kept)
+
+pub returns-in-Ok-clause-ended : goal.returns-in-Ok-clause-ended
+returns-in-Ok-clause-ended g c = λ right.
+    inl (record {
+      ran = c.run-ran.result;
+      flushed = c.flush-flushed.result;
+      went = flushed_went (options_of (map string_bytes c.args.words.now)) _ _ _ _ _ c.run-ran.result
+          (c.run-ran.ensures.went (options_of (map string_bytes c.args.words.now)) (sym c.in-Ok.ensures.ok.said) c.in-Ok.ensures.ok.stands)
+          c.flush-flushed.ensures.kept;
+      read_failed = read_told c.run-ran.new.reader.failed c.run-ran.result c.run-ran.ensures.read_fails.0 c.run-ran.ensures.read_fails.1;
+      write_failed = write_told c.run-ran.new.out.failed c.flush-flushed.new.self.failed c.flush-flushed.result c.run-ran.result
+          c.run-ran.ensures.write_fails.0 c.run-ran.ensures.write_fails.1 c.flush-flushed.ensures.failed c.flush-flushed.ensures.again;
+      told = message_is g c;
+      answered = status_is g c;
+    })
 
 pub returns-in-Ok-clause-headline : goal.returns-in-Ok-clause-headline
 returns-in-Ok-clause-headline g c = λ read_works write_works.

@@ -3,6 +3,7 @@ use Rattle.std.proofs.lemmas.List.{get_or_read}
 use Rattle.ud_model.specs.conditions.Table.{entry_in}
 use Rattle.ud_cond.specs.Standing.{nobody, IsRowOf}
 use Rattle.ud_cond.specs.CondViews.{as_entry}
+use Rattle.ud_cond.specs.Marking.{has_mark}
 use Rattle.ud_cond.proofs.TableLemmas.{entry_from-none, entry_from-last}
 use Rattle.ud_cond.proofs.MarkLemmas.{none-unmarked}
 use Rattle.ud_cond.proofs.SortedLemmas.{last-row, none-at_all}
@@ -25,7 +26,7 @@ missed c = sym (entry_from-none None c.args.self.now c.args.name.now (none-at_al
 -- where its mark wasn't noted, no row names it
 unmarked : (c : Then-not-has) → None ≡ entry_in c.args.self.now c.args.name.now
 unmarked c =
-    let none = none-unmarked c.self.inside.marks.noted c.self.inside.rows.items c.args.name.now c.self.invariant.1 (sym c.has.ensures ∙ c.if-not-has.true) in
+    let none = none-unmarked c.self.inside.marks.noted c.self.inside.rows.items c.args.name.now c.self.invariant.1 (ap (has_mark c.self.inside.marks.noted) (sym c.key_of-key.ensures) ∙ sym c.has.ensures ∙ c.if-not-has.true) in
     sym (entry_from-none None c.self.inside.rows.items c.args.name.now none) ∙ ap (λ rows. entry_in rows c.args.name.now) c.self.view_is
 
 pub returns-then-not-has-clause-value : goal.returns-then-not-has-clause-value

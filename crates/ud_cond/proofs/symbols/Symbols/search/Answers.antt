@@ -1,16 +1,14 @@
-use Rattle.std.proofs.Common.{rules, ◌≡◌}
+use Rattle.std.proofs.Common.{rules, ◌≡◌, Err, subst}
+use Rattle.std.specs.List.Sorted.{IsBinarySearchResult}
+use Rattle.std.specs.Ordering.{nat_cmp}
 use Rattle.std.proofs.lemmas.Fn.{always_returns_same}
-use Rattle.ud_cond.specs.Standing.{name_cmp}
-use Rattle.ud_cond.proofs.SortedLemmas.{searched}
+use Rattle.ud_cond.specs.Keys.{key_of}
+use Rattle.ud_cond.proofs.SortedLemmas.{gap-keys}
 use Rattle.ud_cond.proofs.symbols.Symbols.search.Goals as goal
 
--- the closure compares a row's name, and the slice is the table's rows
-pub returns-clause-found : goal.returns-clause-found
-returns-clause-found c =
-    let by_name = c.binary_search_by.ensures.position (λ a. name_cmp a.name c.args.name.now) (always_returns_same _ (λ a r. r ≡ name_cmp a.0.now.name c.args.name.now) _ (λ a r f called. search rules)) in
-    rw (← c.self.view_is, ← c.deref.ensures.value) (searched _ (rw c.deref.ensures.value c.self.invariant.0) c.args.name.now _ c.binary_search_by.ensures.bound by_name).0
-
-pub returns-clause-absent : goal.returns-clause-absent
-returns-clause-absent c =
-    let by_name = c.binary_search_by.ensures.position (λ a. name_cmp a.name c.args.name.now) (always_returns_same _ (λ a r. r ≡ name_cmp a.0.now.name c.args.name.now) _ (λ a r f called. search rules)) in
-    rw (← c.self.view_is, ← c.deref.ensures.value) (searched _ (rw c.deref.ensures.value c.self.invariant.0) c.args.name.now _ c.binary_search_by.ensures.bound by_name).1
+-- the closure gives a row's key, and the slice is the table's rows
+pub returns-in-Err-clause-absent : goal.returns-in-Err-clause-absent
+returns-in-Err-clause-absent c =
+    let by_key = c.in-Err.ensures.position (λ a. key_of a.name) (always_returns_same _ (λ a r. r ≡ key_of a.0.now.name) _ (λ a r f called. search rules)) in
+    let of_name = subst (λ k. IsBinarySearchResult (λ a. nat_cmp (key_of a.name) k) c.deref.result.now (Err c.in-Err.i)) c.requires.keyed by_key in
+    rw (← c.self.view_is, ← c.deref.ensures.value) (gap-keys _ (rw c.deref.ensures.value c.self.invariant.0) c.args.name.now (Err c.in-Err.i) c.in-Err.ensures.bound of_name)

@@ -5,8 +5,8 @@ use Rattle.ud_text.specs.Holding.{Holding}
 use Rattle.ud_engine.proofs.FeedLemmas.{none_so_far, none_printed, open_new, none_begun, none_count}
 use Rattle.ud_engine.proofs.engine.Engine.new.Goals as goal
 
-pub returns : goal.returns
-returns g c = λ o piece settings symbols stands stays. record {
+pub returns-clause-fed : goal.returns-clause-fed
+returns-clause-fed g c = λ o piece settings symbols stands stays. record {
   taken = record {
     items = [];
     tree = closed nothing;

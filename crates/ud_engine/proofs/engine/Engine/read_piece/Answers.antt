@@ -1,23 +1,27 @@
-use Rattle.std.proofs.Common.{rules, refl, ◌∙◌, ◌++◌, take, arith}
-use Rattle.ud_engine.specs.Advancing.{between}
+use Rattle.std.proofs.Common.{rules, refl, sym, subst, ◌∙◌, ◌++◌, ℕ, [], take, arith}
+use Rattle.ud_engine.specs.Advancing.{Advances, IsPlace, between}
+use Rattle.ud_engine.specs.Feeding.{Running}
 use Rattle.ud_engine.proofs.FeedLemmas.{feed_begins, feed_goes_on, feed_fails, feed_ends, feed_falls_short}
 use Rattle.ud_engine.proofs.engine.Engine.read_piece.Goals as goal
 
 pub loop-reached-init : goal.loop-reached-init
 loop-reached-init g c = record {
   works = c.requires.works;
-  ordered = search rules;
-  within = search rules;
+  place = subst (λ (e : Running g.row.S.Denot). IsPlace e.lines c.args.piece.now c.place_in-reached.result) c.self.view_is c.place_in-reached.ensures.place;
   refused = refl;
   taken = λ o pieces text printed h.
-      feed_begins g.S.Show.stands g.S.Show.piece o pieces text printed c.args.self.now (g.W.Write.contents c.args.out.now.inner) c.args.piece.now h;
+      let a = g.W.Write.contents c.args.out.now.inner in
+      let begun = λ (at from : ℕ). Advances g.S.Show.stands g.S.Show.piece c.args.self.now o pieces text printed (take at c.args.piece.now) a a []
+      (c.args.self.now.gathered ++ between c.args.piece.now from at) in
+      subst (λ n. begun n c.place_in-reached.result.from) (sym c.place_in-reached.ensures.at)
+      (subst (λ n. begun 0 n) (sym c.place_in-reached.ensures.from)
+      (feed_begins g.S.Show.stands g.S.Show.piece o pieces text printed c.args.self.now a c.args.piece.now h));
 }
 
 pub loop-reached-preserved : goal.loop-reached-preserved
 loop-reached-preserved g c = record {
   works = search rules;
-  ordered = search rules;
-  within = search rules;
+  place = c.in-Ok.ensures.place;
   refused = c.in-Ok.ensures.refused ∙ c.loop-reached.invariant.refused;
   taken = λ o pieces text printed h.
       let k = c.loop-reached.invariant.taken o pieces text printed h in

@@ -6,9 +6,9 @@ use Rattle.ud_sections.proofs.StandingLemmas.{reads_line}
 use Rattle.ud_sections.proofs.machine.Machine.step.Goals as goal
 
 -- a line that is seen at once to be text
-pub returns-then-is_plainly_text-clause-stands : goal.returns-then-is_plainly_text-clause-stands
-returns-then-is_plainly_text-clause-stands c = λ o xs t h next.
-    let told = text_turn c.args.self.now o (as_scan c.args.scan.now) (as_line c.args.line.now) (c.is_plainly_text.ensures c.if-is_plainly_text.true) in
+pub returns-in_default-sign_on-clause-stands : goal.returns-in_default-sign_on-clause-stands
+returns-in_default-sign_on-clause-stands c = λ o xs t h next.
+    let told = text_turn c.args.self.now o (as_scan c.args.scan.now) (as_line c.args.line.now) c.in_default-sign_on.ensures.none in
     let same = ap (λ m. m.open_sections.items) c.read_text.ensures.rest in
     rw c.read_text.ensures.value
     (reads_line c.args.self.now _ o xs t (as_line c.args.line.now) _ h

@@ -1,12 +1,13 @@
 -- A section reads its place one level deeper, and each line leaves less of the text.
 use Rattle.std.proofs.Common.{◌+◌, ◌*◌, ◌-◌, ◌≤◌, length}
+use Rattle.ud_model.specs.declared.limits.TheConstants.{OPEN_SECTIONS}
 use Rattle.unifdef_reference.proofs.reading.Reader.+reading.Given as goal
 
 abbrev pub decreases-place : goal.decreases-place
-decreases-place l = 2 * (64 - l.level) + 1
+decreases-place l = 2 * (OPEN_SECTIONS - l.level) + 1
 
 abbrev pub decreases-section : goal.decreases-section
-decreases-section l = 2 * (64 - l.level)
+decreases-section l = 2 * (OPEN_SECTIONS - l.level)
 
 abbrev pub invariant-place-lines : goal.invariant-place-lines
 invariant-place-lines l = length l.self.rest.now ≤ length l.fn.self.rest.now

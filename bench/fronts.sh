@@ -1,0 +1,14 @@
+#!/usr/bin/env bash
+# Holds ./unifdef against its reference on fronts of real files, under random words: see README.md in this folder.
+# FRONTS_TREE: the folder of the files; N: how many cases; SEED: the first one.
+set -eu -o pipefail
+export LC_ALL=C
+here=$(cd "$(dirname "$0")" && pwd)
+top=$(dirname "$here")
+program=$top/unifdef
+reference=$top/crates/reference_cli/out/reference_cli
+
+[ -x "$program" ] || { echo "fronts: $program is not there: run make" >&2; exit 1; }
+[ -x "$reference" ] || { echo "fronts: $reference is not there: run make fronts" >&2; exit 1; }
+
+python3 "$here/fronts.py" "$program" "$reference" "${FRONTS_TREE:-/usr/include}" "${N:-20000}" "${SEED:-0}"

@@ -1,0 +1,89 @@
+#!/usr/bin/env bash
+# Tries the completions in each shell that is there: bash, zsh and fish. test.sh [PROGRAM]
+set -u -o pipefail
+here=$(cd "$(dirname "$0")" && pwd)
+program=$(realpath "${1:-$here/../unifdef}")
+[ -x "$program" ] || { echo "completions: $program is not there: run make" >&2; exit 1; }
+
+work=$(mktemp -d)
+trap 'rm -rf "$work"' EXIT
+mkdir "$work/bin" "$work/here"
+ln -s "$program" "$work/bin/unifdef"
+ln -s "$here/../tree/unifdef-tree" "$work/bin/unifdef-tree"
+export PATH=$work/bin:$PATH HOME=$work XDG_CONFIG_HOME=$work XDG_DATA_HOME=$work
+cd "$work/here" || exit 1
+printf '#if DEBUG > 1 && defined(DEEP)\n#endif\n' > a.h
+printf '#ifdef OTHER\n#endif\n' > b.c
+right=0 wrong=0
+
+# The words that a shell offers for a line.
+in_bash() {
+  bash --norc -c '
+    . "$1/unifdef.bash"
+    read -ra COMP_WORDS <<< "$2"
+    [[ "$2" != *" " ]] || COMP_WORDS+=("")
+    COMP_CWORD=$((${#COMP_WORDS[@]} - 1))
+    _unifdef
+    printf "%s\n" "${COMPREPLY[@]}"' bash "$here" "$1"
+}
+# shellcheck disable=SC2016 # The variables are those of the other shell.
+in_fish() { fish --no-config -c 'source $argv[1]/unifdef.fish; source $argv[1]/unifdef-tree.fish; complete -C $argv[2]' "$here" "$1"; }
+# zsh completes at a terminal alone, so one is made for it.
+cat > "$work/ask.zsh" << 'END'
+zmodload zsh/zpty
+zpty -b shell zsh -f -i
+zpty -w shell 'PS1=; stty -echo cols 200; fpath=('$1' $fpath); autoload -Uz compinit; compinit -u -D
+  setopt nobeep; bindkey "^I" list-choices; print rea''dy'
+shown=''
+repeat 100; do
+  sleep 0.1
+  while zpty -r -t shell line; do shown+=$line; done
+  [[ $shown != *ready* ]] || break
+done
+shown=''
+zpty -w -n shell $2$'\t'
+repeat 15; do
+  sleep 0.1
+  while zpty -r -t shell line; do shown+=$line; done
+done
+zpty -d shell
+print -r -- $shown
+END
+in_zsh() {
+  timeout 30 zsh -f "$work/ask.zsh" "$here" "$1" | tr -d '\r' | sed 's/\x1b\[[0-9;]*[A-Za-z]/\n/g' | tr -s ' ' '\n'
+}
+
+# offers SHELL LINE WANTED UNWANTED: what is offered for a line has one word and not the other.
+offers() {
+  local offered
+  offered=$("in_$1" "$2" 2>&1 < /dev/null)
+  if grep -qE -e "^$3([[:space:]]|$)" <<< "$offered" && ! grep -qE -e "^$4([[:space:]]|$)" <<< "$offered"; then
+    right=$((right + 1))
+  else
+    wrong=$((wrong + 1))
+    printf 'completions: %s offers for %s: %s\n' "$1" "$2" "$offered"
+  fi
+}
+
+for shell in bash zsh fish; do
+  if ! command -v "$shell" > /dev/null; then
+    echo "completions: $shell is not there, so it is left out"
+    continue
+  fi
+  offers "$shell" 'unifdef -' -S -j
+  offers "$shell" 'unifdef-tree -' -j -S
+  case $shell in
+    zsh) names='' ;;
+    *) names=-U ;;
+  esac
+  offers "$shell" 'unifdef -UDE' "${names}DEBUG" "${names}OTHER"
+  offers "$shell" 'unifdef-tree -U ' OTHER a.h
+  offers "$shell" 'unifdef -x ' 2 3
+  case $shell in
+    bash) offers bash 'unifdef -iDDE' -iDDEEP -iDOTHER ;;
+    zsh) offers zsh 'unifdef -iDDE' DEEP OTHER ;;
+    fish) offers fish 'unifdef -iDDE' -iDDEEP -iDOTHER ;;
+  esac
+done
+echo "completions: $right lines are completed as they should, $wrong aren't"
+[ "$wrong" -eq 0 ]

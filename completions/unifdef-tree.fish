@@ -1,0 +1,28 @@
+# Completions of unifdef-tree for fish.
+
+# The names in the conditions of the C files of the folder.
+function __unifdef_names
+    for file in *.{c,h,cc,cpp,hh,hpp}
+        command unifdef -s < $file 2> /dev/null
+    end
+end
+
+function __unifdef_ignoring
+    printf 'D%s\n' (__unifdef_names)
+    printf 'U%s\n' (__unifdef_names)
+end
+
+complete -c unifdef-tree -s b -d 'Leave removed lines blank'
+complete -c unifdef-tree -s c -d 'Print what would be removed'
+complete -c unifdef-tree -s D -x -a '(__unifdef_names)' -d 'Define a symbol'
+complete -c unifdef-tree -s i -x -a '(__unifdef_ignoring)' -d 'Ignore text inside of sections by a symbol'
+complete -c unifdef-tree -s K -d 'Leave && and || unknown if an operand is'
+complete -c unifdef-tree -s k -d 'Decide constant expressions'
+complete -c unifdef-tree -s l -d 'Leave removed lines blank'
+complete -c unifdef-tree -s t -d 'Plain text'
+complete -c unifdef-tree -s U -x -a '(__unifdef_names)' -d 'Undefine a symbol'
+complete -c unifdef-tree -s x -x -a '0 1 2' -d 'What the status says'
+complete -c unifdef-tree -s g -x -d 'Take files with such names'
+complete -c unifdef-tree -s j -x -d 'How many at a time'
+complete -c unifdef-tree -s n -d 'Show what would change'
+complete -c unifdef-tree -s s -d 'Count the names in conditions'

@@ -1,0 +1,48 @@
+# Completions of unifdef and unifdef-tree for bash.
+
+# The names in the conditions of the C files of the folder.
+_unifdef_names() {
+  local file
+  for file in ./*.[ch] ./*.cc ./*.cpp ./*.hh ./*.hpp; do
+    [ ! -f "$file" ] || command unifdef -s < "$file" 2> /dev/null
+  done | sort -u
+}
+
+# Puts the words of $2 that go on after $1 into COMPREPLY, with $1 at the front, for the word that is typed.
+_unifdef_after() {
+  local typed=${COMP_WORDS[COMP_CWORD]}
+  mapfile -t COMPREPLY < <(compgen -P "$1" -W "$2" -- "${typed#"$1"}")
+}
+
+_unifdef() {
+  local typed=${COMP_WORDS[COMP_CWORD]} before=${COMP_WORDS[COMP_CWORD - 1]} command=${COMP_WORDS[0]##*/}
+  COMPREPLY=()
+  case $before in
+    -D | -U)
+      _unifdef_after '' "$(_unifdef_names)"
+      return
+      ;;
+    -i)
+      _unifdef_after '' 'D U'
+      return
+      ;;
+    -x)
+      _unifdef_after '' '0 1 2'
+      return
+      ;;
+    -g | -j) return ;;
+  esac
+  case $typed in
+    -iD* | -iU*) _unifdef_after "${typed:0:3}" "$(_unifdef_names)" ;;
+    -D* | -U*) _unifdef_after "${typed:0:2}" "$(_unifdef_names)" ;;
+    -*)
+      if [ "$command" = unifdef-tree ]; then
+        _unifdef_after '' '-b -c -D -g -iD -iU -j -K -k -l -n -s -t -U -x0 -x1 -x2 --'
+      else
+        _unifdef_after '' '-b -c -D -iD -iU -K -k -l -n -S -s -t -U -x0 -x1 -x2 --'
+      fi
+      ;;
+  esac
+}
+
+complete -o bashdefault -o default -F _unifdef unifdef unifdef-tree

@@ -1,0 +1,42 @@
+//! Says something of a symbol twice, and then of what is no name; and tells what was answered, and what the table says then.
+//!
+//! `faults/run.sh` runs it with each growth refused in turn. A refused call leaves the table as it was, and a bad name is told
+//! before any memory is taken.
+#![tactic(auto)]
+
+use std::io;
+use ud_cond::{SymbolFault, Symbols};
+
+fn main(rt: HostRuntime) -> io::Result<()> {
+    let mut symbols = Symbols::new(rt.alloc());
+    let first = symbols.define(b"A", b"1", false);
+    println!(rt; "-DA=1: {}", told(first))?;
+    tell(&rt, &symbols)?;
+    let second = symbols.define(b"A", b"22", true);
+    println!(rt; "-iDA=22: {}", told(second))?;
+    tell(&rt, &symbols)?;
+    let bad = symbols.define(b"1A", b"1", false);
+    println!(rt; "-D1A: {}", told(bad))?;
+    tell(&rt, &symbols)
+}
+
+/// How a call was answered.
+fn told(answer: Result<(), SymbolFault>) -> &'static str {
+    match answer {
+        Ok(()) => "taken",
+        Err(SymbolFault::BadName) => "bad name",
+        Err(SymbolFault::OutOfMemory) => "out of memory",
+    }
+}
+
+/// Prints what the table says of the name.
+fn tell(rt: &impl Print, symbols: &Symbols) -> io::Result<()> {
+    let Some(entry) = symbols.find(b"A") else {
+        return println!(rt; "A isn't listed");
+    };
+    let ignoring = if entry.ignoring { ", ignoring" } else { "" };
+    match entry.value {
+        Some(value) => println!(rt; "A is {}{ignoring}", value.escape_ascii()),
+        None => println!(rt; "A is undefined{ignoring}"),
+    }
+}

@@ -1,0 +1,67 @@
+//! Bytes that are gathered one after another, up to a limit.
+
+ghost use Rattle.std.specs.Prelude.{◌≡◌, ◌+◌, ◌≤◌, ◌++◌, [], length, take, true, false};
+
+use std::marker::Model;
+
+/// How many bytes are gathered at most: a piece of the input, and a line that was cut by its beginning, leave in one write.
+pub(crate) const OUTPUT_BYTES: usize = 16_384;
+
+/// At most `OUTPUT_BYTES` bytes. Making it empty leaves the array as it is.
+#[derive(Drop)]
+pub(crate) struct Gathered {
+    /// The first `len` bytes count.
+    array: [u8; OUTPUT_BYTES],
+    len: usize,
+}
+
+impl Model for Gathered {
+    ghost use Rattle.std.specs.Prelude.{List, ℕ, ◌≤◌, take};
+    ghost use Rattle.ud_engine.specs.declared.gathered.TheConstants.{OUTPUT_BYTES};
+
+    ghost Value = { List ℕ };
+
+    ghost view = { λ g. take g.len g.array };
+
+    ghost invariant = { λ g. g.len ≤ OUTPUT_BYTES };
+}
+
+impl Gathered {
+    /// Nothing.
+    pub(crate) fn new() -> Gathered
+        ensures { result ≡ [] }
+    {
+        Gathered {
+            array: [0; OUTPUT_BYTES],
+            len: 0,
+        }
+    }
+
+    /// Puts these bytes after the others if there is room for all of them.
+    pub(crate) fn push(&mut self, bytes: &[u8]) -> bool
+        ensures put { result ≡ true → self.new ≡ self.old ++ bytes.now }
+        ensures full { result ≡ false → self.new ≡ self.old }
+    {
+        if bytes.len() > OUTPUT_BYTES - self.len {
+            return false;
+        }
+        let end = self.len + bytes.len();
+        self.array[self.len..end].copy_from_slice(bytes);
+        self.len = end;
+        true
+    }
+
+    /// The bytes.
+    pub(crate) fn as_slice(&self) -> &[u8]
+        ensures { result.now ≡ self.now }
+    {
+        &self.array[..self.len]
+    }
+
+    /// Makes it empty.
+    pub(crate) fn clear(&mut self)
+        ensures { self.new ≡ [] }
+    {
+        self.len = 0;
+    }
+}

@@ -1,0 +1,79 @@
+-- Ended: from how a run went to how the tool ended.
+use Rattle.std.proofs.Common.{◌≡◌, ℕ, List, Bool, true, false, not, ◌||◌, Option, Result, Ok, Err, refl}
+use Rattle.std.specs.Io.KnownBytes.{Keeps}
+use Rattle.ud_model.specs.text.Lines.{Line}
+use Rattle.ud_model.specs.sections.Items.{Options}
+use Rattle.ud_model.specs.sections.Faults.{Fault}
+use Rattle.ud_engine.specs.declared.fault.RunFault.{RunFault}
+use Rattle.ud_engine.specs.declared.fault.RunFault.TheVariants.{Text, Section, Read, Write}
+use Rattle.ud_engine.specs.Running.{Went, EndsAs, FallsShort, CutShort, FoundFault, in_course, at_end}
+use Rattle.ud_engine.proofs.SendingLemmas.{kept}
+use Rattle.unifdef.specs.Ended.{is_read_error, is_write_error}
+
+module _ (o : Options) (given : List ℕ) (left uo um un : Option (List ℕ)) (keeps : Keeps um un) where
+  short_kept : (ls : List Line) → FallsShort o ls uo um → FallsShort o ls uo un
+  short_kept ls h = record {
+    items = h.items;
+    tree = h.tree;
+    goes = h.goes;
+    front = (h.front.0, h.front.1, h.front.2, kept uo um un h.front.0 h.front.3 keeps);
+  }
+
+  cut_kept : CutShort o given left uo um → CutShort o given left uo un
+  cut_kept (in_course ls later are h) = in_course ls later are (short_kept ls h)
+  cut_kept (at_end ended h) = at_end ended (short_kept _ h)
+
+  found_kept : (f : Fault) → FoundFault o given left uo um f → FoundFault o given left uo un f
+  found_kept f h = record { outcome = h.outcome; runs = h.runs; fault = h.fault; appended = kept uo um un h.outcome.output h.appended keeps }
+
+  -- what was written stays so after a flush
+  ends_kept : (r : Result Bool RunFault) → EndsAs o given left uo um r → EndsAs o given left uo un r
+  ends_kept (Ok differs) h = (
+    h.0,
+    record { outcome = h.1.outcome; runs = h.1.runs; output = kept uo um un h.1.outcome.output h.1.output keeps; answered = h.1.answered },
+  )
+  ends_kept (Err (Text f)) h = found_kept _ h
+  ends_kept (Err (Section f)) h = found_kept _ h
+  ends_kept (Err Read) h = record { outcome = h.outcome; runs = h.runs; right = h.right; appended = kept uo um un h.outcome.output h.appended keeps }
+  ends_kept (Err Write) h = cut_kept h
+
+-- how a run went stays so after a flush
+pub flushed_went : (o : Options) (read_old read_new uo um un : Option (List ℕ)) (r : Result Bool RunFault) → Went o read_old read_new uo um r → Keeps um un → Went o read_old read_new uo un r
+flushed_went o read_old read_new uo um un r w keeps = record {
+  given = w.given;
+  consumed = w.consumed;
+  ends = ends_kept o w.given read_new uo um un keeps r w.ends;
+}
+
+-- a reader has failed exactly if a read error is answered
+pub read_told : (failed : Bool) (r : Result Bool RunFault) → (failed ≡ true → r ≡ Err Read) → (r ≡ Err Read → failed ≡ true) → failed ≡ is_read_error r
+read_told failed (Err Read) only if_so = if_so refl
+read_told true (Ok differs) only if_so = let no = only refl in cc
+read_told true (Err (Text f)) only if_so = let no = only refl in cc
+read_told true (Err (Section f)) only if_so = let no = only refl in cc
+read_told true (Err Write) only if_so = let no = only refl in cc
+read_told false (Ok differs) only if_so = refl
+read_told false (Err (Text f)) only if_so = refl
+read_told false (Err (Section f)) only if_so = refl
+read_told false (Err Write) only if_so = refl
+
+-- the output has failed before the flush exactly if a write error is answered
+wrote_told : (failed : Bool) (r : Result Bool RunFault) → (failed ≡ true → r ≡ Err Write) → (r ≡ Err Write → failed ≡ true) → failed ≡ is_write_error r
+wrote_told failed (Err Write) only if_so = if_so refl
+wrote_told true (Ok differs) only if_so = let no = only refl in cc
+wrote_told true (Err (Text f)) only if_so = let no = only refl in cc
+wrote_told true (Err (Section f)) only if_so = let no = only refl in cc
+wrote_told true (Err Read) only if_so = let no = only refl in cc
+wrote_told false (Ok differs) only if_so = refl
+wrote_told false (Err (Text f)) only if_so = refl
+wrote_told false (Err (Section f)) only if_so = refl
+wrote_told false (Err Read) only if_so = refl
+
+after_flush : (mid wrote new flushed : Bool) → mid ≡ wrote → (mid ≡ false → new ≡ not flushed) → (mid ≡ true → new ≡ true) → new ≡ (wrote || not flushed)
+after_flush mid true new flushed e fails again = again e
+after_flush mid false new flushed e fails again = fails e
+
+-- after the flush it has failed exactly if a write failed, or the flush
+pub write_told : (mid new flushed : Bool) (r : Result Bool RunFault) → (mid ≡ true → r ≡ Err Write) → (r ≡ Err Write → mid ≡ true) →
+    (mid ≡ false → new ≡ not flushed) → (mid ≡ true → new ≡ true) → new ≡ (is_write_error r || not flushed)
+write_told mid new flushed r only if_so fails again = after_flush mid (is_write_error r) new flushed (wrote_told mid r only if_so) fails again

@@ -1,0 +1,34 @@
+#!/usr/bin/env bash
+# Sees that the code of a page stands in the sources: quotes.sh PAGE SOURCE..
+#
+# Each fenced block that begins with ```rust must stand in one of the files, as it is. The blocks without a language are what
+# the program prints, and stand in the file that is called stdout beside the sources' folder.
+set -eu -o pipefail
+page=$1
+shift
+texts=()
+for source in "$@" "$(dirname "$1")/../stdout"; do
+  texts+=("$(cat "$source")"$'\n')
+done
+
+right=0 wrong=0 inside=no block=''
+while IFS= read -r line; do
+  if [ "$inside" = no ] && { [ "$line" = '```rust' ] || [ "$line" = '```' ]; }; then
+    inside=yes block=''
+  elif [ "$inside" = yes ] && [ "$line" = '```' ]; then
+    inside=no found=no
+    for text in "${texts[@]}"; do
+      [[ "$text" != *"$block"* ]] || found=yes
+    done
+    if [ "$found" = yes ]; then
+      right=$((right + 1))
+    else
+      wrong=$((wrong + 1))
+      printf 'quotes: %s: in none of the sources:\n%s' "$page" "$block"
+    fi
+  elif [ "$inside" = yes ]; then
+    block+=$line$'\n'
+  fi
+done < "$page"
+echo "quotes of $(basename "$page"): $right blocks stand in the sources, $wrong don't"
+[ "$wrong" -eq 0 ] && [ "$right" -gt 0 ]

@@ -1,0 +1,231 @@
+#!/usr/bin/env bash
+# Runs ./unifdef where the system's reads and writes fail, with a small stack, and with each growth of memory refused in turn:
+# see README.md in this folder.
+#
+# run.sh [PROGRAM] [TABLE]: ./unifdef by default, and the program of crates/memory_runs, which is left out if it isn't built.
+set -eu -o pipefail
+export LC_ALL=C
+here=$(cd "$(dirname "$0")" && pwd)
+program=$(realpath "${1:-$here/../unifdef}")
+table=${2:-$here/../crates/memory_runs/out/memory_runs}
+
+[ -x "$program" ] || { echo "faults: $program is not there: run make" >&2; exit 1; }
+
+work=$(mktemp -d)
+trap 'rm -rf "$work"' EXIT
+right=0 wrong=0
+out=$work/out err=$work/err
+
+# Counts a case as right, or as wrong with what it is about.
+judge() {
+  if [ "${1:-no}" = yes ]; then
+    right=$((right + 1))
+  else
+    wrong=$((wrong + 1))
+    echo "faults: $2"
+  fi
+}
+
+# WHAT WANTED_STATUS STATUS WANTED_OUTPUT WANTED_MESSAGE: compares a run, whose output is in $out and whose message is in $err.
+compare() {
+  local same=no
+  if [ "$2" = "$3" ] && printf '%b' "$4" | cmp -s - "$out" && printf '%b' "$5" | cmp -s - "$err"; then
+    same=yes
+  fi
+  judge $same "$1: status $3, output $(head -c 200 "$out" | od -An -c | head -n 3), message $(cat "$err")"
+}
+
+# Runs the program for a while at most; one that hangs ends with status 124, and one that a signal ends with 128 or more.
+limited() {
+  timeout 20 "$program" "$@"
+}
+
+write_error='unifdef: stdin: Write error\n'
+read_error='unifdef: stdin: Read error\n'
+
+# --- Streams of the system that fail.
+
+lines() {
+  seq 1 "$1"
+}
+
+for count in 1 100000; do
+  lines $count > "$work/in"
+  status=0; : > "$out"
+  limited -DA < "$work/in" > /dev/full 2> "$err" || status=$?
+  compare "a full output, $count lines" 2 $status '' "$write_error"
+  status=0
+  limited -DA < "$work/in" >&- 2> "$err" || status=$?
+  compare "a closed output, $count lines" 2 $status '' "$write_error"
+  status=0; : > "$err"
+  limited -DA < "$work/in" >&- 2>&- || status=$?
+  compare "a closed output and a closed error stream, $count lines" 2 $status '' ''
+done
+
+status=0
+printf '#ifdef A\nx\n' | limited -DA > "$out" 2>&- || status=$?
+compare "a closed error stream" 2 $status 'x\n' ''
+status=0
+printf '#ifdef A\nx\n' | limited -DA > "$out" 2> /dev/full || status=$?
+compare "a full error stream" 2 $status 'x\n' ''
+status=0
+limited -B > "$out" 2> /dev/full || status=$?
+compare "a full error stream at a fault of the words" 2 $status '' ''
+
+status=0
+limited -DA <&- > "$out" 2> "$err" || status=$?
+compare "a closed input" 2 $status '' "$read_error"
+status=0
+limited -DA < "$work" > "$out" 2> "$err" || status=$?
+compare "a folder as input" 2 $status '' "$read_error"
+mkdir "$work/folder"
+status=0
+(cd "$work" && limited -DA folder > "$out" 2> "$err") || status=$?
+compare "a folder as operand" 2 $status '' 'unifdef: folder: Read error\n'
+status=0
+(cd "$work" && limited -DA none > "$out" 2> "$err") || status=$?
+compare "a file that isn't there" 2 $status '' 'unifdef: none: Cannot open\n'
+status=0
+limited -DA $'\xff' > "$out" 2> "$err" < /dev/null || status=$?
+compare "a word that isn't UTF-8" 2 $status '' 'unifdef: Cannot take arguments\n'
+
+# A pipe whose reader goes away: a write error, and no signal.
+: > "$out"
+status=$(set +o pipefail; { lines 100000; } 2> /dev/null | { limited -DA 2> "$err"; echo $? >&3; } 3> "$work/status" | head -c 1 > /dev/null; cat "$work/status")
+compare "a pipe whose reader goes away" 2 "$status" '' "$write_error"
+status=$(set +o pipefail; { lines 100000; } 2> /dev/null | { limited -DA 2> "$err"; echo $? >&3; } 3> "$work/status" | exec true; cat "$work/status")
+compare "a pipe that nobody reads" 2 "$status" '' "$write_error"
+
+# An input that is cut off by a killed writer is a shorter text.
+status=0
+(printf 'a\n#ifdef A\nb\nc'; kill -KILL "$BASHPID") 2> /dev/null | limited -DA > "$out" 2> "$err" || status=${PIPESTATUS[1]}
+compare "an input whose writer is killed" 2 "$status" 'a\nb\nc' 'unifdef: stdin: 4: Premature EOF (#if line 2)\n'
+
+# --- The deepest inputs, with a stack of 256 KiB.
+
+repeat() {
+  local text
+  printf -v text '%*s' "$2" ''
+  printf '%s' "${text// /$1}"
+}
+
+deep() {
+  case $1 in
+    sections) repeat $'#ifdef X\n' 64; repeat $'#endif\n' 64 ;;
+    removed) printf '#ifdef A\n'; repeat $'#if X\n#else\n' 63; repeat $'#endif\n' 63; printf '#endif\nx\n' ;;
+    parentheses) printf '#if '; repeat '(' 2000; printf A; repeat ')' 2000; printf '\nx\n#endif\n' ;;
+    negations) printf '#if '; repeat '!' 4080; printf 'A\nx\n#endif\n' ;;
+    operators) printf '#if A'; repeat '||A' 1360; printf '\nx\n#endif\n' ;;
+    mixed) printf '#if '; repeat '-(~(!(' 600; printf 1; repeat ')))' 120; printf '\nx\n#endif\n' ;;
+    arguments) printf '#if A'; repeat '(A' 1000; repeat ')' 1000; printf '\nx\n#endif\n' ;;
+    comment) printf '/*'; repeat '*' 4090; printf '\n'; repeat $'*\n' 2000; printf '*/\n' ;;
+    splices) repeat $'\\\n' 50000; printf 'x\n' ;;
+    longest) repeat a 4095; printf '\n' ;;
+  esac
+}
+
+for kind in sections removed parentheses negations operators mixed arguments comment splices longest; do
+  deep $kind > "$work/in"
+  for words in "-DA" "-UA -k" "-S -DA"; do
+    wanted=0 status=0
+    # shellcheck disable=SC2086
+    limited $words < "$work/in" > "$work/wanted_out" 2> "$work/wanted_err" || wanted=$?
+    # shellcheck disable=SC2086
+    (ulimit -s 256; limited $words < "$work/in" > "$out" 2> "$err") || status=$?
+    same=no
+    if [ $status = $wanted ] && [ $status -le 2 ] && cmp -s "$out" "$work/wanted_out" && cmp -s "$err" "$work/wanted_err"; then
+      same=yes
+    fi
+    judge $same "$kind under $words with a small stack: status $status, and $wanted with a large one"
+  done
+done
+
+# --- Each growth of memory refused in turn.
+
+# WORD..: how many growths a run over the input makes.
+growths() {
+  rm -f "$work/count"
+  REFUSE_COUNT=$work/count LD_PRELOAD=$work/refuse.so "$program" "$@" > /dev/null 2>&1 || true
+  if [ -e "$work/count" ]; then wc -c < "$work/count"; else echo 0; fi
+}
+
+# FROM TO WORD..: runs with these growths refused, and then keeps what the program has left of the input.
+refused() {
+  local from=$1 to=$2
+  shift 2
+  status=0
+  {
+    REFUSE_FROM=$from REFUSE_TO=$to LD_PRELOAD=$work/refuse.so timeout 20 "$program" "$@" > "$out" 2> "$err" || status=$?
+    cat > "$work/left"
+  } < "$work/in"
+}
+
+# Whether a run with refused memory told so, wrote nothing and read nothing.
+is_refusal() {
+  [ $status = 2 ] && [ ! -s "$out" ] && cmp -s "$work/left" "$work/in"
+}
+
+# PLANNED WORD..: each growth is refused, alone and with all later ones. Want of memory is told by `main`, which gathers its words,
+# and, if PLANNED is yes, after that by the plan of the symbols. No text makes a growth more, and with none refused nothing
+# changes.
+refuse_each() {
+  local planned=$1 all at to told=no
+  shift
+  all=$(growths "$@" < /dev/null)
+  judge "$([ "$all" -gt 0 ] && [ "$(growths "$@" < "$work/deep")" = "$all" ] && echo yes)" "a text takes memory under $*"
+  for at in $(seq 1 "$all"); do
+    for to in "$at" 1000000; do
+      refused "$at" "$to" "$@"
+      case $(cat "$err") in
+        "unifdef: Cannot take arguments") judge "$(is_refusal && [ $told = no ] && echo yes)" "growth $at to $to refused under $*: status $status" ;;
+        "unifdef: Out of memory") told=yes; judge "$(is_refusal && echo yes)" "growth $at to $to refused under $*: status $status" ;;
+        *) judge no "growth $at to $to refused under $*: $(cat "$err")" ;;
+      esac
+    done
+  done
+  judge "$([ $told = "$planned" ] && echo yes)" "want of memory is told by the plan: $told, under $*"
+  local wanted=0
+  "$program" "$@" < "$work/in" > "$work/wanted_out" 2> "$work/wanted_err" || wanted=$?
+  refused $((all + 1)) 1000000 "$@"
+  judge "$([ $status = $wanted ] && cmp -s "$out" "$work/wanted_out" && cmp -s "$err" "$work/wanted_err" && echo yes)" "no growth refused under $*"
+}
+
+# What a table says if the second growth of a symbol is refused: the first one's value. A bad name is told whatever is refused.
+refuse_table() {
+  local all at to text
+  rm -f "$work/count"
+  REFUSE_COUNT=$work/count LD_PRELOAD=$work/refuse.so "$table" > "$out"
+  all=$(wc -c < "$work/count")
+  for at in $(seq 1 $((all + 1))); do
+    for to in "$at" 1000000; do
+      status=0
+      REFUSE_FROM=$at REFUSE_TO=$to LD_PRELOAD=$work/refuse.so timeout 20 "$table" > "$out" 2> "$err" || status=$?
+      text=$(tr '\n' '/' < "$out")
+      case $text in
+        "-DA=1: out of memory/A isn't listed/-iDA=22: out of memory/A isn't listed/-D1A: bad name/A isn't listed/") same=yes ;;
+        "-DA=1: out of memory/A isn't listed/-iDA=22: taken/A is 22, ignoring/-D1A: bad name/A is 22, ignoring/") same=yes ;;
+        "-DA=1: taken/A is 1/-iDA=22: out of memory/A is 1/-D1A: bad name/A is 1/") same=yes ;;
+        "-DA=1: taken/A is 1/-iDA=22: taken/A is 22, ignoring/-D1A: bad name/A is 22, ignoring/")
+          same=$([ "$at" -gt "$all" ] && echo yes || echo no) ;;
+        *) same=no ;;
+      esac
+      judge "$same" "the table with growth $at to $to refused: $text"
+    done
+  done
+}
+
+if "${CC:-cc}" -O1 -shared -fPIC -o "$work/refuse.so" "$here/refuse.c" -ldl 2> /dev/null; then
+  printf '#ifdef A\nx\n#endif\n' > "$work/in"
+  { deep sections; deep longest; deep comment; lines 100000; } > "$work/deep"
+  refuse_each yes -DA -UB -DC=1
+  refuse_each yes -iDA=1 -iUB -DA=22 -UA -Dlonger_than_a_few_bytes=another_value
+  refuse_each yes -DA -B
+  refuse_each no -B -DA
+  refuse_each no -tk -x2
+  if [ -x "$table" ]; then refuse_table; else echo "faults: left out, since crates/memory_runs isn't built: the table of symbols"; fi
+else
+  echo "faults: left out, since there is no C compiler: refused memory"
+fi
+
+echo "faults: $right right, $wrong wrong"
+[ $wrong = 0 ]

@@ -1,0 +1,50 @@
+#!/bin/sh
+# Makes the Debian package unifdef-proved_VERSION_ARCHITECTURE.deb of ./unifdef, with dpkg's tools.
+#
+# It isn't called unifdef, since Debian's own package is: the two can't be installed beside each other.
+set -eu
+umask 022
+cd "$(dirname "$0")/.."
+command -v dpkg-deb > /dev/null || { echo 'deb: dpkg-deb is not there' >&2; exit 1; }
+version=$(packaging/version.sh)
+architecture=$(dpkg --print-architecture)
+stage=$(mktemp -d)
+trap 'rm -rf "$stage"' EXIT
+root=$stage/root
+package=unifdef-proved
+
+"${MAKE:-make}" -s -o unifdef install DESTDIR="$root" PREFIX=/usr DOCDIR="/usr/share/doc/$package" \
+  ZSHDIR=/usr/share/zsh/vendor-completions
+documents=$root/usr/share/doc/$package
+mv "$documents/LICENSE" "$documents/copyright"
+maintainer=$(git log -1 --format='%an <%ae>' 2> /dev/null || echo 'unifdef maintainers <maintainers@localhost>')
+cp CHANGELOG.md "$documents"
+printf '%s (%s) unstable; urgency=medium\n\n  * CHANGELOG.md has what changed.\n\n -- %s  %s\n' \
+  "$package" "$version" "$maintainer" "$(date -Rr CHANGELOG.md)" > "$documents/changelog"
+gzip -9n "$documents/changelog" "$root"/usr/share/man/man1/*.1
+strip "$root/usr/bin/unifdef"
+
+# The C library that the program needs is at least as new as the newest of its symbols.
+library=$(objdump -T unifdef | sed -n 's/.*GLIBC_\([0-9.]*\).*/\1/p' | sort -Vu | tail -n 1)
+mkdir "$root/DEBIAN"
+cat > "$root/DEBIAN/control" << END
+Package: $package
+Version: $version
+Architecture: $architecture
+Maintainer: $maintainer
+Installed-Size: $(du -sk "$root/usr" | cut -f 1)
+Depends: libc6 (>= $library)
+Conflicts: unifdef
+Replaces: unifdef
+Section: devel
+Priority: optional
+Description: remove preprocessor conditionals from C source, proved
+ unifdef removes the preprocessor conditionals of C source that its options
+ decide, and the lines that they exclude. It is proved that the program gives
+ the answer of a definition of unifdef that can be read.
+ .
+ The package has unifdef-tree, too, which takes the files of a tree through it.
+END
+(cd "$root" && find usr -type f -exec md5sum {} +) > "$root/DEBIAN/md5sums"
+dpkg-deb --root-owner-group --build "$root" "${package}_${version}_$architecture.deb" > /dev/null
+echo "${package}_${version}_$architecture.deb"

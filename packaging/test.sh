@@ -1,0 +1,110 @@
+#!/usr/bin/env bash
+# Installs ./unifdef in folders of its own and takes it away, and tries both packages.
+set -u -o pipefail
+export LC_ALL=C
+unset MAKEFLAGS MAKELEVEL
+here=$(cd "$(dirname "$0")/.." && pwd)
+cd "$here" || exit 1
+make=${MAKE:-make}
+work=$(mktemp -d)
+trap 'rm -rf "$work"' EXIT
+passed=0 failed=0
+
+check() {
+  local what=$1
+  shift
+  if "$@" > "$work/said" 2>&1; then
+    passed=$((passed + 1))
+  else
+    failed=$((failed + 1))
+    echo "packages: not so: $what"
+    cat "$work/said"
+  fi
+}
+same() { [ "$1" = "$2" ] || { printf '%s\n---\n%s\n' "$1" "$2"; false; }; }
+
+# A program that is there, and runs from where it stands; a manual that can be shown.
+works_in() {
+  printf '#ifdef A\nx\n#endif\n' > "$work/a.c"
+  check "$1: runs" same "$("$2/bin/unifdef" -DA "$work/a.c"; echo $?)" $'x\n1'
+  check "$1: over a tree" same "$("$2/bin/unifdef-tree" -DA "$work/a.c" 2>&1; cat "$work/a.c")" \
+    $'unifdef-tree: 1 changed, 0 unchanged, 0 faulty\nx'
+  for manual in "$2"/share/man/man1/unifdef.1* "$2"/share/man/man1/unifdef-tree.1*; do
+    check "$1: ${manual##*/}" shows "$manual" "unifdef $version"
+  done
+}
+
+# The manual is shown by what is there for it.
+shows() {
+  if command -v mandoc > /dev/null; then
+    mandoc "$1" | grep -q "^$2 "
+  elif command -v man > /dev/null && command -v groff > /dev/null; then
+    man -l "$1" | grep -q "^$2 "
+  else
+    gzip -cdf "$1" | grep -qx "\\.Os $2"
+  fi
+}
+
+version=$(packaging/version.sh) || failed=$((failed + 1))
+
+# Into a folder with spaces, and away again.
+place="$work/a folder/with spaces"
+check install "$make" -s -o unifdef install DESTDIR="$place" PREFIX="/opt/my tools"
+works_in install "$place/opt/my tools"
+check 'install: files' same "$(cd "$place/opt/my tools" && find . -type f | sort)" \
+"./bin/unifdef
+./bin/unifdef-tree
+./share/bash-completion/completions/unifdef
+./share/bash-completion/completions/unifdef-tree
+./share/doc/unifdef/DEFINITIONS.md
+./share/doc/unifdef/LICENSE
+./share/fish/vendor_completions.d/unifdef-tree.fish
+./share/fish/vendor_completions.d/unifdef.fish
+./share/man/man1/unifdef-tree.1
+./share/man/man1/unifdef.1
+./share/zsh/site-functions/_unifdef"
+check uninstall "$make" -s uninstall DESTDIR="$place" PREFIX="/opt/my tools"
+check 'uninstall: files' same "$(find "$place" -type f)" ''
+
+# Before a released program on PATH.
+mkdir -p "$work/first/bin" "$work/second"
+printf '#!/bin/sh\necho "Version: unifdef-2.10" >&2\n' > "$work/second/unifdef"
+chmod +x "$work/second/unifdef"
+ln -s "$(command -v grep)" "$work/second/grep"
+warned() { PATH=$1 packaging/warn.sh "$work/first/bin" 2>&1 | grep -c 'comes before the released'; }
+check 'install: warns' same "$(PATH="$work/first/bin:$work/second:$PATH" "$make" -s -o unifdef install PREFIX="$work/first" 2>&1 |
+  grep -c "comes before the released $work/second/unifdef")" 1
+check 'install: warns of one' same "$(warned "$work/first/bin:$work/second")" 1
+check 'install: no warning after it' same "$(warned "$work/second:$work/first/bin")" 0
+check 'install: no warning elsewhere' same "$(warned "$work/second")" 0
+
+# The tarball has what is under version control.
+if git rev-parse HEAD > /dev/null 2>&1; then
+  check dist "$make" -s dist
+  check 'dist: unpacks' tar xzf "unifdef-$version.tar.gz" -C "$work"
+  check 'dist: files' same "$(cd "$work/unifdef-$version" && find . -type f | sed 's|^\./||' | sort)" \
+    "$(git ls-tree -r --name-only HEAD | sort)"
+  check 'dist: its version' same "$("$work/unifdef-$version/packaging/version.sh")" "$version"
+else
+  echo 'packages: not under version control, so the tarball is left out'
+fi
+
+# The Debian package, in a folder with a list of packages of its own.
+if command -v dpkg-deb > /dev/null && command -v objdump > /dev/null; then
+  check deb "$make" -s -o unifdef deb
+  root=$work/root
+  mkdir -p "$root/var/lib/dpkg/info" "$root/var/lib/dpkg/updates" "$root/var/lib/dpkg/triggers"
+  touch "$root/var/lib/dpkg/status" "$root/var/lib/dpkg/available"
+  package=unifdef-proved_${version}_$(dpkg --print-architecture).deb
+  in_root() { dpkg --root="$root" --log=/dev/null --force-not-root --force-depends "$@"; }
+  check 'deb: installs' in_root -i "$here/$package"
+  check 'deb: is known' in_root -s unifdef-proved
+  works_in deb "$root/usr"
+  check 'deb: goes away' in_root --purge unifdef-proved
+  check 'deb: leaves nothing' same "$(find "$root" -path "$root/var" -prune -o -type f -print)" ''
+else
+  echo 'packages: dpkg-deb or objdump is not there, so the Debian package is left out'
+fi
+
+echo "packages: $passed checks hold, $failed don't"
+[ "$failed" -eq 0 ]

@@ -1,0 +1,28 @@
+#!/bin/sh
+# Prints the version, and fails if CHANGELOG.md, the manuals and the tag of what is checked out don't agree on it.
+#
+# The version is that of the first heading of CHANGELOG.md, as "## 1.0".
+set -u
+cd "$(dirname "$0")/.." || exit 1
+
+version=$(sed -n 's/^## \([0-9][0-9.]*\).*/\1/p' CHANGELOG.md | head -n 1)
+if [ -z "$version" ]; then
+  echo 'version: CHANGELOG.md names none' >&2
+  exit 1
+fi
+result=0
+for manual in docs/*.1; do
+  if ! grep -qx "\\.Os unifdef $version" "$manual"; then
+    echo "version: $manual doesn't say .Os unifdef $version" >&2
+    result=1
+  fi
+done
+tags=$(git tag --points-at HEAD 2> /dev/null | grep '^v[0-9]') || tags=''
+for tag in $tags; do
+  if [ "$tag" != "v$version" ]; then
+    echo "version: the tag $tag isn't v$version" >&2
+    result=1
+  fi
+done
+echo "$version"
+exit "$result"

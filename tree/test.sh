@@ -1,0 +1,358 @@
+#!/usr/bin/env bash
+# Runs unifdef-tree over trees with every trap that its manual speaks of, and interrupts it in the middle.
+#
+# test.sh [PROGRAM]: with ./unifdef beside this folder, or PROGRAM. It goes through it once for each shell that is there.
+set -u -o pipefail
+export LC_ALL=C
+here=$(cd "$(dirname "$0")" && pwd)
+UNIFDEF=$(realpath "${1:-$here/../unifdef}")
+export UNIFDEF
+[ -x "$UNIFDEF" ] || { echo "tree-test: $UNIFDEF is not there: run make" >&2; exit 1; }
+
+work=$(mktemp -d)
+trap 'umount "$work/small" 2> /dev/null; rm -rf "$work"' EXIT
+mkdir "$work/tmp"
+export TMPDIR=$work/tmp
+passed=0 failed=0
+
+# check WHAT COMMAND..: the command must succeed.
+check() {
+  local what=$1
+  shift
+  if "$@"; then
+    passed=$((passed + 1))
+  else
+    failed=$((failed + 1))
+    echo "tree-test: $shell: $what: not so: $*"
+  fi
+}
+
+# tree WORDS..: runs unifdef-tree with the shell at hand; what it prints is in $work/out and $work/err.
+tree() {
+  status=0
+  (cd "$work/run" && $shell "$here/unifdef-tree" "$@" > "$work/out" 2> "$work/err") || status=$?
+}
+
+holds() { [ "$(cat "$1"; echo .)" = "$(printf '%b' "$2"; echo .)" ]; }
+same() { [ "$1" = "$2" ]; }
+tells() { grep -qxF -e "$2" "$1"; }
+no_rest() { [ -z "$(find "$work/run" "$TMPDIR" -mindepth 1 -name '*unifdef-tree*')" ]; }
+number() { stat -c %i "$1"; }
+
+text='#ifdef A\nyes\n#else\nno\n#endif\n'
+fresh_tree() {
+  rm -rf "$work/run"
+  mkdir -p "$work/run/src"
+  cd "$work/run" || exit 1
+}
+put() { printf '%b' "$2" > "$1"; }
+
+# Names, kinds and patterns.
+names() {
+  fresh_tree
+  # shellcheck disable=SC2016 # The dollar belongs to the name.
+  local odd=('a b.c' $'line\nfeed.c' $'ends in\n.h' '-n.c' '*.c' "it's.c" '$(x).h' 'back\slash.c' $'\x81\x88\xff.c' '(.c' '!.c' 'a=b.c')
+  local name
+  mkdir src/.git 'src/-DB' src/folder.c
+  for name in "${odd[@]}"; do
+    put "src/$name" "$text"
+  done
+  for name in src/a.txt src/a.c.new src/.git/hook.c; do
+    put "$name" "$text"
+  done
+  for name in src/x.cc src/x.hpp src/x.h.in src/-DB/y.C src/folder.c/z.H; do
+    put "$name" "$text"
+  done
+  mkfifo src/pipe.c
+  tree -DA -- src
+  check 'names: status' same "$status" 1
+  check 'names: count' tells "$work/err" 'unifdef-tree: 17 changed, 0 unchanged, 0 faulty'
+  for name in "${odd[@]}" x.cc x.hpp x.h.in -DB/y.C folder.c/z.H; do
+    check "names: $name" holds "src/$name" 'yes\n'
+  done
+  for name in a.txt a.c.new .git/hook.c; do
+    check "names: left alone: $name" holds "src/$name" "$text"
+  done
+  check 'names: nothing left over' no_rest
+  tree -DA -g '*.txt' -g '*.new' src/a.txt src
+  check 'patterns: count' tells "$work/err" 'unifdef-tree: 2 changed, 0 unchanged, 0 faulty'
+  put ./-x.c "$text"
+  tree -DA -- -x.c
+  check 'names: a path with a hyphen' holds ./-x.c 'yes\n'
+}
+
+# Modes, times, links.
+keeps() {
+  fresh_tree
+  put src/mode.c "$text"
+  chmod 754 src/mode.c
+  put src/same.c 'int a;\n'
+  touch -d '2001-01-01' src/same.c
+  put src/one.c "$text"
+  ln src/one.c src/two.c
+  put outside.c "$text"
+  ln outside.c src/three.c
+  ln -s one.c src/symbolic.c
+  ln -s ../elsewhere.c src/outside.c
+  ln -s nowhere src/dangling.c
+  ln -s ../folder src/linked
+  put elsewhere.c "$text"
+  mkdir folder
+  put folder/f.c "$text"
+  local before_same before_one
+  before_same=$(stat -c '%i %y' src/same.c)
+  before_one=$(number src/one.c)
+  tree -j1 -DA -- src src/one.c ./src/mode.c
+  check 'keeps: status' same "$status" 1
+  check 'keeps: count' tells "$work/err" 'unifdef-tree: 3 changed, 3 unchanged, 0 faulty'
+  check 'keeps: mode' same "$(stat -c %a src/mode.c)" 754
+  check 'keeps: text of a mode' holds src/mode.c 'yes\n'
+  check 'keeps: an unchanged file and its time' same "$(stat -c '%i %y' src/same.c)" "$before_same"
+  check 'keeps: a hard link' same "$(number src/one.c) $(number src/two.c)" "$before_one $before_one"
+  check 'keeps: text of a hard link' holds src/two.c 'yes\n'
+  check 'keeps: a link from outside' holds outside.c 'yes\n'
+  check 'keeps: a symbolic link' same "$(readlink src/symbolic.c)" one.c
+  check 'keeps: a symbolic link outwards' same "$(readlink src/outside.c)" ../elsewhere.c
+  check 'keeps: what it leads to' holds elsewhere.c "$text"
+  check 'keeps: a dangling one' same "$(readlink src/dangling.c)" nowhere
+  check 'keeps: a linked folder' holds folder/f.c "$text"
+  check 'keeps: nothing left over' no_rest
+  tree -DA -- src/linked
+  check 'keeps: a link to a folder that is named' holds folder/f.c 'yes\n'
+  tree -DA -- src/outside.c
+  check 'keeps: a link to a file that is named' same "$status $(head -n 1 "$work/err")" \
+    '2 unifdef-tree: src/outside.c: Is a symbolic link'
+  put src/one.c "$text"
+  tree -j1 -c -DA -- src/one.c src ./src
+  check 'keeps: each file once' holds src/two.c '#ifdef A\n#else\nno\n#endif\n'
+}
+
+# Faults, statuses and the option -n.
+faults() {
+  fresh_tree
+  put src/good.c "$text"
+  put src/bad.c '#endif\n'
+  put 'src/very
+bad.c' 'x\n#else\n'
+  tree -DA src nowhere
+  check 'faults: status' same "$status" 2
+  check 'faults: count' tells "$work/err" 'unifdef-tree: 1 changed, 0 unchanged, 3 faulty'
+  check 'faults: message' tells "$work/err" 'unifdef: src/bad.c: 1: Inappropriate #endif'
+  check 'faults: path' tells "$work/err" 'unifdef-tree: nowhere: No such file or folder'
+  check 'faults: a faulty file' holds src/bad.c '#endif\n'
+  check 'faults: another file' holds src/good.c 'yes\n'
+  rm src/*bad.c
+  tree -DA src
+  check 'status 0' same "$status" 0
+  tree -x1 -DA src
+  check 'status 1 with -x1' same "$status" 1
+  put src/good.c "$text"
+  put src/end.c '#ifdef A\nno line feed\n#endif'
+  cp -r src was
+  tree -n -DA -- src
+  check '-n: status' same "$status" 1
+  check '-n: count' tells "$work/err" 'unifdef-tree: 2 would change, 0 unchanged, 0 faulty'
+  check '-n: changes nothing' diff -r was src
+  cp "$work/out" diff
+  tree -x2 -DA -- src
+  check 'status 0 with -x2' same "$status" 0
+  cp -r src is
+  rm -r src
+  mv was src
+  if command -v patch > /dev/null; then
+    check '-n: the diff is a patch' patch -s -p0 -i diff
+    check '-n: and the right one' diff -r is src
+  fi
+  local words
+  for words in '-D1A' '-Udefined' '-iXA' '-x3' '-j0' '-S' '-L' '-n -s' '-DA'; do
+    # shellcheck disable=SC2086
+    tree $words src
+    [ "$words" = -DA ] || check "refused: $words" same "$status" 2
+  done
+  tree -D
+  check 'refused: no argument' tells "$work/err" 'unifdef-tree: Option -D needs an argument'
+  tree -DA
+  check 'refused: no path' same "$status" 2
+  put src/good.c '#if A == 2\nyes\n#endif\n'
+  tree -D 'A=1 ' -D 'A=2' -U "B" src
+  check 'words go on as they are' holds src/good.c 'yes\n'
+}
+
+# What can't be read or written: only where the user isn't root.
+refusals() {
+  [ "$(id -u)" -ne 0 ] || return 0
+  fresh_tree
+  put src/unreadable.c "$text"
+  put src/locked.c "$text"
+  mkdir src/sealed
+  put src/sealed/a.c "$text"
+  chmod 0 src/unreadable.c
+  chmod 444 src/locked.c
+  chmod 555 src/sealed
+  tree -DA src
+  check 'refusals: count' tells "$work/err" 'unifdef-tree: 0 changed, 0 unchanged, 3 faulty'
+  check 'refusals: a read-only file' holds src/locked.c "$text"
+  check 'refusals: a sealed folder' holds src/sealed/a.c "$text"
+  chmod 755 src/sealed
+  chmod 644 src/unreadable.c
+}
+
+# The names of a tree.
+lists() {
+  fresh_tree
+  put src/a.h '#if B > 1 && defined(C) // c\n#elif A\n#endif\n#ifdef A\n#endif\n# if 0\n# endif\n'
+  put src/b.h '#if A && \\\n  D\n#elif E ? 1 : 2\n#endif\n#ifdef X Y\n#endif\n/*\n#if C\n*/\n#if(A)\n#endif\n'
+  put src/c.h '#endif\n'
+  tree -s src
+  check '-s: status' same "$status" 2
+  check '-s: names' same "$(tr -s ' ' < "$work/out")" $' 3 A\n 1 B\n 1 C'
+  check '-s: what is not listed' tells "$work/err" 'unifdef-tree: 2 files listed, 1 faulty; 3 conditions could not be listed'
+  rm src/c.h
+  tree -s -j 5 src
+  check '-s: status 0' same "$status" 0
+}
+
+# A disk that is full: a small file system, or else a limit on the size of files.
+full_disk() {
+  fresh_tree
+  local big made=no
+  big=$(echo '#ifdef B'; seq -f 'int a%.0f;' 10001 19000; printf '#endif\n#ifdef A\n#endif\n')
+  mkdir -p "$work/small"
+  if mount -t tmpfs -o size=256k none "$work/small" 2> /dev/null; then
+    made=yes
+    rm -r src
+    ln -s "$work/small" src
+  fi
+  printf '%s\n' "$big" > src/a.c
+  put src/b.c "$text"
+  [ "$made" = no ] || printf '%s\n' "$big" > src/c.c
+  cp -rL src was
+  if [ "$made" = yes ]; then
+    tree -j1 -DA src
+  else
+    (ulimit -f 40 && tree -j1 -DA src; exit "$status")
+    status=$?
+  fi
+  check 'full disk: status' same "$status" 2
+  check 'full disk: a large file' cmp was/a.c src/a.c
+  check 'full disk: a small file' holds src/b.c 'yes\n'
+  check 'full disk: nothing left over' same "$(find -L src -name '.unifdef-tree*')" ''
+  if [ "$made" = yes ]; then
+    rm src/c.c
+    ln src/a.c src/linked.c
+    head -c 200000 /dev/zero > src/filled 2> /dev/null
+    tree -DA src
+    check 'full disk: a file with two links' cmp was/a.c src/a.c
+    rm src/filled
+    tree -DA src
+    check 'full disk: the same with room' same "$(wc -l < src/linked.c)" 9002
+    rm src
+    umount "$work/small"
+  fi
+}
+
+# An interrupt in the middle: every file is old or new, and nothing is left over.
+interrupts() {
+  local signal=$1 whom=$2 wanted=$3 i name old=0 new=0 pid
+  fresh_tree
+  for i in $(seq 1 200); do
+    put "src/$i.c" "$text"
+  done
+  for i in $(seq 1 20); do
+    put "src/linked$i.c" "$text"
+    ln "src/linked$i.c" "src/other$i.c"
+  done
+  set -m
+  UNIFDEF=$work/slow $shell "$here/unifdef-tree" -j 3 -DA src > "$work/out" 2> "$work/err" &
+  pid=$!
+  set +m
+  for i in $(seq 1 500); do
+    [ "$(cat src/*.c | grep -c '#')" -gt 700 ] || break
+    sleep 0.02
+  done
+  if [ "$whom" = group ]; then pid_to=-$pid; else pid_to=$pid; fi
+  kill -s "$signal" -- "$pid_to"
+  wait "$pid" 2> /dev/null
+  check "interrupt $signal: status" same $? "$wanted"
+  for name in src/*.c; do
+    if holds "$name" "$text"; then
+      old=$((old + 1))
+    elif holds "$name" 'yes\n'; then
+      new=$((new + 1))
+    else
+      check "interrupt $signal: a file is old or new" same "$name" whole
+    fi
+  done
+  check "interrupt $signal: in the middle" test "$old" -gt 0 -a "$new" -gt 0
+  check "interrupt $signal: told" tells "$work/err" 'unifdef-tree: Interrupted'
+  for i in 1 2 3 4 5 6 7 8 9 10; do
+    no_rest && break
+    sleep 0.1
+  done
+  check "interrupt $signal: nothing left over" no_rest
+  tree -DA src
+  check "interrupt $signal: the rest later" same "$(cat src/*.c | sort | uniq -c | tr -s ' ')" ' 240 yes'
+}
+
+# An interrupt while a file with two links is written into: it is written whole.
+interrupts_link() {
+  local pid i
+  fresh_tree
+  put src/one.c "$text$text$text"
+  ln src/one.c src/two.c
+  mkdir bin
+  # shellcheck disable=SC2016
+  printf '#!/bin/sh\n%s "$@"\ntouch "%s"\nsleep 0.5\n' "$(command -v dd)" "$work/run/writing" > bin/dd
+  chmod +x bin/dd
+  set -m
+  PATH=$work/run/bin:$PATH $shell "$here/unifdef-tree" -DA src > "$work/out" 2> "$work/err" &
+  pid=$!
+  set +m
+  for i in $(seq 1 200); do
+    [ ! -e writing ] || break
+    sleep 0.02
+  done
+  kill -s TERM -- "-$pid"
+  wait "$pid" 2> /dev/null
+  check 'interrupt of a link: status' same $? 143
+  check 'interrupt of a link: text' holds src/two.c 'yes\nyes\nyes\n'
+  check 'interrupt of a link: nothing left over' no_rest
+}
+
+# The counter, on a terminal.
+counts() {
+  command -v script > /dev/null || return 0
+  fresh_tree
+  local i
+  for i in $(seq 1 40); do
+    put "src/$i.c" "$text"
+  done
+  UNIFDEF=$work/slow script -qec "$shell $here/unifdef-tree -j 1 -DA src" /dev/null < /dev/null > "$work/out"
+  check 'counter: on a terminal' grep -q 'unifdef-tree: [0-9]* of 40 files' "$work/out"
+  tree -DA src
+  check 'counter: nowhere else' same "$(cat "$work/err")" 'unifdef-tree: 0 changed, 40 unchanged, 0 faulty'
+}
+
+# shellcheck disable=SC2016
+printf '#!/bin/sh\nsleep 0.05\nexec "%s" "$@"\n' "$UNIFDEF" > "$work/slow"
+chmod +x "$work/slow"
+shells=()
+for one in dash 'bash --posix' 'busybox sh'; do
+  command -v "${one%% *}" > /dev/null && shells+=("$one")
+done
+for shell in "${shells[@]}"; do
+  names
+  keeps
+  faults
+  refusals
+  lists
+  full_disk
+  interrupts TERM one 143
+  interrupts TERM group 143
+  interrupts HUP group 129
+  interrupts INT group 130
+  interrupts_link
+  counts
+done
+echo "unifdef-tree with $(printf '%s, ' "${shells[@]}")$passed checks hold, $failed don't"
+[ "$failed" -eq 0 ]
