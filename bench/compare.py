@@ -22,6 +22,7 @@ BYTES = int(os.environ.get("BENCH_BYTES", "20000000"))
 RUNS = int(os.environ.get("BENCH_RUNS", "5"))
 FILES = int(os.environ.get("BENCH_FILES", "10000"))
 HEADERS = os.environ.get("BENCH_HEADERS", "/usr/include")
+SOURCES = os.environ.get("BENCH_SOURCES", "")
 COUNTED_BYTES = min(BYTES // 10, 1_000_000)
 EMPTY_LINES = 20_000_000
 MOST_KIB = 2048
@@ -44,12 +45,17 @@ def heading(title, *cells):
 
 
 def cases(work, programs):
-    c, comments = work / "c", work / "comments"
-    c.write_bytes(texts.headers(HEADERS, BYTES, list(programs.values())))
+    source, headers, comments = work / "source", work / "headers", work / "comments"
+    if SOURCES:
+        source.write_bytes(texts.files(SOURCES, "*.c", BYTES, list(programs.values())))
+        for symbols in (0, 50, 1000):
+            yield Case(f"C source, {symbols:,} symbols", source, texts.c_words(symbols))
+        yield Case("C source, 50 symbols, `-t`", source, [*texts.c_words(50), "-t"])
+    headers.write_bytes(texts.files(HEADERS, "*.h", BYTES, list(programs.values())))
     for symbols in (0, 50, 1000):
-        yield Case(f"C, {symbols:,} symbols", c, texts.c_words(symbols))
+        yield Case(f"C headers, {symbols:,} symbols", headers, texts.c_words(symbols))
     for option in ("-t", "-b", "-n", "-c", "-s"):
-        yield Case(f"C, 50 symbols, `{option}`", c, [*texts.c_words(50), option])
+        yield Case(f"C headers, 50 symbols, `{option}`", headers, [*texts.c_words(50), option])
     comments.write_bytes(texts.COMMENTS * (BYTES // len(texts.COMMENTS)))
     yield Case("comments, 50 symbols", comments, texts.c_words(50))
     for symbols in (50, 1000):

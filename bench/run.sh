@@ -1,6 +1,7 @@
 #!/usr/bin/env bash
 # Measures ./unifdef beside the released program and `cat`: see README.md in this folder.
-# BENCH_BYTES: the size of each text; BENCH_RUNS: rounds; BENCH_FILES: small files; BENCH_HEADERS: where headers are.
+# BENCH_BYTES: the size of each text; BENCH_RUNS: rounds; BENCH_FILES: small files; BENCH_HEADERS, BENCH_SOURCES: where
+# headers and C sources are.
 set -eu -o pipefail
 export LC_ALL=C
 here=$(cd "$(dirname "$0")" && pwd)
@@ -12,16 +13,19 @@ trap 'rm -rf "$work"' EXIT
 # Debian's program, installed where it is missing.
 released() { [ -x /usr/bin/unifdef ] || $([ "$(id -u)" -eq 0 ] || echo sudo) apt-get install --yes --no-install-recommends unifdef; }
 
-# Its source, fetched by package lists of its own in the temporary folder and built there.
-rebuilt() {
+# The source of a Debian package, fetched by package lists of its own into the temporary folder.
+source_of() {
   local apt key=/usr/share/keyrings/debian-archive-keyring.gpg release
   release=$(sed -n 's/^VERSION_CODENAME=//p' /etc/os-release)
   apt="apt-get -o Dir::Etc::SourceList=$work/list -o Dir::Etc::SourceParts=/dev/null -o Dir::State::Lists=$work/lists"
   apt+=" -o Dir::Cache=$work/cache -o APT::Sandbox::User=root"
   echo "deb-src [signed-by=$key] http://deb.debian.org/debian $release main" > "$work/list"
-  mkdir -p "$work/lists/partial" "$work/cache/archives/partial" "$work/source" && cd "$work/source" &&
-    $apt update && $apt source unifdef && cd unifdef-*/ && "${CC:-cc}" -O2 -o "$work/rebuilt" unifdef.c
+  mkdir -p "$work/lists/partial" "$work/cache/archives/partial" "$work/source/$1" && cd "$work/source/$1" &&
+    { [ -e "$work/updated" ] || $apt update && touch "$work/updated"; } && $apt source "$1"
 }
+
+# The released program's source, built here.
+rebuilt() { source_of unifdef && cd unifdef-*/ && "${CC:-cc}" -O2 -o "$work/rebuilt" unifdef.c; }
 
 # Takes a program in, or leaves it out with the last line of what was said.
 programs=("this=$program")
@@ -32,6 +36,12 @@ add() {
 }
 add released /usr/bin/unifdef
 add rebuilt "$work/rebuilt"
+if [ -z "${BENCH_SOURCES:-}" ]; then
+  if (source_of postgresql-15) > "$work/said" 2>&1; then BENCH_SOURCES=$work/source/postgresql-15; else
+    echo "bench: left out: C source: $(tail -n 1 "$work/said")" >&2
+  fi
+fi
+export BENCH_SOURCES
 python3 "$here/compare.py" "$work" "${programs[@]}" | tee "$work/tables"
 python3 "$here/chart.py" "$work/tables" > "$work/speed.svg"
 cp "$work/speed.svg" "$here/speed.svg"

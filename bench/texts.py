@@ -24,7 +24,7 @@ def c_words(symbols):
 
 
 def right_body(path, programs):
-    """A header's bytes, if all programs do the same with it, as C and as plain text, and none finds a fault; or none."""
+    """A file's bytes, if all programs do the same with it, as C and as plain text, and none finds a fault; or none."""
     for mode in ([], ["-t"]):
         runs = [subprocess.run([program, *mode, *DECIDED, path], capture_output=True) for program in programs]
         if len({(run.returncode, run.stdout) for run in runs}) != 1 or runs[0].returncode not in (0, 1):
@@ -32,9 +32,9 @@ def right_body(path, programs):
     return path.read_bytes() + b"\n"
 
 
-def headers(folder, limit, programs):
-    """At least so many bytes of whole headers, in an order that a fixed seed gives, read as often as needed."""
-    paths = sorted(path for path in Path(folder).rglob("*.h") if path.is_file())
+def files(folder, pattern, limit, programs):
+    """At least so many bytes of whole files, in an order that a fixed seed gives, read as often as needed."""
+    paths = sorted(path for path in Path(folder).rglob(pattern) if path.is_file())
     random.Random(1).shuffle(paths)
     text = bytearray()
     with ThreadPoolExecutor(os.cpu_count()) as pool:
@@ -42,7 +42,7 @@ def headers(folder, limit, programs):
             text += b"".join(pool.map(lambda path: right_body(path, programs), paths[:64]))
             del paths[:64]
     if not text:
-        raise SystemExit(f"bench: no headers in {folder}")
+        raise SystemExit(f"bench: no {pattern} in {folder}")
     return bytes(text) * -(-limit // len(text))
 
 
