@@ -21,6 +21,7 @@ use Rattle.ud_engine.specs.Watching.{AppendsFront}
 abbrev pub ListsMore : Options → List (Item Reading) → Tree Reading → Line → Bool → Tree Reading → List ℕ → Type 0
 ListsMore o xs t l depths tree more = listed depths (xs ++ next_item o xs t l ∷ []) (levels tree) ≡ listed depths xs (levels t) ++ more
 
+-- the lister takes one line more: what was gathered, the run and the line's names are sent, but for what is left
 pub record ListsOne (o : Options) (r : Reader) (xs : List (Item Reading)) (t : Tree Reading) (l : Line) (depths : Bool)
     (old new : Option (List ℕ)) (gathered left run : List ℕ) : Type 0 where
   pub tree : Tree Reading
@@ -29,6 +30,7 @@ pub record ListsOne (o : Options) (r : Reader) (xs : List (Item Reading)) (t : T
   pub is_more : ListsMore o xs t l depths tree more
   pub sent : Sent old new (gathered ++ (run ++ more)) left
 
+-- a write failed as one line more was listed: a front of what was gathered, the run and the line's names went out
 pub record ListingFails (o : Options) (xs : List (Item Reading)) (t : Tree Reading) (l : Line) (depths : Bool)
     (old new : Option (List ℕ)) (gathered run : List ℕ) : Type 0 where
   pub tree : Tree Reading

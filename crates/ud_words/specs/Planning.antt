@@ -12,18 +12,21 @@ use Rattle.ud_model.specs.answer.CommandLine.{Given, Operand, first_fault, setti
 use Rattle.ud_cond.specs.Standing.{StandsFor}
 use Rattle.ud_words.specs.declared.planning.Operand as declared
 
+-- a plan, as callers see it
 pub record Planned : Type 0 where
   pub settings : Settings
   pub symbols : List Argument
   -- the operand's place, counted from 0
   pub operand : Option ℕ
 
+-- the words have no fault, and the plan is what they say
 pub record IsPlanOf (words : List (List ℕ)) (plan : Planned) : Type 0 where
   pub right : usage_fault words ≡ None
   pub said : plan.settings ≡ (options_of words).settings
   pub stands : StandsFor plan.symbols (options_of words).table
   pub place : plan.operand ≡ operand_of words
 
+-- the plan is what these options and operands say, of which none is at fault
 pub record PlansFor (plan : Planned) (gs : List Given) : Type 0 where
   pub right : first_fault gs ≡ None
   pub said : plan.settings ≡ settings_in gs

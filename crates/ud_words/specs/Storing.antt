@@ -4,6 +4,7 @@
 use Rattle.std.specs.Prelude.{◌≡◌, List, [], ◌∷◌, ◌++◌, None, IsSome}
 use Rattle.ud_model.specs.answer.CommandLine.{Given, first_fault, argument_in}
 
+-- among what is given an option says something of a symbol, and up to it nothing is wrong
 pub record PutsSymbol (gs : List Given) : Type 0 where
   pub before : List Given
   pub symbol : Given

@@ -18,6 +18,7 @@ use Rattle.ud_model.specs.declared.settings.Listing.TheVariants.{Off, Names, Dep
 use Rattle.ud_model.specs.declared.settings.ExitMode.{ExitMode}
 use Rattle.ud_model.specs.declared.settings.ExitMode.TheVariants.{Zero, One, Two}
 
+-- what a run leaves: bytes on the output and on the error stream, and the status
 pub record Answer : Type 0 where
   pub output : List ℕ
   pub message : List ℕ
@@ -58,6 +59,7 @@ abbrev pub copy_answer : List (List ℕ) → List ℕ → Answer
 copy_answer words text =
     run_answer (options_of words).settings (input_name words) (record { output = text; fault = None; differs = false })
 
+-- the answer to these words and this input: a message on the first fault of the words, or what the run leaves
 pub data IsAnswer (words : List (List ℕ)) (input : List ℕ) : Answer → Type 0 where
   refused : (f : UsageFault) → usage_fault words ≡ Some f → IsAnswer words input (usage_answer f)
   ran : (r : Outcome) → usage_fault words ≡ None → Runs (options_of words) input r →

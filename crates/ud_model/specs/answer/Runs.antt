@@ -67,6 +67,7 @@ pub data ReadsSoFar (o : Options) (given : List ℕ) : List (Item Reading) → T
   goes_on : (xs : List (Item Reading)) (t : Tree Reading) → GoesThrough o (lines_so_far given) xs t →
       ((f : Fault) → RestBreaks o given xs t f → ⊥) → ReadsSoFar o given xs t None
 
+-- what becomes of a text: what is printed, the fault that ended it, and whether some line differs
 pub record Outcome : Type 0 where
   pub output : List ℕ
   pub fault : Option Fault

@@ -10,6 +10,7 @@ pub record Entry : Type 0 where
   pub value : Option (List ℕ)
   pub ignoring : Bool
 
+-- a name, and what an option says of it
 pub record Argument : Type 0 where
   pub name : List ℕ
   pub entry : Entry

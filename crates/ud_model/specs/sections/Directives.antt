@@ -26,6 +26,7 @@ pub record Span : Type 0 where
   pub at : ℕ
   pub len : ℕ
 
+-- a directive that controls sections, as it stands on its line
 pub record Directive : Type 0 where
   pub kind : Kind
   pub keyword : Span
@@ -34,6 +35,7 @@ pub record Directive : Type 0 where
   -- a continuation cuts it: the line is spliced outside comments
   pub broken : Bool
 
+-- what a line is, as far as sections go
 pub data Content : Type 0 where
   -- it can't be known whether the line carries a directive, since its keyword goes on after a continuation
   cut_keyword : Content

@@ -22,6 +22,7 @@ use Rattle.ud_model.specs.declared.verdict.Verdict.{Verdict}
 use Rattle.ud_model.specs.declared.verdict.Verdict.TheVariants.{Keep, Remove, ToIf, ToElse, ToEndif}
 use Rattle.ud_model.specs.declared.limits.TheConstants.{LINE_BYTES, TEXT_LINES, OPEN_SECTIONS}
 
+-- what is wrong with a text, and on which line
 pub data Fault : Type 0 where
   too_many_lines : ℕ → Fault
   line_too_long : ℕ → Fault
@@ -34,6 +35,7 @@ pub data Fault : Type 0 where
   -- the last line, and the line of the innermost open section's first directive
   premature_eof : ℕ → ℕ → Fault
 
+-- the cases in which a line is at fault
 pub data Case : Type 0 where
   -- the line is past the last one that a text may have
   past_last : Case
@@ -137,6 +139,7 @@ pub record FaultOf (xs : List (Item Reading)) (x : Item Reading) (f : Fault) : T
   pub first : NoneHolds xs x (earlier which)
   pub named : fault_in x which ≡ Some f
 
+-- lines that were taken one by one without a fault, and their tree
 pub data AreSound (o : Options) : List (Item Reading) → Tree Reading → Type 0 where
   no_lines : AreSound o [] (closed nothing)
   one_more : (xs : List (Item Reading)) (t : Tree Reading) → AreSound o xs t → (l : Line) (u : Tree Reading) →

@@ -22,6 +22,7 @@ use Rattle.ud_model.specs.declared.kind.Mode.TheVariants.{C, Plain}
 use Rattle.ud_model.specs.declared.kind.Role.{Role}
 use Rattle.ud_model.specs.declared.kind.Role.TheVariants.{IfGroup, ElifGroup, ElseGroup, EndifLine}
 
+-- what the words of a command line say of a text
 pub record Options : Type 0 where
   pub settings : Settings
   pub table : List Argument

@@ -142,6 +142,7 @@ is_removed ToIf = false
 is_removed ToElse = false
 is_removed ToEndif = false
 
+-- what pruning says of a line: whether it lies in a kept place, and its verdict
 pub record Mark : Type 0 where
   pub kept : Bool
   pub verdict : Verdict

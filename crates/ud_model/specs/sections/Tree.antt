@@ -19,6 +19,7 @@ pub record Opener (L : Type 0) : Type 0 where
   pub cond : Cond
   pub ignoring : Bool
 
+-- a line by its part in sections: text, or one of the directives
 pub data Item (L : Type 0) : Type 0 where
   text_line : L → Item L
   -- `#if`, `#ifdef` or `#ifndef`
@@ -50,6 +51,7 @@ pub data Head (L : Type 0) : Type 0 where
   elif_head : Elifs L → Opener L → Head L
   else_head : Elifs L → L → Head L
 
+-- a text so far: nodes, and the section that is still open, if there is one
 pub data Tree (L : Type 0) : Type 0 where
   closed : Nodes L → Tree L
   -- nodes, then a section without its `#endif`, whose last group goes on to the end of the text

@@ -16,6 +16,7 @@ use Rattle.ud_model.specs.declared.kind.Mode.{Mode}
 use Rattle.ud_model.specs.declared.kind.CommentAt.{CommentAt}
 use Rattle.ud_model.specs.declared.kind.CommentAt.TheVariants.{Outside}
 
+-- how a line is seen: its masked bytes, and how it hangs together with its neighbours
 pub record Scan : Type 0 where
   -- the line's body without a splice's backslash, each byte of a comment replaced by a space
   pub masked : List ℕ
@@ -29,6 +30,7 @@ pub record Scan : Type 0 where
   -- what is unclosed at the line's end
   pub comment : CommentAt
 
+-- a line, the mode in which it is read, and how it is seen
 pub record Reading : Type 0 where
   pub line : Line
   pub mode : Mode
