@@ -18,7 +18,7 @@ import re
 import subprocess
 import sys
 
-CONDITIONAL = re.compile(rb"\s*#\s*(if|ifdef|ifndef|elif|else|endif)(?![A-Za-z0-9_])")
+CONDITIONAL = re.compile(rb"\s*#\s*(if|ifdef|ifndef|elif|elifdef|elifndef|else|endif)(?![A-Za-z0-9_])")
 # Comments, literals, splices and line feeds; what is between them is other text.
 PIECE = re.compile(
     rb"""/\*.*?\*/|//(?:\\\r?\n|[^\n])*|"(?:\\\r?\n|\\.|[^"\\\n])*"?|'(?:\\\r?\n|\\.|[^'\\\n])*'?|\\\r?\n|\n|[^\n"'/\\]+|.""",
