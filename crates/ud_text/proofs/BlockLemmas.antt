@@ -4,9 +4,10 @@ use Rattle.std.proofs.lemmas.List.{take-append-drop, length-take-le}
 use Rattle.ud_model.specs.text.Lines.{NoFeed}
 use Rattle.ud_model.specs.text.Scanning.{is_block}
 use Rattle.ud_model.specs.aids.Places.{in_block, at_star, place_kind}
-use Rattle.ud_text.specs.States.{next_state, State, text_state, stops, NoFeedInBlock, state_after, shows_sign, is_other_name, inside_state, block_state, IsQuiet}
+use Rattle.ud_text.specs.States.{next_state, State, text_state, stops, NoFeedInBlock, state_after, shows_sign, is_other_name, inside_state, block_state, IsQuiet, Passed}
 use Rattle.ud_text.proofs.QuietLemmas.{state_after-append, IsQuiet-append, IsQuiet-feed}
-use Rattle.ud_text.proofs.ProgressLemmas.{Passed-append, begins-append, rest_of, read_on, read_base}
+use Rattle.ud_text.proofs.QuietLineLemmas.{passed_quiet, Passed-append}
+use Rattle.ud_text.proofs.ProgressLemmas.{begins-append, rest_of, read_on, read_base}
 use Rattle.ud_text.specs.Spans.{after_feed, NoPair, at_start, LastBegins, BeginsLine}
 use Rattle.ud_text.specs.Progress.{ReadTo, ReadOutside}
 use Rattle.ud_model.specs.text.Bytes.{slash, number_sign, line_feed, carriage_return, star, backslash}
@@ -152,9 +153,11 @@ module _ {start : State} {bytes : List ℕ} {line : ℕ} {kept : State} {at : �
         at_is = (let f : at ≡ length r.front + length r.mid = r.at_is in
             let g : count ≡ length (x ++ line_feed ∷ []) + length y = sym (length-take-le count (drop at bytes) fits) ∙ ap length split ∙ length-append (x ++ line_feed ∷ []) y in
             omega (arith, length-append r.front (r.mid ++ (x ++ line_feed ∷ [])), length-append r.mid (x ++ line_feed ∷ [])));
-        passed = Passed-append r.front (r.mid ++ (x ++ line_feed ∷ [])) r.passed (subst BeginsLine (ap (λ (l : List ℕ). r.front ++ l) (append_assoc r.mid x (line_feed ∷ []))) (begins-append r.front (r.mid ++ x) (after_feed (r.mid ++ x))))
-            (IsQuiet-append kept r.mid (x ++ line_feed ∷ []) r.quiet (subst (λ (s : State). IsQuiet s (x ++ line_feed ∷ [])) (sym r.leads) parts.0))
-            (state_after-append kept r.mid (x ++ line_feed ∷ []) ∙ ap (λ (s : State). state_after s (x ++ line_feed ∷ [])) r.leads ∙ there);
+        passed = Passed-append r.front (r.mid ++ (x ++ line_feed ∷ [])) r.passed
+            (subst (λ (s : State). Passed kept (r.mid ++ (x ++ line_feed ∷ [])) s)
+            (state_after-append kept r.mid (x ++ line_feed ∷ []) ∙ ap (λ (s : State). state_after s (x ++ line_feed ∷ [])) r.leads ∙ there)
+            (passed_quiet kept (r.mid ++ (x ++ line_feed ∷ [])) r.passed.at_line (begins-append r.mid x (after_feed x))
+            (IsQuiet-append kept r.mid (x ++ line_feed ∷ []) r.quiet (subst (λ (s : State). IsQuiet s (x ++ line_feed ∷ [])) (sym r.leads) parts.0))));
         quiet = subst (λ (s : State). IsQuiet s y) there parts.1;
         no_feed = keeps_one_line y (block_state u) h;
         leads = ap (λ (s : State). state_after s y) (sym there) ∙ sym (state_after-append (block_state u) (x ++ line_feed ∷ []) y)
@@ -168,8 +171,8 @@ module _ {start : State} {bytes : List ℕ} {line : ℕ} {kept : State} {at : �
 -- the two bytes that close a block comment
 pub block_closed : {start : State} {bytes : List ℕ} {line : ℕ} {kept : State} {at : ℕ} (starred u : Bool) →
     ReadTo start bytes line kept at (inside_state starred u) → 2 ≤ length (drop at bytes) → star ∷ slash ∷ [] ≡ take 2 (drop at bytes) →
-    ReadOutside start bytes line kept (at + 2) false (at + 2)
-block_closed starred u r h e = read_base false (λ f. cc)
+    ReadOutside start bytes line kept (at + 2) u (at + 2)
+block_closed starred u r h e = read_base u
     (read_on r 2 (star ∷ slash ∷ []) e h (closing_quiet starred u) (closing_keeps starred u) (text_state u) (closing starred u))
 
 -- the two bytes that open one

@@ -9,8 +9,9 @@ pub mod RunLemmas
 pub mod CarryLemmas
 pub mod QuietLemmas
 pub mod TextLemmas
-pub mod QuietLineLemmas
 pub mod PlainLemmas
+pub mod QuietLineLemmas
+pub mod SpliceLemmas
 pub mod SpanLemmas
 pub mod LookLemmas
 pub mod ProgressLemmas

@@ -162,18 +162,22 @@ slash_on (b ∷ bytes) s u p h e =
     let n : ((b == slash) ≡ false) × (is_quote b ≡ false) × ((b == line_feed) ≡ false) × ((b == star) ≡ false) × ((b == backslash) ≡ false) = white_parts b w.0 in
     sym (ap (λ (t : State). t.white) e) ∙ black_on bytes (next_state s b) (ap (λ (v : Place). whitens v s.white b) p ∙ rw (n.3, n.0, n.2) refl) w.1
 
+-- white space leaves a line white or not, as it is
+white_stays : (plain : List ℕ) (base : Bool) → are_white plain ≡ true → (state_after (text_state base) plain).white ≡ base
+white_stays plain true w = ap (λ (s : State). s.white) (white_on plain w)
+white_stays plain false w = black_on plain (text_state false) refl w
+
 -- what is seen by looking back is so
-pub shows_white : (plain : List ℕ) (begins v base now : Bool) → NoComment in_text plain → state_after (text_state base) plain ≡ text_state now →
-    (begins ≡ true → base ≡ true) → SeenWhite plain begins v → now ≡ v
-shows_white plain begins _ base now c e f (all_white b w) =
-    ap (λ (s : State). s.white) (sym e ∙ ap (λ (u : Bool). state_after (text_state u) plain) (f b) ∙ white_on plain w)
-shows_white plain begins _ base now c e f (new_line front rest is w) =
+pub shows_white : (plain : List ℕ) (base v now : Bool) → NoComment in_text plain → state_after (text_state base) plain ≡ text_state now →
+    SeenWhite plain base v → now ≡ v
+shows_white plain base _ now c e (all_white w) = ap (λ (s : State). s.white) (sym e) ∙ white_stays plain base w
+shows_white plain base _ now c e (new_line front rest is w) =
     let out : (outside (state_after (text_state base) front).place ≡ true) × NoComment (state_after (text_state base) front).place (line_feed ∷ rest) =
     outside_on (text_state base) front (line_feed ∷ rest) refl (subst (λ (l : List ℕ). NoComment in_text l) is c) in
     ap (λ (s : State). s.white)
     (sym e ∙ ap (λ (l : List ℕ). state_after (text_state base) l) is ∙ state_after-append (text_state base) front (line_feed ∷ rest)
     ∙ ap (λ (s : State). state_after s rest) (feed_step (state_after (text_state base) front) out.0) ∙ white_on rest w)
-shows_white plain begins _ base now c e f (black front b rest is k i w) =
+shows_white plain base _ now c e (black front b rest is k i w) =
     let s : State = state_after (text_state base) front in
     let out : (outside (state_after (text_state base) front).place ≡ true) × NoComment (state_after (text_state base) front).place (b ∷ rest) =
     outside_on (text_state base) front (b ∷ rest) refl (subst (λ (l : List ℕ). NoComment in_text l) is c) in

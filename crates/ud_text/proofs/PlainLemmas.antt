@@ -9,7 +9,7 @@ use Rattle.ud_model.specs.text.Lines.{NoFeed, parts_of, Parts}
 use Rattle.ud_model.specs.aids.Places.{Place, in_text, at_slash, in_literal, whitens}
 use Rattle.ud_model.proofs.text.LinesLemmas.{parts_of-append-line}
 use Rattle.ud_text.specs.Passing.{EndsLine}
-use Rattle.ud_text.specs.States.{next_state, State, text_state, stops, NoFeedInBlock, state_after, is_other_name, Passed, IsQuiet}
+use Rattle.ud_text.specs.States.{next_state, State, text_state, stops, NoFeedInBlock, state_after, is_other_name, IsQuiet}
 use Rattle.ud_text.proofs.FeedLemmas.{no_feed_front}
 use Rattle.ud_text.specs.Spans.{after_feed, NoSpecial, at_start, NoComment, LastBegins, TextSpan, is_special, BeginsLine}
 use Rattle.std.proofs.Math.Bool.{and-false}
@@ -91,7 +91,3 @@ no_special_before (b ∷ bytes) = by_special (is_special b) (position_or_len is_
     by_special : (t : Bool) (n : ℕ) → is_special b ≡ t → NoSpecial (take n bytes) → NoSpecial (take (cond (not t) (1 + n) 0) (b ∷ bytes))
     by_special true n e h = tt
     by_special false n e h = let P : ℕ → Type 0 = λ k. NoSpecial (take k (b ∷ bytes)) in subst P (sym (one-add n)) (e, h)
-
--- no bytes lead nowhere else
-pub passed_none : (start : State) → Passed start [] start
-passed_none start = record { ends = begins_ends [] at_start; quiet = tt; leads = refl }

@@ -3,11 +3,12 @@ use Rattle.std.proofs.Common.{◌≡◌, ℕ, ◌+◌, ◌-◌, ◌<◌, ◌≤�
 use Rattle.std.proofs.lemmas.List.{take-append-drop, length-take-le}
 use Rattle.ud_model.specs.text.Scanning.{is_block}
 use Rattle.ud_model.specs.aids.Places.{Place, in_text, at_slash, in_block, at_star, in_line, in_literal, at_backslash, next, whitens, place_kind}
-use Rattle.ud_text.specs.States.{next_state, State, text_state, NoFeedInBlock, state_after, Passed, IsQuiet}
+use Rattle.ud_text.specs.States.{next_state, State, text_state, NoFeedInBlock, state_after, Passed, IsQuiet, AtLine}
 use Rattle.ud_text.proofs.QuietLemmas.{state_after-append, IsQuiet-append, IsQuiet-feed, NoFeedInBlock-append, NoFeedInBlock-rest}
-use Rattle.ud_text.proofs.PlainLemmas.{begins_ends, passed_none}
+use Rattle.ud_text.proofs.QuietLineLemmas.{passed_none, passed_quiet, Passed-append}
+use Rattle.ud_text.proofs.SpliceLemmas.{passed_splice}
 use Rattle.ud_text.proofs.SpanLemmas.{NoComment-append}
-use Rattle.ud_text.specs.Spans.{after_feed, at_start, LineSpan, NoComment, LastBegins, TextSpan, BeginsLine}
+use Rattle.ud_text.specs.Spans.{after_feed, at_start, LineSpan, NoComment, LastBegins, TextSpan, BeginsLine, IsSplice}
 use Rattle.ud_text.specs.Progress.{ReadTo, ReadOutside}
 use Rattle.std.proofs.Math.Seq.{drop-append_seam, take-append_seam}
 use Rattle.ud_model.specs.text.Bytes.{line_feed}
@@ -33,15 +34,6 @@ feed_open s e = by_place s.place e
     by_place in_line e = refl
     by_place (in_literal q) e = refl
     by_place (at_backslash q) e = refl
-
--- lines that are passed, and further ones
-pub Passed-append : {start now later : State} (p q : List ℕ) → Passed start p now → BeginsLine (p ++ q) → IsQuiet now q →
-    state_after now q ≡ later → Passed start (p ++ q) later
-Passed-append {start} p q h b k e = record {
-  ends = begins_ends (p ++ q) b;
-  quiet = IsQuiet-append start p q h.quiet (subst (λ (s : State). IsQuiet s q) (sym h.leads) k);
-  leads = state_after-append start p q ∙ ap (λ (s : State). state_after s q) h.leads ∙ e;
-}
 
 module _ {start : State} {bytes : List ℕ} {line : ℕ} {kept : State} {at : ℕ} {now : State}
     (r : ReadTo start bytes line kept at now) where
@@ -103,7 +95,8 @@ module _ {start : State} {bytes : List ℕ} {line : ℕ} {kept : State} {at : �
         at_is = (let f : at ≡ length r.front + length r.mid = r.at_is in
             let g : length r.mid ≡ length (x ++ line_feed ∷ []) + length y = ap length split ∙ length-append (x ++ line_feed ∷ []) y in
             omega (arith, length-append r.front (x ++ line_feed ∷ [])));
-        passed = Passed-append r.front (x ++ line_feed ∷ []) r.passed (begins-append r.front x (after_feed x)) parts.0 there;
+        passed = Passed-append r.front (x ++ line_feed ∷ []) r.passed
+            (subst (λ (s : State). Passed kept (x ++ line_feed ∷ []) s) there (passed_quiet kept (x ++ line_feed ∷ []) r.passed.at_line (after_feed x) parts.0));
         quiet = subst (λ (t : State). IsQuiet t y) there parts.1;
         no_feed = subst (λ (t : State). NoFeedInBlock t y) (sym (state_after-append kept x (line_feed ∷ [])) ∙ there) kept_on.1;
         leads = ap (λ (t : State). state_after t y) (sym there) ∙ sym (state_after-append kept (x ++ line_feed ∷ []) y) ∙ ap (λ (l : List ℕ). state_after kept l) (sym split) ∙ r.leads;
@@ -116,57 +109,80 @@ module _ {start : State} {bytes : List ℕ} {line : ℕ} {kept : State} {at : �
       let l : LastBegins r.mid n = subst (λ (x : List ℕ). LastBegins x n) mid_of h in
       settled_at n (take n r.mid) l.begins refl l.within k
 
+  -- a splice on a logical line that isn't white ends a line
+  pub read_splice : now ≡ text_state false → (k : ℕ) → k ≤ length (drop at bytes) → IsSplice (take k (drop at bytes)) →
+      ReadTo start bytes (at + k) (text_state false) (at + k) (text_state false)
+  unfolding rest_of
+  read_splice e k h s =
+      let splice : List ℕ = take k (drop at bytes) in
+      let ends : at + k ≡ length (r.front ++ (r.mid ++ take k (drop at bytes))) =
+      (let f : at ≡ length r.front + length r.mid = r.at_is in
+      let g : length (take k (drop at bytes)) ≡ k = length-take-le k (drop at bytes) h in
+      omega (arith, length-append r.front (r.mid ++ take k (drop at bytes)), length-append r.mid (take k (drop at bytes)))) in
+      record {
+        front = r.front ++ (r.mid ++ take k (drop at bytes));
+        mid = [];
+        rest = drop k (drop at bytes);
+        is = r.is
+            ∙ ap (λ (x : List ℕ). r.front ++ (r.mid ++ x)) (sym rest_of ∙ sym (take-append-drop k (drop at bytes)))
+            ∙ ap (λ (x : List ℕ). r.front ++ x) (sym (append_assoc r.mid (take k (drop at bytes)) (drop k (drop at bytes))))
+            ∙ sym (append_assoc r.front (r.mid ++ take k (drop at bytes)) (drop k (drop at bytes)));
+        line_is = ends;
+        at_is = omega (arith, ends);
+        passed = Passed-append r.front (r.mid ++ take k (drop at bytes)) r.passed
+            (passed_splice kept r.mid (take k (drop at bytes)) r.passed.at_line r.quiet (r.leads ∙ e) s);
+        quiet = tt;
+        no_feed = tt;
+        leads = refl;
+      }
+
 -- nothing is read yet
-pub read_none : (start : State) (bytes : List ℕ) → ReadTo start bytes 0 start 0 start
-read_none start bytes = record {
+pub read_none : (start : State) (bytes : List ℕ) → AtLine start → ReadTo start bytes 0 start 0 start
+read_none start bytes at = record {
   front = [];
   mid = [];
   rest = bytes;
   is = refl;
   line_is = refl;
   at_is = omega arith;
-  passed = passed_none start;
+  passed = passed_none start at;
   quiet = tt;
   no_feed = tt;
   leads = refl;
 }
 
 -- nothing is read yet, outside comments
-pub read_start : (bytes : List ℕ) → ReadOutside (text_state true) bytes 0 (text_state true) 0 true 0
+pub read_start : (bytes : List ℕ) (white : Bool) → ReadOutside (text_state white) bytes 0 (text_state white) 0 white 0
 unfolding read_none
-read_start bytes = record {
-  now_white = true;
-  so_far = read_none (text_state true) bytes;
+read_start bytes white = record {
+  now_white = white;
+  so_far = read_none (text_state white) bytes (record { is = refl; starts = refl });
   before = [];
   plain = [];
   mid_is = refl;
   base_is = omega arith;
-  base_white = true;
   base_leads = refl;
-  base_begins = λ e. refl;
   no_comment = tt;
 }
 
 -- the place itself is a base
-pub read_base : {start : State} {bytes : List ℕ} {line : ℕ} {kept : State} {at : ℕ} {now : Bool} (begins : Bool) →
-    (begins ≡ true → now ≡ true) → ReadTo start bytes line kept at (text_state now) → ReadOutside start bytes line kept at begins at
-read_base {now = now} begins b r = record {
-  now_white = now;
+pub read_base : {start : State} {bytes : List ℕ} {line : ℕ} {kept : State} {at : ℕ} (begins : Bool) →
+    ReadTo start bytes line kept at (text_state begins) → ReadOutside start bytes line kept at begins at
+read_base begins r = record {
+  now_white = begins;
   so_far = r;
   before = r.mid;
   plain = [];
   mid_is = sym (append-nil r.mid);
   base_is = r.at_is;
-  base_white = now;
   base_leads = r.leads;
-  base_begins = b;
   no_comment = tt;
 }
 
 module _ {start : State} {bytes : List ℕ} {line : ℕ} {kept : State} {base : ℕ} {begins : Bool} {at : ℕ}
     (r : ReadOutside start bytes line kept base begins at) where
   -- where the bytes after the base lead
-  pub plain_leads : state_after (text_state r.base_white) r.plain ≡ text_state r.now_white
+  pub plain_leads : state_after (text_state begins) r.plain ≡ text_state r.now_white
   plain_leads = ap (λ (s : State). state_after s r.plain) (sym r.base_leads) ∙ sym (state_after-append kept r.before r.plain)
       ∙ ap (λ (l : List ℕ). state_after kept l) (sym r.mid_is) ∙ r.so_far.leads
 
@@ -192,14 +208,12 @@ module _ {start : State} {bytes : List ℕ} {line : ℕ} {kept : State} {base : 
     plain = r.plain ++ take k (drop at bytes);
     mid_is = ap (λ (l : List ℕ). l ++ take k (drop at bytes)) r.mid_is ∙ append_assoc r.before r.plain (take k (drop at bytes));
     base_is = r.base_is;
-    base_white = r.base_white;
     base_leads = r.base_leads;
-    base_begins = r.base_begins;
-    no_comment = NoComment-append (text_state r.base_white) r.plain (take k (drop at bytes)) r.no_comment
+    no_comment = NoComment-append (text_state begins) r.plain (take k (drop at bytes)) r.no_comment
         (subst (λ (x : State). NoComment x.place (take k (drop at bytes))) (sym plain_leads) t.no_comment);
   }
 
   -- further bytes are read up to the beginning of a line, if there is a new base
   pub read_line : (k : ℕ) → k ≤ length (drop at bytes) → LineSpan r.now_white (take k (drop at bytes)) → ReadOutside start bytes line kept (at + k) true (at + k)
-  read_line k h t = read_base true (λ e. refl)
+  read_line k h t = read_base true
       (read_on r.so_far k (take k (drop at bytes)) refl h t.quiet t.no_feed (text_state true) t.leads)

@@ -1,5 +1,5 @@
 -- Quiet lines: a whole line that is read quietly is text, and what is carried from it; many of them at once.
-use Rattle.std.proofs.Common.{◌≡◌, ◌≤◌, ℕ, suc, ◌-◌, ◌==◌, nat_eq, List, [], ◌∷◌, ◌++◌, length, take, Bool, true, false, not, ◌&&◌, ◌||◌, if◌then◌else◌, refl, sym, ◌∙◌, ap, subst, append_assoc, append-nil, arith, length-append}
+use Rattle.std.proofs.Common.{◌≡◌, ◌≤◌, ℕ, suc, ◌+◌, ◌-◌, ◌==◌, nat_eq, List, [], ◌∷◌, ◌++◌, length, take, Bool, true, false, not, ◌&&◌, ◌||◌, if◌then◌else◌, refl, sym, ◌∙◌, ap, subst, append_assoc, append-nil, arith, length-append}
 use Rattle.std.specs.List.{concat, ends_with}
 use Rattle.std.proofs.lemmas.Bool.Decides.{Decides-eqb}
 use Rattle.std.proofs.lemmas.Slice.Eq.{ends_is}
@@ -17,27 +17,16 @@ use Rattle.ud_model.proofs.text.ScanLaws.{place_after, white_after, masked_after
 use Rattle.ud_model.proofs.text.ScanLemmas.{Masks-start}
 use Rattle.ud_text.specs.Carrying.{Carried, Carries}
 use Rattle.ud_text.specs.Passing.{lines_in, AreText, EndsLine, PassesText}
-use Rattle.ud_text.specs.States.{line_state, State, state_after, is_other_name, Passed, IsQuiet, can_start, ignores_splice}
+use Rattle.ud_text.specs.States.{line_state, State, state_after, next_state, is_other_name, Passed, IsQuiet, can_start, ignores_splice, joins_at, carried_at, AtLine}
+use Rattle.ud_text.specs.Spans.{BeginsLine, at_start, after_feed}
+use Rattle.ud_text.proofs.PlainLemmas.{begins_ends}
+use Rattle.ud_text.proofs.SkipLemmas.{lines_joined, ends_joined}
 use Rattle.ud_text.proofs.RunLemmas.{no_feed-take}
 use Rattle.ud_text.proofs.CarryLemmas.{scan_carried, carries_code, no_feed-content}
 use Rattle.ud_text.proofs.QuietLemmas.{state_after-append, state_after-place, state_after-white, IsQuiet-feed, IsQuiet-rest}
 use Rattle.ud_text.proofs.TextLemmas.{Unsigned, text_not_fresh, text_unsigned, unsigned, NoWord}
 use Rattle.ud_model.specs.text.Bytes.{line_feed, carriage_return, backslash}
 use Rattle.std.proofs.Math.Bool.{or-false}
-
--- a place at which a line may begin: outside comments, or in a block comment
-abbrev pub begins_line : Place → Bool
-begins_line in_text = true
-begins_line in_block = true
-begins_line at_slash = false
-begins_line at_star = false
-begins_line in_line = false
-begins_line (in_literal quote) = false
-begins_line (at_backslash quote) = false
-
--- what is carried to a line that begins there
-abbrev pub carried_at : Place → Bool → Carried
-carried_at place white = record { place = place; white = white; joins = is_block (place_kind place) }
 
 -- what follows a line's content, by whether the line is spliced
 pub data IsTail : Bool → List ℕ → Type 0 where
@@ -142,25 +131,35 @@ cr_white (in_literal q) white = by_quote (carriage_return == q)
     by_quote false = refl
 cr_white (at_backslash q) white = refl
 
-after_feed : (v : Place) → begins_line (next v line_feed) ≡ true
-after_feed in_text = refl
-after_feed at_slash = refl
-after_feed in_block = refl
-after_feed at_star = refl
-after_feed in_line = refl
-after_feed (in_literal q) = refl
-after_feed (at_backslash q) = refl
+starts_after : (v : Place) → can_start (next v line_feed) ≡ true
+starts_after in_text = refl
+starts_after at_slash = refl
+starts_after in_block = refl
+starts_after at_star = refl
+starts_after in_line = refl
+starts_after (in_literal q) = refl
+starts_after (at_backslash q) = refl
+
+feed_white : (v : Place) (white : Bool) → is_block (place_kind (next v line_feed)) ≡ false → whitens v white line_feed ≡ true
+feed_white in_text white e = refl
+feed_white at_slash white e = refl
+feed_white in_block white e = cc
+feed_white at_star white e = cc
+feed_white in_line white e = refl
+feed_white (in_literal q) white e = refl
+feed_white (at_backslash q) white e = refl
 
 -- the state after a line is that of the definitions, by where its content leaves off and whether it is spliced
 pub record Leads (v : Place) (white : Bool) (spliced : Bool) (now : State) : Type 0 where
   pub place : now.place ≡ closed_place spliced v
   pub white_is : now.white ≡ closed_white spliced v white
   pub unspliced : now.spliced ≡ false
-  pub begins : begins_line now.place ≡ true
+  pub begins : can_start now.place ≡ true
   pub in_comment : spliced ≡ true → now.place ≡ in_block
+  pub begins_white : is_block (place_kind now.place) ≡ false → now.white ≡ true
 
 leads_spliced : (v : Place) (white c : Bool) → not (ignores_splice v) ≡ false → Leads v white true (state_after (record { place = v; white = white; spliced = c }) (backslash ∷ line_feed ∷ []))
-leads_spliced in_block white c h = record { place = refl; white_is = refl; unspliced = refl; begins = refl; in_comment = λ e. refl }
+leads_spliced in_block white c h = record { place = refl; white_is = refl; unspliced = refl; begins = refl; in_comment = λ e. refl; begins_white = λ e. cc }
 leads_spliced in_text white c h = cc
 leads_spliced at_slash white c h = cc
 leads_spliced at_star white c h = cc
@@ -169,7 +168,7 @@ leads_spliced (in_literal q) white c h = cc
 leads_spliced (at_backslash q) white c h = cc
 
 leads_spliced_return : (v : Place) (white c : Bool) → not (ignores_splice v) ≡ false → Leads v white true (state_after (record { place = v; white = white; spliced = c }) (backslash ∷ carriage_return ∷ line_feed ∷ []))
-leads_spliced_return in_block white c h = record { place = refl; white_is = refl; unspliced = refl; begins = refl; in_comment = λ e. refl }
+leads_spliced_return in_block white c h = record { place = refl; white_is = refl; unspliced = refl; begins = refl; in_comment = λ e. refl; begins_white = λ e. cc }
 leads_spliced_return in_text white c h = cc
 leads_spliced_return at_slash white c h = cc
 leads_spliced_return at_star white c h = cc
@@ -178,13 +177,14 @@ leads_spliced_return (in_literal q) white c h = cc
 leads_spliced_return (at_backslash q) white c h = cc
 
 tail_leads : (s : State) (spliced : Bool) (tail : List ℕ) → IsTail spliced tail → IsQuiet s tail → Leads s.place s.white spliced (state_after s tail)
-tail_leads s _ _ feed q = record { place = refl; white_is = refl; unspliced = refl; begins = after_feed s.place; in_comment = λ e. cc }
+tail_leads s _ _ feed q = record { place = refl; white_is = refl; unspliced = refl; begins = starts_after s.place; in_comment = λ e. cc; begins_white = feed_white s.place s.white }
 tail_leads s _ _ return_feed q = record {
   place = cr_place s.place;
   white_is = cr_white s.place s.white;
   unspliced = refl;
-  begins = after_feed (next s.place carriage_return);
+  begins = starts_after (next s.place carriage_return);
   in_comment = λ e. cc;
+  begins_white = feed_white (next s.place carriage_return) (whitens s.place s.white carriage_return);
 }
 tail_leads s _ _ splice_feed q = leads_spliced s.place s.white s.spliced q.1.0
 tail_leads s _ _ splice_return_feed q = leads_spliced_return s.place s.white s.spliced q.1.1.0
@@ -200,14 +200,58 @@ tail_names _ _ splice_return_feed = (refl, refl)
 pub record QuietLine (w : Place) (white : Bool) (before : List Reading) (line : Line) (now : State) : Type 0 where
   pub stands : Carries (carried_at now.place now.white) (before ++ next_reading before C line ∷ [])
   pub is_text : content_of (scan_after before C line) ≡ text
-  pub at_next : now ≡ line_state now.place now.white
-  pub begins : begins_line now.place ≡ true
+  pub at_line : AtLine now
+
+module _ (w : Place) (white : Bool) (before : List Reading) (line : Line) (carried : Carries (carried_at w white) before) where
+  -- how the line is shown
+  pub shown : Masks (length (joined (run_of before))) (joined (run_of before) ++ content line) (place_after w (content line)) (white_after w white (content line)) (masked_after w [] (content line))
+  shown = Masks-append (content line) (joined (run_of before)) w white [] (Masks-start carried.reads)
+
+  -- the scan of the line
+  abbrev pub scan_is : Scan
+  scan_is = record {
+    masked = masked_after w [] (content line);
+    fresh = fresh_at w white (content line);
+    joins_before = joins_at w white;
+    joins_after = is_spliced line || is_block (place_kind (closed_place (stays_open line) (place_after w (content line))));
+    spliced = is_spliced line;
+    comment = comment_at (is_spliced line) (place_kind (closed_place (stays_open line) (place_after w (content line))));
+  }
+
+  pub seen : scan_after before C line ≡ scan_is
+  unfolding shown
+  seen = scan_carried (carried_at w white) before line (masked_after w [] (content line)) (place_after w (content line)) (white_after w white (content line)) carried shown
+
+  not_fresh : (p : Place) → can_start p ≡ true → fresh_at p white (content line) ≡ white
+  not_fresh in_text e = refl
+  not_fresh in_block e = refl
+  not_fresh at_slash e = cc
+  not_fresh at_star e = cc
+  not_fresh in_line e = cc
+  not_fresh (in_literal q) e = cc
+  not_fresh (at_backslash q) e = cc
+
+  sign : (p : Place) (tail : List ℕ) → can_start p ≡ true → NoFeed (content line) → is_other_name tail ≡ false → NoWord tail →
+      IsQuiet (line_state p true) (content line ++ tail) → Unsigned (past_sign (masked_after p [] (content line)))
+  sign in_text tail e o f n q = unsigned (content line) tail in_text false tt o q f n
+  sign in_block tail e o f n q = unsigned (content line) tail in_block false tt o q f n
+  sign at_slash tail e o f n q = cc
+  sign at_star tail e o f n q = cc
+  sign in_line tail e o f n q = cc
+  sign (in_literal r) tail e o f n q = cc
+  sign (at_backslash r) tail e o f n q = cc
+
+  -- the line is text, if its content is read quietly and no word goes on after it
+  pub line_is_text : (tail : List ℕ) → can_start w ≡ true → NoFeed (content line) → is_other_name tail ≡ false → NoWord tail →
+      IsQuiet (line_state w white) (content line ++ tail) → content_of (scan_after before C line) ≡ text
+  line_is_text tail at o f n q = ap content_of seen ∙ by_white white refl
+    where
+      by_white : (u : Bool) → white ≡ u → content_of scan_is ≡ text
+      by_white false e = text_not_fresh scan_is (not_fresh w at ∙ e)
+      by_white true e = text_unsigned scan_is (sign w tail at o f n (subst (λ (u : Bool). IsQuiet (line_state w u) (content line ++ tail)) e q))
 
 module _ (w : Place) (white : Bool) (before : List Reading) (line : Line) (bytes : List ℕ) (shape : Shape line bytes)
-    (at : begins_line w ≡ true) (quiet : IsQuiet (line_state w white) bytes) (carried : Carries (carried_at w white) before) where
-  inside : State
-  inside = state_after (line_state w white) (content line)
-
+    (at : can_start w ≡ true) (quiet : IsQuiet (line_state w white) bytes) (carried : Carries (carried_at w white) before) where
   quiet_split : IsQuiet (line_state w white) (content line ++ shape.tail)
   quiet_split = subst (λ (b : List ℕ). IsQuiet (line_state w white) b) shape.is quiet
 
@@ -222,80 +266,36 @@ module _ (w : Place) (white : Bool) (before : List Reading) (line : Line) (bytes
       (tail_leads (state_after (line_state w white) (content line)) (is_spliced line) shape.tail shape.kind
       (IsQuiet-rest (line_state w white) (content line) shape.tail quiet_split)))))
 
-  shown : Masks (length (joined (run_of before))) (joined (run_of before) ++ content line) (place_after w (content line)) (white_after w white (content line)) (masked_after w [] (content line))
-  shown = Masks-append (content line) (joined (run_of before)) w white [] (Masks-start carried.reads)
-
-  scan_is : Scan
-  scan_is = record {
-    masked = masked_after w [] (content line);
-    fresh = fresh_at w white (content line);
-    joins_before = is_block (place_kind w);
-    joins_after = is_spliced line || is_block (place_kind (closed_place (stays_open line) (place_after w (content line))));
-    spliced = is_spliced line;
-    comment = comment_at (is_spliced line) (place_kind (closed_place (stays_open line) (place_after w (content line))));
-  }
-
-  seen : scan_after before C line ≡ scan_is
-  unfolding scan_is shown
-  seen = scan_carried (carried_at w white) before line (masked_after w [] (content line)) (place_after w (content line)) (white_after w white (content line)) carried shown
-
   place_now : (state_after (line_state w white) bytes).place ≡ closed_place (stays_open line) (place_after w (content line))
   place_now = led.place ∙ ap (λ (o : Bool). closed_place o (place_after w (content line))) (sym shape.closes)
 
   white_now : (state_after (line_state w white) bytes).white ≡ closed_white (stays_open line) (place_after w (content line)) (white_after w white (content line))
   white_now = led.white_is ∙ ap (λ (o : Bool). closed_white o (place_after w (content line)) (white_after w white (content line))) (sym shape.closes)
 
-  joins_now : (s : Bool) (p : Place) → (s ≡ true → p ≡ in_block) → is_block (place_kind p) ≡ (s || is_block (place_kind p))
-  joins_now true p h = ap (λ (x : Place). is_block (place_kind x)) (h refl)
-  joins_now false p h = refl
+  joins_now : (s : Bool) (p : Place) (u : Bool) → (s ≡ true → p ≡ in_block) → (is_block (place_kind p) ≡ false → u ≡ true) → joins_at p u ≡ (s || is_block (place_kind p))
+  joins_now true p u h k = ap (λ (x : Place). is_block (place_kind x) || not u) (h refl)
+  joins_now false p u h k = by_block (is_block (place_kind p)) k
+    where
+      by_block : (b : Bool) → (b ≡ false → u ≡ true) → (b || not u) ≡ b
+      by_block true m = refl
+      by_block false m = ap not (m refl)
 
   line_stands : Carries (carried_at (state_after (line_state w white) bytes).place (state_after (line_state w white) bytes).white) (before ++ next_reading before C line ∷ [])
   line_stands =
       carries_code (carried_at w white) before line (masked_after w [] (content line)) (place_after w (content line)) (white_after w white (content line))
-      (carried_at (state_after (line_state w white) bytes).place (state_after (line_state w white) bytes).white) carried shown place_now white_now
-      (joins_now (is_spliced line) (state_after (line_state w white) bytes).place led.in_comment)
-
-  not_cut : (s : Bool) (p : Place) → (s ≡ true → p ≡ in_block) → (s && is_outside (comment_at s (place_kind p))) ≡ false
-  not_cut true p h = ap (λ (x : Place). is_outside (comment_at true (place_kind x))) (h refl)
-  not_cut false p h = refl
-
-  uncut : is_cut_off scan_is ≡ false
-  unfolding scan_is
-  uncut = not_cut (is_spliced line) (closed_place (stays_open line) (place_after w (content line))) (λ e. sym place_now ∙ led.in_comment e)
-
-  not_fresh : (p : Place) → begins_line p ≡ true → fresh_at p white (content line) ≡ white
-  not_fresh in_text e = refl
-  not_fresh in_block e = refl
-  not_fresh at_slash e = cc
-  not_fresh at_star e = cc
-  not_fresh in_line e = cc
-  not_fresh (in_literal q) e = cc
-  not_fresh (at_backslash q) e = cc
-
-  sign : (p : Place) → begins_line p ≡ true → IsQuiet (line_state p true) (content line ++ shape.tail) → Unsigned (past_sign (masked_after p [] (content line)))
-  sign in_text e q = unsigned (content line) shape.tail in_text false tt shape.one_line q (tail_names (is_spliced line) shape.tail shape.kind).0 (tail_names (is_spliced line) shape.tail shape.kind).1
-  sign in_block e q = unsigned (content line) shape.tail in_block false tt shape.one_line q (tail_names (is_spliced line) shape.tail shape.kind).0 (tail_names (is_spliced line) shape.tail shape.kind).1
-  sign at_slash e q = cc
-  sign at_star e q = cc
-  sign in_line e q = cc
-  sign (in_literal r) e q = cc
-  sign (at_backslash r) e q = cc
-
-  line_is_text : content_of (scan_after before C line) ≡ text
-  unfolding scan_is
-  line_is_text = ap content_of seen ∙ by_white white refl
-    where
-      by_white : (u : Bool) → white ≡ u → content_of scan_is ≡ text
-      by_white false e = text_not_fresh scan_is (not_fresh w at ∙ e)
-      by_white true e = text_unsigned scan_is (sign w at (subst (λ (u : Bool). IsQuiet (line_state w u) (content line ++ shape.tail)) e quiet_split)) uncut
+      (carried_at (state_after (line_state w white) bytes).place (state_after (line_state w white) bytes).white) carried (shown w white before line carried) place_now white_now
+      (joins_now (is_spliced line) (state_after (line_state w white) bytes).place (state_after (line_state w white) bytes).white led.in_comment led.begins_white)
 
   -- the line is text, and carries on
   pub line_read : QuietLine w white before line (state_after (line_state w white) bytes)
   line_read = record {
     stands = line_stands;
-    is_text = line_is_text;
-    at_next = ap (λ (u : Bool). record { place = (state_after (line_state w white) bytes).place; white = (state_after (line_state w white) bytes).white; spliced = u }) led.unspliced;
-    begins = led.begins;
+    is_text = line_is_text w white before line carried shape.tail at shape.one_line (tail_names (is_spliced line) shape.tail shape.kind).0
+        (tail_names (is_spliced line) shape.tail shape.kind).1 quiet_split;
+    at_line = record {
+      is = ap (λ (u : Bool). record { place = (state_after (line_state w white) bytes).place; white = (state_after (line_state w white) bytes).white; spliced = u }) led.unspliced;
+      starts = led.begins;
+    };
   }
 
 -- lines that are read quietly are text, and leave this state
@@ -304,7 +304,7 @@ pub record QuietLines (before : List Reading) (n : ℕ) (ls : List (List ℕ)) (
   pub texts : AreText C before (numbered_from n ls)
 
 -- lines that are read quietly, one after another
-pub lines_read : (ls : List (List ℕ)) (n : ℕ) (w : Place) (white : Bool) (before : List Reading) → AreWhole ls → begins_line w ≡ true →
+pub lines_read : (ls : List (List ℕ)) (n : ℕ) (w : Place) (white : Bool) (before : List Reading) → AreWhole ls → can_start w ≡ true →
     IsQuiet (line_state w white) (concat ls) → Carries (carried_at w white) before → QuietLines before n ls (state_after (line_state w white) (concat ls))
 lines_read [] n w white before whole at quiet carried = record { stands = carried; texts = tt }
 lines_read (l ∷ ls) n w white before whole at quiet carried =
@@ -319,10 +319,10 @@ lines_read (l ∷ ls) n w white before whole at quiet carried =
     line_read w white before (line_at n l) l (shape_of n l whole.0) at first carried in
     let now : State = state_after (line_state w white) l in
     let more : QuietLines (before ++ next_reading before C (line_at n l) ∷ []) (suc n) ls (state_after (line_state now.place now.white) (concat ls)) =
-    lines_read ls (suc n) now.place now.white (before ++ next_reading before C (line_at n l) ∷ []) whole.1 ran.begins
-    (subst (λ (s : State). IsQuiet s (concat ls)) ran.at_next rest) ran.stands in
+    lines_read ls (suc n) now.place now.white (before ++ next_reading before C (line_at n l) ∷ []) whole.1 ran.at_line.starts
+    (subst (λ (s : State). IsQuiet s (concat ls)) ran.at_line.is rest) ran.stands in
     let there : state_after (line_state now.place now.white) (concat ls) ≡ state_after (line_state w white) (l ++ concat ls) =
-    ap (λ (s : State). state_after s (concat ls)) (sym ran.at_next) ∙ sym (state_after-append (line_state w white) l (concat ls)) in
+    ap (λ (s : State). state_after s (concat ls)) (sym ran.at_line.is) ∙ sym (state_after-append (line_state w white) l (concat ls)) in
     record {
       stands = subst (λ (s : State). Carries (carried_at s.place s.white) (readings_after (before ++ next_reading before C (line_at n l) ∷ []) (lines_in C (suc n) ls))) there more.stands;
       texts = (ran.is_text, more.texts);
@@ -332,41 +332,90 @@ lines_read (l ∷ ls) n w white before whole at quiet carried =
 pub ended_lines : (bytes : List ℕ) → EndsLine bytes → bytes ≡ concat (whole_lines bytes)
 ended_lines bytes e = parts_joined bytes ∙ ap (λ (r : List ℕ). concat (whole_lines bytes) ++ r) e ∙ append-nil (concat (whole_lines bytes))
 
--- whole lines that are read quietly are passed as text
-pub passes_text : (w : Place) (white : Bool) (bytes : List ℕ) (now : Place) (now_white : Bool) → begins_line w ≡ true → Passed (line_state w white) bytes (line_state now now_white) →
-    PassesText C (carried_at w white) (carried_at now now_white) bytes
-passes_text w white bytes now now_white at p =
-    let ls : List (List ℕ) = whole_lines bytes in
-    let is : bytes ≡ concat ls = ended_lines bytes p.ends in
-    let quiet : IsQuiet (line_state w white) (concat ls) = subst (λ (x : List ℕ). IsQuiet (line_state w white) x) is p.quiet in
-    let there : state_after (line_state w white) (concat ls) ≡ line_state now now_white = ap (λ (x : List ℕ). state_after (line_state w white) x) (sym is) ∙ p.leads in
-    record {
-      stands = λ n before h. subst (λ (s : State). Carries (carried_at s.place s.white) (readings_after before (lines_in C n ls))) there
-          (lines_read ls n w white before (are_whole bytes) at quiet h).stands;
-      texts = λ n before h. (lines_read ls n w white before (are_whole bytes) at quiet h).texts;
-    }
-
 -- no lines change nothing
 pub passes_none : (mode : Mode) (c : Carried) → PassesText mode c c []
 unfolding parts_of
 passes_none mode c = record { stands = λ n before h. h; texts = λ n before h. tt }
 
--- a line may begin where lines can be read
-pub starts_begins : (w : Place) (white : Bool) → can_start w white ≡ true → begins_line w ≡ true
-starts_begins in_text white e = refl
-starts_begins in_block white e = refl
-starts_begins at_slash white e = cc
-starts_begins at_star white e = cc
-starts_begins in_line white e = cc
-starts_begins (in_literal q) white e = cc
-starts_begins (at_backslash q) white e = cc
+-- no lines lead nowhere else
+pub passed_none : (start : State) → AtLine start → Passed start [] start
+passed_none start at = record { ends = begins_ends [] at_start; passes = passes_none C (carried_at start.place start.white); at_line = at }
+
+-- a line begins after a line feed
+feed_at_line : (s : State) → AtLine (next_state s line_feed)
+feed_at_line s = record { is = refl; starts = starts_after s.place }
+
+begins_at_line : (start : State) (bytes : List ℕ) → AtLine start → BeginsLine bytes → AtLine (state_after start bytes)
+begins_at_line start _ at at_start = at
+begins_at_line start _ at (after_feed front) =
+    subst AtLine (sym (state_after-append start front (line_feed ∷ []))) (feed_at_line (state_after start front))
+
+quiet_passes : (w : Place) (white : Bool) (bytes : List ℕ) → can_start w ≡ true → EndsLine bytes → IsQuiet (line_state w white) bytes →
+    PassesText C (carried_at w white) (carried_at (state_after (line_state w white) bytes).place (state_after (line_state w white) bytes).white) bytes
+quiet_passes w white bytes at ends quiet =
+    let ls : List (List ℕ) = whole_lines bytes in
+    let is : bytes ≡ concat ls = ended_lines bytes ends in
+    let on : IsQuiet (line_state w white) (concat ls) = subst (λ (x : List ℕ). IsQuiet (line_state w white) x) is quiet in
+    record {
+      stands = λ n before h. subst (λ (x : List ℕ). Carries (carried_at (state_after (line_state w white) x).place (state_after (line_state w white) x).white) (readings_after before (lines_in C n ls))) (sym is)
+          (lines_read ls n w white before (are_whole bytes) at on h).stands;
+      texts = λ n before h. (lines_read ls n w white before (are_whole bytes) at on h).texts;
+    }
+
+-- whole lines that are read quietly are passed
+pub passed_quiet : (start : State) (bytes : List ℕ) → AtLine start → BeginsLine bytes → IsQuiet start bytes → Passed start bytes (state_after start bytes)
+passed_quiet start bytes at b quiet = record {
+  ends = begins_ends bytes b;
+  passes = subst (λ (s : State). PassesText C (carried_at start.place start.white) (carried_at (state_after s bytes).place (state_after s bytes).white) bytes) (sym at.is)
+      (quiet_passes start.place start.white bytes at.starts (begins_ends bytes b) (subst (λ (s : State). IsQuiet s bytes) at.is quiet));
+  at_line = begins_at_line start bytes at b;
+}
+
+stands_append : (mode : Mode) (n : ℕ) (before : List Reading) (ls ms : List (List ℕ)) →
+    readings_after before (lines_in mode n (ls ++ ms)) ≡ readings_after (readings_after before (lines_in mode n ls)) (lines_in mode (n + length ls) ms)
+stands_append mode n before [] ms = let e : n ≡ n + length {A = List ℕ} [] = omega arith in ap (λ (k : ℕ). readings_after before (lines_in mode k ms)) e
+stands_append mode n before (l ∷ ls) ms =
+    let e : suc n + length ls ≡ n + length (l ∷ ls) = omega arith in
+    stands_append mode (suc n) (before ++ next_reading before mode (line_at n l) ∷ []) ls ms
+    ∙ ap (λ (k : ℕ). readings_after (readings_after before (lines_in mode n (l ∷ ls))) (lines_in mode k ms)) e
+
+texts_append : (mode : Mode) (n : ℕ) (before : List Reading) (ls ms : List (List ℕ)) → AreText mode before (numbered_from n ls) →
+    AreText mode (readings_after before (lines_in mode n ls)) (numbered_from (n + length ls) ms) → AreText mode before (numbered_from n (ls ++ ms))
+texts_append mode n before [] ms h k = let e : n + length {A = List ℕ} [] ≡ n = omega arith in subst (λ (m : ℕ). AreText mode before (numbered_from m ms)) e k
+texts_append mode n before (l ∷ ls) ms h k =
+    let e : n + length (l ∷ ls) ≡ suc n + length ls = omega arith in (
+      h.0,
+      texts_append mode (suc n) (before ++ next_reading before mode (line_at n l) ∷ []) ls ms h.1
+          (subst (λ (m : ℕ). AreText mode (readings_after before (lines_in mode n (l ∷ ls))) (numbered_from m ms)) e k),
+    )
+
+-- lines are passed one after another
+pub passes_append : (mode : Mode) (old mid new : Carried) (p q : List ℕ) → EndsLine p → PassesText mode old mid p → PassesText mode mid new q →
+    PassesText mode old new (p ++ q)
+passes_append mode old mid new p q ends h k =
+    let is : whole_lines (p ++ q) ≡ whole_lines p ++ whole_lines q = lines_joined p q ends in
+    record {
+      stands = λ n before c.
+          subst (λ (ls : List (List ℕ)). Carries new (readings_after before (lines_in mode n ls))) (sym is)
+          (subst (Carries new) (sym (stands_append mode n before (whole_lines p) (whole_lines q)))
+          (k.stands (n + length (whole_lines p)) (readings_after before (lines_in mode n (whole_lines p))) (h.stands n before c)));
+      texts = λ n before c.
+          subst (λ (ls : List (List ℕ)). AreText mode before (numbered_from n ls)) (sym is)
+          (texts_append mode n before (whole_lines p) (whole_lines q) (h.texts n before c)
+          (k.texts (n + length (whole_lines p)) (readings_after before (lines_in mode n (whole_lines p))) (h.stands n before c)));
+    }
+
+pub Passed-append : {start now later : State} (p q : List ℕ) → Passed start p now → Passed now q later → Passed start (p ++ q) later
+Passed-append {start} {now} {later} p q h k = record {
+  ends = ends_joined p q h.ends ∙ k.ends;
+  passes = passes_append C (carried_at start.place start.white) (carried_at now.place now.white) (carried_at later.place later.white) p q h.ends h.passes k.passes;
+  at_line = k.at_line;
+}
 
 -- the same, as the program carries it
-pub passes_run : (w : Place) (white j : Bool) (bytes : List ℕ) (now : Place) (now_white k : Bool) → can_start w white ≡ true →
-    j ≡ is_block (place_kind w) → k ≡ is_block (place_kind now) →
+pub passes_run : (w : Place) (white j : Bool) (bytes : List ℕ) (now : Place) (now_white k : Bool) → j ≡ joins_at w white → k ≡ joins_at now now_white →
     Passed (line_state w white) bytes (line_state now now_white) →
     PassesText C (record { place = w; white = white; joins = j }) (record { place = now; white = now_white; joins = k }) bytes
-passes_run w white j bytes now now_white k s e f p =
+passes_run w white j bytes now now_white k e f p =
     subst (λ (x : Bool). PassesText C (record { place = w; white = white; joins = x }) (record { place = now; white = now_white; joins = k }) bytes) (sym e)
-    (subst (λ (x : Bool). PassesText C (carried_at w white) (record { place = now; white = now_white; joins = x }) bytes) (sym f)
-    (passes_text w white bytes now now_white (starts_begins w white s) p))
+    (subst (λ (x : Bool). PassesText C (carried_at w white) (record { place = now; white = now_white; joins = x }) bytes) (sym f) p.passes)

@@ -9,14 +9,14 @@ use Rattle.std.proofs.Math.Seq.{drop-cons, drop-nil}
 use Rattle.ud_model.specs.text.Bytes.{is_quote, is_white, are_white, slash, number_sign, line_feed, carriage_return, star, backslash}
 use Rattle.ud_model.specs.text.Lines.{NoFeed}
 use Rattle.ud_model.specs.aids.Places.{Place, in_text, in_block}
-use Rattle.ud_text.specs.States.{line_state, State, text_state, is_other_name, inside_state, block_state, can_start}
+use Rattle.ud_text.specs.States.{line_state, State, text_state, is_other_name, inside_state, block_state}
 use Rattle.ud_text.proofs.MarkLemmas.{position_or_len-bound}
 use Rattle.ud_text.proofs.PlainLemmas.{plain_read, no_special_before}
 use Rattle.ud_text.proofs.SpanLemmas.{slash_read, backslash_read, sign_read, literal_byte, literal_pair, literal_closed, NoBreak, line_comment_read, LiteralFront}
 use Rattle.ud_text.proofs.LookLemmas.{shows_white}
-use Rattle.ud_text.proofs.ProgressLemmas.{read_text, read_line, plain_of, plain_leads, read_none, read_start}
+use Rattle.ud_text.proofs.ProgressLemmas.{read_text, read_line, plain_of, plain_leads, read_none, read_start, read_base, read_splice}
 use Rattle.ud_text.proofs.BlockLemmas.{pair_front, block_same, block_later, block_closed}
-use Rattle.ud_text.specs.Spans.{black, NoPair, NoSpecial, is_pair, LineSpan, all_white, LastBegins, TextSpan, is_special, SeenWhite, new_line}
+use Rattle.ud_text.specs.Spans.{black, NoPair, NoSpecial, is_pair, LineSpan, all_white, LastBegins, TextSpan, is_special, SeenWhite, new_line, IsSplice}
 use Rattle.ud_text.specs.Progress.{ReadTo, ReadOutside}
 use Rattle.ud_text.specs.Searches.{is_one_of}
 
@@ -205,7 +205,12 @@ module _ {start : State} {bytes : List ℕ} {line : ℕ} {kept : State} {base : 
 
   -- what is seen by looking back as far as the base is so
   pub looked : (v : Bool) → SeenWhite (take (at - base) (drop base bytes)) begins v → r.now_white ≡ v
-  looked v h = shows_white r.plain begins v r.base_white r.now_white r.no_comment (plain_leads r) r.base_begins (subst (λ (l : List ℕ). SeenWhite l begins v) (plain_of r) h)
+  looked v h = shows_white r.plain begins v r.now_white r.no_comment (plain_leads r) (subst (λ (l : List ℕ). SeenWhite l begins v) (plain_of r) h)
+
+  -- a splice on a logical line that isn't white
+  pub splice_step_read : SeenWhite (take (at - base) (drop base bytes)) begins false → (k : ℕ) → k ≤ length (drop at bytes) → IsSplice (take k (drop at bytes)) →
+      ReadOutside start bytes (at + k) (text_state false) (at + k) false (at + k)
+  splice_step_read seen k h s = read_base false (read_splice r.so_far (ap (λ (u : Bool). text_state u) (looked false seen)) k h s)
 
   -- a `#` that belongs to no directive, and the plain text after it
   pub sign_step_read : take 1 (drop at bytes) ≡ number_sign ∷ [] → (k : ℕ) → k ≡ position_or_len is_special (take (length bytes - (at + 1)) (drop (at + 1) bytes)) →
@@ -255,7 +260,7 @@ module _ {start : State} {bytes : List ℕ} {line : ℕ} {kept : State} {at : �
 pub closed_read : {start : State} {bytes : List ℕ} {line : ℕ} {kept : State} (at count : ℕ) (starred u : Bool) →
     ReadTo start bytes line kept (at + count) (inside_state starred u) → count + 1 < length (take (length bytes - at) (drop at bytes)) →
     is_pair (get_or (take (length bytes - at) (drop at bytes)) count 0) (get_or (take (length bytes - at) (drop at bytes)) (count + 1) 0) ≡ true →
-    get_or (take (length bytes - at) (drop at bytes)) (count + 1) 0 ≡ slash → ReadOutside start bytes line kept (at + count + 2) false (at + count + 2)
+    get_or (take (length bytes - at) (drop at bytes)) (count + 1) 0 ≡ slash → ReadOutside start bytes line kept (at + count + 2) u (at + count + 2)
 closed_read {bytes = bytes} at count starred u r h e f =
     let rest : List ℕ = take (length bytes - at) (drop at bytes) in
     let is : rest ≡ drop at bytes = take_rest bytes at in
@@ -267,22 +272,21 @@ closed_read {bytes = bytes} at count starred u r h e f =
     block_closed starred u r long (sym two ∙ ap (λ (l : List ℕ). take 2 l) there)
 
 -- nothing is read yet, outside comments
-pub start_read : (bytes : List ℕ) (w : Place) (white : Bool) → w ≡ in_text → can_start w white ≡ true →
-    ReadOutside (line_state w white) bytes 0 (line_state w white) 0 true 0
-start_read bytes w white e s =
-    subst (λ (v : Place). can_start v white ≡ true → ReadOutside (line_state v white) bytes 0 (line_state v white) 0 true 0) (sym e)
-    (λ t. subst (λ (b : Bool). ReadOutside (text_state b) bytes 0 (text_state b) 0 true 0) (sym t) (read_start bytes)) s
+pub start_read : (bytes : List ℕ) (w : Place) (white : Bool) → w ≡ in_text →
+    ReadOutside (line_state w white) bytes 0 (line_state w white) 0 white 0
+start_read bytes w white e =
+    subst (λ (v : Place). ReadOutside (line_state v white) bytes 0 (line_state v white) 0 white 0) (sym e) (read_start bytes white)
 
 -- nothing is read yet, in a block comment
 pub start_block : (bytes : List ℕ) (w : Place) (white : Bool) → w ≡ in_block →
     ReadTo (line_state w white) bytes 0 (line_state w white) 0 (block_state white)
 start_block bytes w white e =
     subst (λ (v : Place). ReadTo (line_state v white) bytes 0 (line_state v white) 0 (block_state white)) (sym e)
-    (read_none (block_state white) bytes)
+    (read_none (block_state white) bytes (record { is = refl; starts = refl }))
 
 -- bytes that are all white, after which the line is white if it is before them
-pub all_before : (bytes : List ℕ) (at : ℕ) (begins : Bool) → at ≡ 0 → are_white (drop at bytes) ≡ true → begins ≡ true → SeenWhite bytes begins true
-all_before bytes at begins e w b = all_white b (subst (λ (n : ℕ). are_white (drop n bytes) ≡ true) e w)
+pub all_before : (bytes : List ℕ) (at : ℕ) (begins : Bool) → at ≡ 0 → are_white (drop at bytes) ≡ true → SeenWhite bytes begins begins
+all_before bytes at begins e w = all_white (subst (λ (n : ℕ). are_white (drop n bytes) ≡ true) e w)
 
 -- the bytes before the first pair have none
 pub free_front : (bytes : List ℕ) (at count : ℕ) → NoPair (take (count + 1) (take (length bytes - at) (drop at bytes))) → NoPair (take count (drop at bytes))

@@ -1,21 +1,27 @@
 -- Text: what is shown of a line that is read quietly has no `#` that belongs to a directive.
-use Rattle.std.proofs.Common.{◌≡◌, ℕ, ◌==◌, List, [], ◌∷◌, ◌++◌, Bool, true, false, not, ◌&&◌, ◌||◌, if◌then◌else◌, refl, sym, ◌∙◌, ap, subst, ne_eqb, Option, Some, None, bytes_eq}
+use Rattle.std.proofs.Common.{◌≡◌, ℕ, ◌==◌, List, [], ◌∷◌, ◌++◌, Bool, true, false, not, ◌&&◌, ◌||◌, if◌then◌else◌, refl, sym, ◌∙◌, ap, ap₂, subst, ne_eqb, Option, Some, None, bytes_eq}
 use Rattle.std.proofs.lemmas.Bool.{eqb-true, not-true}
-use Rattle.ud_model.specs.text.Bytes.{is_white, is_quote, is_word_byte, past_white, word_in_front, slash, number_sign, line_feed, space, carriage_return, star}
+use Rattle.std.proofs.Math.Bool.{and-false}
+use Rattle.ud_model.specs.text.Bytes.{is_white, is_quote, is_word_byte, are_word_bytes, past_white, word_in_front, slash, number_sign, line_feed, space, carriage_return, star}
 use Rattle.ud_model.specs.text.Lines.{NoFeed}
 use Rattle.ud_model.specs.text.Scans.{Scan}
 use Rattle.ud_model.specs.aids.Places.{Place, in_text, at_slash, in_block, at_star, in_line, in_literal, at_backslash, next, opens, shows, blank_last}
-use Rattle.ud_model.specs.sections.Directives.{cut_keyword, text, content_of, past_sign, past_sign_of, has_cut_keyword, found_behind, directive_at, leaves_keyword, is_cut_off, is_in_line, kind_of, is_keyword_front}
+use Rattle.ud_model.specs.sections.Directives.{cut_keyword, text, content_of, past_sign, past_sign_of, has_cut_keyword, found_behind, directive_at, leaves_keyword, is_cut_off, is_in_line, kind_of, is_keyword_front, begins_keyword}
 use Rattle.ud_model.specs.declared.kind.Kind.{Kind}
 use Rattle.ud_text.specs.States.{next_state, letter_f, State, letter_i, starts_other, letter_e, spliced_after, is_other_word, is_other_name, letter_l, letter_n, IsQuiet}
 use Rattle.ud_model.proofs.text.ScanLaws.{masked_after}
 
--- no keyword stands in front of these bytes, but a byte does
+-- the word is a front of a keyword, or a single slash: what follows it might make a directive
+abbrev pub is_unsure : List ℕ → Bool
+is_unsure word = bytes_eq word (slash ∷ []) || is_keyword_front word
+
+-- no keyword stands in front of these bytes, nor a front of one, but a byte does
 pub record IsOther (bytes : List ℕ) : Type 0 where
   pub first : ℕ
   pub more : List ℕ
   pub is : past_white bytes ≡ first ∷ more
   pub none : kind_of (word_in_front (first ∷ more)) ≡ None
+  pub sure : is_unsure (first ∷ more) ≡ false
 
 -- no `#` comes first, or another name follows it
 pub data Unsigned : Option (List ℕ) → Type 0 where
@@ -32,9 +38,9 @@ text_not_fresh scan e = by_sign (past_sign scan.masked) scan.fresh e
     by_sign (Some rest) true h = cc
     by_sign (Some rest) false h = refl
 
--- a scan without such a `#` is text, unless a continuation cuts it off
-pub text_unsigned : (scan : Scan) → Unsigned (past_sign scan.masked) → is_cut_off scan ≡ false → content_of scan ≡ text
-text_unsigned scan u e = by_sign (past_sign scan.masked) u
+-- a scan without such a `#` is text, also where a continuation cuts it off
+pub text_unsigned : (scan : Scan) → Unsigned (past_sign scan.masked) → content_of scan ≡ text
+text_unsigned scan u = by_sign (past_sign scan.masked) u
   where
     chosen : (f j l y : Bool) (word : List ℕ) (k : Option Kind) → y ≡ false → k ≡ None →
         (if f && j && l && y then cut_keyword else if f then directive_at scan word k else text) ≡ text
@@ -45,15 +51,14 @@ text_unsigned scan u e = by_sign (past_sign scan.masked) u
     chosen true true false false word None h m = refl
     chosen true true true false word None h m = refl
 
-    stays : (word : List ℕ) (a : ℕ) (more : List ℕ) → word ≡ a ∷ more → leaves_keyword scan word ≡ false
-    stays word a more i = ap (λ (w : List ℕ). leaves_keyword scan w) i
-        ∙ ap (λ (c : Bool). c && (bytes_eq (a ∷ more) (slash ∷ []) || is_keyword_front (a ∷ more))) e
+    stays : (word : List ℕ) (a : ℕ) (more : List ℕ) → word ≡ a ∷ more → is_unsure (a ∷ more) ≡ false → leaves_keyword scan word ≡ false
+    stays word a more i e = ap (λ (w : List ℕ). leaves_keyword scan w) i ∙ ap (λ (c : Bool). is_cut_off scan && c) e ∙ and-false (is_cut_off scan)
 
     by_sign : (o : Option (List ℕ)) → Unsigned o → (if has_cut_keyword scan o then cut_keyword else found_behind scan o) ≡ text
     by_sign None v = refl
     by_sign (Some _) (other_sign rest i) =
         chosen scan.fresh scan.joins_after (not (is_in_line scan.comment)) (leaves_keyword scan (past_white rest)) (past_white rest)
-        (kind_of (word_in_front (past_white rest))) (stays (past_white rest) i.first i.more i.is)
+        (kind_of (word_in_front (past_white rest))) (stays (past_white rest) i.first i.more i.is i.sure)
         (ap (λ (w : List ℕ). kind_of (word_in_front w)) i.is ∙ i.none)
 
 -- what is shown doesn't begin with a slash that waits for the next byte
@@ -220,6 +225,46 @@ other_word b c w v e f = by_i (b == letter_i) refl
     by_i true g = subst (λ (n : ℕ). is_other_word n c ≡ true → kind_of (n ∷ w) ≡ None) (sym (eqb-true b letter_i g)) begins_i e
     by_i false g = by_e (b == letter_e) refl g
 
+front_other : (b : ℕ) (w : List ℕ) → (b == letter_i) ≡ false → (b == letter_e) ≡ false → begins_keyword (b ∷ w) ≡ false
+front_other b w e f = rw (e, f) refl
+
+front_i : (b : ℕ) (w : List ℕ) → (b == letter_f) ≡ false → begins_keyword (letter_i ∷ b ∷ w) ≡ false
+front_i b w e = rw e refl
+
+front_e : (b : ℕ) (w : List ℕ) → (b == letter_l) ≡ false → (b == letter_n) ≡ false → begins_keyword (letter_e ∷ b ∷ w) ≡ false
+front_e b w e f = rw (e, f) refl
+
+-- nor is it a front of one
+other_front : (b c : ℕ) (w v : List ℕ) → is_other_word b c ≡ true → (is_word_byte c ≡ true → w ≡ c ∷ v) → begins_keyword (b ∷ w) ≡ false
+other_front b c w v e f = by_i (b == letter_i) refl
+  where
+    begins_i : is_other_word letter_i c ≡ true → begins_keyword (letter_i ∷ w) ≡ false
+    begins_i g =
+        let p : (is_word_byte c ≡ true) × (not (c == letter_f) ≡ true) = and_parts (is_word_byte c) (not (c == letter_f)) g in
+        subst (λ (x : List ℕ). begins_keyword (letter_i ∷ x) ≡ false) (sym (f p.0)) (front_i c v (not-true (c == letter_f) p.1))
+
+    begins_e : is_other_word letter_e c ≡ true → begins_keyword (letter_e ∷ w) ≡ false
+    begins_e g =
+        let p : ((is_word_byte c && not (c == letter_l)) ≡ true) × (not (c == letter_n) ≡ true) = and_parts (is_word_byte c && not (c == letter_l)) (not (c == letter_n)) g in
+        let q : (is_word_byte c ≡ true) × (not (c == letter_l) ≡ true) = and_parts (is_word_byte c) (not (c == letter_l)) p.0 in
+        subst (λ (x : List ℕ). begins_keyword (letter_e ∷ x) ≡ false) (sym (f q.0)) (front_e c v (not-true (c == letter_l) q.1) (not-true (c == letter_n) p.1))
+
+    by_e : (t : Bool) → (b == letter_e) ≡ t → (b == letter_i) ≡ false → begins_keyword (b ∷ w) ≡ false
+    by_e true g h = subst (λ (n : ℕ). is_other_word n c ≡ true → begins_keyword (n ∷ w) ≡ false) (sym (eqb-true b letter_e g)) begins_e e
+    by_e false g h = front_other b w h g
+
+    by_i : (t : Bool) → (b == letter_i) ≡ t → begins_keyword (b ∷ w) ≡ false
+    by_i true g = subst (λ (n : ℕ). is_other_word n c ≡ true → begins_keyword (n ∷ w) ≡ false) (sym (eqb-true b letter_i g)) begins_i e
+    by_i false g = by_e (b == letter_e) refl g
+
+no_slash : (b : ℕ) (w : List ℕ) → (b == slash) ≡ false → bytes_eq (b ∷ w) (slash ∷ []) ≡ false
+no_slash b w e = rw e refl
+
+-- so what follows it makes no directive
+other_sure : (b c : ℕ) (w v : List ℕ) → is_other_word b c ≡ true → (b == slash) ≡ false → (is_word_byte c ≡ true → w ≡ c ∷ v) → is_unsure (b ∷ w) ≡ false
+other_sure b c w v e f g =
+    ap₂ (λ (s t : Bool). s || (are_word_bytes (b ∷ w) && t)) (no_slash b w f) (other_front b c w v e g) ∙ and-false (are_word_bytes (b ∷ w))
+
 -- no byte of a word comes first
 abbrev pub NoWord : List ℕ → Type 0
 NoWord [] = Unit {0}
@@ -243,6 +288,7 @@ word_shown b [] (c ∷ tail) e n =
       more = [];
       is = rw (word_is_plain b word).0 refl;
       none = ap kind_of (word_front b [] word) ∙ other_word b c [] [] e (λ f. cc);
+      sure = other_sure b c [] [] e (word_is_plain b word).1 (λ f. cc);
     }
 word_shown b (c ∷ bytes) tail e n =
     let word : is_word_byte b ≡ true = is_other_word-first b c e in
@@ -253,10 +299,12 @@ word_shown b (c ∷ bytes) tail e n =
       none = ap kind_of (word_front b (masked_after in_text [] (c ∷ bytes)) word)
           ∙ other_word b c (word_in_front (masked_after in_text [] (c ∷ bytes))) (word_in_front (masked_after in_text [] bytes)) e
           (λ f. ap word_in_front (shown_plain c bytes (word_is_plain c f).1 (word_is_plain c f).2) ∙ word_front c (masked_after in_text [] bytes) f);
+      sure = other_sure b c (masked_after in_text [] (c ∷ bytes)) (masked_after in_text [] bytes) e (word_is_plain b word).1
+          (λ f. shown_plain c bytes (word_is_plain c f).1 (word_is_plain c f).2);
     }
 
 white_other : (b : ℕ) (bytes : List ℕ) → is_white b ≡ true → IsOther bytes → IsOther (b ∷ bytes)
-white_other b bytes w i = record { first = i.first; more = i.more; is = rw w i.is; none = i.none }
+white_other b bytes w i = record { first = i.first; more = i.more; is = rw w i.is; none = i.none; sure = i.sure }
 
 -- a name that is no keyword is shown as it is
 name_shown : (bytes tail : List ℕ) → is_other_name (bytes ++ tail) ≡ true → is_other_name tail ≡ false → NoWord tail →

@@ -9,11 +9,11 @@
 --   Steps bytes p result                  a step leads to a further place, or stops at the beginning of a line
 --
 -- Two places move on together: `at`, up to where the bytes are read, and `line`, the last beginning of a line at which it
--- was noted what is carried there. `line` may be many lines late, since every line begun after it begins outside
--- comments; it catches up when the reading stops or a block comment begins.
+-- was noted what is carried there. `line` may be many lines late, since every line begun after it begins a logical line
+-- outside comments; it catches up when the reading stops, a block comment begins or a splice joins lines.
 --
 -- Example: in `a` line feed `b /* c` with `at` before the `/`, `line` may be 0 or 2.
-use Rattle.std.specs.Prelude.{◌≡◌, ◌≤◌, ℕ, ◌+◌, List, ◌++◌, length, take, Bool, true, Result, MatchResult}
+use Rattle.std.specs.Prelude.{◌≡◌, ◌≤◌, ℕ, ◌+◌, List, ◌++◌, length, take, Bool, Result, MatchResult}
 use Rattle.ud_model.specs.aids.Places.{in_text}
 use Rattle.ud_text.specs.States.{State, state_after, IsQuiet, NoFeedInBlock, line_state, text_state, inside_state, Passed}
 use Rattle.ud_text.specs.Spans.{NoComment}
@@ -36,8 +36,8 @@ pub record ReadTo (start : State) (bytes : List ℕ) (line : ℕ) (kept : State)
   pub no_feed : NoFeedInBlock kept mid
   pub leads : state_after kept mid ≡ now
 
--- the same outside comments and literals: no comment begins from `base` on, and the logical line is white there if
--- `begins` says so
+-- the same outside comments and literals: no comment begins from `base` on, and `begins` tells whether the logical line is
+-- white there
 pub record ReadOutside (start : State) (bytes : List ℕ) (line : ℕ) (kept : State) (base : ℕ) (begins : Bool) (at : ℕ) : Type 0 where
   pub now_white : Bool
   pub so_far : ReadTo start bytes line kept at (text_state now_white)
@@ -46,9 +46,7 @@ pub record ReadOutside (start : State) (bytes : List ℕ) (line : ℕ) (kept : S
   pub plain : List ℕ
   pub mid_is : so_far.mid ≡ before ++ plain
   pub base_is : base ≡ length so_far.front + length before
-  pub base_white : Bool
-  pub base_leads : state_after kept before ≡ text_state base_white
-  pub base_begins : begins ≡ true → base_white ≡ true
+  pub base_leads : state_after kept before ≡ text_state begins
   pub no_comment : NoComment in_text plain
 
 -- the state at the beginning of a line up to which the text is read so far

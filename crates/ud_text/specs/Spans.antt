@@ -6,13 +6,14 @@
 --   LastBegins bytes n          the last line of the bytes begins after the first n of them
 --   TextSpan white bytes        the bytes lead from outside comments and literals to outside them, and have no comment
 --   LineSpan white bytes        the bytes lead from there to the beginning of a line
+--   IsSplice bytes              a backslash and the ending of a line
 --   SeenWhite bytes begins v    looking back over the bytes tells whether the logical line is white
 --
--- Each span is read quietly, and none has a line feed in a block comment (specs/States.antt).
+-- Each span but a splice is read quietly, and none has a line feed in a block comment (specs/States.antt).
 --
 -- Example: `"a\"b"` is a `TextSpan`, and `// a` with its line feed a `LineSpan`.
 use Rattle.std.specs.Prelude.{◌≡◌, ◌≤◌, ℕ, ◌==◌, List, [], ◌∷◌, ◌++◌, length, take, drop, Bool, true, false, ◌&&◌, ◌||◌}
-use Rattle.ud_model.specs.text.Bytes.{line_feed, backslash, number_sign, slash, star, is_quote, is_white, are_white}
+use Rattle.ud_model.specs.text.Bytes.{line_feed, carriage_return, backslash, number_sign, slash, star, is_quote, is_white, are_white}
 use Rattle.ud_model.specs.text.Lines.{NoFeed}
 use Rattle.ud_model.specs.aids.Places.{Place, in_text, next, opens}
 use Rattle.ud_text.specs.States.{state_after, IsQuiet, NoFeedInBlock, text_state}
@@ -71,10 +72,15 @@ pub record LineSpan (white : Bool) (bytes : List ℕ) : Type 0 where
   pub quiet : IsQuiet (text_state white) bytes
   pub no_feed : NoFeedInBlock (text_state white) bytes
 
--- looking back over bytes without a comment tells whether the logical line is white after them; if they are all white,
--- only when it is known to be white before them
+-- a backslash and the ending that it deletes (C11 5.1.1.2, phase 2)
+pub data IsSplice : List ℕ → Type 0 where
+  splice_feed : IsSplice (backslash ∷ line_feed ∷ [])
+  splice_return_feed : IsSplice (backslash ∷ carriage_return ∷ line_feed ∷ [])
+
+-- looking back over bytes without a comment tells whether the logical line is white after them; if they are all white, it
+-- is as it was before them
 pub data SeenWhite (bytes : List ℕ) (begins : Bool) : Bool → Type 0 where
-  all_white : begins ≡ true → are_white bytes ≡ true → SeenWhite bytes begins true
+  all_white : are_white bytes ≡ true → SeenWhite bytes begins begins
   new_line : (front rest : List ℕ) → bytes ≡ front ++ line_feed ∷ rest → are_white rest ≡ true → SeenWhite bytes begins true
   black : (front : List ℕ) (b : ℕ) (rest : List ℕ) → bytes ≡ front ++ b ∷ rest → is_white b ≡ false →
       (b == line_feed) ≡ false → are_white rest ≡ true → SeenWhite bytes begins false

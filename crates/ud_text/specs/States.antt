@@ -8,19 +8,23 @@
 --   IsQuiet state bytes          read from there, no splice counts and no `#` may belong to a directive
 --   NoFeedInBlock state bytes    read from there, no line feed stands in a block comment
 --   line_state place white       the state at the beginning of a line
---   can_start place white        whole lines can be read from there
---   Passed state bytes now       the bytes are whole lines, and lead quietly from one state to the other
+--   can_start place              whole lines can be read from there
+--   carried_at place white       what a scanner carries to a line that begins there
+--   Passed state bytes now       the bytes are whole lines, all text, and lead from one state to the other
 --
 -- What `Places` says of a joined text is said here of the bytes as they stand in their lines. That is the same as long as
 -- they are quiet: a carriage return before a line feed changes neither place nor whiteness, and nor does a splice in a
--- block comment. A splice that would change them isn't quiet.
+-- block comment. A splice that would change them isn't quiet. Lines that such a splice joins are passed one after another:
+-- outside comments and literals, on a logical line that isn't white, the next line begins where the text leaves off.
 --
 -- Example: `x /* c` with its line feed leads from `text_state true` quietly to `block_state false`.
-use Rattle.std.specs.Prelude.{◌≡◌, ℕ, ◌==◌, List, [], ◌∷◌, Bool, true, false, not, ◌&&◌, if◌then◌else◌}
+use Rattle.std.specs.Prelude.{◌≡◌, ℕ, ◌==◌, List, [], ◌∷◌, Bool, true, false, not, ◌&&◌, ◌||◌, if◌then◌else◌}
 use Rattle.ud_model.specs.text.Bytes.{line_feed, carriage_return, backslash, number_sign, past_white, is_word_byte}
 use Rattle.ud_model.specs.text.Scanning.{is_block}
 use Rattle.ud_model.specs.aids.Places.{Place, in_text, at_slash, in_block, at_star, in_line, in_literal, at_backslash, next, whitens, place_kind}
-use Rattle.ud_text.specs.Passing.{EndsLine}
+use Rattle.ud_model.specs.declared.kind.Mode.TheVariants.{C}
+use Rattle.ud_text.specs.Carrying.{Carried}
+use Rattle.ud_text.specs.Passing.{EndsLine, PassesText}
 
 -- how far bytes are read
 pub record State : Type 0 where
@@ -140,18 +144,31 @@ block_state white = line_state in_block white
 abbrev pub inside_state : Bool → Bool → State
 inside_state starred white = record { place = if starred then at_star else in_block; white = white; spliced = false }
 
--- whole lines can be read from here: a logical line begins, or a block comment goes on
-abbrev pub can_start : Place → Bool → Bool
-can_start in_text white = white
-can_start in_block white = true
-can_start at_slash white = false
-can_start at_star white = false
-can_start in_line white = false
-can_start (in_literal quote) white = false
-can_start (at_backslash quote) white = false
+-- whole lines can be read from here: outside comments and literals, or in a block comment
+abbrev pub can_start : Place → Bool
+can_start in_text = true
+can_start in_block = true
+can_start at_slash = false
+can_start at_star = false
+can_start in_line = false
+can_start (in_literal quote) = false
+can_start (at_backslash quote) = false
 
--- the bytes are whole lines, and lead quietly from one state to the other
+-- the line before joins one that begins so: a block comment goes on, or a logical line that isn't white
+abbrev pub joins_at : Place → Bool → Bool
+joins_at place white = is_block (place_kind place) || not white
+
+-- what is carried to a line that begins so
+abbrev pub carried_at : Place → Bool → Carried
+carried_at place white = record { place = place; white = white; joins = joins_at place white }
+
+-- the state is one at the beginning of a line
+pub record AtLine (s : State) : Type 0 where
+  pub is : s ≡ line_state s.place s.white
+  pub starts : can_start s.place ≡ true
+
+-- the bytes are whole lines, all text in C mode, and lead from the one state to the other
 pub record Passed (start : State) (bytes : List ℕ) (now : State) : Type 0 where
   pub ends : EndsLine bytes
-  pub quiet : IsQuiet start bytes
-  pub leads : state_after start bytes ≡ now
+  pub passes : PassesText C (carried_at start.place start.white) (carried_at now.place now.white) bytes
+  pub at_line : AtLine now

@@ -8,14 +8,14 @@
 ghost use Rattle.std.specs.Prelude.{◌≡◌, ◌≤◌, ◌<◌, ◌+◌, Bool, [], ◌∷◌, length, take, drop, true, IfOk, IfErr, MatchResult};
 ghost use Rattle.ud_model.specs.text.Bytes.{slash, star, number_sign};
 ghost use Rattle.ud_text.specs.States.{State, block_state, can_start};
-ghost use Rattle.ud_text.specs.Spans.{NoPair};
+ghost use Rattle.ud_text.specs.Spans.{NoPair, IsSplice};
 ghost use Rattle.ud_text.specs.Progress.{ReadTo, state_of, InOrder, ReadBy, PassedBy, InBlock, Steps};
 ghost use Rattle.ud_text.specs.LineViews.{place_of};
 
 use crate::masking::{Place, Reached};
 use crate::searching::{first_pair, first_special, is_special, line_begin};
 use crate::signs::{is_text_sign, line_white};
-use crate::spans::{comment_span, text_span};
+use crate::spans::{comment_span, splice_span, text_span};
 
 /// The beginning of a line.
 #[derive(Clone, Copy)]
@@ -33,13 +33,13 @@ struct Progress {
     line: LineStart,
     /// No comment begins from this place on.
     base: usize,
-    /// The logical line is known to be white at that place.
+    /// Whether the logical line is white at that place.
     begins: bool,
     /// The bytes before this place are read.
     at: usize,
 }
 
-/// The last line that begins up to this place. Each line begun after `line` begins outside comments.
+/// The last line that begins up to this place. Each line begun after `line` begins a logical line outside comments.
 fn last_line(lines: &[u8], line: LineStart, at: usize) -> LineStart
     requires order { line.at ≤ at }
     requires within { at ≤ length lines.now }
@@ -113,14 +113,14 @@ fn close_block(lines: &[u8], line: LineStart, at: usize, white: bool) -> Result<
         return Ok(Progress {
             line: last,
             base: at + count + 2,
-            begins: false,
+            begins: white,
             at: at + count + 2,
         });
     }
     Err(last)
 }
 
-/// Reads a block comment. Stops if it isn't seen whether the logical line is white before it.
+/// Reads a block comment.
 fn block_step(lines: &[u8], p: Progress) -> Result<Progress, LineStart>
     requires order { InOrder p lines.now }
     requires some { 2 ≤ length (drop p.at lines.now) }
@@ -130,10 +130,8 @@ fn block_step(lines: &[u8], p: Progress) -> Result<Progress, LineStart>
     ensures read { Steps lines.now p result }
 {
     let last = last_line(lines, p.line, p.at);
-    match line_white(&lines[p.base..p.at], p.begins) {
-        None => Err(last),
-        Some(white) => close_block(lines, last, p.at + 2, white),
-    }
+    let white = line_white(&lines[p.base..p.at], p.begins);
+    close_block(lines, last, p.at + 2, white)
 }
 
 /// Reads a line comment with its line feed.
@@ -193,6 +191,30 @@ fn text_step(lines: &[u8], p: Progress) -> Result<Progress, LineStart>
     }
 }
 
+/// Reads a splice of so many bytes: the next line goes on with the logical line. Stops if that is white so far.
+fn splice_step(lines: &[u8], p: Progress, count: usize) -> Result<Progress, LineStart>
+    requires order { InOrder p lines.now }
+    requires some { (0 < count) × (count ≤ length (drop p.at lines.now)) }
+    requires splice { IsSplice (take count (drop p.at lines.now)) }
+    ensures further { IfOk result (λ q. InOrder q lines.now × (p.at < q.at)) }
+    ensures bound { IfErr result (λ stop. stop.at ≤ length lines.now) }
+    ensures read { Steps lines.now p result }
+{
+    if line_white(&lines[p.base..p.at], p.begins) {
+        return Err(last_line(lines, p.line, p.at));
+    }
+    let at = p.at + count;
+    let place = Place::Text;
+    let white = false;
+    let reached = Reached { place, white };
+    Ok(Progress {
+        line: LineStart { at, reached },
+        base: at,
+        begins: false,
+        at,
+    })
+}
+
 /// Reads what begins with a byte that may matter.
 fn special_step(lines: &[u8], p: Progress) -> Result<Progress, LineStart>
     requires order { InOrder p lines.now }
@@ -208,6 +230,8 @@ fn special_step(lines: &[u8], p: Progress) -> Result<Progress, LineStart>
         comment_step(lines, p)
     } else if rest.starts_with(b"#") {
         sign_step(lines, p)
+    } else if let Some(count) = splice_span(rest) {
+        splice_step(lines, p, count)
     } else {
         text_step(lines, p)
     }
@@ -252,7 +276,7 @@ fn pass_from(lines: &[u8], begun: Progress) -> LineStart
 /// Reads as many of these lines as are seen to be text, from what the lines before them leave. Answers the beginning of
 /// the first line that isn't read.
 pub(crate) fn pass_run(reached: Reached, lines: &[u8]) -> LineStart
-    requires starts { can_start (place_of reached.place) reached.white ≡ true }
+    requires starts { can_start (place_of reached.place) ≡ true }
     ensures bound { result.at ≤ length lines.now }
     ensures passed { PassedBy (state_of reached) lines.now result }
 {
@@ -262,7 +286,7 @@ pub(crate) fn pass_run(reached: Reached, lines: &[u8]) -> LineStart
             let begun = Progress {
                 line,
                 base: 0,
-                begins: true,
+                begins: reached.white,
                 at: 0,
             };
             pass_from(lines, begun)

@@ -17,7 +17,7 @@ ghost use Rattle.ud_text.specs.LineViews.{as_line, as_scan, place_of, shown_in};
 ghost use Rattle.ud_text.specs.Carrying.{Carried, Carries, carried_by, nothing_carried, scan_with, ends_in_block};
 ghost use Rattle.ud_text.specs.Lending.{ReadsLine};
 ghost use Rattle.ud_text.specs.Passing.{EndsLine, PassesText};
-ghost use Rattle.ud_text.specs.States.{can_start};
+ghost use Rattle.ud_text.specs.States.{can_start, joins_at};
 ghost use Rattle.ud_model.specs.text.Scanning.{is_block};
 
 use crate::line::Line;
@@ -203,14 +203,21 @@ fn scan_line<'a>(
     }
 }
 
-/// Whether many lines can be read from here: the next one begins a logical line, or goes on with a block comment.
+/// Whether the line before joins one that begins so: a block comment goes on, or a logical line that isn't white.
+fn joins_at(reached: Reached) -> bool
+    ensures { result ≡ joins_at (place_of reached.place) reached.white }
+{
+    is_in_block(reached.place) || !reached.white
+}
+
+/// Whether many lines can be read from here: the next one begins a logical line, or goes on with a block comment or with a
+/// logical line that isn't white, outside comments and literals.
 fn can_pass(carry: Carry) -> bool
-    ensures starts { result ≡ true → can_start (place_of carry.reached.place) carry.reached.white ≡ true }
-    ensures joins { result ≡ true → carry.joins ≡ is_block (place_kind (place_of carry.reached.place)) }
+    ensures starts { result ≡ true → can_start (place_of carry.reached.place) ≡ true }
+    ensures joins { result ≡ true → carry.joins ≡ joins_at (place_of carry.reached.place) carry.reached.white }
 {
     match carry.reached.place {
-        Place::Text => carry.reached.white && !carry.joins,
-        Place::Block => carry.joins,
+        Place::Text | Place::Block => carry.joins == joins_at(carry.reached),
         _ => false,
     }
 }
@@ -225,7 +232,7 @@ fn pass_code(carry: Carry, lines: &[u8]) -> (usize, Carry)
         return (0, carry);
     }
     let next = pass_run(carry.reached, lines);
-    let joins = is_in_block(next.reached.place);
+    let joins = joins_at(next.reached);
     let left = Carry {
         reached: next.reached,
         joins,

@@ -2,7 +2,7 @@
 //!
 //! It doesn't if a word that is no keyword follows, nor if its logical line isn't white before it (C11 6.10).
 
-ghost use Rattle.std.specs.Prelude.{◌≡◌, ◌≤◌, ◌<◌, ◌-◌, ◌⊎◌, length, drop, slice_index, true, false, IfSome};
+ghost use Rattle.std.specs.Prelude.{◌≡◌, ◌≤◌, ◌<◌, ◌-◌, ◌⊎◌, length, drop, slice_index, true, false};
 ghost use Rattle.ud_model.specs.text.Bytes.{is_white, are_white};
 ghost use Rattle.ud_text.specs.States.{is_other_word, is_other_name};
 ghost use Rattle.ud_text.specs.Spans.{SeenWhite};
@@ -49,31 +49,22 @@ fn white_begin(bytes: &[u8]) -> usize
     at
 }
 
-/// Whether the logical line is white after these bytes, which have no comment. `begins` tells that it is white before
-/// them. No answer if they are white themselves, and what stands before them isn't known.
-pub(crate) fn line_white(bytes: &[u8], begins: bool) -> Option<bool>
-    ensures { IfSome result (λ white. SeenWhite bytes.now begins white) }
+/// Whether the logical line is white after these bytes, which have no comment. `begins` tells whether it is white before
+/// them.
+pub(crate) fn line_white(bytes: &[u8], begins: bool) -> bool
+    ensures { SeenWhite bytes.now begins result }
 {
     let at = white_begin(bytes);
-    if at > 0 {
-        Some(bytes[at - 1] == b'\n')
-    } else if begins {
-        Some(true)
-    } else {
-        None
+    if at == 0 {
+        return begins;
     }
+    bytes[at - 1] == b'\n'
 }
 
 /// Whether a `#` is seen to belong to no directive, by what stands before it on its line and by the name after it.
-/// `begins` tells that the logical line is white before the former.
+/// `begins` tells whether the logical line is white before the former.
 pub(crate) fn is_text_sign(before: &[u8], begins: bool, name: &[u8]) -> bool
     ensures { result ≡ true → (is_other_name name.now ≡ true) ⊎ SeenWhite before.now begins false }
 {
-    if is_other_name(name) {
-        return true;
-    }
-    match line_white(before, begins) {
-        Some(white) => !white,
-        None => false,
-    }
+    is_other_name(name) || !line_white(before, begins)
 }

@@ -5,7 +5,7 @@
 
 ghost use Rattle.std.specs.Prelude.{◌≡◌, ◌≤◌, ◌<◌, Bool, [], ◌∷◌, length, take, slice_index, true, false, IfSome, OnSome};
 ghost use Rattle.ud_model.specs.text.Bytes.{slash, backslash, is_quote};
-ghost use Rattle.ud_text.specs.Spans.{is_special, TextSpan, LineSpan};
+ghost use Rattle.ud_text.specs.Spans.{is_special, TextSpan, LineSpan, IsSplice};
 
 use crate::lanes::first_near;
 use crate::searching::is_special;
@@ -58,6 +58,20 @@ fn backslash_span(rest: &[u8]) -> Option<usize>
         return None;
     }
     Some(2)
+}
+
+/// How many bytes a splice in front has: a backslash and the ending that it deletes (C11 5.1.1.2, phase 2).
+pub(crate) fn splice_span(rest: &[u8]) -> Option<usize>
+    ensures bound { IfSome result (λ n. (0 < n) × (n ≤ length rest.now)) }
+    ensures splice { IfSome result (λ n. IsSplice (take n rest.now)) }
+{
+    if rest.starts_with(b"\\\n") {
+        Some(2)
+    } else if rest.starts_with(b"\\\r\n") {
+        Some(3)
+    } else {
+        None
+    }
 }
 
 /// A literal with this quote, up to the quote that closes it (C11 6.4.4.4 and 6.4.5). No answer if its line ends before.

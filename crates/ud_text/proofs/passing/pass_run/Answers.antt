@@ -5,7 +5,7 @@ use Rattle.ud_text.proofs.StepLemmas.{start_read, start_block}
 use Rattle.ud_text.proofs.passing.pass_run.Goals as goal
 
 pub returns-in-Text-clause-passed : goal.returns-in-Text-clause-passed
-returns-in-Text-clause-passed c = c.pass_from.ensures.passed _ (start_read c.args.lines.now (place_of c.args.reached.place) c.args.reached.white (ap place_of c.in-Text.is) c.requires.starts)
+returns-in-Text-clause-passed c = c.pass_from.ensures.passed _ (start_read c.args.lines.now (place_of c.args.reached.place) c.args.reached.white (ap place_of c.in-Text.is))
 
 pub returns-in-Ok-clause-passed : goal.returns-in-Ok-clause-passed
 returns-in-Ok-clause-passed c =

@@ -17,5 +17,5 @@ returns-then-not-can_pass-clause-ends c = begins_ends _ at_start
 pub returns-clause-passes : goal.returns-clause-passes
 returns-clause-passes c =
     passes_run (place_of c.args.carry.reached.place) c.args.carry.reached.white c.args.carry.joins (take c.pass_run-next.result.at c.args.lines.now)
-    (place_of c.pass_run-next.result.reached.place) c.pass_run-next.result.reached.white c.is_in_block-joins.result
-    (c.if-not-can_pass.ensures.starts refl) (c.if-not-can_pass.ensures.joins refl) c.is_in_block-joins.ensures c.pass_run-next.ensures.passed
+    (place_of c.pass_run-next.result.reached.place) c.pass_run-next.result.reached.white c.joins_at-joins.result
+    (c.if-not-can_pass.ensures.joins refl) c.joins_at-joins.ensures c.pass_run-next.ensures.passed
