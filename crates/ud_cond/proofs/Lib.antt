@@ -3,6 +3,7 @@ mod SortedLemmas
 mod MarkLemmas
 pub mod ReadingLemmas
 pub mod AskingLemmas
+pub mod RowLemmas
 pub mod StackLemmas
 pub mod NamedLemmas
 pub mod WorthLemmas

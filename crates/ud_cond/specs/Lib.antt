@@ -5,4 +5,5 @@ pub mod CondViews
 pub mod Worth
 pub mod Stacks
 pub mod Asking
+pub mod Rows
 pub mod Naming

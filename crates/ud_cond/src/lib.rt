@@ -15,6 +15,7 @@ mod marks;
 mod naming;
 mod operators;
 mod parsing;
+mod rows;
 mod stacks;
 mod symbols;
 mod tokens;

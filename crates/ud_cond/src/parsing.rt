@@ -15,6 +15,7 @@ ghost use Rattle.ud_cond.specs.Stacks.{Suffice, weight, state, pending};
 ghost use Rattle.ud_cond.specs.Worth.{worth_in};
 
 use crate::operators::{is_prefix, level};
+use crate::rows::row;
 use crate::stacks::Stacks;
 use crate::tokens::{Next, Token, next_token};
 use crate::values::{Scope, Value, constant, defined, named};
@@ -77,7 +78,7 @@ fn enclosed<'a>(scope: &Scope<'_>, inside: &'a [u8]) -> Option<(Value, &'a [u8])
 }
 
 /// What a `defined` is worth by the name after it, in parentheses or not, and what follows the name.
-fn definition<'a>(scope: &Scope<'_>, text: &'a [u8]) -> Option<(Value, &'a [u8])>
+pub(crate) fn definition<'a>(scope: &Scope<'_>, text: &'a [u8]) -> Option<(Value, &'a [u8])>
     ensures { Asks (worth_in scope.now) text.now (option_map (λ r. (r.0, r.1.now)) result) }
 {
     match next_token(text) {
@@ -212,9 +213,9 @@ fn read<const BYTES: usize, const OPERANDS: usize>(scope: &Scope<'_>, text: &[u8
     }
 }
 
-/// What the expression of a text is worth; `None` where the text isn't one expression.
-#[inline(always)]
-pub(crate) fn whole(scope: &Scope<'_>, text: &[u8]) -> Option<Value>
+/// What the expression of a text is worth, read with stacks that suffice for it.
+#[inline(never)]
+fn by_stacks(scope: &Scope<'_>, text: &[u8]) -> Option<Value>
     requires fits { length text.now ≤ LINE_BYTES }
     ensures { result ≡ spec.reads (worth_in scope.now) (spec.needs []) text.now }
 {
@@ -225,4 +226,16 @@ pub(crate) fn whole(scope: &Scope<'_>, text: &[u8]) -> Option<Value>
         0..=LONG_BYTES => read::<LONG_BYTES, LONG_OPERANDS>(scope, text),
         _ => read::<LINE_BYTES, LINE_OPERANDS>(scope, text),
     }
+}
+
+/// What the expression of a text is worth; `None` where the text isn't one expression.
+#[inline(always)]
+pub(crate) fn whole(scope: &Scope<'_>, text: &[u8]) -> Option<Value>
+    requires fits { length text.now ≤ LINE_BYTES }
+    ensures { result ≡ spec.reads (worth_in scope.now) (spec.needs []) text.now }
+{
+    if let Some(value) = row(scope, text) {
+        return Some(value);
+    }
+    by_stacks(scope, text)
 }

@@ -1,0 +1,46 @@
+-- Operands of a row, one way each: an operand that is read means the same in every state that needs one.
+use Rattle.std.proofs.Common.{◌≡◌, ℕ, List, ◌∷◌, Option, Some, None, IfSome, option_map, refl, sym, ◌∙◌, ap, arith}
+use Rattle.ud_model.specs.conditions.Tokens.{number, name, defined, operator, opening, closing, Token, Next, at_end, unreadable, found, next_token}
+use Rattle.ud_model.specs.aids.Parsing.{Meaning, Frame, State, before, step, finish, reads, needs, has, asks}
+use Rattle.ud_model.specs.declared.operator.Operator.{Operator}
+use Rattle.ud_model.specs.declared.operator.Operator.TheVariants.{Not}
+use Rattle.ud_cond.specs.Asking.{Asked, Comes}
+use Rattle.ud_model.proofs.conditions.TokenLemmas.{shorter}
+use Rattle.ud_cond.proofs.ReadingLemmas.{reads_on, reads-on, reads-found}
+
+module _ {A : Type 0} (m : Meaning A) where
+  -- a token that is an operand
+  pub needs-one : (text rest : List ℕ) (t : Token) (v : A) → ((s : List (Frame A)) → step m (needs s) t ≡ has v s) → found t rest ≡ next_token text → Asked m needs text v rest
+  needs-one text rest t v e f = record { same = λ s. reads-found m (needs s) text t rest (sym f) ∙ ap (λ q. reads m q rest) (e s); shorter = shorter text rest t (sym f) }
+
+  -- `defined` and the name after it
+  pub needs-defined : (text rest : List ℕ) (v : A) (end : List ℕ) → found defined rest ≡ next_token text → Asked m asks rest v end → Asked m needs text v end
+  needs-defined text rest v end f h = record {
+    same = λ s. reads-found m (needs s) text defined rest (sym f) ∙ h.same s;
+    shorter = omega (arith, shorter text rest defined (sym f), h.shorter);
+  }
+
+  pub needs-definition : {B : Type 0} (f : B → List ℕ) (text rest : List ℕ) (r : Option (A × B)) → found defined rest ≡ next_token text → Comes m asks rest (option_map (λ q. (q.0, f q.1)) r) → IfSome r (λ q. Asked m needs text q.0 (f q.1))
+  needs-definition f text rest None e h = tt
+  needs-definition f text rest (Some q) e h = needs-defined text rest q.0 (f q.1) e h
+
+  before_on : (s : List (Frame A)) (o : Operator) (v : A) (x : Next) → reads_on m (has v (before o ∷ s)) x ≡ reads_on m (has (m.unary o v) s) x
+  before_on s o v at_end = refl
+  before_on s o v unreadable = refl
+  before_on s o v (found (number w) rest) = refl
+  before_on s o v (found (name n a) rest) = refl
+  before_on s o v (found defined rest) = refl
+  before_on s o v (found (operator p) rest) = refl
+  before_on s o v (found opening rest) = refl
+  before_on s o v (found closing rest) = refl
+
+  -- an operator before an operand takes it whatever comes next
+  pub reads-before : (s : List (Frame A)) (o : Operator) (v : A) (text : List ℕ) → reads m (has v (before o ∷ s)) text ≡ reads m (has (m.unary o v) s) text
+  reads-before s o v text = reads-on m (has v (before o ∷ s)) text ∙ before_on s o v (next_token text) ∙ sym (reads-on m (has (m.unary o v) s) text)
+
+  -- `!` and an operand
+  pub needs-not : (text behind : List ℕ) (v : A) (rest : List ℕ) → next_token text ≡ found (operator Not) behind → Asked m needs behind v rest → Asked m needs text (m.unary Not v) rest
+  needs-not text behind v rest f h = record {
+    same = λ s. reads-found m (needs s) text (operator Not) behind f ∙ h.same (before Not ∷ s) ∙ reads-before s Not v rest;
+    shorter = omega (arith, shorter text behind (operator Not) f, h.shorter);
+  }
