@@ -2,6 +2,7 @@ pub mod SendingLemmas
 pub mod NameLemmas
 pub mod ReaderLemmas
 pub mod PassLemmas
+pub mod LeftLemmas
 pub mod PrinterLemmas
 pub mod RunPrintLemmas
 pub mod TakingLemmas

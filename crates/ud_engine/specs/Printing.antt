@@ -4,10 +4,11 @@
 --   differs_in listing piece xs t   some line's piece isn't the line itself; if names are listed, none is
 --   HasPrinted stands piece_of p o piece xs t    these lines were read and printed
 --   PrintsLine .. l put ..          the line l too: its piece was put after the run, or it is the line itself, and wasn't
+--   IsLeftOf left ending            nothing is left of a line with this ending, or the ending is
 --   printed_of passed bytes         what is printed of lines that were read at once, of these bytes
 --   PrintsRun .. ls more            the lines ls too, and this is printed of them
 --   PrintFails .. l f ..            the line is faulty, or a write failed within the bytes up to its piece
-use Rattle.std.specs.Prelude.{◌≡◌, ℕ, List, [], ◌∷◌, ◌++◌, take, map, Bool, true, false, not, bytes_eq, if◌then◌else◌, Option, Some, None}
+use Rattle.std.specs.Prelude.{◌≡◌, ◌⊎◌, ℕ, List, [], ◌∷◌, ◌++◌, take, map, Bool, true, false, not, bytes_eq, if◌then◌else◌, Option, Some, None}
 use Rattle.std.specs.List.{concat}
 use Rattle.ud_model.specs.text.Lines.{Line, text_of}
 use Rattle.ud_model.specs.text.Scans.{Reading}
@@ -68,6 +69,10 @@ IsPut false old new gathered left run more own = (new ≡ old) × (left ≡ gath
 -- a line's piece was put after the run before it, if it isn't the line itself
 abbrev pub ShowsLine : Bool → Option (List ℕ) → Option (List ℕ) → List ℕ → List ℕ → List ℕ → List ℕ → List ℕ → Type 0
 ShowsLine put old new gathered left run piece own = (put ≡ not (bytes_eq piece own)) × IsPut put old new gathered left run piece own
+
+-- nothing is left of a line, or its ending
+abbrev pub IsLeftOf : List ℕ → List ℕ → Type 0
+IsLeftOf left ending = (left ≡ []) ⊎ (left ≡ ending)
 
 -- the line was read and printed too
 pub record PrintsLine {S : Type 0} (stands : S → List Judged → Type 0) (piece_of : S → List Judged → Judged → List ℕ) (p : LinePrinter S) (o : Options)

@@ -1,6 +1,6 @@
 //! Reading lines, and printing what is left of them.
 
-ghost use Rattle.std.specs.Prelude.{◌≡◌, ◌∷◌, [], ◌++◌, ◌≤◌, List, ℕ, suc, length, take, IfOk, IfErr, IfSome, IfNone, OnOk, true, false, is_none};
+ghost use Rattle.std.specs.Prelude.{◌≡◌, bytes_eq, ◌∷◌, [], ◌++◌, ◌≤◌, List, ℕ, suc, length, take, IfOk, IfErr, IfSome, IfNone, OnOk, true, false, is_none};
 ghost use Rattle.ud_model.specs.text.Lines.{NoFeed, text_of, whole_lines, numbered_from};
 ghost use Rattle.ud_model.specs.text.Scans.{Reading};
 ghost use Rattle.ud_model.specs.sections.Tree.{Item, Tree, closed, nothing};
@@ -16,7 +16,7 @@ ghost use Rattle.ud_text.specs.Skipping.{CanSkip};
 ghost use Rattle.ud_sections.specs.Limits.{IsWithin};
 ghost use Rattle.ud_sections.specs.Sections.{end_told};
 ghost use Rattle.ud_sections.specs.StepViews.{judged, HoldsKeyword};
-ghost use Rattle.ud_engine.specs.Printing.{ShowsLine, lister_of, printed_of};
+ghost use Rattle.ud_engine.specs.Printing.{ShowsLine, IsLeftOf, lister_of, printed_of};
 ghost use Rattle.ud_engine.specs.Reading.{skipped};
 ghost use Rattle.ud_engine.specs.Refusing.{LeavesOutput};
 ghost use Rattle.ud_engine.specs.Watching.{AppendsFront};
@@ -28,7 +28,7 @@ use crate::watched::Watched;
 use std::io::Write;
 use ud_cond::Symbols;
 use ud_model::{Listing, Settings};
-use ud_sections::{Lister, Run, SectionFault, Show, Step};
+use ud_sections::{Left, Lister, Run, SectionFault, Show, Step};
 use ud_text::{Line, Lines};
 
 /// Reads the lines of a text in order, and prints what is left of each, or lists its names.
@@ -86,6 +86,7 @@ impl<S: Show> LinePrinter<S> {
     /// # Errors
     /// `Section` if the line is faulty: nothing is put. `Write` if a write fails: a front of all bytes to be written up to
     /// the line's is written.
+    #[inline(always)]
     pub(crate) fn print<W: Write>(
         &mut self,
         line: &Line<'_>,
@@ -229,6 +230,81 @@ impl<S: Show> LinePrinter<S> {
 /// `None` if a write fails: a front of all these bytes is written, and `out` has failed.
 #[inline(always)]
 fn show_line<S: Show, W: Write>(
+    show: &mut S,
+    line: &Line<'_>,
+    step: Step,
+    run: &[u8],
+    output: &mut Output,
+    out: &mut Watched<W>,
+) -> Option<bool>
+    requires works { out.old.failed ≡ false }
+    requires keyword { HoldsKeyword step line.now }
+    ensures stands { (before : List Judged) → S.stands show.old before → S.stands show.new (before ++ judged line.now step ∷ []) }
+    ensures stays { (before : List Judged) → (j : Judged) → S.piece show.new before j ≡ S.piece show.old before j }
+    ensures failed { out.new.failed ≡ is_none result }
+    ensures none { IfNone result ((before : List Judged) → S.stands show.old before →
+        AppendsFront (W.contents out.old.inner) (W.contents out.new.inner) (output.old ++ (run.now ++ S.piece show.old before (judged line.now step)))) }
+    ensures some { IfSome result (λ shown. (before : List Judged) → S.stands show.old before →
+        ShowsLine shown (W.contents out.old.inner) (W.contents out.new.inner) output.old output.new run.now
+        (S.piece show.old before (judged line.now step)) (text_of (as_line line.now))) }
+{
+    match show.left(step.verdict) {
+        Left::Whole => Some(false),
+        Left::Nothing => put_left(line, &[], run, output, out),
+        Left::Ending => put_left(line, line.ending, run, output, out),
+        Left::Parts => show_parts(show, line, step, run, output, out),
+    }
+}
+
+/// Puts what is left of a line, nothing or its ending, after the run of bytes before it, unless that is the line itself, and
+/// answers whether it was put.
+///
+/// # Errors
+/// As `show_line`.
+#[inline(always)]
+fn put_left<W: Write>(
+    line: &Line<'_>,
+    left: &[u8],
+    run: &[u8],
+    output: &mut Output,
+    out: &mut Watched<W>,
+) -> Option<bool>
+    requires works { out.old.failed ≡ false }
+    requires left { IsLeftOf left.now line.now.ending.now }
+    ensures failed { out.new.failed ≡ is_none result }
+    ensures none { IfNone result (AppendsFront (W.contents out.old.inner) (W.contents out.new.inner) (output.old ++ (run.now ++ left.now))) }
+    ensures some { IfSome result (λ shown.
+        ShowsLine shown (W.contents out.old.inner) (W.contents out.new.inner) output.old output.new run.now left.now (text_of (as_line line.now))) }
+{
+    if is_line(left, line) {
+        return Some(false);
+    }
+    let run_is_put = output.put(run, out);
+    if !run_is_put {
+        return None;
+    }
+    if !output.put(left, out) {
+        return None;
+    }
+    Some(true)
+}
+
+/// Whether what is left of a line, nothing or its ending, is the line itself.
+#[inline(always)]
+fn is_line(left: &[u8], line: &Line<'_>) -> bool
+    requires { IsLeftOf left.now line.now.ending.now }
+    ensures { result ≡ bytes_eq left.now (text_of (as_line line.now)) }
+{
+    left.len() == line.body.len() + line.ending.len()
+}
+
+/// Puts the parts that a printer makes of the next line after the run of bytes before it, unless they are the line itself,
+/// and answers whether they were put.
+///
+/// # Errors
+/// As `show_line`.
+#[inline(never)]
+fn show_parts<S: Show, W: Write>(
     show: &mut S,
     line: &Line<'_>,
     step: Step,

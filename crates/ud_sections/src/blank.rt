@@ -1,7 +1,7 @@
 //! Printing removed lines as blank ones.
 
+use crate::left::Left;
 use crate::pieces::Pieces;
-use crate::run::Run;
 use crate::show::Show;
 use crate::step::Step;
 use ud_model::Verdict;
@@ -35,10 +35,12 @@ impl Show for Blank {
         Pieces::alone(line, step, line.ending)
     }
 
-    fn run(&self, verdict: Verdict) -> Run {
+    #[inline(always)]
+    fn left(&self, verdict: Verdict) -> Left {
         match verdict {
-            Verdict::Keep => Run::Copied,
-            _ => Run::OneByOne,
+            Verdict::Keep => Left::Whole,
+            Verdict::Remove => Left::Ending,
+            _ => Left::Parts,
         }
     }
 }

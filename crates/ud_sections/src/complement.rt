@@ -3,8 +3,8 @@
 ghost use Rattle.std.specs.Prelude.{◌≡◌};
 ghost use Rattle.ud_model.specs.answer.Printing.{turned};
 
+use crate::left::Left;
 use crate::pieces::Pieces;
-use crate::run::Run;
 use crate::show::Show;
 use crate::step::Step;
 use ud_model::Verdict;
@@ -44,12 +44,14 @@ impl<S: Show> Show for Complement<S> {
         self.inner.pieces(line, turned)
     }
 
-    fn run(&self, verdict: Verdict) -> Run {
-        self.inner.run(complement_of(verdict))
+    #[inline(always)]
+    fn left(&self, verdict: Verdict) -> Left {
+        self.inner.left(complement_of(verdict))
     }
 }
 
 /// What becomes of a line under the complement.
+#[inline(always)]
 fn complement_of(verdict: Verdict) -> Verdict
     ensures { result ≡ turned verdict }
 {

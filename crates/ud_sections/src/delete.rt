@@ -1,7 +1,7 @@
 //! Printing what is kept.
 
+use crate::left::Left;
 use crate::pieces::Pieces;
-use crate::run::Run;
 use crate::show::Show;
 use crate::step::Step;
 use ud_model::Verdict;
@@ -36,11 +36,12 @@ impl Show for Delete {
         Pieces::alone(line, step, &[])
     }
 
-    fn run(&self, verdict: Verdict) -> Run {
+    #[inline(always)]
+    fn left(&self, verdict: Verdict) -> Left {
         match verdict {
-            Verdict::Keep => Run::Copied,
-            Verdict::Remove => Run::Dropped,
-            _ => Run::OneByOne,
+            Verdict::Keep => Left::Whole,
+            Verdict::Remove => Left::Nothing,
+            _ => Left::Parts,
         }
     }
 }

@@ -3,9 +3,9 @@
 use crate::blank::Blank;
 use crate::complement::Complement;
 use crate::delete::Delete;
+use crate::left::Left;
 use crate::pieces::Pieces;
 use crate::renumber::Renumber;
-use crate::run::Run;
 use crate::show::Show;
 use crate::step::Step;
 use ud_model::{Settings, Verdict};
@@ -68,14 +68,15 @@ impl Show for Printer {
         }
     }
 
-    fn run(&self, verdict: Verdict) -> Run {
+    #[inline(always)]
+    fn left(&self, verdict: Verdict) -> Left {
         match self {
-            Printer::Deletes(printer) => printer.run(verdict),
-            Printer::Blanks(printer) => printer.run(verdict),
-            Printer::Renumbers(printer) => printer.run(verdict),
-            Printer::ComplementDeletes(printer) => printer.run(verdict),
-            Printer::ComplementBlanks(printer) => printer.run(verdict),
-            Printer::ComplementRenumbers(printer) => printer.run(verdict),
+            Printer::Deletes(printer) => printer.left(verdict),
+            Printer::Blanks(printer) => printer.left(verdict),
+            Printer::Renumbers(printer) => printer.left(verdict),
+            Printer::ComplementDeletes(printer) => printer.left(verdict),
+            Printer::ComplementBlanks(printer) => printer.left(verdict),
+            Printer::ComplementRenumbers(printer) => printer.left(verdict),
         }
     }
 }

@@ -5,8 +5,8 @@ ghost use Rattle.ud_model.specs.answer.Printing.{number_line};
 ghost use Rattle.ud_text.specs.LineViews.{as_line};
 
 use crate::appending::append;
+use crate::left::Left;
 use crate::pieces::Pieces;
-use crate::run::Run;
 use crate::show::Show;
 use crate::step::Step;
 use arrayvec::ArrayVec;
@@ -65,11 +65,12 @@ impl Show for Renumber {
         alone.behind(self.number_line.as_slice(), line)
     }
 
-    fn run(&self, verdict: Verdict) -> Run {
+    #[inline(always)]
+    fn left(&self, verdict: Verdict) -> Left {
         match verdict {
-            Verdict::Keep if !self.removed => Run::Copied,
-            Verdict::Remove if self.removed => Run::Dropped,
-            _ => Run::OneByOne,
+            Verdict::Keep if !self.removed => Left::Whole,
+            Verdict::Remove if self.removed => Left::Nothing,
+            _ => Left::Parts,
         }
     }
 }

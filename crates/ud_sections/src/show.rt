@@ -7,9 +7,10 @@ ghost use Rattle.ud_model.specs.text.Lines.{text_of};
 ghost use Rattle.ud_model.specs.answer.Printing.{Judged};
 ghost use Rattle.ud_text.specs.LineViews.{as_line};
 ghost use Rattle.ud_sections.specs.Joining.{joined, is_same};
-ghost use Rattle.ud_sections.specs.Runs.{RunsAs};
+ghost use Rattle.ud_sections.specs.Runs.{RunsAs, LeavesOf};
 ghost use Rattle.ud_sections.specs.StepViews.{judged, HoldsKeyword};
 
+use crate::left::Left;
 use crate::pieces::Pieces;
 use crate::run::Run;
 use crate::step::Step;
@@ -36,11 +37,23 @@ pub trait Show: Drop {
             ((before : List Judged) → stands self.entry.now before → stands new (before ++ judged line.now step ∷ []))
             × ((before : List Judged) (j : Judged) → piece new before j ≡ piece self.entry.now before j))) };
 
+    /// What is printed of the next line, if it has this verdict. If that is told, the line needn't be given then: the printer
+    /// stands for it too, as it is.
+    fn left(&self, verdict: Verdict) -> Left
+        ensures left { LeavesOf (stands self.now) (piece self.now) verdict result }
+    {
+        Left::Parts
+    }
+
     /// What is printed of the next lines, as many as come, if all of them are text with this verdict. They needn't be
     /// given then: the printer stands for them as it is.
     fn run(&self, verdict: Verdict) -> Run
         ensures run { RunsAs (stands self.now) (piece self.now) verdict result }
     {
-        Run::OneByOne
+        match self.left(verdict) {
+            Left::Whole => Run::Copied,
+            Left::Nothing => Run::Dropped,
+            Left::Ending | Left::Parts => Run::OneByOne,
+        }
     }
 }
