@@ -25,12 +25,12 @@ use std::io::Write;
 use ud_cond::Symbols;
 use ud_model::{Settings, Verdict};
 use ud_sections::{Lister, Machine, SectionFault, Step};
-use ud_text::{Line, Lines, Scanner};
+use ud_text::{Line, Lines, SHORT_BYTES, ShortScanner};
 
 /// Reads lines, and decides them.
 #[derive(Drop)]
 pub(crate) struct Reader {
-    scanner: Scanner,
+    scanner: ShortScanner,
     machine: Machine,
 }
 
@@ -44,7 +44,7 @@ impl Reader {
         ensures { (o : Options) → o.settings ≡ settings → HasItems o result [] (closed nothing) }
     {
         Reader {
-            scanner: Scanner::new(),
+            scanner: ShortScanner::new(),
             machine: Machine::new(settings),
         }
     }
@@ -63,9 +63,34 @@ impl Reader {
             IfErr result (λ f. FaultOf xs (next_item o xs t (as_line line.now)) (fault_of f)) }
         ensures place { IfOk result (λ s. HoldsKeyword s line.now) }
     {
+        if line.body.len() > SHORT_BYTES {
+            return self.read_long(line, symbols);
+        }
         let mode = self.machine.mode();
         let scan = self.scanner.read(mode, line);
         self.machine.step(&scan, line, symbols)
+    }
+
+    /// Reads the next line if it is long. The room that this takes is cleared here alone.
+    ///
+    /// # Errors
+    /// As `read`.
+    #[inline(never)]
+    fn read_long(&mut self, line: &Line<'_>, symbols: &Symbols) -> Result<Step, SectionFault>
+        requires within { IsWithin (as_line line.now) }
+        requires one_line { NoFeed line.now.body.now }
+        ensures ok { (o : Options) → (xs : List (Item Reading)) → (t : Tree Reading) → StandsFor symbols.now o.table → HasItems o self.old xs t →
+            IfOk result (ReadsOne o self.new xs t (as_line line.now)) }
+        ensures err { (o : Options) → (xs : List (Item Reading)) → (t : Tree Reading) → StandsFor symbols.now o.table → HasItems o self.old xs t →
+            IfErr result (λ f. FaultOf xs (next_item o xs t (as_line line.now)) (fault_of f)) }
+        ensures place { IfOk result (λ s. HoldsKeyword s line.now) }
+    {
+        let mode = self.machine.mode();
+        let mut scanner = self.scanner.for_long();
+        let scan = scanner.read(mode, line);
+        let answer = self.machine.step(&scan, line, symbols);
+        self.scanner.go_on(&scanner);
+        answer
     }
 
     /// Reads the next line, and puts its names after the run of bytes before it.
@@ -94,6 +119,9 @@ impl Reader {
         ensures leaves { IfErr result (LeavesOutput out.old out.new output.old output.new) }
         ensures stays { lister.new ≡ lister.old }
     {
+        if line.body.len() > SHORT_BYTES {
+            return self.list_long(line, symbols, lister, run, output, out);
+        }
         let mode = self.machine.mode();
         let scan = self.scanner.read(mode, line);
         if let Err(fault) = self.machine.step(&scan, line, symbols) {
@@ -107,6 +135,49 @@ impl Reader {
         if !put_names(output, prefix, Lister::names(&scan), out) {
             return Err(RunFault::Write);
         }
+        Ok(())
+    }
+
+    /// Reads the next line if it is long, and puts its names. The room that this takes is cleared here alone.
+    ///
+    /// # Errors
+    /// As `list`.
+    #[inline(never)]
+    fn list_long<W: Write>(
+        &mut self,
+        line: &Line<'_>,
+        symbols: &Symbols,
+        lister: &mut Lister,
+        run: &[u8],
+        output: &mut Output,
+        out: &mut Watched<W>,
+    ) -> Result<(), RunFault>
+        requires within { IsWithin (as_line line.now) }
+        requires one_line { NoFeed line.now.body.now }
+        requires works { out.old.failed ≡ false }
+        ensures ok { (o : Options) → (xs : List (Item Reading)) → (t : Tree Reading) → StandsFor symbols.now o.table → HasItems o self.old xs t →
+            OnOk result (ListsOne o self.new xs t (as_line line.now) lister.old (W.contents out.old.inner) (W.contents out.new.inner) output.old output.new run.now) }
+        ensures err { (o : Options) → (xs : List (Item Reading)) → (t : Tree Reading) → StandsFor symbols.now o.table → HasItems o self.old xs t →
+            IfErr result (ListFails o xs t (as_line line.now) lister.old (W.contents out.old.inner) (W.contents out.new.inner) output.old run.now) }
+        ensures works { OnOk result (out.new.failed ≡ false) }
+        ensures leaves { IfErr result (LeavesOutput out.old out.new output.old output.new) }
+        ensures stays { lister.new ≡ lister.old }
+    {
+        let mode = self.machine.mode();
+        let mut long = self.scanner.for_long();
+        let scan = long.read(mode, line);
+        if let Err(found) = self.machine.step(&scan, line, symbols) {
+            return Err(RunFault::Section(found));
+        }
+        if !output.put(run, out) {
+            return Err(RunFault::Write);
+        }
+        let level = self.machine.depth().saturating_sub(1);
+        let prefix = lister.prefix(level);
+        if !put_names(output, prefix, Lister::names(&scan), out) {
+            return Err(RunFault::Write);
+        }
+        self.scanner.go_on(&long);
         Ok(())
     }
 

@@ -1,6 +1,7 @@
 -- Lending: what a scanner stands for once the scan that it lends is given back.
 --
---   ReadsLine scanner mode line   the scanner stands for one reading more: the line in this mode, with its scan
+--   ReadsLine scanner mode line        the scanner stands for one reading more: the line in this mode, with its scan
+--   ReadsShortLine scanner mode line   the same of a scanner of short lines
 --
 -- Example: a new scanner that has read a line stands for that line's reading alone.
 use Rattle.std.specs.Prelude.{List, [], ◌∷◌, ◌++◌}
@@ -12,8 +13,14 @@ use Rattle.ud_model.specs.text.Scanning.{next_reading}
 use Rattle.ud_model.specs.declared.kind.Mode.{Mode}
 use Rattle.ud_text.specs.Carrying.{Carried, Carries}
 use Rattle.ud_text.specs.contracts.scanner.Scanner.{the_row}
+use Rattle.ud_text.specs.contracts.short_scanner.ShortScanner.{the_row as short_row}
 
 -- for all readings that the scanner stands for, it stands for these and the line's
 abbrev pub ReadsLine : MutBor Carried → Mode → TextLine → Fml
 ReadsLine scanner mode line =
     Rests the_row scanner (λ new. (before : List Reading) → Carries scanner.now before → Carries new (before ++ next_reading before mode line ∷ []))
+
+-- the same of a scanner of short lines
+abbrev pub ReadsShortLine : MutBor Carried → Mode → TextLine → Fml
+ReadsShortLine scanner mode line =
+    Rests short_row scanner (λ new. (before : List Reading) → Carries scanner.now before → Carries new (before ++ next_reading before mode line ∷ []))

@@ -17,6 +17,7 @@ mod plain_lines;
 mod scan;
 mod scanner;
 mod searching;
+mod short_scanner;
 mod signs;
 mod spans;
 
@@ -26,4 +27,5 @@ pub use lines::{Lines, Taken};
 pub use marks::first_mark;
 pub use scan::Scan;
 pub use scanner::{Scanner, law_same_scans};
+pub use short_scanner::{SHORT_BYTES, ShortScanner};
 pub use ud_model::CommentAt;

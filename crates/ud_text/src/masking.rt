@@ -14,7 +14,6 @@ ghost use Rattle.ud_text.specs.LineViews.{place_of, shown_in};
 use crate::marks::first_mark;
 use arrayvec::ArrayVec;
 use memchr::memchr;
-use ud_model::LINE_BYTES;
 use ud_model::bytes::{are_white, is_white};
 
 /// Where the joined text leaves off.
@@ -139,8 +138,8 @@ pub(crate) fn is_in_block(place: Place) -> bool
 }
 
 /// Makes the last byte a space.
-fn blank_last(masked: &mut ArrayVec<u8, LINE_BYTES>)
-    requires { array_vec_len masked.old ≤ LINE_BYTES }
+fn blank_last<const ROOM: usize>(masked: &mut ArrayVec<u8, ROOM>)
+    requires { array_vec_len masked.old ≤ ROOM }
     ensures items { masked.new.items ≡ blank_last masked.old.items }
     ensures len { array_vec_len masked.new ≡ array_vec_len masked.old }
 {
@@ -150,8 +149,12 @@ fn blank_last(masked: &mut ArrayVec<u8, LINE_BYTES>)
 }
 
 /// Reads one more byte, and puts it at the end as it is shown.
-fn mask_byte(reached: Reached, byte: u8, masked: &mut ArrayVec<u8, LINE_BYTES>) -> Reached
-    requires { array_vec_len masked.old < LINE_BYTES }
+fn mask_byte<const ROOM: usize>(
+    reached: Reached,
+    byte: u8,
+    masked: &mut ArrayVec<u8, ROOM>,
+) -> Reached
+    requires { array_vec_len masked.old < ROOM }
     ensures masks { (n : ℕ) → (text : List ℕ) → Masks n text (place_of reached.place) reached.white masked.old.items → Masks n (text ++ byte ∷ []) (place_of result.place) result.white masked.new.items }
     ensures len { array_vec_len masked.new ≡ array_vec_len masked.old + 1 }
 {
@@ -166,16 +169,16 @@ fn mask_byte(reached: Reached, byte: u8, masked: &mut ArrayVec<u8, LINE_BYTES>) 
 }
 
 /// Puts bytes at the end.
-fn push_all(bytes: &[u8], masked: &mut ArrayVec<u8, LINE_BYTES>)
-    requires { array_vec_len masked.old + length bytes.now ≤ LINE_BYTES }
+fn push_all<const ROOM: usize>(bytes: &[u8], masked: &mut ArrayVec<u8, ROOM>)
+    requires { array_vec_len masked.old + length bytes.now ≤ ROOM }
     ensures { masked.new.items ≡ masked.old.items ++ bytes.now }
 {
     let _ = masked.try_extend_from_slice(bytes);
 }
 
 /// Puts so many spaces at the end.
-fn push_spaces(count: usize, masked: &mut ArrayVec<u8, LINE_BYTES>)
-    requires { array_vec_len masked.old + count ≤ LINE_BYTES }
+fn push_spaces<const ROOM: usize>(count: usize, masked: &mut ArrayVec<u8, ROOM>)
+    requires { array_vec_len masked.old + count ≤ ROOM }
     ensures { masked.new.items ≡ masked.old.items ++ replicate count 32 }
 {
     for _space in 0..count {
@@ -185,12 +188,12 @@ fn push_spaces(count: usize, masked: &mut ArrayVec<u8, LINE_BYTES>)
 
 /// Reads the bytes in front that leave the place as it is, where that is outside comments and literals or in a block
 /// comment, and none elsewhere. Answers how many they are.
-fn mask_run(
+fn mask_run<const ROOM: usize>(
     reached: Reached,
     rest: &[u8],
-    masked: &mut ArrayVec<u8, LINE_BYTES>,
+    masked: &mut ArrayVec<u8, ROOM>,
 ) -> (Reached, usize)
-    requires room { array_vec_len masked.old + length rest.now ≤ LINE_BYTES }
+    requires room { array_vec_len masked.old + length rest.now ≤ ROOM }
     requires one_line { NoFeed rest.now }
     ensures masks { (n : ℕ) → (text : List ℕ) → Masks n text (place_of reached.place) reached.white masked.old.items → Masks n (text ++ take result.1 rest.now) (place_of result.0.place) result.0.white masked.new.items }
     ensures bound { result.1 ≤ length rest.now }
@@ -221,9 +224,13 @@ fn mask_run(
 
 /// Reads the content of a line, and puts it into `masked` as it is shown.
 #[inline(never)]
-fn mask_content(reached: Reached, content: &[u8], masked: &mut ArrayVec<u8, LINE_BYTES>) -> Reached
+fn mask_content<const ROOM: usize>(
+    reached: Reached,
+    content: &[u8],
+    masked: &mut ArrayVec<u8, ROOM>,
+) -> Reached
     requires empty { masked.old.items ≡ [] }
-    requires fits { length content.now ≤ LINE_BYTES }
+    requires fits { length content.now ≤ ROOM }
     requires one_line { NoFeed content.now }
     ensures len { length masked.new.items ≡ length content.now }
     ensures masks { (text : List ℕ) → Reads text (place_of reached.place) reached.white → Masks (length text) (text ++ content.now) (place_of result.place) result.white masked.new.items }
@@ -245,13 +252,13 @@ fn mask_content(reached: Reached, content: &[u8], masked: &mut ArrayVec<u8, LINE
 /// Reads the content of a line. If the text leaves off outside comments and literals before it, and no mark stands in it,
 /// it is shown as it stands, and lent; else it is put into `masked` as it is shown.
 #[inline(always)]
-pub(crate) fn show_content<'a>(
+pub(crate) fn show_content<'a, const ROOM: usize>(
     reached: Reached,
     content: &'a [u8],
-    masked: &mut ArrayVec<u8, LINE_BYTES>,
+    masked: &mut ArrayVec<u8, ROOM>,
 ) -> (Reached, Option<&'a [u8]>)
     requires empty { masked.old.items ≡ [] }
-    requires fits { length content.now ≤ LINE_BYTES }
+    requires fits { length content.now ≤ ROOM }
     requires one_line { NoFeed content.now }
     ensures len { length (shown_in result.1 masked.new.items) ≡ length content.now }
     ensures masks { (text : List ℕ) → Reads text (place_of reached.place) reached.white → Masks (length text) (text ++ content.now) (place_of result.0.place) result.0.white (shown_in result.1 masked.new.items) }

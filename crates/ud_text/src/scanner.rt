@@ -33,50 +33,50 @@ use ud_model::{CommentAt, LINE_BYTES, Mode};
 
 /// What is carried from line to line.
 #[derive(Clone, Copy)]
-struct Carry {
+pub(crate) struct Carry {
     /// How far the joined text is read. The text is that of the lines in C mode after the last one in plain mode.
-    reached: Reached,
+    pub(crate) reached: Reached,
     /// Whether the last of these lines joins the next one.
     joins: bool,
 }
 
 /// What is seen of a line beside its masked bytes.
 #[derive(Clone, Copy)]
-struct Facts {
+pub(crate) struct Facts {
     /// The masked bytes of its logical line on earlier lines are white space.
-    fresh: bool,
+    pub(crate) fresh: bool,
     /// The line before joins it.
-    joins_before: bool,
+    pub(crate) joins_before: bool,
     /// It joins the next line.
-    joins_after: bool,
+    pub(crate) joins_after: bool,
     /// It ends in a backslash that deletes its ending.
-    spliced: bool,
+    pub(crate) spliced: bool,
     /// What is unclosed at its end.
-    comment: CommentAt,
+    pub(crate) comment: CommentAt,
 }
 
 /// What a line leaves, and what is seen of it.
 #[derive(Clone, Copy)]
-struct Seen<'a> {
+pub(crate) struct Seen<'a> {
     /// What it leaves.
-    carry: Carry,
+    pub(crate) carry: Carry,
     /// What is seen of it beside its masked bytes.
-    facts: Facts,
+    pub(crate) facts: Facts,
     /// Its masked bytes if they are bytes of the line itself. Else they were put into the scanner.
-    lent: Option<&'a [u8]>,
+    pub(crate) lent: Option<&'a [u8]>,
 }
 
 /// Reads the lines of a text in order, each in its mode.
 #[derive(Drop)]
 pub struct Scanner {
     /// What the lines so far leave.
-    carry: Carry,
+    pub(crate) carry: Carry,
     /// The last line as it was shown, if its own bytes weren't lent.
-    masked: ArrayVec<u8, LINE_BYTES>,
+    pub(crate) masked: ArrayVec<u8, LINE_BYTES>,
 }
 
 /// What is carried where the run has no lines.
-fn nothing() -> Carry
+pub(crate) fn nothing() -> Carry
     ensures { carried_by result ≡ nothing_carried }
 {
     Carry {
@@ -136,9 +136,13 @@ fn comment_at(spliced: bool, place: Place) -> CommentAt
 
 /// Reads a line in C mode. Where its masked bytes aren't lent, they are put into `masked`.
 #[inline(always)]
-fn scan_code<'a>(carry: Carry, line: &Line<'a>, masked: &mut ArrayVec<u8, LINE_BYTES>) -> Seen<'a>
+fn scan_code<'a, const ROOM: usize>(
+    carry: Carry,
+    line: &Line<'a>,
+    masked: &mut ArrayVec<u8, ROOM>,
+) -> Seen<'a>
     requires empty { masked.old.items ≡ [] }
-    requires fits { length line.now.body.now ≤ LINE_BYTES }
+    requires fits { length line.now.body.now ≤ ROOM }
     requires one_line { NoFeed line.now.body.now }
     ensures stands { (before : List Reading) → Carries (carried_by carry) before → Carries (carried_by result.carry) (before ++ next_reading before Mode.C (as_line line.now) ∷ []) }
     ensures value { (before : List Reading) → Carries (carried_by carry) before → scan_with (shown_in result.lent masked.new.items) result.facts ≡ scan_after before Mode.C (as_line line.now) }
@@ -182,13 +186,13 @@ fn scan_plain<'a>(line: &Line<'a>) -> Seen<'a>
 
 /// Reads a line in its mode. Where its masked bytes aren't lent, they are put into `masked`.
 #[inline(always)]
-fn scan_line<'a>(
+pub(crate) fn scan_line<'a, const ROOM: usize>(
     mode: Mode,
     carry: Carry,
     line: &Line<'a>,
-    masked: &mut ArrayVec<u8, LINE_BYTES>,
+    masked: &mut ArrayVec<u8, ROOM>,
 ) -> Seen<'a>
-    requires fits { length line.now.body.now ≤ LINE_BYTES }
+    requires fits { length line.now.body.now ≤ ROOM }
     requires one_line { NoFeed line.now.body.now }
     ensures stands { (before : List Reading) → Carries (carried_by carry) before → Carries (carried_by result.carry) (before ++ next_reading before mode (as_line line.now) ∷ []) }
     ensures value { (before : List Reading) → Carries (carried_by carry) before → scan_with (shown_in result.lent masked.new.items) result.facts ≡ scan_after before mode (as_line line.now) }
@@ -254,7 +258,7 @@ fn pass_plain(carry: Carry, lines: &[u8]) -> (usize, Carry)
 }
 
 /// The same in a mode.
-fn pass_lines(mode: Mode, carry: Carry, lines: &[u8]) -> (usize, Carry)
+pub(crate) fn pass_lines(mode: Mode, carry: Carry, lines: &[u8]) -> (usize, Carry)
     ensures bound { result.0 ≤ length lines.now }
     ensures ends { EndsLine (take result.0 lines.now) }
     ensures passes { PassesText mode (carried_by carry) (carried_by result.1) (take result.0 lines.now) }

@@ -7,7 +7,7 @@ use Rattle.ud_text.proofs.masking.mask_byte.Goals as goal
 use Rattle.ud_text.proofs.masking.mask_byte.Goals.{then-opens_comment, else-opens_comment}
 
 pub returns-clause-masks : goal.returns-clause-masks
-returns-clause-masks c n text m =
+returns-clause-masks g c n text m =
     elim c.if-opens_comment.branch [
       | then-opens_comment w ↦
           one_more n text (place_of c.args.reached.place) (place_of c.next_place.result) c.args.reached.white c.is_white_with.result c.args.byte

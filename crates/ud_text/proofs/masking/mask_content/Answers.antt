@@ -1,21 +1,27 @@
 -- A run and a byte more are read.
-use Rattle.std.proofs.Common.{◌+◌, ◌++◌, sym, ap, refl, append-nil, arith, take_all, length}
+use Rattle.std.proofs.Common.{◌+◌, ◌++◌, sym, ap, refl, append-nil, arith, take_all, length, length-drop, rules}
 use Rattle.ud_model.proofs.text.ScanLemmas.{Masks-start}
 use Rattle.ud_text.proofs.RunLemmas.{Masks-same, run_read, byte_read, no_feed-take, no_feed-drop}
 use Rattle.ud_text.proofs.masking.mask_content.Goals as goal
 
 pub loop-at-init : goal.loop-at-init
-loop-at-init c = record {
+loop-at-init g c = record {
   within = omega arith;
   size = ap length c.requires.empty;
   masks = λ text r. Masks-same (sym (append-nil text)) refl refl (sym c.requires.empty) (Masks-start r);
 }
 
-pub mask_run-count-requires-clause-one_line : goal.mask_run-count-requires-clause-one_line
-mask_run-count-requires-clause-one_line c = no_feed-take _ _ (no_feed-drop c.loop-at.at c.args.content.now c.requires.one_line)
+pub mask_run-count-requires : goal.mask_run-count-requires
+mask_run-count-requires g c = (
+  search rules,
+  (
+    omega (arith, c.loop-at.invariant.size, c.loop-at.invariant.within, length-drop c.loop-at.at c.args.content.now, c.requires.fits),
+    no_feed-take _ _ (no_feed-drop c.loop-at.at c.args.content.now c.requires.one_line),
+  ),
+)
 
 pub loop-at-preserved-then-at-content : goal.loop-at-preserved-then-at-content
-loop-at-preserved-then-at-content c = record {
+loop-at-preserved-then-at-content g c = record {
   within = omega arith;
   size = omega (arith, c.mask_byte-inside.ensures.len, c.mask_run-count.ensures.len, c.loop-at.invariant.size);
   masks = λ text r.
@@ -26,7 +32,7 @@ loop-at-preserved-then-at-content c = record {
 }
 
 pub loop-at-preserved : goal.loop-at-preserved
-loop-at-preserved c = record {
+loop-at-preserved g c = record {
   within = omega (arith, c.mask_run-count.ensures.bound);
   size = omega (arith, c.mask_run-count.ensures.len, c.loop-at.invariant.size);
   masks = λ text r.
@@ -35,5 +41,5 @@ loop-at-preserved c = record {
 }
 
 pub returns-clause-masks : goal.returns-clause-masks
-returns-clause-masks c = λ text r.
+returns-clause-masks g c = λ text r.
     Masks-same (ap (λ l. text ++ l) (take_all c.loop-at.at c.args.content.now c.loop-at-test.false)) refl refl refl (c.loop-at.invariant.masks text r)

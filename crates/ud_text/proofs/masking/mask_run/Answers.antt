@@ -5,18 +5,18 @@ use Rattle.ud_text.proofs.RunLemmas.{and_at_true, and_at_false, text_run, block_
 use Rattle.ud_text.proofs.masking.mask_run.Goals as goal
 
 pub returns-then-are_white-clause-masks : goal.returns-then-are_white-clause-masks
-returns-then-are_white-clause-masks c n text m =
+returns-then-are_white-clause-masks g c n text m =
     text_run text c.args.rest.now c.args.masked.now.items c.push_all.new.masked.items c.args.reached.white c.first_mark-count.result m
     (ap place_of c.in-Text.is) c.first_mark-count.ensures c.requires.one_line c.push_all.ensures
     (and_at_true c.args.reached.white _ (sym c.are_white.ensures ∙ c.if-are_white.true))
 
 pub returns-else-are_white-clause-masks : goal.returns-else-are_white-clause-masks
-returns-else-are_white-clause-masks c n text m =
+returns-else-are_white-clause-masks g c n text m =
     text_run text c.args.rest.now c.args.masked.now.items c.push_all.new.masked.items c.are_white.result c.first_mark-count.result m
     (ap place_of c.in-Text.is) c.first_mark-count.ensures c.requires.one_line c.push_all.ensures
     (c.are_white.ensures ∙ and_at_false c.args.reached.white _ (sym c.are_white.ensures ∙ c.if-are_white.false))
 
 pub returns-in-Block-clause-masks : goal.returns-in-Block-clause-masks
-returns-in-Block-clause-masks c n text m =
+returns-in-Block-clause-masks g c n text m =
     block_run text c.args.rest.now c.args.masked.now.items c.push_spaces.new.masked.items c.memchr.result c.unwrap_or-count.result m
     (ap place_of c.in-Block.is) c.memchr.ensures c.unwrap_or-count.ensures c.push_spaces.ensures

@@ -7,7 +7,7 @@ use Rattle.ud_text.proofs.masking.show_content.Goals as goal
 use Rattle.ud_text.proofs.masking.show_content.Goals.{then-are_white, else-are_white}
 
 pub returns-then-first_mark-content-clause-masks : goal.returns-then-first_mark-content-clause-masks
-returns-then-first_mark-content-clause-masks c = λ text r.
+returns-then-first_mark-content-clause-masks g c = λ text r.
     plain_run text c.args.content.now c.if-are_white.white c.first_mark.result r (ap place_of c.in-Text.is)
     c.first_mark.ensures c.if-first_mark-content.true c.requires.one_line white_is
   where

@@ -6,5 +6,5 @@ use Rattle.ud_text.specs.LineViews.{as_line}
 use Rattle.ud_text.proofs.scanner.scan_line.Goals as goal
 
 pub returns-in-Plain-clause-value : goal.returns-in-Plain-clause-value
-returns-in-Plain-clause-value c = λ before h.
+returns-in-Plain-clause-value g c = λ before h.
     c.scan_plain.ensures.value _ before ∙ sym (ap (λ (m : Mode). scan_after before m (as_line c.args.line.now)) c.in-Plain.is)
