@@ -1,10 +1,10 @@
 -- Special bytes: three tests find the five of them.
 use Rattle.std.proofs.Common.{◌≡◌, ℕ, zero, suc, ◌+◌, ◌-◌, ◌^◌, ◌<◌, eqb, Bool, true, false, not, cond, if◌then◌else◌, ◌||◌, ◌&&◌, List, [], ◌∷◌, map, length, take, drop, get_or, replicate, bit_or, refl, sym, ap, ap₂, ◌∙◌, arith}
-use Rattle.std.specs.List.{position_or_len}
 use Rattle.std.proofs.lemmas.Bool.{eqb-true, eq-eqb}
 use Rattle.std.proofs.lemmas.Simd.{zip2_splat, map-map}
 use Rattle.std.proofs.lemmas.List.{length-map}
-use lib.Lanes.{zip2}
+use lib.Lanes.{zip2, mask_l}
+use Rattle.ud_text.specs.Rows.{special_bits}
 use Rattle.ud_text.specs.Spans.{is_special}
 use Rattle.ud_text.proofs.LaneLemmas.{lane}
 
@@ -68,15 +68,14 @@ bytes_take zero bs h = tt
 bytes_take (suc n) [] h = tt
 bytes_take (suc n) (b ∷ bs) h = (h.0, bytes_take n bs h.1)
 
-search_found : (bs : List ℕ) → AreBytes bs → position_or_len is_found_special bs ≡ position_or_len is_special bs
+map_found : (bs : List ℕ) → AreBytes bs → map is_found_special bs ≡ map is_special bs
 unfolding AreBytes
-search_found [] h = refl
-search_found (b ∷ bs) h = ap₂ (λ (t : Bool) (n : ℕ). cond (not t) (1 + n) 0) (special_found b h.0) (search_found bs h.1)
+map_found [] h = refl
+map_found (b ∷ bs) h = ap₂ (λ (t : Bool) (ts : List Bool). t ∷ ts) (special_found b h.0) (map_found bs h.1)
 
--- the search by the three tests finds the first special byte of a row
-pub search_row : (bs : List ℕ) (at n : ℕ) → ((i : ℕ) → get_or bs i 0 < 256) →
-    position_or_len is_found_special (take n (drop at bs)) ≡ position_or_len is_special (take n (drop at bs))
-search_row bs at n h = search_found (take n (drop at bs)) (bytes_take n (drop at bs) (bytes_drop at bs (are_bytes bs h)))
+-- the three tests find the special bytes of a row
+pub bits_row : (bs : List ℕ) (at n : ℕ) → ((i : ℕ) → get_or bs i 0 < 256) → mask_l (map is_found_special (take n (drop at bs))) ≡ special_bits (take n (drop at bs))
+bits_row bs at n h = ap mask_l (map_found (take n (drop at bs)) (bytes_take n (drop at bs) (bytes_drop at bs (are_bytes bs h))))
 
 -- the lanes that equal a byte once this bit is set
 pub lanes_equal_with : (v : List ℕ) (n y m : ℕ) → length v ≡ n →
