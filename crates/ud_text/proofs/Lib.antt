@@ -20,5 +20,6 @@ pub mod SkipLemmas
 pub mod SignLemmas
 pub mod BlockLemmas
 pub mod StepLemmas
+pub mod RowTable
 pub mod RowLemmas
 mod NearFeeds

@@ -15,7 +15,7 @@ use Rattle.ud_text.proofs.PlainLemmas.{plain_read, no_special_before}
 use Rattle.ud_text.proofs.SpanLemmas.{slash_read, backslash_read, sign_read, literal_byte, literal_pair, literal_closed, line_comment_read, LiteralFront, spliced_by, unspliced}
 use Rattle.ud_text.proofs.LookLemmas.{shows_white}
 use Rattle.ud_text.proofs.ProgressLemmas.{read_text, read_line, plain_of, plain_leads, read_none, read_start, read_base, read_splice}
-use Rattle.ud_text.proofs.BlockLemmas.{pair_front, block_same, block_later, block_closed}
+use Rattle.ud_text.proofs.BlockLemmas.{pair_front, block_same, block_later, block_opened, block_closed}
 use Rattle.ud_text.specs.Spans.{black, NoPair, NoSpecial, is_pair, LineSpan, all_white, LastBegins, TextSpan, is_special, SeenWhite, new_line, IsSplice, may_splice}
 use Rattle.ud_text.specs.Progress.{ReadTo, ReadOutside}
 use Rattle.ud_text.specs.Searches.{is_one_of}
@@ -224,6 +224,12 @@ module _ {start : State} {bytes : List ℕ} {line : ℕ} {kept : State} {base : 
   -- what is seen by looking back as far as the base is so
   pub looked : (v : Bool) → SeenWhite (take (at - base) (drop base bytes)) begins v → r.now_white ≡ v
   looked v h = shows_white r.plain begins v r.now_white r.no_comment (plain_leads r) (subst (λ (l : List ℕ). SeenWhite l begins v) (plain_of r) h)
+
+  -- the beginning of a block comment
+  pub block_begun : (v : Bool) → SeenWhite (take (at - base) (drop base bytes)) begins v → 2 ≤ length (drop at bytes) → take 2 (drop at bytes) ≡ slash ∷ star ∷ [] →
+      ReadTo start bytes line kept (at + 2) (block_state v)
+  block_begun v seen h e =
+      block_opened v (subst (λ (u : Bool). ReadTo start bytes line kept at (text_state u)) (looked v seen) r.so_far) h (sym e)
 
   -- a splice on a logical line that isn't white
   pub splice_step_read : SeenWhite (take (at - base) (drop base bytes)) begins false → (k : ℕ) → k ≤ length (drop at bytes) → IsSplice (take k (drop at bytes)) →

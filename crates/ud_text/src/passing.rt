@@ -131,9 +131,12 @@ fn block_step(lines: &[u8], p: Progress) -> Result<Progress, LineStart>
     ensures bound { IfErr result (λ stop. stop.at ≤ length lines.now) }
     ensures read { Steps lines.now p result }
 {
-    let last = last_line(lines, p.line, p.at);
     let white = line_white(&lines[p.base..p.at], p.begins);
-    close_block(lines, last, p.at + 2, white)
+    match close_block(lines, p.line, p.at + 2, white) {
+        Ok(q) => Ok(q),
+        Err(stop) if stop.at > p.at => Err(stop),
+        Err(_) => Err(last_line(lines, p.line, p.at)),
+    }
 }
 
 /// Reads a line comment with its line feed.
@@ -170,7 +173,8 @@ fn sign_step(lines: &[u8], p: Progress) -> Result<Progress, LineStart>
         let at = after + count;
         return Ok(Progress { at, ..p });
     }
-    if line_white(&lines[p.base..p.at], p.begins) {
+    let before = &lines[p.base..p.at];
+    if line_white(before, p.begins) {
         return Err(last_line(lines, p.line, p.at));
     }
     Ok(Progress { at: after, ..p })

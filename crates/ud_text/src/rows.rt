@@ -5,12 +5,21 @@
 ghost use Rattle.std.specs.Prelude.{◌≡◌, ◌≤◌, ◌+◌, length, take, drop};
 ghost use Rattle.std.specs.List.{position_or_len};
 ghost use Rattle.ud_text.specs.Spans.{is_special};
-ghost use Rattle.ud_text.specs.Rows.{IsRow};
+ghost use Rattle.ud_text.specs.Rows.{IsRow, special_bits};
 
-use crate::searching::{first_special, special_bits};
+use crate::searching::first_special;
+use std::simd::prelude::*;
 
 /// How many bytes a row has.
 const ROW: usize = 64;
+
+/// For each low half of a byte the byte with it that may matter, of which there is one at most; else a byte with another
+/// low half. The 16 of them stand four times, once for each part of a row.
+const BY_LOW_HALF: [u8; ROW] = [
+    1, 0, b'"', b'#', 0, 0, 0, b'\'', 0, 0, 0, 0, b'\\', 0, 0, b'/', 1, 0, b'"', b'#', 0, 0, 0,
+    b'\'', 0, 0, 0, 0, b'\\', 0, 0, b'/', 1, 0, b'"', b'#', 0, 0, 0, b'\'', 0, 0, 0, 0, b'\\', 0,
+    0, b'/', 1, 0, b'"', b'#', 0, 0, 0, b'\'', 0, 0, 0, 0, b'\\', 0, 0, b'/',
+];
 
 /// Which of the bytes of a row may matter outside comments and literals.
 #[derive(Clone, Copy)]
@@ -31,6 +40,17 @@ pub(crate) fn no_row(bytes: &[u8]) -> Row
     }
 }
 
+/// A bit for each byte of the row from a place on that may matter, the lowest for the first.
+#[inline(always)]
+fn row_bits(bytes: &[u8], at: usize) -> u64
+    requires { at + ROW ≤ length bytes.now }
+    ensures { result ≡ special_bits (take ROW (drop at bytes.now)) }
+{
+    let lanes = u8x64::from_slice(&bytes[at..]);
+    let told = u8x64::from_array(BY_LOW_HALF).swizzle_dyn_within::<16>(lanes & u8x64::splat(15));
+    lanes.simd_eq(told).to_bitmask()
+}
+
 /// The place of the first byte from here on that may matter, and its row. The number of bytes if there is none.
 #[inline(always)]
 fn special_from(bytes: &[u8], begin: usize) -> (usize, Row)
@@ -40,7 +60,7 @@ fn special_from(bytes: &[u8], begin: usize) -> (usize, Row)
 {
     let mut at = begin;
     while bytes.len() - at >= ROW {
-        let bits = special_bits::<ROW>(bytes, at);
+        let bits = row_bits(bytes, at);
         if bits != 0 {
             let place = at + bits.trailing_zeros() as usize;
             return (place, Row { begin: at, bits });

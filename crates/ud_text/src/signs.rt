@@ -49,7 +49,9 @@ fn white_begin(bytes: &[u8]) -> usize
 {
     let mut at = bytes.len();
     while at > 0 {
-        if !is_white(bytes[at - 1]) {
+        // Mostly it's a space.
+        let byte = bytes[at - 1];
+        if byte != b' ' && !is_white(byte) {
             return at;
         }
         at -= 1;

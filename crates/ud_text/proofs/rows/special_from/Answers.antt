@@ -7,10 +7,10 @@ pub loop-at-preserved : goal.loop-at-preserved
 loop-at-preserved c = record {
   within = omega arith;
   same = c.loop-at.invariant.same
-      ∙ row_later c.args.bytes.now c.loop-at.at 64 (row_empty c.args.bytes.now c.loop-at.at 64 (omega arith) (omega arith) c.special_bits-bits.result c.special_bits-bits.ensures (omega arith));
+      ∙ row_later c.args.bytes.now c.loop-at.at 64 (row_empty c.args.bytes.now c.loop-at.at 64 (omega arith) (omega arith) c.row_bits-bits.result c.row_bits-bits.ensures (omega arith));
 }
 
 pub returns-then-bits-ne0-clause-value : goal.returns-then-bits-ne0-clause-value
 returns-then-bits-ne0-clause-value c =
-    row_found c.args.bytes.now c.loop-at.at 64 (omega arith) (omega arith) c.special_bits-bits.result c.special_bits-bits.ensures c.if-bits-ne0.true
+    row_found c.args.bytes.now c.loop-at.at 64 (omega arith) (omega arith) c.row_bits-bits.result c.row_bits-bits.ensures c.if-bits-ne0.true
     ∙ sym c.loop-at.invariant.same
