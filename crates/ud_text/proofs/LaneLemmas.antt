@@ -50,16 +50,20 @@ lanes_or v p q e f =
     zip2_of_maps bit_or (λ (x : ℕ). lane (p x)) (λ (x : ℕ). lane (q x)) v e f
     ∙ map_same (λ (x : ℕ). bit_or (lane (p x)) (lane (q x))) (λ (x : ℕ). lane (p x || q x)) (λ x. lane_or (p x) (q x)) v
 
+-- the lanes as bits
+pub lane_bits : {X : Type 0} (p : X → Bool) (v : List X) (n : ℕ) (z : List ℕ) → length v ≡ n → n ≤ 64 → z ≡ map (λ x. lane (p x)) v →
+    mask_l (map (top 7) z) % 2 ^ 64 ≡ mask_l (map p v)
+lane_bits {X} p v n z long few lanes =
+    let tops : map (top 7) z ≡ map p v =
+    ap (map (top 7)) lanes ∙ map-map (top 7) (λ (x : X). lane (p x)) v
+    ∙ map_same (λ (x : X). top 7 (lane (p x))) p (λ x. lane_top (p x)) v in
+    ap (λ (l : List Bool). mask_l l % 2 ^ 64) tops ∙ mask_l-mod (map p v) 64 (omega (arith, length-map v p, long))
+
 -- the lowest bit tells the first lane that passes
 pub lowest_lane : {X : Type 0} (p : X → Bool) (v : List X) (n r : ℕ) (z : List ℕ) → length v ≡ n → n ≤ 64 → z ≡ map (λ x. lane (p x)) v →
     r ≡ lowest_bit (mask_l (map (top 7) z) % 2 ^ 64) n → r ≡ position_or_len p v
 lowest_lane {X} p v n r z long few lanes found =
-    let tops : map (top 7) z ≡ map p v =
-    ap (map (top 7)) lanes ∙ map-map (top 7) (λ (x : X). lane (p x)) v
-    ∙ map_same (λ (x : X). top 7 (lane (p x))) p (λ x. lane_top (p x)) v in
-    let bits : mask_l (map (top 7) z) % 2 ^ 64 ≡ mask_l (map p v) =
-    ap (λ (l : List Bool). mask_l l % 2 ^ 64) tops ∙ mask_l-mod (map p v) 64 (omega (arith, length-map v p, long)) in
-    found ∙ ap (λ (m : ℕ). lowest_bit m n) bits ∙ first_set_mask_l p v n long few
+    found ∙ ap (λ (m : ℕ). lowest_bit m n) (lane_bits p v n z long few lanes) ∙ first_set_mask_l p v n long few
 
 -- a search finds a place within the bytes, or their end
 pub search_bound : {X : Type 0} (p : X → Bool) (xs : List X) (at : ℕ) → at ≡ position_or_len p xs → at ≤ length xs

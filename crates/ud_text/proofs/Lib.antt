@@ -13,10 +13,13 @@ pub mod PlainLemmas
 pub mod QuietLineLemmas
 pub mod SpliceLemmas
 pub mod SpanLemmas
+pub mod NameLemmas
 pub mod LookLemmas
 pub mod ProgressLemmas
 pub mod SkipLemmas
 pub mod SignLemmas
 pub mod BlockLemmas
 pub mod StepLemmas
+pub mod RowTable
+pub mod RowLemmas
 mod NearFeeds

@@ -6,7 +6,7 @@ use Rattle.std.specs.Option.{option_to_list}
 use Rattle.memchr.specs.Find.{IsFirstByte, is_byte}
 use Rattle.ud_model.specs.text.Bytes.{are_white, slash, star, space, backslash, is_quote, is_mark, is_white}
 use Rattle.ud_model.specs.text.Lines.{NoFeed}
-use Rattle.ud_model.specs.aids.Places.{Place, in_text, at_slash, in_literal, in_block, at_star, next, opens, shows, whitens, blank_last, Reads, Masks}
+use Rattle.ud_model.specs.aids.Places.{Place, in_text, at_slash, in_literal, in_block, at_star, in_line, next, opens, shows, whitens, blank_last, Reads, Masks}
 use Rattle.ud_model.proofs.text.PlaceLemmas.{Masks-step, blank_last-last}
 use Rattle.ud_model.proofs.text.ScanLemmas.{Masks-start}
 
@@ -100,6 +100,19 @@ Masks-block (b ∷ bytes) text masked p m =
     Masks-same (append_assoc text (b ∷ []) bytes) refl refl (append_assoc masked (space ∷ []) (replicate (length bytes) space))
     (Masks-block bytes (text ++ b ∷ []) (masked ++ space ∷ []) p.1 (Masks-same refl (in_block_with (b == star) p.0) refl refl (Masks-step b m)))
 
+-- a run of bytes in a line comment is shown as spaces
+pub Masks-line : {n : ℕ} (bytes text : List ℕ) {white : Bool} (masked : List ℕ) → NoFeed bytes →
+    Masks n text in_line white masked → Masks n (text ++ bytes) in_line white (masked ++ replicate (length bytes) space)
+Masks-line [] text masked p m = Masks-same (sym (append-nil text)) refl refl (sym (append-nil masked)) m
+Masks-line {n} (b ∷ bytes) text {white} masked p m =
+    Masks-same (append_assoc text (b ∷ []) bytes) refl refl (append_assoc masked (space ∷ []) (replicate (length bytes) space))
+    (Masks-line bytes (text ++ b ∷ []) (masked ++ space ∷ []) p.1 (by_feed (b == 10) (ne_eqb b 10 p.0) (Masks-step b m)))
+  where
+    by_feed : (t : Bool) → t ≡ false → Masks n (text ++ b ∷ []) (if t then in_text else in_line) (if t then true else white) (masked ++ (if t then b else space) ∷ []) →
+        Masks n (text ++ b ∷ []) in_line white (masked ++ space ∷ [])
+    by_feed false e k = k
+    by_feed true e k = cc
+
 -- the bytes in front of the first mark have none
 pub no_mark_before : (bytes : List ℕ) → NoMark (take (position_or_len is_mark bytes) bytes)
 no_mark_before [] = tt
@@ -182,6 +195,13 @@ block_run text rest old new {w} r count m e f h p =
     let bound : count ≤ length rest = subst (λ (k : ℕ). k ≤ length rest) (sym h) (first_star-bound rest r f) in
     Masks-same refl (sym e) refl (ap (λ (k : ℕ). old ++ replicate k 32) (length-take-le count rest bound) ∙ sym p)
     (Masks-block (take count rest) text old none (Masks-same refl e refl refl m))
+
+-- the text as it is shown with the rest of a line comment
+pub line_run : {n : ℕ} (text rest old new : List ℕ) {w : Place} {white : Bool} → Masks n text w white old → w ≡ in_line → NoFeed rest →
+    new ≡ old ++ replicate (length rest) 32 → Masks n (text ++ take (length rest) rest) w white new
+line_run text rest old new {w} m e h p =
+    Masks-same (ap (λ (l : List ℕ). text ++ l) (sym (take_all (length rest) rest (omega arith)))) (sym e) refl (sym p)
+    (Masks-line rest text old h (Masks-same refl e refl refl m))
 
 -- a line that is white before bytes is white after them where they are
 pub and_at_true : (a b : Bool) → b ≡ true → a ≡ (a && b)

@@ -1,13 +1,13 @@
 -- Spans: where a slash, a backslash, a `#`, a literal and a line comment lead.
-use Rattle.std.proofs.Common.{◌≡◌, ℕ, ◌==◌, List, [], ◌∷◌, ◌++◌, Bool, true, false, not, ◌&&◌, ◌||◌, if◌then◌else◌, ◌⊎◌, inl, inr, refl, sym, ◌∙◌, ap, subst, suc, zero, take, arith}
+use Rattle.std.proofs.Common.{◌≡◌, ℕ, ◌==◌, List, [], ◌∷◌, ◌++◌, Bool, true, false, not, ◌&&◌, ◌||◌, if◌then◌else◌, ◌⊎◌, inl, inr, refl, sym, ◌∙◌, ap, subst, ne_eqb, suc, zero, length, take, get_or, arith}
 use Rattle.std.proofs.lemmas.Bool.{eqb-true}
 use Rattle.ud_model.specs.text.Bytes.{is_quote, slash, number_sign, line_feed, carriage_return, star, backslash}
 use Rattle.ud_model.specs.aids.Places.{Place, in_text, at_slash, in_line, in_literal, at_backslash, whitens}
 use Rattle.ud_text.specs.States.{next_state, State, text_state, stops, NoFeedInBlock, state_after, shows_sign, spliced_after, is_other_name, IsQuiet}
 use Rattle.ud_text.proofs.QuietLemmas.{state_after-append, IsQuiet-append, NoFeedInBlock-append}
 use Rattle.ud_text.proofs.PlainLemmas.{not_special, plain_read}
-use Rattle.memchr.specs.Find.{is_byte2, Passes, Nowhere}
-use Rattle.ud_text.specs.Spans.{NoSpecial, LineSpan, NoComment, TextSpan, is_special}
+use Rattle.ud_model.specs.text.Lines.{NoFeed}
+use Rattle.ud_text.specs.Spans.{NoSpecial, LineSpan, NoComment, TextSpan, is_special, may_splice}
 use Rattle.std.proofs.Math.Bool.{and-false}
 
 -- two runs without a comment, one after another
@@ -151,51 +151,86 @@ literal_closed white q bytes r k = by_quote (q == 34) (q == 39) refl refl k
     by_quote false true f g h = closed 39 (eqb-true q 39 g) refl refl refl refl
     by_quote false false f g h = cc
 
--- neither a line feed nor a backslash
-abbrev pub NoBreak : List ℕ → Type 0
-NoBreak [] = Unit {0}
-NoBreak (b ∷ bytes) = ((b == line_feed) ≡ false) × ((b == backslash) ≡ false) × NoBreak bytes
+-- a state in a line comment
+abbrev pub line_comment : Bool → Bool → State
+line_comment white spliced = record { place = in_line; white = white; spliced = spliced }
 
-none_of : (s t : Bool) → ((s || t) ≡ true → ⊥) → (s ≡ false) × (t ≡ false)
-none_of false false h = (refl, refl)
-none_of true t h = absurd (h refl)
-none_of false true h = absurd (h refl)
+-- whether a line feed after these bytes would be spliced, outside block comments
+unfoldable pub spliced_by : Bool → List ℕ → Bool
+spliced_by spliced [] = spliced
+spliced_by spliced (b ∷ bytes) = spliced_by (spliced_after in_line spliced b) bytes
 
--- the bytes before the first of these two have neither
-pub no_break_front : (bytes : List ℕ) (n : ℕ) → Nowhere (Passes (is_byte2 line_feed backslash) bytes) 0 n → NoBreak (take n bytes)
-no_break_front bytes zero none = tt
-no_break_front [] (suc n) none = tt
-no_break_front (b ∷ bytes) (suc n) none =
-    let no : ((b == line_feed) ≡ false) × ((b == backslash) ≡ false) = none_of (b == line_feed) (b == backslash) (none 0 (omega arith) (omega arith)) in
-    (no.0, no.1, no_break_front bytes n (λ k low high. none (suc k) (omega arith) (omega arith)))
+last_clear : (c : Bool) (bytes : List ℕ) (n : ℕ) → length bytes ≡ suc n → (get_or bytes n 0 == backslash) ≡ false → (get_or bytes n 0 == carriage_return) ≡ false →
+    spliced_by c bytes ≡ false
+unfolding spliced_by
+last_clear c [] n e f g = absurd (omega arith)
+last_clear c (a ∷ []) zero e f g = rw (f, g) refl
+last_clear c (a ∷ []) (suc n) e f g = absurd (omega arith)
+last_clear c (a ∷ b ∷ bytes) zero e f g = absurd (omega arith)
+last_clear c (a ∷ b ∷ bytes) (suc n) e f g = last_clear (spliced_after in_line c a) (b ∷ bytes) n (omega arith) f g
 
-line_at_end : (bytes : List ℕ) (white : Bool) → NoBreak bytes →
-    (state_after (record { place = in_line; white = white; spliced = false }) (bytes ++ line_feed ∷ []) ≡ text_state true)
-    × IsQuiet (record { place = in_line; white = white; spliced = false }) (bytes ++ line_feed ∷ [])
-    × NoFeedInBlock (record { place = in_line; white = white; spliced = false }) (bytes ++ line_feed ∷ [])
-line_at_end [] white h = (refl, (refl, tt), (refl, tt))
-line_at_end (b ∷ bytes) white h =
-    let there : next_state (record { place = in_line; white = white; spliced = false }) b ≡ record { place = in_line; white = white; spliced = false } = rw (h.0, h.1) (by_return (b == carriage_return)) in
-    let more : (state_after (record { place = in_line; white = white; spliced = false }) (bytes ++ line_feed ∷ []) ≡ text_state true)
-    × IsQuiet (record { place = in_line; white = white; spliced = false }) (bytes ++ line_feed ∷ [])
-    × NoFeedInBlock (record { place = in_line; white = white; spliced = false }) (bytes ++ line_feed ∷ []) = line_at_end bytes white h.2 in (
-      ap (λ (s : State). state_after s (bytes ++ line_feed ∷ [])) there ∙ more.0,
-      (rw h.0 (by_sign (b == number_sign)), subst (λ (s : State). IsQuiet s (bytes ++ line_feed ∷ [])) (sym there) more.1),
-      (and-false (b == line_feed), subst (λ (s : State). NoFeedInBlock s (bytes ++ line_feed ∷ [])) (sym there) more.2),
-    )
+last_return : (c : Bool) (bytes : List ℕ) (n : ℕ) → length bytes ≡ suc (suc n) → (get_or bytes n 0 == backslash) ≡ false → (get_or bytes n 0 == carriage_return) ≡ false →
+    (get_or bytes (suc n) 0 == backslash) ≡ false → spliced_by c bytes ≡ false
+unfolding spliced_by
+last_return c [] n e f g h = absurd (omega arith)
+last_return c (a ∷ []) n e f g h = absurd (omega arith)
+last_return c (a ∷ b ∷ []) zero e f g h = rw (f, g, h) (by_return (b == carriage_return))
   where
-    by_return : (r : Bool) → ◌≡◌ {A = State} (record { place = in_line; white = white; spliced = if r then false else false }) (record { place = in_line; white = white; spliced = false })
+    by_return : (t : Bool) → (if t then false else false) ≡ false
     by_return true = refl
     by_return false = refl
+last_return c (a ∷ b ∷ []) (suc n) e f g h = absurd (omega arith)
+last_return c (a ∷ b ∷ d ∷ bytes) zero e f g h = absurd (omega arith)
+last_return c (a ∷ b ∷ d ∷ bytes) (suc n) e f g h = last_return (spliced_after in_line c a) (b ∷ d ∷ bytes) n (omega arith) f g h
 
+or_parts : (a b : Bool) → (a || b) ≡ false → (a ≡ false) × (b ≡ false)
+or_parts false false e = (refl, refl)
+or_parts true b e = cc
+or_parts false true e = cc
+
+-- no splice ends after bytes whose last two allow none
+pub unspliced : (bytes : List ℕ) (n : ℕ) → length bytes ≡ suc (suc n) → may_splice (get_or bytes n 0) (get_or bytes (suc n) 0) ≡ false → spliced_by false bytes ≡ false
+unspliced bytes n e f =
+    by_return (get_or bytes (suc n) 0 == carriage_return) refl
+    (or_parts (get_or bytes (suc n) 0 == backslash)
+    ((get_or bytes (suc n) 0 == carriage_return) && ((get_or bytes n 0 == backslash) || (get_or bytes n 0 == carriage_return))) f)
+  where
+    by_return : (t : Bool) → (get_or bytes (suc n) 0 == carriage_return) ≡ t →
+        ((get_or bytes (suc n) 0 == backslash) ≡ false) × ((t && ((get_or bytes n 0 == backslash) || (get_or bytes n 0 == carriage_return))) ≡ false) → spliced_by false bytes ≡ false
+    by_return false g h = last_clear false bytes (suc n) e h.0 g
+    by_return true g h =
+        let p : ((get_or bytes n 0 == backslash) ≡ false) × ((get_or bytes n 0 == carriage_return) ≡ false) = or_parts (get_or bytes n 0 == backslash) (get_or bytes n 0 == carriage_return) h.1 in
+        last_return false bytes n e p.0 p.1 h.0
+
+line_on : (bytes : List ℕ) (white c : Bool) → NoFeed bytes →
+    (state_after (line_comment white c) bytes ≡ line_comment white (spliced_by c bytes)) × IsQuiet (line_comment white c) bytes × NoFeedInBlock (line_comment white c) bytes
+unfolding spliced_by
+line_on [] white c h = (refl, tt, tt)
+line_on (b ∷ bytes) white c h =
+    let other : (b == line_feed) ≡ false = ne_eqb b line_feed h.0 in
+    let there : next_state (line_comment white c) b ≡ line_comment white (spliced_after in_line c b) = rw other refl in
+    let more : (state_after (line_comment white (spliced_after in_line c b)) bytes ≡ line_comment white (spliced_by (spliced_after in_line c b) bytes))
+    × IsQuiet (line_comment white (spliced_after in_line c b)) bytes × NoFeedInBlock (line_comment white (spliced_after in_line c b)) bytes =
+    line_on bytes white (spliced_after in_line c b) h.1 in (
+      ap (λ (s : State). state_after s bytes) there ∙ more.0,
+      (rw other (by_sign (b == number_sign)), subst (λ (s : State). IsQuiet s bytes) (sym there) more.1),
+      (and-false (b == line_feed), subst (λ (s : State). NoFeedInBlock s bytes) (sym there) more.2),
+    )
+  where
     by_sign : (t : Bool) → (if t then false else false) ≡ false
     by_sign true = refl
     by_sign false = refl
 
 -- a line comment with its line feed
-pub line_comment_read : (bytes : List ℕ) (white : Bool) → NoBreak bytes → LineSpan white (slash ∷ slash ∷ (bytes ++ line_feed ∷ []))
-line_comment_read bytes white h = record {
-  leads = (line_at_end bytes white h).0;
-  quiet = (refl, (refl, (line_at_end bytes white h).1));
-  no_feed = (refl, (refl, (line_at_end bytes white h).2));
-}
+pub line_comment_read : (bytes : List ℕ) (white : Bool) → NoFeed bytes → spliced_by false (slash ∷ slash ∷ bytes) ≡ false →
+    LineSpan white (slash ∷ slash ∷ (bytes ++ line_feed ∷ []))
+unfolding spliced_by
+line_comment_read bytes white h e =
+    let on : (state_after (line_comment white false) bytes ≡ line_comment white (spliced_by false bytes)) × IsQuiet (line_comment white false) bytes × NoFeedInBlock (line_comment white false) bytes =
+    line_on bytes white false h in
+    let leads : state_after (line_comment white false) bytes ≡ line_comment white false = on.0 ∙ ap (λ (c : Bool). line_comment white c) e in
+    record {
+      leads = state_after-append (line_comment white false) bytes (line_feed ∷ []) ∙ ap (λ (s : State). state_after s (line_feed ∷ [])) leads;
+      quiet = (refl, (refl, IsQuiet-append (line_comment white false) bytes (line_feed ∷ []) on.1 (subst (λ (s : State). IsQuiet s (line_feed ∷ [])) (sym leads) (refl, tt))));
+      no_feed = (refl, (refl, NoFeedInBlock-append (line_comment white false) bytes (line_feed ∷ []) on.2 (subst (λ (s : State). NoFeedInBlock s (line_feed ∷ [])) (sym leads) (refl, tt))));
+    }

@@ -1,10 +1,10 @@
 -- Special bytes: three tests find the five of them.
 use Rattle.std.proofs.Common.{◌≡◌, ℕ, zero, suc, ◌+◌, ◌-◌, ◌^◌, ◌<◌, eqb, Bool, true, false, not, cond, if◌then◌else◌, ◌||◌, ◌&&◌, List, [], ◌∷◌, map, length, take, drop, get_or, replicate, bit_or, refl, sym, ap, ap₂, ◌∙◌, arith}
-use Rattle.std.specs.List.{position_or_len}
 use Rattle.std.proofs.lemmas.Bool.{eqb-true, eq-eqb}
 use Rattle.std.proofs.lemmas.Simd.{zip2_splat, map-map}
 use Rattle.std.proofs.lemmas.List.{length-map}
-use lib.Lanes.{zip2}
+use lib.Lanes.{zip2, mask_l}
+use Rattle.ud_text.specs.Rows.{special_bits}
 use Rattle.ud_text.specs.Spans.{is_special}
 use Rattle.ud_text.proofs.LaneLemmas.{lane}
 
@@ -12,10 +12,11 @@ use Rattle.ud_text.proofs.LaneLemmas.{lane}
 abbrev pub is_found_special : ℕ → Bool
 is_found_special b = (eqb (bit_or b 1) 35 || eqb (bit_or b 8) 47) || eqb b 92
 
-agree : Bool → Bool → Bool
+-- two tests have the same outcome
+unfoldable pub agree : Bool → Bool → Bool
 agree a b = if a then b else not b
 
-agree_same : (a b : Bool) → agree a b ≡ true → a ≡ b
+pub agree_same : (a b : Bool) → agree a b ≡ true → a ≡ b
 unfolding agree
 agree_same true true e = refl
 agree_same true false e = cc
@@ -23,7 +24,7 @@ agree_same false true e = cc
 agree_same false false e = refl
 
 -- a test is passed by all numbers below this one
-all_below : (ℕ → Bool) → ℕ → Bool
+unfoldable pub all_below : (ℕ → Bool) → ℕ → Bool
 all_below p zero = true
 all_below p (suc n) = p n && all_below p n
 
@@ -32,7 +33,8 @@ both true true e = (refl, refl)
 both true false e = cc
 both false b e = cc
 
-one_below : (p : ℕ → Bool) (n : ℕ) → all_below p n ≡ true → (b : ℕ) → b < n → p b ≡ true
+-- so any of them passes it
+pub one_below : (p : ℕ → Bool) (n : ℕ) → all_below p n ≡ true → (b : ℕ) → b < n → p b ≡ true
 unfolding all_below
 one_below p zero e b h = absurd (omega (arith, h))
 one_below p (suc n) e b h = by_test (eqb b n) refl (λ k. one_below p n (both (p n) (all_below p n) e).1 b k)
@@ -47,7 +49,7 @@ unfolding agree all_below
 special_found b h = agree_same (is_found_special b) (is_special b) (one_below (λ x. agree (is_found_special x) (is_special x)) 256 refl b h)
 
 -- each of these is a byte
-AreBytes : List ℕ → Type 0
+unfoldable pub AreBytes : List ℕ → Type 0
 AreBytes [] = Unit {0}
 AreBytes (b ∷ bs) = (b < 256) × AreBytes bs
 
@@ -68,15 +70,18 @@ bytes_take zero bs h = tt
 bytes_take (suc n) [] h = tt
 bytes_take (suc n) (b ∷ bs) h = (h.0, bytes_take n bs h.1)
 
-search_found : (bs : List ℕ) → AreBytes bs → position_or_len is_found_special bs ≡ position_or_len is_special bs
+map_found : (bs : List ℕ) → AreBytes bs → map is_found_special bs ≡ map is_special bs
 unfolding AreBytes
-search_found [] h = refl
-search_found (b ∷ bs) h = ap₂ (λ (t : Bool) (n : ℕ). cond (not t) (1 + n) 0) (special_found b h.0) (search_found bs h.1)
+map_found [] h = refl
+map_found (b ∷ bs) h = ap₂ (λ (t : Bool) (ts : List Bool). t ∷ ts) (special_found b h.0) (map_found bs h.1)
 
--- the search by the three tests finds the first special byte of a row
-pub search_row : (bs : List ℕ) (at n : ℕ) → ((i : ℕ) → get_or bs i 0 < 256) →
-    position_or_len is_found_special (take n (drop at bs)) ≡ position_or_len is_special (take n (drop at bs))
-search_row bs at n h = search_found (take n (drop at bs)) (bytes_take n (drop at bs) (bytes_drop at bs (are_bytes bs h)))
+-- a row of bytes is one
+pub row_bytes : (bs : List ℕ) (at n : ℕ) → ((i : ℕ) → get_or bs i 0 < 256) → AreBytes (take n (drop at bs))
+row_bytes bs at n h = bytes_take n (drop at bs) (bytes_drop at bs (are_bytes bs h))
+
+-- the three tests find the special bytes of a row
+pub bits_row : (bs : List ℕ) (at n : ℕ) → ((i : ℕ) → get_or bs i 0 < 256) → mask_l (map is_found_special (take n (drop at bs))) ≡ special_bits (take n (drop at bs))
+bits_row bs at n h = ap mask_l (map_found (take n (drop at bs)) (row_bytes bs at n h))
 
 -- the lanes that equal a byte once this bit is set
 pub lanes_equal_with : (v : List ℕ) (n y m : ℕ) → length v ≡ n →

@@ -2,7 +2,7 @@
 use Rattle.std.proofs.Common.{◌≡◌, ℕ, zero, suc, ◌+◌, ◌-◌, ◌<◌, ◌≤◌, ◌==◌, List, [], ◌∷◌, ◌++◌, length, take, drop, get_or, Bool, true, false, ◌&&◌, ◌||◌, ◌⊎◌, inl, inr, refl, sym, ◌∙◌, ap, ap₂, subst, append_assoc, arith, add-one}
 use Rattle.std.specs.List.{position_or_len}
 use Rattle.std.proofs.lemmas.Bool.{eqb-true}
-use Rattle.std.proofs.lemmas.List.{take_more, take_rest, take-append-drop, take-take, get_or-drop}
+use Rattle.std.proofs.lemmas.List.{take_more, take_rest, take-append-drop, take-take, get_or-drop, get_or-take, length-take-le}
 use Rattle.std.proofs.lemmas.List.Sums.{fails_before_first, passes_at_first}
 use Rattle.std.proofs.Math.ListN.{length-drop}
 use Rattle.std.proofs.Math.Seq.{drop-cons, drop-nil}
@@ -12,11 +12,11 @@ use Rattle.ud_model.specs.aids.Places.{Place, in_text, in_block}
 use Rattle.ud_text.specs.States.{line_state, State, text_state, is_other_name, inside_state, block_state}
 use Rattle.ud_text.proofs.MarkLemmas.{position_or_len-bound}
 use Rattle.ud_text.proofs.PlainLemmas.{plain_read, no_special_before}
-use Rattle.ud_text.proofs.SpanLemmas.{slash_read, backslash_read, sign_read, literal_byte, literal_pair, literal_closed, NoBreak, line_comment_read, LiteralFront}
+use Rattle.ud_text.proofs.SpanLemmas.{slash_read, backslash_read, sign_read, literal_byte, literal_pair, literal_closed, line_comment_read, LiteralFront, spliced_by, unspliced}
 use Rattle.ud_text.proofs.LookLemmas.{shows_white}
 use Rattle.ud_text.proofs.ProgressLemmas.{read_text, read_line, plain_of, plain_leads, read_none, read_start, read_base, read_splice}
-use Rattle.ud_text.proofs.BlockLemmas.{pair_front, block_same, block_later, block_closed}
-use Rattle.ud_text.specs.Spans.{black, NoPair, NoSpecial, is_pair, LineSpan, all_white, LastBegins, TextSpan, is_special, SeenWhite, new_line, IsSplice}
+use Rattle.ud_text.proofs.BlockLemmas.{pair_front, block_same, block_later, block_opened, block_closed}
+use Rattle.ud_text.specs.Spans.{black, NoPair, NoSpecial, is_pair, LineSpan, all_white, LastBegins, TextSpan, is_special, SeenWhite, new_line, IsSplice, may_splice}
 use Rattle.ud_text.specs.Progress.{ReadTo, ReadOutside}
 use Rattle.ud_text.specs.Searches.{is_one_of}
 
@@ -111,13 +111,18 @@ module _ (l : List ℕ) (q at count : ℕ) (is : count ≡ position_or_len (ends
       second_passes (get_or l (at + count) 0 == q) (get_or l (at + count) 0 == backslash) (get_or l (at + count) 0 == line_feed)
       (subst (λ (b : ℕ). ends_run q b ≡ true) (get_or-drop at l count 0) stop) g f
 
+-- the byte that a search found after the first two
+pub feed_there : (l : List ℕ) (k : ℕ) → (get_or (take (length l - 2) (drop 2 l)) k 0 == line_feed) ≡ true → get_or l (2 + k) 0 ≡ line_feed
+feed_there l k e =
+    sym (get_or-drop 2 l k 0) ∙ ap (λ (x : List ℕ). get_or x k 0) (sym (take_rest l 2)) ∙ eqb-true (get_or (take (length l - 2) (drop 2 l)) k 0) line_feed e
+
 -- a line comment is in front, up to its line feed
-pub comment_spans : (l : List ℕ) (k : ℕ) → take 2 l ≡ slash ∷ slash ∷ [] → NoBreak (take k (drop 2 l)) → k < length (drop 2 l) → (get_or l (2 + k) 0 == line_feed) ≡ true →
-    (white : Bool) → LineSpan white (take (2 + k + 1) l)
-comment_spans [] k e f h g white = absurd (omega arith)
-comment_spans (a ∷ []) k e f h g white = absurd (omega arith)
-comment_spans (a ∷ b ∷ l) k e f h g white =
-    subst (λ (x : List ℕ). LineSpan white x) (sym is) (line_comment_read (take k l) white f)
+pub comment_spans : (l : List ℕ) (k : ℕ) → take 2 l ≡ slash ∷ slash ∷ [] → NoFeed (take k (drop 2 l)) → k < length (drop 2 l) → get_or l (2 + k) 0 ≡ line_feed →
+    may_splice (get_or l k 0) (get_or l (k + 1) 0) ≡ false → (white : Bool) → LineSpan white (take (2 + k + 1) l)
+comment_spans [] k e f h g m white = absurd (omega arith)
+comment_spans (a ∷ []) k e f h g m white = absurd (omega arith)
+comment_spans (a ∷ b ∷ l) k e f h g m white =
+    subst (λ (x : List ℕ). LineSpan white x) (sym is) (line_comment_read (take k l) white f clear)
   where
     there : (n m : ℕ) → n ≡ suc (suc m) → get_or (a ∷ b ∷ l) n 0 ≡ get_or l m 0
     there n m e = ap (λ (x : ℕ). get_or (a ∷ b ∷ l) x 0) e
@@ -127,8 +132,20 @@ comment_spans (a ∷ b ∷ l) k e f h g white =
 
     is : take (2 + k + 1) (a ∷ b ∷ l) ≡ slash ∷ slash ∷ (take k l ++ line_feed ∷ [])
     is = front (2 + k + 1) (k + 1) (omega arith)
-        ∙ ap (λ (x : List ℕ). a ∷ b ∷ x) (take_more l k 0 (omega arith) ∙ ap (λ (n : ℕ). take k l ++ n ∷ []) (eqb-true (get_or l k 0) line_feed (ap (λ (n : ℕ). n == line_feed) (sym (there (2 + k) k (omega arith))) ∙ g)))
+        ∙ ap (λ (x : List ℕ). a ∷ b ∷ x) (take_more l k 0 (omega arith) ∙ ap (λ (n : ℕ). take k l ++ n ∷ []) (sym (there (2 + k) k (omega arith)) ∙ g))
         ∙ (let x : a ≡ slash = cc in let y : b ≡ slash = cc in cc)
+
+    the_front : take (suc (suc k)) (a ∷ b ∷ l) ≡ slash ∷ slash ∷ take k l
+    the_front = let x : a ≡ slash = cc in let y : b ≡ slash = cc in ap₂ (λ (i j : ℕ). i ∷ j ∷ take k l) x y
+
+    byte : (n : ℕ) → n < suc (suc k) → get_or (slash ∷ slash ∷ take k l) n 0 ≡ get_or (a ∷ b ∷ l) n 0
+    byte n i = ap (λ (x : List ℕ). get_or x n 0) (sym the_front) ∙ get_or-take (suc (suc k)) (a ∷ b ∷ l) n 0 i
+
+    clear : spliced_by false (slash ∷ slash ∷ take k l) ≡ false
+    clear =
+        let next : k + 1 ≡ suc k = omega arith in
+        unspliced (slash ∷ slash ∷ take k l) k (let e : length (take k l) ≡ k = length-take-le k l (omega arith) in omega (arith, e))
+        (ap₂ may_splice (byte k (omega arith)) (byte (suc k) (omega arith) ∙ ap (λ (n : ℕ). get_or (a ∷ b ∷ l) n 0) (sym next)) ∙ m)
 
 pair_more_suc : (l : List ℕ) (at : ℕ) → suc at < length l → NoPair (take (suc at) l) → is_pair (get_or l at 0) (get_or l (suc at) 0) ≡ false → NoPair (take (suc (suc at)) l)
 pair_more_suc [] at h f e = absurd (omega arith)
@@ -197,47 +214,57 @@ module _ {start : State} {bytes : List ℕ} {line : ℕ} {kept : State} {base : 
       (subst (λ (l : List ℕ). LineSpan r.now_white (take k l)) (take_rest bytes at) (t r.now_white))
 
   -- plain text up to the next byte that may matter
-  pub plain_step_read : (k : ℕ) → k ≡ position_or_len is_special (take (length bytes - at) (drop at bytes)) → ReadOutside start bytes line kept base begins (at + k)
-  plain_step_read k e =
-      text_step_read k (subst (λ (n : ℕ). n ≤ length (take (length bytes - at) (drop at bytes))) (sym e) (position_or_len-bound is_special (take (length bytes - at) (drop at bytes))))
-      (λ u. plain_read (take k (take (length bytes - at) (drop at bytes))) u
-      (subst (λ (n : ℕ). NoSpecial (take n (take (length bytes - at) (drop at bytes)))) (sym e) (no_special_before (take (length bytes - at) (drop at bytes)))))
+  pub plain_step_read : (next : ℕ) → next ≡ at + position_or_len is_special (drop at bytes) → ReadOutside start bytes line kept base begins next
+  plain_step_read next e =
+      let k : ℕ = position_or_len is_special (drop at bytes) in
+      subst (λ (n : ℕ). ReadOutside start bytes line kept base begins n) (sym e)
+      (read_text r (position_or_len is_special (drop at bytes)) (position_or_len-bound is_special (drop at bytes))
+      (plain_read (take (position_or_len is_special (drop at bytes)) (drop at bytes)) r.now_white (no_special_before (drop at bytes))))
 
   -- what is seen by looking back as far as the base is so
   pub looked : (v : Bool) → SeenWhite (take (at - base) (drop base bytes)) begins v → r.now_white ≡ v
   looked v h = shows_white r.plain begins v r.now_white r.no_comment (plain_leads r) (subst (λ (l : List ℕ). SeenWhite l begins v) (plain_of r) h)
+
+  -- the beginning of a block comment
+  pub block_begun : (v : Bool) → SeenWhite (take (at - base) (drop base bytes)) begins v → 2 ≤ length (drop at bytes) → take 2 (drop at bytes) ≡ slash ∷ star ∷ [] →
+      ReadTo start bytes line kept (at + 2) (block_state v)
+  block_begun v seen h e =
+      block_opened v (subst (λ (u : Bool). ReadTo start bytes line kept at (text_state u)) (looked v seen) r.so_far) h (sym e)
 
   -- a splice on a logical line that isn't white
   pub splice_step_read : SeenWhite (take (at - base) (drop base bytes)) begins false → (k : ℕ) → k ≤ length (drop at bytes) → IsSplice (take k (drop at bytes)) →
       ReadOutside start bytes (at + k) (text_state false) (at + k) false (at + k)
   splice_step_read seen k h s = read_base false (read_splice r.so_far (ap (λ (u : Bool). text_state u) (looked false seen)) k h s)
 
-  -- a `#` that belongs to no directive, and the plain text after it
-  pub sign_step_read : take 1 (drop at bytes) ≡ number_sign ∷ [] → (k : ℕ) → k ≡ position_or_len is_special (take (length bytes - (at + 1)) (drop (at + 1) bytes)) →
-      (is_other_name (take k (take (length bytes - (at + 1)) (drop (at + 1) bytes))) ≡ true) ⊎ SeenWhite (take (at - base) (drop base bytes)) begins false →
+  -- a `#` that belongs to no directive, and so many plain bytes after it
+  pub sign_step_read : take 1 (drop at bytes) ≡ number_sign ∷ [] → (k : ℕ) → k ≤ length (drop (at + 1) bytes) → NoSpecial (take k (drop (at + 1) bytes)) →
+      (is_other_name (take k (drop (at + 1) bytes)) ≡ true) ⊎ SeenWhite (take (at - base) (drop base bytes)) begins false →
       ReadOutside start bytes line kept base begins (at + 1 + k)
-  sign_step_read first k e why =
-      let later : take (length bytes - (at + 1)) (drop (at + 1) bytes) ≡ drop 1 (drop at bytes) = take_rest bytes (at + 1) ∙ drop_both bytes at 1 in
-      let name : List ℕ = take k (drop 1 (drop at bytes)) in
-      let k_is : k ≡ position_or_len is_special (drop 1 (drop at bytes)) = e ∙ ap (λ (l : List ℕ). position_or_len is_special l) later in
-      let none : NoSpecial name = subst (λ (n : ℕ). NoSpecial (take n (drop 1 (drop at bytes)))) (sym k_is) (no_special_before (drop 1 (drop at bytes))) in
-      let reason : (is_other_name name ≡ true) ⊎ (r.now_white ≡ false) = by_reason later why in
-      let taken : take (suc k) (drop at bytes) ≡ number_sign ∷ name = sign_take (drop at bytes) k first in
-      let bound : k ≤ length (drop 1 (drop at bytes)) =
-      subst (λ (n : ℕ). n ≤ length (drop 1 (drop at bytes))) (sym k_is) (position_or_len-bound is_special (drop 1 (drop at bytes))) in
+  sign_step_read first k bound none why =
+      let later : drop (at + 1) bytes ≡ drop 1 (drop at bytes) = drop_both bytes at 1 in
+      let name : List ℕ = take k (drop (at + 1) bytes) in
+      let reason : (is_other_name (take k (drop (at + 1) bytes)) ≡ true) ⊎ (r.now_white ≡ false) = by_reason why in
+      let taken : take (suc k) (drop at bytes) ≡ number_sign ∷ take k (drop (at + 1) bytes) =
+      sign_take (drop at bytes) k first ∙ ap (λ (l : List ℕ). number_sign ∷ take k l) (sym later) in
       let there : at + suc k ≡ at + 1 + k = omega arith in
       subst (λ (n : ℕ). ReadOutside start bytes line kept base begins n) there
-      (read_text r (suc k) (fits (drop at bytes) k first bound) (subst (λ (l : List ℕ). TextSpan r.now_white l) (sym taken) (sign_read name r.now_white none reason)))
+      (read_text r (suc k) (fits (drop at bytes) k first (subst (λ (l : List ℕ). k ≤ length l) later bound))
+      (subst (λ (l : List ℕ). TextSpan r.now_white l) (sym taken) (sign_read (take k (drop (at + 1) bytes)) r.now_white none reason)))
     where
-      by_reason : take (length bytes - (at + 1)) (drop (at + 1) bytes) ≡ drop 1 (drop at bytes) →
-          (is_other_name (take k (take (length bytes - (at + 1)) (drop (at + 1) bytes))) ≡ true) ⊎ SeenWhite (take (at - base) (drop base bytes)) begins false →
-          (is_other_name (take k (drop 1 (drop at bytes))) ≡ true) ⊎ (r.now_white ≡ false)
-      by_reason later (inl f) = inl (ap (λ (l : List ℕ). is_other_name (take k l)) (sym later) ∙ f)
-      by_reason later (inr f) = inr (looked false f)
+      by_reason : (is_other_name (take k (drop (at + 1) bytes)) ≡ true) ⊎ SeenWhite (take (at - base) (drop base bytes)) begins false →
+          (is_other_name (take k (drop (at + 1) bytes)) ≡ true) ⊎ (r.now_white ≡ false)
+      by_reason (inl f) = inl f
+      by_reason (inr f) = inr (looked false f)
 
       fits : (l : List ℕ) (k : ℕ) → take 1 l ≡ number_sign ∷ [] → k ≤ length (drop 1 l) → suc k ≤ length l
       fits [] k e h = cc
       fits (a ∷ l) k e h = omega arith
+
+  -- and the `#` alone
+  pub sign_alone_read : take 1 (drop at bytes) ≡ number_sign ∷ [] → SeenWhite (take (at - base) (drop base bytes)) begins false → ReadOutside start bytes line kept base begins (at + 1)
+  sign_alone_read first seen =
+      let there : at + 1 + 0 ≡ at + 1 = omega arith in
+      subst (λ (n : ℕ). ReadOutside start bytes line kept base begins n) there (sign_step_read first 0 (omega arith) tt (inr seen))
 
 module _ {start : State} {bytes : List ℕ} {line : ℕ} {kept : State} {at : ℕ} {u : Bool}
     (r : ReadTo start bytes line kept at (block_state u)) (count : ℕ) (fits : at + count ≤ length bytes)

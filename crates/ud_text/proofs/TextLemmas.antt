@@ -273,7 +273,8 @@ NoWord (b ∷ bytes) = is_word_byte b ≡ false
 word_front : (b : ℕ) (w : List ℕ) → is_word_byte b ≡ true → word_in_front (b ∷ w) ≡ b ∷ word_in_front w
 word_front b w e = rw e refl
 
-is_other_word-first : (b c : ℕ) → is_other_word b c ≡ true → is_word_byte b ≡ true
+-- its first byte is one of a word
+pub is_other_word-first : (b c : ℕ) → is_other_word b c ≡ true → is_word_byte b ≡ true
 is_other_word-first b c e =
     (and_parts (is_word_byte b)
     (if b == letter_i then is_word_byte c && not (c == letter_f)

@@ -9,3 +9,4 @@ pub mod States
 pub mod Spans
 pub mod Progress
 pub mod Skipping
+pub mod Rows

@@ -6,6 +6,7 @@
 --   LastBegins bytes n          the last line of the bytes begins after the first n of them
 --   TextSpan white bytes        the bytes lead from outside comments and literals to outside them, and have no comment
 --   LineSpan white bytes        the bytes lead from there to the beginning of a line
+--   may_splice a b              after these two bytes a line feed may belong to a splice
 --   IsSplice bytes              a backslash and the ending of a line
 --   SeenWhite bytes begins v    looking back over the bytes tells whether the logical line is white
 --
@@ -71,6 +72,10 @@ pub record LineSpan (white : Bool) (bytes : List ℕ) : Type 0 where
   pub leads : state_after (text_state white) bytes ≡ text_state true
   pub quiet : IsQuiet (text_state white) bytes
   pub no_feed : NoFeedInBlock (text_state white) bytes
+
+-- after these two bytes, and what stands before them, a line feed may belong to a splice
+abbrev pub may_splice : ℕ → ℕ → Bool
+may_splice a b = (b == backslash) || ((b == carriage_return) && ((a == backslash) || (a == carriage_return)))
 
 -- a backslash and the ending that it deletes (C11 5.1.1.2, phase 2)
 pub data IsSplice : List ℕ → Type 0 where

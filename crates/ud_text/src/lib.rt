@@ -14,6 +14,7 @@ mod marks;
 mod masking;
 mod passing;
 mod plain_lines;
+mod rows;
 mod scan;
 mod scanner;
 mod searching;

@@ -1,8 +1,8 @@
 //! One line in C mode: the bytes of its comments as spaces.
 //!
 //! The text is read a byte at a time, and where it leaves off is carried from byte to byte. A slash is shown as it is
-//! until the next byte tells that it begins a comment. Runs of bytes outside comments and literals, and within block
-//! comments, are taken at once: they leave the place as it is.
+//! until the next byte tells that it begins a comment. Runs of bytes outside comments and literals, and within comments,
+//! are taken at once: they leave the place as it is.
 
 ghost use Rattle.std.specs.Prelude.{◌≡◌, ◌≤◌, ◌<◌, ◌+◌, ◌&&◌, ℕ, List, [], ◌∷◌, ◌++◌, length, take, replicate};
 ghost use Rattle.arrayvec.specs.ArrayVec.{array_vec_len};
@@ -186,8 +186,8 @@ fn push_spaces<const ROOM: usize>(count: usize, masked: &mut ArrayVec<u8, ROOM>)
     }
 }
 
-/// Reads the bytes in front that leave the place as it is, where that is outside comments and literals or in a block
-/// comment, and none elsewhere. Answers how many they are.
+/// Reads the bytes in front that leave the place as it is, where that is outside comments and literals or in a comment, and
+/// none elsewhere. Answers how many they are.
 fn mask_run<const ROOM: usize>(
     reached: Reached,
     rest: &[u8],
@@ -217,6 +217,10 @@ fn mask_run<const ROOM: usize>(
             let count = memchr(b'*', rest).unwrap_or(rest.len());
             push_spaces(count, masked);
             (reached, count)
+        }
+        Place::ToLineEnd => {
+            push_spaces(rest.len(), masked);
+            (reached, rest.len())
         }
         _ => (reached, 0),
     }

@@ -8,13 +8,15 @@
 ghost use Rattle.std.specs.Prelude.{◌≡◌, ◌≤◌, ◌<◌, ◌+◌, Bool, [], ◌∷◌, length, take, drop, true, IfOk, IfErr, MatchResult};
 ghost use Rattle.ud_model.specs.text.Bytes.{slash, star, number_sign};
 ghost use Rattle.ud_text.specs.States.{State, block_state, can_start};
+ghost use Rattle.ud_text.specs.Rows.{IsRow};
 ghost use Rattle.ud_text.specs.Spans.{NoPair, IsSplice};
 ghost use Rattle.ud_text.specs.Progress.{ReadTo, state_of, InOrder, ReadBy, PassedBy, InBlock, Steps};
 ghost use Rattle.ud_text.specs.LineViews.{place_of};
 
 use crate::masking::{Place, Reached};
-use crate::searching::{first_pair, first_special, is_special, line_begin};
-use crate::signs::{is_text_sign, line_white};
+use crate::rows::{Row, next_special, no_row};
+use crate::searching::{first_pair, line_begin};
+use crate::signs::{line_white, other_name};
 use crate::spans::{comment_span, splice_span, text_span};
 
 /// The beginning of a line.
@@ -129,9 +131,12 @@ fn block_step(lines: &[u8], p: Progress) -> Result<Progress, LineStart>
     ensures bound { IfErr result (λ stop. stop.at ≤ length lines.now) }
     ensures read { Steps lines.now p result }
 {
-    let last = last_line(lines, p.line, p.at);
     let white = line_white(&lines[p.base..p.at], p.begins);
-    close_block(lines, last, p.at + 2, white)
+    match close_block(lines, p.line, p.at + 2, white) {
+        Ok(q) => Ok(q),
+        Err(stop) if stop.at > p.at => Err(stop),
+        Err(_) => Err(last_line(lines, p.line, p.at)),
+    }
 }
 
 /// Reads a line comment with its line feed.
@@ -154,7 +159,7 @@ fn comment_step(lines: &[u8], p: Progress) -> Result<Progress, LineStart>
     }
 }
 
-/// Reads a `#` that belongs to no directive, and the plain text after it.
+/// Reads a `#` that belongs to no directive, by the name after it or by what stands before it on its logical line.
 fn sign_step(lines: &[u8], p: Progress) -> Result<Progress, LineStart>
     requires order { InOrder p lines.now }
     requires some { 1 ≤ length (drop p.at lines.now) }
@@ -163,15 +168,16 @@ fn sign_step(lines: &[u8], p: Progress) -> Result<Progress, LineStart>
     ensures bound { IfErr result (λ stop. stop.at ≤ length lines.now) }
     ensures read { Steps lines.now p result }
 {
-    let rest = &lines[p.at + 1..];
-    let count = first_special(rest);
-    if !is_text_sign(&lines[p.base..p.at], p.begins, &rest[..count]) {
+    let after = p.at + 1;
+    if let Some(count) = other_name(&lines[after..]) {
+        let at = after + count;
+        return Ok(Progress { at, ..p });
+    }
+    let before = &lines[p.base..p.at];
+    if line_white(before, p.begins) {
         return Err(last_line(lines, p.line, p.at));
     }
-    Ok(Progress {
-        at: p.at + 1 + count,
-        ..p
-    })
+    Ok(Progress { at: after, ..p })
 }
 
 /// Reads what a slash, a backslash or a quote begins.
@@ -224,12 +230,12 @@ fn special_step(lines: &[u8], p: Progress) -> Result<Progress, LineStart>
     ensures read { Steps lines.now p result }
 {
     let rest = &lines[p.at..];
-    if rest.starts_with(b"/*") {
+    if rest.starts_with(b"#") {
+        sign_step(lines, p)
+    } else if rest.starts_with(b"/*") {
         block_step(lines, p)
     } else if rest.starts_with(b"//") {
         comment_step(lines, p)
-    } else if rest.starts_with(b"#") {
-        sign_step(lines, p)
     } else if let Some(count) = splice_span(rest) {
         splice_step(lines, p, count)
     } else {
@@ -238,19 +244,17 @@ fn special_step(lines: &[u8], p: Progress) -> Result<Progress, LineStart>
 }
 
 /// Reads plain text, up to the next byte that may matter.
-fn plain_step(lines: &[u8], p: Progress) -> Progress
+#[inline(always)]
+fn plain_step(lines: &[u8], row: Row, p: Progress) -> (Row, Progress)
     requires order { InOrder p lines.now }
-    ensures order { InOrder result lines.now }
-    ensures further { p.at ≤ result.at }
-    ensures read { (start : State) → ReadBy start lines.now p → ReadBy start lines.now result }
+    requires row { IsRow row lines.now }
+    ensures row { IsRow result.0 lines.now }
+    ensures order { InOrder result.1 lines.now }
+    ensures further { p.at ≤ result.1.at }
+    ensures read { (start : State) → ReadBy start lines.now p → ReadBy start lines.now result.1 }
 {
-    if p.at < lines.len() && is_special(lines[p.at]) {
-        return p;
-    }
-    Progress {
-        at: p.at + first_special(&lines[p.at..]),
-        ..p
-    }
+    let (at, row) = next_special(lines, row, p.at);
+    (row, Progress { at, ..p })
 }
 
 /// Reads on as far as all lines are seen to be text. Answers the beginning of the line at which it stops.
@@ -259,11 +263,13 @@ fn pass_from(lines: &[u8], begun: Progress) -> LineStart
     ensures bound { result.at ≤ length lines.now }
     ensures passed { (start : State) → ReadBy start lines.now begun → PassedBy start lines.now result }
 {
-    let mut p = plain_step(lines, begun);
+    let (mut row, mut p) = plain_step(lines, no_row(lines), begun);
     while p.at < lines.len() {
         match special_step(lines, p) {
             Ok(next) => {
-                p = plain_step(lines, next);
+                let (later, further) = plain_step(lines, row, next);
+                row = later;
+                p = further;
             }
             Err(stop) => {
                 return stop;

@@ -3,6 +3,7 @@
 ghost use Rattle.std.specs.Prelude.{◌≡◌, ◌≤◌, ◌<◌, ◌+◌, ◌-◌, length, take, drop, slice_index, true};
 ghost use Rattle.std.specs.List.{position_or_len};
 ghost use Rattle.ud_text.specs.Searches.{pairs_of, is_found};
+ghost use Rattle.ud_text.specs.Rows.{special_bits};
 ghost use Rattle.ud_text.specs.Spans.{is_special, is_pair, NoPair, LastBegins};
 
 use crate::lanes::{first_near, lowest_bit};
@@ -32,6 +33,21 @@ pub(crate) fn first_special(bytes: &[u8]) -> usize
     }
 }
 
+/// A bit for each of the `N` bytes from a place on that may matter, the lowest for the first.
+#[inline(always)]
+pub(crate) fn special_bits<const N: usize>(bytes: &[u8], at: usize) -> u64
+    requires few { N ≤ 64 }
+    requires room { at + N ≤ length bytes.now }
+    ensures { result ≡ special_bits (take N (drop at bytes.now)) }
+{
+    // A `"` is a `#` without the lowest bit, and a `'` a `/` without the bit of 8: three tests find five bytes.
+    let lanes = Simd::<u8, N>::from_slice(&bytes[at..]);
+    let found = (lanes | Simd::splat(1)).simd_eq(Simd::splat(b'#'))
+        | (lanes | Simd::splat(8)).simd_eq(Simd::splat(b'/'))
+        | lanes.simd_eq(Simd::splat(b'\\'));
+    found.to_bitmask()
+}
+
 /// How many of the `N` bytes from a place on stand before the first that may matter; all if none does.
 #[inline(always)]
 fn special_among<const N: usize>(bytes: &[u8], at: usize) -> usize
@@ -40,12 +56,7 @@ fn special_among<const N: usize>(bytes: &[u8], at: usize) -> usize
     ensures value { result ≡ position_or_len is_special (take N (drop at bytes.now)) }
     ensures bound { result ≤ N }
 {
-    // A `"` is a `#` without the lowest bit, and a `'` a `/` without the bit of 8: three tests find five bytes.
-    let lanes = Simd::<u8, N>::from_slice(&bytes[at..]);
-    let found = (lanes | Simd::splat(1)).simd_eq(Simd::splat(b'#'))
-        | (lanes | Simd::splat(8)).simd_eq(Simd::splat(b'/'))
-        | lanes.simd_eq(Simd::splat(b'\\'));
-    lowest_bit(found.to_bitmask(), N)
+    lowest_bit(special_bits::<N>(bytes, at), N)
 }
 
 /// The place of the first byte that may matter, by `N` lanes. The number of bytes if there is none.

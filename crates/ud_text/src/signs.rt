@@ -2,11 +2,12 @@
 //!
 //! It doesn't if a word that is no keyword follows, nor if its logical line isn't white before it (C11 6.10).
 
-ghost use Rattle.std.specs.Prelude.{◌≡◌, ◌≤◌, ◌<◌, ◌-◌, ◌⊎◌, length, drop, slice_index, true, false};
+ghost use Rattle.std.specs.Prelude.{◌≡◌, ◌≤◌, ◌<◌, ◌-◌, length, take, drop, slice_index, true, false, IfSome};
 ghost use Rattle.ud_model.specs.text.Bytes.{is_white, are_white};
 ghost use Rattle.ud_text.specs.States.{is_other_word, is_other_name};
-ghost use Rattle.ud_text.specs.Spans.{SeenWhite};
+ghost use Rattle.ud_text.specs.Spans.{SeenWhite, NoSpecial};
 
+use crate::searching::is_special;
 use ud_model::bytes::{is_white, is_word_byte, past_white};
 
 /// Whether a word begins with the first of these bytes, and no keyword does, or with both of them.
@@ -23,14 +24,21 @@ fn is_other_word(first: u8, second: u8) -> bool
     }
 }
 
-/// Whether a word that is no keyword comes first, but for white space.
-fn is_other_name(bytes: &[u8]) -> bool
-    ensures { result ≡ is_other_name bytes.now }
+/// So many bytes in front that tell that a word that is no keyword comes first, but for white space. None of them may
+/// matter by itself.
+pub(crate) fn other_name(bytes: &[u8]) -> Option<usize>
+    ensures bound { IfSome result (λ n. n ≤ length bytes.now) }
+    ensures plain { IfSome result (λ n. NoSpecial (take n bytes.now)) }
+    ensures other { IfSome result (λ n. is_other_name (take n bytes.now) ≡ true) }
 {
-    match past_white(bytes) {
-        [first, second, ..] => is_other_word(*first, *second),
-        _ => false,
+    let word = past_white(bytes);
+    if word.len() < 2 {
+        return None;
     }
+    if is_other_word(word[0], word[1]) && !is_special(word[1]) {
+        return Some(bytes.len() - word.len() + 2);
+    }
+    None
 }
 
 /// Where the white space at the end of these bytes begins.
@@ -41,7 +49,9 @@ fn white_begin(bytes: &[u8]) -> usize
 {
     let mut at = bytes.len();
     while at > 0 {
-        if !is_white(bytes[at - 1]) {
+        // Mostly it's a space.
+        let byte = bytes[at - 1];
+        if byte != b' ' && !is_white(byte) {
             return at;
         }
         at -= 1;
@@ -59,12 +69,4 @@ pub(crate) fn line_white(bytes: &[u8], begins: bool) -> bool
         return begins;
     }
     bytes[at - 1] == b'\n'
-}
-
-/// Whether a `#` is seen to belong to no directive, by what stands before it on its line and by the name after it.
-/// `begins` tells whether the logical line is white before the former.
-pub(crate) fn is_text_sign(before: &[u8], begins: bool, name: &[u8]) -> bool
-    ensures { result ≡ true → (is_other_name name.now ≡ true) ⊎ SeenWhite before.now begins false }
-{
-    is_other_name(name) || !line_white(before, begins)
 }

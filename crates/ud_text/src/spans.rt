@@ -5,11 +5,11 @@
 
 ghost use Rattle.std.specs.Prelude.{◌≡◌, ◌≤◌, ◌<◌, Bool, [], ◌∷◌, length, take, slice_index, true, false, IfSome, OnSome};
 ghost use Rattle.ud_model.specs.text.Bytes.{slash, backslash, is_quote};
-ghost use Rattle.ud_text.specs.Spans.{is_special, TextSpan, LineSpan, IsSplice};
+ghost use Rattle.ud_text.specs.Spans.{is_special, TextSpan, LineSpan, IsSplice, may_splice};
 
 use crate::lanes::first_near;
 use crate::searching::is_special;
-use memchr::memchr2;
+use memchr::memchr;
 
 /// The second byte, if it can't matter by itself outside comments and literals.
 fn plain_second(rest: &[u8]) -> Option<u8>
@@ -120,18 +120,25 @@ pub(crate) fn text_span(rest: &[u8]) -> Option<usize>
     }
 }
 
-/// A line comment with its line feed (C11 6.4.9). No answer if a backslash stands in it.
+/// Whether a splice may end with a line feed after these two bytes, and what stands before them.
+fn may_splice(first: u8, second: u8) -> bool
+    ensures { result ≡ may_splice first second }
+{
+    second == b'\\' || second == b'\r' && (first == b'\\' || first == b'\r')
+}
+
+/// A line comment with its line feed (C11 6.4.9). No answer if a backslash may join the next line to it.
 pub(crate) fn comment_span(rest: &[u8]) -> Option<usize>
     requires some { 2 ≤ length rest.now }
     requires first { take 2 rest.now ≡ slash ∷ slash ∷ [] }
     ensures bound { IfSome result (λ n. (0 < n) × (n ≤ length rest.now)) }
     ensures read { IfSome result (λ n. (white : Bool) → LineSpan white (take n rest.now)) }
 {
-    let Some(count) = memchr2(b'\n', b'\\', &rest[2..]) else {
+    let Some(count) = memchr(b'\n', &rest[2..]) else {
         return None;
     };
-    if rest[2 + count] == b'\n' {
-        return Some(2 + count + 1);
+    if may_splice(rest[count], rest[count + 1]) {
+        return None;
     }
-    None
+    Some(2 + count + 1)
 }

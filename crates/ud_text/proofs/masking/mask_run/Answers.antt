@@ -1,7 +1,7 @@
 -- Runs of bytes that leave the place as it is.
 use Rattle.std.proofs.Common.{sym, ◌∙◌, ap}
 use Rattle.ud_text.specs.LineViews.{place_of}
-use Rattle.ud_text.proofs.RunLemmas.{and_at_true, and_at_false, text_run, block_run}
+use Rattle.ud_text.proofs.RunLemmas.{and_at_true, and_at_false, text_run, block_run, line_run}
 use Rattle.ud_text.proofs.masking.mask_run.Goals as goal
 
 pub returns-then-are_white-clause-masks : goal.returns-then-are_white-clause-masks
@@ -20,3 +20,8 @@ pub returns-in-Block-clause-masks : goal.returns-in-Block-clause-masks
 returns-in-Block-clause-masks g c n text m =
     block_run text c.args.rest.now c.args.masked.now.items c.push_spaces.new.masked.items c.memchr.result c.unwrap_or-count.result m
     (ap place_of c.in-Block.is) c.memchr.ensures c.unwrap_or-count.ensures c.push_spaces.ensures
+
+pub returns-in-ToLineEnd-clause-masks : goal.returns-in-ToLineEnd-clause-masks
+returns-in-ToLineEnd-clause-masks c n text m =
+    line_run text c.args.rest.now c.args.masked.now.items c.push_spaces-in-ToLineEnd.new.masked.items m
+    (ap place_of c.in-ToLineEnd.is) c.requires.one_line c.push_spaces-in-ToLineEnd.ensures

@@ -1,11 +1,13 @@
 -- The bytes up to the place are read.
 use Rattle.std.proofs.Common.{◌-◌, length}
 use Rattle.ud_text.specs.Progress.{InOrder, ReadBy}
+use Rattle.ud_text.specs.Rows.{IsRow}
 use Rattle.ud_text.specs.States.{State}
 use Rattle.ud_text.proofs.passing.pass_from.Given as goal
 
 abbrev pub invariant-loop-p : goal.invariant-loop-p
 invariant-loop-p l = record {
+  row : IsRow l.row l.lines;
   order : InOrder l.p l.lines;
   read : (start : State) → ReadBy start l.lines l.fn.begun → ReadBy start l.lines l.p;
 }
