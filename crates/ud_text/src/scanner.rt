@@ -4,7 +4,7 @@
 //! then lent. Of the lines before, a scanner carries where their joined text leaves off, whether the last logical line is
 //! white, and whether the last line joins the next one.
 
-ghost use Rattle.std.specs.Prelude.{◌≡◌, ◌≤◌, ◌||◌, ℕ, List, [], ◌∷◌, ◌++◌, length, true, false, take};
+ghost use Rattle.std.specs.Prelude.{◌≡◌, ◌≤◌, ◌||◌, ℕ, List, [], ◌∷◌, ◌++◌, length, true, false, take, IfSome};
 ghost use Rattle.std.specs.Borrow.{sem};
 ghost use Rattle.ud_model.specs.text.Lines.{NoFeed};
 ghost use Rattle.ud_model.specs.text.Lines.{Line as TextLine};
@@ -21,6 +21,7 @@ ghost use Rattle.ud_text.specs.States.{can_start};
 ghost use Rattle.ud_model.specs.text.Scanning.{is_block};
 
 use crate::line::Line;
+use crate::marks::first_mark;
 use crate::masking::{
     Place, Reached, is_fresh, is_in_block, is_white_with, next_place, show_content,
 };
@@ -161,6 +162,38 @@ fn scan_code<'a>(carry: Carry, line: &Line<'a>, masked: &mut ArrayVec<u8, LINE_B
     Seen { carry, facts, lent }
 }
 
+/// Reads a line in C mode that is seen as it stands, and leaves nothing. No answer if that isn't seen at once: the text before
+/// it leaves off in a comment or a literal, a mark stands in it, or it has no ending.
+#[inline(always)]
+fn scan_unmarked<'a>(carry: Carry, line: &Line<'a>) -> Option<Seen<'a>>
+    requires one_line { NoFeed line.now.body.now }
+    ensures stands { IfSome result (λ seen. (before : List Reading) → Carries (carried_by carry) before →
+        Carries (carried_by seen.carry) (before ++ next_reading before Mode.C (as_line line.now) ∷ [])) }
+    ensures value { IfSome result (λ seen. (masked : List ℕ) → (before : List Reading) → Carries (carried_by carry) before →
+        scan_with (shown_in seen.lent masked) seen.facts ≡ scan_after before Mode.C (as_line line.now)) }
+    ensures fits { IfSome result (λ seen. (masked : List ℕ) → length (shown_in seen.lent masked) ≤ length line.now.body.now) }
+{
+    let Place::Text = carry.reached.place else {
+        return None;
+    };
+    if line.ending.is_empty() || first_mark(line.body) != line.body.len() {
+        return None;
+    }
+    let facts = Facts {
+        fresh: carry.reached.white,
+        joins_before: carry.joins,
+        joins_after: false,
+        spliced: false,
+        comment: CommentAt::Outside,
+    };
+    let left = nothing();
+    Some(Seen {
+        carry: left,
+        facts,
+        lent: Some(line.body),
+    })
+}
+
 /// Reads a line in plain mode, in which it is seen as it stands.
 #[inline(always)]
 fn scan_plain<'a>(line: &Line<'a>) -> Seen<'a>
@@ -196,6 +229,9 @@ fn scan_line<'a>(
 {
     match mode {
         Mode::C => {
+            if let Some(seen) = scan_unmarked(carry, line) {
+                return seen;
+            }
             masked.clear();
             scan_code(carry, line, masked)
         }
