@@ -2,7 +2,7 @@
 
 ghost use Rattle.std.specs.Prelude.{◌≡◌, ◌≤◌, ◌+◌, List, length, IfOk, Some};
 ghost use Rattle.ud_model.specs.text.Scans.{is_spanning};
-ghost use Rattle.ud_model.specs.sections.Directives.{content_of, past_sign};
+ghost use Rattle.ud_model.specs.sections.Directives.{content_of, past_sign, role_of};
 ghost use Rattle.ud_model.specs.conditions.Conditions.{decision_on};
 ghost use Rattle.ud_model.specs.sections.Items.{rules_of};
 ghost use Rattle.ud_model.specs.conditions.Table.{Argument};
@@ -51,10 +51,7 @@ pub(crate) fn see<'a>(
     ensures place { IfOk result (λ seen. seen.keyword.at + seen.keyword.len ≤ length scan.now.masked.now) }
 {
     let (shape, keyword) = match directive_behind(scan, behind)? {
-        Some(found) => (
-            shape_in(found.kind.role(), decide(scan, &found, symbols, settings)),
-            found.keyword,
-        ),
+        Some(found) => (shape_of(scan, &found, symbols, settings), found.keyword),
         None => (Shape::Text, Span { at: 0, len: 0 }),
     };
     Ok(Seen {
@@ -103,17 +100,25 @@ fn rules_of(settings: Settings) -> Rules
     }
 }
 
-/// What a directive with this role is among the sections, with what is decided of it.
+/// What a line's directive is among the sections, with what the symbols decide of it. Only a condition is looked at.
 #[inline(always)]
-fn shape_in(role: Role, answer: Answer) -> Shape
-    ensures { result ≡ shape_in role (as_decision answer) }
+fn shape_of(scan: &Scan<'_>, found: &Directive<'_>, symbols: &Symbols, settings: Settings) -> Shape
+    requires { length found.now.after.now ≤ LINE_BYTES }
+    ensures { (calls : List Argument) → StandsFor symbols.now calls →
+        result ≡ shape_in (role_of found.now.kind) (decision_on (as_scan scan.now) (as_directive found.now) calls (rules_of settings)) }
 {
-    match role {
-        Role::IfGroup => Shape::If {
-            cond: answer.cond,
-            ignoring: answer.ignoring,
-        },
-        Role::ElifGroup => Shape::Elif { cond: answer.cond },
+    match found.kind.role() {
+        Role::IfGroup => {
+            let answer = decide(scan, found, symbols, settings);
+            Shape::If {
+                cond: answer.cond,
+                ignoring: answer.ignoring,
+            }
+        }
+        Role::ElifGroup => {
+            let answer = decide(scan, found, symbols, settings);
+            Shape::Elif { cond: answer.cond }
+        }
         Role::ElseGroup => Shape::Else,
         Role::EndifLine => Shape::Endif,
     }

@@ -6,6 +6,8 @@
 
 ghost use Rattle.std.specs.Prelude.{◌≡◌, ◌≤◌, ◌||◌, ℕ, List, [], ◌∷◌, ◌++◌, length, true, false, take, IfSome};
 ghost use Rattle.std.specs.Borrow.{sem};
+ghost use Rattle.std.specs.List.{position_or_len};
+ghost use Rattle.ud_model.specs.text.Bytes.{is_mark};
 ghost use Rattle.ud_model.specs.text.Lines.{NoFeed};
 ghost use Rattle.ud_model.specs.text.Lines.{Line as TextLine};
 ghost use Rattle.ud_model.specs.declared.kind.Mode.{Mode};
@@ -162,6 +164,18 @@ fn scan_code<'a>(carry: Carry, line: &Line<'a>, masked: &mut ArrayVec<u8, LINE_B
     Seen { carry, facts, lent }
 }
 
+/// Whether no mark stands in a line's body. Two directives that every other section ends with are told apart from the
+/// others by their bytes alone.
+#[inline(always)]
+fn is_unmarked(body: &[u8]) -> bool
+    ensures { result ≡ true → position_or_len is_mark body.now ≡ length body.now }
+{
+    match body {
+        b"#endif" | b"#else" => true,
+        _ => first_mark(body) == body.len(),
+    }
+}
+
 /// Reads a line in C mode that is seen as it stands, and leaves nothing. No answer if that isn't seen at once: the text before
 /// it leaves off in a comment or a literal, a mark stands in it, or it has no ending.
 #[inline(always)]
@@ -176,7 +190,7 @@ fn scan_unmarked<'a>(carry: Carry, line: &Line<'a>) -> Option<Seen<'a>>
     let Place::Text = carry.reached.place else {
         return None;
     };
-    if line.ending.is_empty() || first_mark(line.body) != line.body.len() {
+    if line.ending.is_empty() || !is_unmarked(line.body) {
         return None;
     }
     let facts = Facts {
