@@ -55,7 +55,8 @@ fn place_in(lines: &Lines, piece: &[u8], at: usize) -> Reached
 /// Whether a line begins as most conditionals do.
 fn begins_conditional(line: &[u8]) -> bool {
     match line {
-        [b'#', rest @ ..] => {
+        [b'#', b'i', b'f', ..] | [b'#', b'e', b'l' | b'n', ..] => true,
+        [b'#', b' ' | b'\t', rest @ ..] => {
             matches!(past_white(rest), [b'i', b'f', ..] | [b'e', b'l' | b'n', ..])
         }
         _ => false,

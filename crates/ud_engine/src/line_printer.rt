@@ -86,7 +86,6 @@ impl<S: Show> LinePrinter<S> {
     /// # Errors
     /// `Section` if the line is faulty: nothing is put. `Write` if a write fails: a front of all bytes to be written up to
     /// the line's is written.
-    #[inline(always)]
     pub(crate) fn print<W: Write>(
         &mut self,
         line: &Line<'_>,

@@ -3,6 +3,7 @@ pub mod StepViews
 pub mod Styles
 pub mod Runs
 pub mod Printers
+pub mod Keywords
 pub mod Finding
 pub mod Listing
 pub mod Phases

@@ -7,6 +7,7 @@ pub mod HoldingLemmas
 pub mod BorrowLemmas
 pub mod RunLemmas
 pub mod CarryLemmas
+pub mod UnmarkedLemmas
 pub mod QuietLemmas
 pub mod TextLemmas
 pub mod PlainLemmas

@@ -4,8 +4,10 @@
 //! then lent. Of the lines before, a scanner carries where their joined text leaves off, whether the last logical line is
 //! white, and whether the last line joins the next one.
 
-ghost use Rattle.std.specs.Prelude.{◌≡◌, ◌≤◌, ◌||◌, ℕ, List, [], ◌∷◌, ◌++◌, length, true, false, take};
+ghost use Rattle.std.specs.Prelude.{◌≡◌, ◌≤◌, ◌||◌, ℕ, List, [], ◌∷◌, ◌++◌, length, true, false, take, IfSome};
 ghost use Rattle.std.specs.Borrow.{sem};
+ghost use Rattle.std.specs.List.{position_or_len};
+ghost use Rattle.ud_model.specs.text.Bytes.{is_mark};
 ghost use Rattle.ud_model.specs.text.Lines.{NoFeed};
 ghost use Rattle.ud_model.specs.text.Lines.{Line as TextLine};
 ghost use Rattle.ud_model.specs.declared.kind.Mode.{Mode};
@@ -21,6 +23,7 @@ ghost use Rattle.ud_text.specs.States.{can_start, joins_at};
 ghost use Rattle.ud_model.specs.text.Scanning.{is_block};
 
 use crate::line::Line;
+use crate::marks::first_mark;
 use crate::masking::{
     Place, Reached, is_fresh, is_in_block, is_white_with, next_place, show_content,
 };
@@ -165,6 +168,50 @@ fn scan_code<'a, const ROOM: usize>(
     Seen { carry, facts, lent }
 }
 
+/// Whether no mark stands in a line's body. Two directives that every other section ends with are told apart from the
+/// others by their bytes alone.
+#[inline(always)]
+fn is_unmarked(body: &[u8]) -> bool
+    ensures { result ≡ true → position_or_len is_mark body.now ≡ length body.now }
+{
+    match body {
+        b"#endif" | b"#else" => true,
+        _ => first_mark(body) == body.len(),
+    }
+}
+
+/// Reads a line in C mode that is seen as it stands, and leaves nothing. No answer if that isn't seen at once: the text before
+/// it leaves off in a comment or a literal, a mark stands in it, or it has no ending.
+#[inline(always)]
+fn scan_unmarked<'a>(carry: Carry, line: &Line<'a>) -> Option<Seen<'a>>
+    requires one_line { NoFeed line.now.body.now }
+    ensures stands { IfSome result (λ seen. (before : List Reading) → Carries (carried_by carry) before →
+        Carries (carried_by seen.carry) (before ++ next_reading before Mode.C (as_line line.now) ∷ [])) }
+    ensures value { IfSome result (λ seen. (masked : List ℕ) → (before : List Reading) → Carries (carried_by carry) before →
+        scan_with (shown_in seen.lent masked) seen.facts ≡ scan_after before Mode.C (as_line line.now)) }
+    ensures fits { IfSome result (λ seen. (masked : List ℕ) → length (shown_in seen.lent masked) ≤ length line.now.body.now) }
+{
+    let Place::Text = carry.reached.place else {
+        return None;
+    };
+    if line.ending.is_empty() || !is_unmarked(line.body) {
+        return None;
+    }
+    let facts = Facts {
+        fresh: carry.reached.white,
+        joins_before: carry.joins,
+        joins_after: false,
+        spliced: false,
+        comment: CommentAt::Outside,
+    };
+    let left = nothing();
+    Some(Seen {
+        carry: left,
+        facts,
+        lent: Some(line.body),
+    })
+}
+
 /// Reads a line in plain mode, in which it is seen as it stands.
 #[inline(always)]
 fn scan_plain<'a>(line: &Line<'a>) -> Seen<'a>
@@ -200,6 +247,9 @@ pub(crate) fn scan_line<'a, const ROOM: usize>(
 {
     match mode {
         Mode::C => {
+            if let Some(seen) = scan_unmarked(carry, line) {
+                return seen;
+            }
             masked.clear();
             scan_code(carry, line, masked)
         }
