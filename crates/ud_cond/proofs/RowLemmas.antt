@@ -1,11 +1,12 @@
 -- Operands of a row, one way each: an operand that is read means the same in every state that needs one.
-use Rattle.std.proofs.Common.{◌≡◌, ℕ, List, ◌∷◌, Option, Some, None, IfSome, option_map, refl, sym, ◌∙◌, ap, arith}
+use Rattle.std.proofs.Common.{◌≡◌, ℕ, List, true, false, ◌∷◌, Option, Some, None, IfSome, option_map, refl, sym, ◌∙◌, ap, arith}
 use Rattle.ud_model.specs.conditions.Tokens.{number, name, defined, operator, opening, closing, Token, Next, at_end, unreadable, found, next_token}
 use Rattle.ud_model.specs.aids.Parsing.{Meaning, Frame, State, before, step, finish, reads, needs, has, asks}
 use Rattle.ud_model.specs.declared.operator.Operator.{Operator}
 use Rattle.ud_model.specs.declared.operator.Operator.TheVariants.{Not}
-use Rattle.ud_cond.specs.Asking.{Asked, Comes}
+use Rattle.ud_cond.specs.Asking.{Asked}
 use Rattle.ud_model.proofs.conditions.TokenLemmas.{shorter}
+use Rattle.ud_cond.proofs.AskingLemmas.{asks-plain, asks-parens, encloses}
 use Rattle.ud_cond.proofs.ReadingLemmas.{reads_on, reads-on, reads-found}
 
 module _ {A : Type 0} (m : Meaning A) where
@@ -20,9 +21,17 @@ module _ {A : Type 0} (m : Meaning A) where
     shorter = omega (arith, shorter text rest defined (sym f), h.shorter);
   }
 
-  pub needs-definition : {B : Type 0} (f : B → List ℕ) (text rest : List ℕ) (r : Option (A × B)) → found defined rest ≡ next_token text → Comes m asks rest (option_map (λ q. (q.0, f q.1)) r) → IfSome r (λ q. Asked m needs text q.0 (f q.1))
+  pub needs-definition : {B : Type 0} (f : B → List ℕ) (text rest : List ℕ) (r : Option (A × B)) → found defined rest ≡ next_token text → IfSome r (λ q. Asked m asks rest q.0 (f q.1)) → IfSome r (λ q. Asked m needs text q.0 (f q.1))
   needs-definition f text rest None e h = tt
   needs-definition f text rest (Some q) e h = needs-defined text rest q.0 (f q.1) e h
+
+  -- `defined` and a name, in parentheses or not
+  pub asks-name : (text inside n end : List ℕ) → inside ≡ text → next_token inside ≡ found (name n false) end → Asked m asks text (m.is_defined n false) end
+  asks-name text inside n end same f = asks-plain m text n end (ap next_token (sym same) ∙ f)
+
+  pub asks-enclosed : (text inside n end rest : List ℕ) → next_token text ≡ found opening inside → next_token inside ≡ found (name n false) end → next_token end ≡ found closing rest →
+      Asked m asks text (m.is_defined n true) rest
+  asks-enclosed text inside n end rest e f g = asks-parens m text inside (Some (m.is_defined n true, rest)) e (encloses m inside n end rest f g)
 
   before_on : (s : List (Frame A)) (o : Operator) (v : A) (x : Next) → reads_on m (has v (before o ∷ s)) x ≡ reads_on m (has (m.unary o v) s) x
   before_on s o v at_end = refl

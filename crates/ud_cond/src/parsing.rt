@@ -78,7 +78,7 @@ fn enclosed<'a>(scope: &Scope<'_>, inside: &'a [u8]) -> Option<(Value, &'a [u8])
 }
 
 /// What a `defined` is worth by the name after it, in parentheses or not, and what follows the name.
-pub(crate) fn definition<'a>(scope: &Scope<'_>, text: &'a [u8]) -> Option<(Value, &'a [u8])>
+fn definition<'a>(scope: &Scope<'_>, text: &'a [u8]) -> Option<(Value, &'a [u8])>
     ensures { Asks (worth_in scope.now) text.now (option_map (λ r. (r.0, r.1.now)) result) }
 {
     match next_token(text) {

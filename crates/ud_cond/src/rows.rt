@@ -3,7 +3,7 @@
 //! Most expressions have no parentheses but those after `defined`, and few operators wait in them. Such a one is read with
 //! what waits in two places. `parsing` reads every other one, from its front on.
 
-ghost use Rattle.std.specs.Prelude.{◌≡◌, ◌∷◌, [], IfSome, IsTrue, Some, true, option_map};
+ghost use Rattle.std.specs.Prelude.{◌≡◌, ◌∷◌, [], IfSome, IsTrue, Some, false};
 ghost use Rattle.ud_model.specs.conditions.Tokens as tokens;
 ghost use Rattle.ud_model.specs.conditions.Tokens.{next_token as token_of};
 ghost use Rattle.ud_model.specs.aids.Parsing as spec;
@@ -13,9 +13,8 @@ ghost use Rattle.ud_cond.specs.Rows.{waiting, waiting_in};
 ghost use Rattle.ud_cond.specs.Worth.{worth_in};
 
 use crate::operators::level;
-use crate::parsing::definition;
 use crate::tokens::{Next, Token, begins, next_token};
-use crate::values::{Scope, Value, binary, constant, named, unary};
+use crate::values::{Scope, Value, binary, constant, defined, named, unary};
 use ud_model::Operator;
 use ud_model::bytes::past_white;
 
@@ -111,21 +110,73 @@ impl Few {
     }
 }
 
-/// What follows a `!` in front.
+/// Whether a `!` stands in front, and what follows it; the text where none does.
 #[inline(always)]
 #[tactic(auto, unfolding(ud_model::specs::conditions::Tokens::next_token))]
-fn behind_not(text: &[u8]) -> Option<&[u8]>
-    ensures { IfSome result (λ rest. token_of text.now ≡ tokens.found (tokens.operator Operator.Not) rest.now) }
+fn past_not(text: &[u8]) -> (bool, &[u8])
+    ensures yes { IsTrue result.0 → token_of text.now ≡ tokens.found (tokens.operator Operator.Not) result.1.now }
+    ensures no { result.0 ≡ false → result.1.now ≡ text.now }
 {
     match past_white(text) {
         [b'!', rest @ ..] => {
             if begins(b'=', rest) {
-                return None;
+                return (false, text);
             }
-            Some(rest)
+            (true, rest)
         }
+        _ => (false, text),
+    }
+}
+
+/// Whether a `(` stands in front, and what follows it; the text where none does.
+#[inline(always)]
+#[tactic(auto, unfolding(ud_model::specs::conditions::Tokens::next_token))]
+fn past_opening(text: &[u8]) -> (bool, &[u8])
+    ensures yes { IsTrue result.0 → token_of text.now ≡ tokens.found tokens.opening result.1.now }
+    ensures no { result.0 ≡ false → result.1.now ≡ text.now }
+{
+    match past_white(text) {
+        [b'(', rest @ ..] => (true, rest),
+        _ => (false, text),
+    }
+}
+
+/// What follows a `)` in front.
+#[inline(always)]
+#[tactic(auto, unfolding(ud_model::specs::conditions::Tokens::next_token))]
+fn past_closing(text: &[u8]) -> Option<&[u8]>
+    ensures { IfSome result (λ rest. token_of text.now ≡ tokens.found tokens.closing rest.now) }
+{
+    match past_white(text) {
+        [b')', rest @ ..] => Some(rest),
         _ => None,
     }
+}
+
+/// A name without arguments in front, and what follows it.
+#[inline(always)]
+fn name_in_front(text: &[u8]) -> Option<(&[u8], &[u8])>
+    ensures { IfSome result (λ r. token_of text.now ≡ tokens.found (tokens.name r.0.now false) r.1.now) }
+{
+    match next_token(text) {
+        Next::Found(Token::Name(name, false), rest) => Some((name, rest)),
+        _ => None,
+    }
+}
+
+/// What a `defined` is worth by the name after it, in parentheses or not, and what follows.
+#[inline(always)]
+fn definition<'a>(scope: &Scope<'_>, text: &'a [u8]) -> Option<(Value, &'a [u8])>
+    ensures { IfSome result (λ r. Asked (worth_in scope.now) spec.asks text.now r.0 r.1.now) }
+{
+    let (enclosed, inside) = past_opening(text);
+    let (name, end) = name_in_front(inside)?;
+    let value = defined(scope, name);
+    if !enclosed {
+        return Some((value, end));
+    }
+    let rest = past_closing(end)?;
+    Some((value, rest))
 }
 
 /// What the operand in front is worth if no operator stands before it, and what follows it.
@@ -150,13 +201,12 @@ fn plain_operand<'a>(scope: &Scope<'_>, text: &'a [u8]) -> Option<(Value, &'a [u
 fn operand<'a>(scope: &Scope<'_>, text: &'a [u8]) -> Option<(Value, &'a [u8])>
     ensures { IfSome result (λ r. Asked (worth_in scope.now) spec.needs text.now r.0 r.1.now) }
 {
-    match behind_not(text) {
-        None => plain_operand(scope, text),
-        Some(behind) => {
-            let (value, rest) = plain_operand(scope, behind)?;
-            Some((unary(scope, Operator::Not, value), rest))
-        }
+    let (negated, start) = past_not(text);
+    let (value, rest) = plain_operand(scope, start)?;
+    if negated {
+        return Some((unary(scope, Operator::Not, value), rest));
     }
+    Some((value, rest))
 }
 
 /// What the expression of a text is worth, where it is a row of operands between which few operators wait.

@@ -9,7 +9,7 @@ ghost use Rattle.ud_model.specs.conditions.Values as spec;
 ghost use Rattle.ud_cond.specs.CondViews.{as_entry};
 ghost use Rattle.ud_cond.specs.Worth.{table_in, constant_worth, name_worth, defined_name_worth, defined_worth, unary_worth, binary_worth};
 
-use crate::constants::{constant_value, has_u, is_constant};
+use crate::constants::{constant_value, digit_alone, has_u, is_constant};
 use crate::symbols::{Entry, Symbols};
 use ud_model::Operator;
 use ud_model::bytes::is_identifier;
@@ -40,6 +40,7 @@ pub(crate) struct Scope<'a> {
 
 impl Scope<'_> {
     /// What is said of a name.
+    #[inline(always)]
     fn find(&self, name: &[u8]) -> Option<Entry<'_>>
         ensures { option_map as_entry result ≡ entry_in (table_in self.now) name.now }
     {
@@ -68,9 +69,18 @@ impl Scope<'_> {
 }
 
 /// What a constant is worth.
+#[inline(always)]
 pub(crate) fn constant(word: &[u8]) -> Value
     ensures { result ≡ constant_worth word.now }
 {
+    if let Some(digit) = digit_alone(word) {
+        return Value {
+            number: Some(digit),
+            unsigned: false,
+            listed: false,
+            spoiled: false,
+        };
+    }
     Value {
         number: constant_value(word),
         unsigned: has_u(word),
@@ -112,10 +122,20 @@ fn text_has_u(text: &[u8]) -> bool
 
 /// What a name is worth that is defined as this text.
 #[tactic(auto, unfolding(ud_model::specs::conditions::Values::name_has_u))]
+#[inline(always)]
 fn defined_as(scope: &Scope<'_>, name: &[u8], text: &[u8]) -> Value
     requires { defined_text (table_in scope.now) name.now ≡ Some text.now }
     ensures { result ≡ defined_name_worth (table_in scope.now) scope.now.unsigned name.now }
 {
+    let digit = digit_alone(text);
+    if digit.is_some() {
+        return Value {
+            number: digit,
+            unsigned: false,
+            listed: true,
+            spoiled: false,
+        };
+    }
     let end = scope.end_from(name, text);
     Value {
         number: match end {
@@ -132,6 +152,7 @@ fn defined_as(scope: &Scope<'_>, name: &[u8], text: &[u8]) -> Value
 }
 
 /// What a name with or without arguments is worth.
+#[inline(always)]
 pub(crate) fn named(scope: &Scope<'_>, name: &[u8], arguments: bool) -> Value
     ensures { result ≡ name_worth (table_in scope.now) scope.now.unsigned name.now arguments }
 {
@@ -156,6 +177,7 @@ pub(crate) fn named(scope: &Scope<'_>, name: &[u8], arguments: bool) -> Value
 
 /// What `defined` and a name are worth.
 #[tactic(auto, unfolding(ud_model::specs::conditions::Values::defined_value))]
+#[inline(always)]
 pub(crate) fn defined(scope: &Scope<'_>, name: &[u8]) -> Value
     ensures { result ≡ defined_worth (table_in scope.now) name.now }
 {
@@ -211,6 +233,7 @@ fn remainder(unsigned: bool, a: i64, b: i64) -> Option<i64>
 
 /// Two known operands and an operator.
 #[tactic(auto, unfolding(ud_model::specs::conditions::Values::operate))]
+#[inline(never)]
 fn operate(unsigned: bool, operator: Operator, a: i64, b: i64) -> Option<i64>
     ensures { result ≡ spec.operate unsigned operator a b }
 {
@@ -250,6 +273,7 @@ fn decides(strict: bool, operator: Operator, a: i64) -> Option<i64>
 }
 
 /// Two operands and an operator.
+#[inline(always)]
 fn combine(
     strict: bool,
     unsigned: bool,
@@ -287,6 +311,7 @@ fn alter(unsigned: bool, operator: Operator, a: Option<i64>) -> Option<i64>
 }
 
 /// What an operator before an operand is worth.
+#[inline(always)]
 pub(crate) fn unary(scope: &Scope<'_>, operator: Operator, a: Value) -> Value
     ensures { result ≡ unary_worth scope.now.unsigned operator a }
 {
@@ -299,6 +324,7 @@ pub(crate) fn unary(scope: &Scope<'_>, operator: Operator, a: Value) -> Value
 }
 
 /// What two operands and an operator are worth.
+#[inline(always)]
 pub(crate) fn binary(scope: &Scope<'_>, operator: Operator, a: Value, b: Value) -> Value
     ensures { result ≡ binary_worth scope.now.strict scope.now.unsigned operator a b }
 {
