@@ -274,7 +274,7 @@ fn decides(strict: bool, operator: Operator, a: i64) -> Option<i64>
 
 /// Two operands and an operator.
 #[inline(always)]
-fn combine(
+pub(crate) fn combine(
     strict: bool,
     unsigned: bool,
     operator: Operator,
@@ -304,7 +304,7 @@ fn change(unsigned: bool, operator: Operator, a: i64) -> Option<i64>
 }
 
 /// An operator before one operand.
-fn alter(unsigned: bool, operator: Operator, a: Option<i64>) -> Option<i64>
+pub(crate) fn alter(unsigned: bool, operator: Operator, a: Option<i64>) -> Option<i64>
     ensures { result ≡ spec.alter unsigned operator a }
 {
     change(unsigned, operator, a?)
