@@ -1,5 +1,5 @@
 -- Numbers grow with their digits, so one that is too large stays so.
-use Rattle.std.proofs.Common.{◌≡◌, ℕ, ℤ, pos, ◌≤◌, ◌<◌, ◌+◌, ◌*◌, ◌^◌, ◌==◌, List, [], ◌∷◌, length, get_or, Bool, Option, Some, None, is_some, unwrap_or, nat_lt, nat_le, true, false, refl, sym, ◌∙◌, ap, subst, arith}
+use Rattle.std.proofs.Common.{◌≡◌, ℕ, ℤ, pos, ◌≤◌, ◌<◌, ◌+◌, ◌*◌, ◌^◌, ◌==◌, List, [], ◌∷◌, length, get_or, Bool, Some, None, is_some, unwrap_or, nat_lt, nat_le, true, false, refl, sym, ◌∙◌, ap, subst, arith}
 use Rattle.std.proofs.lemmas.Bool.{le-ltb, lt-ltb, eqb-true, ne_eqb, leb-true, and_parts}
 use Rattle.std.proofs.lemmas.Option.{none-some}
 use Rattle.ud_model.specs.text.Bytes.{is_digit}

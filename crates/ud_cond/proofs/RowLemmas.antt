@@ -1,9 +1,9 @@
 -- Operands of a row, one way each: an operand that is read means the same in every state that needs one.
-use Rattle.std.proofs.Common.{◌≡◌, ℕ, ◌≤◌, List, [], Bool, length, true, false, ◌∷◌, Option, Some, None, IfSome, option_map, refl, sym, ◌∙◌, ap, arith}
+use Rattle.std.proofs.Common.{◌≡◌, ℕ, ◌≤◌, List, [], Bool, length, true, false, ◌∷◌, Option, Some, None, IfSome, refl, sym, ◌∙◌, ap, arith}
 use Rattle.ud_model.specs.text.Bytes.{is_white, past_white}
 use Rattle.ud_model.proofs.text.ByteLemmas.{length-past_white}
 use Rattle.ud_model.specs.conditions.Tokens.{number, name, defined, operator, opening, closing, Token, Next, at_end, unreadable, found, token_in_front, next_token}
-use Rattle.ud_model.specs.aids.Parsing.{Meaning, Frame, State, before, step, finish, reads, needs, has, asks}
+use Rattle.ud_model.specs.aids.Parsing.{Meaning, Frame, State, before, step, reads, needs, has, asks}
 use Rattle.ud_model.specs.declared.operator.Operator.{Operator}
 use Rattle.ud_model.specs.declared.operator.Operator.TheVariants.{Not}
 use Rattle.ud_cond.specs.Asking.{Asked}

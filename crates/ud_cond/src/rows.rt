@@ -15,7 +15,7 @@ ghost use Rattle.ud_cond.specs.Worth.{worth_in};
 
 use crate::operators::level;
 use crate::tokens::{Next, Token, begins, next_token};
-use crate::values::{Scope, Value, alter, combine, constant, defined, named};
+use crate::values::{NOTHING, Scope, Value, alter, combine, constant, defined, named};
 use ud_model::Operator;
 use ud_model::bytes::past_white;
 
@@ -36,14 +36,6 @@ pub(crate) struct Few {
     /// What takes its right operand then.
     outer: Place,
 }
-
-/// What is worth nothing yet.
-const NOTHING: Value = Value {
-    number: None,
-    unsigned: false,
-    listed: false,
-    spoiled: false,
-};
 
 /// Copies what is worth, part by part: a copy as a whole would copy what lies between the parts too.
 #[inline(always)]
@@ -208,7 +200,7 @@ fn definition<'a>(scope: &Scope<'_>, text: &'a [u8], value: &mut Value) -> Optio
 {
     let (enclosed, inside) = past_opening(text);
     let (name, end) = name_in_front(inside)?;
-    *value = defined(scope, name);
+    defined(scope, name, value);
     if !enclosed {
         return Some(end);
     }
@@ -225,11 +217,11 @@ fn plain_operand<'a>(scope: &Scope<'_>, text: &'a [u8], value: &mut Value) -> Op
         Next::Unreadable => None,
         Next::Found(token, rest) => match token {
             Token::Name(name, arguments) => {
-                *value = named(scope, name, arguments);
+                named(scope, name, arguments, value);
                 Some(rest)
             }
             Token::Number(word) => {
-                *value = constant(word);
+                constant(word, value);
                 Some(rest)
             }
             Token::Defined => definition(scope, rest, value),
@@ -253,7 +245,7 @@ fn operand<'a>(scope: &Scope<'_>, text: &'a [u8], value: &mut Value) -> Option<&
 }
 
 /// What the expression of a text is worth, where it is a row of operands between which few operators wait.
-#[inline(never)]
+#[inline(always)]
 pub(crate) fn row(scope: &Scope<'_>, text: &[u8]) -> Option<Value>
     ensures { IfSome result (λ v. Some v ≡ spec.reads (worth_in scope.now) (spec.needs []) text.now) }
 {

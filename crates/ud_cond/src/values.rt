@@ -68,25 +68,29 @@ impl Scope<'_> {
     }
 }
 
-/// What a constant is worth.
+/// What is worth nothing yet.
+pub(crate) const NOTHING: Value = Value {
+    number: None,
+    unsigned: false,
+    listed: false,
+    spoiled: false,
+};
+
+/// Values a constant.
 #[inline(always)]
-pub(crate) fn constant(word: &[u8]) -> Value
-    ensures { result ≡ constant_worth word.now }
+pub(crate) fn constant(word: &[u8], value: &mut Value)
+    ensures { value.new ≡ constant_worth word.now }
 {
-    if let Some(digit) = digit_alone(word) {
-        return Value {
-            number: Some(digit),
-            unsigned: false,
-            listed: false,
-            spoiled: false,
-        };
+    value.listed = false;
+    value.spoiled = false;
+    let digit = digit_alone(word);
+    if digit.is_some() {
+        value.number = digit;
+        value.unsigned = false;
+        return;
     }
-    Value {
-        number: constant_value(word),
-        unsigned: has_u(word),
-        listed: false,
-        spoiled: false,
-    }
+    value.number = constant_value(word);
+    value.unsigned = has_u(word);
 }
 
 /// The value of the text at which a symbol's value ends: a constant, or a `-` and a constant.
@@ -120,80 +124,74 @@ fn text_has_u(text: &[u8]) -> bool
     }
 }
 
-/// What a name is worth that is defined as this text.
+/// Values a name that is defined as this text.
 #[tactic(auto, unfolding(ud_model::specs::conditions::Values::name_has_u))]
 #[inline(always)]
-fn defined_as(scope: &Scope<'_>, name: &[u8], text: &[u8]) -> Value
+fn defined_as(scope: &Scope<'_>, name: &[u8], text: &[u8], value: &mut Value)
     requires { defined_text (table_in scope.now) name.now ≡ Some text.now }
-    ensures { result ≡ defined_name_worth (table_in scope.now) scope.now.unsigned name.now }
+    ensures { value.new ≡ defined_name_worth (table_in scope.now) scope.now.unsigned name.now }
 {
+    value.listed = true;
+    value.spoiled = false;
     let digit = digit_alone(text);
     if digit.is_some() {
-        return Value {
-            number: digit,
-            unsigned: false,
-            listed: true,
-            spoiled: false,
-        };
+        value.number = digit;
+        value.unsigned = false;
+        return;
     }
-    let end = scope.end_from(name, text);
-    Value {
-        number: match end {
-            Some(text) => text_value(scope.unsigned, text),
-            None => None,
-        },
-        unsigned: match end {
-            Some(text) => text_has_u(text),
-            None => false,
-        },
-        listed: true,
-        spoiled: false,
+    match scope.end_from(name, text) {
+        Some(end) => {
+            value.number = text_value(scope.unsigned, end);
+            value.unsigned = text_has_u(end);
+        }
+        None => {
+            value.number = None;
+            value.unsigned = false;
+        }
     }
 }
 
-/// What a name with or without arguments is worth.
+/// Values a name with or without arguments.
 #[inline(always)]
-pub(crate) fn named(scope: &Scope<'_>, name: &[u8], arguments: bool) -> Value
-    ensures { result ≡ name_worth (table_in scope.now) scope.now.unsigned name.now arguments }
+pub(crate) fn named(scope: &Scope<'_>, name: &[u8], arguments: bool, value: &mut Value)
+    ensures { value.new ≡ name_worth (table_in scope.now) scope.now.unsigned name.now arguments }
 {
     match scope.find(name) {
-        None => Value {
-            number: None,
-            unsigned: false,
-            listed: false,
-            spoiled: false,
-        },
+        None => {
+            value.number = None;
+            value.unsigned = false;
+            value.listed = false;
+            value.spoiled = false;
+        }
         Some(entry) => match entry.value {
-            None => Value {
-                number: Some(0),
-                unsigned: false,
-                listed: true,
-                spoiled: arguments,
-            },
-            Some(text) => defined_as(scope, name, text),
+            None => {
+                value.number = Some(0);
+                value.unsigned = false;
+                value.listed = true;
+                value.spoiled = arguments;
+            }
+            Some(text) => defined_as(scope, name, text, value),
         },
     }
 }
 
-/// What `defined` and a name are worth.
+/// Values `defined` and a name.
 #[tactic(auto, unfolding(ud_model::specs::conditions::Values::defined_value))]
 #[inline(always)]
-pub(crate) fn defined(scope: &Scope<'_>, name: &[u8]) -> Value
-    ensures { result ≡ defined_worth (table_in scope.now) name.now }
+pub(crate) fn defined(scope: &Scope<'_>, name: &[u8], value: &mut Value)
+    ensures { value.new ≡ defined_worth (table_in scope.now) name.now }
 {
+    value.unsigned = false;
+    value.spoiled = false;
     match scope.find(name) {
-        None => Value {
-            number: None,
-            unsigned: false,
-            listed: false,
-            spoiled: false,
-        },
-        Some(entry) => Value {
-            number: Some(truth(entry.value.is_some())),
-            unsigned: false,
-            listed: true,
-            spoiled: false,
-        },
+        None => {
+            value.number = None;
+            value.listed = false;
+        }
+        Some(entry) => {
+            value.number = Some(truth(entry.value.is_some()));
+            value.listed = true;
+        }
     }
 }
 

@@ -1,6 +1,6 @@
 use mir.Syntax.{w64}
 use Rattle.std.proofs.lemmas.Int.{to_z_pos}
-use Rattle.std.proofs.Common.{◌<◌, ◌^◌, ◌≡◌, [], ◌∷◌, get_or, true, sym, ◌∙◌, ap, subst, arith, pos}
+use Rattle.std.proofs.Common.{◌<◌, ◌^◌, ◌≡◌, [], ◌∷◌, get_or, true, sym, ◌∙◌, subst, arith, pos}
 use Rattle.ud_model.specs.text.Bytes.{is_digit}
 use Rattle.ud_cond.specs.Digits.{IsOneDigit}
 use Rattle.ud_cond.proofs.DigitLemmas.{one-digit, sole}

@@ -1,4 +1,4 @@
-use Rattle.std.proofs.Common.{rules, sym}
+use Rattle.std.proofs.Common.{rules}
 use Rattle.ud_model.specs.aids.Parsing.{needs}
 use Rattle.ud_cond.specs.Worth.{worth_in}
 use Rattle.ud_cond.proofs.RowLemmas as row

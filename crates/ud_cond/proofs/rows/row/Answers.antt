@@ -1,6 +1,6 @@
-use Rattle.std.proofs.Common.{rules, ◌≡◌, ◌∙◌, IsTrue, [], sym, ap, arith}
+use Rattle.std.proofs.Common.{rules, ◌≡◌, ◌∙◌, [], sym, ap, arith}
 use Rattle.ud_model.specs.conditions.Tokens.{operator, found, next_token}
-use Rattle.ud_model.specs.aids.Parsing.{alone, has, reads, reduce}
+use Rattle.ud_model.specs.aids.Parsing.{alone, has, reads}
 use Rattle.ud_model.proofs.conditions.TokenLemmas.{shorter}
 use Rattle.ud_cond.specs.CondViews.{as_token}
 use Rattle.ud_cond.specs.Rows.{waiting}
