@@ -10,3 +10,4 @@ pub mod TurnLemmas
 pub mod StandingLemmas
 pub mod NextLemmas
 pub mod ListingLemmas
+mod KeywordLemmas

@@ -15,3 +15,4 @@ pub mod Sections
 pub mod Ending
 pub mod Changing
 pub mod Turning
+pub mod Keywords
