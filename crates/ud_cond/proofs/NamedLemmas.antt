@@ -1,13 +1,15 @@
 -- What a name is worth as an operand, by what the table says of it.
-use Rattle.std.proofs.Common.{◌≡◌, ℕ, zero, suc, List, length, Bool, true, false, ◌&&◌, Option, Some, None, is_some, pos, refl, sym, ◌∙◌, ap, ap₂}
+use Rattle.std.proofs.Common.{◌≡◌, ℕ, zero, suc, List, length, Bool, true, false, ◌&&◌, Option, Some, None, is_some, ℤ, pos, IfSome, refl, sym, ◌∙◌, ap, ap₂}
 use Rattle.ud_model.specs.text.Bytes.{is_identifier}
 use Rattle.ud_model.specs.conditions.Table.{Argument, Entry, entry_in}
 use Rattle.ud_model.specs.conditions.Symbols.{text_in, defined_text, at_text, on_text, ends_in, end_of}
-use Rattle.ud_model.specs.conditions.Values.{name_value, name_value_by, name_has_u, end_has_u}
+use Rattle.ud_model.specs.conditions.Values.{name_value, name_value_by, name_has_u, end_has_u, end_value}
 use Rattle.ud_model.specs.conditions.Conditions.{undefined_by}
 use Rattle.ud_model.proofs.conditions.SymbolLemmas.{end_found}
 use Rattle.ud_cond.specs.declared.values.Value.{Value}
+use Rattle.ud_cond.specs.Digits.{IsOneDigit}
 use Rattle.ud_cond.specs.Worth.{name_worth, defined_name_worth}
+use Rattle.ud_cond.proofs.DigitLemmas.{text_value-digit, text_has_u-digit}
 
 ends_none : (k : ℕ) (t : List Argument) (n : List ℕ) → defined_text t n ≡ None → ends_in k t n ≡ None
 ends_none zero t n e = refl
@@ -56,3 +58,12 @@ defined_by_entry t u n false ignoring v = refl
 -- of one that is defined
 pub worth-defined : (t : List Argument) (u : Bool) (n : List ℕ) (arguments ignoring : Bool) (v : List ℕ) → entry_in t n ≡ Some (record { value = Some v; ignoring = ignoring }) → defined_name_worth t u n ≡ name_worth t u n arguments
 worth-defined t u n arguments ignoring v e = sym (by_entry t u n arguments (end_of t n) (Some (record { value = Some v; ignoring = ignoring })) refl e ∙ defined_by_entry t u n arguments ignoring v)
+
+-- of one that is defined as one digit
+pub worth-digit : (t : List Argument) (u : Bool) (n text : List ℕ) (o : Option ℤ) → is_some o ≡ true → defined_text t n ≡ Some text → IfSome o (IsOneDigit text) →
+    record { number = o; unsigned = false; listed = true; spoiled = false } ≡ defined_name_worth t u n
+unfolding name_has_u
+worth-digit t u n text None some d is = absurd (let wrong : false ≡ true = some in cc)
+worth-digit t u n text (Some z) some d is =
+    let e = end-here t n text d is.nameless in
+    sym (ap₂ (λ v (b : Bool). record { number = v; unsigned = b; listed = true; spoiled = false }) (ap (end_value u) e ∙ text_value-digit u text z is) (ap end_has_u e ∙ text_has_u-digit text z is))

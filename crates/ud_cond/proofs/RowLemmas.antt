@@ -1,12 +1,28 @@
 -- Operands of a row, one way each: an operand that is read means the same in every state that needs one.
-use Rattle.std.proofs.Common.{◌≡◌, ℕ, List, ◌∷◌, Option, Some, None, IfSome, option_map, refl, sym, ◌∙◌, ap, arith}
-use Rattle.ud_model.specs.conditions.Tokens.{number, name, defined, operator, opening, closing, Token, Next, at_end, unreadable, found, next_token}
-use Rattle.ud_model.specs.aids.Parsing.{Meaning, Frame, State, before, step, finish, reads, needs, has, asks}
+use Rattle.std.proofs.Common.{◌≡◌, ℕ, ◌≤◌, List, [], Bool, length, true, false, ◌∷◌, Option, Some, None, IfSome, refl, sym, ◌∙◌, ap, arith}
+use Rattle.ud_model.specs.text.Bytes.{is_white, past_white}
+use Rattle.ud_model.proofs.text.ByteLemmas.{length-past_white}
+use Rattle.ud_model.specs.conditions.Tokens.{number, name, defined, operator, opening, closing, Token, Next, at_end, unreadable, found, token_in_front, next_token}
+use Rattle.ud_model.specs.aids.Parsing.{Meaning, Frame, State, before, step, reads, needs, has, asks}
 use Rattle.ud_model.specs.declared.operator.Operator.{Operator}
 use Rattle.ud_model.specs.declared.operator.Operator.TheVariants.{Not}
-use Rattle.ud_cond.specs.Asking.{Asked, Comes}
+use Rattle.ud_cond.specs.Asking.{Asked}
 use Rattle.ud_model.proofs.conditions.TokenLemmas.{shorter}
+use Rattle.ud_cond.proofs.AskingLemmas.{asks-plain, asks-parens, encloses}
 use Rattle.ud_cond.proofs.ReadingLemmas.{reads_on, reads-on, reads-found}
+
+past_white-one : (w : Bool) (b : ℕ) (bs : List ℕ) → is_white b ≡ w → past_white (past_white bs) ≡ past_white bs → past_white (past_white (b ∷ bs)) ≡ past_white (b ∷ bs)
+past_white-one true b bs e h = rw e h
+past_white-one false b bs e h = rw e (rw e refl)
+
+past_white-past_white : (text : List ℕ) → past_white (past_white text) ≡ past_white text
+past_white-past_white [] = refl
+past_white-past_white (b ∷ bs) = past_white-one (is_white b) b bs refl (past_white-past_white bs)
+
+-- without white space in front a text has the same token there
+next_token-past_white : (text : List ℕ) → next_token (past_white text) ≡ next_token text
+unfolding next_token
+next_token-past_white text = ap token_in_front (past_white-past_white text)
 
 module _ {A : Type 0} (m : Meaning A) where
   -- a token that is an operand
@@ -20,9 +36,25 @@ module _ {A : Type 0} (m : Meaning A) where
     shorter = omega (arith, shorter text rest defined (sym f), h.shorter);
   }
 
-  pub needs-definition : {B : Type 0} (f : B → List ℕ) (text rest : List ℕ) (r : Option (A × B)) → found defined rest ≡ next_token text → Comes m asks rest (option_map (λ q. (q.0, f q.1)) r) → IfSome r (λ q. Asked m needs text q.0 (f q.1))
-  needs-definition f text rest None e h = tt
-  needs-definition f text rest (Some q) e h = needs-defined text rest q.0 (f q.1) e h
+  pub needs-definition : {B : Type 0} (f : B → List ℕ) (text rest : List ℕ) (v : A) (r : Option B) → found defined rest ≡ next_token text → IfSome r (λ b. Asked m asks rest v (f b)) → IfSome r (λ b. Asked m needs text v (f b))
+  needs-definition f text rest v None e h = tt
+  needs-definition f text rest v (Some b) e h = needs-defined text rest v (f b) e h
+
+  -- without white space in front a text means the same
+  pub trimmed : (start : List (Frame A) → State A) (text inside : List ℕ) (v : A) (rest : List ℕ) → inside ≡ past_white text → Asked m start inside v rest → Asked m start text v rest
+  trimmed start text inside v rest e h = record {
+    same = λ s. reads-on m (start s) text ∙ ap (reads_on m (start s)) (sym (ap next_token e ∙ next_token-past_white text)) ∙ sym (reads-on m (start s) inside) ∙ h.same s;
+    shorter = let less : length inside ≤ length text = rw e (length-past_white text) in omega (arith, h.shorter);
+  }
+
+  -- `defined` and a name, in parentheses or not
+  pub asks-name : (text inside n end : List ℕ) → inside ≡ past_white text → next_token inside ≡ found (name n false) end → Asked m asks text (m.is_defined n false) end
+  asks-name text inside n end same f = trimmed asks text inside (m.is_defined n false) end same (asks-plain m inside n end f)
+
+  pub asks-enclosed : {B : Type 0} (f : B → List ℕ) (text inside n end : List ℕ) (r : Option B) → next_token text ≡ found opening inside → next_token inside ≡ found (name n false) end →
+      IfSome r (λ b. next_token end ≡ found closing (f b)) → IfSome r (λ b. Asked m asks text (m.is_defined n true) (f b))
+  asks-enclosed f text inside n end None e h g = tt
+  asks-enclosed f text inside n end (Some b) e h g = asks-parens m text inside (Some (m.is_defined n true, f b)) e (encloses m inside n end (f b) h g)
 
   before_on : (s : List (Frame A)) (o : Operator) (v : A) (x : Next) → reads_on m (has v (before o ∷ s)) x ≡ reads_on m (has (m.unary o v) s) x
   before_on s o v at_end = refl

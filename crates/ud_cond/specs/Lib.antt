@@ -6,4 +6,5 @@ pub mod Worth
 pub mod Stacks
 pub mod Asking
 pub mod Rows
+pub mod Digits
 pub mod Naming

@@ -10,6 +10,7 @@ ghost use Rattle.ud_cond.specs.CondViews.{as_rules, as_decision};
 ghost use Rattle.ud_cond.specs.Worth.{decided};
 
 use crate::parsing::whole;
+use crate::rows::row;
 use crate::symbols::Symbols;
 use crate::values::{Scope, Value};
 use ud_model::bytes::{are_white, is_digit, past_white, word_len};
@@ -47,9 +48,29 @@ fn decided(rules: Rules, value: Value) -> Cond
     }
 }
 
-/// What is decided of the text of an `#if` or `#elif`.
+/// What is decided of the text of an `#if` or `#elif`: most are rows without a `u`.
 #[inline(never)]
 fn expression_cond(text: &[u8], symbols: &Symbols, rules: Rules) -> Cond
+    requires fits { length text.now ≤ LINE_BYTES }
+    ensures { result ≡ spec.expression_cond text.now symbols.now (as_rules rules) }
+{
+    let signed = Scope {
+        symbols: Some(symbols),
+        strict: rules.strict,
+        unsigned: false,
+    };
+    if let Some(value) = row(&signed, text) {
+        if !value.unsigned {
+            return decided(rules, value);
+        }
+    }
+    any_expression_cond(text, symbols, rules)
+}
+
+/// The same of any text.
+#[cold]
+#[inline(never)]
+fn any_expression_cond(text: &[u8], symbols: &Symbols, rules: Rules) -> Cond
     requires fits { length text.now ≤ LINE_BYTES }
     ensures { result ≡ spec.expression_cond text.now symbols.now (as_rules rules) }
 {

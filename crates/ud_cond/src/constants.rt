@@ -2,11 +2,12 @@
 //!
 //! What a constant is stands in ud_model, specs/conditions/Constants.antt (C11 6.4.4.1).
 
-ghost use Rattle.std.specs.Prelude.{◌≡◌, ◌≤◌, ◌<◌, length, map};
+ghost use Rattle.std.specs.Prelude.{◌≡◌, ◌≤◌, ◌<◌, length, map, IfSome};
 ghost use Rattle.std.specs.List.{prefix_len};
 ghost use Rattle.ud_model.specs.conditions.Constants as spec;
 ghost use Rattle.ud_model.specs.conditions.Values.{limited, constant_value};
 ghost use Rattle.ud_cond.specs.CondViews.{as_parts, base_of, is_digit_of};
+ghost use Rattle.ud_cond.specs.Digits.{IsOneDigit};
 
 use crate::tokens::{begins, behind};
 use ud_model::bytes::is_digit;
@@ -143,9 +144,13 @@ fn sign_of(word: &[u8]) -> Option<bool>
 }
 
 /// Whether a word is an integer constant.
+#[inline(always)]
 pub(crate) fn is_constant(word: &[u8]) -> bool
     ensures { result ≡ spec.is_constant word.now }
 {
+    if digit_alone(word).is_some() {
+        return true;
+    }
     sign_of(word).is_some()
 }
 
@@ -201,6 +206,22 @@ fn number(base: Base, digits: &[u8]) -> Option<i64>
         Some(number as i64)
     } else {
         None
+    }
+}
+
+/// The number of a word that is one digit, as most constants are.
+#[inline(always)]
+pub(crate) fn digit_alone(word: &[u8]) -> Option<i64>
+    ensures { IfSome result (IsOneDigit word.now) }
+{
+    match word {
+        [digit] => {
+            if !is_digit(*digit) {
+                return None;
+            }
+            Some(digit_value(*digit) as i64)
+        }
+        _ => None,
     }
 }
 

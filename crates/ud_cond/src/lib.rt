@@ -9,6 +9,7 @@
 mod conditions;
 mod constants;
 mod fault;
+mod hints;
 mod keys;
 mod listed;
 mod marks;

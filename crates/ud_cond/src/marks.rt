@@ -47,7 +47,7 @@ impl Marks {
 
 /// The mark of a key.
 #[inline(always)]
-fn mark_of(key: u64) -> usize
+pub(crate) fn mark_of(key: u64) -> usize
     ensures value { result ≡ spec.mark_of key }
     ensures bound { result < MARKS }
 {

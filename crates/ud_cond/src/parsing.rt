@@ -15,10 +15,9 @@ ghost use Rattle.ud_cond.specs.Stacks.{Suffice, weight, state, pending};
 ghost use Rattle.ud_cond.specs.Worth.{worth_in};
 
 use crate::operators::{is_prefix, level};
-use crate::rows::row;
 use crate::stacks::Stacks;
 use crate::tokens::{Next, Token, next_token};
-use crate::values::{Scope, Value, constant, defined, named};
+use crate::values::{NOTHING, Scope, Value, constant, defined, named};
 use ud_model::LINE_BYTES;
 
 /// The most bytes of a very short text.
@@ -74,11 +73,13 @@ fn enclosed<'a>(scope: &Scope<'_>, inside: &'a [u8]) -> Option<(Value, &'a [u8])
 {
     let (name, end) = plain_name(inside)?;
     let rest = behind_closing(end)?;
-    Some((defined(scope, name), rest))
+    let mut value = NOTHING;
+    defined(scope, name, &mut value);
+    Some((value, rest))
 }
 
 /// What a `defined` is worth by the name after it, in parentheses or not, and what follows the name.
-pub(crate) fn definition<'a>(scope: &Scope<'_>, text: &'a [u8]) -> Option<(Value, &'a [u8])>
+fn definition<'a>(scope: &Scope<'_>, text: &'a [u8]) -> Option<(Value, &'a [u8])>
     ensures { Asks (worth_in scope.now) text.now (option_map (λ r. (r.0, r.1.now)) result) }
 {
     match next_token(text) {
@@ -90,7 +91,9 @@ pub(crate) fn definition<'a>(scope: &Scope<'_>, text: &'a [u8]) -> Option<(Value
                 if arguments {
                     return None;
                 }
-                Some((defined(scope, name), rest))
+                let mut value = NOTHING;
+                defined(scope, name, &mut value);
+                Some((value, rest))
             }
             Token::Number(_) => None,
             Token::Defined => None,
@@ -114,8 +117,16 @@ fn begin<'a, const BYTES: usize, const OPERANDS: usize>(
     ensures room { IfSome result (λ r. (weight stacks.new + pending r.0 ≤ weight stacks.old + 1) × (length r.1.now ≤ length rest.now)) }
 {
     match token {
-        Token::Number(word) => Some((Some(constant(word)), rest)),
-        Token::Name(name, arguments) => Some((Some(named(scope, name, arguments)), rest)),
+        Token::Number(word) => {
+            let mut value = NOTHING;
+            constant(word, &mut value);
+            Some((Some(value), rest))
+        }
+        Token::Name(name, arguments) => {
+            let mut value = NOTHING;
+            named(scope, name, arguments, &mut value);
+            Some((Some(value), rest))
+        }
         Token::Defined => {
             let (value, end) = definition(scope, rest)?;
             Some((Some(value), end))
@@ -213,9 +224,9 @@ fn read<const BYTES: usize, const OPERANDS: usize>(scope: &Scope<'_>, text: &[u8
     }
 }
 
-/// What the expression of a text is worth, read with stacks that suffice for it.
+/// What the expression of a text is worth; `None` where the text isn't one expression.
 #[inline(never)]
-fn by_stacks(scope: &Scope<'_>, text: &[u8]) -> Option<Value>
+pub(crate) fn whole(scope: &Scope<'_>, text: &[u8]) -> Option<Value>
     requires fits { length text.now ≤ LINE_BYTES }
     ensures { result ≡ spec.reads (worth_in scope.now) (spec.needs []) text.now }
 {
@@ -226,16 +237,4 @@ fn by_stacks(scope: &Scope<'_>, text: &[u8]) -> Option<Value>
         0..=LONG_BYTES => read::<LONG_BYTES, LONG_OPERANDS>(scope, text),
         _ => read::<LINE_BYTES, LINE_OPERANDS>(scope, text),
     }
-}
-
-/// What the expression of a text is worth; `None` where the text isn't one expression.
-#[inline(always)]
-pub(crate) fn whole(scope: &Scope<'_>, text: &[u8]) -> Option<Value>
-    requires fits { length text.now ≤ LINE_BYTES }
-    ensures { result ≡ spec.reads (worth_in scope.now) (spec.needs []) text.now }
-{
-    if let Some(value) = row(scope, text) {
-        return Some(value);
-    }
-    by_stacks(scope, text)
 }

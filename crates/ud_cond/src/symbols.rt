@@ -4,7 +4,7 @@
 //! a later call for it changes its row.
 //! Memory is taken before anything changes, so a refused call leaves the table as it was.
 
-ghost use Rattle.std.specs.Prelude.{◌≡◌, ◌++◌, ◌∷◌, [], List, option_map, OnOk, OnErr, IfOk, IfErr, IsErrOf, Some, None, ◌↔◌, false, length, bytes_eq};
+ghost use Rattle.std.specs.Prelude.{◌≡◌, ◌++◌, ◌∷◌, [], List, option_map, OnOk, OnErr, IfOk, IfErr, IsErrOf, Some, None, ◌↔◌, false, true, IsTrue, length, bytes_eq};
 ghost use Rattle.std.specs.List.{insert};
 ghost use Rattle.ud_model.specs.conditions.Table.{Argument, entry_in};
 ghost use Rattle.ud_model.specs.answer.Arguments as names;
@@ -14,6 +14,7 @@ ghost use Rattle.ud_cond.specs.Standing.{StandsFor, Changes, name_cmp, alike_cmp
 ghost use Rattle.ud_cond.specs.CondViews.{as_entry, said};
 
 use crate::fault::SymbolFault;
+use crate::hints::Hints;
 use crate::keys::key_of;
 use crate::marks::Marks;
 use std::alloc::Global;
@@ -62,6 +63,14 @@ impl Row {
         ensures { result ≡ spec.key_of self.now.name }
     {
         self.number
+    }
+
+    /// Whether the row names it; most names are told by their keys alone.
+    #[inline(always)]
+    fn is_of(&self, key: u64, name: &[u8]) -> bool
+        ensures { IsTrue result → bytes_eq self.now.name name.now ≡ true }
+    {
+        self.number == key && self.names(name)
     }
 
     /// Whether the row names it.
@@ -115,6 +124,8 @@ pub struct Symbols {
     rows: Vec<Row>,
     /// The marks of their names.
     marks: Marks,
+    /// Where rows stand, to be tried before they are searched.
+    hints: Hints,
 }
 
 impl Model for Symbols {
@@ -140,6 +151,7 @@ impl Symbols {
             alloc,
             rows: Vec::new(alloc),
             marks: Marks::new(),
+            hints: Hints::new(),
         }
     }
 
@@ -181,7 +193,7 @@ impl Symbols {
         if !self.marks.has(key) {
             return None;
         }
-        match self.search(key, name) {
+        match self.place(key, name) {
             Ok(i) => Some(self.rows[i].entry()),
             Err(_) => None,
         }
@@ -219,7 +231,21 @@ impl Symbols {
         None
     }
 
-    /// The place of the row of a name with this key, or the one at which it would stand. Most names have a key of their own.
+    /// The place of the row of a name with this key, or the one at which it would stand. Most rows stand where it is told.
+    #[inline(always)]
+    fn place(&self, key: u64, name: &[u8]) -> Result<usize, usize>
+        requires keyed { key ≡ spec.key_of name.now }
+        ensures found { IfOk result (λ i. IsRowOf self.now i name.now) }
+        ensures absent { IfErr result (λ i. IsGapFor self.now i name.now) }
+    {
+        let i = self.hints.told(key);
+        if i < self.rows.len() && self.rows[i].is_of(key, name) {
+            return Ok(i);
+        }
+        self.search(key, name)
+    }
+
+    /// The same by halving. Most names have a key of their own.
     #[inline(never)]
     fn search(&self, key: u64, name: &[u8]) -> Result<usize, usize>
         requires keyed { key ≡ spec.key_of name.now }
@@ -296,10 +322,19 @@ impl Symbols {
         ensures fault { OnErr result (IsErrOf result SymbolFault.OutOfMemory) }
     {
         self.marks.note(key);
-        match self.rows.insert(i, row) {
+        let added = self.rows.insert(i, row);
+        tell_from(&mut self.hints, self.rows.as_slice(), i);
+        match added {
             Ok(()) => Ok(()),
             Err(_) => Err(SymbolFault::OutOfMemory),
         }
+    }
+}
+
+/// Tells where each row stands from this place on.
+fn tell_from(hints: &mut Hints, rows: &[Row], from: usize) {
+    for i in from..rows.len() {
+        hints.tell(rows[i].key(), i);
     }
 }
 

@@ -9,7 +9,7 @@ ghost use Rattle.ud_model.specs.conditions.Values as spec;
 ghost use Rattle.ud_cond.specs.CondViews.{as_entry};
 ghost use Rattle.ud_cond.specs.Worth.{table_in, constant_worth, name_worth, defined_name_worth, defined_worth, unary_worth, binary_worth};
 
-use crate::constants::{constant_value, has_u, is_constant};
+use crate::constants::{constant_value, digit_alone, has_u, is_constant};
 use crate::symbols::{Entry, Symbols};
 use ud_model::Operator;
 use ud_model::bytes::is_identifier;
@@ -40,6 +40,7 @@ pub(crate) struct Scope<'a> {
 
 impl Scope<'_> {
     /// What is said of a name.
+    #[inline(always)]
     fn find(&self, name: &[u8]) -> Option<Entry<'_>>
         ensures { option_map as_entry result ≡ entry_in (table_in self.now) name.now }
     {
@@ -67,16 +68,29 @@ impl Scope<'_> {
     }
 }
 
-/// What a constant is worth.
-pub(crate) fn constant(word: &[u8]) -> Value
-    ensures { result ≡ constant_worth word.now }
+/// What is worth nothing yet.
+pub(crate) const NOTHING: Value = Value {
+    number: None,
+    unsigned: false,
+    listed: false,
+    spoiled: false,
+};
+
+/// Values a constant.
+#[inline(always)]
+pub(crate) fn constant(word: &[u8], value: &mut Value)
+    ensures { value.new ≡ constant_worth word.now }
 {
-    Value {
-        number: constant_value(word),
-        unsigned: has_u(word),
-        listed: false,
-        spoiled: false,
+    value.listed = false;
+    value.spoiled = false;
+    let digit = digit_alone(word);
+    if digit.is_some() {
+        value.number = digit;
+        value.unsigned = false;
+        return;
     }
+    value.number = constant_value(word);
+    value.unsigned = has_u(word);
 }
 
 /// The value of the text at which a symbol's value ends: a constant, or a `-` and a constant.
@@ -110,68 +124,74 @@ fn text_has_u(text: &[u8]) -> bool
     }
 }
 
-/// What a name is worth that is defined as this text.
+/// Values a name that is defined as this text.
 #[tactic(auto, unfolding(ud_model::specs::conditions::Values::name_has_u))]
-fn defined_as(scope: &Scope<'_>, name: &[u8], text: &[u8]) -> Value
+#[inline(always)]
+fn defined_as(scope: &Scope<'_>, name: &[u8], text: &[u8], value: &mut Value)
     requires { defined_text (table_in scope.now) name.now ≡ Some text.now }
-    ensures { result ≡ defined_name_worth (table_in scope.now) scope.now.unsigned name.now }
+    ensures { value.new ≡ defined_name_worth (table_in scope.now) scope.now.unsigned name.now }
 {
-    let end = scope.end_from(name, text);
-    Value {
-        number: match end {
-            Some(text) => text_value(scope.unsigned, text),
-            None => None,
-        },
-        unsigned: match end {
-            Some(text) => text_has_u(text),
-            None => false,
-        },
-        listed: true,
-        spoiled: false,
+    value.listed = true;
+    value.spoiled = false;
+    let digit = digit_alone(text);
+    if digit.is_some() {
+        value.number = digit;
+        value.unsigned = false;
+        return;
+    }
+    match scope.end_from(name, text) {
+        Some(end) => {
+            value.number = text_value(scope.unsigned, end);
+            value.unsigned = text_has_u(end);
+        }
+        None => {
+            value.number = None;
+            value.unsigned = false;
+        }
     }
 }
 
-/// What a name with or without arguments is worth.
-pub(crate) fn named(scope: &Scope<'_>, name: &[u8], arguments: bool) -> Value
-    ensures { result ≡ name_worth (table_in scope.now) scope.now.unsigned name.now arguments }
+/// Values a name with or without arguments.
+#[inline(always)]
+pub(crate) fn named(scope: &Scope<'_>, name: &[u8], arguments: bool, value: &mut Value)
+    ensures { value.new ≡ name_worth (table_in scope.now) scope.now.unsigned name.now arguments }
 {
     match scope.find(name) {
-        None => Value {
-            number: None,
-            unsigned: false,
-            listed: false,
-            spoiled: false,
-        },
+        None => {
+            value.number = None;
+            value.unsigned = false;
+            value.listed = false;
+            value.spoiled = false;
+        }
         Some(entry) => match entry.value {
-            None => Value {
-                number: Some(0),
-                unsigned: false,
-                listed: true,
-                spoiled: arguments,
-            },
-            Some(text) => defined_as(scope, name, text),
+            None => {
+                value.number = Some(0);
+                value.unsigned = false;
+                value.listed = true;
+                value.spoiled = arguments;
+            }
+            Some(text) => defined_as(scope, name, text, value),
         },
     }
 }
 
-/// What `defined` and a name are worth.
+/// Values `defined` and a name.
 #[tactic(auto, unfolding(ud_model::specs::conditions::Values::defined_value))]
-pub(crate) fn defined(scope: &Scope<'_>, name: &[u8]) -> Value
-    ensures { result ≡ defined_worth (table_in scope.now) name.now }
+#[inline(always)]
+pub(crate) fn defined(scope: &Scope<'_>, name: &[u8], value: &mut Value)
+    ensures { value.new ≡ defined_worth (table_in scope.now) name.now }
 {
+    value.unsigned = false;
+    value.spoiled = false;
     match scope.find(name) {
-        None => Value {
-            number: None,
-            unsigned: false,
-            listed: false,
-            spoiled: false,
-        },
-        Some(entry) => Value {
-            number: Some(truth(entry.value.is_some())),
-            unsigned: false,
-            listed: true,
-            spoiled: false,
-        },
+        None => {
+            value.number = None;
+            value.listed = false;
+        }
+        Some(entry) => {
+            value.number = Some(truth(entry.value.is_some()));
+            value.listed = true;
+        }
     }
 }
 
@@ -211,6 +231,7 @@ fn remainder(unsigned: bool, a: i64, b: i64) -> Option<i64>
 
 /// Two known operands and an operator.
 #[tactic(auto, unfolding(ud_model::specs::conditions::Values::operate))]
+#[inline(never)]
 fn operate(unsigned: bool, operator: Operator, a: i64, b: i64) -> Option<i64>
     ensures { result ≡ spec.operate unsigned operator a b }
 {
@@ -250,7 +271,8 @@ fn decides(strict: bool, operator: Operator, a: i64) -> Option<i64>
 }
 
 /// Two operands and an operator.
-fn combine(
+#[inline(always)]
+pub(crate) fn combine(
     strict: bool,
     unsigned: bool,
     operator: Operator,
@@ -280,13 +302,14 @@ fn change(unsigned: bool, operator: Operator, a: i64) -> Option<i64>
 }
 
 /// An operator before one operand.
-fn alter(unsigned: bool, operator: Operator, a: Option<i64>) -> Option<i64>
+pub(crate) fn alter(unsigned: bool, operator: Operator, a: Option<i64>) -> Option<i64>
     ensures { result ≡ spec.alter unsigned operator a }
 {
     change(unsigned, operator, a?)
 }
 
 /// What an operator before an operand is worth.
+#[inline(always)]
 pub(crate) fn unary(scope: &Scope<'_>, operator: Operator, a: Value) -> Value
     ensures { result ≡ unary_worth scope.now.unsigned operator a }
 {
@@ -299,6 +322,7 @@ pub(crate) fn unary(scope: &Scope<'_>, operator: Operator, a: Value) -> Value
 }
 
 /// What two operands and an operator are worth.
+#[inline(always)]
 pub(crate) fn binary(scope: &Scope<'_>, operator: Operator, a: Value, b: Value) -> Value
     ensures { result ≡ binary_worth scope.now.strict scope.now.unsigned operator a b }
 {

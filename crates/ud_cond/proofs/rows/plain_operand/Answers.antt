@@ -18,4 +18,4 @@ returns-in-Number c =
 pub returns-in-Defined : goal.returns-in-Defined
 returns-in-Defined c =
     let front = ap (λ t. found (as_token t) c.in-Found.rest.now) (sym c.in-Defined.is) ∙ c.in-Found.ensures in
-    row.needs-definition (worth_in c.args.scope.now) (λ b. b.now) c.args.text.now c.in-Found.rest.now c.definition.result front c.definition.ensures
+    row.needs-definition (worth_in c.args.scope.now) (λ b. b.now) c.args.text.now c.in-Found.rest.now c.definition.new.value c.definition.result front c.definition.ensures

@@ -1,0 +1,14 @@
+-- Digits: constants of one digit, as most are.
+--
+--   IsOneDigit w z   the word is a constant without a `u`, of this number, and begins neither as a name nor with a `-`
+use Rattle.std.specs.Prelude.{◌≡◌, ℕ, ℤ, List, false, Some}
+use Rattle.ud_model.specs.text.Bytes.{is_identifier}
+use Rattle.ud_model.specs.conditions.Constants.{begins, parts_of, parts_sign}
+use Rattle.ud_model.specs.conditions.Values.{constant_value}
+
+-- the word is a constant without a `u`, of this number, and begins neither as a name nor with a `-`
+pub record IsOneDigit (w : List ℕ) (z : ℤ) : Type 0 where
+  pub sign : parts_sign (parts_of w) ≡ Some false
+  pub value : constant_value w ≡ Some z
+  pub nameless : is_identifier w ≡ false
+  pub positive : begins 45 w ≡ false
