@@ -22,6 +22,6 @@ returns-in-Block-clause-masks g c n text m =
     (ap place_of c.in-Block.is) c.memchr.ensures c.unwrap_or-count.ensures c.push_spaces.ensures
 
 pub returns-in-ToLineEnd-clause-masks : goal.returns-in-ToLineEnd-clause-masks
-returns-in-ToLineEnd-clause-masks c n text m =
+returns-in-ToLineEnd-clause-masks g c n text m =
     line_run text c.args.rest.now c.args.masked.now.items c.push_spaces-in-ToLineEnd.new.masked.items m
     (ap place_of c.in-ToLineEnd.is) c.requires.one_line c.push_spaces-in-ToLineEnd.ensures
