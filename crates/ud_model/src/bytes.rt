@@ -70,7 +70,7 @@ pub fn are_word_bytes(bytes: &[u8]) -> bool
 pub fn are_white(bytes: &[u8]) -> bool
     ensures { result ≡ are_white bytes.now }
 {
-    bytes.iter().all(|byte| is_white(*byte))
+    past_white(bytes).is_empty()
 }
 
 /// The bytes after the white space in front.
