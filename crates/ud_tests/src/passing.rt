@@ -233,18 +233,49 @@ fn a_pass_goes_through_text(rt: HostRuntime) -> Result<(), Fail> {
     goes(&rt, b"#include <a/b.h>\n#define X\n#error e\nx\n", 38);
     goes(&rt, b"a # if\nb / c\n", 13);
     goes(&rt, b"a\nx /* b */ + /* c */\n", 22);
+    goes(&rt, b"a\n/* b */ /* c */ d\n", 20);
+    goes(&rt, b"/* b */ /* c\n */ #\\\n", 13);
+    goes(&rt, b"// a \\b\n// \\ \r\nc\n", 17);
+    Ok(())
+}
+
+#[test]
+fn a_pass_goes_through_splices(rt: HostRuntime) -> Result<(), Fail> {
+    goes(&rt, b"a\nb\\\nc\n", 7);
+    goes(&rt, b"#define X \\\n  #x /* y */ \\\r\n  # z\nb\n", 36);
+    goes(&rt, b"a \\\n", 4);
+    goes(&rt, b"a \\\n#if X\n\\\n#if X\nb\n#if X\n", 10);
+    goes(&rt, b"a /* b */\\\n# if X\n", 18);
+    goes(&rt, b"#xy\\\n#else\n", 11);
+    goes(&rt, b"a /* b\n*/ \\\n", 12);
+    Ok(())
+}
+
+#[test]
+fn a_pass_stops_at_a_splice_that_may_matter(rt: HostRuntime) -> Result<(), Fail> {
+    goes(&rt, b"a\n\\\n#if X\n", 2);
+    goes(&rt, b"a\n \t\\\r\nb\n", 2);
+    goes(&rt, b"a\n/* b */\\\n#if X\n", 2);
+    goes(&rt, b"a\nb /\\\n* c\n", 2);
+    goes(&rt, b"a\nb // c\\\nd\n", 2);
+    goes(&rt, b"a\nb // c\\\r\nd\n", 2);
+    goes(&rt, b"a\n//\\\nd\n", 2);
+    goes(&rt, b"a\nb \"c\\\nd\"\n", 2);
+    goes(&rt, b"a\nb \\\\\nc\n", 2);
+    goes(&rt, b"a\nb \\\r\r\nc\n", 2);
+    goes(&rt, b"a\n#\\\nif\n", 2);
+    goes(&rt, b"a\n#el\\\nse\n", 2);
     Ok(())
 }
 
 #[test]
 fn a_pass_stops_at_the_line_that_may_be_none(rt: HostRuntime) -> Result<(), Fail> {
     goes(&rt, b"a\n#if X\nb\n", 2);
-    goes(&rt, b"a\nb\\\nc\n", 2);
     goes(&rt, b"/* a\nb\n*/ #if\n", 7);
     goes(&rt, b"/* a\nb\nc", 7);
     goes(&rt, b"/* a *\\\n/\nb\n", 0);
     goes(&rt, b"/* a \\\n b */\nc\n", 15);
-    goes(&rt, b"a\n/* b */ /* c */\n", 2);
+    goes(&rt, b"a\n/* b */ /* c */ #if\n", 2);
     goes(&rt, b"don't\n", 0);
     Ok(())
 }
@@ -262,7 +293,7 @@ fn spanning(alloc: Global, begin: &[u8], count: usize, end: &[u8]) -> Result<Vec
 
 #[test]
 fn a_pass_goes_through_spans_of_each_length(rt: HostRuntime) -> Result<(), Fail> {
-    let spans: [(&[u8], &[u8]); 7] = [
+    let spans: [(&[u8], &[u8]); 9] = [
         (b"", b"\n"),
         (b"a # ", b"\n"),
         (b"//", b"\n"),
@@ -270,6 +301,8 @@ fn a_pass_goes_through_spans_of_each_length(rt: HostRuntime) -> Result<(), Fail>
         (b"/**", b"* ** /*/\n"),
         (b"\"\\\"", b"\"\n"),
         (b"'", b"\\''\n"),
+        (b"#define X", b"\\\n#if X\n"),
+        (b"a \\\r\n", b"\\\r\n\\\n\n"),
     ];
     for count in 0..200 {
         for (begin, end) in spans {

@@ -9,7 +9,7 @@ use Rattle.ud_model.specs.text.Scans.{Scan, Reading}
 use Rattle.ud_model.specs.text.Splicing.{is_spliced, is_empty, content, stays_open, joined, run_of}
 use Rattle.ud_model.specs.text.Scanning.{is_block, comment_at, scan_after, next_reading, readings_after}
 use Rattle.ud_model.specs.aids.Places.{Place, in_text, at_slash, in_block, at_star, in_line, in_literal, at_backslash, next, whitens, place_kind, fresh_at, closed_place, closed_white, Masks}
-use Rattle.ud_model.specs.sections.Directives.{content_of, text, is_cut_off, is_outside, past_sign}
+use Rattle.ud_model.specs.sections.Directives.{content_of, text, past_sign}
 use Rattle.ud_model.specs.declared.kind.Mode.{Mode}
 use Rattle.ud_model.specs.declared.kind.Mode.TheVariants.{C}
 use Rattle.ud_model.proofs.text.LinesLemmas.{AreWhole, body-ending, parts_joined, are_whole}

@@ -1,5 +1,5 @@
 -- The table by low halves: it tells the bytes that may matter, and no others.
-use Rattle.std.proofs.Common.{◌≡◌, ℕ, zero, suc, ◌+◌, ◌*◌, ◌/◌, ◌^◌, ◌<◌, Bool, true, false, not, cond, eqb, List, [], ◌∷◌, map, length, take, drop, get_or, replicate, bit_and, ◌-◌, refl, sym, ap, ap₂, ◌∙◌, arith, w8}
+use Rattle.std.proofs.Common.{◌≡◌, ℕ, ◌+◌, ◌*◌, ◌/◌, ◌^◌, ◌<◌, Bool, true, cond, eqb, List, [], ◌∷◌, map, length, take, get_or, replicate, bit_and, ◌-◌, refl, sym, ap, ap₂, ◌∙◌, arith, w8}
 use Rattle.std.proofs.lemmas.Bool.{eqb-true}
 use Rattle.std.proofs.lemmas.List.{get_or-map, length-map, ext_get_or}
 use Rattle.std.proofs.lemmas.Nat.{and_le_r}

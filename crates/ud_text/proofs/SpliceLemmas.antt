@@ -1,23 +1,22 @@
 -- Splices: a line that a backslash at its end joins to the next one, outside comments and literals.
-use Rattle.std.proofs.Common.{◌≡◌, ◌≢◌, ℕ, ◌+◌, ◌-◌, ◌==◌, ◌⊎◌, inl, inr, nat_eq, List, [], ◌∷◌, ◌++◌, length, take, drop, Bool, true, false, not, ◌&&◌, ◌||◌, if◌then◌else◌, refl, sym, ◌∙◌, ap, subst, append_assoc, append-nil, arith, length-append}
-use Rattle.std.specs.List.{concat, ends_with}
+use Rattle.std.proofs.Common.{◌≡◌, ◌≢◌, ℕ, ◌-◌, ◌⊎◌, inl, inr, nat_eq, List, [], ◌∷◌, ◌++◌, length, take, drop, Bool, true, false, not, ◌&&◌, ◌||◌, if◌then◌else◌, refl, sym, ◌∙◌, ap, subst, append_assoc, append-nil, arith, length-append}
+use Rattle.std.specs.List.{ends_with}
 use Rattle.std.proofs.lemmas.Bool.{cases_eq}
 use Rattle.std.proofs.Math.Seq.{drop-append_seam, take-append_seam}
 use Rattle.ud_model.specs.text.Bytes.{line_feed, carriage_return, backslash}
-use Rattle.ud_model.specs.text.Lines.{NoFeed, ending_of, Line, Parts, line_at, numbered_from, whole_lines, open_rest, parts_of}
+use Rattle.ud_model.specs.text.Lines.{NoFeed, ending_of, Line, Parts, line_at, numbered_from, whole_lines, parts_of}
 use Rattle.ud_model.specs.text.Scans.{Reading}
 use Rattle.ud_model.specs.text.Splicing.{is_spliced, is_empty, content, stays_open}
-use Rattle.ud_model.specs.text.Scanning.{is_block, next_reading, readings_after}
-use Rattle.ud_model.specs.aids.Places.{Place, in_text, place_kind, closed_place, closed_white}
+use Rattle.ud_model.specs.text.Scanning.{next_reading, readings_after}
+use Rattle.ud_model.specs.aids.Places.{Place, in_text, closed_place, closed_white}
 use Rattle.ud_model.specs.declared.kind.Mode.TheVariants.{C}
-use Rattle.ud_model.proofs.text.LinesLemmas.{no_feed-append, parts_joined, are_whole, open_rest-open, parts_of-front}
+use Rattle.ud_model.proofs.text.LinesLemmas.{no_feed-append, parts_of-front}
 use Rattle.ud_model.proofs.text.ScanLaws.{place_after, white_after, masked_after}
-use Rattle.ud_text.specs.Carrying.{Carried, Carries}
-use Rattle.ud_text.specs.Passing.{lines_in, AreText, EndsLine, PassesText}
-use Rattle.ud_text.specs.States.{line_state, text_state, State, state_after, Passed, IsQuiet, can_start, joins_at, carried_at, AtLine}
+use Rattle.ud_text.specs.Carrying.{Carries}
+use Rattle.ud_text.specs.Passing.{lines_in, AreText, PassesText}
+use Rattle.ud_text.specs.States.{line_state, text_state, State, state_after, Passed, IsQuiet, can_start, carried_at, AtLine}
 use Rattle.ud_text.specs.Spans.{BeginsLine, at_start, after_feed, IsSplice, splice_feed, splice_return_feed}
 use Rattle.ud_text.proofs.CarryLemmas.{carries_code}
-use Rattle.ud_text.proofs.PlainLemmas.{begins_ends}
 use Rattle.ud_text.proofs.QuietLemmas.{state_after-append, state_after-place, state_after-white, IsQuiet-feed}
 use Rattle.ud_text.proofs.QuietLineLemmas.{shown, line_is_text, passed_quiet, Passed-append}
 
@@ -100,9 +99,6 @@ one_line cont _ none splice_return_feed =
 module _ (w : Place) (white : Bool) (cont : List ℕ) (at : can_start w ≡ true) (none : NoFeed cont) (quiet : IsQuiet (line_state w white) cont)
     (leads : state_after (line_state w white) cont ≡ text_state false) (s : List ℕ) (splice : IsSplice s) where
   module _ (n : ℕ) (before : List Reading) (carried : Carries (carried_at w white) before) where
-    line : Line
-    line = line_at n (cont ++ s)
-
     joins : IsJoined cont n (cont ++ s)
     joins = joined_by cont n s splice
 

@@ -1,5 +1,5 @@
 -- A name that is no keyword, or a line that is not white.
-use Rattle.std.proofs.Common.{inl, inr, subst, List, ℕ, take, drop, ◌+◌, ◌≤◌, ◌≡◌, length, true}
+use Rattle.std.proofs.Common.{inl, subst, List, ℕ, take, ◌+◌, ◌≤◌, ◌≡◌, length, true}
 use Rattle.std.proofs.lemmas.List.{take_rest}
 use Rattle.ud_text.specs.States.{text_state, is_other_name}
 use Rattle.ud_text.specs.Spans.{NoSpecial}

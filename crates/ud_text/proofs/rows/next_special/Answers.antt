@@ -1,5 +1,5 @@
 -- What is left of the row, or the bytes after it.
-use Rattle.std.proofs.Common.{◌≤◌, ◌<◌, ◌+◌, ◌∙◌, length, arith}
+use Rattle.std.proofs.Common.{◌∙◌, arith}
 use Rattle.ud_text.proofs.RowLemmas.{left_found, left_empty, row_bound}
 use Rattle.ud_text.proofs.rows.next_special.Goals as goal
 

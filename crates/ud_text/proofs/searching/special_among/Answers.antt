@@ -1,5 +1,5 @@
 -- The lowest bit is that of the first lane that may matter.
-use Rattle.std.proofs.Common.{◌≡◌, ◌∙◌, ℕ, length, take, drop, ap, arith}
+use Rattle.std.proofs.Common.{◌≡◌, ◌∙◌, ℕ, length, take, drop, ap}
 use Rattle.std.proofs.lemmas.Simd.{length-chunk, first_set_mask_l}
 use Rattle.ud_text.specs.Searches.{lowest_bit}
 use Rattle.ud_text.specs.Spans.{is_special}

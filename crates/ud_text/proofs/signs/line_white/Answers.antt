@@ -1,5 +1,4 @@
 -- By the byte before the white space.
-use Rattle.std.proofs.Common.{arith}
 use Rattle.std.proofs.Math.Nat.{pos_of_ne-zero}
 use Rattle.ud_text.proofs.StepLemmas.{shows_found, all_before}
 use Rattle.ud_text.proofs.signs.line_white.Goals as goal

@@ -1,5 +1,5 @@
 -- Up to the first line feed, before which no splice begins.
-use Rattle.std.proofs.Common.{◌≡◌, ◌-◌, ◌<◌, ◌∙◌, length, take, drop, subst, sym, List, ℕ}
+use Rattle.std.proofs.Common.{◌-◌, ◌<◌, ◌∙◌, length, take, drop, subst, sym, List, ℕ}
 use Rattle.std.proofs.lemmas.List.{take_rest}
 use Rattle.ud_model.specs.text.Lines.{NoFeed}
 use Rattle.ud_text.proofs.FeedLemmas.{no_feed_front}
