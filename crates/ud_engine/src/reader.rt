@@ -64,27 +64,6 @@ impl Reader {
         ensures place { IfOk result (λ s. HoldsKeyword s line.now) }
     {
         let mode = self.machine.mode();
-        if let Some(scan) = self.scanner.read_unmarked(mode, line) {
-            return self.machine.step(&scan, line, symbols);
-        }
-        self.read_any(line, symbols)
-    }
-
-    /// The same of any line.
-    ///
-    /// # Errors
-    /// As `read`.
-    #[inline(never)]
-    fn read_any(&mut self, line: &Line<'_>, symbols: &Symbols) -> Result<Step, SectionFault>
-        requires within { IsWithin (as_line line.now) }
-        requires one_line { NoFeed line.now.body.now }
-        ensures ok { (o : Options) → (xs : List (Item Reading)) → (t : Tree Reading) → StandsFor symbols.now o.table → HasItems o self.old xs t →
-            IfOk result (ReadsOne o self.new xs t (as_line line.now)) }
-        ensures err { (o : Options) → (xs : List (Item Reading)) → (t : Tree Reading) → StandsFor symbols.now o.table → HasItems o self.old xs t →
-            IfErr result (λ f. FaultOf xs (next_item o xs t (as_line line.now)) (fault_of f)) }
-        ensures place { IfOk result (λ s. HoldsKeyword s line.now) }
-    {
-        let mode = self.machine.mode();
         let scan = self.scanner.read(mode, line);
         self.machine.step(&scan, line, symbols)
     }

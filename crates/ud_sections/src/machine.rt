@@ -224,14 +224,13 @@ impl Machine {
         ensures fits { array_vec_len self.now.open_sections ≤ OPEN_SECTIONS }
         ensures room { IfOk result (λ turn. IsTrue (is_push turn.change) → array_vec_len self.now.open_sections < OPEN_SECTIONS) }
     {
-        let Ok(seen) = see(scan, behind, symbols, self.settings) else {
-            prove!(self.open_sections.len() <= OPEN_SECTIONS);
-            return Err(SectionFault::Obfuscated { line: number });
-        };
         let before = Before {
             place: self.place(),
             depth: self.open_sections.len(),
             removed: self.removed,
+        };
+        let Ok(seen) = see(scan, behind, symbols, self.settings) else {
+            return Err(SectionFault::Obfuscated { line: number });
         };
         let action = judge(before, seen, number)?;
         let step = Step {

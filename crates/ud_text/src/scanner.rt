@@ -4,7 +4,7 @@
 //! then lent. Of the lines before, a scanner carries where their joined text leaves off, whether the last logical line is
 //! white, and whether the last line joins the next one.
 
-ghost use Rattle.std.specs.Prelude.{◌≡◌, ◌≤◌, ◌||◌, ℕ, List, [], ◌∷◌, ◌++◌, length, true, false, take, IfSome, IfNone};
+ghost use Rattle.std.specs.Prelude.{◌≡◌, ◌≤◌, ◌||◌, ℕ, List, [], ◌∷◌, ◌++◌, length, true, false, take, IfSome};
 ghost use Rattle.std.specs.Borrow.{sem};
 ghost use Rattle.std.specs.List.{position_or_len};
 ghost use Rattle.ud_model.specs.text.Bytes.{is_mark};
@@ -176,16 +176,16 @@ fn is_unmarked(body: &[u8]) -> bool
     }
 }
 
-/// What is seen of a line in C mode that is seen as it stands, and leaves nothing. No answer if that isn't seen at once: the
-/// text before it leaves off in a comment or a literal, a mark stands in it, or it has no ending.
+/// Reads a line in C mode that is seen as it stands, and leaves nothing. No answer if that isn't seen at once: the text before
+/// it leaves off in a comment or a literal, a mark stands in it, or it has no ending.
 #[inline(always)]
-fn scan_unmarked<'a>(carry: Carry, line: &Line<'a>) -> Option<Scan<'a>>
+fn scan_unmarked<'a>(carry: Carry, line: &Line<'a>) -> Option<Seen<'a>>
     requires one_line { NoFeed line.now.body.now }
-    ensures stands { IfSome result (λ scan. (before : List Reading) → Carries (carried_by carry) before →
-        Carries nothing_carried (before ++ next_reading before Mode.C (as_line line.now) ∷ [])) }
-    ensures value { IfSome result (λ scan. (before : List Reading) → Carries (carried_by carry) before →
-        as_scan scan ≡ scan_after before Mode.C (as_line line.now)) }
-    ensures fits { IfSome result (λ scan. length scan.masked.now ≤ length line.now.body.now) }
+    ensures stands { IfSome result (λ seen. (before : List Reading) → Carries (carried_by carry) before →
+        Carries (carried_by seen.carry) (before ++ next_reading before Mode.C (as_line line.now) ∷ [])) }
+    ensures value { IfSome result (λ seen. (masked : List ℕ) → (before : List Reading) → Carries (carried_by carry) before →
+        scan_with (shown_in seen.lent masked) seen.facts ≡ scan_after before Mode.C (as_line line.now)) }
+    ensures fits { IfSome result (λ seen. (masked : List ℕ) → length (shown_in seen.lent masked) ≤ length line.now.body.now) }
 {
     let Place::Text = carry.reached.place else {
         return None;
@@ -193,13 +193,18 @@ fn scan_unmarked<'a>(carry: Carry, line: &Line<'a>) -> Option<Scan<'a>>
     if line.ending.is_empty() || !is_unmarked(line.body) {
         return None;
     }
-    Some(Scan {
-        masked: line.body,
+    let facts = Facts {
         fresh: carry.reached.white,
         joins_before: carry.joins,
         joins_after: false,
         spliced: false,
         comment: CommentAt::Outside,
+    };
+    let left = nothing();
+    Some(Seen {
+        carry: left,
+        facts,
+        lent: Some(line.body),
     })
 }
 
@@ -238,6 +243,9 @@ fn scan_line<'a>(
 {
     match mode {
         Mode::C => {
+            if let Some(seen) = scan_unmarked(carry, line) {
+                return seen;
+            }
             masked.clear();
             scan_code(carry, line, masked)
         }
@@ -345,29 +353,6 @@ impl Scanner {
             joins_after: seen.facts.joins_after,
             spliced: seen.facts.spliced,
             comment: seen.facts.comment,
-        }
-    }
-
-    /// Reads the next line of the text as `read` does, if it is seen at once as it stands, and leaves nothing: in C mode,
-    /// after a text that leaves off outside comments and literals, a line with an ending in which nothing stands that may
-    /// begin or end a comment, a literal or a splice. Else there is no answer, and nothing changes.
-    #[inline(always)]
-    pub fn read_unmarked<'a>(&mut self, mode: Mode, line: &Line<'a>) -> Option<Scan<'a>>
-        requires one_line { NoFeed line.now.body.now }
-        ensures stands { IfSome result (λ scan. (before : List Reading) → Carries self.old before →
-            Carries self.new (before ++ next_reading before mode (as_line line.now) ∷ [])) }
-        ensures value { IfSome result (λ scan. (before : List Reading) → Carries self.old before →
-            as_scan scan ≡ scan_after before mode (as_line line.now)) }
-        ensures fits { IfSome result (λ scan. length scan.masked.now ≤ length line.now.body.now) }
-        ensures still { IfNone result (self.new ≡ self.old) }
-    {
-        match mode {
-            Mode::C => {
-                let scan = scan_unmarked(self.carry, line)?;
-                self.carry = nothing();
-                Some(scan)
-            }
-            Mode::Plain => None,
         }
     }
 
