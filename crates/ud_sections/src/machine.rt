@@ -22,16 +22,14 @@ ghost use Rattle.ud_model.specs.sections.Pruning.{is_removed};
 ghost use Rattle.ud_sections.specs.Judging.{is_push};
 
 use crate::fault::SectionFault;
-use crate::finding::{directive_behind, sign_on};
-use crate::found::{Cut, Directive};
+use crate::finding::sign_on;
 use crate::judging::{Before, judge};
 use crate::level::{Change, Level, Place};
-use crate::seeing::{Seen, decide};
-use crate::shape::Shape;
+use crate::seeing::see;
 use crate::step::{Span, Step};
 use arrayvec::ArrayVec;
 use ud_cond::Symbols;
-use ud_model::{Mode, OPEN_SECTIONS, Role, Settings, Verdict};
+use ud_model::{Mode, OPEN_SECTIONS, Settings, Verdict};
 use ud_text::{Line, Scan};
 
 /// What becomes of a line, and what it does to the open sections.
@@ -60,10 +58,7 @@ pub struct Machine {
 
 impl Machine {
     ghost use Rattle.ud_sections.specs.Sections.{HasRead, ComesNext, ReadsLine, AreText, ReadsText, refusal, refused_with, fault_of, end_told};
-    ghost use Rattle.ud_sections.specs.Turning.{before_in, turned, turn_with, text_verdict};
-    ghost use Rattle.ud_sections.specs.Judging.{judged_by};
-    ghost use Rattle.ud_sections.specs.Finding.{as_directive};
-    ghost use Rattle.ud_model.specs.sections.Directives as model;
+    ghost use Rattle.ud_sections.specs.Turning.{before_in, turned, text_verdict};
     ghost use Rattle.ud_sections.specs.Acting.{kept_at, text_action};
     ghost use Rattle.ud_sections.specs.Seeing.{seen_on};
     ghost use Rattle.ud_sections.specs.Ending.{end_in};
@@ -229,66 +224,13 @@ impl Machine {
         ensures fits { array_vec_len self.now.open_sections ≤ OPEN_SECTIONS }
         ensures room { IfOk result (λ turn. IsTrue (is_push turn.change) → array_vec_len self.now.open_sections < OPEN_SECTIONS) }
     {
-        match directive_behind(scan, behind) {
-            Err(Cut) => {
-                prove!(self.open_sections.len() <= OPEN_SECTIONS);
-                Err(SectionFault::Obfuscated { line: number })
-            }
-            Ok(None) => {
-                let keyword = Span { at: 0, len: 0 };
-                self.judged(Seen::new(scan, Shape::Text, keyword), number)
-            }
-            Ok(Some(found)) => self.directive_turn(scan, &found, number, symbols),
-        }
-    }
-
-    /// The same of a line that carries this directive. Only a condition is decided.
-    #[inline(always)]
-    fn directive_turn(
-        &self,
-        scan: &Scan<'_>,
-        found: &Directive<'_>,
-        number: u32,
-        symbols: &Symbols,
-    ) -> Result<Turn, SectionFault>
-        requires fits { length found.now.after.now ≤ LINE_BYTES }
-        ensures value { (calls : List Argument) → StandsFor symbols.now calls →
-            result ≡ turned (before_in self.now) number (seen_on (as_scan scan.now) calls (rules_of self.now.settings) (model.directive (as_directive found.now))) }
-        ensures place { IfOk result (λ turn. turn.step.keyword ≡ found.now.keyword) }
-        ensures fits { array_vec_len self.now.open_sections ≤ OPEN_SECTIONS }
-        ensures room { IfOk result (λ turn. IsTrue (is_push turn.change) → array_vec_len self.now.open_sections < OPEN_SECTIONS) }
-    {
-        match found.kind.role() {
-            Role::IfGroup => {
-                let answer = decide(scan, found, symbols, self.settings);
-                let shape = Shape::If {
-                    cond: answer.cond,
-                    ignoring: answer.ignoring,
-                };
-                self.judged(Seen::new(scan, shape, found.keyword), number)
-            }
-            Role::ElifGroup => {
-                let answer = decide(scan, found, symbols, self.settings);
-                let shape = Shape::Elif { cond: answer.cond };
-                self.judged(Seen::new(scan, shape, found.keyword), number)
-            }
-            Role::ElseGroup => self.judged(Seen::new(scan, Shape::Else, found.keyword), number),
-            Role::EndifLine => self.judged(Seen::new(scan, Shape::Endif, found.keyword), number),
-        }
-    }
-
-    /// What becomes of the next line, of which this is kept, and what it does to the open sections.
-    #[inline(always)]
-    fn judged(&self, seen: Seen, number: u32) -> Result<Turn, SectionFault>
-        ensures value { result ≡ turn_with seen.keyword (judged_by (before_in self.now) seen number) }
-        ensures place { IfOk result (λ turn. turn.step.keyword ≡ seen.keyword) }
-        ensures fits { array_vec_len self.now.open_sections ≤ OPEN_SECTIONS }
-        ensures room { IfOk result (λ turn. IsTrue (is_push turn.change) → array_vec_len self.now.open_sections < OPEN_SECTIONS) }
-    {
         let before = Before {
             place: self.place(),
             depth: self.open_sections.len(),
             removed: self.removed,
+        };
+        let Ok(seen) = see(scan, behind, symbols, self.settings) else {
+            return Err(SectionFault::Obfuscated { line: number });
         };
         let action = judge(before, seen, number)?;
         let step = Step {

@@ -34,23 +34,32 @@ pub(crate) struct Seen {
     pub joins_before: bool,
 }
 
-impl Seen {
-    ghost use Rattle.ud_text.specs.LineViews.{as_scan};
-    ghost use Rattle.ud_sections.specs.StepViews.{as_span};
-    ghost use Rattle.ud_sections.specs.Seeing.{seen_with};
-
-    /// What is kept of a line with this scan, of this shape and with its keyword here.
-    #[inline(always)]
-    pub(crate) fn new(scan: &Scan<'_>, shape: Shape, keyword: Span) -> Seen
-        ensures { result ≡ seen_with (as_scan scan.now) (as_span keyword) shape }
-    {
-        Seen {
-            shape,
-            keyword,
-            spans: spans(scan),
-            joins_before: scan.joins_before,
-        }
-    }
+/// What is kept of a line with this scan, of which this follows the `#`, with what the symbols decide of its condition.
+///
+/// # Errors
+/// The keyword of its directive can't be known.
+#[inline(always)]
+pub(crate) fn see<'a>(
+    scan: &Scan<'a>,
+    behind: &'a [u8],
+    symbols: &Symbols,
+    settings: Settings,
+) -> Result<Seen, Cut>
+    requires fits { length scan.now.masked.now ≤ LINE_BYTES }
+    requires behind { past_sign scan.now.masked.now ≡ Some behind.now }
+    ensures value { (calls : List Argument) → StandsFor symbols.now calls → result ≡ seen_on (as_scan scan.now) calls (rules_of settings) (content_of (as_scan scan.now)) }
+    ensures place { IfOk result (λ seen. seen.keyword.at + seen.keyword.len ≤ length scan.now.masked.now) }
+{
+    let (shape, keyword) = match directive_behind(scan, behind)? {
+        Some(found) => (shape_of(scan, &found, symbols, settings), found.keyword),
+        None => (Shape::Text, Span { at: 0, len: 0 }),
+    };
+    Ok(Seen {
+        shape,
+        keyword,
+        spans: spans(scan),
+        joins_before: scan.joins_before,
+    })
 }
 
 /// Whether the line joins a neighbour.
@@ -63,12 +72,7 @@ fn spans(scan: &Scan<'_>) -> bool
 /// What the symbols decide of a line's directive: a broken one is undecided, and one that joins the next line opens no
 /// section that is plain text.
 #[inline(always)]
-pub(crate) fn decide(
-    scan: &Scan<'_>,
-    found: &Directive<'_>,
-    symbols: &Symbols,
-    settings: Settings,
-) -> Answer
+fn decide(scan: &Scan<'_>, found: &Directive<'_>, symbols: &Symbols, settings: Settings) -> Answer
     requires { length found.now.after.now ≤ LINE_BYTES }
     ensures { (calls : List Argument) → StandsFor symbols.now calls →
         as_decision result ≡ decision_on (as_scan scan.now) (as_directive found.now) calls (rules_of settings) }
@@ -93,5 +97,29 @@ fn rules_of(settings: Settings) -> Rules
     Rules {
         constants: settings.constants,
         strict: settings.strict,
+    }
+}
+
+/// What a line's directive is among the sections, with what the symbols decide of it. Only a condition is looked at.
+#[inline(always)]
+fn shape_of(scan: &Scan<'_>, found: &Directive<'_>, symbols: &Symbols, settings: Settings) -> Shape
+    requires { length found.now.after.now ≤ LINE_BYTES }
+    ensures { (calls : List Argument) → StandsFor symbols.now calls →
+        result ≡ shape_in (role_of found.now.kind) (decision_on (as_scan scan.now) (as_directive found.now) calls (rules_of settings)) }
+{
+    match found.kind.role() {
+        Role::IfGroup => {
+            let answer = decide(scan, found, symbols, settings);
+            Shape::If {
+                cond: answer.cond,
+                ignoring: answer.ignoring,
+            }
+        }
+        Role::ElifGroup => {
+            let answer = decide(scan, found, symbols, settings);
+            Shape::Elif { cond: answer.cond }
+        }
+        Role::ElseGroup => Shape::Else,
+        Role::EndifLine => Shape::Endif,
     }
 }
