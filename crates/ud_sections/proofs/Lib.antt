@@ -10,4 +10,3 @@ pub mod TurnLemmas
 pub mod StandingLemmas
 pub mod NextLemmas
 pub mod ListingLemmas
-mod KeywordLemmas

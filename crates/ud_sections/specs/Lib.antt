@@ -15,4 +15,3 @@ pub mod Sections
 pub mod Ending
 pub mod Changing
 pub mod Turning
-pub mod Keywords

@@ -7,10 +7,10 @@ ghost use Rattle.ud_text.specs.LineViews.{as_scan};
 ghost use Rattle.ud_sections.specs.Finding.{content_found, directive_or_text};
 
 use crate::found::{Cut, Directive};
-use crate::keywords::{begins_keyword, keyword_in_front};
+use crate::keywords::{begins_keyword, kind_of};
 use crate::step::Span;
 use ud_model::CommentAt;
-use ud_model::bytes::{are_word_bytes, past_white};
+use ud_model::bytes::{are_word_bytes, past_white, word_len};
 use ud_text::Scan;
 
 /// The directive of a line that is seen so: the line is fresh, and its masked bytes are white space, `#`, white space,
@@ -122,7 +122,8 @@ fn found_behind<'a>(scan: &Scan<'a>, behind: &'a [u8]) -> Option<Directive<'a>>
         return None;
     }
     let rest = past_white(behind);
-    let (kind, len) = keyword_in_front(rest)?;
+    let len = word_len(rest);
+    let kind = kind_of(&rest[..len])?;
     Some(Directive {
         kind,
         keyword: Span {

@@ -6,6 +6,6 @@ overflow_sub-result c = length-past_sign c.args.scan.now.masked.now c.args.behin
 
 pub returns-clause-places : goal.returns-clause-places
 returns-clause-places c =
-    all_places c.args.scan.now.masked.now c.past_white-rest.result.now c.in_ok-kind.len
+    all_places c.args.scan.now.masked.now c.past_white-rest.result.now c.word_len-len.result
     (length-past_sign c.args.scan.now.masked.now c.args.behind.now c.past_white-rest.result.now c.requires c.past_white-rest.ensures)
-    c.in_ok-kind.ensures.word.bound
+    c.word_len-len.ensures.bound
