@@ -1,6 +1,7 @@
 pub mod TableLemmas
 mod SortedLemmas
 mod MarkLemmas
+mod KeyLemmas
 pub mod ReadingLemmas
 pub mod AskingLemmas
 pub mod RowLemmas

@@ -1,6 +1,6 @@
 //! The keys of names: numbers by which most names differ.
 
-ghost use Rattle.std.specs.Prelude.{◌≡◌, slice_index};
+ghost use Rattle.std.specs.Prelude.{◌≡◌, slice_index, IsTrue, bytes_eq, true};
 ghost use Rattle.ud_cond.specs.Keys as spec;
 
 /// How many bytes of a name its key is told by.
@@ -25,7 +25,33 @@ fn key_in(bytes: &[u8]) -> u64
     }
 }
 
-/// The same, where each byte may be there or not.
+/// Whether two names with one key are the same. Those of few bytes are told by the first ones too.
+#[inline(always)]
+pub(crate) fn is_same(a: &[u8], b: &[u8]) -> bool
+    requires { spec.key_of a.now ≡ spec.key_of b.now }
+    ensures { IsTrue result → bytes_eq a.now b.now ≡ true }
+{
+    if a.len() != b.len() {
+        return false;
+    }
+    if a.len() <= KEY_BYTES {
+        return true;
+    }
+    if a.len() <= 2 * KEY_BYTES {
+        return key_in(&a[..KEY_BYTES]) == key_in(&b[..KEY_BYTES]);
+    }
+    is_same_text(a, b)
+}
+
+/// Whether two texts are the same.
+#[inline(never)]
+fn is_same_text(a: &[u8], b: &[u8]) -> bool
+    ensures { result ≡ bytes_eq a.now b.now }
+{
+    a == b
+}
+
+/// The first bytes of a text, where each may be there or not.
 fn byte_by_byte(bytes: &[u8]) -> u64
     ensures { result ≡ spec.key_in bytes.now }
 {

@@ -2,8 +2,8 @@
 //!
 //! What a list of calls says of a name stands in ud_model, specs/conditions/Table.antt; what a condition is, in specs/conditions/Conditions.antt.
 //! `specs/Standing.antt` says what a `Symbols` stands for and how it is sorted, `specs/Marking.antt` which names it tells at once
-//! that it doesn't list, `specs/Worth.antt` what is kept of an expression while `parsing` reads it, and `specs/Stacks.antt`
-//! what waits meanwhile.
+//! that it doesn't list, `specs/Worth.antt` what is kept of an expression while `rows` or `parsing` reads it, and
+//! `specs/Rows.antt` and `specs/Stacks.antt` what waits meanwhile.
 #![tactic(auto)]
 
 mod conditions;

@@ -15,7 +15,7 @@ ghost use Rattle.ud_cond.specs.CondViews.{as_entry, said};
 
 use crate::fault::SymbolFault;
 use crate::hints::Hints;
-use crate::keys::key_of;
+use crate::keys::{is_same, key_of};
 use crate::marks::Marks;
 use std::alloc::Global;
 use std::cmp::Ordering;
@@ -65,12 +65,13 @@ impl Row {
         self.number
     }
 
-    /// Whether the row names it; most names are told by their keys alone.
+    /// Whether the row names it, which has this key.
     #[inline(always)]
     fn is_of(&self, key: u64, name: &[u8]) -> bool
+        requires { key ≡ spec.key_of name.now }
         ensures { IsTrue result → bytes_eq self.now.name name.now ≡ true }
     {
-        self.number == key && self.names(name)
+        self.number == key && is_same(self.symbol.as_slice(), name)
     }
 
     /// Whether the row names it.
