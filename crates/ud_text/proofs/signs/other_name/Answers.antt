@@ -1,7 +1,5 @@
 -- The white space in front, and two bytes of the word.
-use Rattle.std.proofs.Common.{◌≤◌, ◌∙◌, length, true, false, sym, arith}
-use Rattle.ud_text.specs.States.{is_other_word}
-use Rattle.ud_text.specs.Spans.{is_special}
+use Rattle.std.proofs.Common.{◌≤◌, ◌∙◌, length, sym, arith}
 use Rattle.ud_text.proofs.NameLemmas.{name_in_front, past_white_within}
 use Rattle.ud_text.proofs.signs.other_name.Goals as goal
 
