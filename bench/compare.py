@@ -26,6 +26,7 @@ SOURCES = os.environ.get("BENCH_SOURCES", "")
 COUNTED_BYTES = min(BYTES // 10, 1_000_000)
 EMPTY_LINES = 20_000_000
 MOST_KIB = 2048
+NOWHERE = Path(os.devnull)
 
 
 class Case(NamedTuple):
@@ -45,7 +46,7 @@ def heading(title, *cells):
 
 
 def cases(work, programs):
-    source, headers, comments = work / "source", work / "headers", work / "comments"
+    source, headers, comments = work / "source.c", work / "headers.h", work / "comments"
     if SOURCES:
         source.write_bytes(texts.files(SOURCES, "*.c", BYTES, list(programs.values())))
         for symbols in (0, 50, 1000):
@@ -76,24 +77,29 @@ def measured(name, outcome):
     return value
 
 
-def speeds(measures, programs, work):
-    first, *others = [*programs, "cat"]
-    columns = [f"{name} MB/s" for name in (first, *others)] + [f"{first} / {name}" for name in others]
-    heading("Speed", "text and options", "bytes", *columns, "output")
-    for case in measures:
-        times = {name: [] for name in (first, *others)}
-        outputs = set()
-        for turn in range(RUNS):
-            for name, command in commands(programs, case.words, "cat").items():
-                output = work / f"{name}.{turn}"
-                times[name].append(measured(case.name, finished(command, case.text, output)))
-                if name != "cat":
+def best(case, programs, output):
+    """The least processor time of each program and of `cat`, and what the programs' outputs hash to, if they are kept."""
+    times, outputs = {}, set()
+    for _ in range(RUNS):
+        for name, command in commands(programs, case.words, "cat").items():
+            times.setdefault(name, []).append(measured(case.name, finished(command, case.text, output)))
+            if output != NOWHERE:
+                if name in programs:
                     outputs.add(hashlib.sha256(output.read_bytes()).digest())
                 output.unlink()
-        best = {name: min(of) for name, of in times.items()}
-        rates = [f"{case.text.stat().st_size / seconds / 1e6:,.0f}" for seconds in best.values()]
-        ratios = [f"{best[name] / best[first]:.2f}" for name in others]
-        row(case.name, f"{case.text.stat().st_size:,}", *rates, *ratios, "the same" if len(outputs) == 1 else "differs")
+    return {name: min(of) for name, of in times.items()}, outputs
+
+
+def speeds(measures, programs, title, output):
+    first, *others = [*programs, "cat"]
+    columns = [f"{name} MB/s" for name in (first, *others)] + [f"{first} / {name}" for name in others]
+    heading(title, "text and options", "bytes", *columns, *([] if output == NOWHERE else ["output"]))
+    for case in measures:
+        times, outputs = best(case, programs, output)
+        rates = [f"{case.text.stat().st_size / seconds / 1e6:,.0f}" for seconds in times.values()]
+        ratios = [f"{times[name] / times[first]:.2f}" for name in others]
+        same = [] if output == NOWHERE else ["the same" if len(outputs) == 1 else "differs"]
+        row(case.name, f"{case.text.stat().st_size:,}", *rates, *ratios, *same)
 
 
 def counted(command, text):
@@ -153,7 +159,8 @@ def memory(measures, programs, work):
 def main():
     work, programs = Path(sys.argv[1]), dict(argument.split("=", 1) for argument in sys.argv[2:])
     measures = list(cases(work, programs))
-    speeds(measures, programs, work)
+    speeds(measures, programs, "Speed, with the output in a file", work / "output")
+    speeds(measures, programs, "Speed, with the output going nowhere", NOWHERE)
     instructions(measures, programs)
     starts(programs, work)
     most = memory(measures, programs, work)
