@@ -10,7 +10,7 @@ use unifdef_reference::{Answer, answer_to};
 use worked_rows::{Source, parted};
 
 /// What stops a run, and what only looks so, each to stand after some plain bytes of its line.
-const STOPS: [&[u8]; 36] = [
+const STOPS: [&[u8]; 26] = [
     b"/* c */",
     b"/* c\n * d\n */ e",
     b"/* c */ #ifdef A",
@@ -37,16 +37,6 @@ const STOPS: [&[u8]; 36] = [
     b"\n\n\n\n",
     b"/",
     b"*/ *\\",
-    b"\n#define X \\\n  #x \\\r\n  #ifdef A \\\n\\\n#endif",
-    b"\n#define X \\\n /* c \\\n */ # endif \\\n \"s\" // c",
-    b"\n \\\n # ifdef A\ny",
-    b"\\\r\r\n#else",
-    b"\\\n\\\r\n#endif\\",
-    b"\n/* c */ /* d */ \\\n#endif",
-    b"/* c */ \\\n# if A /* d",
-    b"// c \\d \\\r\n#if A",
-    b"\n#i\\\nfdef A\ny",
-    b"\n# x\\\n#ifdef A",
 ];
 
 /// The words of the runs, in turn.
