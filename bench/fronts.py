@@ -2,7 +2,7 @@
 
 fronts.py PROGRAM REFERENCE TREE CASES SEED: goes through CASES cases from SEED on. Each takes a file of the tree, cuts a part out of
 it at random places, makes words of the names in its conditions, and gives both to PROGRAM and to REFERENCE. They must write and say
-the same, with the same status; PROGRAM must end in time, by itself, with status 0, 1 or 2. It runs with a stack of 256 KiB.
+the same, with the same status; PROGRAM must end in time, by itself, with status 0, 1 or 2. It runs with a stack of 1 MiB.
 The first mismatch is printed, and its input is kept in the file `mismatch.c`.
 """
 
@@ -15,7 +15,7 @@ import sys
 from concurrent.futures import ThreadPoolExecutor
 
 SECONDS = 60
-STACK = 256 * 1024
+STACK = 1024 * 1024
 FLAGS = ["-k", "-K", "-b", "-l", "-c", "-n", "-s", "-S", "-t", "-x1", "-x2", "-kK", "-bc", "-cn"]
 VALUES = ["", "=0", "=1", "=2", "=201112L", "=0x10", "=", "=A", "=-1", "=1u"]
 CONDITION = re.compile(rb"^[ \t]*#[ \t]*(?:if|ifdef|ifndef|elif|elifdef|elifndef)\b(.*)$", re.M)

@@ -72,10 +72,10 @@ while IFS= read -r line; do
 done < <(sed -n '/^\.Sh DIFFERENCES/,/^\.Sh BUGS/p' "$here/../docs/unifdef.1")
 
 # What has no example there.
-printf '%5000s#ifdef A\nx\n#endif\n' '' > "$work/in"
+printf '%70000s#ifdef A\nx\n#endif\n' '' > "$work/in"
 both 'a long line' 2 1 -DA
-{ printf '#ifdef X\n%.0s' {1..64}; printf '#endif\n%.0s' {1..64}; } > "$work/in"
-both '64 sections' 0 2 -DA
+{ printf '#ifdef X\n%.0s' {1..256}; printf '#endif\n%.0s' {1..256}; } > "$work/in"
+both '256 sections' 0 2 -DA
 printf '#ifdef A\nx\n#endif\n' > "$work/in"
 both 'an option after the file' 2 1 "$work/in" -DA
 yes 'int a;' | head -n 300000 > "$work/in"

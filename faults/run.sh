@@ -101,7 +101,7 @@ status=0
 (printf 'a\n#ifdef A\nb\nc'; kill -KILL "$BASHPID") 2> /dev/null | limited -DA > "$out" 2> "$err" || status=${PIPESTATUS[1]}
 compare "an input whose writer is killed" 2 "$status" 'a\nb\nc' 'unifdef: stdin: 4: Premature EOF (#if line 2)\n'
 
-# --- The deepest inputs, with a stack of 256 KiB.
+# --- The deepest inputs, with a stack of 1 MiB.
 
 repeat() {
   local text
@@ -111,16 +111,16 @@ repeat() {
 
 deep() {
   case $1 in
-    sections) repeat $'#ifdef X\n' 64; repeat $'#endif\n' 64 ;;
-    removed) printf '#ifdef A\n'; repeat $'#if X\n#else\n' 63; repeat $'#endif\n' 63; printf '#endif\nx\n' ;;
-    parentheses) printf '#if '; repeat '(' 2000; printf A; repeat ')' 2000; printf '\nx\n#endif\n' ;;
-    negations) printf '#if '; repeat '!' 4080; printf 'A\nx\n#endif\n' ;;
-    operators) printf '#if A'; repeat '||A' 1360; printf '\nx\n#endif\n' ;;
-    mixed) printf '#if '; repeat '-(~(!(' 600; printf 1; repeat ')))' 120; printf '\nx\n#endif\n' ;;
-    arguments) printf '#if A'; repeat '(A' 1000; repeat ')' 1000; printf '\nx\n#endif\n' ;;
-    comment) printf '/*'; repeat '*' 4090; printf '\n'; repeat $'*\n' 2000; printf '*/\n' ;;
+    sections) repeat $'#ifdef X\n' 256; repeat $'#endif\n' 256 ;;
+    removed) printf '#ifdef A\n'; repeat $'#if X\n#else\n' 255; repeat $'#endif\n' 255; printf '#endif\nx\n' ;;
+    parentheses) printf '#if '; repeat '(' 32000; printf A; repeat ')' 32000; printf '\nx\n#endif\n' ;;
+    negations) printf '#if '; repeat '!' 65520; printf 'A\nx\n#endif\n' ;;
+    operators) printf '#if A'; repeat '||A' 21840; printf '\nx\n#endif\n' ;;
+    mixed) printf '#if '; repeat '-(~(!(' 10000; printf 1; repeat ')))' 1840; printf '\nx\n#endif\n' ;;
+    arguments) printf '#if A'; repeat '(A' 16000; repeat ')' 16000; printf '\nx\n#endif\n' ;;
+    comment) printf '/*'; repeat '*' 65530; printf '\n'; repeat $'*\n' 2000; printf '*/\n' ;;
     splices) repeat $'\\\n' 50000; printf 'x\n' ;;
-    longest) repeat a 4095; printf '\n' ;;
+    longest) repeat a 65535; printf '\n' ;;
   esac
 }
 
@@ -131,7 +131,7 @@ for kind in sections removed parentheses negations operators mixed arguments com
     # shellcheck disable=SC2086
     limited $words < "$work/in" > "$work/wanted_out" 2> "$work/wanted_err" || wanted=$?
     # shellcheck disable=SC2086
-    (ulimit -s 256; limited $words < "$work/in" > "$out" 2> "$err") || status=$?
+    (ulimit -s 1024; limited $words < "$work/in" > "$out" 2> "$err") || status=$?
     same=no
     if [ $status = $wanted ] && [ $status -le 2 ] && cmp -s "$out" "$work/wanted_out" && cmp -s "$err" "$work/wanted_err"; then
       same=yes

@@ -19,7 +19,7 @@ use std::io;
 use unifdef_reference::answer_to;
 use worked_rows::{ROWS, nested, parted, repeated};
 
-/// Of inputs with the longest lines only so many last places are looked at.
+/// Of inputs at a limit only so many last places are looked at.
 const LAST: usize = 8;
 
 /// At how many places reads and writes failed.
@@ -64,16 +64,16 @@ fn main(rt: HostRuntime) -> io::Result<()> {
         places = places.and(alloc, words.as_slice(), text, usize::MAX)?;
     }
     let words = parted(alloc, "-DA")?;
-    for count in [4095, 4096] {
+    for count in [65_535, 65_536] {
         let mut line = repeated(alloc, b"a", count)?;
         line.push(b'\n')?;
         check(&rt, alloc, words.as_slice(), line.as_slice(), LAST)?;
         places = places.and(alloc, words.as_slice(), line.as_slice(), LAST)?;
     }
-    for depth in [64, 65] {
+    for (depth, last) in [(64, usize::MAX), (256, LAST), (257, LAST)] {
         let text = nested(alloc, depth)?;
-        check(&rt, alloc, words.as_slice(), text.as_slice(), usize::MAX)?;
-        places = places.and(alloc, words.as_slice(), text.as_slice(), usize::MAX)?;
+        check(&rt, alloc, words.as_slice(), text.as_slice(), last)?;
+        places = places.and(alloc, words.as_slice(), text.as_slice(), last)?;
     }
     println!(rt;
         "a read failed at {} places, a write at {}: no mismatch",

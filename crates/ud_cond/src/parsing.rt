@@ -44,6 +44,12 @@ const LONG_BYTES: usize = 1024;
 /// The most operands that wait in a long text.
 const LONG_OPERANDS: usize = LONG_BYTES / 2;
 
+/// The most bytes of a very long text.
+const VERY_LONG_BYTES: usize = 8192;
+
+/// The most operands that wait in a very long text.
+const VERY_LONG_OPERANDS: usize = VERY_LONG_BYTES / 2;
+
 /// The most operands that wait in a line.
 const LINE_OPERANDS: usize = LINE_BYTES / 2;
 
@@ -235,6 +241,7 @@ pub(crate) fn whole(scope: &Scope<'_>, text: &[u8]) -> Option<Value>
         0..=SHORT_BYTES => read::<SHORT_BYTES, SHORT_OPERANDS>(scope, text),
         0..=LONGER_BYTES => read::<LONGER_BYTES, LONGER_OPERANDS>(scope, text),
         0..=LONG_BYTES => read::<LONG_BYTES, LONG_OPERANDS>(scope, text),
+        0..=VERY_LONG_BYTES => read::<VERY_LONG_BYTES, VERY_LONG_OPERANDS>(scope, text),
         _ => read::<LINE_BYTES, LINE_OPERANDS>(scope, text),
     }
 }

@@ -242,7 +242,7 @@ fn texts_of_each_size_are_read(rt: HostRuntime) -> Result<(), Fail> {
     let symbols = five(rt.alloc())?;
     let mut text = [b'('; LINE_BYTES];
     for size in [
-        31, 32, 33, 63, 64, 65, 127, 128, 129, 1023, 1024, 1025, 2047,
+        31, 32, 33, 63, 64, 65, 127, 128, 129, 1023, 1024, 1025, 2047, 8191, 8192, 8193, 32_767,
     ] {
         let end = 2 * size + 1;
         text[..size].fill(b'(');

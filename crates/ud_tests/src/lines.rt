@@ -153,21 +153,21 @@ fn whole_lines_are_borrowed_from_the_piece(rt: HostRuntime) -> Result<(), Fail> 
 }
 
 #[test]
-fn a_line_of_4096_bytes_is_borrowed(rt: HostRuntime) -> Result<(), Fail> {
-    let mut piece = [b'a'; 4096];
-    piece[4095] = b'\n';
+fn the_longest_line_is_borrowed(rt: HostRuntime) -> Result<(), Fail> {
+    let mut piece = [b'a'; 65_536];
+    piece[65_535] = b'\n';
     let Some(line) = Lines::new(1).whole_in(&piece) else {
         return Err(Fail::new("the line is lent"));
     };
-    assert_eq!(rt; line.body.len(), 4095);
+    assert_eq!(rt; line.body.len(), 65_535);
     assert_eq!(rt; line.ending, b"\n".as_slice());
     Ok(())
 }
 
 #[test]
-fn a_line_of_4097_bytes_is_refused_and_not_borrowed(rt: HostRuntime) -> Result<(), Fail> {
-    let mut piece = [b'a'; 4097];
-    piece[4096] = b'\n';
+fn a_longer_line_is_refused_and_not_borrowed(rt: HostRuntime) -> Result<(), Fail> {
+    let mut piece = [b'a'; 65_537];
+    piece[65_536] = b'\n';
     let mut lines = Lines::new(1);
     lend_none(&mut lines, &piece)?;
     let Err(fault) = lines.take(&piece) else {
@@ -197,13 +197,13 @@ fn whole_lines_are_skipped_at_once(rt: HostRuntime) -> Result<(), Fail> {
 
 #[test]
 fn no_line_past_a_limit_is_skipped(rt: HostRuntime) -> Result<(), Fail> {
-    let mut piece = [b'a'; 4200];
+    let mut piece = [b'a'; 65_640];
     piece[100] = b'\n';
-    piece[4196] = b'\n';
-    assert_eq!(rt; Lines::new(5000).whole_run(&piece), 4197);
-    piece[4196] = b'a';
-    piece[4197] = b'\n';
-    assert_eq!(rt; Lines::new(5000).whole_run(&piece), 101);
+    piece[65_636] = b'\n';
+    assert_eq!(rt; Lines::new(70_000).whole_run(&piece), 65_637);
+    piece[65_636] = b'a';
+    piece[65_637] = b'\n';
+    assert_eq!(rt; Lines::new(70_000).whole_run(&piece), 101);
     assert_eq!(rt; Lines::new(1).whole_run(b"a\nb\n"), 0);
     Ok(())
 }

@@ -223,14 +223,14 @@ fn a_section_more_than_may_be_open_is_refused(rt: HostRuntime) -> Result<(), Fai
     for first in [b"#if X".as_slice(), b"#ifdef N".as_slice()] {
         let mut stepper = Stepper::new(&rt, alloc, WORDS)?;
         let _ = stepper.step(&rt, first).expect(&rt, "the first section");
-        for _ in 1..64 {
+        for _ in 1..256 {
             let _ = stepper.step(&rt, b"#if X").expect(&rt, "a section");
         }
-        let fault = SectionFault::TooManyLevels { line: 65 };
+        let fault = SectionFault::TooManyLevels { line: 257 };
         assert!(rt; stepper.step(&rt, b"#if X") == Err(fault));
         assert!(rt; stepper.step(&rt, b"#endif") == Err(fault));
         assert!(rt; stepper.finish() == Err(fault));
-        assert_eq!(rt; stepper.depth(), 64);
+        assert_eq!(rt; stepper.depth(), 256);
     }
     Ok(())
 }

@@ -88,7 +88,7 @@ fn a_faulty_line_is_refused_for_good(rt: HostRuntime) -> Result<(), Fail> {
     check_refusal(&rt, b"x\n#endif\nz\n", b"x\n", out_of_place)?;
     let mut long = Vec::new(rt.alloc());
     long.extend_from_slice(b"#ifdef A\nx\n")?;
-    for _ in 0..4097 {
+    for _ in 0..65_537 {
         long.push(b'a')?;
     }
     let too_long = RunFault::Text(TextFault::LineTooLong { line: 3 });

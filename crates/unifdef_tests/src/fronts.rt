@@ -83,10 +83,13 @@ fn each_front_of_named_conditions_is_answered_as_by_the_reference(
 fn fronts_of_the_longest_lines_are_answered_as_by_the_reference(
     rt: HostRuntime,
 ) -> Result<(), Fail> {
-    for count in [4095, 4096] {
-        let mut line = repeated(rt.alloc(), b"a", count)?;
-        line.push(b'\n')?;
-        check_fronts(&rt, "-DA", line.as_slice(), LAST)?;
+    for bytes in [65_535_usize, 65_536, 65_537] {
+        for ending in [b"\n".as_slice(), b"\r\n"] {
+            let count = bytes.saturating_sub(ending.len());
+            let mut line = repeated(rt.alloc(), b"a", count)?;
+            line.extend_from_slice(ending)?;
+            check_fronts(&rt, "-DA", line.as_slice(), LAST)?;
+        }
     }
     Ok(())
 }
@@ -95,7 +98,7 @@ fn fronts_of_the_longest_lines_are_answered_as_by_the_reference(
 fn fronts_of_the_deepest_sections_are_answered_as_by_the_reference(
     rt: HostRuntime,
 ) -> Result<(), Fail> {
-    for depth in [64, 65] {
+    for depth in [256, 257] {
         let text = nested(rt.alloc(), depth)?;
         check_fronts(&rt, "-DA", text.as_slice(), LAST)?;
     }

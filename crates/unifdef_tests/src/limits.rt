@@ -13,9 +13,9 @@ fn joined(alloc: Global, first: &[u8], second: &[u8]) -> Result<Vec<u8>, AllocEr
 }
 
 #[test]
-fn a_line_has_4096_bytes_with_its_ending(rt: HostRuntime) -> Result<(), Fail> {
+fn a_line_has_65536_bytes_with_its_ending(rt: HostRuntime) -> Result<(), Fail> {
     let message = "unifdef: stdin: 1: Line too long";
-    let endings: [(usize, &[u8]); 3] = [(4095, b"\n"), (4094, b"\r\n"), (4096, b"")];
+    let endings: [(usize, &[u8]); 3] = [(65_535, b"\n"), (65_534, b"\r\n"), (65_536, b"")];
     for (count, ending) in endings {
         let body = repeated(rt.alloc(), b"a", count)?;
         let longest = joined(rt.alloc(), body.as_slice(), ending)?;
@@ -28,26 +28,36 @@ fn a_line_has_4096_bytes_with_its_ending(rt: HostRuntime) -> Result<(), Fail> {
 
 #[test]
 fn a_line_that_is_too_long_is_told_behind_the_lines_before(rt: HostRuntime) -> Result<(), Fail> {
-    let long = repeated(rt.alloc(), b"a", 4097)?;
+    let long = repeated(rt.alloc(), b"a", 65_537)?;
     let input = joined(rt.alloc(), b"#ifdef A\nx\n", long.as_slice())?;
     let message = "unifdef: stdin: 3: Line too long";
     check(&rt, "-DA", input.as_slice(), b"x\n", message, 2)
 }
 
 #[test]
-fn sixty_four_sections_may_be_open(rt: HostRuntime) -> Result<(), Fail> {
-    let deepest = nested(rt.alloc(), 64)?;
+fn many_sections_may_be_open(rt: HostRuntime) -> Result<(), Fail> {
+    let deepest = nested(rt.alloc(), 256)?;
     check_copy(&rt, "-DA", deepest.as_slice())?;
-    let deeper = nested(rt.alloc(), 65)?;
-    let before = repeated(rt.alloc(), b"#ifdef X\n", 64)?;
-    let message = "unifdef: stdin: 65: Too many levels of nesting";
+    let deeper = nested(rt.alloc(), 257)?;
+    let before = repeated(rt.alloc(), b"#ifdef X\n", 256)?;
+    let message = "unifdef: stdin: 257: Too many levels of nesting";
     check(&rt, "-DA", deeper.as_slice(), before.as_slice(), message, 2)
 }
 
 #[test]
 fn sections_count_in_removed_places_too(rt: HostRuntime) -> Result<(), Fail> {
-    let inner = repeated(rt.alloc(), b"#ifdef X\n", 64)?;
+    let inner = repeated(rt.alloc(), b"#ifdef X\n", 256)?;
     let input = joined(rt.alloc(), b"#ifdef A\n", inner.as_slice())?;
-    let message = "unifdef: stdin: 65: Too many levels of nesting";
+    let message = "unifdef: stdin: 257: Too many levels of nesting";
     check(&rt, "-UA", input.as_slice(), b"", message, 2)
+}
+
+/// Inputs that were refused when a line had 4,096 bytes and 64 sections could be open.
+#[test]
+fn what_passed_the_earlier_limits_is_copied(rt: HostRuntime) -> Result<(), Fail> {
+    let body = repeated(rt.alloc(), b"a", 4096)?;
+    let line = joined(rt.alloc(), body.as_slice(), b"\n")?;
+    check_copy(&rt, "-DA", line.as_slice())?;
+    let sections = nested(rt.alloc(), 65)?;
+    check_copy(&rt, "-DA", sections.as_slice())
 }

@@ -57,7 +57,7 @@ fn broken_directives_and_others_have_no_names(rt: HostRuntime) -> Result<(), Fai
 fn a_name_stands_behind_its_depth(rt: HostRuntime) -> Result<(), Fail> {
     let mut depths = Lister::new(true);
     assert_eq!(rt; depths.prefix(0), b"0 ".as_slice());
-    assert_eq!(rt; depths.prefix(63), b"63 ".as_slice());
+    assert_eq!(rt; depths.prefix(255), b"255 ".as_slice());
     let mut names = Lister::new(false);
     assert_eq!(rt; names.prefix(7), b"".as_slice());
     Ok(())

@@ -127,9 +127,9 @@ fn comments_and_splices_are_read_again_as_they_are(rt: HostRuntime) -> Result<()
 #[test]
 fn texts_at_the_limits_are_read_again_as_they_are(rt: HostRuntime) -> Result<(), Fail> {
     let alloc = rt.alloc();
-    check_twice(&rt, "-DA", nested(alloc, 64)?.as_slice())?;
+    check_twice(&rt, "-DA", nested(alloc, 256)?.as_slice())?;
     let mut longest = Vec::new(alloc);
-    for _ in 0..4095 {
+    for _ in 0..65_535 {
         longest.push(b'a')?;
     }
     longest.push(b'\n')?;
