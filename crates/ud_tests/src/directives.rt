@@ -1,20 +1,16 @@
-//! Directives of a first line.
+//! Directives of a first line, and their names.
 
-ghost use Rattle.std.specs.Prelude.{◌≤◌, length};
-ghost use Rattle.ud_model.specs.text.Lines.{NoFeed};
-ghost use Rattle.ud_model.specs.declared.limits.TheConstants.{LINE_BYTES};
-
+use crate::stepping::is_one_line;
 use std::process::Abort;
 use std::test::Fail;
-use ud_model::{Kind, Mode};
-use ud_sections::{Cut, Directive, Span, directive};
+use ud_model::{Kind, LINE_BYTES, Mode};
+use ud_sections::{Cut, Directive, Lister, Span, directive};
 use ud_text::{Line, Scanner};
 
 /// Compares what a first line carries in C mode, that ends in a line feed.
-fn check(rt: &impl Abort, body: &[u8], expected: &Result<Option<Directive<'_>>, Cut>)
-    requires fits { length body.now ≤ LINE_BYTES }
-    requires one_line { NoFeed body.now }
-{
+fn check(rt: &impl Abort, body: &[u8], expected: Result<Option<Directive<'_>>, Cut>) {
+    assert!(rt; body.len() <= LINE_BYTES);
+    assert!(rt; is_one_line(body));
     let mut scanner = Scanner::new();
     let line = Line {
         body,
@@ -22,63 +18,112 @@ fn check(rt: &impl Abort, body: &[u8], expected: &Result<Option<Directive<'_>>, 
         number: 1,
     };
     let scan = scanner.read(Mode::C, &line);
-    assert_eq!(rt; directive(&scan), *expected);
+    assert_eq!(rt; directive(&scan), expected);
 }
 
 #[test]
-fn a_keyword_may_lack_all_its_letters(rt: HostRuntime) -> Result<(), Fail> {
-    check(&rt, b"# /* c", &Err(Cut));
-    check(&rt, b"#\\", &Err(Cut));
-    check(&rt, b"#", &Ok(None));
-    Ok(())
-}
-
-#[test]
-fn a_slash_before_a_splice_may_begin_a_comment(rt: HostRuntime) -> Result<(), Fail> {
-    check(&rt, b"#/\\", &Err(Cut));
-    check(&rt, b"# // c \\", &Ok(None));
-    Ok(())
-}
-
-#[test]
-fn a_word_before_a_splice_may_become_a_keyword(rt: HostRuntime) -> Result<(), Fail> {
-    check(&rt, b"#if\\", &Err(Cut));
-    check(&rt, b"  # e\\", &Err(Cut));
-    check(&rt, b"#endif\\", &Err(Cut));
-    check(&rt, b"#elifd\\", &Err(Cut));
-    check(&rt, b"#elifdefs\\", &Ok(None));
-    check(&rt, b"# define\\", &Ok(None));
-    Ok(())
-}
-
-#[test]
-fn a_directive_before_a_splice_is_broken(rt: HostRuntime) -> Result<(), Fail> {
-    let endif = Directive {
-        kind: Kind::Endif,
-        keyword: Span { at: 1, len: 5 },
-        after: b" ",
-        broken: true,
-    };
-    check(&rt, b"#endif \\", &Ok(Some(endif)));
+fn a_keyword_may_be_cut(rt: HostRuntime) -> Result<(), Fail> {
+    let cases: [(&[u8], Result<Option<Directive<'_>>, Cut>); 11] = [
+        // A keyword may lack all its letters.
+        (b"# /* c", Err(Cut)),
+        (b"#\\", Err(Cut)),
+        (b"#", Ok(None)),
+        // A slash before a splice may begin a comment.
+        (b"#/\\", Err(Cut)),
+        (b"# // c \\", Ok(None)),
+        // A word before a splice may become a keyword.
+        (b"#if\\", Err(Cut)),
+        (b"  # e\\", Err(Cut)),
+        (b"#endif\\", Err(Cut)),
+        (b"#elifd\\", Err(Cut)),
+        (b"#elifdefs\\", Ok(None)),
+        (b"# define\\", Ok(None)),
+    ];
+    for (body, expected) in cases {
+        check(&rt, body, expected);
+    }
     Ok(())
 }
 
 #[test]
 fn a_directive_in_its_line_has_its_place(rt: HostRuntime) -> Result<(), Fail> {
+    check(&rt, b"#ifdefined A", Ok(None));
     let ifdef = Directive {
         kind: Kind::Ifdef,
         keyword: Span { at: 4, len: 5 },
         after: b" A     ",
         broken: false,
     };
-    check(&rt, b"  # ifdef A /* c", &Ok(Some(ifdef)));
-    check(&rt, b"#ifdefined A", &Ok(None));
+    check(&rt, b"  # ifdef A /* c", Ok(Some(ifdef)));
     let elifndef = Directive {
         kind: Kind::Elifndef,
         keyword: Span { at: 2, len: 8 },
         after: b"",
         broken: false,
     };
-    check(&rt, b"# elifndef", &Ok(Some(elifndef)));
+    check(&rt, b"# elifndef", Ok(Some(elifndef)));
+    // A directive before a splice is broken.
+    let endif = Directive {
+        kind: Kind::Endif,
+        keyword: Span { at: 1, len: 5 },
+        after: b" ",
+        broken: true,
+    };
+    check(&rt, b"#endif \\", Ok(Some(endif)));
+    Ok(())
+}
+
+/// First lines, and their names.
+const NAMES: &[(&[u8], &[&[u8]])] = &[
+    // Understood conditions have names.
+    (b"#if A && defined(B)", &[b"A", b"B"]),
+    (b"#if A + A", &[b"A", b"A"]),
+    (b"# ifdef C // c", &[b"C"]),
+    (b"#elif F(X)", &[b"F"]),
+    (b"#elif D << 1", &[]),
+    (b"#ifndef A B", &[]),
+    // Broken directives and others have no names.
+    (b"#if A \\", &[]),
+    (b"#else A", &[]),
+    (b"#endif A", &[]),
+    (b"#if\\", &[]),
+    (b"A", &[]),
+    (b"#if A /* c", &[b"A"]),
+];
+
+/// Compares the names of a first line in C mode, that ends in a line feed.
+fn check_names(rt: &impl Abort, body: &[u8], expected: &[&[u8]]) {
+    assert!(rt; body.len() <= LINE_BYTES);
+    assert!(rt; is_one_line(body));
+    let mut scanner = Scanner::new();
+    let line = Line {
+        body,
+        ending: b"\n",
+        number: 1,
+    };
+    let scan = scanner.read(Mode::C, &line);
+    assert!(rt; scan.masked.len() <= LINE_BYTES);
+    let mut listed = Lister::names(&scan);
+    for name in expected {
+        assert!(rt; listed.next() == Some(*name));
+    }
+    assert!(rt; listed.next().is_none());
+}
+
+#[test]
+fn understood_conditions_have_names(rt: HostRuntime) -> Result<(), Fail> {
+    for &(body, expected) in NAMES {
+        check_names(&rt, body, expected);
+    }
+    Ok(())
+}
+
+#[test]
+fn a_name_stands_behind_its_depth(rt: HostRuntime) -> Result<(), Fail> {
+    let mut depths = Lister::new(true);
+    assert_eq!(rt; depths.prefix(0), b"0 ".as_slice());
+    assert_eq!(rt; depths.prefix(255), b"255 ".as_slice());
+    let mut names = Lister::new(false);
+    assert_eq!(rt; names.prefix(7), b"".as_slice());
     Ok(())
 }

@@ -7,9 +7,12 @@ use crate::stepping::{Stepper, letter};
 use std::process::Abort;
 use std::test::Fail;
 use ud_model::Mode;
-use ud_sections::SectionFault;
+use ud_sections::{SectionFault, Span};
 
 const WORDS: &str = "-DY -UN";
+
+/// Words by which sections of `N` and `I` are plain text.
+const IGNORING: &str = "-iUN -iDI -DY";
 
 /// What may come next: text, a section, another group, the end; false, unknown and true, as far as they have a condition.
 const NEXT: [&[u8]; 9] = [
@@ -24,27 +27,125 @@ const NEXT: [&[u8]; 9] = [
     b"#endif",
 ];
 
-/// Compares what becomes, after these lines, of each line that may come next, of a text line after it, and of an `#endif`
-/// after both; `!` is one that is out of its place.
-fn check_phase(
+/// Lines, and for each line that may come next what becomes of it, of a text line after it, and of an `#endif` after both;
+/// `!` is one that is out of its place.
+#[rattlefmt::skip]
+const PHASES: &[(&[&[u8]], [&str; 9])] = &[
+    // In a removed place.
+    (&[b"#ifdef N", b"#if X"], ["---", "---", "---", "---", "---", "---", "---", "---", "---"]),
+    // All groups are false so far.
+    (&[b"#ifdef N"], ["---", "---", "---", "---", "---", "ikk", "-k-", "-k-", "-k!"]),
+    // The first kept group is true.
+    (&[b"#ifdef Y"], ["kk-", "---", "kkk", "-k-", "---", "---", "---", "---", "-k!"]),
+    // The last group is unknown.
+    (&[b"#if X"], ["kkk", "---", "kkk", "-k-", "--k", "kkk", "ekk", "kkk", "kk!"]),
+    // A false group follows an unknown one.
+    (&[b"#if X", b"#elif N"], ["--k", "---", "---", "---", "--k", "kkk", "ekk", "kkk", "kk!"]),
+    // The first true group follows an unknown one.
+    (&[b"#if X", b"#elif defined Y"], ["kkk", "---", "kkk", "-k-", "n--", "n--", "n--", "n--", "kk!"]),
+    // The first true group is past.
+    (&[b"#if X", b"#elif defined Y", b"#elif X"], ["---", "---", "---", "---", "---", "---", "---", "---", "-k!"]),
+    // A group after a sole true one is over.
+    (&[b"#ifdef Y", b"#elif X"], ["---", "---", "---", "---", "---", "---", "---", "---", "-k!"]),
+];
+
+/// Words, lines, and what becomes of them.
+#[rattlefmt::skip]
+const STEPS: &[(&str, &[&[u8]], &str)] = &[
+    // A cut keyword is refused everywhere.
+    (WORDS, &[b"# // c \\", b"#if\\"], "kk"),
+    // A directive over lines may only stay whole.
+    // It stays with its neighbours, its keyword alone is edited, or its place goes as a whole.
+    (WORDS, &[b"/* c", b"*/ #if X /*", b"*/"], "kkk"),
+    (WORDS, &[b"#ifdef N", b"#elif X /*", b"*/"], "-ik"),
+    (WORDS, &[b"#ifdef N", b"#if Y /*", b"*/", b"#endif"], "----"),
+    // What was open in plain text isn't carried on.
+    (IGNORING, &[b"#ifdef I", b"/* a", b"#endif", b"#if X"], "-k-k"),
+    // In a removed place it is plain as well, and one that joins the next line never is.
+    (IGNORING, &[b"#ifdef N", b"#ifdef I", b"/*", b"#endif", b"#endif"], "-----"),
+    (IGNORING, &[b"#if X", b"#ifdef N", b"#ifdef I // \\", b"", b"/*", b"*/"], "k-----"),
+    // Directives are found across splices.
+    // The line is fresh again once the slash before a splice turns out to begin a comment.
+    (WORDS, &[b"/\\", b"* c */ #if X", b"#elif N"], "kk-"),
+    (WORDS, &[b"/\\", b"\\", b"* c */ #if X", b"#elif N"], "kkk-"),
+    // A comment's opening star doesn't close it, and a star before a splice does.
+    (WORDS, &[b"/*\\", b"/", b"#endif", b"*/"], "kkkk"),
+    (WORDS, &[b"/*", b"*\\", b"/ #if X", b"#elif N"], "kkk-"),
+    // A splice comes before an escape: the backslash left takes the quote after it.
+    (WORDS, &[b"\"a\\\\", b"\" /* \"", b"#if X", b"#elif N"], "kkk-"),
+    // An empty spliced line keeps the escape, and an empty line ends the literal.
+    (WORDS, &[b"\"\\\\", b"\\", b"\" /*", b"#if X", b"#elif N"], "kkkk-"),
+    // A directive may stand on the second line of its logical line; there is one at most.
+    (WORDS, &[b"/* */ \\", b"#if X", b"#elif N"], "kk-"),
+    (WORDS, &[b"#if X /*", b"*/ #endif", b"#endif"], "kkk"),
+    // A directive before a splice in a comment is valued.
+    (WORDS, &[b"#ifdef N", b"#elif X // c \\", b"d"], "-ik"),
+    // Where the splice cuts the condition itself, it is unknown.
+    (WORDS, &[b"#ifdef Y \\", b"", b"#elif N", b"x"], "kk--"),
+];
+
+/// Words, lines of which the last is refused, its fault, and the depth and the mode by then.
+#[rattlefmt::skip]
+const REFUSALS: &[(&str, &[&[u8]], SectionFault, usize, Mode)] = &[
+    // A directive out of its place is refused.
+    (WORDS, &[b"#elif Y"], SectionFault::InappropriateElif { line: 1 }, 0, Mode::C),
+    (WORDS, &[b"#if X", b"#else", b"#elif X"], SectionFault::InappropriateElif { line: 3 }, 1, Mode::C),
+    (WORDS, &[b"#ifdef N", b"#if X", b"#else", b"#elif Y"], SectionFault::InappropriateElif { line: 4 }, 2, Mode::C),
+    (WORDS, &[b"x", b"#else"], SectionFault::InappropriateElse { line: 2 }, 0, Mode::C),
+    (WORDS, &[b"#if X", b"#else", b"x", b"#else"], SectionFault::InappropriateElse { line: 4 }, 1, Mode::C),
+    (WORDS, &[b"#if X", b"#endif", b"#endif"], SectionFault::InappropriateEndif { line: 3 }, 0, Mode::C),
+    ("-t", &[b"#if X", b"#endif", b"#endif"], SectionFault::InappropriateEndif { line: 3 }, 0, Mode::Plain),
+    // After an opener became an endif the section is still open.
+    (WORDS, &[b"#if X", b"#elif defined Y", b"#else", b"#elif X"], SectionFault::InappropriateElif { line: 4 }, 1, Mode::C),
+    // A cut keyword is refused everywhere.
+    (WORDS, &[b"#if\\"], SectionFault::Obfuscated { line: 1 }, 0, Mode::C),
+    (WORDS, &[b"#ifdef N", b"# /* c"], SectionFault::Obfuscated { line: 2 }, 1, Mode::C),
+    // A directive over lines may only stay whole.
+    // It would go, or lose what follows its keyword.
+    (WORDS, &[b"#ifdef Y /* c"], SectionFault::Obfuscated { line: 1 }, 0, Mode::C),
+    (WORDS, &[b"#if X", b"#elif defined Y // \\"], SectionFault::Obfuscated { line: 2 }, 1, Mode::C),
+    (WORDS, &[b"#if X", b"#elif defined Y", b"#elif X /*"], SectionFault::Obfuscated { line: 3 }, 1, Mode::C),
+    // It stays, but what it is joined to goes.
+    (WORDS, &[b"#if X", b"1", b"#elif N", b"/* c", b"*/ #endif"], SectionFault::Obfuscated { line: 5 }, 1, Mode::C),
+];
+
+/// Compares what becomes, after these lines, of a next line, of a text line after it, and of an `#endif` after both; `!` is
+/// one that is out of its place.
+fn check_after(
     rt: &(impl Abort + AllocGlobal),
     lines: &[&[u8]],
+    next: &[u8],
     expected: &str,
 ) -> Result<(), Fail> {
     let alloc = rt.alloc();
-    let mut letters = String::new(alloc);
-    for next in NEXT {
-        let mut stepper = Stepper::new(rt, alloc, WORDS)?;
-        stepper.steps(rt, alloc, lines)?;
-        let two = stepper.steps(rt, alloc, &[next, b"x"])?;
-        letters.push_str(two.as_str())?;
-        match stepper.step(rt, b"#endif") {
-            Ok(step) => letters.push(letter(step.verdict))?,
-            Err(_) => letters.push('!')?,
-        }
-        letters.push(' ')?;
+    let mut stepper = Stepper::new(rt, alloc, WORDS)?;
+    stepper.steps(rt, alloc, lines)?;
+    let mut letters = stepper.steps(rt, alloc, &[next, b"x"])?;
+    letters.push(match stepper.step(rt, b"#endif") {
+        Ok(step) => letter(step.verdict),
+        Err(_) => '!',
+    })?;
+    assert_eq!(rt; letters.as_str(), expected);
+    Ok(())
+}
+
+/// Compares what becomes, after these lines, of each line that may come next.
+fn check_phase(
+    rt: &(impl Abort + AllocGlobal),
+    lines: &[&[u8]],
+    expected: &[&str; 9],
+) -> Result<(), Fail> {
+    for at in 0..NEXT.len() {
+        check_after(rt, lines, NEXT[at], expected[at])?;
     }
-    assert_eq!(rt; letters.as_str().trim_end(), expected);
+    Ok(())
+}
+
+#[test]
+fn a_section_goes_through_its_phases(rt: HostRuntime) -> Result<(), Fail> {
+    for (lines, expected) in PHASES {
+        check_phase(&rt, lines, expected)?;
+    }
     Ok(())
 }
 
@@ -59,6 +160,14 @@ fn check_steps(
     let mut stepper = Stepper::new(rt, alloc, words)?;
     let letters = stepper.steps(rt, alloc, lines)?;
     assert_eq!(rt; letters.as_str(), expected, "under {words}");
+    Ok(())
+}
+
+#[test]
+fn each_line_has_its_verdict(rt: HostRuntime) -> Result<(), Fail> {
+    for &(words, lines, expected) in STEPS {
+        check_steps(&rt, words, lines, expected)?;
+    }
     Ok(())
 }
 
@@ -77,144 +186,38 @@ fn check_refusal(
         return Ok(());
     };
     stepper.steps(rt, alloc, before)?;
-    assert!(rt;
-        stepper.step(rt, last) == Err(expected),
-        "the first time, under {words}"
-    );
-    assert!(rt;
-        stepper.step(rt, b"x") == Err(expected),
-        "at a text line, under {words}"
-    );
-    assert!(rt;
-        stepper.step(rt, b"#if X") == Err(expected),
-        "at an opener, under {words}"
-    );
-    assert!(rt;
-        stepper.finish() == Err(expected),
-        "at the end, under {words}"
-    );
+    for body in [*last, b"x", b"#if X"] {
+        assert!(rt; stepper.step(rt, body) == Err(expected), "under {words}");
+    }
+    assert!(rt; stepper.finish() == Err(expected), "under {words}");
     assert_eq!(rt; stepper.depth(), depth);
     assert!(rt; stepper.mode() == mode);
     Ok(())
 }
 
 #[test]
-fn a_section_goes_through_its_phases(rt: HostRuntime) -> Result<(), Fail> {
-    let alloc = rt.alloc();
-    // In a removed place.
-    check_phase(
-        &rt,
-        &[b"#ifdef N", b"#if X"],
-        "--- --- --- --- --- --- --- --- ---",
-    )?;
-    // All groups are false so far.
-    check_phase(&rt, &[b"#ifdef N"], "--- --- --- --- --- ikk -k- -k- -k!")?;
-    // The first kept group is true.
-    check_phase(&rt, &[b"#ifdef Y"], "kk- --- kkk -k- --- --- --- --- -k!")?;
-    // The last group is unknown.
-    check_phase(&rt, &[b"#if X"], "kkk --- kkk -k- --k kkk ekk kkk kk!")?;
-    // A false group follows an unknown one.
-    check_phase(
-        &rt,
-        &[b"#if X", b"#elif N"],
-        "--k --- --- --- --k kkk ekk kkk kk!",
-    )?;
-    // The first true group follows an unknown one.
-    check_phase(
-        &rt,
-        &[b"#if X", b"#elif defined Y"],
-        "kkk --- kkk -k- n-- n-- n-- n-- kk!",
-    )?;
-    // The first true group is past.
-    check_phase(
-        &rt,
-        &[b"#if X", b"#elif defined Y", b"#elif X"],
-        "--- --- --- --- --- --- --- --- -k!",
-    )
-}
-
-#[test]
-fn a_group_after_a_sole_true_one_is_over(rt: HostRuntime) -> Result<(), Fail> {
-    check_phase(
-        &rt,
-        &[b"#ifdef Y", b"#elif X"],
-        "--- --- --- --- --- --- --- --- -k!",
-    )
-}
-
-#[test]
-fn a_keyword_is_told_with_its_place(rt: HostRuntime) -> Result<(), Fail> {
-    let alloc = rt.alloc();
-    let mut stepper = Stepper::new(&rt, alloc, WORDS)?;
-    let opener = stepper.step(&rt, b" # ifdef X").expect(&rt, "an opener");
-    assert_eq!(rt; opener.keyword.at, 3);
-    assert_eq!(rt; opener.keyword.len, 5);
-    let text = stepper.step(&rt, b"# define X").expect(&rt, "text");
-    assert_eq!(rt; text.keyword.at, 0);
-    assert_eq!(rt; text.keyword.len, 0);
-    let end = stepper.step(&rt, b"/* */ #endif").expect(&rt, "an end");
-    assert_eq!(rt; end.keyword.at, 7);
-    assert_eq!(rt; stepper.depth(), 0);
-    assert!(rt; stepper.finish() == Ok(()));
+fn a_directive_out_of_its_place_or_over_lines_is_refused(rt: HostRuntime) -> Result<(), Fail> {
+    for &(words, lines, fault, depth, mode) in REFUSALS {
+        check_refusal(&rt, words, lines, fault, depth, mode)?;
+    }
     Ok(())
 }
 
 #[test]
-fn a_directive_out_of_its_place_is_refused(rt: HostRuntime) -> Result<(), Fail> {
-    let alloc = rt.alloc();
-    let elif = |line| SectionFault::InappropriateElif { line };
-    check_refusal(&rt, WORDS, &[b"#elif Y"], elif(1), 0, Mode::C)?;
-    check_refusal(
-        &rt,
-        WORDS,
-        &[b"#if X", b"#else", b"#elif X"],
-        elif(3),
-        1,
-        Mode::C,
-    )?;
-    check_refusal(
-        &rt,
-        WORDS,
-        &[b"#ifdef N", b"#if X", b"#else", b"#elif Y"],
-        elif(4),
-        2,
-        Mode::C,
-    )?;
-    let otherwise = |line| SectionFault::InappropriateElse { line };
-    check_refusal(&rt, WORDS, &[b"x", b"#else"], otherwise(2), 0, Mode::C)?;
-    check_refusal(
-        &rt,
-        WORDS,
-        &[b"#if X", b"#else", b"x", b"#else"],
-        otherwise(4),
-        1,
-        Mode::C,
-    )?;
-    let end = SectionFault::InappropriateEndif { line: 3 };
-    check_refusal(
-        &rt,
-        WORDS,
-        &[b"#if X", b"#endif", b"#endif"],
-        end,
-        0,
-        Mode::C,
-    )?;
-    check_refusal(
-        &rt,
-        "-t",
-        &[b"#if X", b"#endif", b"#endif"],
-        end,
-        0,
-        Mode::Plain,
-    )
-}
-
-#[test]
-fn after_an_opener_became_an_endif_the_section_is_still_open(rt: HostRuntime) -> Result<(), Fail> {
-    let alloc = rt.alloc();
-    let fault = SectionFault::InappropriateElif { line: 4 };
-    let lines: [&[u8]; 4] = [b"#if X", b"#elif defined Y", b"#else", b"#elif X"];
-    check_refusal(&rt, WORDS, &lines, fault, 1, Mode::C)
+fn a_keyword_is_told_with_its_place(rt: HostRuntime) -> Result<(), Fail> {
+    let mut stepper = Stepper::new(&rt, rt.alloc(), WORDS)?;
+    let lines: [(&[u8], usize, usize); 3] = [
+        (b" # ifdef X", 3, 5),
+        (b"# define X", 0, 0),
+        (b"/* */ #endif", 7, 5),
+    ];
+    for (body, at, len) in lines {
+        let step = stepper.step(&rt, body).expect(&rt, "the line is sound");
+        assert_eq!(rt; step.keyword, Span { at, len });
+    }
+    assert_eq!(rt; stepper.depth(), 0);
+    assert!(rt; stepper.finish() == Ok(()));
+    Ok(())
 }
 
 #[test]
@@ -236,58 +239,6 @@ fn a_section_more_than_may_be_open_is_refused(rt: HostRuntime) -> Result<(), Fai
 }
 
 #[test]
-fn a_cut_keyword_is_refused_everywhere(rt: HostRuntime) -> Result<(), Fail> {
-    let alloc = rt.alloc();
-    let first = SectionFault::Obfuscated { line: 1 };
-    check_refusal(&rt, WORDS, &[b"#if\\"], first, 0, Mode::C)?;
-    let second = SectionFault::Obfuscated { line: 2 };
-    check_refusal(&rt, WORDS, &[b"#ifdef N", b"# /* c"], second, 1, Mode::C)?;
-    check_steps(&rt, WORDS, &[b"# // c \\", b"#if\\"], "kk")
-}
-
-#[test]
-fn a_directive_over_lines_may_only_stay_whole(rt: HostRuntime) -> Result<(), Fail> {
-    let alloc = rt.alloc();
-    let at = |line| SectionFault::Obfuscated { line };
-    // It would go, or lose what follows its keyword.
-    check_refusal(&rt, WORDS, &[b"#ifdef Y /* c"], at(1), 0, Mode::C)?;
-    check_refusal(
-        &rt,
-        WORDS,
-        &[b"#if X", b"#elif defined Y // \\"],
-        at(2),
-        1,
-        Mode::C,
-    )?;
-    check_refusal(
-        &rt,
-        WORDS,
-        &[b"#if X", b"#elif defined Y", b"#elif X /*"],
-        at(3),
-        1,
-        Mode::C,
-    )?;
-    // It stays, but what it is joined to goes.
-    check_refusal(
-        &rt,
-        WORDS,
-        &[b"#if X", b"1", b"#elif N", b"/* c", b"*/ #endif"],
-        at(5),
-        1,
-        Mode::C,
-    )?;
-    // It stays with its neighbours, its keyword alone is edited, or its place goes as a whole.
-    check_steps(&rt, WORDS, &[b"/* c", b"*/ #if X /*", b"*/"], "kkk")?;
-    check_steps(&rt, WORDS, &[b"#ifdef N", b"#elif X /*", b"*/"], "-ik")?;
-    check_steps(
-        &rt,
-        WORDS,
-        &[b"#ifdef N", b"#if Y /*", b"*/", b"#endif"],
-        "----",
-    )
-}
-
-#[test]
 fn the_end_tells_an_open_comment_before_an_open_section(rt: HostRuntime) -> Result<(), Fail> {
     let alloc = rt.alloc();
     let mut stepper = Stepper::new(&rt, alloc, WORDS)?;
@@ -303,96 +254,39 @@ fn the_end_tells_an_open_comment_before_an_open_section(rt: HostRuntime) -> Resu
     Ok(())
 }
 
+/// Compares what becomes of the next lines, and the mode after them.
+fn check_next(
+    rt: &(impl Abort + AllocGlobal),
+    stepper: &mut Stepper,
+    lines: &[&[u8]],
+    expected: &str,
+    mode: Mode,
+) -> Result<(), Fail> {
+    let letters = stepper.steps(rt, rt.alloc(), lines)?;
+    assert_eq!(rt; letters.as_str(), expected);
+    assert!(rt; stepper.mode() == mode);
+    Ok(())
+}
+
 #[test]
 fn a_section_by_an_ignoring_symbol_is_plain_up_to_its_end(rt: HostRuntime) -> Result<(), Fail> {
-    let alloc = rt.alloc();
-    let words = "-iUN -iDI -DY";
-    let mut stepper = Stepper::new(&rt, alloc, words)?;
+    let mut stepper = Stepper::new(&rt, rt.alloc(), IGNORING)?;
     let lines: [&[u8]; 3] = [b"#ifndef N", b"/* a", b"#else"];
-    assert_eq!(rt; stepper.steps(&rt, alloc, &lines)?.as_str(), "-k-");
-    assert!(rt; stepper.mode() == Mode::Plain);
+    check_next(&rt, &mut stepper, &lines, "-k-", Mode::Plain)?;
     // A section inside, which is plain by its own symbol too, doesn't end the mode.
     let inner: [&[u8]; 4] = [b"#ifdef I", b"\"", b"#endif", b"/*"];
-    assert_eq!(rt; stepper.steps(&rt, alloc, &inner)?.as_str(), "----");
-    assert!(rt; stepper.mode() == Mode::Plain);
-    let _ = stepper
-        .step(&rt, b"#endif")
-        .expect(&rt, "the section's end");
-    assert!(rt; stepper.mode() == Mode::C);
-    // What was open in plain text isn't carried on.
-    check_steps(
-        &rt,
-        words,
-        &[b"#ifdef I", b"/* a", b"#endif", b"#if X"],
-        "-k-k",
-    )?;
-    // In a removed place it is plain as well, and one that joins the next line never is.
-    check_steps(
-        &rt,
-        words,
-        &[b"#ifdef N", b"#ifdef I", b"/*", b"#endif", b"#endif"],
-        "-----",
-    )?;
-    check_steps(
-        &rt,
-        words,
-        &[b"#if X", b"#ifdef N", b"#ifdef I // \\", b"", b"/*", b"*/"],
-        "k-----",
-    )
-}
-
-#[test]
-fn directives_are_found_across_splices(rt: HostRuntime) -> Result<(), Fail> {
-    let alloc = rt.alloc();
-    // The line is fresh again once the slash before a splice turns out to begin a comment.
-    check_steps(&rt, WORDS, &[b"/\\", b"* c */ #if X", b"#elif N"], "kk-")?;
-    check_steps(
-        &rt,
-        WORDS,
-        &[b"/\\", b"\\", b"* c */ #if X", b"#elif N"],
-        "kkk-",
-    )?;
-    // A comment's opening star doesn't close it, and a star before a splice does.
-    check_steps(&rt, WORDS, &[b"/*\\", b"/", b"#endif", b"*/"], "kkkk")?;
-    check_steps(&rt, WORDS, &[b"/*", b"*\\", b"/ #if X", b"#elif N"], "kkk-")?;
-    // A splice comes before an escape: the backslash left takes the quote after it.
-    check_steps(
-        &rt,
-        WORDS,
-        &[b"\"a\\\\", b"\" /* \"", b"#if X", b"#elif N"],
-        "kkk-",
-    )?;
-    // An empty spliced line keeps the escape, and an empty line ends the literal.
-    check_steps(
-        &rt,
-        WORDS,
-        &[b"\"\\\\", b"\\", b"\" /*", b"#if X", b"#elif N"],
-        "kkkk-",
-    )?;
-    // A directive may stand on the second line of its logical line; there is one at most.
-    check_steps(&rt, WORDS, &[b"/* */ \\", b"#if X", b"#elif N"], "kk-")?;
-    check_steps(&rt, WORDS, &[b"#if X /*", b"*/ #endif", b"#endif"], "kkk")
-}
-
-#[test]
-fn a_directive_before_a_splice_in_a_comment_is_valued(rt: HostRuntime) -> Result<(), Fail> {
-    let alloc = rt.alloc();
-    check_steps(&rt, WORDS, &[b"#ifdef N", b"#elif X // c \\", b"d"], "-ik")?;
-    // Where the splice cuts the condition itself, it is unknown.
-    check_steps(&rt, WORDS, &[b"#ifdef Y \\", b"", b"#elif N", b"x"], "kk--")
+    check_next(&rt, &mut stepper, &inner, "----", Mode::Plain)?;
+    check_next(&rt, &mut stepper, &[b"#endif"], "-", Mode::C)
 }
 
 #[test]
 fn a_run_of_text_has_one_verdict(rt: HostRuntime) -> Result<(), Fail> {
-    let alloc = rt.alloc();
-    let mut stepper = Stepper::new(&rt, alloc, WORDS)?;
+    let mut stepper = Stepper::new(&rt, rt.alloc(), WORDS)?;
     assert_eq!(rt; stepper.text(3), 'k');
-    assert_eq!(rt;
-        stepper.steps(&rt, alloc, &[b"#if X", b"#elif N"])?.as_str(),
-        "k-"
-    );
+    let lines: [&[u8]; 2] = [b"#if X", b"#elif N"];
+    check_next(&rt, &mut stepper, &lines, "k-", Mode::C)?;
     assert_eq!(rt; stepper.text(9), '-');
-    assert_eq!(rt; stepper.steps(&rt, alloc, &[b"#endif"])?.as_str(), "k");
+    check_next(&rt, &mut stepper, &[b"#endif"], "k", Mode::C)?;
     assert_eq!(rt; stepper.text(11), 'k');
     let fault = SectionFault::InappropriateEndif { line: 12 };
     assert!(rt; stepper.step(&rt, b"#endif") == Err(fault));

@@ -6,7 +6,6 @@ ghost use Rattle.ud_sections.specs.StepViews.{IsWithin};
 ghost use Rattle.ud_tests.specs.Ruling.{HoldsItsKeyword};
 
 use crate::printing::{Ruled, print_all};
-use std::alloc::Global;
 use std::process::Abort;
 use std::test::Fail;
 use ud_model::{Settings, Verdict};
@@ -15,8 +14,7 @@ use ud_text::Line;
 
 /// Prints these lines, and compares what is printed, and whether each line is printed as it is.
 fn check<S: Show>(
-    rt: &impl Abort,
-    alloc: Global,
+    rt: &(impl Abort + AllocGlobal),
     mut show: S,
     lines: &[Ruled<'_>],
     expected: &[u8],
@@ -24,21 +22,22 @@ fn check<S: Show>(
 ) -> Result<(), Fail>
     requires { All HoldsItsKeyword lines.now }
 {
-    let mut out = Vec::new(alloc);
+    let mut out = Vec::new(rt.alloc());
     let is_same = print_all(&mut show, lines, &mut out)?;
     assert_eq!(rt; out.as_slice(), expected);
     assert_eq!(rt; is_same, same);
     Ok(())
 }
 
-/// The settings without options but for these.
-fn settings(blank: bool, complement: bool, renumber: bool) -> Settings {
-    Settings {
+/// The printer of settings without options but for these.
+fn printer(blank: bool, complement: bool, renumber: bool) -> Printer {
+    let settings = Settings {
         blank,
         complement,
         renumber,
         ..Settings::default()
-    }
+    };
+    Printer::of(&settings)
 }
 
 /// A line with this ending that is kept or removed as it is.
@@ -83,7 +82,6 @@ fn a_line_behind_removed_ones_has_its_number(rt: HostRuntime) -> Result<(), Fail
     ];
     check(
         &rt,
-        rt.alloc(),
         Renumber::new(),
         &lines,
         b"a\r\n#line 5\r\nb\r\n",
@@ -91,16 +89,14 @@ fn a_line_behind_removed_ones_has_its_number(rt: HostRuntime) -> Result<(), Fail
     )?;
     check(
         &rt,
-        rt.alloc(),
-        Printer::of(&settings(false, false, true)),
+        printer(false, false, true),
         &lines,
         b"a\r\n#line 5\r\nb\r\n",
         false,
     )?;
     check(
         &rt,
-        rt.alloc(),
-        Printer::of(&settings(false, false, false)),
+        printer(false, false, false),
         &lines,
         b"a\r\nb\r\n",
         false,
@@ -116,7 +112,6 @@ fn the_same_bytes_may_come_of_other_lines(rt: HostRuntime) -> Result<(), Fail> {
     ];
     check(
         &rt,
-        rt.alloc(),
         Complement::new(Renumber::new()),
         &lines,
         b"#line 2\n#ifdef A\n#endif\n",
@@ -124,16 +119,14 @@ fn the_same_bytes_may_come_of_other_lines(rt: HostRuntime) -> Result<(), Fail> {
     )?;
     check(
         &rt,
-        rt.alloc(),
-        Printer::of(&settings(false, true, true)),
+        printer(false, true, true),
         &lines,
         b"#line 2\n#ifdef A\n#endif\n",
         false,
     )?;
     check(
         &rt,
-        rt.alloc(),
-        Printer::of(&settings(false, true, false)),
+        printer(false, true, false),
         &lines,
         b"#ifdef A\n#endif\n",
         false,
@@ -147,16 +140,9 @@ fn removed_lines_are_blanked(rt: HostRuntime) -> Result<(), Fail> {
         plain(b"x", b"\n", 2, false),
         plain(b"#endif", b"", 3, false),
     ];
-    check(&rt, rt.alloc(), Blank::new(), &lines, b"\n\n", false)?;
-    check(
-        &rt,
-        rt.alloc(),
-        Printer::of(&settings(true, false, false)),
-        &lines,
-        b"\n\n",
-        false,
-    )?;
-    check(&rt, rt.alloc(), Delete::new(), &lines, b"", false)
+    check(&rt, Blank::new(), &lines, b"\n\n", false)?;
+    check(&rt, printer(true, false, false), &lines, b"\n\n", false)?;
+    check(&rt, Delete::new(), &lines, b"", false)
 }
 
 #[test]
@@ -167,14 +153,7 @@ fn a_line_behind_blanked_ones_has_no_number(rt: HostRuntime) -> Result<(), Fail>
         plain(b"#endif", b"\n", 3, false),
         plain(b"y", b"", 4, true),
     ];
-    check(
-        &rt,
-        rt.alloc(),
-        Printer::of(&settings(true, false, true)),
-        &lines,
-        b"\n\n\ny",
-        false,
-    )
+    check(&rt, printer(true, false, true), &lines, b"\n\n\ny", false)
 }
 
 #[test]
@@ -187,7 +166,6 @@ fn the_complement_of_kept_lines_is_blanked(rt: HostRuntime) -> Result<(), Fail> 
     ];
     check(
         &rt,
-        rt.alloc(),
         Complement::new(Blank::new()),
         &lines,
         b"\n#ifdef A\n\n#endif\n",
@@ -195,8 +173,7 @@ fn the_complement_of_kept_lines_is_blanked(rt: HostRuntime) -> Result<(), Fail> 
     )?;
     check(
         &rt,
-        rt.alloc(),
-        Printer::of(&settings(true, true, true)),
+        printer(true, true, true),
         &lines,
         b"\n#ifdef A\n\n#endif\n",
         false,
@@ -206,23 +183,9 @@ fn the_complement_of_kept_lines_is_blanked(rt: HostRuntime) -> Result<(), Fail> 
 #[test]
 fn a_blanked_blank_line_is_the_same(rt: HostRuntime) -> Result<(), Fail> {
     let lines = [plain(b"", b"\n", 1, true), plain(b"", b"\n", 2, false)];
-    check(
-        &rt,
-        rt.alloc(),
-        Complement::new(Blank::new()),
-        &lines,
-        b"\n\n",
-        true,
-    )?;
-    check(&rt, rt.alloc(), Blank::new(), &lines, b"\n\n", true)?;
-    check(
-        &rt,
-        rt.alloc(),
-        Complement::new(Delete::new()),
-        &lines,
-        b"\n",
-        false,
-    )
+    check(&rt, Complement::new(Blank::new()), &lines, b"\n\n", true)?;
+    check(&rt, Blank::new(), &lines, b"\n\n", true)?;
+    check(&rt, Complement::new(Delete::new()), &lines, b"\n", false)
 }
 
 #[test]
@@ -250,7 +213,6 @@ fn edited_directives_stand_in_place_of_their_lines(rt: HostRuntime) -> Result<()
     ];
     check(
         &rt,
-        rt.alloc(),
         Delete::new(),
         &lines,
         b"#if   X\n2\n#else\n # endif\n",
@@ -258,7 +220,6 @@ fn edited_directives_stand_in_place_of_their_lines(rt: HostRuntime) -> Result<()
     )?;
     check(
         &rt,
-        rt.alloc(),
         Blank::new(),
         &lines,
         b"\n\n#if   X\n2\n#else\n # endif\n",
@@ -266,7 +227,6 @@ fn edited_directives_stand_in_place_of_their_lines(rt: HostRuntime) -> Result<()
     )?;
     check(
         &rt,
-        rt.alloc(),
         Renumber::new(),
         &lines,
         b"#line 3\n#if   X\n2\n#else\n # endif\n",
@@ -295,7 +255,6 @@ fn a_keyword_is_undone_by_its_length(rt: HostRuntime) -> Result<(), Fail> {
     ];
     check(
         &rt,
-        rt.alloc(),
         Delete::new(),
         &lines,
         b"#ifdef   X\n # ifndef   Y\n",

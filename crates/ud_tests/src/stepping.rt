@@ -13,7 +13,7 @@ use ud_text::{Line, Scanner};
 use ud_words::{Plan, plan};
 
 /// The plan of these words, parted by spaces, which have no fault.
-fn planned(rt: &impl Abort, alloc: Global, words: &str) -> Result<Plan, Fail> {
+pub(crate) fn planned(rt: &impl Abort, alloc: Global, words: &str) -> Result<Plan, Fail> {
     let mut owned = Vec::new(alloc);
     for word in words.split_whitespace() {
         owned.push(String::from_str(alloc, word)?)?;
@@ -95,7 +95,7 @@ impl Stepper {
 }
 
 /// Whether no line feed stands among these bytes.
-fn is_one_line(body: &[u8]) -> bool
+pub(crate) fn is_one_line(body: &[u8]) -> bool
     ensures { IsTrue result → NoFeed body.now }
 {
     match memchr(b'\n', body) {

@@ -11,39 +11,12 @@ use ud_sections::directive;
 use ud_text::{Line, Scanner};
 
 /// What the random texts are made of: all that may matter to a scanner, and some that doesn't.
+#[rattlefmt::skip]
 const PIECES: [&[u8]; 32] = [
-    b"/*",
-    b"*/",
-    b"//",
-    b"/",
-    b"*",
-    b"\"",
-    b"\"s\"",
-    b"'",
-    b"'c'",
-    b"\\",
-    b"\\n",
-    b"#",
-    b"#if",
-    b"# elif",
-    b"#include",
-    b"if",
-    b"e",
-    b"i",
-    b"a",
-    b"x ",
-    b" ",
-    b"\t",
-    b"\r",
-    b"\0",
-    b"\\\n",
-    b"\\\r\n",
-    b"*\\\n/",
-    b"\n",
-    b"\n",
-    b"\n",
-    b"\r\n",
-    b"/* c */",
+    b"/*", b"*/", b"//", b"/", b"*", b"\"", b"\"s\"", b"'",
+    b"'c'", b"\\", b"\\n", b"#", b"#if", b"# elif", b"#include", b"if",
+    b"e", b"i", b"a", b"x ", b" ", b"\t", b"\r", b"\0",
+    b"\\\n", b"\\\r\n", b"*\\\n/", b"\n", b"\n", b"\n", b"\r\n", b"/* c */",
 ];
 
 /// Numbers that look random, always the same ones.
@@ -223,60 +196,56 @@ fn goes(rt: &impl Abort, lines: &[u8], count: usize) {
     assert_eq!(rt; Scanner::new().pass(Mode::C, lines), count);
 }
 
-#[test]
-fn a_pass_goes_through_text(rt: HostRuntime) -> Result<(), Fail> {
-    goes(&rt, b"", 0);
-    goes(&rt, b"a\nb\r\nc", 5);
-    goes(&rt, b"a /* b\n * c\n */ d\ne\n", 20);
-    goes(&rt, b"a // b\nc\n", 9);
-    goes(&rt, b"char *s = \"/*\\\"\\\\\"; int c = '\\'';\nx\n", 36);
-    goes(&rt, b"#include <a/b.h>\n#define X\n#error e\nx\n", 38);
-    goes(&rt, b"a # if\nb / c\n", 13);
-    goes(&rt, b"a\nx /* b */ + /* c */\n", 22);
-    goes(&rt, b"a\n/* b */ /* c */ d\n", 20);
-    goes(&rt, b"/* b */ /* c\n */ #\\\n", 13);
-    goes(&rt, b"// a \\b\n// \\ \r\nc\n", 17);
-    Ok(())
-}
+/// Lines, and how many bytes of them are passed from the start of a text.
+const PASSES: &[(&[u8], usize)] = &[
+    // A pass goes through text.
+    (b"", 0),
+    (b"a\nb\r\nc", 5),
+    (b"a /* b\n * c\n */ d\ne\n", 20),
+    (b"a // b\nc\n", 9),
+    (b"char *s = \"/*\\\"\\\\\"; int c = '\\'';\nx\n", 36),
+    (b"#include <a/b.h>\n#define X\n#error e\nx\n", 38),
+    (b"a # if\nb / c\n", 13),
+    (b"a\nx /* b */ + /* c */\n", 22),
+    (b"a\n/* b */ /* c */ d\n", 20),
+    (b"/* b */ /* c\n */ #\\\n", 13),
+    (b"// a \\b\n// \\ \r\nc\n", 17),
+    // A pass goes through splices.
+    (b"a\nb\\\nc\n", 7),
+    (b"#define X \\\n  #x /* y */ \\\r\n  # z\nb\n", 36),
+    (b"a \\\n", 4),
+    (b"a \\\n#if X\n\\\n#if X\nb\n#if X\n", 10),
+    (b"a /* b */\\\n# if X\n", 18),
+    (b"#xy\\\n#else\n", 11),
+    (b"a /* b\n*/ \\\n", 12),
+    // A pass stops at a splice that may matter.
+    (b"a\n\\\n#if X\n", 2),
+    (b"a\n \t\\\r\nb\n", 2),
+    (b"a\n/* b */\\\n#if X\n", 2),
+    (b"a\nb /\\\n* c\n", 2),
+    (b"a\nb // c\\\nd\n", 2),
+    (b"a\nb // c\\\r\nd\n", 2),
+    (b"a\n//\\\nd\n", 2),
+    (b"a\nb \"c\\\nd\"\n", 2),
+    (b"a\nb \\\\\nc\n", 2),
+    (b"a\nb \\\r\r\nc\n", 2),
+    (b"a\n#\\\nif\n", 2),
+    (b"a\n#el\\\nse\n", 2),
+    // A pass stops at the line that may be none.
+    (b"a\n#if X\nb\n", 2),
+    (b"/* a\nb\n*/ #if\n", 7),
+    (b"/* a\nb\nc", 7),
+    (b"/* a *\\\n/\nb\n", 0),
+    (b"/* a \\\n b */\nc\n", 15),
+    (b"a\n/* b */ /* c */ #if\n", 2),
+    (b"don't\n", 0),
+];
 
 #[test]
-fn a_pass_goes_through_splices(rt: HostRuntime) -> Result<(), Fail> {
-    goes(&rt, b"a\nb\\\nc\n", 7);
-    goes(&rt, b"#define X \\\n  #x /* y */ \\\r\n  # z\nb\n", 36);
-    goes(&rt, b"a \\\n", 4);
-    goes(&rt, b"a \\\n#if X\n\\\n#if X\nb\n#if X\n", 10);
-    goes(&rt, b"a /* b */\\\n# if X\n", 18);
-    goes(&rt, b"#xy\\\n#else\n", 11);
-    goes(&rt, b"a /* b\n*/ \\\n", 12);
-    Ok(())
-}
-
-#[test]
-fn a_pass_stops_at_a_splice_that_may_matter(rt: HostRuntime) -> Result<(), Fail> {
-    goes(&rt, b"a\n\\\n#if X\n", 2);
-    goes(&rt, b"a\n \t\\\r\nb\n", 2);
-    goes(&rt, b"a\n/* b */\\\n#if X\n", 2);
-    goes(&rt, b"a\nb /\\\n* c\n", 2);
-    goes(&rt, b"a\nb // c\\\nd\n", 2);
-    goes(&rt, b"a\nb // c\\\r\nd\n", 2);
-    goes(&rt, b"a\n//\\\nd\n", 2);
-    goes(&rt, b"a\nb \"c\\\nd\"\n", 2);
-    goes(&rt, b"a\nb \\\\\nc\n", 2);
-    goes(&rt, b"a\nb \\\r\r\nc\n", 2);
-    goes(&rt, b"a\n#\\\nif\n", 2);
-    goes(&rt, b"a\n#el\\\nse\n", 2);
-    Ok(())
-}
-
-#[test]
-fn a_pass_stops_at_the_line_that_may_be_none(rt: HostRuntime) -> Result<(), Fail> {
-    goes(&rt, b"a\n#if X\nb\n", 2);
-    goes(&rt, b"/* a\nb\n*/ #if\n", 7);
-    goes(&rt, b"/* a\nb\nc", 7);
-    goes(&rt, b"/* a *\\\n/\nb\n", 0);
-    goes(&rt, b"/* a \\\n b */\nc\n", 15);
-    goes(&rt, b"a\n/* b */ /* c */ #if\n", 2);
-    goes(&rt, b"don't\n", 0);
+fn a_pass_goes_up_to_the_line_that_may_be_none(rt: HostRuntime) -> Result<(), Fail> {
+    for &(lines, count) in PASSES {
+        goes(&rt, lines, count);
+    }
     Ok(())
 }
 

@@ -1,7 +1,7 @@
 -- The bytes before the place have no line feed.
 use Rattle.std.proofs.Common.{◌≤◌, ◌-◌, length, take}
 use Rattle.ud_model.specs.text.Lines.{NoFeed}
-use Rattle.ud_tests.proofs.passing.body_len.Given as goal
+use Rattle.text_tests.proofs.passing.body_len.Given as goal
 
 abbrev pub invariant-loop-at : goal.invariant-loop-at
 invariant-loop-at l = record { within : l.at ≤ length l.bytes; one_line : NoFeed (take l.at l.bytes) }
