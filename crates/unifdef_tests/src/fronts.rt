@@ -1,10 +1,10 @@
 //! Fronts of the worked inputs: on each the tool, fed whole and in two pieces cut at each place, is held against the
 //! reference.
 
+use crate::worked::{Answer, check_tool};
 use std::io::Read;
 use std::process::Abort;
 use std::test::Fail;
-use unifdef::{Watched, tool};
 use unifdef_reference::answer_to;
 use worked_rows::{ROWS, nested, parted, repeated};
 
@@ -17,26 +17,13 @@ fn check_cuts(
     words: &[String],
     text: &[u8],
     last: usize,
+    label: &str,
 ) -> Result<(), Fail> {
-    let alloc = rt.alloc();
-    let expected = answer_to(alloc, words, text)?;
+    let expected = answer_to(rt.alloc(), words, text)?;
     for cut in text.len().saturating_sub(last)..=text.len() {
         let (front, back) = text.split_at(cut);
-        let mut reader = Watched::new(front.chain(back));
-        let mut out = Watched::new(Vec::<u8>::new(alloc));
-        let mut err = Watched::new(Vec::<u8>::new(alloc));
-        let status = tool(alloc, words, &mut reader, &mut out, &mut err);
-        assert_eq!(rt;
-            out.inner().as_slice(),
-            expected.output.as_slice(),
-            "cut at {cut}"
-        );
-        assert_eq!(rt;
-            err.inner().as_slice(),
-            expected.message.as_slice(),
-            "cut at {cut}"
-        );
-        assert_eq!(rt; status, expected.status, "cut at {cut}");
+        let reader = front.chain(back);
+        check_tool(rt, words, reader, usize::MAX, Answer::of(&expected), label);
     }
     Ok(())
 }
@@ -48,16 +35,24 @@ fn check_fronts(
     input: &[u8],
     last: usize,
 ) -> Result<(), Fail> {
-    let words = parted(rt.alloc(), words)?;
+    let owned = parted(rt.alloc(), words)?;
     for len in input.len().saturating_sub(last)..=input.len() {
-        check_cuts(rt, words.as_slice(), &input[..len], last)?;
+        check_cuts(rt, owned.as_slice(), &input[..len], last, words)?;
     }
     Ok(())
 }
 
+/// Words with an input whose sections have conditions by name.
+const NAMED: [(&str, &[u8]); 4] = [
+    ("-DA", b"#ifdef X\n1\n#elifdef A\n2\n#else\n3\n#endif\n"),
+    ("-UA -n", b"#ifdef A\n1\n#elifndef X\n2\n#endif"),
+    ("-S", b"#ifdef A\n#elifndef B\n#elifdef C D\n#endif\n"),
+    ("-iUN", b"#if X\n#elifdef N\n/* a\n#endif\nz\n"),
+];
+
 #[test]
 fn each_front_of_a_row_is_answered_as_by_the_reference(rt: HostRuntime) -> Result<(), Fail> {
-    for (words, input) in ROWS {
+    for (words, input) in &ROWS {
         check_fronts(&rt, words, input, input.len())?;
     }
     Ok(())
@@ -67,13 +62,7 @@ fn each_front_of_a_row_is_answered_as_by_the_reference(rt: HostRuntime) -> Resul
 fn each_front_of_named_conditions_is_answered_as_by_the_reference(
     rt: HostRuntime,
 ) -> Result<(), Fail> {
-    let rows: [(&str, &[u8]); 4] = [
-        ("-DA", b"#ifdef X\n1\n#elifdef A\n2\n#else\n3\n#endif\n"),
-        ("-UA -n", b"#ifdef A\n1\n#elifndef X\n2\n#endif"),
-        ("-S", b"#ifdef A\n#elifndef B\n#elifdef C D\n#endif\n"),
-        ("-iUN", b"#if X\n#elifdef N\n/* a\n#endif\nz\n"),
-    ];
-    for (words, input) in rows {
+    for (words, input) in &NAMED {
         check_fronts(&rt, words, input, input.len())?;
     }
     Ok(())

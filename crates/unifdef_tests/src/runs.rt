@@ -1,13 +1,12 @@
 //! Runs of lines: the tool, fed in pieces of each small size, held against the reference on texts whose stops stand at the
 //! borders of lanes; and what is printed of long runs.
 
-use crate::worked::check;
+use crate::worked::{Answer, check, check_tool, joined};
 use std::alloc::{AllocError, Global};
 use std::process::Abort;
 use std::test::Fail;
-use unifdef::{Watched, tool};
-use unifdef_reference::{Answer, answer_to};
-use worked_rows::{Source, parted};
+use unifdef_reference::answer_to;
+use worked_rows::{Source, parted, repeated};
 
 /// What stops a run, and what only looks so, each to stand after some plain bytes of its line.
 const STOPS: [&[u8]; 26] = [
@@ -52,7 +51,7 @@ fn dense_text(alloc: Global, lead: usize) -> Result<Vec<u8>, AllocError> {
     let mut text = Vec::new(alloc);
     for section in [b"#ifdef A\n", b"#ifdef B\n"] {
         text.extend_from_slice(section)?;
-        for stop in STOPS {
+        for stop in &STOPS {
             for _ in 0..lead {
                 text.push(b'a')?;
             }
@@ -72,55 +71,56 @@ fn check_pieces(
     words: &[String],
     text: &[u8],
     step: usize,
-    expected: &Answer,
+    answer: Answer<'_>,
 ) -> Result<(), Fail> {
-    let alloc = rt.alloc();
     let source = Source {
         step,
         ..Source::whole(text)
     };
-    let mut reader = Watched::new(source);
-    let mut out = Watched::new(Vec::<u8>::new(alloc));
-    let mut err = Watched::new(Vec::<u8>::new(alloc));
-    let status = tool(alloc, words, &mut reader, &mut out, &mut err);
-    assert_eq!(rt;
-        out.inner().as_slice(),
-        expected.output.as_slice(),
-        "pieces of {step}"
-    );
-    assert_eq!(rt;
-        err.inner().as_slice(),
-        expected.message.as_slice(),
-        "pieces of {step}"
-    );
-    assert_eq!(rt; status, expected.status);
+    let label = format!(in rt.alloc(); "pieces of {step}")?;
+    check_tool(rt, words, source, usize::MAX, answer, label.as_str());
     Ok(())
 }
 
-/// Compares the answers to a text where the tool reads pieces of each size from 1 to 70 bytes, or 8,192.
+/// Compares the answers to these words: the tool reads pieces of 8,192 bytes, and of each size from 1 to 70 bytes whose
+/// turn it is.
+fn check_turn(
+    rt: &(impl Abort + AllocGlobal),
+    words: &[String],
+    turn: usize,
+    lead: usize,
+    text: &[u8],
+) -> Result<(), Fail> {
+    let expected = answer_to(rt.alloc(), words, text)?;
+    check_pieces(rt, words, text, 8192, Answer::of(&expected))?;
+    for step in 1..=70_usize {
+        if step.wrapping_add(lead) % WORDS.len() == turn {
+            check_pieces(rt, words, text, step, Answer::of(&expected))?;
+        }
+    }
+    Ok(())
+}
+
+/// Compares the answers to a text under each of the words.
 fn check_sizes(
     rt: &(impl Abort + AllocGlobal),
     symbols: &str,
     lead: usize,
     text: &[u8],
 ) -> Result<(), Fail> {
-    let alloc = rt.alloc();
     for (turn, words) in WORDS.iter().enumerate() {
-        let words = parted(alloc, format!(in alloc; "{symbols} {words}")?.as_str())?;
-        let expected = answer_to(alloc, words.as_slice(), text)?;
-        check_pieces(rt, words.as_slice(), text, 8192, &expected)?;
-        for step in 1..=70_usize {
-            if step.wrapping_add(lead) % WORDS.len() == turn {
-                check_pieces(rt, words.as_slice(), text, step, &expected)?;
-            }
-        }
+        let words = parted(
+            rt.alloc(),
+            format!(in rt.alloc(); "{symbols} {words}")?.as_str(),
+        )?;
+        check_turn(rt, words.as_slice(), turn, lead, text)?;
     }
     Ok(())
 }
 
 #[test]
 fn stops_at_the_borders_of_lanes_change_nothing(rt: HostRuntime) -> Result<(), Fail> {
-    for lead in LEADS {
+    for &lead in &LEADS {
         let text = dense_text(rt.alloc(), lead)?;
         check_sizes(&rt, "-DA -UB", lead, text.as_slice())?;
     }
@@ -129,7 +129,7 @@ fn stops_at_the_borders_of_lanes_change_nothing(rt: HostRuntime) -> Result<(), F
 
 #[test]
 fn the_front_of_a_text_of_stops_is_answered_too(rt: HostRuntime) -> Result<(), Fail> {
-    for lead in LEADS {
+    for &lead in &LEADS {
         let text = dense_text(rt.alloc(), lead)?;
         let part = text.len() / 3;
         check_sizes(&rt, "-UA -DB", lead, &text.as_slice()[..part])?;
@@ -137,27 +137,9 @@ fn the_front_of_a_text_of_stops_is_answered_too(rt: HostRuntime) -> Result<(), F
     Ok(())
 }
 
-/// This line so many times.
-fn times(alloc: Global, line: &[u8], count: usize) -> Result<Vec<u8>, AllocError> {
-    let mut text = Vec::new(alloc);
-    for _ in 0..count {
-        text.extend_from_slice(line)?;
-    }
-    Ok(text)
-}
-
-/// These texts one after another.
-fn joined(alloc: Global, parts: &[&[u8]]) -> Result<Vec<u8>, AllocError> {
-    let mut text = Vec::new(alloc);
-    for part in parts {
-        text.extend_from_slice(part)?;
-    }
-    Ok(text)
-}
-
 #[test]
 fn a_long_run_is_printed_as_it_is(rt: HostRuntime) -> Result<(), Fail> {
-    let text = times(rt.alloc(), b"a /* b */ \"c\"\r\n", 1000)?;
+    let text = repeated(rt.alloc(), b"a /* b */ \"c\"\r\n", 1000)?;
     check(&rt, "-DA", text.as_slice(), text.as_slice(), "", 0)?;
     check(&rt, "-DA -t", text.as_slice(), text.as_slice(), "", 0)?;
     check(&rt, "-DA -c", text.as_slice(), b"", "", 1)?;
@@ -167,9 +149,9 @@ fn a_long_run_is_printed_as_it_is(rt: HostRuntime) -> Result<(), Fail> {
 #[test]
 fn a_long_run_is_removed_whole(rt: HostRuntime) -> Result<(), Fail> {
     let alloc = rt.alloc();
-    let run = times(alloc, b"a # b\n", 1000)?;
+    let run = repeated(alloc, b"a # b\n", 1000)?;
     let text = joined(alloc, &[b"x\n#ifdef A\n", run.as_slice(), b"#endif\ny\n"])?;
-    let blanks = times(alloc, b"\n", 1002)?;
+    let blanks = repeated(alloc, b"\n", 1002)?;
     let blanked = joined(alloc, &[b"x\n", blanks.as_slice(), b"y\n"])?;
     check(&rt, "-UA", text.as_slice(), b"x\ny\n", "", 1)?;
     check(&rt, "-UA -b", text.as_slice(), blanked.as_slice(), "", 1)
@@ -178,7 +160,7 @@ fn a_long_run_is_removed_whole(rt: HostRuntime) -> Result<(), Fail> {
 #[test]
 fn the_lines_of_a_run_are_numbered(rt: HostRuntime) -> Result<(), Fail> {
     let alloc = rt.alloc();
-    let run = times(alloc, b"a\n", 1000)?;
+    let run = repeated(alloc, b"a\n", 1000)?;
     let kept = joined(alloc, &[run.as_slice(), b"#ifdef A\nb\n#endif\nc\n"])?;
     let numbered = joined(alloc, &[run.as_slice(), b"#line 1004\nc\n"])?;
     check(&rt, "-UA -n", kept.as_slice(), numbered.as_slice(), "", 1)?;

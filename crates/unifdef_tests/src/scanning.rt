@@ -1,49 +1,36 @@
 //! Comments, literals and continuations, as they hide directives from the tool.
 
-use crate::worked::{check, check_copy};
+use crate::worked::{Copied, Row, check_copies, check_rows};
 use std::test::Fail;
 
-#[test]
-fn a_comment_may_begin_and_end_across_splices(rt: HostRuntime) -> Result<(), Fail> {
-    let input = b"/\\\n* c\n#ifdef A\n*\\\n/\n#ifdef A\nx\n#endif\n";
-    let output = b"/\\\n* c\n#ifdef A\n*\\\n/\nx\n";
-    check(&rt, "-DA", input, output, "", 1)
-}
+/// Inputs that are copied.
+const COPIES: &[Copied<'_>] = &[
+    // A directive may stand behind a comment across a splice.
+    ("-DA", b"/\\\n* c */ #ifdef X\n#endif\n"),
+    // A splice joins a directive to the text before it.
+    ("-DA", b"\"a\\\n#ifdef A\n"),
+    ("-DA", b"a\\\r\n#ifdef A\r\n"),
+    ("-DA", b"// a\\\n#ifdef A\n"),
+    // A nul is an ordinary byte.
+    ("-DA", b"#ifdef A\0\n#endif\n"),
+];
+
+/// Inputs without a fault.
+#[rattlefmt::skip]
+const ROWS: &[Row<'_>] = &[
+    // A comment may begin and end across splices.
+    ("-DA", b"/\\\n* c\n#ifdef A\n*\\\n/\n#ifdef A\nx\n#endif\n", b"/\\\n* c\n#ifdef A\n*\\\n/\nx\n", 1),
+    // A directive over two lines goes with its group.
+    ("-UB -DA", b"#ifdef B\n#ifdef A /* x\n*/\n#endif\n#endif\nz\n", b"z\n", 1),
+    // Quotes hide comments and end with their line.
+    ("-DA", b"char *s = \"/*\";\n#error don't\n#ifdef A\nx\n#endif\n", b"char *s = \"/*\";\n#error don't\nx\n", 1),
+    ("-DA", b"\"/*\n#ifdef A\nx\n#endif\n", b"\"/*\nx\n", 1),
+    // A backslash before a carriage return is no splice.
+    ("-DA", b"a\\\r\r\n#ifdef A\nx\n#endif\r\r\n", b"a\\\r\r\nx\n", 1),
+];
 
 #[test]
-fn a_directive_may_stand_behind_a_comment_across_a_splice(rt: HostRuntime) -> Result<(), Fail> {
-    check_copy(&rt, "-DA", b"/\\\n* c */ #ifdef X\n#endif\n")
-}
-
-#[test]
-fn a_directive_over_two_lines_goes_with_its_group(rt: HostRuntime) -> Result<(), Fail> {
-    let input = b"#ifdef B\n#ifdef A /* x\n*/\n#endif\n#endif\nz\n";
-    check(&rt, "-UB -DA", input, b"z\n", "", 1)
-}
-
-#[test]
-fn quotes_hide_comments_and_end_with_their_line(rt: HostRuntime) -> Result<(), Fail> {
-    let input = b"char *s = \"/*\";\n#error don't\n#ifdef A\nx\n#endif\n";
-    let output = b"char *s = \"/*\";\n#error don't\nx\n";
-    check(&rt, "-DA", input, output, "", 1)?;
-    let input = b"\"/*\n#ifdef A\nx\n#endif\n";
-    check(&rt, "-DA", input, b"\"/*\nx\n", "", 1)
-}
-
-#[test]
-fn a_splice_joins_a_directive_to_the_text_before_it(rt: HostRuntime) -> Result<(), Fail> {
-    check_copy(&rt, "-DA", b"\"a\\\n#ifdef A\n")?;
-    check_copy(&rt, "-DA", b"a\\\r\n#ifdef A\r\n")?;
-    check_copy(&rt, "-DA", b"// a\\\n#ifdef A\n")
-}
-
-#[test]
-fn a_backslash_before_a_carriage_return_is_no_splice(rt: HostRuntime) -> Result<(), Fail> {
-    let input = b"a\\\r\r\n#ifdef A\nx\n#endif\r\r\n";
-    check(&rt, "-DA", input, b"a\\\r\r\nx\n", "", 1)
-}
-
-#[test]
-fn a_nul_is_an_ordinary_byte(rt: HostRuntime) -> Result<(), Fail> {
-    check_copy(&rt, "-DA", b"#ifdef A\0\n#endif\n")
+fn comments_literals_and_splices_hide_directives(rt: HostRuntime) -> Result<(), Fail> {
+    check_copies(&rt, COPIES)?;
+    check_rows(&rt, ROWS)
 }

@@ -1,0 +1,237 @@
+//! Command lines: what they say, and where they are faulty.
+
+use std::alloc::{AllocError, Global};
+use std::process::Abort;
+use std::test::Fail;
+use ud_cond::Entry;
+use ud_model::{ExitMode, Listing, Settings};
+use unifdef::{Plan, Usage, input_of, plan};
+
+/// Words that own their text.
+fn owned(alloc: Global, words: &[&str]) -> Result<Vec<String>, AllocError> {
+    let mut owned = Vec::new(alloc);
+    for word in words {
+        owned.push(String::from_str(alloc, word)?)?;
+    }
+    Ok(owned)
+}
+
+/// The plan of words that have no fault.
+fn planned(rt: &(impl Abort + AllocGlobal), words: &[&str]) -> Result<Plan, Fail> {
+    let words = owned(rt.alloc(), words)?;
+    Ok(plan(rt.alloc(), words.as_slice()).expect(rt, "the words have no fault"))
+}
+
+/// Compares the settings that words say.
+fn check_settings(
+    rt: &(impl Abort + AllocGlobal),
+    words: &[&str],
+    settings: Settings,
+) -> Result<(), Fail> {
+    assert_eq!(rt; planned(rt, words)?.settings(), settings);
+    Ok(())
+}
+
+#[test]
+fn the_words_say_the_settings(rt: HostRuntime) -> Result<(), Fail> {
+    let usual = Settings::default();
+    let cases: [(&[&str], Settings); 7] = [
+        // No words say nothing.
+        (&[], usual),
+        // Letters stand in one word.
+        (
+            &["-kbUA"],
+            Settings {
+                constants: true,
+                blank: true,
+                ..usual
+            },
+        ),
+        // Flags stay as they were given.
+        (
+            &["-Slns", "-ctK"],
+            Settings {
+                plain: true,
+                strict: true,
+                blank: true,
+                complement: true,
+                renumber: true,
+                listing: Listing::Depths,
+                ..usual
+            },
+        ),
+        (
+            &["-i", "DA", "-siUB", "-iDC=a=b"],
+            Settings {
+                listing: Listing::Names,
+                ..usual
+            },
+        ),
+        // The last exit mode counts.
+        (
+            &["-x1", "-x0", "-DA"],
+            Settings {
+                exit_mode: ExitMode::Zero,
+                ..usual
+            },
+        ),
+        (
+            &["-x", "1", "-DA"],
+            Settings {
+                exit_mode: ExitMode::One,
+                ..usual
+            },
+        ),
+        (
+            &["-x0", "-tx2"],
+            Settings {
+                exit_mode: ExitMode::Two,
+                plain: true,
+                ..usual
+            },
+        ),
+    ];
+    for &(words, settings) in &cases {
+        check_settings(&rt, words, settings)?;
+    }
+    Ok(())
+}
+
+/// Words whose symbols have values.
+const VALUES: &[&str] = &["-UA", "-D", "A=B", "-DB=3", "-DC="];
+
+/// Words whose symbols are ignoring.
+const IGNORING: &[&str] = &["-i", "DA", "-siUB", "-iDC=a=b"];
+
+/// Words, a name, and what they say of it: its value, and whether it is ignoring.
+const SYMBOLS: &[(&[&str], &[u8], Option<&[u8]>, bool)] = &[
+    (&["-kbUA"], b"A", None, false),
+    // An argument is the rest of its word or the next word.
+    (VALUES, b"A", Some(b"B"), false),
+    (VALUES, b"B", Some(b"3"), false),
+    (VALUES, b"C", Some(b""), false),
+    // An ignoring symbol is told.
+    (IGNORING, b"A", Some(b"1"), true),
+    (IGNORING, b"B", None, true),
+    (IGNORING, b"C", Some(b"a=b"), true),
+];
+
+/// Compares what words say of a name.
+fn check_symbol(
+    rt: &(impl Abort + AllocGlobal),
+    words: &[&str],
+    name: &[u8],
+    entry: Option<Entry<'_>>,
+) -> Result<(), Fail> {
+    assert!(rt; planned(rt, words)?.symbols().find(name) == entry);
+    Ok(())
+}
+
+#[test]
+fn the_words_say_the_symbols(rt: HostRuntime) -> Result<(), Fail> {
+    for &(words, name, value, ignoring) in SYMBOLS {
+        check_symbol(&rt, words, name, Some(Entry { value, ignoring }))?;
+    }
+    check_symbol(&rt, &[], b"A", None)
+}
+
+/// Words, the place of the operand, and of the one that names a file.
+const PLACES: &[(&[&str], Option<usize>, Option<usize>)] = &[
+    (&[], None, None),
+    (&["-DA"], None, None),
+    (&["-DA", "f.c"], Some(1), Some(1)),
+    (&["-DA", "-"], Some(1), None),
+    (&["-DA", "--", "-"], Some(2), None),
+    (&["--", "-B"], Some(1), Some(1)),
+    (&["--", "--"], Some(1), Some(1)),
+    (&["-D", "A", ""], Some(2), Some(2)),
+];
+
+/// Compares the place of the operand.
+fn check_operand(
+    rt: &(impl Abort + AllocGlobal),
+    words: &[&str],
+    operand: Option<usize>,
+) -> Result<(), Fail> {
+    assert!(rt; planned(rt, words)?.operand() == operand);
+    Ok(())
+}
+
+/// Compares the place of the operand that names a file.
+fn check_input(
+    rt: &(impl Abort + AllocGlobal),
+    words: &[&str],
+    file: Option<usize>,
+) -> Result<(), Fail> {
+    let words = owned(rt.alloc(), words)?;
+    assert!(rt; input_of(words.as_slice()) == file);
+    Ok(())
+}
+
+#[test]
+fn the_operand_has_a_place(rt: HostRuntime) -> Result<(), Fail> {
+    for &(words, operand, file) in PLACES {
+        check_operand(&rt, words, operand)?;
+        check_input(&rt, words, file)?;
+    }
+    Ok(())
+}
+
+/// Words with a fault.
+const FAULTS: &[(&[&str], Usage)] = &[
+    // A letter that is no option is told.
+    (&["-B"], Usage::UnknownOption { letter: 'B' }),
+    (&["--x"], Usage::UnknownOption { letter: '-' }),
+    (&["---"], Usage::UnknownOption { letter: '-' }),
+    (&["-b-"], Usage::UnknownOption { letter: '-' }),
+    (&["-té"], Usage::UnknownOption { letter: 'é' }),
+    (&["-B", "-D"], Usage::UnknownOption { letter: 'B' }),
+    // An argument that is not there is told.
+    (&["-D"], Usage::MissingArgument { letter: 'D' }),
+    (&["-tD"], Usage::MissingArgument { letter: 'D' }),
+    (&["-i"], Usage::MissingArgument { letter: 'i' }),
+    (&["-DA", "-bx"], Usage::MissingArgument { letter: 'x' }),
+    // The word of a bad symbol is told.
+    (&["-U", "1A"], Usage::BadSymbol { word: 2 }),
+    (&["-iX"], Usage::BadSymbol { word: 1 }),
+    (&["-iD", "A"], Usage::BadSymbol { word: 1 }),
+    (&["-D", "-U"], Usage::BadSymbol { word: 2 }),
+    (&["-D", "--", "-B"], Usage::BadSymbol { word: 2 }),
+    (&["-D", ""], Usage::BadSymbol { word: 2 }),
+    (&["-Udefined"], Usage::BadSymbol { word: 1 }),
+    (&["-D=1"], Usage::BadSymbol { word: 1 }),
+    (&["-UA=1"], Usage::BadSymbol { word: 1 }),
+    (&["-D", "1A", "-B"], Usage::BadSymbol { word: 2 }),
+    // The word of a bad exit mode is told.
+    (&["-x3"], Usage::BadMode { word: 1 }),
+    (&["-x0x"], Usage::BadMode { word: 1 }),
+    (&["-x00"], Usage::BadMode { word: 1 }),
+    (&["-x", "3"], Usage::BadMode { word: 2 }),
+    (&["-x", ""], Usage::BadMode { word: 2 }),
+    // A second operand is told.
+    (&["a", "b"], Usage::TooManyFiles),
+    (&["-DA", "-", "-b"], Usage::TooManyFiles),
+    (&["a", "--"], Usage::TooManyFiles),
+    (&["a", "-B"], Usage::TooManyFiles),
+    (&["--", "-b", "c"], Usage::TooManyFiles),
+];
+
+/// Compares the fault of words.
+fn check_fault(rt: &(impl Abort + AllocGlobal), words: &[&str], usage: Usage) -> Result<(), Fail> {
+    let words = owned(rt.alloc(), words)?;
+    let Err(fault) = plan(rt.alloc(), words.as_slice()) else {
+        return Err(Fail::new("the words have a fault"));
+    };
+    assert_eq!(rt; fault, usage);
+    Ok(())
+}
+
+/// Words with a fault name no file.
+#[test]
+fn the_first_fault_is_told(rt: HostRuntime) -> Result<(), Fail> {
+    for &(words, usage) in FAULTS {
+        check_fault(&rt, words, usage)?;
+        check_input(&rt, words, None)?;
+    }
+    Ok(())
+}
