@@ -43,61 +43,31 @@ fn a_line_is_written_once_it_has_ended(rt: HostRuntime) -> Result<(), Fail> {
     check(&rt, "-DA", pieces.as_slice(), ended(true, b"x\n", 1))
 }
 
+/// Words, a piece, what is left of it, and the answer at the end.
+#[rattlefmt::skip]
+const PIECES: &[(&str, &[u8], &[u8], Result<bool, RunFault>)] = &[
+    // Lines that stay, beside each other and apart.
+    ("-DA", b"a\nb\n#ifdef A\nc\n#endif\nd\n", b"a\nb\nc\nd\n", Ok(true)),
+    // A line with another keyword.
+    ("-UA", b"a\n#if A\n#elif X\nb\n#endif\n", b"a\n#if   X\nb\n#endif\n", Ok(true)),
+    ("-DA", b"#if X\n#elif A\n#else\nb\n#endif\nc\n", b"#if X\n#else\n#endif\nc\n", Ok(true)),
+    // Parts around and in place of a line.
+    ("-n -UA", b"#ifdef A\nx\n#endif\ny\nz\n", b"#line 4\ny\nz\n", Ok(true)),
+    ("-b -UA", b"#ifdef A\r\nx\n#endif\ny\n", b"\r\n\n\ny\n", Ok(true)),
+    ("-c -UA", b"#ifdef A\nx\n#endif\ny\n", b"#ifdef A\nx\n#endif\n", Ok(true)),
+    // Names.
+    ("-S", b"#if A && defined(B)\n#ifdef C\n#endif\n", b"0 A\n0 B\n1 C\n", Err(IN_SECTION)),
+];
+
+/// The fault of a text of three lines that ends in the section of its first line.
+const IN_SECTION: RunFault = RunFault::Section(SectionFault::PrematureEof {
+    line: 3,
+    if_line: 1,
+});
+
 #[test]
 fn a_piece_leaves_in_one_write(rt: HostRuntime) -> Result<(), Fail> {
-    let in_section = RunFault::Section(SectionFault::PrematureEof {
-        line: 3,
-        if_line: 1,
-    });
-    let cases: [(&str, &[u8], &[u8], Result<bool, RunFault>); 7] = [
-        // Lines that stay, beside each other and apart.
-        (
-            "-DA",
-            b"a\nb\n#ifdef A\nc\n#endif\nd\n",
-            b"a\nb\nc\nd\n",
-            Ok(true),
-        ),
-        // A line with another keyword.
-        (
-            "-UA",
-            b"a\n#if A\n#elif X\nb\n#endif\n",
-            b"a\n#if   X\nb\n#endif\n",
-            Ok(true),
-        ),
-        (
-            "-DA",
-            b"#if X\n#elif A\n#else\nb\n#endif\nc\n",
-            b"#if X\n#else\n#endif\nc\n",
-            Ok(true),
-        ),
-        // Parts around and in place of a line.
-        (
-            "-n -UA",
-            b"#ifdef A\nx\n#endif\ny\nz\n",
-            b"#line 4\ny\nz\n",
-            Ok(true),
-        ),
-        (
-            "-b -UA",
-            b"#ifdef A\r\nx\n#endif\ny\n",
-            b"\r\n\n\ny\n",
-            Ok(true),
-        ),
-        (
-            "-c -UA",
-            b"#ifdef A\nx\n#endif\ny\n",
-            b"#ifdef A\nx\n#endif\n",
-            Ok(true),
-        ),
-        // Names.
-        (
-            "-S",
-            b"#if A && defined(B)\n#ifdef C\n#endif\n",
-            b"0 A\n0 B\n1 C\n",
-            Err(in_section),
-        ),
-    ];
-    for &(words, piece, written, answer) in &cases {
+    for &(words, piece, written, answer) in PIECES {
         let ended = Ended {
             answer,
             written,

@@ -35,7 +35,7 @@ fn check_settings(
 #[test]
 fn the_words_say_the_settings(rt: HostRuntime) -> Result<(), Fail> {
     let usual = Settings::default();
-    let cases: [(&[&str], Settings); 7] = [
+    let cases: [(&[&str], Settings); 4] = [
         // No words say nothing.
         (&[], usual),
         // Letters stand in one word.
@@ -67,32 +67,30 @@ fn the_words_say_the_settings(rt: HostRuntime) -> Result<(), Fail> {
                 ..usual
             },
         ),
-        // The last exit mode counts.
-        (
-            &["-x1", "-x0", "-DA"],
-            Settings {
-                exit_mode: ExitMode::Zero,
-                ..usual
-            },
-        ),
-        (
-            &["-x", "1", "-DA"],
-            Settings {
-                exit_mode: ExitMode::One,
-                ..usual
-            },
-        ),
-        (
-            &["-x0", "-tx2"],
-            Settings {
-                exit_mode: ExitMode::Two,
-                plain: true,
-                ..usual
-            },
-        ),
     ];
     for &(words, settings) in &cases {
         check_settings(&rt, words, settings)?;
+    }
+    Ok(())
+}
+
+/// Words, and their exit mode: the last one counts.
+const MODES: &[(&[&str], ExitMode)] = &[
+    (&["-x1", "-x0", "-DA"], ExitMode::Zero),
+    (&["-x", "1", "-DA"], ExitMode::One),
+    (&["-x0", "-tx2"], ExitMode::Two),
+];
+
+/// Compares the exit mode that words say.
+fn check_mode(rt: &(impl Abort + AllocGlobal), words: &[&str], mode: ExitMode) -> Result<(), Fail> {
+    assert_eq!(rt; planned(rt, words)?.settings().exit_mode, mode);
+    Ok(())
+}
+
+#[test]
+fn the_last_exit_mode_counts(rt: HostRuntime) -> Result<(), Fail> {
+    for &(words, mode) in MODES {
+        check_mode(&rt, words, mode)?;
     }
     Ok(())
 }
