@@ -190,25 +190,15 @@ fn a_blanked_blank_line_is_the_same(rt: HostRuntime) -> Result<(), Fail> {
 
 #[test]
 fn edited_directives_stand_in_place_of_their_lines(rt: HostRuntime) -> Result<(), Fail> {
+    let at_1 = Span { at: 1, len: 4 };
+    let at_3 = Span { at: 3, len: 4 };
     let lines = [
         plain(b"#if A", b"\n", 1, false),
         plain(b"1", b"\n", 2, false),
-        ruled(b"#elif X", b"\n", 3, Verdict::ToIf, Span { at: 1, len: 4 }),
+        ruled(b"#elif X", b"\n", 3, Verdict::ToIf, at_1),
         plain(b"2", b"\n", 4, true),
-        ruled(
-            b"#elif 1 // t",
-            b"\n",
-            5,
-            Verdict::ToElse,
-            Span { at: 1, len: 4 },
-        ),
-        ruled(
-            b" # else",
-            b"\n",
-            6,
-            Verdict::ToEndif,
-            Span { at: 3, len: 4 },
-        ),
+        ruled(b"#elif 1 // t", b"\n", 5, Verdict::ToElse, at_1),
+        ruled(b" # else", b"\n", 6, Verdict::ToEndif, at_3),
         plain(b"#endif", b"", 7, false),
     ];
     check(
