@@ -93,3 +93,20 @@ fn fronts_of_the_deepest_sections_are_answered_as_by_the_reference(
     }
     Ok(())
 }
+
+/// Of each line that comes more is held when the next bytes are read.
+#[test]
+fn lines_as_long_as_a_piece_are_answered_as_by_the_reference(rt: HostRuntime) -> Result<(), Fail> {
+    let owned = parted(rt.alloc(), "-DA")?;
+    let mut text = Vec::new(rt.alloc());
+    for count in 8_180..8_200 {
+        let line = repeated(rt.alloc(), b"a", count)?;
+        text.extend_from_slice(line.as_slice())?;
+        text.extend_from_slice(b"\n#ifdef A\n")?;
+    }
+    check_cuts(&rt, owned.as_slice(), text.as_slice(), LAST, "long lines")?;
+    for _ in 0..20 {
+        text.extend_from_slice(b"x\n#endif\n")?;
+    }
+    check_cuts(&rt, owned.as_slice(), text.as_slice(), LAST, "long lines")
+}
