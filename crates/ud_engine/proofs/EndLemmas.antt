@@ -20,9 +20,9 @@ use Rattle.ud_engine.specs.Ending.{at_rest, PrintsAll, EndsAt, EndsShort, EndsWe
 use Rattle.ud_engine.specs.Feeding.{Running, HasTaken, Fed}
 use Rattle.ud_engine.specs.Printing.{PrintsLine, PrintFails, differs_in}
 use Rattle.ud_engine.specs.Refusing.{LeavesOutput}
-use Rattle.ud_engine.specs.Sending.{Sent}
-use Rattle.ud_engine.specs.Watching.{Watching, AppendsFront}
-use Rattle.ud_engine.proofs.SendingLemmas.{sent_then_front, sent_part}
+use Rattle.ud_streams.specs.Sending.{Sent}
+use Rattle.ud_streams.specs.Watching.{Watching, AppendsFront}
+use Rattle.ud_streams.proofs.SendingLemmas.{sent_then_front, sent_part}
 use Rattle.ud_engine.proofs.TakingLemmas.{before_is, rest_is}
 
 -- a rest of no bytes is no line

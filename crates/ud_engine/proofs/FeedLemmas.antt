@@ -17,9 +17,9 @@ use Rattle.ud_engine.specs.Advancing.{Advances, StopsAt, WriteStops, between}
 use Rattle.ud_engine.specs.Feeding.{Running, IsOpen, HasTaken, Fed, Goes, Stops, Reaches, Fails, limit_of}
 use Rattle.ud_engine.specs.Printing.{text_by}
 use Rattle.ud_engine.specs.Refusing.{LeavesOutput, StoppedBy, EndsBy}
-use Rattle.ud_engine.specs.Sending.{Sent}
-use Rattle.ud_engine.specs.Watching.{Watching, AppendsFront}
-use Rattle.ud_engine.proofs.SendingLemmas.{sent_none, sent_then, sent_then_front, sent_part, sent_all}
+use Rattle.ud_streams.specs.Sending.{Sent}
+use Rattle.ud_streams.specs.Watching.{Watching, AppendsFront}
+use Rattle.ud_streams.proofs.SendingLemmas.{sent_none, sent_then, sent_then_front, sent_part, sent_all}
 use Rattle.ud_engine.proofs.StepLemmas.{between_none, take_more_of}
 use Rattle.ud_engine.proofs.TakingLemmas.{run_falls_short, reads_so_far, one_line, few_sections}
 

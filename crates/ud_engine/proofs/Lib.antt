@@ -1,4 +1,3 @@
-pub mod SendingLemmas
 pub mod NameLemmas
 pub mod ReaderLemmas
 pub mod PassLemmas

@@ -19,12 +19,12 @@ use Rattle.ud_model.proofs.sections.Soundness.{sound_lines, reading_of-item_of}
 use Rattle.ud_model.proofs.sections.Unique.{grows}
 use Rattle.ud_sections.proofs.ListingLemmas.{has_condition, LevelsGrow, levels_grow}
 use Rattle.ud_engine.specs.Names.{name_line}
-use Rattle.ud_engine.specs.Sending.{Sent}
+use Rattle.ud_streams.specs.Sending.{Sent}
 use Rattle.ud_engine.specs.Reading.{HasItems}
 use Rattle.ud_engine.specs.Listing.{ListsOne, ListingFails}
 use Rattle.ud_engine.specs.declared.reader.Reader.{Reader}
-use Rattle.ud_engine.specs.Watching.{AppendsFront}
-use Rattle.ud_engine.proofs.SendingLemmas.{sent_then, sent_then_front, sent_none, front_first, run_refused, parts_refused_behind, parts_behind}
+use Rattle.ud_streams.specs.Watching.{AppendsFront}
+use Rattle.ud_streams.proofs.SendingLemmas.{sent_then, sent_then_front, sent_none, front_first, run_refused, parts_refused_behind, parts_behind}
 
 -- of these names those before the ones that are left were put
 pub record NamesPut (a b : Option (List ℕ)) (prefix : List ℕ) (names left : List (List ℕ)) (old new : List ℕ) : Type 0 where

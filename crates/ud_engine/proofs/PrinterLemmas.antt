@@ -23,7 +23,7 @@ use Rattle.ud_engine.specs.declared.reader.Reader.{Reader}
 use Rattle.ud_engine.specs.Reading.{ReadsOne}
 use Rattle.ud_engine.specs.Listing.{ListsMore, ListsOne, ListFails}
 use Rattle.ud_engine.specs.Printing.{text_by, differs_in, lister_of, HasPrinted, IsMore, IsPut, ShowsLine, PrintsLine, WriteFails, PrintFails}
-use Rattle.ud_engine.specs.Watching.{AppendsFront}
+use Rattle.ud_streams.specs.Watching.{AppendsFront}
 
 -- of no lines none differs
 pub none_differ : (listing : Listing) (piece : List Judged → Judged → List ℕ) → false ≡ differs_in listing piece [] (closed nothing)

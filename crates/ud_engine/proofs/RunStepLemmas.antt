@@ -19,9 +19,9 @@ use Rattle.ud_engine.specs.Advancing.{Advances, IsPlace, between, todo}
 use Rattle.ud_engine.specs.Feeding.{Running, IsOpen, HasTaken}
 use Rattle.ud_engine.specs.Printing.{PrintsRun, printed_of}
 use Rattle.ud_engine.specs.Reading.{skipped}
-use Rattle.ud_engine.specs.Sending.{Sent}
+use Rattle.ud_streams.specs.Sending.{Sent}
 use Rattle.ud_engine.proofs.PassLemmas.{can_skip_take}
-use Rattle.ud_engine.proofs.SendingLemmas.{sent_none}
+use Rattle.ud_streams.proofs.SendingLemmas.{sent_none}
 use Rattle.ud_engine.proofs.StepLemmas.{between_none, between_more}
 use Rattle.ud_engine.proofs.TakingLemmas.{before_is, rest_is, parts_of-front_of}
 

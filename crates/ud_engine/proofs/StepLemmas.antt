@@ -19,9 +19,9 @@ use Rattle.ud_engine.specs.declared.fault.RunFault.TheVariants.{Text, Section, R
 use Rattle.ud_engine.specs.Advancing.{Advances, StopsAt, between}
 use Rattle.ud_engine.specs.Feeding.{Running, IsOpen, HasTaken}
 use Rattle.ud_engine.specs.Printing.{PrintsLine, PrintFails}
-use Rattle.ud_engine.specs.Sending.{Sent}
-use Rattle.ud_engine.specs.Watching.{AppendsFront}
-use Rattle.ud_engine.proofs.SendingLemmas.{sent_none}
+use Rattle.ud_streams.specs.Sending.{Sent}
+use Rattle.ud_streams.specs.Watching.{AppendsFront}
+use Rattle.ud_streams.proofs.SendingLemmas.{sent_none}
 use Rattle.ud_engine.proofs.TakingLemmas.{before_is, rest_is, parts_of-front_of, parts_behind, line_taken, open_taken, line_next, line_stops, line_falls_short, run_falls_short}
 
 -- a last line that has no line feed has none in its body

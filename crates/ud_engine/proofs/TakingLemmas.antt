@@ -22,7 +22,7 @@ use Rattle.ud_sections.proofs.NextLemmas.{lines_more}
 use Rattle.ud_engine.specs.Advancing.{WriteStops as StopsShort}
 use Rattle.ud_engine.specs.Feeding.{Running, IsOpen, HasTaken, Stops, limit_of}
 use Rattle.ud_engine.specs.Printing.{HasPrinted, IsMore, WriteFails}
-use Rattle.ud_engine.specs.Watching.{AppendsFront}
+use Rattle.ud_streams.specs.Watching.{AppendsFront}
 
 -- the parts of a text after the front of a piece up to its first line feed, if this is its rest
 abbrev pub parts_behind : List ℕ → List ℕ → List ℕ → Bool → Parts

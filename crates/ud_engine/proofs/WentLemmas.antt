@@ -15,9 +15,9 @@ use Rattle.ud_engine.specs.Ending.{EndsAt, EndsWell, EndsIll}
 use Rattle.ud_engine.specs.Feeding.{Running, HasTaken, Fails, Stops, limit_of}
 use Rattle.ud_engine.specs.Printing.{text_by}
 use Rattle.ud_engine.specs.Running.{PrintsSoFar, FoundFault, EndsAs, in_course, at_end}
-use Rattle.ud_engine.specs.Watching.{AppendsFront}
+use Rattle.ud_streams.specs.Watching.{AppendsFront}
 use Rattle.ud_engine.proofs.RunLemmas.{own_piece, same_text, ran_well}
-use Rattle.ud_engine.proofs.SendingLemmas.{front_second}
+use Rattle.ud_streams.proofs.SendingLemmas.{front_second}
 use Rattle.ud_engine.proofs.TakingLemmas.{reads_so_far}
 
 module _ (o : Options) where

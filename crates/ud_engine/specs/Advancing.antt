@@ -15,8 +15,8 @@ use Rattle.ud_engine.specs.declared.engine.Reached.{Reached}
 use Rattle.ud_engine.specs.declared.fault.RunFault.{RunFault}
 use Rattle.ud_engine.specs.declared.fault.RunFault.TheVariants.{Text, Section, Read, Write}
 use Rattle.ud_engine.specs.Feeding.{Running, HasTaken, Stops, Reaches, limit_of}
-use Rattle.ud_engine.specs.Sending.{Sent}
-use Rattle.ud_engine.specs.Watching.{AppendsFront}
+use Rattle.ud_streams.specs.Sending.{Sent}
+use Rattle.ud_streams.specs.Watching.{AppendsFront}
 
 -- the bytes of a piece from one place to another
 abbrev pub between : List ℕ → ℕ → ℕ → List ℕ

@@ -22,7 +22,7 @@ use Rattle.ud_engine.specs.declared.fault.RunFault.TheVariants.{Text, Section, R
 use Rattle.ud_engine.specs.declared.line_printer.LinePrinter.{LinePrinter}
 use Rattle.ud_engine.specs.Feeding.{Running, limit_of}
 use Rattle.ud_engine.specs.Printing.{HasPrinted, text_by, differs_in}
-use Rattle.ud_engine.specs.Watching.{AppendsFront}
+use Rattle.ud_streams.specs.Watching.{AppendsFront}
 
 -- an engine that has refused nothing
 abbrev pub at_rest : {S : Type 0} → List Argument → Holding → LinePrinter S → List ℕ → Running S

@@ -27,7 +27,7 @@ use Rattle.ud_engine.specs.declared.fault.RunFault.{RunFault}
 use Rattle.ud_engine.specs.declared.fault.RunFault.TheVariants.{Text, Section, Read, Write}
 use Rattle.ud_engine.specs.declared.line_printer.LinePrinter.{LinePrinter}
 use Rattle.ud_engine.specs.Printing.{HasPrinted, text_by}
-use Rattle.ud_engine.specs.Watching.{AppendsFront}
+use Rattle.ud_streams.specs.Watching.{AppendsFront}
 
 -- what the table says, the line so far, what has read the lines and prints them, what is gathered, and what was refused
 pub record Running (S : Type 0) : Type 0 where

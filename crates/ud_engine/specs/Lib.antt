@@ -1,5 +1,3 @@
-pub mod Watching
-pub mod Sending
 pub mod Names
 pub mod Reading
 pub mod Listing

@@ -14,8 +14,8 @@ use Rattle.ud_engine.specs.declared.fault.RunFault.{RunFault}
 use Rattle.ud_engine.specs.declared.fault.RunFault.TheVariants.{Text, Section, Read, Write}
 use Rattle.ud_engine.specs.declared.reader.Reader.{Reader}
 use Rattle.ud_engine.specs.Reading.{HasItems}
-use Rattle.ud_engine.specs.Sending.{Sent}
-use Rattle.ud_engine.specs.Watching.{AppendsFront}
+use Rattle.ud_streams.specs.Sending.{Sent}
+use Rattle.ud_streams.specs.Watching.{AppendsFront}
 
 -- with the line l after these, these names are listed too
 abbrev pub ListsMore : Options → List (Item Reading) → Tree Reading → Line → Bool → Tree Reading → List ℕ → Type 0

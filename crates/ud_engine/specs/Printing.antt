@@ -26,8 +26,8 @@ use Rattle.ud_engine.specs.declared.fault.RunFault.TheVariants.{Text, Section, R
 use Rattle.ud_engine.specs.declared.line_printer.LinePrinter.{LinePrinter}
 use Rattle.ud_engine.specs.declared.line_printer.Passed.{Passed}
 use Rattle.ud_engine.specs.Reading.{HasItems}
-use Rattle.ud_engine.specs.Sending.{Sent}
-use Rattle.ud_engine.specs.Watching.{AppendsFront}
+use Rattle.ud_streams.specs.Sending.{Sent}
+use Rattle.ud_streams.specs.Watching.{AppendsFront}
 
 -- what is printed of these lines, whose tree this is
 abbrev pub text_by : Listing → (List Judged → Judged → List ℕ) → List (Item Reading) → Tree Reading → List ℕ

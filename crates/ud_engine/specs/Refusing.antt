@@ -3,7 +3,7 @@ use Rattle.std.specs.Prelude.{◌≡◌, ℕ, List, Bool, true, false, Option}
 use Rattle.std.specs.Io.KnownBytes.{Appends}
 use Rattle.ud_engine.specs.declared.fault.RunFault.{RunFault}
 use Rattle.ud_engine.specs.declared.fault.RunFault.TheVariants.{Text, Section, Read, Write}
-use Rattle.ud_engine.specs.Watching.{Watching, AppendsFront}
+use Rattle.ud_streams.specs.Watching.{Watching, AppendsFront}
 
 -- of what is faulty nothing was put or written; or a write has failed
 abbrev pub LeavesOutput : {W : Type 0} → Watching W → Watching W → List ℕ → List ℕ → RunFault → Type 0

@@ -19,7 +19,7 @@ use Rattle.ud_engine.specs.declared.fault.RunFault.TheVariants.{Text, Section, R
 use Rattle.ud_engine.specs.declared.running.TheConstants.{PIECE_BYTES}
 use Rattle.ud_engine.specs.Ending.{Ran}
 use Rattle.ud_engine.specs.Feeding.{limit_of}
-use Rattle.ud_engine.specs.Watching.{AppendsFront}
+use Rattle.ud_streams.specs.Watching.{AppendsFront}
 
 -- of these bytes all but the last ones, of which a read gives no more
 abbrev pub settled : List ℕ → List ℕ

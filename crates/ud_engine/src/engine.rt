@@ -8,7 +8,7 @@ ghost use Rattle.std.specs.Prelude.{◌≡◌, ◌++◌, [], ◌<◌, ◌≤◌,
 ghost use Rattle.ud_model.specs.sections.Items.{Options};
 ghost use Rattle.ud_model.specs.answer.Printing.{Judged};
 ghost use Rattle.ud_cond.specs.Standing.{StandsFor};
-ghost use Rattle.ud_engine.specs.Sending.{Puts};
+ghost use Rattle.ud_streams.specs.Sending.{Puts};
 ghost use Rattle.ud_engine.specs.Feeding.{IsOpen, Fed, TellsWriter};
 ghost use Rattle.ud_engine.specs.Ending.{EndsIll, PrintsAll, at_rest};
 ghost use Rattle.ud_engine.specs.Advancing.{IsPlace};
@@ -16,13 +16,13 @@ ghost use Rattle.ud_engine.specs.Advancing.{IsPlace};
 use crate::fault::RunFault;
 use crate::line_printer::LinePrinter;
 use crate::output::Output;
-use crate::watched::Watched;
 use std::io::Write;
 use std::marker::Model;
 use ud_cond::Symbols;
 use ud_model::TEXT_LINES;
 use ud_model::bytes::past_white;
 use ud_sections::Show;
+use ud_streams::Watched;
 use ud_text::Lines;
 use ud_words::Plan;
 

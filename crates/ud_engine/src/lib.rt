@@ -5,7 +5,6 @@
 //! says what an engine stands for: the text that it was fed, and what is printed of it.
 #![tactic(auto)]
 
-mod emitting;
 mod engine;
 mod fault;
 mod gathered;
@@ -14,10 +13,8 @@ mod listing;
 mod output;
 mod reader;
 mod running;
-mod watched;
 
-pub use emitting::emit;
 pub use engine::Engine;
 pub use fault::RunFault;
 pub use running::run;
-pub use watched::Watched;
+pub use ud_streams::{Watched, emit};

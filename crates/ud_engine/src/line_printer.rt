@@ -19,16 +19,16 @@ ghost use Rattle.ud_sections.specs.StepViews.{judged, HoldsKeyword};
 ghost use Rattle.ud_engine.specs.Printing.{ShowsLine, IsLeftOf, lister_of, printed_of};
 ghost use Rattle.ud_engine.specs.Reading.{skipped};
 ghost use Rattle.ud_engine.specs.Refusing.{LeavesOutput};
-ghost use Rattle.ud_engine.specs.Watching.{AppendsFront};
+ghost use Rattle.ud_streams.specs.Watching.{AppendsFront};
 
 use crate::fault::RunFault;
 use crate::output::Output;
 use crate::reader::Reader;
-use crate::watched::Watched;
 use std::io::Write;
 use ud_cond::Symbols;
 use ud_model::{Listing, Settings};
 use ud_sections::{Left, Lister, Run, SectionFault, Show, Step};
+use ud_streams::Watched;
 use ud_text::{Line, Lines};
 
 /// Reads the lines of a text in order, and prints what is left of each, or lists its names.

@@ -2,13 +2,13 @@
 
 ghost use Rattle.std.specs.Prelude.{◌≡◌, ◌++◌, false, not};
 ghost use Rattle.ud_model.specs.answer.Listing.{listed_names};
-ghost use Rattle.ud_engine.specs.Sending.{Puts};
+ghost use Rattle.ud_streams.specs.Sending.{Puts};
 ghost use Rattle.ud_engine.specs.Names.{name_line};
 
 use crate::output::Output;
-use crate::watched::Watched;
 use std::io::Write;
 use ud_cond::Names;
+use ud_streams::Watched;
 
 /// Puts names, each with a line feed and after the prefix.
 ///

@@ -2,13 +2,12 @@
 
 ghost use Rattle.std.specs.Prelude.{◌≡◌, ◌++◌, [], false, true, not};
 ghost use Rattle.std.specs.List.{flat_map};
-ghost use Rattle.ud_engine.specs.Sending.{Puts};
+ghost use Rattle.ud_streams.specs.Sending.{Puts};
 
-use crate::emitting::emit;
 use crate::gathered::Gathered;
-use crate::watched::Watched;
 use std::io::Write;
 use std::marker::Model;
+use ud_streams::{Watched, emit};
 
 /// What is to be written, and isn't yet.
 #[derive(Drop)]

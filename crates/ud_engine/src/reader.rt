@@ -20,11 +20,11 @@ ghost use Rattle.ud_sections.specs.Turning.{text_verdict};
 use crate::fault::RunFault;
 use crate::listing::put_names;
 use crate::output::Output;
-use crate::watched::Watched;
 use std::io::Write;
 use ud_cond::Symbols;
 use ud_model::{Settings, Verdict};
 use ud_sections::{Lister, Machine, SectionFault, Step};
+use ud_streams::Watched;
 use ud_text::{Line, Lines, SHORT_BYTES, ShortScanner};
 
 /// Reads lines, and decides them.

@@ -8,9 +8,9 @@ ghost use Rattle.ud_engine.specs.Running.{KeptUp, Went};
 
 use crate::engine::Engine;
 use crate::fault::RunFault;
-use crate::watched::Watched;
 use std::io::{Read, Write};
 use ud_sections::Printer;
+use ud_streams::Watched;
 use ud_words::Plan;
 
 /// The most bytes that one read gives.

@@ -7,7 +7,7 @@ use Rattle.ud_model.specs.sections.Faults.{Fault}
 use Rattle.ud_engine.specs.declared.fault.RunFault.{RunFault}
 use Rattle.ud_engine.specs.declared.fault.RunFault.TheVariants.{Text, Section, Read, Write}
 use Rattle.ud_engine.specs.Running.{Went, EndsAs, FallsShort, CutShort, FoundFault, in_course, at_end}
-use Rattle.ud_engine.proofs.SendingLemmas.{kept}
+use Rattle.ud_streams.proofs.SendingLemmas.{kept}
 use Rattle.unifdef.specs.Ended.{is_read_error, is_write_error}
 
 module _ (o : Options) (given : List ℕ) (left uo um un : Option (List ℕ)) (keeps : Keeps um un) where

@@ -13,10 +13,10 @@ use Rattle.ud_model.specs.declared.settings.Settings.{Settings}
 use Rattle.ud_words.specs.Saying.{IsUsageOf}
 use Rattle.ud_words.specs.Storing.{PutsSymbol}
 use Rattle.ud_words.specs.declared.usage.Usage.{Usage}
-use Rattle.ud_engine.proofs.SendingLemmas.{kept}
+use Rattle.ud_streams.proofs.SendingLemmas.{kept}
 use Rattle.ud_engine.specs.Ending.{Ran, RanAs}
 use Rattle.ud_engine.specs.Running.{KeptUp}
-use Rattle.ud_engine.specs.Watching.{Watching, Says}
+use Rattle.ud_streams.specs.Watching.{Watching, Says}
 use Rattle.ud_engine.specs.declared.fault.RunFault.{RunFault}
 use Rattle.ud_engine.specs.declared.fault.RunFault.TheVariants.{Text, Section, Read, Write}
 use Rattle.unifdef.specs.Gave.{streams, GivesAnswer, LacksMemory}

@@ -7,7 +7,7 @@ use Rattle.ud_model.specs.answer.CommandLine.{options_of, input_name}
 use Rattle.ud_engine.specs.declared.fault.RunFault.{RunFault}
 use Rattle.ud_engine.specs.declared.fault.RunFault.TheVariants.{Text, Section, Read, Write}
 use Rattle.ud_engine.specs.Running.{Went}
-use Rattle.ud_engine.specs.Watching.{Says}
+use Rattle.ud_streams.specs.Watching.{Says}
 use Rattle.unifdef.specs.Gave.{Streams}
 use Rattle.unifdef.specs.Told.{ended_by, message_told, status_told}
 

@@ -9,7 +9,7 @@ use Rattle.std.specs.Io.KnownBytes.{Appends}
 use Rattle.ud_model.specs.answer.Answer.{Answer, IsAnswer, memory_answer}
 use Rattle.ud_model.specs.answer.CommandLine.{given_in}
 use Rattle.ud_words.specs.Storing.{PutsSymbol}
-use Rattle.ud_engine.specs.Watching.{Watching, Says}
+use Rattle.ud_streams.specs.Watching.{Watching, Says}
 
 -- what the output and the error stream hold, as far as they tell it
 pub record Streams : Type 0 where

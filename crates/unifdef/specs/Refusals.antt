@@ -8,7 +8,7 @@ use Rattle.ud_model.specs.answer.Messages.{out_of_memory}
 use Rattle.ud_words.specs.Storing.{PutsSymbol}
 use Rattle.ud_words.specs.declared.usage.Usage.{Usage}
 use Rattle.ud_words.specs.declared.usage.Usage.TheVariants.{UnknownOption, MissingArgument, BadSymbol, BadMode, TooManyFiles, OutOfMemory}
-use Rattle.ud_engine.specs.Watching.{Says}
+use Rattle.ud_streams.specs.Watching.{Says}
 
 abbrev pub refusal_text : Usage → List ℕ
 refusal_text (UnknownOption letter) = usage_message (unknown_option letter)

@@ -2,7 +2,7 @@
 
 ghost use Rattle.std.specs.Prelude.{◌≡◌, false, not};
 ghost use Rattle.std.specs.List.{flat_map};
-ghost use Rattle.ud_engine.specs.Watching.{Says};
+ghost use Rattle.ud_streams.specs.Watching.{Says};
 
 use std::io::Write;
 use ud_engine::{Watched, emit};

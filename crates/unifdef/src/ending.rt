@@ -2,7 +2,7 @@
 
 ghost use Rattle.std.specs.Prelude.{◌≡◌, false};
 ghost use Rattle.ud_model.specs.answer.Answer.{status_by, status_under};
-ghost use Rattle.ud_engine.specs.Watching.{Says};
+ghost use Rattle.ud_streams.specs.Watching.{Says};
 ghost use Rattle.unifdef.specs.Told.{ended_by, message_told, status_told};
 
 use crate::messages::report;

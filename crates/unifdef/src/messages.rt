@@ -5,7 +5,7 @@ ghost use Rattle.ud_model.specs.answer.Messages.{about, about_line, message_of};
 ghost use Rattle.ud_model.specs.sections.Faults.{premature_eof};
 ghost use Rattle.ud_sections.specs.Sections.{fault_of};
 ghost use Rattle.ud_engine.specs.Feeding.{limit_of};
-ghost use Rattle.ud_engine.specs.Watching.{Says};
+ghost use Rattle.ud_streams.specs.Watching.{Says};
 ghost use Rattle.unifdef.specs.Told.{fault_message};
 
 use crate::emit::emit_parts;

@@ -1,7 +1,7 @@
 //! The message of what is wrong with the words of a command line.
 
 ghost use Rattle.std.specs.Prelude.{◌≡◌, ◌++◌, false, codes, decimal, encode_utf8};
-ghost use Rattle.ud_engine.specs.Watching.{Says};
+ghost use Rattle.ud_streams.specs.Watching.{Says};
 ghost use Rattle.unifdef.specs.Refusals.{refusal_text};
 
 use crate::emit::emit_parts;

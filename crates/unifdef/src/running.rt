@@ -4,7 +4,7 @@ ghost use Rattle.std.specs.Prelude.{◌≡◌, ◌⊎◌, map, string_bytes, fal
 ghost use Rattle.ud_model.specs.answer.CommandLine.{given_in, usage_fault, options_of, input_name};
 ghost use Rattle.ud_model.specs.answer.Messages.{read_error, write_error};
 ghost use Rattle.ud_engine.specs.Running.{KeptUp};
-ghost use Rattle.ud_engine.specs.Watching.{Says};
+ghost use Rattle.ud_streams.specs.Watching.{Says};
 ghost use Rattle.unifdef.specs.Refusals.{TellsUsage};
 ghost use Rattle.unifdef.specs.Ended.{Ended};
 ghost use Rattle.unifdef.specs.Gave.{Streams, streams, GivesAnswer, LacksMemory};

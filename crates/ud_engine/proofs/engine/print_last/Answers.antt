@@ -3,7 +3,7 @@ use Rattle.ud_model.specs.text.Lines.{Line, NoFeed}
 use Rattle.ud_text.specs.Holding.{Holding}
 use Rattle.ud_text.specs.LineViews.{as_line}
 use Rattle.ud_engine.specs.Ending.{at_rest}
-use Rattle.ud_engine.specs.Sending.{Sent}
+use Rattle.ud_streams.specs.Sending.{Sent}
 use Rattle.ud_engine.proofs.StepLemmas.{rest_feedless}
 use Rattle.ud_engine.proofs.EndLemmas.{last_printed, last_cut, last_fails}
 use Rattle.ud_engine.proofs.engine.print_last.Goals as goal

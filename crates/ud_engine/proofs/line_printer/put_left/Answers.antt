@@ -1,6 +1,6 @@
 use Rattle.std.proofs.Common.{refl, sym, ap, not, ◌∙◌}
 use Rattle.std.proofs.lemmas.Slice.Eq.{bytes_eq-Decides}
-use Rattle.ud_engine.proofs.SendingLemmas.{puts_failed, puts_done, run_refused, parts_refused_behind, parts_behind}
+use Rattle.ud_streams.proofs.SendingLemmas.{puts_failed, puts_done, run_refused, parts_refused_behind, parts_behind}
 use Rattle.ud_engine.proofs.line_printer.put_left.Goals as goal
 
 pub returns-then-is_line-clause-some : goal.returns-then-is_line-clause-some

@@ -1,7 +1,7 @@
 use Rattle.std.proofs.Common.{◌∙◌, ap, not, bytes_eq}
 use Rattle.ud_model.specs.text.Lines.{text_of}
 use Rattle.ud_text.specs.LineViews.{as_line}
-use Rattle.ud_engine.proofs.SendingLemmas.{run_refused, parts_refused_behind, parts_behind}
+use Rattle.ud_streams.proofs.SendingLemmas.{run_refused, parts_refused_behind, parts_behind}
 use Rattle.ud_engine.proofs.line_printer.show_parts.Goals as goal
 
 pub returns-then-not-put-clause-none : goal.returns-then-not-put-clause-none

@@ -1,6 +1,6 @@
 use Rattle.std.proofs.Common.{◌∙◌}
 use Rattle.ud_model.specs.answer.Messages.{about_line}
-use Rattle.ud_engine.proofs.SendingLemmas.{says_same}
+use Rattle.ud_streams.proofs.SendingLemmas.{says_same}
 use Rattle.unifdef.proofs.MessageLemmas.{line_joined}
 use Rattle.unifdef.proofs.messages.report_at.Goals as goal
 

@@ -1,5 +1,5 @@
 use Rattle.ud_model.specs.answer.Messages.{about}
-use Rattle.ud_engine.proofs.SendingLemmas.{says_same}
+use Rattle.ud_streams.proofs.SendingLemmas.{says_same}
 use Rattle.unifdef.proofs.MessageLemmas.{about_joined}
 use Rattle.unifdef.proofs.messages.report_on.Goals as goal
 

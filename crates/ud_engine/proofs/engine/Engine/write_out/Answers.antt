@@ -1,6 +1,6 @@
 use Rattle.std.proofs.Common.{rules, ap, ◌++◌}
 use Rattle.ud_engine.specs.Feeding.{Running}
-use Rattle.ud_engine.proofs.SendingLemmas.{puts_out}
+use Rattle.ud_streams.proofs.SendingLemmas.{puts_out}
 use Rattle.ud_engine.proofs.engine.Engine.write_out.Goals as goal
 
 pub returns-then-put-clause-puts : goal.returns-then-put-clause-puts

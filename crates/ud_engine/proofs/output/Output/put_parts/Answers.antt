@@ -1,5 +1,5 @@
 use Rattle.std.proofs.Common.{rules, [], ℕ, List, Bor}
-use Rattle.ud_engine.proofs.SendingLemmas.{parts_put, parts_refused}
+use Rattle.ud_streams.proofs.SendingLemmas.{parts_put, parts_refused}
 use Rattle.ud_engine.proofs.output.Output.put_parts.Goals as goal
 
 pub returns-then-not-put-clause-puts : goal.returns-then-not-put-clause-puts

@@ -1,6 +1,6 @@
 use Rattle.std.proofs.Common.{◌≡◌, ◌++◌, false, take}
 use Rattle.std.specs.List.{flat_map}
-use Rattle.ud_engine.specs.Sending.{Sent}
+use Rattle.ud_streams.specs.Sending.{Sent}
 use Rattle.ud_engine.proofs.output.Output.put_parts.Given as goal
 
 abbrev pub invariant-loop-part : goal.invariant-loop-part

@@ -1,5 +1,5 @@
 use Rattle.std.proofs.Common.{rules, ◌≡◌, []}
-use Rattle.ud_engine.proofs.SendingLemmas.{puts_behind}
+use Rattle.ud_streams.proofs.SendingLemmas.{puts_behind}
 use Rattle.ud_engine.proofs.output.Output.put_some.Goals as goal
 
 pub returns-clause-puts : goal.returns-clause-puts

@@ -1,7 +1,7 @@
 //! Writing all of some bytes.
 
 ghost use Rattle.std.specs.Prelude.{◌≡◌, [], false, not};
-ghost use Rattle.ud_engine.specs.Watching.{Says};
+ghost use Rattle.ud_streams.specs.Watching.{Says};
 
 use crate::watched::Watched;
 use std::io::Write;

@@ -6,8 +6,8 @@ use Rattle.std.specs.List.{flat_map}
 use Rattle.std.proofs.Common.{◌==◌, ◌≡◌, ◌<◌, ◌+◌, get_or, add-one, ◌-◌, arith, ℕ, List, [], ◌∷◌, ◌++◌, length, take, drop, Bool, true, false, not, Option, Some, None, refl, sym, ap, subst, ◌∙◌, append_assoc, append-nil, take-append-drop}
 use Rattle.std.specs.Io.KnownBytes.{Appends, Keeps}
 use Rattle.std.proofs.KnownBytes.{Appends-nil, Appends-trans}
-use Rattle.ud_engine.specs.Watching.{AppendsFront, Says}
-use Rattle.ud_engine.specs.Sending.{Sent, Puts}
+use Rattle.ud_streams.specs.Watching.{AppendsFront, Says}
+use Rattle.ud_streams.specs.Sending.{Sent, Puts}
 
 -- at first nothing is appended
 pub sent_none : (a : Option (List ℕ)) (bytes : List ℕ) → Sent a a bytes bytes

@@ -4,7 +4,7 @@
 --   Puts done old new bytes rest   so it is; or, if a write failed, a front of the bytes was appended
 use Rattle.std.specs.Prelude.{◌≡◌, ℕ, List, ◌++◌, Bool, true, false, Option}
 use Rattle.std.specs.Io.KnownBytes.{Appends}
-use Rattle.ud_engine.specs.Watching.{AppendsFront}
+use Rattle.ud_streams.specs.Watching.{AppendsFront}
 
 -- of these bytes all but the rest were appended
 pub record Sent (old new : Option (List ℕ)) (bytes rest : List ℕ) : Type 0 where

@@ -1,6 +1,6 @@
 use Rattle.std.proofs.Common.{◌≡◌, [], false, length}
-use Rattle.ud_engine.specs.Sending.{Sent}
-use Rattle.ud_engine.proofs.emitting.emit.Given as goal
+use Rattle.ud_streams.specs.Sending.{Sent}
+use Rattle.ud_streams.proofs.emitting.emit.Given as goal
 
 abbrev pub invariant-loop-rest : goal.invariant-loop-rest
 invariant-loop-rest g l = record {

@@ -5,7 +5,7 @@
 
 ghost use Rattle.std.specs.Prelude.{◌≡◌, true, false, is_none, not};
 ghost use Rattle.std.specs.Io.KnownBytes.{Keeps};
-ghost use Rattle.ud_engine.specs.Watching.{ReadOnce, WroteOnce};
+ghost use Rattle.ud_streams.specs.Watching.{ReadOnce, WroteOnce};
 
 use std::io::{Read, Write};
 use std::marker::Model;
@@ -20,7 +20,7 @@ pub struct Watched<T> {
 }
 
 impl<T> Model for Watched<T> {
-    ghost use Rattle.ud_engine.specs.Watching.{Watching};
+    ghost use Rattle.ud_streams.specs.Watching.{Watching};
 
     ghost Value = { Watching T };
 

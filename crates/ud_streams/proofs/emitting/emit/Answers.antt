@@ -1,7 +1,7 @@
 use Rattle.std.proofs.Common.{rules, subst, sym}
-use Rattle.ud_engine.specs.Sending.{Sent}
-use Rattle.ud_engine.proofs.SendingLemmas.{sent_bytes, sent_empty, range_from, empty_len}
-use Rattle.ud_engine.proofs.emitting.emit.Goals as goal
+use Rattle.ud_streams.specs.Sending.{Sent}
+use Rattle.ud_streams.proofs.SendingLemmas.{sent_bytes, sent_empty, range_from, empty_len}
+use Rattle.ud_streams.proofs.emitting.emit.Goals as goal
 
 pub loop-rest-preserved : goal.loop-rest-preserved
 loop-rest-preserved g c = record {
