@@ -4,7 +4,7 @@ ghost use Rattle.std.specs.Prelude.{◌≡◌, false, OnOk};
 
 use std::process::Abort;
 use std::test::Fail;
-use ud_text::{Line, Lines, TextFault};
+use ud_text::{Line, Lines, ShortRoom, TextFault};
 
 /// A line that ends in a line feed.
 fn fed(body: &[u8], number: u32) -> Line<'_> {
@@ -129,6 +129,19 @@ fn a_line_ends_where_two_pieces_meet(rt: HostRuntime) -> Result<(), Fail> {
         number: 1,
     };
     take_line(&rt, &mut lines, b"\n", 1, line)
+}
+
+#[test]
+fn a_line_in_a_short_room_goes_on_in_a_longer_one(rt: HostRuntime) -> Result<(), Fail> {
+    let mut short: Lines<ShortRoom> = Lines::at_start(1);
+    if short.take(b"ab")?.whole {
+        return Err(Fail::new("the line lacks its line feed"));
+    }
+    assert_eq!(rt; short.spare(8_192), 8_190);
+    assert_eq!(rt; short.spare(5), 5);
+    let mut long = short.lengthened();
+    assert_eq!(rt; long.spare(8_192), 8_192);
+    take_line(&rt, &mut long, b"c\n", 2, fed(b"abc", 1))
 }
 
 #[test]

@@ -11,3 +11,4 @@ pub mod FeedLemmas
 pub mod EndLemmas
 pub mod RunLemmas
 pub mod WentLemmas
+pub mod FinishLemmas

@@ -131,13 +131,13 @@ first_between bytes at whole n h =
     take-take n (whole - at) (drop at bytes) (omega (arith, h, k)) ∙ ap (λ i. take i (drop at bytes)) (let e : n ≡ (at + n) - at = omega arith in e)
 
 -- a place after lines that were passed, up to which the bytes from here are to be written as they are
-module _ (lines new : Holding) (bytes : List ℕ) (r : Reached) (place : IsPlace lines bytes r) (some : r.at < r.whole) (n : ℕ)
+module _ (room : ℕ) (lines new : Holding) (bytes : List ℕ) (r : Reached) (place : IsPlace room lines bytes r) (some : r.at < r.whole) (n : ℕ)
     (within : n ≤ length (between bytes r.at r.whole)) (ends : EndsLine (take n (between bytes r.at r.whole)))
     (given_up : new ≡ skipped lines (take n (between bytes r.at r.whole))) where
   cut : take n (between bytes r.at r.whole) ≡ between bytes r.at (r.at + n)
   cut = first_between bytes r.at r.whole n within
 
-  pub place_after : (from : ℕ) → from ≤ r.at + n → IsPlace new bytes (record { from = from; at = r.at + n; whole = r.whole; tried = true })
+  pub place_after : (from : ℕ) → from ≤ r.at + n → IsPlace room new bytes (record { from = from; at = r.at + n; whole = r.whole; tried = true })
   place_after from ordered = record {
     from = ordered;
     at =
@@ -147,13 +147,14 @@ module _ (lines new : Holding) (bytes : List ℕ) (r : Reached) (place : IsPlace
     ready = λ later.
         ready_after lines new bytes r.at (r.at + n) r.whole (omega arith) later (place.ready some) (subst EndsLine cut ends)
         (given_up ∙ ap (skipped lines) cut);
+    fits = λ small. let f = place.fits small in let z = ap (λ (k : Holding). length k.held) given_up in omega (arith, f, z);
   }
 
 -- a place after a line
-pub place_after_line : (lines new : Holding) (bytes rest : List ℕ) (r : Reached) → rest ≡ drop r.at bytes → IsPlace lines bytes r → (l : Line) →
+pub place_after_line : (room : ℕ) (lines new : Holding) (bytes rest : List ℕ) (r : Reached) → rest ≡ drop r.at bytes → IsPlace room lines bytes r → (l : Line) →
     CanLend lines rest (length (text_of l)) → (end : ℕ) → end ≡ r.at + length (text_of l) → new ≡ record lines { before = lines.before + 1 } →
-    (from : ℕ) → from ≤ end → IsPlace new bytes (record { from = from; at = end; whole = r.whole; tried = false })
-place_after_line lines new bytes rest r rest_from place l lends end ends counted from ordered =
+    (from : ℕ) → from ≤ end → IsPlace room new bytes (record { from = from; at = end; whole = r.whole; tried = false })
+place_after_line room lines new bytes rest r rest_from place l lends end ends counted from ordered =
     let front : take (length (text_of l)) rest ≡ between bytes r.at end = ap₂ (λ n x. take n x) (let e : length (text_of l) ≡ end - r.at = omega (arith, ends) in e) rest_from in
     let one = one_line_front rest (length (text_of l)) lends.front in
     record {
@@ -163,6 +164,7 @@ place_after_line lines new bytes rest r rest_from place l lends end ends counted
       ready = λ later.
           ready_after lines new bytes r.at end r.whole (omega (arith, ends)) later (place.ready (omega (arith, ends, later))) (subst EndsLine front one.0)
           (counted ∙ ap (λ n. record lines { before = lines.before + n }) (sym one.1 ∙ ap (λ x. length (whole_lines x)) front));
+      fits = λ small. let f = place.fits small in let z = ap (λ (k : Holding). length k.held) counted in omega (arith, f, z, ends);
     }
 
 -- so many lines more were taken

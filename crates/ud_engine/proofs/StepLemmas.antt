@@ -8,7 +8,7 @@ use Rattle.ud_model.specs.answer.Printing.{Judged}
 use Rattle.ud_model.specs.answer.Runs.{lines_so_far}
 use Rattle.ud_model.specs.declared.limits.TheConstants.{LINE_BYTES, TEXT_LINES}
 use Rattle.ud_model.proofs.text.LinesLemmas.{no_feed-append, text_of-line_at}
-use Rattle.ud_text.specs.Holding.{Holding, Took, UpToFeed}
+use Rattle.ud_text.specs.Holding.{Holding, Took, UpToFeed, HasRoom}
 use Rattle.ud_text.specs.Borrowing.{CanLend}
 use Rattle.ud_text.proofs.RunLemmas.{no_feed-take}
 use Rattle.ud_text.proofs.StepLemmas.{drop_both}
@@ -55,6 +55,10 @@ still_open lines mid rest used whole e h to is short =
           subst (λ (x : List ℕ). NoFeed x) (sym (ap (λ (l : Holding). l.held) is))
           (no_feed-append lines.held (take used rest) h.feedless (no_feed-take used rest all.1));
     }
+
+-- what was taken of a piece takes no more room than it has
+pub has_room : (room : ℕ) (lines new : Holding) (left used : ℕ) → HasRoom room lines left → used ≤ left → length new.held ≤ length lines.held + used → HasRoom room new (left - used)
+has_room room lines new left used has within few = λ small. let h = has small in omega (arith, h, within, few)
 
 -- after a whole line nothing is held
 pub open_again : (lines mid new : Holding) (rest : List ℕ) (used : ℕ) (whole : Bool) → IsOpen lines →

@@ -1,14 +1,14 @@
 -- Advancing: one step through a piece.
 --
---   between piece from at      the bytes of the piece from one place to another
---   IsPlace lines piece r      up to here the piece is read, and lines that are known to be whole come next
---   todo piece r               how much is left to do
---   Advances .. next           the bytes up to the next place were taken
---   StopsAt .. f               the bytes after this place are faulty, or a write failed
+--   between piece from at        the bytes of the piece from one place to another
+--   IsPlace room lines piece r   up to here the piece is read, and lines that are known to be whole come next
+--   todo piece r                 how much is left to do
+--   Advances .. next             the bytes up to the next place were taken
+--   StopsAt .. f                 the bytes after this place are faulty, or a write failed
 use Rattle.std.specs.Prelude.{ℕ, ◌+◌, ◌-◌, ◌<◌, ◌≤◌, List, ◌++◌, length, take, drop, if◌then◌else◌, Option}
 use Rattle.ud_model.specs.sections.Items.{Options}
 use Rattle.ud_model.specs.answer.Printing.{Judged}
-use Rattle.ud_text.specs.Holding.{Holding}
+use Rattle.ud_text.specs.Holding.{Holding, HasRoom}
 use Rattle.ud_text.specs.Skipping.{CanSkip}
 use Rattle.ud_sections.specs.Sections.{fault_of}
 use Rattle.ud_engine.specs.declared.engine.Reached.{Reached}
@@ -23,12 +23,13 @@ abbrev pub between : List ℕ → ℕ → ℕ → List ℕ
 between piece from at = take (at - from) (drop from piece)
 
 -- a place up to which the piece is read, after the bytes that are to be written as they are; if it lies before `whole`, the
--- bytes between are whole lines that can be skipped
-pub record IsPlace (lines : Holding) (piece : List ℕ) (r : Reached) : Type 0 where
+-- bytes between are whole lines that can be skipped; and there is room for what is left of the piece
+pub record IsPlace (room : ℕ) (lines : Holding) (piece : List ℕ) (r : Reached) : Type 0 where
   pub from : r.from ≤ r.at
   pub at : r.at ≤ length piece
   pub whole : r.whole ≤ length piece
   pub ready : r.at < r.whole → CanSkip lines (between piece r.at r.whole)
+  pub fits : HasRoom room lines (length piece - r.at)
 
 -- it grows less with each step: by bytes that are read, or as the next lines were tried to be read at once
 abbrev pub todo : List ℕ → Reached → ℕ

@@ -4,11 +4,12 @@
 //! printed of a piece's lines is written before `feed` returns: lines that stay as they are and lie side by side go out
 //! together, and smaller parts are gathered.
 
-ghost use Rattle.std.specs.Prelude.{◌≡◌, ◌++◌, [], ◌<◌, ◌≤◌, List, ℕ, length, drop, true, false, IfOk, IfErr, OnOk, IfSome, None, Some, Err, take, not};
+ghost use Rattle.std.specs.Prelude.{◌≡◌, ◌++◌, [], ◌<◌, ◌≤◌, ◌-◌, List, ℕ, length, drop, true, false, IfOk, IfErr, OnOk, IfSome, None, Some, Err, take, not};
 ghost use Rattle.ud_model.specs.sections.Items.{Options};
 ghost use Rattle.ud_model.specs.answer.Printing.{Judged};
 ghost use Rattle.ud_cond.specs.Standing.{StandsFor};
 ghost use Rattle.ud_streams.specs.Sending.{Puts};
+ghost use Rattle.ud_text.specs.Holding.{HasRoom};
 ghost use Rattle.ud_engine.specs.Feeding.{IsOpen, Fed, TellsWriter};
 ghost use Rattle.ud_engine.specs.Ending.{EndsIll, PrintsAll, at_rest};
 ghost use Rattle.ud_engine.specs.Advancing.{IsPlace};
@@ -18,12 +19,13 @@ use crate::line_printer::LinePrinter;
 use crate::output::Output;
 use std::io::Write;
 use std::marker::Model;
+use std::mem;
 use ud_cond::Symbols;
 use ud_model::TEXT_LINES;
 use ud_model::bytes::past_white;
 use ud_sections::Show;
 use ud_streams::Watched;
-use ud_text::Lines;
+use ud_text::{Lines, LongRoom, Room};
 use ud_words::Plan;
 
 /// How far a piece is read. The bytes from `from` to `at` are to be written as they are.
@@ -38,9 +40,10 @@ struct Reached {
 }
 
 /// A place in a piece, before which nothing is to be written.
-fn place_in(lines: &Lines, piece: &[u8], at: usize) -> Reached
-    requires { at ≤ length piece.now }
-    ensures place { IsPlace lines.now piece.now result }
+fn place_in<H: Room>(lines: &Lines<H>, piece: &[u8], at: usize) -> Reached
+    requires within { at ≤ length piece.now }
+    requires room { HasRoom H.CAPACITY lines.now (length piece.now - at) }
+    ensures place { IsPlace H.CAPACITY lines.now piece.now result }
     ensures from { result.from ≡ at }
     ensures at { result.at ≡ at }
 {
@@ -74,11 +77,11 @@ fn may_pass(piece: &[u8], reached: Reached) -> bool
 
 /// unifdef(1) over a text that comes in pieces.
 #[derive(Drop)]
-pub struct Engine<'p, S: Show> {
+pub struct Engine<'p, S: Show, H: Room = LongRoom> {
     /// What the words say.
     plan: &'p Plan,
     /// The line so far.
-    lines: Lines,
+    lines: Lines<H>,
     /// What reads the lines, and prints them.
     printer: LinePrinter<S>,
     /// What is to be written.
@@ -87,7 +90,7 @@ pub struct Engine<'p, S: Show> {
     fault: Option<RunFault>,
 }
 
-impl<'p, S: Show> Model for Engine<'p, S> {
+impl<'p, S: Show, H: Room> Model for Engine<'p, S, H> {
     ghost use Rattle.ud_engine.specs.Feeding.{Running, IsOpen};
 
     ghost Value = { Running S };
@@ -103,16 +106,31 @@ impl<'p, S: Show> Model for Engine<'p, S> {
     ghost invariant = { λ e. IsOpen e.lines };
 }
 
-impl<'p, S: Show> Engine<'p, S> {
-    ghost use Rattle.ud_engine.specs.Feeding.{Fed, HasTaken, Goes, Fails, TellsWriter};
-    ghost use Rattle.ud_engine.specs.Ending.{EndsWell, EndsIll};
-    ghost use Rattle.ud_engine.specs.Advancing.{Advances, StopsAt, IsPlace, between, todo};
-    ghost use Rattle.ud_engine.specs.Refusing.{LeavesOutput, LeavesWorking, StoppedBy};
+impl<'p, S: Show> Engine<'p, S, LongRoom> {
+    ghost use Rattle.ud_engine.specs.Feeding.{Fed};
 
     /// An engine that was fed nothing. It prints by `show`, or if the plan asks for it lists names.
     ///
     /// `show` was given no line. Takes no memory.
-    pub fn new(plan: &'p Plan, show: S) -> Engine<'p, S>
+    pub fn new(plan: &'p Plan, show: S) -> Engine<'p, S, LongRoom>
+        ensures fed { (o : Options) → (piece : List Judged → Judged → List ℕ) → o.settings ≡ plan.now.settings → StandsFor plan.now.symbols o.table →
+            S.stands show [] → ((before : List Judged) → (j : Judged) → S.piece show before j ≡ piece before j) →
+            Fed S.stands S.piece result o piece [] [] }
+        ensures unrefused { result.refused ≡ None }
+    {
+        Engine::at_start(plan, show)
+    }
+}
+
+impl<'p, S: Show, H: Room> Engine<'p, S, H> {
+    ghost use Rattle.ud_engine.specs.Feeding.{Fed, HasTaken, Goes, Fails, TellsWriter};
+    ghost use Rattle.ud_engine.specs.Ending.{EndsWell, EndsIll};
+    ghost use Rattle.ud_engine.specs.Advancing.{Advances, StopsAt, IsPlace, between, todo};
+    ghost use Rattle.ud_engine.specs.Refusing.{LeavesOutput, LeavesWorking, StoppedBy};
+    ghost use Rattle.ud_model.specs.declared.limits.TheConstants.{LINE_BYTES};
+
+    /// An engine that was fed nothing, and holds the line so far in a room of this type. Else as `new`.
+    pub(crate) fn at_start(plan: &'p Plan, show: S) -> Engine<'p, S, H>
         ensures fed { (o : Options) → (piece : List Judged → Judged → List ℕ) → o.settings ≡ plan.now.settings → StandsFor plan.now.symbols o.table →
             S.stands show [] → ((before : List Judged) → (j : Judged) → S.piece show before j ≡ piece before j) →
             Fed S.stands S.piece result o piece [] [] }
@@ -120,7 +138,7 @@ impl<'p, S: Show> Engine<'p, S> {
     {
         Engine {
             plan,
-            lines: Lines::new(TEXT_LINES),
+            lines: Lines::at_start(TEXT_LINES),
             printer: LinePrinter::new(plan.settings(), show),
             output: Output::new(),
             fault: None,
@@ -129,14 +147,16 @@ impl<'p, S: Show> Engine<'p, S> {
 
     /// Takes the next bytes of the text, and writes what is left of the lines that they end.
     ///
-    /// `piece` may have any length and any bytes. What it begins of a line, at most `LINE_BYTES`, is held until the line
+    /// `piece` may have any bytes, and any length if there is room for a line of any length, as in an engine that `new` makes; else
+    /// as many as `spare` says. What it begins of a line, at most `LINE_BYTES`, is held until the line
     /// ends. `out` hasn't failed, unless the engine has refused.
     ///
     /// # Errors
     /// `Text` or `Section` if a line is faulty, after what is left of the lines before it; `Write` if a write fails, after a
     /// front of what is left. Every later `feed` and `finish` answers the same, and writes nothing.
     pub fn feed<W: Write>(&mut self, piece: &[u8], out: &mut Watched<W>) -> Result<(), RunFault>
-        requires { self.old.refused ≡ None → out.old.failed ≡ false }
+        requires works { self.old.refused ≡ None → out.old.failed ≡ false }
+        requires room { HasRoom H.CAPACITY self.old.lines (length piece.now) }
         ensures fed { (o : Options) → (pieces : List Judged → Judged → List ℕ) → (text : List ℕ) → (printed : List ℕ) →
             Fed S.stands S.piece self.old o pieces text printed →
             OnOk result (Goes S.stands S.piece self.new o pieces (text ++ piece.now) printed (W.contents out.old.inner) (W.contents out.new.inner)) }
@@ -220,12 +240,39 @@ impl<'p, S: Show> Engine<'p, S> {
         Ok(self.printer.differs())
     }
 
+    /// How many bytes a piece may have, at most `most`: as many as fit beside what is held, or all of them if there is room for a
+    /// line of any length.
+    pub(crate) fn spare(&self, most: usize) -> usize
+        ensures bound { result ≤ most }
+        ensures room { HasRoom H.CAPACITY self.now.lines result }
+        ensures short { result < most → H.CAPACITY < LINE_BYTES }
+    {
+        self.lines.spare(most)
+    }
+
+    /// The same engine, with room for a line of any length. In its place stays one that was fed nothing and prints by `show`.
+    #[inline(never)]
+    pub(crate) fn lengthen(&mut self, show: S) -> Engine<'p, S, LongRoom>
+        ensures { result ≡ self.old }
+    {
+        let spent: Engine<'p, S, H> = Engine::at_start(self.plan, show);
+        let engine = mem::replace(self, spent);
+        Engine {
+            plan: engine.plan,
+            lines: engine.lines.lengthened(),
+            printer: engine.printer,
+            output: engine.output,
+            fault: engine.fault,
+        }
+    }
+
     /// Takes all of a piece, and writes what is left of the lines that it ends.
     ///
     /// # Errors
     /// As `feed`.
     fn read_piece<W: Write>(&mut self, piece: &[u8], out: &mut Watched<W>) -> Result<(), RunFault>
         requires works { out.old.failed ≡ false }
+        requires room { HasRoom H.CAPACITY self.old.lines (length piece.now) }
         ensures fed { (o : Options) → (pieces : List Judged → Judged → List ℕ) → (text : List ℕ) → (printed : List ℕ) →
             Fed S.stands S.piece self.old o pieces text printed →
             OnOk result (Goes S.stands S.piece self.new o pieces (text ++ piece.now) printed (W.contents out.old.inner) (W.contents out.new.inner)) }
@@ -261,9 +308,9 @@ impl<'p, S: Show> Engine<'p, S> {
         out: &mut Watched<W>,
     ) -> Result<Reached, RunFault>
         requires works { out.old.failed ≡ false }
-        requires place { IsPlace self.old.lines piece.now reached }
+        requires place { IsPlace H.CAPACITY self.old.lines piece.now reached }
         requires some { reached.at < length piece.now }
-        ensures place { IfOk result (λ next. IsPlace self.new.lines piece.now next) }
+        ensures place { IfOk result (λ next. IsPlace H.CAPACITY self.new.lines piece.now next) }
         ensures forth { IfOk result (λ next. (reached.at ≤ next.at) × (todo piece.now next < todo piece.now reached)) }
         ensures taken { (o : Options) → (pieces : List Judged → Judged → List ℕ) → (text : List ℕ) → (printed : List ℕ) →
             HasTaken S.stands S.piece self.old o pieces text printed →
@@ -297,10 +344,10 @@ impl<'p, S: Show> Engine<'p, S> {
         out: &mut Watched<W>,
     ) -> Result<Reached, RunFault>
         requires works { out.old.failed ≡ false }
-        requires place { IsPlace self.old.lines piece.now reached }
+        requires place { IsPlace H.CAPACITY self.old.lines piece.now reached }
         requires untried { reached.tried ≡ false }
         requires some { reached.at < reached.whole }
-        ensures place { IfOk result (λ next. IsPlace self.new.lines piece.now next) }
+        ensures place { IfOk result (λ next. IsPlace H.CAPACITY self.new.lines piece.now next) }
         ensures forth { IfOk result (λ next. (reached.at ≤ next.at) × (todo piece.now next < todo piece.now reached)) }
         ensures taken { (o : Options) → (pieces : List Judged → Judged → List ℕ) → (text : List ℕ) → (printed : List ℕ) →
             HasTaken S.stands S.piece self.old o pieces text printed →
@@ -349,9 +396,9 @@ impl<'p, S: Show> Engine<'p, S> {
         out: &mut Watched<W>,
     ) -> Result<Reached, RunFault>
         requires works { out.old.failed ≡ false }
-        requires place { IsPlace self.old.lines piece.now reached }
+        requires place { IsPlace H.CAPACITY self.old.lines piece.now reached }
         requires some { reached.at < length piece.now }
-        ensures place { IfOk result (λ next. IsPlace self.new.lines piece.now next) }
+        ensures place { IfOk result (λ next. IsPlace H.CAPACITY self.new.lines piece.now next) }
         ensures forth { IfOk result (λ next. (reached.at ≤ next.at) × (todo piece.now next < todo piece.now reached)) }
         ensures taken { (o : Options) → (pieces : List Judged → Judged → List ℕ) → (text : List ℕ) → (printed : List ℕ) →
             HasTaken S.stands S.piece self.old o pieces text printed →
@@ -409,7 +456,9 @@ impl<'p, S: Show> Engine<'p, S> {
     ) -> Result<usize, RunFault>
         requires works { out.old.failed ≡ false }
         requires some { 0 < length rest.now }
+        requires room { HasRoom H.CAPACITY self.old.lines (length rest.now) }
         ensures forth { IfOk result (λ used. (0 < used) × (used ≤ length rest.now)) }
+        ensures room { IfOk result (λ used. HasRoom H.CAPACITY self.new.lines (length rest.now - used)) }
         ensures taken { (o : Options) → (pieces : List Judged → Judged → List ℕ) → (text : List ℕ) → (printed : List ℕ) →
             HasTaken S.stands S.piece self.old o pieces text printed →
             IfOk result (λ used. Advances S.stands S.piece self.new o pieces text printed (take used rest.now)
@@ -476,8 +525,8 @@ impl<'p, S: Show> Engine<'p, S> {
 ///
 /// # Errors
 /// As `Engine::finish`.
-fn print_last<S: Show, W: Write>(
-    lines: &mut Lines,
+fn print_last<S: Show, H: Room, W: Write>(
+    lines: &mut Lines<H>,
     printer: &mut LinePrinter<S>,
     symbols: &Symbols,
     output: &mut Output,

@@ -4,8 +4,8 @@ ghost use Rattle.std.specs.Prelude.{◌≡◌, ◌+◌, ◌≤◌, ◌++◌, [],
 
 use std::marker::Model;
 
-/// How many bytes are gathered at most: a piece of the input, and a line that was cut by its beginning, leave in one write.
-pub(crate) const OUTPUT_BYTES: usize = 16_384;
+/// How many bytes are gathered at most: a short line that was cut and the piece that is read after it leave in one write.
+pub(crate) const OUTPUT_BYTES: usize = 8_192;
 
 /// At most `OUTPUT_BYTES` bytes. Making it empty leaves the array as it is.
 #[derive(Drop)]

@@ -29,7 +29,7 @@ use ud_cond::Symbols;
 use ud_model::{Listing, Settings};
 use ud_sections::{Left, Lister, Run, SectionFault, Show, Step};
 use ud_streams::Watched;
-use ud_text::{Line, Lines};
+use ud_text::{Line, Lines, Room};
 
 /// Reads the lines of a text in order, and prints what is left of each, or lists its names.
 #[derive(Drop)]
@@ -165,7 +165,7 @@ impl<S: Show> LinePrinter<S> {
 
     /// Reads as many of these whole lines, which come next, as are seen to be text, if it is known what is printed of them
     /// all, and gives them up. Nothing is put.
-    pub(crate) fn pass(&mut self, bytes: &[u8], lines: &mut Lines) -> Passed
+    pub(crate) fn pass<H: Room>(&mut self, bytes: &[u8], lines: &mut Lines<H>) -> Passed
         requires run { CanSkip lines.old bytes.now }
         requires goes_on { lines.old.closed ≡ false }
         requires limit { lines.old.last_line ≤ TEXT_LINES }

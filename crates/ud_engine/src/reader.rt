@@ -25,7 +25,7 @@ use ud_cond::Symbols;
 use ud_model::{Settings, Verdict};
 use ud_sections::{Lister, Machine, SectionFault, Step};
 use ud_streams::Watched;
-use ud_text::{Line, Lines, SHORT_BYTES, ShortScanner};
+use ud_text::{Line, Lines, Room, SHORT_BYTES, ShortScanner};
 
 /// Reads lines, and decides them.
 #[derive(Drop)]
@@ -190,7 +190,7 @@ impl Reader {
 
     /// Reads as many of these whole lines, which come next, as are seen to be text, and gives them up. Answers how many
     /// bytes they have: 0, or up to the end of a line.
-    pub(crate) fn pass(&mut self, bytes: &[u8], lines: &mut Lines) -> usize
+    pub(crate) fn pass<H: Room>(&mut self, bytes: &[u8], lines: &mut Lines<H>) -> usize
         requires run { CanSkip lines.old bytes.now }
         requires goes_on { lines.old.closed ≡ false }
         requires limit { lines.old.last_line ≤ TEXT_LINES }

@@ -1,16 +1,18 @@
 //! A run over a reader.
 
-ghost use Rattle.std.specs.Prelude.{◌≡◌, true, false, Ok, Err, IfSome, IfErr, OnOk};
+ghost use Rattle.std.specs.Prelude.{◌≡◌, ◌<◌, ℕ, List, Option, true, false, Ok, Err, IfSome, IfNone, IfErr, OnOk};
 ghost use Rattle.ud_model.specs.sections.Items.{Options};
 ghost use Rattle.ud_cond.specs.Standing.{StandsFor};
 ghost use Rattle.ud_engine.specs.Ending.{Ran};
-ghost use Rattle.ud_engine.specs.Running.{KeptUp, Went};
+ghost use Rattle.ud_engine.specs.Running.{KeptUp, Went, WasFed, UnderWay, Finished, TellsStreams};
+ghost use Rattle.ud_model.specs.declared.limits.TheConstants.{LINE_BYTES};
 
 use crate::engine::Engine;
 use crate::fault::RunFault;
 use std::io::{Read, Write};
 use ud_sections::Printer;
 use ud_streams::Watched;
+use ud_text::{LongRoom, Room, ShortRoom};
 use ud_words::Plan;
 
 /// The most bytes that one read gives.
@@ -45,15 +47,80 @@ pub fn run<R: Read, W: Write>(
     ensures read_fails { (reader.new.failed ≡ true → result ≡ Err RunFault.Read) × (result ≡ Err RunFault.Read → reader.new.failed ≡ true) }
     ensures write_fails { (out.new.failed ≡ true → result ≡ Err RunFault.Write) × (result ≡ Err RunFault.Write → out.new.failed ≡ true) }
 {
-    let mut engine = Engine::new(plan, Printer::of(&plan.settings()));
+    let mut engine: Engine<'_, Printer, ShortRoom> = Engine::at_start(
+        plan,
+        Printer::of(&plan.settings()),
+    );
+    match go_on(&mut engine, reader, out) {
+        Some(ended) => ended,
+        None => run_long(plan, &mut engine, reader, out),
+    }
+}
+
+/// Goes on with a run whose engine has no room left: what it holds is put into room for a line of any length. That room is this
+/// function's own, so that a run that meets no long line doesn't pay for it.
+///
+/// # Errors
+/// As `run`.
+#[inline(never)]
+fn run_long<R: Read, W: Write>(
+    plan: &Plan,
+    short: &mut Engine<'_, Printer, ShortRoom>,
+    reader: &mut Watched<R>,
+    out: &mut Watched<W>,
+) -> Result<bool, RunFault>
+    requires reader { reader.old.failed ≡ false }
+    requires out { out.old.failed ≡ false }
+    requires begun { WasFed short.old }
+    ensures finished { (o : Options) → (read written : Option (List ℕ)) →
+        UnderWay short.old o read (R.remaining reader.old.inner) written (W.contents out.old.inner) →
+        Finished o read (R.remaining reader.new.inner) written (W.contents out.new.inner) reader.new.failed out.new.failed result }
+    ensures tells { TellsStreams reader.new.failed out.new.failed result }
+{
+    let mut engine: Engine<'_, Printer, LongRoom> = short.lengthen(Printer::of(&plan.settings()));
+    match go_on(&mut engine, reader, out) {
+        Some(ended) => ended,
+        None => unreachable!(),
+    }
+}
+
+/// Feeds an engine with pieces from `reader`, none longer than there is room for, until the text has ended or a fault is met. No
+/// answer if there is room for no byte more, which never comes in room for a line of any length.
+///
+/// # Errors
+/// As `run`.
+fn go_on<R: Read, W: Write, H: Room>(
+    engine: &mut Engine<'_, Printer, H>,
+    reader: &mut Watched<R>,
+    out: &mut Watched<W>,
+) -> Option<Result<bool, RunFault>>
+    requires reader { reader.old.failed ≡ false }
+    requires out { out.old.failed ≡ false }
+    requires begun { WasFed engine.old }
+    ensures finished { (o : Options) → (read written : Option (List ℕ)) →
+        UnderWay engine.old o read (R.remaining reader.old.inner) written (W.contents out.old.inner) →
+        IfSome result (λ ended. Finished o read (R.remaining reader.new.inner) written (W.contents out.new.inner) reader.new.failed out.new.failed ended) }
+    ensures tells { IfSome result (λ ended. TellsStreams reader.new.failed out.new.failed ended) }
+    ensures goes_on { (o : Options) → (read written : Option (List ℕ)) →
+        UnderWay engine.old o read (R.remaining reader.old.inner) written (W.contents out.old.inner) →
+        IfNone result (UnderWay engine.new o read (R.remaining reader.new.inner) written (W.contents out.new.inner)) }
+    ensures begun { IfNone result (WasFed engine.new) }
+    ensures works { IfNone result ((reader.new.failed ≡ false) × (out.new.failed ≡ false)) }
+    ensures full { IfNone result (H.CAPACITY < LINE_BYTES) }
+{
     let mut buffer = [0u8; PIECE_BYTES];
     loop {
-        match reader.read(&mut buffer) {
-            None => return Err(RunFault::Read),
-            Some(0) => return engine.end(out),
+        let room = engine.spare(PIECE_BYTES);
+        if room == 0 {
+            return None;
+        }
+        let piece = &mut buffer[..room];
+        match reader.read(piece) {
+            None => return Some(Err(RunFault::Read)),
+            Some(0) => return Some(engine.end(out)),
             Some(count) => {
-                if let Err(fault) = engine.feed(&buffer[..count], out) {
-                    return Err(fault);
+                if let Err(fault) = engine.feed(&piece[..count], out) {
+                    return Some(Err(fault));
                 }
             }
         }

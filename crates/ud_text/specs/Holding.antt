@@ -4,6 +4,7 @@
 --   Took lines text               these bytes were taken so far: they are the lines given up, and what is held
 --   UpToFeed piece used whole     so many bytes stand in front of the piece up to its first line feed
 --   Refuses lines piece fault     the piece passes this limit
+--   HasRoom room lines left       so many bytes more fit beside what is held
 --   IsComplete lines              a line can be read
 --   IsLastLine text line          the line is the last one of the text
 --
@@ -47,6 +48,11 @@ Refuses lines piece (TooManyLines line) =
 Refuses lines piece (LineTooLong line) =
     (line ≡ lines.before + 1) × (lines.before < lines.last_line)
     × ((used : ℕ) × (whole : Bool) × UpToFeed piece used whole × (LINE_BYTES < length lines.held + used))
+
+-- so many bytes more fit beside what is held, in room for so many bytes; if there is room for a line of any length, any number
+-- fits that the line may have
+abbrev pub HasRoom : ℕ → Holding → ℕ → Type 0
+HasRoom room lines left = room < LINE_BYTES → length lines.held + left ≤ room
 
 -- a line can be read: it has its line feed, or the text has ended and has bytes after its last line feed
 abbrev pub IsComplete : Holding → Type 0

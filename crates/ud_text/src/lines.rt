@@ -1,6 +1,6 @@
 //! Lines of a text, from bytes that come in pieces.
 //!
-//! One line is held at a time, at most `LINE_BYTES` bytes with its ending. However the bytes are cut into pieces,
+//! One line is held at a time, at most `LINE_BYTES` bytes with its ending, in a `Room`. However the bytes are cut into pieces,
 //! the lines are those of the definitions (ud_model, specs/text/Lines.antt). States: nothing held; part of a line; a
 //! whole line, until `clear`; closed; refused, for good. Lines that stand whole in a piece needn't be held: `whole_in`
 //! lends one, and `skip` gives up many at once.
@@ -9,7 +9,7 @@
 ghost use Rattle.std.specs.Prelude.{◌≡◌, ℕ, suc, ◌+◌, ◌<◌, ◌≤◌, ◌↔◌, List, [], ◌∷◌, ◌++◌, length, take, drop, true, false, Some, None, IfOk, IfErr, OnOk, OnErr, IfSome, OnSome, IfNone, Ok, Err, IsTrue, MatchResult};
 ghost use Rattle.ud_model.specs.text.Lines.{NoFeed, whole_lines, open_rest, line_at, text_of, is_ending};
 ghost use Rattle.ud_text.specs.Borrowing.{CanLend, IsFirstLine};
-ghost use Rattle.ud_text.specs.Holding.{Took, UpToFeed, Refuses, refused_with, IsComplete, IsLastLine, IsLineOf};
+ghost use Rattle.ud_text.specs.Holding.{Took, UpToFeed, Refuses, refused_with, HasRoom, IsComplete, IsLastLine, IsLineOf};
 ghost use Rattle.ud_text.specs.LineViews.{as_line};
 ghost use Rattle.ud_text.specs.Skipping.{CanSkip};
 
@@ -17,7 +17,7 @@ use crate::fault::TextFault;
 use crate::feeds::{count_lines, fitting_lines};
 use crate::lanes::first_among;
 use crate::line::Line;
-use arrayvec::ArrayVec;
+use crate::room::{LongRoom, Room};
 use memchr::memchr;
 use std::marker::Model;
 use ud_model::{LINE_BYTES, TEXT_LINES};
@@ -34,11 +34,11 @@ pub struct Taken {
     pub whole: bool,
 }
 
-/// The line at the end of the bytes taken so far.
+/// The line at the end of the bytes taken so far, held in a room of its own.
 #[derive(Drop)]
-pub struct Lines {
+pub struct Lines<H: Room = LongRoom> {
     /// The bytes of the line so far, with its ending.
-    held_bytes: ArrayVec<u8, LINE_BYTES>,
+    room: H,
     /// Whether the line has its line feed, which is then the last byte held.
     is_whole: bool,
     /// How many lines were given up before the line that is held; at most `last`, and below it where a byte is held.
@@ -51,7 +51,7 @@ pub struct Lines {
     last: u32,
 }
 
-impl Model for Lines {
+impl<H: Room> Model for Lines<H> {
     ghost use Rattle.std.specs.Prelude.{◌≡◌, ◌≤◌, ◌<◌, length, true};
     ghost use Rattle.ud_model.specs.declared.limits.TheConstants.{TEXT_LINES};
     ghost use Rattle.ud_text.specs.Holding.{Holding};
@@ -59,7 +59,7 @@ impl Model for Lines {
     ghost Value = { Holding };
 
     ghost view = { λ l. record {
-      held = l.held_bytes.items;
+      held = H.items l.room;
       whole = l.is_whole;
       before = l.given_up;
       closed = l.is_closed;
@@ -68,20 +68,33 @@ impl Model for Lines {
     } };
 
     ghost invariant = { λ l. (l.last ≤ TEXT_LINES) × (l.given_up ≤ l.last)
-        × (0 < length l.held_bytes.items → l.given_up < l.last)
-        × (l.is_whole ≡ true → 0 < length l.held_bytes.items) };
+        × (0 < length (H.items l.room) → l.given_up < l.last)
+        × (l.is_whole ≡ true → 0 < length (H.items l.room)) };
 }
 
-impl Lines {
-    /// The lines of a text of which no byte was taken. It may have `last_line` lines, from 1 to `TEXT_LINES`.
-    pub fn new(last_line: u32) -> Lines
+impl Lines<LongRoom> {
+    /// The lines of a text of which no byte was taken. It may have `last_line` lines, from 1 to `TEXT_LINES`. There is room for
+    /// a line of any length.
+    pub fn new(last_line: u32) -> Lines<LongRoom>
+        requires low { 1 ≤ last_line }
+        requires high { last_line ≤ TEXT_LINES }
+        ensures value { result ≡ record { held = []; whole = false; before = 0; closed = false; refusal = None; last_line = last_line } }
+        ensures stands { Took result [] }
+    {
+        Lines::at_start(last_line)
+    }
+}
+
+impl<H: Room> Lines<H> {
+    /// The lines of a text of which no byte was taken, in a room of this type. Else as `new`.
+    pub fn at_start(last_line: u32) -> Lines<H>
         requires low { 1 ≤ last_line }
         requires high { last_line ≤ TEXT_LINES }
         ensures value { result ≡ record { held = []; whole = false; before = 0; closed = false; refusal = None; last_line = last_line } }
         ensures stands { Took result [] }
     {
         Lines {
-            held_bytes: ArrayVec::new(),
+            room: H::empty(),
             is_whole: false,
             given_up: 0,
             is_closed: false,
@@ -92,7 +105,8 @@ impl Lines {
 
     /// Takes the next bytes of the text, up to and including the first line feed, or the whole piece.
     ///
-    /// `piece` may have any length and any bytes; of an empty one nothing is taken. No whole line may be held, and
+    /// `piece` may have any bytes; of an empty one nothing is taken. It may have any length in a room for a line of any
+    /// length; in another one it has to fit beside what is held. No whole line may be held, and
     /// the text may not have ended. If the answer is `whole`, a line is complete: read it with `line`, then
     /// `clear`. The rest of the piece is the next one to be taken.
     ///
@@ -105,6 +119,7 @@ impl Lines {
     pub fn take(&mut self, piece: &[u8]) -> Result<Taken, TextFault>
         requires part { self.old.whole ≡ false }
         requires open { self.old.closed ≡ false }
+        requires room { HasRoom H.CAPACITY self.old (length piece.now) }
         ensures used { IfOk result (λ t. UpToFeed piece.now t.used t.whole) }
         ensures value { IfOk result (λ t.
             self.new ≡ record self.old { held = self.old.held ++ take t.used piece.now; whole = t.whole }) }
@@ -134,7 +149,7 @@ impl Lines {
             return Err(fault);
         }
         let bytes = &piece[..taken.used];
-        if self.held_bytes.try_extend_from_slice(bytes).is_err() {
+        if !self.room.hold(bytes) {
             let fault = TextFault::LineTooLong {
                 line: self.given_up + 1,
             };
@@ -170,7 +185,7 @@ impl Lines {
         ensures unlent { IfNone result ((used : ℕ) → CanLend self.old piece.now used → ⊥) }
         ensures still { IfNone result (self.new ≡ self.old) }
     {
-        if self.refused.is_some() || !self.held_bytes.is_empty() || self.given_up >= self.last {
+        if self.refused.is_some() || !self.room.bytes().is_empty() || self.given_up >= self.last {
             return None;
         }
         let line = first_line(piece)?;
@@ -195,7 +210,7 @@ impl Lines {
         ensures most { self.now.held ≡ [] → self.now.refusal ≡ None → self.now.before + length piece.now ≤ self.now.last_line →
             (used : ℕ) → UpToFeed (drop result piece.now) used true → LINE_BYTES < used }
     {
-        if self.refused.is_some() || !self.held_bytes.is_empty() {
+        if self.refused.is_some() || !self.room.bytes().is_empty() {
             return 0;
         }
         let count = fitting_lines(piece);
@@ -219,12 +234,41 @@ impl Lines {
         self.given_up
     }
 
+    /// How many bytes may be taken at once, at most `most`: as many as fit beside what is held, or all of them if there is room for a
+    /// line of any length.
+    pub fn spare(&self, most: usize) -> usize
+        ensures bound { result ≤ most }
+        ensures room { HasRoom H.CAPACITY self.now result }
+        ensures short { result < most → H.CAPACITY < LINE_BYTES }
+    {
+        if H::CAPACITY >= LINE_BYTES {
+            return most;
+        }
+        most.min(H::CAPACITY - self.room.bytes().len())
+    }
+
+    /// The same lines, in a room for a line of any length.
+    pub fn lengthened(self) -> Lines<LongRoom>
+        ensures { result ≡ self }
+    {
+        let mut room = LongRoom::empty();
+        room.hold(self.room.bytes());
+        Lines {
+            room,
+            is_whole: self.is_whole,
+            given_up: self.given_up,
+            is_closed: self.is_closed,
+            refused: self.refused,
+            last: self.last,
+        }
+    }
+
     /// How many bytes of the line are held, its ending counted; at most `LINE_BYTES`.
     pub fn held(&self) -> usize
         ensures value { result ≡ length self.now.held }
         ensures bound { result ≤ LINE_BYTES }
     {
-        self.held_bytes.len()
+        self.room.bytes().len()
     }
 
     /// The line that is held: a whole one, or, where `close` has answered `true`, the last one of the text, which
@@ -239,7 +283,7 @@ impl Lines {
             (earlier : List (List ℕ)) × (whole_lines text ≡ earlier ++ self.now.held ∷ []) }
         ensures rest { self.now.whole ≡ false → (text : List ℕ) → Took self.now text → open_rest text ≡ self.now.held }
     {
-        let (body, ending) = cut_ending(self.held_bytes.as_slice());
+        let (body, ending) = cut_ending(self.room.bytes());
         Line {
             body,
             ending,
@@ -253,7 +297,7 @@ impl Lines {
         ensures value { self.new ≡ record self.old { held = []; whole = false; before = self.old.before + 1 } }
         ensures stands { (text : List ℕ) → Took self.old text → Took self.new text }
     {
-        self.held_bytes.clear();
+        self.room.clear();
         self.is_whole = false;
         self.given_up += 1;
     }
@@ -277,7 +321,7 @@ impl Lines {
             return Err(fault);
         }
         self.is_closed = true;
-        Ok(!self.held_bytes.is_empty())
+        Ok(!self.room.bytes().is_empty())
     }
 
     /// Forgets the text, whatever was taken of it, and stands before another one, which may have as many lines.
@@ -285,7 +329,7 @@ impl Lines {
         ensures value { self.new ≡ record { held = []; whole = false; before = 0; closed = false; refusal = None; last_line = self.old.last_line } }
         ensures stands { Took self.new [] }
     {
-        self.held_bytes.truncate(0);
+        self.room.clear();
         self.is_whole = false;
         self.given_up = 0;
         self.is_closed = false;

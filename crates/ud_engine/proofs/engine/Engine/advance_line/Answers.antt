@@ -85,9 +85,9 @@ returns-clause-taken g c = λ o pieces text printed old.
 
 pub returns-then-put-clause-place : goal.returns-then-put-clause-place
 returns-then-put-clause-place g c =
-    let place = subst (λ (e : Running g.row.S.Denot). IsPlace e.lines c.args.piece.now c.args.reached) (sym c.self.view_is) c.requires.place in
+    let place = subst (λ (e : Running g.row.S.Denot). IsPlace g.H.Room.CAPACITY e.lines c.args.piece.now c.args.reached) (sym c.self.view_is) c.requires.place in
     let len = length-append c.in-Some.line.body.now c.in-Some.line.ending.now in
-    place_after_line c.self.inside.lines c.whole_in.new.self c.args.piece.now
+    place_after_line g.H.Room.CAPACITY c.self.inside.lines c.whole_in.new.self c.args.piece.now
     (take (length c.args.piece.now - c.args.reached.at) (drop c.args.reached.at c.args.piece.now)) c.args.reached (slice_from c.args.piece.now c.args.reached.at) place
     (as_line c.in-Some.line) c.in-Some.ensures.lent
     (c.args.reached.at + (length c.in-Some.line.body.now + length c.in-Some.line.ending.now)) (omega (arith, len)) c.in-Some.ensures.counted
@@ -95,10 +95,10 @@ returns-then-put-clause-place g c =
 
 pub returns-clause-place : goal.returns-clause-place
 returns-clause-place g c =
-    let place = subst (λ (e : Running g.row.S.Denot). IsPlace e.lines c.args.piece.now c.args.reached) (sym c.self.view_is) c.requires.place in
+    let place = subst (λ (e : Running g.row.S.Denot). IsPlace g.H.Room.CAPACITY e.lines c.args.piece.now c.args.reached) (sym c.self.view_is) c.requires.place in
     let len = length-append c.in-Some.line.body.now c.in-Some.line.ending.now in
     let from = c.requires.place.from in
-    place_after_line c.self.inside.lines c.whole_in.new.self c.args.piece.now
+    place_after_line g.H.Room.CAPACITY c.self.inside.lines c.whole_in.new.self c.args.piece.now
     (take (length c.args.piece.now - c.args.reached.at) (drop c.args.reached.at c.args.piece.now)) c.args.reached (slice_from c.args.piece.now c.args.reached.at) place
     (as_line c.in-Some.line) c.in-Some.ensures.lent
     (c.args.reached.at + (length c.in-Some.line.body.now + length c.in-Some.line.ending.now)) (omega (arith, len)) c.in-Some.ensures.counted

@@ -7,21 +7,21 @@ use Rattle.ud_engine.proofs.engine.Engine.advance_lines.Goals as goal
 
 pub returns-then-passed-clause-place : goal.returns-then-passed-clause-place
 returns-then-passed-clause-place g c =
-    let place = subst (λ (e : Running g.row.S.Denot). IsPlace e.lines c.args.piece.now c.args.reached) (sym c.self.view_is) c.requires.place in
+    let place = subst (λ (e : Running g.row.S.Denot). IsPlace g.H.Room.CAPACITY e.lines c.args.piece.now c.args.reached) (sym c.self.view_is) c.requires.place in
     let from = c.requires.place.from in
-    place_after c.self.inside.lines c.pass-passed.new.lines c.args.piece.now c.args.reached place c.requires.some c.pass-passed.result.count
+    place_after g.H.Room.CAPACITY c.self.inside.lines c.pass-passed.new.lines c.args.piece.now c.args.reached place c.requires.some c.pass-passed.result.count
     c.pass-passed.ensures.bound c.pass-passed.ensures.ends c.pass-passed.ensures.given_up c.args.reached.from (omega (arith, from))
 
 pub returns-clause-place : goal.returns-clause-place
 returns-clause-place g c =
-    let place = subst (λ (e : Running g.row.S.Denot). IsPlace e.lines c.args.piece.now c.args.reached) (sym c.self.view_is) c.requires.place in
-    place_after c.self.inside.lines c.pass-passed.new.lines c.args.piece.now c.args.reached place c.requires.some c.pass-passed.result.count
+    let place = subst (λ (e : Running g.row.S.Denot). IsPlace g.H.Room.CAPACITY e.lines c.args.piece.now c.args.reached) (sym c.self.view_is) c.requires.place in
+    place_after g.H.Room.CAPACITY c.self.inside.lines c.pass-passed.new.lines c.args.piece.now c.args.reached place c.requires.some c.pass-passed.result.count
     c.pass-passed.ensures.bound c.pass-passed.ensures.ends c.pass-passed.ensures.given_up (c.args.reached.at + c.pass-passed.result.count) (omega arith)
 
 pub returns-then-passed-clause-taken : goal.returns-then-passed-clause-taken
 returns-then-passed-clause-taken g c = λ o pieces text printed old.
     let h = subst (λ (e : Running g.row.S.Denot). HasTaken g.S.Show.stands g.S.Show.piece e o pieces text printed) (sym c.self.view_is) old in
-    let place = subst (λ (e : Running g.row.S.Denot). IsPlace e.lines c.args.piece.now c.args.reached) (sym c.self.view_is) c.requires.place in
+    let place = subst (λ (e : Running g.row.S.Denot). IsPlace g.H.Room.CAPACITY e.lines c.args.piece.now c.args.reached) (sym c.self.view_is) c.requires.place in
     let out = g.W.Write.contents c.args.out.now.inner in
     let f : Running g.row.S.Denot = record { symbols = c.self.inside.plan.now.symbols; lines = c.pass-passed.new.lines; printer = c.pass-passed.new.self; gathered = c.self.inside.output; refused = c.self.inside.fault } in
     subst (λ (e : Running g.row.S.Denot). Advances g.S.Show.stands g.S.Show.piece f o pieces text printed
@@ -42,7 +42,7 @@ returns-then-not-put-clause-stops g c = λ o pieces text printed old.
 pub returns-clause-taken : goal.returns-clause-taken
 returns-clause-taken g c = λ o pieces text printed old.
     let h = subst (λ (e : Running g.row.S.Denot). HasTaken g.S.Show.stands g.S.Show.piece e o pieces text printed) (sym c.self.view_is) old in
-    let place = subst (λ (e : Running g.row.S.Denot). IsPlace e.lines c.args.piece.now c.args.reached) (sym c.self.view_is) c.requires.place in
+    let place = subst (λ (e : Running g.row.S.Denot). IsPlace g.H.Room.CAPACITY e.lines c.args.piece.now c.args.reached) (sym c.self.view_is) c.requires.place in
     let out = g.W.Write.contents c.args.out.now.inner in
     let f : Running g.row.S.Denot = record { symbols = c.self.inside.plan.now.symbols; lines = c.pass-passed.new.lines; printer = c.pass-passed.new.self; gathered = c.put.new.self; refused = c.self.inside.fault } in
     let now = g.W.Write.contents c.put.new.out.inner in

@@ -7,7 +7,7 @@ use Rattle.ud_engine.proofs.engine.Engine.read_piece.Goals as goal
 pub loop-reached-init : goal.loop-reached-init
 loop-reached-init g c = record {
   works = c.requires.works;
-  place = subst (λ (e : Running g.row.S.Denot). IsPlace e.lines c.args.piece.now c.place_in-reached.result) c.self.view_is c.place_in-reached.ensures.place;
+  place = subst (λ (e : Running g.row.S.Denot). IsPlace g.H.Room.CAPACITY e.lines c.args.piece.now c.place_in-reached.result) c.self.view_is c.place_in-reached.ensures.place;
   refused = refl;
   taken = λ o pieces text printed h.
       let a = g.W.Write.contents c.args.out.now.inner in

@@ -8,7 +8,7 @@ use Rattle.ud_engine.proofs.engine.Engine.read_piece.Given as goal
 abbrev pub invariant-loop-reached : goal.invariant-loop-reached
 invariant-loop-reached g l = record {
   works : l.out.failed ≡ false;
-  place : IsPlace l.self.lines l.piece l.reached;
+  place : IsPlace g.H.Room.CAPACITY l.self.lines l.piece l.reached;
   refused : l.self.refused ≡ l.initial.self.refused;
   taken : (o : Options) (pieces : List Judged → Judged → List ℕ) (text printed : List ℕ) → Fed g.S.Show.stands g.S.Show.piece l.initial.self o pieces text printed →
       Advances g.S.Show.stands g.S.Show.piece l.self o pieces text printed (take l.reached.at l.piece)

@@ -8,18 +8,18 @@ use Rattle.ud_engine.proofs.PassLemmas.{can_skip_take, reads_none, reads_all, so
 use Rattle.ud_engine.proofs.reader.Reader.pass.Goals as goal
 
 pub returns-then-count-eq0-clause-given_up : goal.returns-then-count-eq0-clause-given_up
-returns-then-count-eq0-clause-given_up c = skips_none c.args.lines.now
+returns-then-count-eq0-clause-given_up g c = skips_none c.args.lines.now
 
 pub returns-then-count-eq0-clause-read : goal.returns-then-count-eq0-clause-read
-returns-then-count-eq0-clause-read c = λ o xs t h.
+returns-then-count-eq0-clause-read g c = λ o xs t h.
     reads_none o c.args.self.now _ xs t h c.args.lines.now.before (text_verdict c.args.self.now.machine) c.mode-mode.result refl
     (subst (λ n. PassesText c.mode-mode.result c.args.self.now.scanner c.pass-count.new.self (take n c.args.bytes.now)) c.if-count-eq0.true c.pass-count.ensures.passes)
 
 pub skip-last-requires-clause-run : goal.skip-last-requires-clause-run
-skip-last-requires-clause-run c = can_skip_take c.args.lines.now c.args.bytes.now c.pass-count.result c.pass-count.ensures.ends c.requires.run
+skip-last-requires-clause-run g c = can_skip_take c.args.lines.now c.args.bytes.now c.pass-count.result c.pass-count.ensures.ends c.requires.run
 
 pub returns-clause-read : goal.returns-clause-read
-returns-clause-read c = λ o xs t h.
+returns-clause-read g c = λ o xs t h.
     let bytes = take c.pass-count.result c.args.bytes.now in
     let can = can_skip_take c.args.lines.now c.args.bytes.now c.pass-count.result c.pass-count.ensures.ends c.requires.run in
     let numbered = can.numbered in

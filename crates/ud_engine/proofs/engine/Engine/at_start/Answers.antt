@@ -3,7 +3,7 @@ use Rattle.ud_model.specs.sections.Tree.{closed, nothing}
 use Rattle.ud_model.specs.sections.Faults.{no_lines}
 use Rattle.ud_text.specs.Holding.{Holding}
 use Rattle.ud_engine.proofs.FeedLemmas.{none_so_far, none_printed, open_new, none_begun, none_count}
-use Rattle.ud_engine.proofs.engine.Engine.new.Goals as goal
+use Rattle.ud_engine.proofs.engine.Engine.at_start.Goals as goal
 
 pub returns-clause-fed : goal.returns-clause-fed
 returns-clause-fed g c = λ o piece settings symbols stands stays. record {
@@ -11,15 +11,15 @@ returns-clause-fed g c = λ o piece settings symbols stands stays. record {
     items = [];
     tree = closed nothing;
     goes = record { sound = no_lines; are = none_so_far };
-    has = c.new-2.ensures o piece (settings ∙ sym c.settings.ensures) stands stays;
+    has = c.new.ensures o piece (settings ∙ sym c.settings.ensures) stands stays;
     printed_is = none_printed o.settings.listing piece;
     symbols = symbols;
-    opened = open_new c.new.result c.new.ensures.value;
-    took = c.new.ensures.stands;
-    unrefused = ap (λ (l : Holding). l.refusal) c.new.ensures.value;
-    begun = none_begun c.new.result c.new.ensures.value;
-    count = none_count c.new.result c.new.ensures.value;
+    opened = open_new c.at_start.result c.at_start.ensures.value;
+    took = c.at_start.ensures.stands;
+    unrefused = ap (λ (l : Holding). l.refusal) c.at_start.ensures.value;
+    begun = none_begun c.at_start.result c.at_start.ensures.value;
+    count = none_count c.at_start.result c.at_start.ensures.value;
   };
   works = refl;
-  written = c.new-3.ensures;
+  written = c.new-2.ensures;
 }
