@@ -20,8 +20,8 @@ use Rattle.ud_streams.specs.Watching.{Watching, Says}
 use Rattle.ud_engine.specs.declared.fault.RunFault.{RunFault}
 use Rattle.ud_engine.specs.declared.fault.RunFault.TheVariants.{Text, Section, Read, Write}
 use Rattle.unifdef.specs.Gave.{streams, GivesAnswer, LacksMemory}
-use Rattle.unifdef.specs.Refusals.{refusal_text}
-use Rattle.unifdef.specs.Told.{ended_by, message_told, status_told}
+use Rattle.ud_messages.specs.Refusals.{refusal_text}
+use Rattle.ud_messages.specs.Told.{ended_by, message_told, status_told}
 use Rattle.unifdef.proofs.RefusalLemmas.{TellsFault, tells-IsUsageOf}
 
 -- what is told of how a run ended is what the definitions tell of its outcome

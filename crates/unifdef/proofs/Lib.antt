@@ -1,4 +1,3 @@
-pub mod MessageLemmas
 pub mod RefusalLemmas
 pub mod HeadlineLemmas
 pub mod EndedLemmas

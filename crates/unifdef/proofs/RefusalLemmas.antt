@@ -2,7 +2,7 @@
 use Rattle.std.proofs.Common.{◌≡◌, ◌⊎◌, inl, inr, refl, List, Option, Some}
 use Rattle.ud_model.specs.answer.CommandLine.{Given, UsageFault, first_fault, unknown_option, missing_argument, bad_symbol_in, bad_mode_in, too_many_files, usage_message}
 use Rattle.ud_model.specs.answer.Messages.{out_of_memory}
-use Rattle.unifdef.specs.Refusals.{refusal_text}
+use Rattle.ud_messages.specs.Refusals.{refusal_text}
 use Rattle.ud_words.specs.Storing.{PutsSymbol}
 use Rattle.ud_words.specs.Saying.{IsUsageOf}
 use Rattle.ud_words.specs.declared.usage.Usage.{Usage}

@@ -9,7 +9,7 @@ use Rattle.ud_engine.specs.declared.fault.RunFault.TheVariants.{Text, Section, R
 use Rattle.ud_engine.specs.Running.{Went}
 use Rattle.ud_streams.specs.Watching.{Says}
 use Rattle.unifdef.specs.Gave.{Streams}
-use Rattle.unifdef.specs.Told.{ended_by, message_told, status_told}
+use Rattle.ud_messages.specs.Told.{ended_by, message_told, status_told}
 
 -- a read failed
 abbrev pub is_read_error : Result Bool RunFault → Bool

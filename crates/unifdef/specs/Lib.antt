@@ -1,4 +1,2 @@
-pub mod Told
 pub mod Gave
-pub mod Refusals
 pub mod Ended

@@ -5,15 +5,14 @@ ghost use Rattle.ud_model.specs.answer.CommandLine.{given_in, usage_fault, optio
 ghost use Rattle.ud_model.specs.answer.Messages.{read_error, write_error};
 ghost use Rattle.ud_engine.specs.Running.{KeptUp};
 ghost use Rattle.ud_streams.specs.Watching.{Says};
-ghost use Rattle.unifdef.specs.Refusals.{TellsUsage};
+ghost use Rattle.ud_messages.specs.Refusals.{TellsUsage};
 ghost use Rattle.unifdef.specs.Ended.{Ended};
 ghost use Rattle.unifdef.specs.Gave.{Streams, streams, GivesAnswer, LacksMemory};
 
-use crate::ending::{TROUBLE, ended_by, tell};
-use crate::refusals::report_refusal;
 use std::alloc::Global;
 use std::io::{Read, Write};
 use ud_engine::{Watched, run};
+use ud_messages::{TROUBLE, ended_by, report_refusal, tell};
 use ud_words::{input_name, plan};
 
 /// Runs unifdef(1): reads the words, and the text from `reader`; prints what is left of it to `out`, and what is wrong

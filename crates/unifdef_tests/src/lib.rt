@@ -18,6 +18,8 @@ mod limits;
 #[cfg(test)]
 mod listing;
 #[cfg(test)]
+mod messages;
+#[cfg(test)]
 mod plain;
 #[cfg(test)]
 mod printed;

@@ -3,7 +3,7 @@ use Rattle.std.proofs.lemmas.Option.{IfSome_then}
 use Rattle.ud_model.specs.answer.CommandLine.{options_of, input_name}
 use Rattle.ud_streams.specs.Watching.{Says}
 use Rattle.ud_streams.proofs.SendingLemmas.{says_same}
-use Rattle.unifdef.specs.Told.{ended_by, message_told, status_told}
+use Rattle.ud_messages.specs.Told.{ended_by, message_told, status_told}
 use Rattle.unifdef.proofs.EndedLemmas.{flushed_went, read_told, write_told}
 use Rattle.unifdef.proofs.HeadlineLemmas.{usage_answers, flushed_answers, flushed_kept_up, failed_told}
 use Rattle.unifdef.proofs.running.tool.Goals as goal

@@ -1,8 +1,8 @@
 use Rattle.std.proofs.Common.{◌∙◌}
 use Rattle.ud_model.specs.answer.Messages.{about_line}
 use Rattle.ud_streams.proofs.SendingLemmas.{says_same}
-use Rattle.unifdef.proofs.MessageLemmas.{line_joined}
-use Rattle.unifdef.proofs.messages.report_at.Goals as goal
+use Rattle.ud_messages.proofs.MessageLemmas.{line_joined}
+use Rattle.ud_messages.proofs.messages.report_at.Goals as goal
 
 pub returns : goal.returns
 returns g c =

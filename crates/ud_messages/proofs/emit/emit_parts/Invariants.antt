@@ -1,7 +1,7 @@
 use Rattle.std.proofs.Common.{◌≡◌, false, drop}
 use Rattle.std.specs.List.{flat_map}
 use Rattle.ud_streams.specs.Sending.{Sent}
-use Rattle.unifdef.proofs.emit.emit_parts.Given as goal
+use Rattle.ud_messages.proofs.emit.emit_parts.Given as goal
 
 abbrev pub invariant-loop-part : goal.invariant-loop-part
 invariant-loop-part g l = record {

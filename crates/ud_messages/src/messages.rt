@@ -6,13 +6,14 @@ ghost use Rattle.ud_model.specs.sections.Faults.{premature_eof};
 ghost use Rattle.ud_sections.specs.Sections.{fault_of};
 ghost use Rattle.ud_engine.specs.Feeding.{limit_of};
 ghost use Rattle.ud_streams.specs.Watching.{Says};
-ghost use Rattle.unifdef.specs.Told.{fault_message};
+ghost use Rattle.ud_messages.specs.Told.{fault_message};
 
 use crate::emit::emit_parts;
 use itoa::Buffer;
 use std::io::Write;
-use ud_engine::{RunFault, Watched};
+use ud_engine::RunFault;
 use ud_sections::SectionFault;
+use ud_streams::Watched;
 use ud_text::TextFault;
 
 /// Says why a run ended. If a write fails, a front of the message is written.

@@ -2,8 +2,8 @@ use Rattle.std.proofs.Common.{◌∙◌}
 use Rattle.ud_model.specs.answer.Messages.{message_of}
 use Rattle.ud_model.specs.sections.Faults.{premature_eof}
 use Rattle.ud_streams.proofs.SendingLemmas.{says_same}
-use Rattle.unifdef.proofs.MessageLemmas.{premature_joined}
-use Rattle.unifdef.proofs.messages.report_premature_eof.Goals as goal
+use Rattle.ud_messages.proofs.MessageLemmas.{premature_joined}
+use Rattle.ud_messages.proofs.messages.report_premature_eof.Goals as goal
 
 pub returns : goal.returns
 returns g c =

@@ -5,7 +5,7 @@ ghost use Rattle.std.specs.List.{flat_map};
 ghost use Rattle.ud_streams.specs.Watching.{Says};
 
 use std::io::Write;
-use ud_engine::{Watched, emit};
+use ud_streams::{Watched, emit};
 
 /// Writes these parts in turn, each whole; an empty one takes no call.
 ///

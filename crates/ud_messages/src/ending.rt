@@ -3,19 +3,20 @@
 ghost use Rattle.std.specs.Prelude.{◌≡◌, false};
 ghost use Rattle.ud_model.specs.answer.Answer.{status_by, status_under};
 ghost use Rattle.ud_streams.specs.Watching.{Says};
-ghost use Rattle.unifdef.specs.Told.{ended_by, message_told, status_told};
+ghost use Rattle.ud_messages.specs.Told.{ended_by, message_told, status_told};
 
 use crate::messages::report;
 use std::io::Write;
-use ud_engine::{RunFault, Watched};
+use ud_engine::RunFault;
 use ud_model::{ExitMode, Listing, Settings};
+use ud_streams::Watched;
 
 /// The status of a fault, of any kind.
-pub(crate) const TROUBLE: u8 = 2;
+pub const TROUBLE: u8 = 2;
 
 /// How a run ended that answered this, after its output was flushed or couldn't be: a failed flush is a failed write,
 /// and changes no fault.
-pub(crate) fn ended_by(ran: Result<bool, RunFault>, flushed: bool) -> Result<bool, RunFault>
+pub fn ended_by(ran: Result<bool, RunFault>, flushed: bool) -> Result<bool, RunFault>
     ensures { result ≡ ended_by ran flushed }
 {
     match ran {
@@ -25,7 +26,7 @@ pub(crate) fn ended_by(ran: Result<bool, RunFault>, flushed: bool) -> Result<boo
 }
 
 /// Writes the message of how a run ended, if it has one, and answers the status.
-pub(crate) fn tell<E: Write>(
+pub fn tell<E: Write>(
     err: &mut Watched<E>,
     name: &[u8],
     settings: Settings,

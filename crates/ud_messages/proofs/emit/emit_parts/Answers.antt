@@ -1,6 +1,6 @@
 use Rattle.std.proofs.Common.{ℕ, List, [], Bor}
 use Rattle.ud_streams.proofs.SendingLemmas.{parts_sent, parts_failed}
-use Rattle.unifdef.proofs.emit.emit_parts.Goals as goal
+use Rattle.ud_messages.proofs.emit.emit_parts.Goals as goal
 
 pub returns-then-not-emit-clause-written : goal.returns-then-not-emit-clause-written
 returns-then-not-emit-clause-written g c =

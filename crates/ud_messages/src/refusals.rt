@@ -2,16 +2,16 @@
 
 ghost use Rattle.std.specs.Prelude.{◌≡◌, ◌++◌, false, codes, decimal, encode_utf8};
 ghost use Rattle.ud_streams.specs.Watching.{Says};
-ghost use Rattle.unifdef.specs.Refusals.{refusal_text};
+ghost use Rattle.ud_messages.specs.Refusals.{refusal_text};
 
 use crate::emit::emit_parts;
 use itoa::Buffer;
 use std::io::Write;
-use ud_engine::{Watched, emit};
+use ud_streams::{Watched, emit};
 use ud_words::Usage;
 
 /// Says what is wrong with the words, or that memory was refused. If a write fails, a front of the message is written.
-pub(crate) fn report_refusal<E: Write>(err: &mut Watched<E>, usage: Usage)
+pub fn report_refusal<E: Write>(err: &mut Watched<E>, usage: Usage)
     requires works { err.old.failed ≡ false }
     ensures { Says err.new.failed (E.contents err.old.inner) (E.contents err.new.inner)
         (refusal_text usage) }

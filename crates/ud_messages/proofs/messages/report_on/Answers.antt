@@ -1,7 +1,7 @@
 use Rattle.ud_model.specs.answer.Messages.{about}
 use Rattle.ud_streams.proofs.SendingLemmas.{says_same}
-use Rattle.unifdef.proofs.MessageLemmas.{about_joined}
-use Rattle.unifdef.proofs.messages.report_on.Goals as goal
+use Rattle.ud_messages.proofs.MessageLemmas.{about_joined}
+use Rattle.ud_messages.proofs.messages.report_on.Goals as goal
 
 pub returns : goal.returns
 returns g c =
