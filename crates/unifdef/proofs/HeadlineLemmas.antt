@@ -1,7 +1,7 @@
 -- Headline: from what a run answered to the answer of the definitions.
 use Rattle.std.proofs.Common.{◌≡◌, ℕ, List, ◌++◌, Bool, true, false, not, Option, Some, None, Result, Ok, Err, refl, sym, ◌∙◌, ap, subst, ◌⊎◌, inl, inr}
 use Rattle.std.specs.Prelude.{IfSome}
-use Rattle.std.proofs.lemmas.Option.{IfSome_then}
+use Rattle.std.proofs.lemmas.Option.{IfSome_then, none-some}
 use Rattle.std.specs.Io.KnownBytes.{Keeps}
 use Rattle.std.proofs.KnownBytes.{Appends-nil}
 use Rattle.ud_model.specs.sections.Items.{Options}
@@ -132,6 +132,40 @@ failed_told words before answer mid new flushed uo um un e eo en s right ran_so 
         (subst (λ (a : Result Bool RunFault). Says e eo en (message_told (input_name words) a)) same said)
         (status ∙ ap (status_told (options_of words).settings) same)))
 
+-- and its status is 2
+pub failed_status : (s : Settings) (answer : Result Bool RunFault) (mid new flushed : Bool) →
+    (mid ≡ true → answer ≡ Err Write) → (mid ≡ false → new ≡ not flushed) → new ≡ true → status_told s (ended_by answer flushed) ≡ 2
+failed_status s answer true new flushed wrote after fails = ap (λ (a : Result Bool RunFault). status_told s (ended_by a flushed)) (wrote refl)
+failed_status s (Err f) false new flushed wrote after fails = refl
+failed_status s (Ok differs) false new true wrote after fails = let clash : true ≡ false = sym fails ∙ after refl in cc
+failed_status s (Ok differs) false new false wrote after fails = refl
+
+-- memory for a symbol was refused, and so it was told; nothing is read, and nothing written to `out`
+memory_refused : {R W : Type 0} (words : List (List ℕ)) (u : Usage) (reader : Watching R) (out : Watching W) (uo : Option (List ℕ)) (e : Bool) (eo en : Option (List ℕ)) (s : ℕ) →
+    PutsSymbol (given_in words) → refusal_text u ≡ memory_answer.message → Says e eo en (refusal_text u) → s ≡ 2 →
+    LacksMemory words reader reader out out (streams uo eo) (streams uo en) e s
+memory_refused words u reader out uo e eo en s asked text said status = record {
+  asked = asked;
+  unread = refl;
+  unwritten = refl;
+  gave = record {
+    output = Appends-nil uo;
+    message = subst (λ (x : List ℕ). Says e eo en x) text said;
+    answered = status;
+  };
+}
+
+-- so it is if the words are refused and have no fault
+pub lacks_memory : {R W : Type 0} (words : List (List ℕ)) (u : Usage) (reader : Watching R) (out : Watching W) (uo : Option (List ℕ)) (e : Bool) (eo en : Option (List ℕ)) (s : ℕ) →
+    usage_fault words ≡ None → IsUsageOf (given_in words) u → Says e eo en (refusal_text u) → s ≡ 2 →
+    LacksMemory words reader reader out out (streams uo eo) (streams uo en) e s
+lacks_memory words u reader out uo e eo en s right wrong said status = by_case (tells-IsUsageOf (given_in words) u wrong)
+  where
+    by_case : TellsFault (usage_fault words) u ⊎ (PutsSymbol (given_in words) × (refusal_text u ≡ memory_answer.message)) →
+        LacksMemory words reader reader out out (streams uo eo) (streams uo en) e s
+    by_case (inl t) = absurd (none-some t.told (sym right ∙ t.is))
+    by_case (inr t) = memory_refused words u reader out uo e eo en s t.0 t.1 said status
+
 -- the words have a fault, or memory for a symbol was refused; nothing is read, and nothing written to `out`
 pub usage_answers : {R W : Type 0} (words : List (List ℕ)) (u : Usage) (reader : Watching R) (out : Watching W) (before uo : Option (List ℕ)) (e : Bool) (eo en : Option (List ℕ)) (s : ℕ) →
     IsUsageOf (given_in words) u → Says e eo en (refusal_text u) → s ≡ 2 →
@@ -152,14 +186,4 @@ usage_answers words u reader out (Some input) uo e eo en s wrong said status = b
             answered = status;
           },
         )
-    by_case (inr t) =
-        inr (record {
-          asked = t.0;
-          unread = refl;
-          unwritten = refl;
-          gave = record {
-            output = Appends-nil uo;
-            message = subst (λ (x : List ℕ). Says e eo en x) t.1 said;
-            answered = status;
-          };
-        })
+    by_case (inr t) = inr (memory_refused words u reader out uo e eo en s t.0 t.1 said status)

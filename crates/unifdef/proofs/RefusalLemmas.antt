@@ -1,8 +1,11 @@
 -- What is told of the words of a command line, and what it tells.
-use Rattle.std.proofs.Common.{◌≡◌, ◌⊎◌, inl, inr, refl, List, Option, Some}
+use Rattle.std.proofs.Common.{◌≡◌, ◌⊎◌, ◌∙◌, inl, inr, refl, sym, ap, subst, ℕ, List, Bool, true, false, Option, Some, None}
+use Rattle.std.specs.Prelude.{IfSome, IsSome}
+use Rattle.std.proofs.lemmas.Option.{none-some, same_Some}
 use Rattle.ud_model.specs.answer.CommandLine.{Given, UsageFault, first_fault, unknown_option, missing_argument, bad_symbol_in, bad_mode_in, too_many_files, usage_message}
 use Rattle.ud_model.specs.answer.Messages.{out_of_memory}
-use Rattle.ud_messages.specs.Refusals.{refusal_text}
+use Rattle.ud_messages.specs.Refusals.{refusal_text, TellsUsage}
+use Rattle.ud_streams.specs.Watching.{Says}
 use Rattle.ud_words.specs.Storing.{PutsSymbol}
 use Rattle.ud_words.specs.Saying.{IsUsageOf}
 use Rattle.ud_words.specs.declared.usage.Usage.{Usage}
@@ -22,3 +25,30 @@ tells-IsUsageOf gs (BadSymbol word) h = inl (record { told = bad_symbol_in word;
 tells-IsUsageOf gs (BadMode word) h = inl (record { told = bad_mode_in word; is = h; text = refl })
 tells-IsUsageOf gs TooManyFiles h = inl (record { told = too_many_files; is = h; text = refl })
 tells-IsUsageOf gs OutOfMemory h = inr (h, refl)
+
+-- at the first fault of what is given the refusal tells that fault, or that memory for a symbol was refused
+pub tells_usage : (gs : List Given) (u : Usage) (first : Option UsageFault) (e : Bool) (eo en : Option (List ℕ)) (s : ℕ) →
+    first_fault gs ≡ first → IsUsageOf gs u → Says e eo en (refusal_text u) → s ≡ 2 → IfSome first (λ fault. TellsUsage gs fault e eo en s)
+tells_usage gs u None e eo en s is wrong said status = tt
+tells_usage gs u (Some fault) e eo en s is wrong said status = by_case (tells-IsUsageOf gs u wrong)
+  where
+    by_case : TellsFault (first_fault gs) u ⊎ (PutsSymbol gs × (refusal_text u ≡ out_of_memory)) → TellsUsage gs fault e eo en s
+    by_case (inl t) =
+        let same : t.told ≡ fault = same_Some t.told fault (sym t.is ∙ is) in
+        record { message = inl (subst (λ (x : List ℕ). Says e eo en x) (t.text ∙ ap usage_message same) said); answered = status }
+    by_case (inr t) = record { message = inr (t.0, subst (λ (x : List ℕ). Says e eo en x) t.1 said); answered = status }
+
+-- where there is no fault, none has to be told
+pub none_told : {X : Type 0} (o : Option X) (P : X → Type 0) → o ≡ None → IfSome o P
+none_told None P e = tt
+none_told (Some x) P e = absurd (none-some x (sym e))
+
+-- where there is no fault, there isn't one
+pub none_found : {X : Type 0} (o : Option X) → o ≡ None → IsSome o → ⊥
+none_found None e found = cc
+none_found (Some x) e found = none-some x (sym e)
+
+-- what works hasn't failed
+pub works_fails : (failed : Bool) → failed ≡ false → failed ≡ true → ⊥
+works_fails true works fails = cc
+works_fails false works fails = cc
