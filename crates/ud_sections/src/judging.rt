@@ -11,7 +11,7 @@ use crate::shape::Shape;
 use ud_model::{OPEN_SECTIONS, Verdict};
 
 /// What stands before a line.
-#[derive(Clone, Copy, Debug, PartialEq, Eq)]
+#[derive(Clone, Copy)]
 pub(crate) struct Before {
     /// The open sections, as far as a line asks of them.
     pub place: Place,

@@ -10,7 +10,7 @@ use crate::shape::Shape;
 use ud_model::{Cond, Verdict};
 
 /// What is kept of an open section.
-#[derive(Clone, Copy, Debug, PartialEq, Eq)]
+#[derive(Clone, Copy)]
 pub(crate) struct Level {
     /// How far it is among its groups.
     pub phase: Phase,
@@ -23,7 +23,7 @@ pub(crate) struct Level {
 }
 
 /// What a line does to the open sections.
-#[derive(Clone, Copy, Debug, PartialEq, Eq)]
+#[derive(Clone, Copy)]
 pub(crate) enum Change {
     /// Nothing.
     Stay,
@@ -36,7 +36,7 @@ pub(crate) enum Change {
 }
 
 /// What becomes of a line.
-#[derive(Clone, Copy, Debug, PartialEq, Eq)]
+#[derive(Clone, Copy)]
 pub(crate) struct Action {
     /// Its verdict.
     pub verdict: Verdict,
@@ -47,7 +47,7 @@ pub(crate) struct Action {
 }
 
 /// Where a line stands.
-#[derive(Clone, Copy, Debug, PartialEq, Eq)]
+#[derive(Clone, Copy)]
 pub(crate) struct Place {
     /// The innermost open section.
     pub section: Option<Level>,

@@ -7,7 +7,7 @@ ghost use Rattle.ud_sections.specs.Phases.{part_of, begun, next_phase, opener_ve
 use ud_model::{Cond, Verdict};
 
 /// What opens a group.
-#[derive(Clone, Copy, Debug, PartialEq, Eq)]
+#[derive(Clone, Copy, PartialEq, Eq)]
 pub(crate) enum Part {
     /// `#if`, `#ifdef` or `#ifndef`.
     AnIf,
@@ -18,7 +18,7 @@ pub(crate) enum Part {
 }
 
 /// What the conditions of a section's groups so far tell of its last group and of what follows.
-#[derive(Clone, Copy, Debug, PartialEq, Eq)]
+#[derive(Clone, Copy, PartialEq, Eq)]
 pub(crate) enum Phase {
     /// The section lies in a removed place.
     Dead,

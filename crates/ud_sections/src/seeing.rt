@@ -22,7 +22,7 @@ use ud_model::{Cond, Role, Settings};
 use ud_text::Scan;
 
 /// What is kept of a line while it is judged.
-#[derive(Clone, Copy, Debug, PartialEq, Eq)]
+#[derive(Clone, Copy)]
 pub(crate) struct Seen {
     /// What it is among the sections.
     pub shape: Shape,

@@ -3,7 +3,7 @@
 use ud_model::Cond;
 
 /// What a line is among the sections, with what is decided of its condition.
-#[derive(Clone, Copy, Debug, PartialEq, Eq)]
+#[derive(Clone, Copy)]
 pub(crate) enum Shape {
     /// A text line.
     Text,
