@@ -1,5 +1,6 @@
 # make            proves the crates, builds the program and copies it to ./unifdef
 # make check      the merge gate: every proof from nothing, the edits that must be refused, the tests, the stored run
+# make edits      tries the wrong bodies in edits/, which the gate leaves out; CRATES='NAME ..' those of some crates
 # make examples   runs the examples of README.md and docs/EXAMPLES.md with ./unifdef
 # make differences  runs what the manual says of the released unifdef, with both programs
 # make faults     runs ./unifdef with failing streams, refused memory and a small stack (faults/README.md)
@@ -37,7 +38,7 @@ SOURCES := crates.txt HANDLES \
 	$(shell find crates -name out -prune -o \( -name '*.rt' -o -name '*.antt' \) -print)
 
 .DELETE_ON_ERROR:
-.PHONY: all build kit check examples differences faults fail-alloc tree-test install uninstall dist deb packages-test manuals
+.PHONY: all build kit check edits examples differences faults fail-alloc tree-test install uninstall dist deb packages-test manuals
 .PHONY: around bench bench-text bench-conditions pictures trees selects hostile fronts clean
 
 all: build
@@ -55,6 +56,9 @@ unifdef: $(SOURCES) | kit
 
 check: kit
 	@$(RT) ci
+
+edits: kit
+	RT='$(RT)' edits/run.sh $(CRATES)
 
 examples: unifdef
 	@examples/run.sh README.md
