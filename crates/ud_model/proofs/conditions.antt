@@ -2,6 +2,9 @@
 pub mod Readings
 pub mod SymbolLemmas
 pub mod ConditionLemmas
+pub mod NamedAlike
+pub mod StrictLess
+pub mod NeverTurns
 pub mod KnownNumbers
 pub mod KnownStays
 pub mod ParsingComplete

@@ -41,5 +41,17 @@ pub mod SeenLines
 pub mod PrunedOpeners
 pub mod AnswerLaws
 pub mod WorldsExist
+pub mod ListComplete
+pub mod BlankedLines
+pub mod SharedLines
+pub mod LoneLines
+pub mod Weaving
+pub mod CountedLines
+pub mod CountedText
+pub mod ListAnswers
+pub mod WovenTree
+pub mod WovenText
+pub mod WovenSelected
+pub mod ListWords
 pub mod ReachedPruned
 pub mod ReachedAlike

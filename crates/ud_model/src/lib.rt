@@ -12,6 +12,7 @@ mod kind;
 pub mod laws;
 mod limits;
 mod operator;
+pub mod option_laws;
 pub mod output_laws;
 mod settings;
 mod verdict;

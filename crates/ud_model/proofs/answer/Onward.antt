@@ -115,7 +115,7 @@ read_so_far_lines (breaks xs t f h b) = sound_lines h.sound
 read_so_far_lines (goes_on xs t h n) = sound_lines h.sound
 
 -- lines and further ones, with their marks
-judged_more : (xs ys : List (Item Reading)) (ms ns : List Mark) → length xs ≡ length ms →
+pub judged_more : (xs ys : List (Item Reading)) (ms ns : List Mark) → length xs ≡ length ms →
     judged_lines (xs ++ ys) (ms ++ ns) ≡ judged_lines xs ms ++ judged_lines ys ns
 judged_more [] ys [] ns e = refl
 judged_more [] ys (m ∷ ms) ns e = absurd (omega arith)

@@ -16,7 +16,7 @@ use Rattle.ud_model.proofs.output.Changed.{changed}
 use Rattle.ud_model.proofs.output.RereadLaws.{runs_output, c_selected_again}
 
 -- a run whose status isn't 2 has no fault
-faultless : (s : Settings) (d : Bool) (f : Option Fault) → status_of s d f ≢ 2 → f ≡ None
+pub faultless : (s : Settings) (d : Bool) (f : Option Fault) → status_of s d f ≢ 2 → f ≡ None
 faultless s d None n = refl
 faultless s d (Some f) n = absurd (n refl)
 

@@ -197,12 +197,12 @@ by_ends : (l : List ℕ) (a b : Bool) → ends_with nat_eq l (13 ∷ 10 ∷ []) 
 by_ends l a b e f = ap₂ (λ (x y : Bool). if x then 13 ∷ 10 ∷ [] else if y then 10 ∷ [] else []) e f
 
 -- the ending of a body and an ending
-ending_both : (b : List ℕ) → ending_of (b ++ 13 ∷ 10 ∷ []) ≡ 13 ∷ 10 ∷ []
+pub ending_both : (b : List ℕ) → ending_of (b ++ 13 ∷ 10 ∷ []) ≡ 13 ∷ 10 ∷ []
 ending_both b =
     by_ends (b ++ 13 ∷ 10 ∷ []) true (ends_with nat_eq (b ++ 13 ∷ 10 ∷ []) (10 ∷ []))
     ((ends_is Decides-eqb (b ++ 13 ∷ 10 ∷ []) (13 ∷ 10 ∷ []) (ends_with nat_eq (b ++ 13 ∷ 10 ∷ []) (13 ∷ 10 ∷ [])) refl).1 b refl) refl
 
-ending_feed : (b : List ℕ) → (EndsIn 13 b → ⊥) → ending_of (b ++ 10 ∷ []) ≡ 10 ∷ []
+pub ending_feed : (b : List ℕ) → (EndsIn 13 b → ⊥) → ending_of (b ++ 10 ∷ []) ≡ 10 ∷ []
 unfolding EndsIn
 ending_feed b n =
     by_ends (b ++ 10 ∷ []) false true
@@ -217,7 +217,7 @@ feed_inside_both : (f : List ℕ) → NoFeed (f ++ 13 ∷ 10 ∷ []) → ⊥
 feed_inside_both [] h = h.1.0 refl
 feed_inside_both (x ∷ f) h = feed_inside_both f h.1
 
-ending_none : (b : List ℕ) → NoFeed b → ending_of b ≡ []
+pub ending_none : (b : List ℕ) → NoFeed b → ending_of b ≡ []
 ending_none b n =
     by_ends b false false (test_false b (13 ∷ 10 ∷ []) (λ f e. feed_inside_both f (subst NoFeed e n))) (test_false b (10 ∷ []) (λ f e. feed_inside f (subst NoFeed e n)))
 

@@ -25,10 +25,10 @@ line_in (else_line l) = l
 line_in (endif_line l) = l
 
 -- what is left of a line: nothing, or one item, whose bytes are the line's piece
-LeftOne : Verdict → Item Reading → Type 0
+unfoldable pub LeftOne : Verdict → Item Reading → Type 0
 LeftOne v x = (y : Item (Edited Reading)) × (left_item v x ≡ y ∷ []) × (edited_bytes (line_in y) ≡ piece_by v (keyword_in (content_of (reading_of x).scan)) (line_of x)) × IsLeft v
 
-left_one : (v : Verdict) (x : Item Reading) → (v ≡ Remove) ⊎ LeftOne v x
+pub left_one : (v : Verdict) (x : Item Reading) → (v ≡ Remove) ⊎ LeftOne v x
 unfolding LeftOne
 left_one Remove x = inl refl
 left_one ToIf (elif_line p) = inr (if_line (edited_opener ToIf p), refl, refl, tt)
@@ -52,7 +52,7 @@ left_one ToEndif (text_line l) = inr (text_line (edited ToEndif l), refl, refl, 
 left_one ToEndif (if_line p) = inr (if_line (edited_opener ToEndif p), refl, refl, tt)
 left_one ToEndif (endif_line l) = inr (endif_line (edited ToEndif l), refl, refl, tt)
 
-all_pieces : List (Item (Edited Reading)) → List (List ℕ)
+unfoldable pub all_pieces : List (Item (Edited Reading)) → List (List ℕ)
 all_pieces ys = map (λ y. edited_bytes (line_in y)) ys
 
 -- no more lines are left than there are
@@ -92,7 +92,7 @@ formed_last v x n t e w = go (left_one v x)
         subst (λ (ys : List (Item (Edited Reading))). AreFormed (all_pieces (ys ++ []))) (sym is)
         (subst (λ (q : List ℕ). IsWhole q ⊎ IsUnended q) (sym (bytes ∙ ap (λ (l : Line). piece_by v (keyword_in (content_of (reading_of x).scan)) l) e)) (piece w left))
 
-all_formed : (xs : List (Item Reading)) (ms : List Mark) (n : ℕ) (ts : List (List ℕ)) → map line_of xs ≡ numbered_from n ts → AreFormed ts → AreFormed (all_pieces (printed xs ms))
+pub all_formed : (xs : List (Item Reading)) (ms : List Mark) (n : ℕ) (ts : List (List ℕ)) → map line_of xs ≡ numbered_from n ts → AreFormed ts → AreFormed (all_pieces (printed xs ms))
 unfolding all_pieces
 all_formed [] ms n ts e f = tt
 all_formed (x ∷ xs) [] n ts e f = tt

@@ -23,10 +23,10 @@ AllButLast (l ∷ []) = IsLine l
 AllButLast (l ∷ k ∷ ls) = (HasEnd l × IsLine l) × AllButLast (k ∷ ls)
 
 -- a line that was cut from a text, and has an ending
-abbrev IsInner : Line → Type 0
+abbrev pub IsInner : Line → Type 0
 IsInner l = HasEnd l × IsLine l
 
-ends_before : (ls : List Line) (l : Line) → AllButLast (ls ++ l ∷ []) → Each IsInner ls × IsLine l
+pub ends_before : (ls : List Line) (l : Line) → AllButLast (ls ++ l ∷ []) → Each IsInner ls × IsLine l
 ends_before [] l h = (tt, h)
 ends_before (k ∷ []) l h = ((h.0, tt), h.1)
 ends_before (k ∷ m ∷ ls) l h = let r : Each IsInner (m ∷ ls) × IsLine l = ends_before (m ∷ ls) l h.1 in ((h.0, r.0), r.1)
@@ -42,7 +42,7 @@ lines_end n (t ∷ []) f = (n, t, refl, f)
 lines_end n (t ∷ u ∷ ts) f = ((some_end (ending_of t) (whole_ending t f.0), (n, t, refl, inl f.0)), lines_end (suc n) (u ∷ ts) f.1)
 
 module _ (o : Options) (p : IsPlain o) where
-  next_is : (xs : List (Item Reading)) (t : Tree Reading) (l : Line) → AreSound o xs t → next_item o xs t l ≡ item_of o (read_after xs (the_mode o) l)
+  pub next_is : (xs : List (Item Reading)) (t : Tree Reading) (l : Line) → AreSound o xs t → next_item o xs t l ≡ item_of o (read_after xs (the_mode o) l)
   next_is xs t l s = ap (λ (m : Mode). item_of o (read_after xs m l)) (one_mode o p.none_ignores xs t (sound_lines s) (sound_heed o p.none_ignores xs t s))
 
   -- the last line of longer ones
@@ -53,7 +53,7 @@ module _ (o : Options) (p : IsPlain o) where
       subst (λ (x : Item Reading). (zs : List (Item Reading)) × Again o (the_mode o) (xs ++ x ∷ []) u zs × (HasEnd l → Between o (the_mode o) (xs ++ x ∷ []) u zs)) (sym (next_is xs t l s))
       (step o (the_mode o) xs t (sound_lines s) ys b l u i (e ∙ ap (λ (x : Item Reading). xs ++ x ∷ []) (next_is xs t l s)) (subst (λ (x : Item Reading). NoneHolds xs x cases) (next_is xs t l s) n))
 
-  line_last : (xs : List (Item Reading)) (t : Tree Reading) (l : Line) → map line_of (xs ++ next_item o xs t l ∷ []) ≡ map line_of xs ++ l ∷ []
+  pub line_last : (xs : List (Item Reading)) (t : Tree Reading) (l : Line) → map line_of (xs ++ next_item o xs t l ∷ []) ≡ map line_of xs ++ l ∷ []
   line_last xs t l = map-append line_of xs (next_item o xs t l ∷ []) ∙ ap (λ k. map line_of xs ++ k ∷ []) (reading_of-next o xs t l)
 
   between : (xs : List (Item Reading)) (t : Tree Reading) → AreSound o xs t → Each IsInner (map line_of xs) → (ys : List (Item Reading)) × Between o (the_mode o) xs t ys

@@ -63,7 +63,7 @@ left_bytes v (elif_line p) = append-nil (edited_bytes (edited v p.line))
 left_bytes v (else_line l) = append-nil (edited_bytes (edited v l))
 left_bytes v (endif_line l) = append-nil (edited_bytes (edited v l))
 
-abbrev left_piece : Item (Edited Reading) → List ℕ
+abbrev pub left_piece : Item (Edited Reading) → List ℕ
 left_piece y = edited_bytes (line_in y)
 
 printed_bytes : (xs : List (Item Reading)) (ms : List Mark) → concat (map left_piece (printed xs ms)) ≡ concat (map (lone false false) (judged_lines xs ms))
@@ -75,7 +75,7 @@ printed_bytes (x ∷ xs) (m ∷ ms) =
     ∙ ap₂ (λ (a b : List ℕ). a ++ b) (left_bytes m.verdict x) (printed_bytes xs ms)
 
 -- without options the pieces are what is left
-plain_output : (o : Options) → IsPlain o → (xs : List (Item Reading)) (ms : List Mark) → printed_by o.settings xs ms ≡ concat (map left_piece (printed xs ms))
+pub plain_output : (o : Options) → IsPlain o → (xs : List (Item Reading)) (ms : List Mark) → printed_by o.settings xs ms ≡ concat (map left_piece (printed xs ms))
 plain_output o p xs ms =
     ap (λ (l : List (List ℕ)). concat l)
     (pieces_lone o.settings.blank o.settings.complement o.settings.renumber [] (judged_lines xs ms) p.unnumbered
@@ -104,7 +104,7 @@ map_readings : (ys : List (Item Reading)) → map (λ y. line_bytes (reading_of 
 map_readings [] = refl
 map_readings (y ∷ ys) = ap₂ (λ (a : List ℕ) (b : List (List ℕ)). a ∷ b) (ap line_bytes (line_read y)) (map_readings ys)
 
-item_bytes : (ys : List (Item Reading)) (zs : List (Item (Edited Reading))) → map (item_with seen) ys ≡ map (item_with left_seen) zs →
+pub item_bytes : (ys : List (Item Reading)) (zs : List (Item (Edited Reading))) → map (item_with seen) ys ≡ map (item_with left_seen) zs →
     map (λ y. line_bytes (reading_of y)) ys ≡ map left_piece zs
 item_bytes ys zs e =
     let bytes : List Seen → List (List ℕ) = map (λ (s : Seen). s.bytes) in

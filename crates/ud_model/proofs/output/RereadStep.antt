@@ -38,14 +38,14 @@ use Rattle.ud_model.proofs.sections.Unique as Trees
 abbrev Stepped : Options → Mode → List (Item Reading) → Tree Reading → Line → List (Item Reading) → Type 0
 Stepped o m xs u l zs = Again o m (xs ++ item_of o (read_after xs m l) ∷ []) u zs × (HasEnd l → Between o m (xs ++ item_of o (read_after xs m l) ∷ []) u zs)
 
-goes_or_left : (v : Verdict) → (v ≡ Remove) ⊎ IsLeft v
+pub goes_or_left : (v : Verdict) → (v ≡ Remove) ⊎ IsLeft v
 goes_or_left Remove = inl refl
 goes_or_left Keep = inr tt
 goes_or_left ToIf = inr tt
 goes_or_left ToElse = inr tt
 goes_or_left ToEndif = inr tt
 
-left_stays : (v : Verdict) → IsLeft v → is_removed v ≡ false
+pub left_stays : (v : Verdict) → IsLeft v → is_removed v ≡ false
 left_stays Remove h = absurd h
 left_stays Keep h = refl
 left_stays ToIf h = refl
@@ -53,7 +53,7 @@ left_stays ToElse h = refl
 left_stays ToEndif h = refl
 
 -- in plain mode no lines join
-plain_run : (o : Options) (ys : List (Item Reading)) → ReadIn o Plain ys → run_of (map reading_of ys) ≡ []
+pub plain_run : (o : Options) (ys : List (Item Reading)) → ReadIn o Plain ys → run_of (map reading_of ys) ≡ []
 plain_run o _ none_read = refl
 plain_run o _ (one_read ys r l) = ap run_of (readings_last o ys ys Plain l) ∙ run_of_last (map reading_of ys) (read_after ys Plain l)
 
@@ -63,14 +63,14 @@ plain_calm o _ (one_read ys r l) =
     last_comment ys (item_of o (read_after ys Plain l)) ∙ ap (λ (q : Reading). is_in_block q.scan.comment) (reading_of-item_of o (read_after ys Plain l))
 
 -- what is known of a line more
-record More (o : Options) (m : Mode) (xs : List (Item Reading)) (t : Tree Reading) (l : Line) (u : Tree Reading) : Type 0 where
+pub record More (o : Options) (m : Mode) (xs : List (Item Reading)) (t : Tree Reading) (l : Line) (u : Tree Reading) : Type 0 where
   pub grown : Grows true t u (item_of o (read_after xs m l))
   pub more : marks u ≡ marks t ++ grown.mark ∷ []
   pub long : length xs ≡ length (marks t)
   pub unspoiled : is_spoiled_behind (ends_removed (marks t)) (item_of o (read_after xs m l)) grown.mark ≡ false
   pub uncut : is_cut (content_of (scan_after (map reading_of xs) m l)) ≡ false
 
-the_more : (o : Options) (m : Mode) (xs : List (Item Reading)) (t : Tree Reading) (l : Line) (u : Tree Reading) → lines t ≡ xs → lines u ≡ xs ++ item_of o (read_after xs m l) ∷ [] →
+pub the_more : (o : Options) (m : Mode) (xs : List (Item Reading)) (t : Tree Reading) (l : Line) (u : Tree Reading) → lines t ≡ xs → lines u ≡ xs ++ item_of o (read_after xs m l) ∷ [] →
     NoneHolds xs (item_of o (read_after xs m l)) cases → More o m xs t l u
 the_more o m xs t l u q e n =
     let x : Item Reading = item_of o (read_after xs m l) in
@@ -213,7 +213,7 @@ module _ (o : Options) (xs : List (Item Reading)) (t : Tree Reading) (ys : List 
       )
 
   -- if this line goes, the one before joins nothing or has gone
-  stayed_alone : (w : Place) (white on : Bool) → LeavesOff xs w white on → (on ≡ true → ends_removed (marks t) ≡ false) → k.grown.mark.verdict ≡ Remove → on ≡ false
+  pub stayed_alone : (w : Place) (white on : Bool) → LeavesOff xs w white on → (on ≡ true → ends_removed (marks t) ≡ false) → k.grown.mark.verdict ≡ Remove → on ≡ false
   stayed_alone w white false a f e = refl
   stayed_alone w white true a f e =
       let p : true ≡ false = sym (ap is_removed e) ∙ both_alike (sym a.joins_on) ∙ f refl in cc

@@ -1,0 +1,150 @@
+-- Conditions: tables that say the same of each name of a condition, and of those to which these lead, decide the same.
+use Rattle.std.proofs.Common.{◌≡◌, ℕ, List, [], Bool, true, false, not, ◌&&◌, ◌||◌, Option, Some, None, is_some, if◌then◌else◌, refl, sym, ◌∙◌, ap, ap₂}
+use Rattle.ud_model.specs.text.Bytes.{is_identifier}
+use Rattle.ud_model.specs.text.Scans.{Scan, Reading}
+use Rattle.ud_model.specs.sections.Directives.{Directive, Content, cut_keyword, directive, text, role_of, test_of}
+use Rattle.ud_model.specs.conditions.Table.{Argument, Entry, entry_in}
+use Rattle.ud_model.specs.conditions.Symbols.{defined_text, text_in, EndsAt, at_text, by_name, end_of}
+use Rattle.ud_model.specs.conditions.Expressions.{Expression, constant, named, is_defined, unary, binary, parens}
+use Rattle.ud_model.specs.aids.Parsing.{expression_of}
+use Rattle.ud_model.specs.conditions.Values.{alter, combine, name_value, name_value_by, name_has_u, end_has_u, defined_value, defined_value_by, number_of, has_unsigned, value_of}
+use Rattle.ud_model.specs.conditions.Conditions.{Rules, names_listed, undefined_by, calls_undefined, tree_cond, tree_cond_if, expression_cond, decided_by, begins_section, condition_of, decision_on, Decision, sole_name, ifdef_by, ifdef_decision, negated, undecided}
+use Rattle.ud_model.specs.conditions.Names.{names_in, names_in_tree, name_alone, names_by, names_of, names_on}
+use Rattle.ud_model.specs.sections.Items.{Options, rules_of, item_by, directive_item}
+use Rattle.ud_model.specs.answer.Listing.{names_in_content}
+use Rattle.ud_model.specs.output.Naming.{LeadsTo, itself, by_value}
+use Rattle.ud_model.specs.declared.cond.Cond.{Cond}
+use Rattle.ud_model.specs.declared.kind.Kind.{Kind}
+use Rattle.ud_model.specs.declared.kind.Test.{Test}
+use Rattle.ud_model.specs.declared.kind.Test.TheVariants.{Nonzero, Defined, Undefined, Nothing}
+use Rattle.ud_model.proofs.conditions.SymbolLemmas.{end_found, end_is}
+use Rattle.ud_model.proofs.output.Each.{Each, each_parts}
+
+same_by : {A : Type 0} (o p : Option A) → ((x : A) → o ≡ Some x → p ≡ Some x) → ((x : A) → p ≡ Some x → o ≡ Some x) → o ≡ p
+same_by (Some x) p f g = sym (f x refl)
+same_by None None f g = refl
+same_by None (Some x) f g = g x refl
+
+module _ (t u : List Argument) where
+  -- the tables say the same of the name, and of each to which it leads
+  abbrev pub Alike : List ℕ → Type 0
+  Alike n = (m : List ℕ) → LeadsTo t n m → entry_in t m ≡ entry_in u m
+
+  further : (n v : List ℕ) → Alike n → defined_text t n ≡ Some v → is_identifier v ≡ true → Alike v
+  further n v h d i m l = h m (by_value n v m d i l)
+
+  ends_over : (n v : List ℕ) → Alike n → EndsAt t n v → EndsAt u n v
+  ends_over n v h (at_text _ _ d i) = at_text n v (ap text_in (sym (h n (itself n))) ∙ d) i
+  ends_over n v h (by_name _ m _ d i e) = by_name n m v (ap text_in (sym (h n (itself n))) ∙ d) i (ends_over m v (further n m h d i) e)
+
+  ends_back : (n v : List ℕ) → Alike n → EndsAt u n v → EndsAt t n v
+  ends_back n v h (at_text _ _ d i) = at_text n v (ap text_in (h n (itself n)) ∙ d) i
+  ends_back n v h (by_name _ m _ d i e) =
+      let d' : defined_text t n ≡ Some m = ap text_in (h n (itself n)) ∙ d in
+      by_name n m v d' i (ends_back m v (further n m h d' i) e)
+
+  -- its value ends at the same text
+  end_alike : (n : List ℕ) → Alike n → end_of t n ≡ end_of u n
+  end_alike n h =
+      same_by (end_of t n) (end_of u n) (λ v e. end_found u n v (ends_over n v h (end_is t n v e))) (λ v e. end_found t n v (ends_back n v h (end_is u n v e)))
+
+  name_value_alike : (b : Bool) (n : List ℕ) → Alike n → name_value t b n ≡ name_value u b n
+  unfolding name_value
+  name_value_alike b n h = ap₂ (name_value_by b) (end_alike n h) (h n (itself n))
+
+  name_has_u_alike : (n : List ℕ) → Alike n → name_has_u t n ≡ name_has_u u n
+  unfolding name_has_u
+  name_has_u_alike n h = ap end_has_u (end_alike n h)
+
+  defined_value_alike : (n : List ℕ) → Alike n → defined_value t n ≡ defined_value u n
+  unfolding defined_value
+  defined_value_alike n h = ap defined_value_by (h n (itself n))
+
+  number_of_alike : (strict b : Bool) (e : Expression) → Each Alike (names_in e) → number_of t strict b e ≡ number_of u strict b e
+  number_of_alike strict b (constant w) h = refl
+  number_of_alike strict b (named n a) h = name_value_alike b n h.0
+  number_of_alike strict b (is_defined n p) h = defined_value_alike n h.0
+  number_of_alike strict b (unary o x) h = ap (alter b o) (number_of_alike strict b x h)
+  number_of_alike strict b (binary o x y) h =
+      let p : Each Alike (names_in x) × Each Alike (names_in y) = each_parts Alike (names_in x) (names_in y) h in
+      ap₂ (combine strict b o) (number_of_alike strict b x p.0) (number_of_alike strict b y p.1)
+  number_of_alike strict b (parens x) h = number_of_alike strict b x h
+
+  has_unsigned_alike : (e : Expression) → Each Alike (names_in e) → has_unsigned t e ≡ has_unsigned u e
+  has_unsigned_alike (constant w) h = refl
+  has_unsigned_alike (named n a) h = name_has_u_alike n h.0
+  has_unsigned_alike (is_defined n p) h = refl
+  has_unsigned_alike (unary o x) h = has_unsigned_alike x h
+  has_unsigned_alike (binary o x y) h =
+      let p : Each Alike (names_in x) × Each Alike (names_in y) = each_parts Alike (names_in x) (names_in y) h in
+      ap₂ (λ (a : Bool) (b : Bool). a || b) (has_unsigned_alike x p.0) (has_unsigned_alike y p.1)
+  has_unsigned_alike (parens x) h = has_unsigned_alike x h
+
+  names_listed_alike : (e : Expression) → Each Alike (names_in e) → names_listed t e ≡ names_listed u e
+  names_listed_alike (constant w) h = refl
+  names_listed_alike (named n a) h = ap is_some (h.0 n (itself n))
+  names_listed_alike (is_defined n p) h = ap is_some (h.0 n (itself n))
+  names_listed_alike (unary o x) h = names_listed_alike x h
+  names_listed_alike (binary o x y) h =
+      let p : Each Alike (names_in x) × Each Alike (names_in y) = each_parts Alike (names_in x) (names_in y) h in
+      ap₂ (λ (a : Bool) (b : Bool). a || b) (names_listed_alike x p.0) (names_listed_alike y p.1)
+  names_listed_alike (parens x) h = names_listed_alike x h
+
+  calls_undefined_alike : (e : Expression) → Each Alike (names_in e) → calls_undefined t e ≡ calls_undefined u e
+  calls_undefined_alike (constant w) h = refl
+  calls_undefined_alike (named n a) h = ap (λ (o : Option Entry). a && undefined_by o) (h.0 n (itself n))
+  calls_undefined_alike (is_defined n p) h = refl
+  calls_undefined_alike (unary o x) h = calls_undefined_alike x h
+  calls_undefined_alike (binary o x y) h =
+      let p : Each Alike (names_in x) × Each Alike (names_in y) = each_parts Alike (names_in x) (names_in y) h in
+      ap₂ (λ (a : Bool) (b : Bool). a || b) (calls_undefined_alike x p.0) (calls_undefined_alike y p.1)
+  calls_undefined_alike (parens x) h = calls_undefined_alike x h
+
+  value_of_alike : (strict : Bool) (e : Expression) → Each Alike (names_in e) → value_of t strict e ≡ value_of u strict e
+  value_of_alike strict e h = ap (λ (b : Bool). number_of t strict b e) (has_unsigned_alike e h) ∙ number_of_alike strict (has_unsigned u e) e h
+
+  tree_cond_alike : (e : Expression) (rules : Rules) → Each Alike (names_in e) → tree_cond e t rules ≡ tree_cond e u rules
+  tree_cond_alike e rules h = rw (calls_undefined_alike e h, names_listed_alike e h, value_of_alike rules.strict e h)
+
+  tree_cond_if_alike : (o : Option Expression) (rules : Rules) → Each Alike (names_in_tree o) → tree_cond_if o t rules ≡ tree_cond_if o u rules
+  tree_cond_if_alike None rules h = refl
+  tree_cond_if_alike (Some e) rules h = tree_cond_alike e rules h
+
+  expression_cond_alike : (after : List ℕ) (rules : Rules) → Each Alike (names_in_tree (expression_of after)) → expression_cond after t rules ≡ expression_cond after u rules
+  unfolding expression_cond
+  expression_cond_alike after rules h = tree_cond_if_alike (expression_of after) rules h
+
+  ifdef_decision_alike : (o : Option (List ℕ)) → Each Alike (name_alone o) → ifdef_decision o t ≡ ifdef_decision o u
+  ifdef_decision_alike None h = refl
+  ifdef_decision_alike (Some n) h = ap ifdef_by (h.0 n (itself n))
+
+  decided_by_alike : (p : Test) (after : List ℕ) (rules : Rules) → Each Alike (names_by p after) → decided_by p after t rules ≡ decided_by p after u rules
+  decided_by_alike Nonzero after rules h = ap (λ (c : Cond). record { cond = c; ignoring = false }) (expression_cond_alike after rules h)
+  decided_by_alike Defined after rules h = ifdef_decision_alike (sole_name after) h
+  decided_by_alike Undefined after rules h = ap (λ (d : Decision). record d { cond = negated d.cond }) (ifdef_decision_alike (sole_name after) h)
+  decided_by_alike Nothing after rules h = refl
+
+  condition_of_alike : (k : Kind) (after : List ℕ) (rules : Rules) → Each Alike (names_of k after) → condition_of k after t rules ≡ condition_of k after u rules
+  condition_of_alike k after rules h =
+      ap (λ (d : Decision). record d { ignoring = begins_section (role_of k) && d.ignoring }) (decided_by_alike (test_of k) after rules h)
+
+  -- the decision as it is, unless a continuation cuts the directive
+  abbrev unless_cut : Bool → Bool → Decision → Decision
+  unless_cut broken joins d = if broken then undecided else record d { ignoring = d.ignoring && not joins }
+
+  unless_cut_alike : (broken joins : Bool) (k : Kind) (after : List ℕ) (rules : Rules) → Each Alike (if broken then [] else names_of k after) →
+      unless_cut broken joins (condition_of k after t rules) ≡ unless_cut broken joins (condition_of k after u rules)
+  unless_cut_alike true joins k after rules h = refl
+  unless_cut_alike false joins k after rules h = ap (λ (d : Decision). record d { ignoring = d.ignoring && not joins }) (condition_of_alike k after rules h)
+
+  decision_alike : (scan : Scan) (d : Directive) (rules : Rules) → Each Alike (names_on d) → decision_on scan d t rules ≡ decision_on scan d u rules
+  decision_alike scan d rules h = unless_cut_alike d.broken scan.joins_after d.kind d.after rules h
+
+module _ (o p : Options) (same : rules_of o.settings ≡ rules_of p.settings) where
+  -- a line is the same item if the tables agree on its names
+  pub item_alike : (r : Reading) (c : Content) → Each (Alike o.table p.table) (names_in_content c) → item_by o r c ≡ item_by p r c
+  item_alike r cut_keyword h = refl
+  item_alike r text h = refl
+  item_alike r (directive d) h =
+      ap (λ (e : Decision). directive_item r (role_of d.kind) e)
+      (decision_alike o.table p.table r.scan d (rules_of o.settings) h ∙ ap (λ (q : Rules). decision_on r.scan d p.table q) same)

@@ -1,0 +1,297 @@
+-- A table that says more leaves a known value as it is, or makes it unknown.
+use Rattle.std.proofs.Common.{◌≡◌, ◌≢◌, ℕ, List, [], ◌∷◌, Bool, true, false, not, ◌&&◌, ◌||◌, ◌==◌, Option, Some, None, if◌then◌else◌, ◌⊎◌, inl, inr, ℤ, pos, ◌+ℤ◌, ◌-ℤ◌, ◌*ℤ◌, neg_ℤ, int_div, int_rem, bit_and, bit_or, bit_xor, refl, sym, ◌∙◌, ap, ap₂, subst}
+use Rattle.std.proofs.lemmas.Option.{none-some}
+use Rattle.ud_model.specs.conditions.Table.{Argument, Entry, entry_in}
+use Rattle.ud_model.specs.conditions.Constants.{is_constant}
+use Rattle.ud_model.specs.conditions.Symbols.{defined_text, text_in, EndsAt, at_text, by_name, end_of}
+use Rattle.ud_model.specs.conditions.Expressions.{Expression, constant, named, is_defined, unary, binary, parens}
+use Rattle.ud_model.specs.conditions.Values.{fits, fit, truth, is_zero, by_bits, operate, decided, decides, combine, change, alter, constant_value, negated_value, text_value, end_value, defined_name_value, name_value_by, name_value, defined_value_by, defined_value, number_of, has_unsigned, value_of}
+use Rattle.ud_model.specs.conditions.Conditions.{Rules, names_listed, calls_undefined, truth_of, tree_cond}
+use Rattle.ud_model.specs.output.Naming.{SaysMore}
+use Rattle.ud_model.specs.declared.cond.Cond.{Cond}
+use Rattle.ud_model.specs.declared.cond.Cond.TheVariants.{Unknown}
+use Rattle.ud_model.specs.declared.operator.Operator.{Operator}
+use Rattle.ud_model.specs.declared.operator.Operator.TheVariants.{Or, And, BitOr, BitXor, BitAnd, Equal, NotEqual, Less, LessEqual, Greater, GreaterEqual, Plus, Minus, Times, Over, Remainder, Not, Complement}
+use Rattle.ud_model.proofs.conditions.SymbolLemmas.{end_found, end_is}
+
+-- it stays, or is unknown
+abbrev Or_none : ℤ → Option ℤ → Type 0
+Or_none z b = (b ≡ Some z) ⊎ (b ≡ None)
+
+abbrev After : Option ℤ → Option ℤ → Type 0
+After a b = (z : ℤ) → a ≡ Some z → Or_none z b
+
+same_after : (a : Option ℤ) → After a a
+same_after a z e = inl e
+
+if_after : (a b : Bool) (k : ℤ) → After (if a then Some k else None) (if b then Some k else None)
+if_after true true k z e = inl e
+if_after true false k z e = inr refl
+if_after false b k z e = absurd (none-some z e)
+
+fit_after : (b c : Bool) (k : ℤ) → After (fit b k) (fit c k)
+fit_after b c k = if_after (fits b k) (fits c k) k
+
+unless_after : (d : Bool) (a b : Option ℤ) → After a b → After (if d then None else a) (if d then None else b)
+unless_after true a b h z e = absurd (none-some z e)
+unless_after false a b h z e = h z e
+
+when_after : (c d : Bool) (a b : Option ℤ) → After a b → After (if c then a else None) (if d then b else None)
+when_after false d a b h z e = absurd (none-some z e)
+when_after true true a b h z e = h z e
+when_after true false a b h z e = inr refl
+
+operate_after : (b c : Bool) (o : Operator) (x y : ℤ) → After (operate b o x y) (operate c o x y)
+unfolding operate
+operate_after b c Or x y = same_after (operate b Or x y)
+operate_after b c And x y = same_after (operate b And x y)
+operate_after b c BitOr x y = fit_after b c (by_bits bit_or x y)
+operate_after b c BitXor x y = fit_after b c (by_bits bit_xor x y)
+operate_after b c BitAnd x y = fit_after b c (by_bits bit_and x y)
+operate_after b c Equal x y = same_after (operate b Equal x y)
+operate_after b c NotEqual x y = same_after (operate b NotEqual x y)
+operate_after b c Less x y = same_after (operate b Less x y)
+operate_after b c LessEqual x y = same_after (operate b LessEqual x y)
+operate_after b c Greater x y = same_after (operate b Greater x y)
+operate_after b c GreaterEqual x y = same_after (operate b GreaterEqual x y)
+operate_after b c Plus x y = fit_after b c (x +ℤ y)
+operate_after b c Minus x y = fit_after b c (x -ℤ y)
+operate_after b c Times x y = fit_after b c (x *ℤ y)
+operate_after b c Over x y = unless_after (is_zero y) (fit b (int_div x y)) (fit c (int_div x y)) (fit_after b c (int_div x y))
+operate_after b c Remainder x y =
+    unless_after (is_zero y) (if fits b (int_div x y) then fit b (int_rem x y) else None) (if fits c (int_div x y) then fit c (int_rem x y) else None)
+    (when_after (fits b (int_div x y)) (fits c (int_div x y)) (fit b (int_rem x y)) (fit c (int_rem x y)) (fit_after b c (int_rem x y)))
+operate_after b c Not x y = same_after None
+operate_after b c Complement x y = same_after None
+
+change_after : (b c : Bool) (o : Operator) (x : ℤ) → After (change b o x) (change c o x)
+unfolding change
+change_after b c Or x = same_after None
+change_after b c And x = same_after None
+change_after b c BitOr x = same_after None
+change_after b c BitXor x = same_after None
+change_after b c BitAnd x = same_after None
+change_after b c Equal x = same_after None
+change_after b c NotEqual x = same_after None
+change_after b c Less x = same_after None
+change_after b c LessEqual x = same_after None
+change_after b c Greater x = same_after None
+change_after b c GreaterEqual x = same_after None
+change_after b c Plus x = same_after None
+change_after b c Minus x = fit_after b c (neg_ℤ x)
+change_after b c Times x = same_after None
+change_after b c Over x = same_after None
+change_after b c Remainder x = same_after None
+change_after b c Not x = same_after (change b Not x)
+change_after b c Complement x = fit_after b c (neg_ℤ x -ℤ pos 1)
+
+alter_after : (b c : Bool) (o : Operator) (x y : Option ℤ) → After x y → After (alter b o x) (alter c o y)
+alter_after b c o None y h z e = absurd (none-some z e)
+alter_after b c o (Some k) y h z e = by (h k refl)
+  where
+    by : Or_none k y → Or_none z (alter c o y)
+    by (inl f) = subst (λ (q : Option ℤ). Or_none z (alter c o q)) (sym f) (change_after b c o k z e)
+    by (inr f) = inr (ap (alter c o) f)
+
+-- 1. One operand that decides, and both.
+
+both_zero : (a b : Bool) → a ≡ true → Some (truth (not a && not b)) ≡ Some (pos 0)
+both_zero true b e = refl
+both_zero false b e = cc
+
+right_zero : (a b : Bool) → b ≡ true → Some (truth (not a && not b)) ≡ Some (pos 0)
+right_zero true true e = refl
+right_zero false true e = refl
+right_zero a false e = cc
+
+left_one : (a b : Bool) → a ≡ false → Some (truth (not a || not b)) ≡ Some (pos 1)
+left_one false b e = refl
+left_one true b e = cc
+
+right_one : (a b : Bool) → b ≡ false → Some (truth (not a || not b)) ≡ Some (pos 1)
+right_one true false e = refl
+right_one false false e = refl
+right_one a true e = cc
+
+-- what one operand decides
+data Decides : Operator → ℤ → Option ℤ → Type 0 where
+  by_none : {o : Operator} {x : ℤ} → Decides o x None
+  and_zero : {x : ℤ} → is_zero x ≡ true → Decides And x (Some (pos 0))
+  or_some : {x : ℤ} → is_zero x ≡ false → Decides Or x (Some (pos 1))
+
+and_by : (x : ℤ) (b : Bool) → is_zero x ≡ b → Decides And x (if b then Some (pos 0) else None)
+and_by x true e = and_zero e
+and_by x false e = by_none
+
+or_by : (x : ℤ) (b : Bool) → is_zero x ≡ b → Decides Or x (if b then None else Some (pos 1))
+or_by x true e = by_none
+or_by x false e = or_some e
+
+decided_is : (o : Operator) (x : ℤ) → Decides o x (decided o x)
+decided_is And x = and_by x (is_zero x) refl
+decided_is Or x = or_by x (is_zero x) refl
+decided_is BitOr x = by_none
+decided_is BitXor x = by_none
+decided_is BitAnd x = by_none
+decided_is Equal x = by_none
+decided_is NotEqual x = by_none
+decided_is Less x = by_none
+decided_is LessEqual x = by_none
+decided_is Greater x = by_none
+decided_is GreaterEqual x = by_none
+decided_is Plus x = by_none
+decided_is Minus x = by_none
+decided_is Times x = by_none
+decided_is Over x = by_none
+decided_is Remainder x = by_none
+decided_is Not x = by_none
+decided_is Complement x = by_none
+
+decides_is : (s : Bool) (o : Operator) (x : ℤ) → Decides o x (decides s o x)
+decides_is true o x = by_none
+decides_is false o x = decided_is o x
+
+-- where one operand decides, both give the same
+left_decides : (b : Bool) (o : Operator) (x y : ℤ) (d : Option ℤ) → Decides o x d → After d (operate b o x y)
+unfolding operate
+left_decides b o x y _ by_none z e = absurd (none-some z e)
+left_decides b _ x y _ (and_zero h) z e = inl (both_zero (is_zero x) (is_zero y) h ∙ e)
+left_decides b _ x y _ (or_some h) z e = inl (left_one (is_zero x) (is_zero y) h ∙ e)
+
+right_decides : (b : Bool) (o : Operator) (x y : ℤ) (d : Option ℤ) → Decides o y d → After d (operate b o x y)
+unfolding operate
+right_decides b o x y _ by_none z e = absurd (none-some z e)
+right_decides b _ x y _ (and_zero h) z e = inl (right_zero (is_zero x) (is_zero y) h ∙ e)
+right_decides b _ x y _ (or_some h) z e = inl (right_one (is_zero x) (is_zero y) h ∙ e)
+
+back : (a b : Option ℤ) → ((z : ℤ) → a ≡ Some z → b ≡ Some z) → After b a
+back None b h z e = inr refl
+back (Some k) b h z e = let f : b ≡ Some k = h k refl in let g : Some k ≡ Some z = sym f ∙ e in inl g
+
+left_back : (b : Bool) (o : Operator) (x y : ℤ) (d : Option ℤ) → Decides o x d → After (operate b o x y) d
+unfolding operate
+left_back b o x y _ by_none = back None (operate b o x y) (λ z e. absurd (none-some z e))
+left_back b _ x y _ (and_zero h) = back (Some (pos 0)) (operate b And x y) (λ z e. both_zero (is_zero x) (is_zero y) h ∙ e)
+left_back b _ x y _ (or_some h) = back (Some (pos 1)) (operate b Or x y) (λ z e. left_one (is_zero x) (is_zero y) h ∙ e)
+
+right_back : (b : Bool) (o : Operator) (x y : ℤ) (d : Option ℤ) → Decides o y d → After (operate b o x y) d
+unfolding operate
+right_back b o x y _ by_none = back None (operate b o x y) (λ z e. absurd (none-some z e))
+right_back b _ x y _ (and_zero h) = back (Some (pos 0)) (operate b And x y) (λ z e. right_zero (is_zero x) (is_zero y) h ∙ e)
+right_back b _ x y _ (or_some h) = back (Some (pos 1)) (operate b Or x y) (λ z e. right_one (is_zero x) (is_zero y) h ∙ e)
+
+-- two operands that decide decide the same
+two_decide : (o : Operator) (x y : ℤ) (d e : Option ℤ) → Decides o x d → Decides o y e → After d e
+two_decide o x y _ _ by_none k z f = absurd (none-some z f)
+two_decide _ x y _ _ (and_zero h) by_none z f = inr refl
+two_decide _ x y _ _ (and_zero h) (and_zero k) z f = inl f
+two_decide _ x y _ _ (or_some h) by_none z f = inr refl
+two_decide _ x y _ _ (or_some h) (or_some k) z f = inl f
+
+-- 2. Expressions.
+
+combine_after : (s b c : Bool) (o : Operator) (x y v w : Option ℤ) → After x v → After y w → After (combine s b o x y) (combine s c o v w)
+combine_after s b c o None None v w h k z e = absurd (none-some z e)
+combine_after s b c o (Some p) (Some q) v w h k z e = by (h p refl) (k q refl)
+  where
+    by : Or_none p v → Or_none q w → Or_none z (combine s c o v w)
+    by (inl f) (inl g) = subst (λ (d : Option ℤ). Or_none z d) (sym (ap₂ (combine s c o) f g)) (operate_after b c o p q z e)
+    by (inl f) (inr g) = subst (λ (d : Option ℤ). Or_none z d) (sym (ap₂ (combine s c o) f g)) (left_back b o p q (decides s o p) (decides_is s o p) z e)
+    by (inr f) (inl g) = subst (λ (d : Option ℤ). Or_none z d) (sym (ap₂ (combine s c o) f g)) (right_back b o p q (decides s o q) (decides_is s o q) z e)
+    by (inr f) (inr g) = inr (ap₂ (combine s c o) f g)
+combine_after s b c o (Some p) None v w h k z e = by (h p refl) w
+  where
+    by : Or_none p v → (d : Option ℤ) → Or_none z (combine s c o v d)
+    by (inl f) None = inl (ap (λ (d : Option ℤ). combine s c o d None) f ∙ e)
+    by (inl f) (Some q) = subst (λ (d : Option ℤ). Or_none z d) (sym (ap (λ (d : Option ℤ). combine s c o d (Some q)) f)) (left_decides c o p q (decides s o p) (decides_is s o p) z e)
+    by (inr f) None = inr (ap (λ (d : Option ℤ). combine s c o d None) f)
+    by (inr f) (Some q) = subst (λ (d : Option ℤ). Or_none z d) (sym (ap (λ (d : Option ℤ). combine s c o d (Some q)) f))
+        (two_decide o p q (decides s o p) (decides s o q) (decides_is s o p) (decides_is s o q) z e)
+combine_after s b c o None (Some q) v w h k z e = by (k q refl) v
+  where
+    by : Or_none q w → (d : Option ℤ) → Or_none z (combine s c o d w)
+    by (inl f) None = inl (ap (λ (d : Option ℤ). combine s c o None d) f ∙ e)
+    by (inl f) (Some p) = subst (λ (d : Option ℤ). Or_none z d) (sym (ap (λ (d : Option ℤ). combine s c o (Some p) d) f)) (right_decides c o p q (decides s o q) (decides_is s o q) z e)
+    by (inr f) None = inr (ap (λ (d : Option ℤ). combine s c o None d) f)
+    by (inr f) (Some p) = subst (λ (d : Option ℤ). Or_none z d) (sym (ap (λ (d : Option ℤ). combine s c o (Some p) d) f))
+        (two_decide o q p (decides s o q) (decides s o p) (decides_is s o q) (decides_is s o p) z e)
+
+negated_after : (b c : Bool) (x : Option ℤ) → After (negated_value b x) (negated_value c x)
+negated_after b c None z e = absurd (none-some z e)
+negated_after b c (Some k) z e = fit_after b c (neg_ℤ k) z e
+
+text_after : (b c : Bool) (v : List ℕ) → After (text_value b v) (text_value c v)
+text_after b c [] z e = absurd (none-some z e)
+text_after b c (x ∷ w) z e = by (x == 45) (is_constant w) z e
+  where
+    by : (m d : Bool) → After (if m then (if d then negated_value b (constant_value w) else None) else if is_constant (x ∷ w) then constant_value (x ∷ w) else None)
+        (if m then (if d then negated_value c (constant_value w) else None) else if is_constant (x ∷ w) then constant_value (x ∷ w) else None)
+    by true true = negated_after b c (constant_value w)
+    by true false = same_after None
+    by false d = same_after (if is_constant (x ∷ w) then constant_value (x ∷ w) else None)
+
+module _ (t u : List Argument) (more : SaysMore t u) where
+  text_more : (n v : List ℕ) (o : Option Entry) → entry_in t n ≡ o → text_in o ≡ Some v → defined_text u n ≡ Some v
+  text_more n v None e f = absurd (none-some v f)
+  text_more n v (Some x) e f = ap text_in (more n x e) ∙ f
+
+  ends_more : (n v : List ℕ) → EndsAt t n v → EndsAt u n v
+  ends_more n v (at_text _ _ d i) = at_text n v (text_more n v (entry_in t n) refl d) i
+  ends_more n v (by_name _ m _ d i e) = by_name n m v (text_more n m (entry_in t n) refl d) i (ends_more m v e)
+
+  end_more : (n v : List ℕ) → end_of t n ≡ Some v → end_of u n ≡ Some v
+  end_more n v e = end_found u n v (ends_more n v (end_is t n v e))
+
+  end_after : (b c : Bool) (x y : Option (List ℕ)) → ((v : List ℕ) → x ≡ Some v → y ≡ Some v) → After (end_value b x) (end_value c y)
+  end_after b c None y h z e = absurd (none-some z e)
+  end_after b c (Some v) y h z e = subst (λ (d : Option (List ℕ)). Or_none z (end_value c d)) (sym (h v refl)) (text_after b c v z e)
+
+  entry_after : (b c : Bool) (n : List ℕ) (value : Option (List ℕ)) → After (defined_name_value b (end_of t n) value) (defined_name_value c (end_of u n) value)
+  entry_after b c n None z e = inl e
+  entry_after b c n (Some v) z e = end_after b c (end_of t n) (end_of u n) (λ w f. end_more n w f) z e
+
+  name_by : (b c : Bool) (n : List ℕ) (o : Option Entry) → entry_in t n ≡ o → After (name_value_by b (end_of t n) o) (name_value_by c (end_of u n) (entry_in u n))
+  name_by b c n None f z e = absurd (none-some z e)
+  name_by b c n (Some x) f z e = subst (λ (d : Option Entry). Or_none z (name_value_by c (end_of u n) d)) (sym (more n x f)) (entry_after b c n x.value z e)
+
+  name_after : (b c : Bool) (n : List ℕ) → After (name_value t b n) (name_value u c n)
+  unfolding name_value
+  name_after b c n = name_by b c n (entry_in t n) refl
+
+  defined_by : (n : List ℕ) (o : Option Entry) → entry_in t n ≡ o → After (defined_value_by o) (defined_value_by (entry_in u n))
+  defined_by n None f z e = absurd (none-some z e)
+  defined_by n (Some x) f z e = inl (ap defined_value_by (more n x f) ∙ e)
+
+  defined_after : (n : List ℕ) → After (defined_value t n) (defined_value u n)
+  unfolding defined_value
+  defined_after n = defined_by n (entry_in t n) refl
+
+  number_after : (s b c : Bool) (e : Expression) → After (number_of t s b e) (number_of u s c e)
+  number_after s b c (constant w) = same_after (constant_value w)
+  number_after s b c (named n a) = name_after b c n
+  number_after s b c (is_defined n p) = defined_after n
+  number_after s b c (unary o a) = alter_after b c o (number_of t s b a) (number_of u s c a) (number_after s b c a)
+  number_after s b c (binary o a d) =
+      combine_after s b c o (number_of t s b a) (number_of t s b d) (number_of u s c a) (number_of u s c d) (number_after s b c a) (number_after s b c d)
+  number_after s b c (parens a) = number_after s b c a
+
+  -- the value of an expression
+  pub value_after : (s : Bool) (e : Expression) (z : ℤ) → value_of t s e ≡ Some z → (value_of u s e ≡ Some z) ⊎ (value_of u s e ≡ None)
+  value_after s e z h = number_after s (has_unsigned t e) (has_unsigned u e) e z h
+
+  truth_after : (a b : Option ℤ) → After a b → truth_of a ≢ Unknown → (truth_of b ≡ truth_of a) ⊎ (truth_of b ≡ Unknown)
+  truth_after None b h n = absurd (n refl)
+  truth_after (Some z) b h n = elim (h z refl) [ inl e ↦ inl (ap truth_of e) | inr e ↦ inr (ap truth_of e) ]
+
+  unless_known : (p q : Bool) (a b : Cond) → (a ≢ Unknown → (b ≡ a) ⊎ (b ≡ Unknown)) → (if p then Unknown else a) ≢ Unknown →
+      ((if q then Unknown else b) ≡ (if p then Unknown else a)) ⊎ ((if q then Unknown else b) ≡ Unknown)
+  unless_known true q a b h n = absurd (n refl)
+  unless_known false true a b h n = inr refl
+  unless_known false false a b h n = h n
+
+  -- and a condition
+  pub cond_after : (e : Expression) (r : Rules) → tree_cond e t r ≢ Unknown → (tree_cond e u r ≡ tree_cond e t r) ⊎ (tree_cond e u r ≡ Unknown)
+  cond_after e r n =
+      unless_known (calls_undefined t e || not (r.constants || names_listed t e)) (calls_undefined u e || not (r.constants || names_listed u e))
+      (truth_of (value_of t r.strict e)) (truth_of (value_of u r.strict e))
+      (truth_after (value_of t r.strict e) (value_of u r.strict e) (value_after r.strict e)) n

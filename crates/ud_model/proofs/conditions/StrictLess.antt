@@ -1,0 +1,53 @@
+-- What is known under `-K` is known without, and is the same.
+use Rattle.std.proofs.Common.{◌≡◌, ◌≢◌, List, Bool, true, false, not, ◌||◌, Option, Some, None, if◌then◌else◌, ℤ, refl, ◌∙◌, ap, ap₂}
+use Rattle.std.proofs.lemmas.Option.{none-some}
+use Rattle.ud_model.specs.conditions.Table.{Argument}
+use Rattle.ud_model.specs.conditions.Expressions.{Expression, constant, named, is_defined, unary, binary, parens}
+use Rattle.ud_model.specs.conditions.Values.{alter, combine, number_of, has_unsigned, value_of}
+use Rattle.ud_model.specs.conditions.Conditions.{names_listed, calls_undefined, truth_of, tree_cond}
+use Rattle.ud_model.specs.declared.cond.Cond.{Cond}
+use Rattle.ud_model.specs.declared.cond.Cond.TheVariants.{Unknown}
+use Rattle.ud_model.specs.declared.operator.Operator.{Operator}
+
+-- a known number stays known
+abbrev Keeps : Option ℤ → Option ℤ → Type 0
+Keeps a b = (z : ℤ) → a ≡ Some z → b ≡ Some z
+
+alter_keeps : (u : Bool) (o : Operator) (a b : Option ℤ) → Keeps a b → Keeps (alter u o a) (alter u o b)
+alter_keeps u o None b h z e = absurd (none-some z e)
+alter_keeps u o (Some x) b h z e = ap (alter u o) (h x refl) ∙ e
+
+combine_keeps : (u : Bool) (o : Operator) (a b c d : Option ℤ) → Keeps a c → Keeps b d → Keeps (combine true u o a b) (combine false u o c d)
+combine_keeps u o None None c d h k z e = absurd (none-some z e)
+combine_keeps u o None (Some y) c d h k z e = absurd (none-some z e)
+combine_keeps u o (Some x) None c d h k z e = absurd (none-some z e)
+combine_keeps u o (Some x) (Some y) c d h k z e = ap₂ (combine false u o) (h x refl) (k y refl) ∙ e
+
+module _ (table : List Argument) where
+  number_keeps : (u : Bool) (e : Expression) → Keeps (number_of table true u e) (number_of table false u e)
+  number_keeps u (constant w) z h = h
+  number_keeps u (named n a) z h = h
+  number_keeps u (is_defined n p) z h = h
+  number_keeps u (unary o a) z h = alter_keeps u o (number_of table true u a) (number_of table false u a) (number_keeps u a) z h
+  number_keeps u (binary o a b) z h =
+      combine_keeps u o (number_of table true u a) (number_of table true u b) (number_of table false u a) (number_of table false u b) (number_keeps u a) (number_keeps u b) z h
+  number_keeps u (parens a) z h = number_keeps u a z h
+
+  -- the value of an expression
+  pub value_keeps : (e : Expression) → Keeps (value_of table true e) (value_of table false e)
+  value_keeps e = number_keeps (has_unsigned table e) e
+
+  truth_keeps : (a b : Option ℤ) → Keeps a b → truth_of a ≢ Unknown → truth_of b ≡ truth_of a
+  truth_keeps None b h n = absurd (n refl)
+  truth_keeps (Some z) b h n = ap truth_of (h z refl)
+
+  unless_keeps : (c : Bool) (a b : Cond) → ((a ≢ Unknown) → b ≡ a) → ((if c then Unknown else a) ≢ Unknown) → (if c then Unknown else b) ≡ (if c then Unknown else a)
+  unless_keeps true a b h n = refl
+  unless_keeps false a b h n = h n
+
+  -- and a condition
+  pub cond_keeps : (e : Expression) (k : Bool) → tree_cond e table (record { constants = k; strict = true }) ≢ Unknown →
+      tree_cond e table (record { constants = k; strict = false }) ≡ tree_cond e table (record { constants = k; strict = true })
+  cond_keeps e k n =
+      unless_keeps (calls_undefined table e || not (k || names_listed table e)) (truth_of (value_of table true e)) (truth_of (value_of table false e))
+      (truth_keeps (value_of table true e) (value_of table false e) (value_keeps e)) n

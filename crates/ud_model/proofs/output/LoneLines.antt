@@ -1,0 +1,167 @@
+-- Lone lines: a blank line and a `#line`, put in between logical lines, are seen as they stand, and leave off between lines.
+use Rattle.std.proofs.Common.{◌≡◌, ◌≢◌, ℕ, ◌+◌, ◌-◌, ◌^◌, ◌%◌, ◌<◌, List, [], ◌∷◌, ◌++◌, length, take, map, Bool, true, false, not, ◌&&◌, ◌||◌, ◌==◌, nat_eq, if◌then◌else◌, inl, inr, codes, decimal, refl, sym, ◌∙◌, ap, ap₂, subst, append_assoc, append-nil, length-append, ne_eqb, arith}
+use Rattle.std.specs.List.{ends_with}
+use Rattle.std.proofs.lemmas.Bool.Decides.{Decides-eqb}
+use Rattle.std.proofs.lemmas.Slice.Eq.{ends_is}
+use Rattle.std.proofs.lemmas.List.{take_at}
+use Rattle.std.proofs.lemmas.Fmt.{decimal_by_steps}
+use Rattle.ud_model.specs.text.Bytes.{is_quote, slash, backslash, line_feed}
+use Rattle.ud_model.specs.text.Lines.{NoFeed, IsWhole, ending_of, Line, line_at}
+use Rattle.ud_model.specs.text.Scans.{Reading, plain_scan}
+use Rattle.ud_model.specs.text.Splicing.{is_empty, is_spliced, content, stays_open, run_of}
+use Rattle.ud_model.specs.text.Scanning.{scan_after}
+use Rattle.ud_model.specs.aids.Places.{Place, in_text, at_slash, in_literal, next, closed_place}
+use Rattle.ud_model.specs.sections.Tree.{Item}
+use Rattle.ud_model.specs.sections.Items.{reading_of}
+use Rattle.ud_model.specs.answer.Printing.{number_line, ending_or_feed}
+use Rattle.ud_model.specs.declared.kind.Mode.{Mode}
+use Rattle.ud_model.specs.declared.kind.Mode.TheVariants.{C, Plain}
+use Rattle.ud_model.proofs.output.Each.{Each, each_both}
+use Rattle.ud_model.proofs.output.Formed.{IsEnd, EndsIn, ending_both, ending_feed}
+use Rattle.ud_model.proofs.output.LeavesOff.{LeavesOff}
+use Rattle.ud_model.proofs.text.LinesLemmas.{no_feed-append}
+use Rattle.ud_model.proofs.text.ScanLaws.{place_after, masked_after, scan_from, scan_behind-from}
+
+-- a byte that begins nothing and ends nothing
+pub record Quiet (b : ℕ) : Type 0 where
+  pub no_slash : (b == slash) ≡ false
+  pub no_quote : is_quote b ≡ false
+  pub no_backslash : (b == backslash) ≡ false
+  pub no_feed : b ≢ line_feed
+  pub no_return : b ≢ 13
+
+digit_quiet : (n : ℕ) → n < 10 → Quiet (48 + n)
+digit_quiet n h = record {
+  no_slash = ne_eqb (48 + n) 47 (λ e. omega arith);
+  no_quote = ap₂ (λ (a b : Bool). a || b) (ne_eqb (48 + n) 34 (λ e. omega arith)) (ne_eqb (48 + n) 39 (λ e. omega arith));
+  no_backslash = ne_eqb (48 + n) 92 (λ e. omega arith);
+  no_feed = λ e. omega arith;
+  no_return = λ e. omega arith;
+}
+
+decimal_quiet : (n : ℕ) → n < 2 ^ 64 → Each Quiet (decimal n)
+decimal_quiet n h =
+    decimal_by_steps (λ k ds. Each Quiet ds) (λ k l. (digit_quiet k l, tt))
+    (λ k ds l q. each_both Quiet ds ((48 + k % 10) ∷ []) q (digit_quiet (k % 10) (omega arith), tt)) n h
+
+word_quiet : Each Quiet (codes "#line ")
+word_quiet = (
+  record { no_slash = refl; no_quote = refl; no_backslash = refl; no_feed = λ e. omega arith; no_return = λ e. omega arith },
+  (
+    record { no_slash = refl; no_quote = refl; no_backslash = refl; no_feed = λ e. omega arith; no_return = λ e. omega arith },
+    (
+      record { no_slash = refl; no_quote = refl; no_backslash = refl; no_feed = λ e. omega arith; no_return = λ e. omega arith },
+      (
+        record { no_slash = refl; no_quote = refl; no_backslash = refl; no_feed = λ e. omega arith; no_return = λ e. omega arith },
+        (
+          record { no_slash = refl; no_quote = refl; no_backslash = refl; no_feed = λ e. omega arith; no_return = λ e. omega arith },
+          (record { no_slash = refl; no_quote = refl; no_backslash = refl; no_feed = λ e. omega arith; no_return = λ e. omega arith }, tt),
+        ),
+      ),
+    ),
+  ),
+)
+
+-- what a `#line` says
+abbrev pub says_number : ℕ → List ℕ
+says_number n = codes "#line " ++ decimal n
+
+pub says_quiet : (n : ℕ) → n < 2 ^ 64 → Each Quiet (says_number n)
+says_quiet n h = each_both Quiet (codes "#line ") (decimal n) word_quiet (decimal_quiet n h)
+
+-- 1. As lines.
+
+quiet_no_feed : (b : List ℕ) → Each Quiet b → NoFeed b
+quiet_no_feed [] q = tt
+quiet_no_feed (x ∷ b) q = (q.0.no_feed, quiet_no_feed b q.1)
+
+-- quiet bytes don't end in this byte, if no quiet byte is so
+ends_quiet : (z : ℕ) → (Quiet z → ⊥) → (b : List ℕ) → Each Quiet b → EndsIn z b → ⊥
+unfolding EndsIn
+ends_quiet z loud b q (c, e) = go c (subst (Each Quiet) e q)
+  where
+    go : (c : List ℕ) → Each Quiet (c ++ z ∷ []) → ⊥
+    go [] h = loud h.0
+    go (x ∷ c) h = go c h.1
+
+cut_ending : (m : ℕ) (b e : List ℕ) → ending_of (b ++ e) ≡ e → line_at m (b ++ e) ≡ record { body = b; ending = e; number = m }
+cut_ending m b e h =
+    ap₂ (λ (x y : List ℕ). let l : Line = record { body = x; ending = y; number = m } in l)
+    (take_at b e (length (b ++ e) - length (ending_of (b ++ e)))
+    (let a = length-append b e in let f : length (ending_of (b ++ e)) ≡ length e = ap (λ (x : List ℕ). length x) h in omega (arith, a, f))) h
+
+-- quiet bytes and an ending are a line with this body and this ending
+pub quiet_line : (m : ℕ) (b e : List ℕ) → Each Quiet b → IsEnd e → line_at m (b ++ e) ≡ record { body = b; ending = e; number = m }
+quiet_line m b e q (inl h) = cut_ending m b e (subst (λ (x : List ℕ). ending_of (b ++ x) ≡ x) (sym h) (ending_both b))
+quiet_line m b e q (inr h) =
+    cut_ending m b e (subst (λ (x : List ℕ). ending_of (b ++ x) ≡ x) (sym h) (ending_feed b (ends_quiet 13 (λ k. k.no_return refl) b q)))
+
+pub quiet_whole : (b e : List ℕ) → Each Quiet b → IsEnd e → IsWhole (b ++ e)
+quiet_whole b e q (inl h) =
+    (b ++ 13 ∷ [], no_feed-append b (13 ∷ []) (quiet_no_feed b q) ((λ p. omega arith), tt), ap (λ (t : List ℕ). b ++ t) h ∙ sym (append_assoc b (13 ∷ []) (10 ∷ [])))
+quiet_whole b e q (inr h) = (b, quiet_no_feed b q, ap (λ (t : List ℕ). b ++ t) h)
+
+-- 2. As they are seen.
+
+next_quiet : (b : ℕ) → Quiet b → next in_text b ≡ in_text
+next_quiet b q = ap₂ (λ (s t : Bool). if s then at_slash else if t then in_literal b else in_text) q.no_slash q.no_quote
+
+pub place_quiet : (b : List ℕ) → Each Quiet b → place_after in_text b ≡ in_text
+place_quiet [] q = refl
+place_quiet (x ∷ b) q = ap (λ (w : Place). place_after w b) (next_quiet x q.0) ∙ place_quiet b q.1
+
+masked_quiet : (b seen : List ℕ) → Each Quiet b → masked_after in_text seen b ≡ seen ++ b
+masked_quiet [] seen q = sym (append-nil seen)
+masked_quiet (x ∷ b) seen q =
+    ap (λ (w : Place). masked_after w (seen ++ x ∷ []) b) (next_quiet x q.0) ∙ masked_quiet b (seen ++ x ∷ []) q.1 ∙ append_assoc seen (x ∷ []) b
+
+-- a line of quiet bytes with an ending
+pub record IsQuiet (l : Line) : Type 0 where
+  pub quiet : Each Quiet l.body
+  pub end : IsEnd l.ending
+
+spliced_not : (l : Line) → IsQuiet l → is_spliced l ≡ false
+unfolding EndsIn
+spliced_not l q = go (ends_with nat_eq l.body (backslash ∷ [])) refl
+  where
+    go : (s : Bool) → ends_with nat_eq l.body (backslash ∷ []) ≡ s → is_spliced l ≡ false
+    go false e = ap (λ (s : Bool). s && not (is_empty l.ending)) e
+    go true e =
+        absurd (ends_quiet backslash (λ k. let p : true ≡ false = k.no_backslash in cc) l.body q.quiet
+        (take (length l.body - 1) l.body, (ends_is Decides-eqb l.body (backslash ∷ []) (ends_with nat_eq l.body (backslash ∷ [])) refl).0 e))
+
+end_some : (e : List ℕ) → IsEnd e → is_empty e ≡ false
+end_some e (inl h) = ap (λ (x : List ℕ). is_empty x) h
+end_some e (inr h) = ap (λ (x : List ℕ). is_empty x) h
+
+pub end_is_some : (e : List ℕ) → IsEnd e → e ≢ []
+end_is_some e (inl h) = λ q. let p : 13 ∷ 10 ∷ [] ≡ [] = sym h ∙ q in cc
+end_is_some e (inr h) = λ q. let p : 10 ∷ [] ≡ [] = sym h ∙ q in cc
+
+module _ (l : Line) (q : IsQuiet l) where
+  all_content : content l ≡ l.body
+  all_content = ap (λ (s : Bool). if s then take (length l.body - 1) l.body else l.body) (spliced_not l q)
+
+  closed : stays_open l ≡ false
+  closed = ap₂ (λ (a b : Bool). a || b) (spliced_not l q) (end_some l.ending q.end)
+
+  lands : closed_place (stays_open l) (place_after in_text (content l)) ≡ in_text
+  lands =
+      ap₂ (λ (s : Bool) (w : Place). closed_place s w) closed (ap (λ (b : List ℕ). place_after in_text b) all_content ∙ place_quiet l.body q.quiet)
+
+  seen_quiet : scan_from in_text true false l ≡ plain_scan l
+  unfolding scan_from
+  seen_quiet =
+      let m : masked_after in_text [] (content l) ≡ l.body = ap (λ (b : List ℕ). masked_after in_text [] b) all_content ∙ masked_quiet l.body [] q.quiet in
+      let s : is_spliced l ≡ false = spliced_not l q in
+      rw (m, lands, s)
+
+-- between logical lines a quiet line is seen as it stands
+pub lone_scan : (zs : List (Item Reading)) (m : Mode) (l : Line) → LeavesOff zs in_text true false → IsQuiet l → scan_after (map reading_of zs) m l ≡ plain_scan l
+lone_scan zs Plain l a q = refl
+lone_scan zs C l a q = scan_behind-from (run_of (map reading_of zs)) l in_text true false a.reads a.joins_on ∙ seen_quiet l q
+
+-- the line of a number
+pub number_quiet : (m : ℕ) (l : Line) → IsEnd (ending_or_feed l.ending) → l.number < 2 ^ 64 →
+    line_at m (number_line l) ≡ record { body = says_number l.number; ending = ending_or_feed l.ending; number = m }
+number_quiet m l e h = quiet_line m (says_number l.number) (ending_or_feed l.ending) (says_quiet l.number h) e
