@@ -63,13 +63,13 @@ edits: kit
 examples: unifdef
 	@examples/run.sh README.md
 	@examples/run.sh docs/EXAMPLES.md
-	@examples/quotes.sh docs/LIBRARY.md crates/library_uses/src/*.rt
+	@examples/quotes.sh docs/LIBRARY.md crates/example_library/src/*.rt
 
 differences: unifdef
 	@examples/differences.sh
 
 faults: unifdef
-	cd crates/memory_runs && $(RT) run < /dev/null > /dev/null
+	cd crates/test_memory && $(RT) run < /dev/null > /dev/null
 	faults/run.sh
 
 fail-alloc: kit
@@ -118,7 +118,7 @@ bench-text: unifdef
 	bench/run.sh
 
 bench-conditions: kit
-	cd crates/conditions_bench && $(RT) run -- conditions 1 < /dev/null > /dev/null
+	cd crates/bench_conditions && $(RT) run -- conditions 1 < /dev/null > /dev/null
 	bench/conditions.sh
 
 pictures:
@@ -133,11 +133,11 @@ selects: unifdef
 	bench/selects.py $(SELECTS)
 
 hostile: kit
-	cd crates/hostile_runs && $(RT) run < /dev/null > /dev/null
+	cd crates/fuzz_run && $(RT) run < /dev/null > /dev/null
 	N='$(N)' SEED='$(SEED)' JOBS='$(JOBS)' bench/hostile.sh
 
 fronts: unifdef
-	cd crates/reference_cli && $(RT) run < /dev/null > /dev/null
+	cd crates/ref_cli && $(RT) run < /dev/null > /dev/null
 	N='$(N)' SEED='$(SEED)' bench/fronts.sh
 
 clean:

@@ -5,7 +5,7 @@
 set -eu -o pipefail
 export LC_ALL=C
 here=$(cd "$(dirname "$0")" && pwd)
-program=$(dirname "$here")/crates/conditions_bench/out/conditions_bench
+program=$(dirname "$here")/crates/bench_conditions/out/bench_conditions
 lines=${BENCH_LINES:-1000}
 passes=${BENCH_PASSES:-2000}
 runs=${BENCH_RUNS:-5}

@@ -4,7 +4,7 @@
 set -eu -o pipefail
 export LC_ALL=C
 here=$(cd "$(dirname "$0")" && pwd)
-program=$(dirname "$here")/crates/hostile_runs/out/hostile_runs
+program=$(dirname "$here")/crates/fuzz_run/out/fuzz_run
 cases=${N:-100000}
 seed=${SEED:-0}
 jobs=${JOBS:-$(nproc)}

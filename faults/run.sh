@@ -2,12 +2,12 @@
 # Runs ./unifdef where the system's reads and writes fail, with a small stack, and with each growth of memory refused in turn:
 # see README.md in this folder.
 #
-# run.sh [PROGRAM] [TABLE]: ./unifdef by default, and the program of crates/memory_runs, which is left out if it isn't built.
+# run.sh [PROGRAM] [TABLE]: ./unifdef by default, and the program of crates/test_memory, which is left out if it isn't built.
 set -eu -o pipefail
 export LC_ALL=C
 here=$(cd "$(dirname "$0")" && pwd)
 program=$(realpath "${1:-$here/../unifdef}")
-table=${2:-$here/../crates/memory_runs/out/memory_runs}
+table=${2:-$here/../crates/test_memory/out/test_memory}
 
 [ -x "$program" ] || { echo "faults: $program is not there: run make" >&2; exit 1; }
 
@@ -222,7 +222,7 @@ if "${CC:-cc}" -O1 -shared -fPIC -o "$work/refuse.so" "$here/refuse.c" -ldl 2> /
   refuse_each yes -DA -B
   refuse_each no -B -DA
   refuse_each no -tk -x2
-  if [ -x "$table" ]; then refuse_table; else echo "faults: left out, since crates/memory_runs isn't built: the table of symbols"; fi
+  if [ -x "$table" ]; then refuse_table; else echo "faults: left out, since crates/test_memory isn't built: the table of symbols"; fi
 else
   echo "faults: left out, since there is no C compiler: refused memory"
 fi

@@ -3,7 +3,7 @@ use Rattle.std.proofs.Common.{◌≡◌, ℕ, ℤ, pos, ◌≤◌, ◌<◌, ◌+
 use Rattle.std.proofs.lemmas.Bool.{le-ltb, lt-ltb, eqb-true, ne_eqb, leb-true, and_parts}
 use Rattle.std.proofs.lemmas.Option.{none-some}
 use Rattle.ud_model.specs.text.Bytes.{is_digit}
-use Rattle.ud_model.specs.conditions.Constants.{Parts, parts_of, parts_sign, suffix_sign, is_constant, continued, constant_number, digit_value}
+use Rattle.ud_model.specs.conditions.Constants.{ConstantParts, constant_parts, constant_sign, suffix_sign, is_constant, append_digits, constant_number, digit_value}
 use Rattle.ud_model.specs.conditions.Values.{limited, text_value, text_has_u}
 use Rattle.ud_cond.specs.Digits.{IsOneDigit}
 use Rattle.ud_cond.specs.declared.constants.Base.{Base}
@@ -16,7 +16,7 @@ grows_by Decimal n d = omega arith
 grows_by Hexadecimal n d = omega arith
 
 -- more digits make no smaller number
-pub grows : (b : Base) (n : ℕ) (ds : List ℕ) → n ≤ continued (base_of b) n ds
+pub grows : (b : Base) (n : ℕ) (ds : List ℕ) → n ≤ append_digits (base_of b) n ds
 grows b n [] = omega arith
 grows b n (d ∷ ds) = omega (arith, grows_by b n (digit_value d), grows b (n * base_of b + digit_value d) ds)
 
@@ -25,14 +25,14 @@ limited-above : (n : ℕ) → 2 ^ 63 ≤ n → limited n ≡ None
 limited-above n l = let no : nat_lt n (2 ^ 63) ≡ false = le-ltb n (2 ^ 63) l in rw no
 
 -- so is one whose digits so far are too large
-pub unknown-above : (b : Base) (n : ℕ) (ds : List ℕ) → 0 < length ds → 2 ^ 64 ≤ n * base_of b + digit_value (get_or ds 0 0) → limited (continued (base_of b) n ds) ≡ None
+pub unknown-above : (b : Base) (n : ℕ) (ds : List ℕ) → 0 < length ds → 2 ^ 64 ≤ n * base_of b + digit_value (get_or ds 0 0) → limited (append_digits (base_of b) n ds) ≡ None
 unknown-above b n [] l h = absurd (omega arith)
 unknown-above b n (d ∷ ds) l h =
-    limited-above (continued (base_of b) n (d ∷ ds)) (omega (arith, grows b (n * base_of b + digit_value d) ds))
+    limited-above (append_digits (base_of b) n (d ∷ ds)) (omega (arith, grows b (n * base_of b + digit_value d) ds))
 
 -- the parts of a word that is one digit
-digit_by : (b : ℕ) (z : Bool) → (b == 48) ≡ z → is_digit b ≡ true → (base : ℕ) × (parts_of (b ∷ []) ≡ record { base = base; digits = b ∷ []; suffix = [] })
-digit_by b true e d = (8, let is : b ≡ 48 = eqb-true b 48 e in subst (λ (n : ℕ). parts_of (n ∷ []) ≡ record { base = 8; digits = n ∷ []; suffix = [] }) (sym is) refl)
+digit_by : (b : ℕ) (z : Bool) → (b == 48) ≡ z → is_digit b ≡ true → (base : ℕ) × (constant_parts (b ∷ []) ≡ record { base = base; digits = b ∷ []; suffix = [] })
+digit_by b true e d = (8, let is : b ≡ 48 = eqb-true b 48 e in subst (λ (n : ℕ). constant_parts (n ∷ []) ≡ record { base = 8; digits = n ∷ []; suffix = [] }) (sym is) refl)
 digit_by b false e d = (10, simp (e, d))
 
 no_suffix : suffix_sign [] ≡ Some false
@@ -57,9 +57,9 @@ limited-below n l = let yes : nat_lt n (2 ^ 63) ≡ true = lt-ltb n (2 ^ 63) l i
 pub one-digit : (b n : ℕ) → is_digit b ≡ true → n ≡ digit_value b → n < 256 → IsOneDigit (b ∷ []) (pos n)
 one-digit b n d is few =
     let parts = digit_by b (b == 48) refl d in
-    let number : constant_number (b ∷ []) ≡ n = ap (λ (p : Parts). continued p.base 0 p.digits) parts.1 ∙ omega arith in
+    let number : constant_number (b ∷ []) ≡ n = ap (λ (p : ConstantParts). append_digits p.base 0 p.digits) parts.1 ∙ omega arith in
     record {
-      sign = ap parts_sign parts.1 ∙ no_suffix;
+      sign = ap constant_sign parts.1 ∙ no_suffix;
       value = ap limited number ∙ limited-below n (omega arith);
       nameless = simp d;
       positive = dash b d;

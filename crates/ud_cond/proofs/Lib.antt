@@ -1,12 +1,12 @@
 pub mod TableLemmas
 mod SortedLemmas
-mod MarkLemmas
+mod FilterLemmas
 mod KeyLemmas
 pub mod ReadingLemmas
-pub mod AskingLemmas
-pub mod RowLemmas
+pub mod DefinedLemmas
+pub mod FastPathLemmas
 pub mod StackLemmas
 pub mod NamedLemmas
-pub mod WorthLemmas
-pub mod NamingLemmas
+pub mod EvaluationLemmas
+pub mod NameListLemmas
 pub mod DigitLemmas

@@ -1,21 +1,21 @@
 -- Reading a text token by token: each token has a byte at least, and the text after it goes on in the state that it makes.
 use Rattle.std.proofs.Common.{◌≡◌, ℕ, zero, suc, ◌<◌, List, [], ◌∷◌, length, Option, Some, None, option_map, refl, ◌∙◌, ap, arith}
-use Rattle.ud_model.specs.conditions.Tokens.{Token, Next, at_end, unreadable, found, next_token}
-use Rattle.ud_model.specs.aids.Parsing.{Meaning, State, stuck, step, finish, run, run_all, cut, tokens_in, tokens_of, reads}
+use Rattle.ud_model.specs.conditions.Tokens.{Token, NextToken, at_end, unreadable, found, next_token}
+use Rattle.ud_model.specs.aids.Parsing.{Meaning, ParseState, stuck, step, finish, parse_tokens, parse_all_tokens, prepend_token, tokens_in, tokens_of, reads}
 use Rattle.ud_model.proofs.conditions.TokenLemmas.{shorter}
 
 -- what is left after a token has fewer bytes than this
-abbrev pub Leaves : ℕ → Next → Type 0
+abbrev pub Leaves : ℕ → NextToken → Type 0
 Leaves n at_end = Unit {0}
 Leaves n unreadable = Unit {0}
 Leaves n (found t rest) = length rest < n
 
-leaves_by : (text : List ℕ) (x : Next) → next_token text ≡ x → Leaves (length text) x
+leaves_by : (text : List ℕ) (x : NextToken) → next_token text ≡ x → Leaves (length text) x
 leaves_by text at_end e = tt
 leaves_by text unreadable e = tt
 leaves_by text (found t rest) e = shorter text rest t e
 
-cut_same : (k : ℕ) (f g : List ℕ → Option (List Token)) (x : Next) → Leaves k x → ((rest : List ℕ) → length rest < k → f rest ≡ g rest) → cut f x ≡ cut g x
+cut_same : (k : ℕ) (f g : List ℕ → Option (List Token)) (x : NextToken) → Leaves k x → ((rest : List ℕ) → length rest < k → f rest ≡ g rest) → prepend_token f x ≡ prepend_token g x
 cut_same k f g at_end l h = refl
 cut_same k f g unreadable l h = refl
 cut_same k f g (found t rest) l h = ap (option_map (λ ts. t ∷ ts)) (h rest l)
@@ -28,47 +28,47 @@ tokens_in-enough (suc n) (suc k) text l m =
     (λ rest short. tokens_in-enough n k rest (omega arith) (omega arith))
 
 -- the tokens of a text are the first one and those of the text after it
-pub tokens_of-cut : (text : List ℕ) → tokens_of text ≡ cut tokens_of (next_token text)
+pub tokens_of-prepend_token : (text : List ℕ) → tokens_of text ≡ prepend_token tokens_of (next_token text)
 unfolding tokens_of
-tokens_of-cut text =
+tokens_of-prepend_token text =
     cut_same (length text) (λ rest. tokens_in (length text) rest) (λ rest. tokens_in (suc (length rest)) rest) (next_token text) (leaves_by text (next_token text) refl)
     (λ rest short. tokens_in-enough (length text) (suc (length rest)) rest short (omega arith))
 
 module _ {A : Type 0} (m : Meaning A) where
   -- what a text means in a state, by the token in front
-  abbrev pub reads_on : State A → Next → Option A
+  abbrev pub reads_on : ParseState A → NextToken → Option A
   reads_on s at_end = finish m s
   reads_on s unreadable = None
   reads_on s (found t rest) = reads m (step m s t) rest
 
-  run_all-one : (s : State A) (t : Token) (ts : Option (List Token)) → run_all m s (option_map (λ us. t ∷ us) ts) ≡ run_all m (step m s t) ts
-  run_all-one s t None = refl
-  run_all-one s t (Some ts) = refl
+  parse_all_tokens-one : (s : ParseState A) (t : Token) (ts : Option (List Token)) → parse_all_tokens m s (option_map (λ us. t ∷ us) ts) ≡ parse_all_tokens m (step m s t) ts
+  parse_all_tokens-one s t None = refl
+  parse_all_tokens-one s t (Some ts) = refl
 
-  run_all-cut : (s : State A) (x : Next) → run_all m s (cut tokens_of x) ≡ reads_on s x
+  parse_all_tokens-prepend_token : (s : ParseState A) (x : NextToken) → parse_all_tokens m s (prepend_token tokens_of x) ≡ reads_on s x
   unfolding reads
-  run_all-cut s at_end = refl
-  run_all-cut s unreadable = refl
-  run_all-cut s (found t rest) = run_all-one s t (tokens_of rest)
+  parse_all_tokens-prepend_token s at_end = refl
+  parse_all_tokens-prepend_token s unreadable = refl
+  parse_all_tokens-prepend_token s (found t rest) = parse_all_tokens-one s t (tokens_of rest)
 
   -- a text means in a state what the token in front makes of it
-  pub reads-on : (s : State A) (text : List ℕ) → reads m s text ≡ reads_on s (next_token text)
+  pub reads-on : (s : ParseState A) (text : List ℕ) → reads m s text ≡ reads_on s (next_token text)
   unfolding reads
-  reads-on s text = ap (run_all m s) (tokens_of-cut text) ∙ run_all-cut s (next_token text)
+  reads-on s text = ap (parse_all_tokens m s) (tokens_of-prepend_token text) ∙ parse_all_tokens-prepend_token s (next_token text)
 
-  run-stuck : (ts : List Token) → run m stuck ts ≡ None
-  run-stuck [] = refl
-  run-stuck (t ∷ ts) = run-stuck ts
+  parse_tokens-stuck : (ts : List Token) → parse_tokens m stuck ts ≡ None
+  parse_tokens-stuck [] = refl
+  parse_tokens-stuck (t ∷ ts) = parse_tokens-stuck ts
 
-  run_all-stuck : (ts : Option (List Token)) → run_all m stuck ts ≡ None
-  run_all-stuck None = refl
-  run_all-stuck (Some ts) = run-stuck ts
+  parse_all_tokens-stuck : (ts : Option (List Token)) → parse_all_tokens m stuck ts ≡ None
+  parse_all_tokens-stuck None = refl
+  parse_all_tokens-stuck (Some ts) = parse_tokens-stuck ts
 
   -- after tokens with which no expression begins there is none
   pub reads-stuck : (text : List ℕ) → reads m stuck text ≡ None
   unfolding reads
-  reads-stuck text = run_all-stuck (tokens_of text)
+  reads-stuck text = parse_all_tokens-stuck (tokens_of text)
 
   -- the token in front makes a state
-  pub reads-found : (s : State A) (text : List ℕ) (t : Token) (rest : List ℕ) → next_token text ≡ found t rest → reads m s text ≡ reads m (step m s t) rest
+  pub reads-found : (s : ParseState A) (text : List ℕ) (t : Token) (rest : List ℕ) → next_token text ≡ found t rest → reads m s text ≡ reads m (step m s t) rest
   reads-found s text t rest e = reads-on s text ∙ ap (reads_on s) e

@@ -15,10 +15,10 @@ use Rattle.std.proofs.lemmas.Map.Text.{is_eq-slice_cmp}
 use Rattle.std.proofs.lemmas.Slice.Eq.{bytes_eq-Decides}
 use Rattle.ud_model.specs.conditions.Table.{Argument}
 use Rattle.ud_cond.specs.Keys.{key_of}
-use Rattle.ud_cond.specs.Standing.{alike_cmp, name_cmp, name_at, nobody, AreSorted, IsRowOf, IsGapFor}
+use Rattle.ud_cond.specs.SymbolTable.{same_key_cmp, name_cmp, name_at, no_row, AreSorted, IsRowOf, IsGapFor}
 use Rattle.ud_cond.proofs.TableLemmas.{NoneFrom, IsLastRow}
 
-alike_total : IsTotalOrder alike_cmp
+alike_total : IsTotalOrder same_key_cmp
 alike_total = then_total (on_total length nat_cmp_total) nat_list_cmp_total
 
 name_total : IsTotalOrder name_cmp
@@ -38,7 +38,7 @@ then_greater Greater b e = refl
 -- names that stand to each other as equal are the same
 name_ties : (m n : List ℕ) → name_cmp m n ≡ Equal → m ≡ n
 name_ties m n e =
-    let alike : alike_cmp m n ≡ Equal = then_equal (nat_cmp (key_of m) (key_of n)) (alike_cmp m n) e in
+    let alike : same_key_cmp m n ≡ Equal = then_equal (nat_cmp (key_of m) (key_of n)) (same_key_cmp m n) e in
     let tied : slice_cmp nat_cmp m n ≡ Equal = then_equal (nat_cmp (length m) (length n)) (slice_cmp nat_cmp m n) alike in
     (bytes_eq-Decides m n).0 (sym (is_eq-slice_cmp m n) ∙ ap is_eq tied)
 
@@ -74,7 +74,7 @@ module _ (rows : List Argument) (sorted : AreSorted rows) where
       ap is_lt (turned (get_or rows k d).name (get_or rows (k + 1) d).name less))
     where
       default : (k : ℕ) (d : Argument) → k < length rows → (get_or rows k d).name ≡ name_at rows k
-      default k d high = ap (λ a. a.name) (get_or_default rows k d nobody high)
+      default k d high = ap (λ a. a.name) (get_or_default rows k d no_row high)
 
   -- the keys rise too
   pub rise-keys : (key : ℕ) → IsNonDecreasingBy (λ a. ordering_index (nat_cmp (key_of a.name) key)) rows
@@ -84,14 +84,14 @@ module _ (rows : List Argument) (sorted : AreSorted rows) where
       then_greater _ _ (turned (get_or rows k d).name (get_or rows (k + 1) d).name less))
     where
       default : (k : ℕ) (d : Argument) → k < length rows → (get_or rows k d).name ≡ name_at rows k
-      default k d high = ap (λ a. a.name) (get_or_default rows k d nobody high)
+      default k d high = ap (λ a. a.name) (get_or_default rows k d no_row high)
 
   -- a search by halving ends at the name's row, or at its gap
   pub searched : (name : List ℕ) (r : Result ℕ ℕ) → IsSearchInRange r (length rows) → IsBinarySearchResult (λ a. name_cmp a.name name) rows r →
       IfOk r (λ i. IsRowOf rows i name) × IfErr r (λ i. IsGapFor rows i name)
-  searched name (Ok i) within same = (record { within = within; named = name_ties (name_at rows i) name (same nobody) }, tt)
+  searched name (Ok i) within same = (record { within = within; named = name_ties (name_at rows i) name (same no_row) }, tt)
   searched name (Err i) within parted =
-      (tt, record { within = within; after = λ k low. (parted (rise name)).0 k nobody (omega arith) low; before = λ k low high. (parted (rise name)).1 k nobody low high })
+      (tt, record { within = within; after = λ k low. (parted (rise name)).0 k no_row (omega arith) low; before = λ k low high. (parted (rise name)).1 k no_row low high })
 
 -- no row names what has a gap
 pub none-gap : (rows : List Argument) (i : ℕ) (name : List ℕ) → IsGapFor rows i name → NoneFrom rows i name
@@ -109,8 +109,8 @@ pub gap-keys : (rows : List Argument) (sorted : AreSorted rows) (name : List ℕ
 gap-keys rows sorted name (Ok i) within same = tt
 gap-keys rows sorted name (Err i) within parted = record {
   within = within;
-  after = λ k low. ap (λ o. ordering_then o (alike_cmp (name_at rows k) name)) ((parted (rise-keys rows sorted (key_of name))).0 k nobody (omega arith) low);
-  before = λ k low high. ap (λ o. ordering_then o (alike_cmp (name_at rows k) name)) ((parted (rise-keys rows sorted (key_of name))).1 k nobody low high);
+  after = λ k low. ap (λ o. ordering_then o (same_key_cmp (name_at rows k) name)) ((parted (rise-keys rows sorted (key_of name))).0 k no_row (omega arith) low);
+  before = λ k low high. ap (λ o. ordering_then o (same_key_cmp (name_at rows k) name)) ((parted (rise-keys rows sorted (key_of name))).1 k no_row low high);
 }
 
 -- a row that is changed, its name staying
@@ -119,7 +119,7 @@ sorted-set rows i a sorted row j k low high =
     ap₂ name_cmp (kept j (cases_lt j i)) (kept k (cases_lt k i)) ∙ sorted j k low (omega (arith, length-set rows i a))
   where
     kept : (n : ℕ) → (n < i) ⊎ (i ≤ n) → name_at (set rows i a) n ≡ name_at rows n
-    kept n c = grind (arith, get_or-set_other rows i n a nobody, get_or-set_same rows i a nobody row.within, row.named)
+    kept n c = grind (arith, get_or-set_other rows i n a no_row, get_or-set_same rows i a no_row row.within, row.named)
 
 -- names with one put in: each is an old one before its place, the new one at it, or an old one moved up by one
 ascends-more : (R : List ℕ → List ℕ → Ordering) (old new : ℕ → List ℕ) (n i : ℕ) (x : List ℕ) → ((j k : ℕ) → j < k → k < n → R (old j) (old k) ≡ Less) →
@@ -134,10 +134,10 @@ sorted-insert rows i a sorted gap j k low high =
     let new = insert rows i a in
     let more : length new ≡ length rows + 1 = length-insert rows i a gap.within in
     let above : (n : ℕ) → i < n → name_at new n ≡ name_at rows (n - 1) =
-    λ n l. subst (λ m. name_at new m ≡ name_at rows (n - 1)) {x = n - 1 + 1} (omega arith) (ap (λ r. r.name) (get_or-insert_above rows i a nobody (n - 1) (omega arith) gap.within)) in
+    λ n l. subst (λ m. name_at new m ≡ name_at rows (n - 1)) {x = n - 1 + 1} (omega arith) (ap (λ r. r.name) (get_or-insert_above rows i a no_row (n - 1) (omega arith) gap.within)) in
     ascends-more name_cmp (name_at rows) (name_at new) (length rows) i a.name sorted
-    (λ n l. ap (λ r. r.name) (get_or-insert_below rows i a nobody n l gap.within))
-    (λ n e. ap (name_at new) e ∙ ap (λ r. r.name) (get_or-insert_at rows i a nobody gap.within))
+    (λ n l. ap (λ r. r.name) (get_or-insert_below rows i a no_row n l gap.within))
+    (λ n e. ap (name_at new) e ∙ ap (λ r. r.name) (get_or-insert_at rows i a no_row gap.within))
     above gap.after (λ n l h. name_total.antisymm a.name (name_at rows n) ∙ ap ordering_reverse (gap.before n l h))
     j k low (omega arith) gap.within
 

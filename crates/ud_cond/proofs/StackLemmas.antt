@@ -2,81 +2,81 @@
 use Rattle.std.proofs.Common.{◌≡◌, ℕ, ◌≤◌, ◌<◌, ◌+◌, ◌*◌, ◌==◌, List, [], ◌∷◌, ◌++◌, length, reverse, Option, None, refl, sym, ◌∙◌, ap, subst, arith}
 use Rattle.std.proofs.lemmas.List.{length-reverse, reverse-append}
 use Rattle.ud_model.specs.conditions.Tokens.{Token, at_end, unreadable, found, next_token}
-use Rattle.ud_model.specs.conditions.Expressions.{level}
-use Rattle.ud_model.specs.aids.Parsing.{Meaning, Frame, State, step, finish, reads}
+use Rattle.ud_model.specs.conditions.Expressions.{precedence}
+use Rattle.ud_model.specs.aids.Parsing.{Meaning, Frame, ParseState, step, finish, reads}
 use Rattle.ud_model.specs.declared.operator.Operator.{Operator}
 use Rattle.ud_cond.specs.declared.values.Value.{Value}
-use Rattle.ud_cond.specs.declared.stacks.Waiting.{Waiting}
-use Rattle.ud_cond.specs.declared.stacks.Waiting.TheVariants.{Between, Before, Opening}
-use Rattle.ud_cond.specs.Stacks.{frames, AreMatched, weight, IsSettled, is_nothing, state}
+use Rattle.ud_cond.specs.declared.stacks.PendingOp.{PendingOp}
+use Rattle.ud_cond.specs.declared.stacks.PendingOp.TheVariants.{Binary, Prefix, Opening}
+use Rattle.ud_cond.specs.Stacks.{frames, AreMatched, weight, IsSettled, is_empty, parse_state}
 use Rattle.ud_cond.proofs.ReadingLemmas.{reads_on, reads-on, reads-found}
 
 -- what waits weighs as much as both stacks are long
-pub weighs : (ws : List Waiting) (vs : List Value) → AreMatched ws vs → weight (frames ws vs) ≡ length ws + length vs
+pub weighs : (ws : List PendingOp) (vs : List Value) → AreMatched ws vs → weight (frames ws vs) ≡ length ws + length vs
 weighs [] [] m = refl
 weighs [] (a ∷ vs) m = absurd m
-weighs (Between o ∷ ws) [] m = absurd m
-weighs (Between o ∷ ws) (a ∷ vs) m = let h = weighs ws vs m in omega arith
-weighs (Before o ∷ ws) vs m = let h = weighs ws vs m in omega arith
+weighs (Binary o ∷ ws) [] m = absurd m
+weighs (Binary o ∷ ws) (a ∷ vs) m = let h = weighs ws vs m in omega arith
+weighs (Prefix o ∷ ws) vs m = let h = weighs ws vs m in omega arith
 weighs (Opening ∷ ws) vs m = let h = weighs ws vs m in omega arith
 
 -- there are no more operands than operators
-pub fewer : (ws : List Waiting) (vs : List Value) → AreMatched ws vs → length vs ≤ length ws
+pub fewer : (ws : List PendingOp) (vs : List Value) → AreMatched ws vs → length vs ≤ length ws
 fewer [] [] m = omega arith
 fewer [] (a ∷ vs) m = absurd m
-fewer (Between o ∷ ws) [] m = absurd m
-fewer (Between o ∷ ws) (a ∷ vs) m = let h = fewer ws vs m in omega arith
-fewer (Before o ∷ ws) vs m = let h = fewer ws vs m in omega arith
+fewer (Binary o ∷ ws) [] m = absurd m
+fewer (Binary o ∷ ws) (a ∷ vs) m = let h = fewer ws vs m in omega arith
+fewer (Prefix o ∷ ws) vs m = let h = fewer ws vs m in omega arith
 fewer (Opening ∷ ws) vs m = let h = fewer ws vs m in omega arith
 
 -- one more operator, or one more operand too
-pub holds-push : (new ws : List Waiting) (vs : List Value) (x : Waiting) → new ≡ ws ++ x ∷ [] → AreMatched (x ∷ reverse ws) vs → AreMatched (reverse new) vs
+pub holds-push : (new ws : List PendingOp) (vs : List Value) (x : PendingOp) → new ≡ ws ++ x ∷ [] → AreMatched (x ∷ reverse ws) vs → AreMatched (reverse new) vs
 holds-push new ws vs x e m = subst (λ us. AreMatched us vs) (sym (ap reverse e ∙ reverse-append ws (x ∷ []))) m
 
-pub holds-both : (new ws : List Waiting) (more vs : List Value) (o : Operator) (a : Value) → new ≡ ws ++ Between o ∷ [] → more ≡ vs ++ a ∷ [] → AreMatched (reverse ws) (reverse vs) → AreMatched (reverse new) (reverse more)
+pub holds-both : (new ws : List PendingOp) (more vs : List Value) (o : Operator) (a : Value) → new ≡ ws ++ Binary o ∷ [] → more ≡ vs ++ a ∷ [] → AreMatched (reverse ws) (reverse vs) → AreMatched (reverse new) (reverse more)
 holds-both new ws more vs o a e f m =
-    holds-push new ws (reverse more) (Between o) e (subst (λ us. AreMatched (Between o ∷ reverse ws) us) (sym (ap reverse f ∙ reverse-append vs (a ∷ []))) m)
+    holds-push new ws (reverse more) (Binary o) e (subst (λ us. AreMatched (Binary o ∷ reverse ws) us) (sym (ap reverse f ∙ reverse-append vs (a ∷ []))) m)
 
 -- what waits has room for one byte more, or for two
-pub room : (ws : List Waiting) (vs : List Value) (n : ℕ) → AreMatched (reverse ws) (reverse vs) → weight (frames (reverse ws) (reverse vs)) + 1 ≤ n → length ws < n
+pub room : (ws : List PendingOp) (vs : List Value) (n : ℕ) → AreMatched (reverse ws) (reverse vs) → weight (frames (reverse ws) (reverse vs)) + 1 ≤ n → length ws < n
 room ws vs n m l =
     let all = weighs (reverse ws) (reverse vs) m in
     omega (arith, length-reverse ws, length-reverse vs)
 
-pub room-left : (ws : List Waiting) (vs : List Value) (n k : ℕ) → AreMatched (reverse ws) (reverse vs) → weight (frames (reverse ws) (reverse vs)) + 2 ≤ n → n ≤ 2 * k → length vs < k
+pub room-left : (ws : List PendingOp) (vs : List Value) (n k : ℕ) → AreMatched (reverse ws) (reverse vs) → weight (frames (reverse ws) (reverse vs)) + 2 ≤ n → n ≤ 2 * k → length vs < k
 room-left ws vs n k m l h =
     let all = weighs (reverse ws) (reverse vs) m in
     let some = fewer (reverse ws) (reverse vs) m in
     omega (arith, length-reverse ws, length-reverse vs)
 
-nothing_by : (ws : List Waiting) (vs : List Value) → AreMatched ws vs → (length ws == 0) ≡ is_nothing (frames ws vs)
+nothing_by : (ws : List PendingOp) (vs : List Value) → AreMatched ws vs → (length ws == 0) ≡ is_empty (frames ws vs)
 nothing_by [] vs m = refl
-nothing_by (Between o ∷ ws) [] m = absurd m
-nothing_by (Between o ∷ ws) (a ∷ vs) m = grind arith
-nothing_by (Before o ∷ ws) vs m = grind arith
+nothing_by (Binary o ∷ ws) [] m = absurd m
+nothing_by (Binary o ∷ ws) (a ∷ vs) m = grind arith
+nothing_by (Prefix o ∷ ws) vs m = grind arith
 nothing_by (Opening ∷ ws) vs m = grind arith
 
 -- nothing waits where no operator does
-pub nothing : (ws : List Waiting) (vs : List Value) → AreMatched (reverse ws) (reverse vs) → (length ws == 0) ≡ is_nothing (frames (reverse ws) (reverse vs))
+pub nothing : (ws : List PendingOp) (vs : List Value) → AreMatched (reverse ws) (reverse vs) → (length ws == 0) ≡ is_empty (frames (reverse ws) (reverse vs))
 nothing ws vs m = ap (λ n. n == 0) (sym (length-reverse ws)) ∙ nothing_by (reverse ws) (reverse vs) m
 
 -- a looser operator on top isn't taken
-settled-between : (j : ℕ) (o : Operator) (ws : List Waiting) (vs : List Value) → level o < j → IsSettled j (frames (Between o ∷ ws) vs)
+settled-between : (j : ℕ) (o : Operator) (ws : List PendingOp) (vs : List Value) → precedence o < j → IsSettled j (frames (Binary o ∷ ws) vs)
 settled-between j o ws [] l = tt
 settled-between j o ws (a ∷ vs) l = l
 
-pub settled-top : (old new : List Waiting) (vs : List Value) (j : ℕ) (o : Operator) → old ≡ new ++ Between o ∷ [] → level o < j → IsSettled j (frames (reverse old) vs)
-settled-top old new vs j o e l = subst (λ ws. IsSettled j (frames ws vs)) (sym (ap reverse e ∙ reverse-append new (Between o ∷ []))) (settled-between j o (reverse new) vs l)
+pub settled-top : (old new : List PendingOp) (vs : List Value) (j : ℕ) (o : Operator) → old ≡ new ++ Binary o ∷ [] → precedence o < j → IsSettled j (frames (reverse old) vs)
+settled-top old new vs j o e l = subst (λ ws. IsSettled j (frames ws vs)) (sym (ap reverse e ∙ reverse-append new (Binary o ∷ []))) (settled-between j o (reverse new) vs l)
 
 module _ (m : Meaning Value) where
   -- what is meant so far goes on in the state that the next token makes
-  pub goes-on : (all : Option Value) (o : Option Value) (s : List (Frame Value)) (q : State Value) (text : List ℕ) (t : Token) (rest : List ℕ) → all ≡ reads m (state o s) text → state o s ≡ q →
+  pub goes-on : (all : Option Value) (o : Option Value) (s : List (Frame Value)) (q : ParseState Value) (text : List ℕ) (t : Token) (rest : List ℕ) → all ≡ reads m (parse_state o s) text → parse_state o s ≡ q →
       found t rest ≡ next_token text → all ≡ reads m (step m q t) rest
   goes-on all o s q text t rest e f h = e ∙ ap (λ p. reads m p text) f ∙ reads-found m q text t rest (sym h)
 
   -- what is meant so far is what the state means where the text ends, and nothing where it can't be read
-  pub ends : (all : Option Value) (q : State Value) (text : List ℕ) → all ≡ reads m q text → at_end ≡ next_token text → finish m q ≡ all
+  pub ends : (all : Option Value) (q : ParseState Value) (text : List ℕ) → all ≡ reads m q text → at_end ≡ next_token text → finish m q ≡ all
   ends all q text e h = sym (e ∙ reads-on m q text ∙ ap (reads_on m q) (sym h))
 
-  pub ends-unreadable : (all : Option Value) (q : State Value) (text : List ℕ) → all ≡ reads m q text → unreadable ≡ next_token text → None ≡ all
+  pub ends-unreadable : (all : Option Value) (q : ParseState Value) (text : List ℕ) → all ≡ reads m q text → unreadable ≡ next_token text → None ≡ all
   ends-unreadable all q text e h = sym (e ∙ reads-on m q text ∙ ap (reads_on m q) (sym h))

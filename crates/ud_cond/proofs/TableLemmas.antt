@@ -4,7 +4,7 @@ use Rattle.std.proofs.Math.ListN.{set}
 use Rattle.std.specs.List.{insert}
 use Rattle.std.proofs.lemmas.Slice.Eq.{bytes_eq-Decides}
 use Rattle.ud_model.specs.conditions.Table.{Argument, Entry, entry_from, entry_in}
-use Rattle.ud_cond.specs.Standing.{StandsFor, Changes, name_at, nobody}
+use Rattle.ud_cond.specs.SymbolTable.{TableRepresents, SetsEntry, name_at, no_row}
 
 -- no row from this place on names it
 abbrev pub NoneFrom : List Argument → ℕ → List ℕ → Type 0
@@ -22,7 +22,7 @@ entry_from-push e [] a name = refl
 entry_from-push e (r ∷ rows) a name = entry_from-push (if bytes_eq r.name name then Some r.entry else e) rows a name
 
 -- a table that changes as a call says stands for the calls with this one more
-pub stands-changes : (old new calls : List Argument) (a : Argument) → Changes old new a → StandsFor old calls → StandsFor new (calls ++ a ∷ [])
+pub stands-changes : (old new calls : List Argument) (a : Argument) → SetsEntry old new a → TableRepresents old calls → TableRepresents new (calls ++ a ∷ [])
 stands-changes old new calls a change stands name =
     change name ∙ ap (λ x. if bytes_eq a.name name then Some a.entry else x) (stands name) ∙ sym (entry_from-push None calls a name)
 
@@ -33,7 +33,7 @@ entry_from-none e (r ∷ rows) name none =
     rw (none 0 (omega arith) (omega arith)) (entry_from-none e rows name (λ k low high. none (suc k) (omega arith) (omega arith)))
 
 -- the last row of a name says what is said of it
-pub entry_from-last : (e : Option Entry) (rows : List Argument) (i : ℕ) (name : List ℕ) → IsLastRow rows i name → entry_from e rows name ≡ Some (get_or rows i nobody).entry
+pub entry_from-last : (e : Option Entry) (rows : List Argument) (i : ℕ) (name : List ℕ) → IsLastRow rows i name → entry_from e rows name ≡ Some (get_or rows i no_row).entry
 entry_from-last e [] i name last = absurd (let w : i < 0 = last.within in omega arith)
 entry_from-last e (r ∷ rows) zero name last =
     let same : bytes_eq r.name name ≡ true = (bytes_eq-Decides r.name name).1 last.named in
@@ -59,7 +59,7 @@ entry_from-set e (r ∷ rows) (suc i) a last name =
     (record { within = let w : suc i < length (r ∷ rows) = last.within in omega arith; named = last.named; last = λ k low high. last.last (suc k) (omega arith) (omega arith) }) name
 
 -- changing the last row of a name changes what is said of it
-pub changes-set : (rows old : List Argument) (i : ℕ) (row a : Argument) → rows ≡ old → row ≡ a → IsLastRow rows i a.name → Changes old (set rows i row) a
+pub changes-set : (rows old : List Argument) (i : ℕ) (row a : Argument) → rows ≡ old → row ≡ a → IsLastRow rows i a.name → SetsEntry old (set rows i row) a
 changes-set rows old i row a view same last name =
     ap (λ r. entry_in (set rows i r) name) same ∙ entry_from-set None rows i a last name ∙ ap (λ rs. if bytes_eq a.name name then Some a.entry else entry_in rs name) view
 
@@ -77,7 +77,7 @@ entry_from-insert e (r ∷ rows) (suc i) a within none name =
     entry_from-insert (if bytes_eq r.name name then Some r.entry else e) rows i a (omega arith) (λ k low high. none (suc k) (omega arith) (omega arith)) name
 
 -- a row added for a name that no row has changes what is said of it
-pub changes-insert : (rows old new : List Argument) (i : ℕ) (row a : Argument) → rows ≡ old → row ≡ a → new ≡ insert rows i row → i ≤ length rows → NoneFrom rows i a.name → Changes old new a
+pub changes-insert : (rows old new : List Argument) (i : ℕ) (row a : Argument) → rows ≡ old → row ≡ a → new ≡ insert rows i row → i ≤ length rows → NoneFrom rows i a.name → SetsEntry old new a
 changes-insert rows old new i row a view same added within none name =
     ap (λ rs. entry_in rs name) added ∙ ap (λ r. entry_in (insert rows i r) name) same ∙ entry_from-insert None rows i a within none name
     ∙ ap (λ rs. if bytes_eq a.name name then Some a.entry else entry_in rs name) view

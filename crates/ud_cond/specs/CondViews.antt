@@ -5,14 +5,14 @@ use Rattle.ud_cond.specs.declared.conditions.Rules as rules
 use Rattle.ud_cond.specs.declared.conditions.Answer as answer
 use Rattle.ud_cond.specs.declared.tokens.Token as token
 use Rattle.ud_cond.specs.declared.tokens.Token.TheVariants as is
-use Rattle.ud_cond.specs.declared.tokens.Next as next
-use Rattle.ud_cond.specs.declared.tokens.Next.TheVariants as comes
+use Rattle.ud_cond.specs.declared.tokens.NextToken as next
+use Rattle.ud_cond.specs.declared.tokens.NextToken.TheVariants as comes
 use Rattle.ud_cond.specs.declared.constants.Base as base
 use Rattle.ud_cond.specs.declared.constants.Base.TheVariants.{Octal, Decimal, Hexadecimal}
-use Rattle.ud_cond.specs.declared.constants.Parts as parts
+use Rattle.ud_cond.specs.declared.constants.ConstantParts as parts
 use Rattle.ud_model.specs.text.Bytes.{is_digit}
-use Rattle.ud_model.specs.conditions.Constants.{Parts, is_octal_digit, is_hex_digit}
-use Rattle.ud_model.specs.conditions.Tokens.{Token, number, name, defined, operator, opening, closing, Next, at_end, unreadable, found}
+use Rattle.ud_model.specs.conditions.Constants.{ConstantParts, is_octal_digit, is_hex_digit}
+use Rattle.ud_model.specs.conditions.Tokens.{Token, number, name, defined, operator, opening, closing, NextToken, at_end, unreadable, found}
 use Rattle.ud_model.specs.conditions.Table.{Argument, Entry}
 use Rattle.ud_model.specs.conditions.Conditions.{Rules, Decision}
 
@@ -21,8 +21,8 @@ abbrev pub as_entry : entry.Entry → Entry
 as_entry e = record { value = option_map (λ v. v.now) e.value; ignoring = e.ignoring }
 
 -- the call that says of a name that it has this value, or that it is undefined
-abbrev pub said : List ℕ → Option (List ℕ) → Bool → Argument
-said n value ignoring = record { name = n; entry = record { value = value; ignoring = ignoring } }
+abbrev pub argument_for : List ℕ → Option (List ℕ) → Bool → Argument
+argument_for n value ignoring = record { name = n; entry = record { value = value; ignoring = ignoring } }
 
 abbrev pub as_rules : rules.Rules → Rules
 as_rules r = record { constants = r.constants; strict = r.strict }
@@ -38,7 +38,7 @@ as_token (is.Operator o) = operator o
 as_token is.Opening = opening
 as_token is.Closing = closing
 
-abbrev pub as_next : next.Next → Next
+abbrev pub as_next : next.NextToken → NextToken
 as_next comes.AtEnd = at_end
 as_next comes.Unreadable = unreadable
 as_next (comes.Found t rest) = found (as_token t) rest.now
@@ -53,5 +53,5 @@ is_digit_of Octal b = is_octal_digit b
 is_digit_of Decimal b = is_digit b
 is_digit_of Hexadecimal b = is_hex_digit b
 
-abbrev pub as_parts : parts.Parts → Parts
+abbrev pub as_parts : parts.ConstantParts → ConstantParts
 as_parts p = record { base = base_of p.base; digits = p.digits.now; suffix = p.suffix.now }

@@ -3,12 +3,12 @@
 --   IsOneDigit w z   the word is a constant without a `u`, of this number, and begins neither as a name nor with a `-`
 use Rattle.std.specs.Prelude.{◌≡◌, ℕ, ℤ, List, false, Some}
 use Rattle.ud_model.specs.text.Bytes.{is_identifier}
-use Rattle.ud_model.specs.conditions.Constants.{begins, parts_of, parts_sign}
+use Rattle.ud_model.specs.conditions.Constants.{starts_with_byte, constant_parts, constant_sign}
 use Rattle.ud_model.specs.conditions.Values.{constant_value}
 
 -- the word is a constant without a `u`, of this number, and begins neither as a name nor with a `-`
 pub record IsOneDigit (w : List ℕ) (z : ℤ) : Type 0 where
-  pub sign : parts_sign (parts_of w) ≡ Some false
+  pub sign : constant_sign (constant_parts w) ≡ Some false
   pub value : constant_value w ≡ Some z
   pub nameless : is_identifier w ≡ false
-  pub positive : begins 45 w ≡ false
+  pub positive : starts_with_byte 45 w ≡ false

@@ -1,10 +1,10 @@
-pub mod Standing
+pub mod SymbolTable
 pub mod Keys
-pub mod Marking
+pub mod NameFilters
 pub mod CondViews
-pub mod Worth
+pub mod Evaluation
 pub mod Stacks
-pub mod Asking
-pub mod Rows
+pub mod DefinedOperands
+pub mod TwoSlots
 pub mod Digits
-pub mod Naming
+pub mod NameLists

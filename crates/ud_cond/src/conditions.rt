@@ -5,15 +5,15 @@ ghost use Rattle.ud_model.specs.text.Bytes.{are_word_bytes, is_identifier};
 ghost use Rattle.ud_model.specs.conditions.Table.{Argument};
 ghost use Rattle.ud_model.specs.conditions.Conditions as spec;
 ghost use Rattle.ud_model.specs.declared.limits.TheConstants.{LINE_BYTES};
-ghost use Rattle.ud_cond.specs.Standing.{StandsFor};
+ghost use Rattle.ud_cond.specs.SymbolTable.{TableRepresents};
 ghost use Rattle.ud_cond.specs.CondViews.{as_rules, as_decision};
-ghost use Rattle.ud_cond.specs.Worth.{decided};
+ghost use Rattle.ud_cond.specs.Evaluation.{cond_of_value};
 
-use crate::parsing::whole;
-use crate::rows::row;
+use crate::fast_path::evaluate_fast;
+use crate::parsing::evaluate;
 use crate::symbols::Symbols;
 use crate::values::{Scope, Value};
-use ud_model::bytes::{are_white, is_digit, past_white, word_len};
+use ud_model::bytes::{are_white, is_digit, skip_white, word_len};
 use ud_model::{Cond, Kind, Role, Test};
 
 /// How expressions are valued.
@@ -35,10 +35,10 @@ pub struct Answer {
 }
 
 /// What a value decides.
-fn decided(rules: Rules, value: Value) -> Cond
-    ensures { result ≡ decided (as_rules rules) value }
+fn cond_of_value(rules: Rules, value: Value) -> Cond
+    ensures { result ≡ cond_of_value (as_rules rules) value }
 {
-    if value.spoiled || !(rules.constants || value.listed) {
+    if value.calls_undefined || !(rules.constants || value.listed) {
         return Cond::Unknown;
     }
     match value.number {
@@ -59,18 +59,18 @@ fn expression_cond(text: &[u8], symbols: &Symbols, rules: Rules) -> Cond
         strict: rules.strict,
         unsigned: false,
     };
-    if let Some(value) = row(&signed, text) {
+    if let Some(value) = evaluate_fast(&signed, text) {
         if !value.unsigned {
-            return decided(rules, value);
+            return cond_of_value(rules, value);
         }
     }
-    any_expression_cond(text, symbols, rules)
+    general_expression_cond(text, symbols, rules)
 }
 
 /// The same of any text.
 #[cold]
 #[inline(never)]
-fn any_expression_cond(text: &[u8], symbols: &Symbols, rules: Rules) -> Cond
+fn general_expression_cond(text: &[u8], symbols: &Symbols, rules: Rules) -> Cond
     requires fits { length text.now ≤ LINE_BYTES }
     ensures { result ≡ spec.expression_cond text.now symbols.now (as_rules rules) }
 {
@@ -79,20 +79,20 @@ fn any_expression_cond(text: &[u8], symbols: &Symbols, rules: Rules) -> Cond
         strict: rules.strict,
         unsigned: false,
     };
-    match whole(&signed, text) {
+    match evaluate(&signed, text) {
         None => Cond::Unknown,
         Some(value) => {
             if !value.unsigned {
-                return decided(rules, value);
+                return cond_of_value(rules, value);
             }
             let unsigned = Scope {
                 symbols: Some(symbols),
                 strict: rules.strict,
                 unsigned: true,
             };
-            match whole(&unsigned, text) {
+            match evaluate(&unsigned, text) {
                 None => Cond::Unknown,
-                Some(value) => decided(rules, value),
+                Some(value) => cond_of_value(rules, value),
             }
         }
     }
@@ -102,7 +102,7 @@ fn any_expression_cond(text: &[u8], symbols: &Symbols, rules: Rules) -> Cond
 pub(crate) fn sole_name(text: &[u8]) -> Option<&[u8]>
     ensures { option_map (λ n. n.now) result ≡ spec.sole_name text.now }
 {
-    let text = past_white(text);
+    let text = skip_white(text);
     let length = word_len(text);
     let word = &text[..length];
     if is_name_word(word) && are_white(&text[length..]) {
@@ -149,8 +149,8 @@ fn ifdef_answer(text: &[u8], symbols: &Symbols) -> Answer
 }
 
 /// The other way round.
-fn negated(cond: Cond) -> Cond
-    ensures { result ≡ spec.negated cond }
+fn negate(cond: Cond) -> Cond
+    ensures { result ≡ spec.negate cond }
 {
     match cond {
         Cond::Yes => Cond::No,
@@ -161,9 +161,9 @@ fn negated(cond: Cond) -> Cond
 
 /// What is decided of a text by what makes its condition true.
 #[inline(always)]
-fn decided_by(test: Test, text: &[u8], symbols: &Symbols, rules: Rules) -> Answer
+fn condition_by_test(test: Test, text: &[u8], symbols: &Symbols, rules: Rules) -> Answer
     requires fits { length text.now ≤ LINE_BYTES }
-    ensures { as_decision result ≡ spec.decided_by test text.now symbols.now (as_rules rules) }
+    ensures { as_decision result ≡ spec.decision_by_test test text.now symbols.now (as_rules rules) }
 {
     match test {
         Test::Nonzero => Answer {
@@ -174,7 +174,7 @@ fn decided_by(test: Test, text: &[u8], symbols: &Symbols, rules: Rules) -> Answe
         Test::Undefined => {
             let answer = ifdef_answer(text, symbols);
             Answer {
-                cond: negated(answer.cond),
+                cond: negate(answer.cond),
                 ignoring: answer.ignoring,
             }
         }
@@ -187,11 +187,11 @@ fn decided_by(test: Test, text: &[u8], symbols: &Symbols, rules: Rules) -> Answe
 
 /// What is decided by these very rows. Only a directive that begins a section makes it plain text.
 #[inline(always)]
-fn decide(kind: Kind, text: &[u8], symbols: &Symbols, rules: Rules) -> Answer
+fn condition_by_kind(kind: Kind, text: &[u8], symbols: &Symbols, rules: Rules) -> Answer
     requires fits { length text.now ≤ LINE_BYTES }
     ensures { as_decision result ≡ spec.condition_of kind text.now symbols.now (as_rules rules) }
 {
-    let answer = decided_by(kind.test(), text, symbols, rules);
+    let answer = condition_by_test(kind.test(), text, symbols, rules);
     Answer {
         cond: answer.cond,
         ignoring: kind.role() == Role::IfGroup && answer.ignoring,
@@ -207,7 +207,7 @@ fn decide(kind: Kind, text: &[u8], symbols: &Symbols, rules: Rules) -> Answer
 #[inline(always)]
 pub fn condition(kind: Kind, text: &[u8], symbols: &Symbols, rules: Rules) -> Answer
     requires fits { length text.now ≤ LINE_BYTES }
-    ensures { (calls : List Argument) → StandsFor symbols.now calls → as_decision result ≡ spec.condition_of kind text.now calls (as_rules rules) }
+    ensures { (calls : List Argument) → TableRepresents symbols.now calls → as_decision result ≡ spec.condition_of kind text.now calls (as_rules rules) }
 {
-    decide(kind, text, symbols, rules)
+    condition_by_kind(kind, text, symbols, rules)
 }

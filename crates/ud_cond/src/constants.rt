@@ -9,7 +9,7 @@ ghost use Rattle.ud_model.specs.conditions.Values.{limited, constant_value};
 ghost use Rattle.ud_cond.specs.CondViews.{as_parts, base_of, is_digit_of};
 ghost use Rattle.ud_cond.specs.Digits.{IsOneDigit};
 
-use crate::tokens::{begins, behind};
+use crate::tokens::{skip_bytes, starts_with_byte};
 use ud_model::bytes::is_digit;
 
 /// The base of a constant.
@@ -25,7 +25,7 @@ enum Base {
 
 /// A word as the digits of a base and what follows them.
 #[derive(Clone, Copy)]
-struct Parts<'a> {
+struct ConstantParts<'a> {
     /// The base.
     base: Base,
     /// The digits.
@@ -55,7 +55,7 @@ fn is_digit_of(base: Base, byte: u8) -> bool
 }
 
 /// How many digits of a base stand in front.
-fn digits_in_front(base: Base, text: &[u8]) -> usize
+fn digits_len(base: Base, text: &[u8]) -> usize
     ensures value { result ≡ prefix_len (is_digit_of base) text.now }
     ensures within { result ≤ length text.now }
 {
@@ -67,11 +67,11 @@ fn digits_in_front(base: Base, text: &[u8]) -> usize
 }
 
 /// The digits of a base in front, and what follows them.
-fn cut_behind(base: Base, text: &[u8]) -> Parts<'_>
-    ensures { as_parts result ≡ spec.cut_behind (is_digit_of base) (base_of base) text.now }
+fn split_digits(base: Base, text: &[u8]) -> ConstantParts<'_>
+    ensures { as_parts result ≡ spec.split_digits (is_digit_of base) (base_of base) text.now }
 {
-    let count = digits_in_front(base, text);
-    Parts {
+    let count = digits_len(base, text);
+    ConstantParts {
         base,
         digits: &text[..count],
         suffix: &text[count..],
@@ -79,32 +79,32 @@ fn cut_behind(base: Base, text: &[u8]) -> Parts<'_>
 }
 
 /// Whether `0x` or `0X` stands in front.
-fn is_hex(word: &[u8]) -> bool
-    ensures { result ≡ spec.is_hex word.now }
+fn has_hex_prefix(word: &[u8]) -> bool
+    ensures { result ≡ spec.has_hex_prefix word.now }
 {
-    if !begins(b'0', word) {
+    if !starts_with_byte(b'0', word) {
         return false;
     }
-    let rest = behind(1, word);
-    begins(b'x', rest) || begins(b'X', rest)
+    let rest = skip_bytes(1, word);
+    starts_with_byte(b'x', rest) || starts_with_byte(b'X', rest)
 }
 
 /// The parts of a word.
-fn parts_of(word: &[u8]) -> Parts<'_>
-    ensures { as_parts result ≡ spec.parts_of word.now }
+fn constant_parts(word: &[u8]) -> ConstantParts<'_>
+    ensures { as_parts result ≡ spec.constant_parts word.now }
 {
-    if is_hex(word) {
-        cut_behind(Base::Hexadecimal, behind(2, word))
-    } else if begins(b'0', word) {
-        cut_behind(Base::Octal, word)
+    if has_hex_prefix(word) {
+        split_digits(Base::Hexadecimal, skip_bytes(2, word))
+    } else if starts_with_byte(b'0', word) {
+        split_digits(Base::Octal, word)
     } else {
-        cut_behind(Base::Decimal, word)
+        split_digits(Base::Decimal, word)
     }
 }
 
 /// Whether a text is one of these.
-fn is_among(mut words: &[&[u8]], text: &[u8]) -> bool
-    ensures { result ≡ spec.is_among (map (λ w. w.now) words.entry.now) text.now }
+fn is_one_of_texts(mut words: &[&[u8]], text: &[u8]) -> bool
+    ensures { result ≡ spec.is_one_of_texts (map (λ w. w.now) words.entry.now) text.now }
 {
     'words: while let [word, others @ ..] = words {
         if *word == text {
@@ -122,9 +122,9 @@ fn suffix_sign(suffix: &[u8]) -> Option<bool>
 {
     if suffix.is_empty() {
         Some(false)
-    } else if is_among(&UNSIGNED, suffix) {
+    } else if is_one_of_texts(&UNSIGNED, suffix) {
         Some(true)
-    } else if is_among(&SIGNED, suffix) {
+    } else if is_one_of_texts(&SIGNED, suffix) {
         Some(false)
     } else {
         None
@@ -132,10 +132,10 @@ fn suffix_sign(suffix: &[u8]) -> Option<bool>
 }
 
 /// Whether a word is a constant with a `u`; `None` where it is no constant.
-fn sign_of(word: &[u8]) -> Option<bool>
-    ensures { result ≡ spec.parts_sign (spec.parts_of word.now) }
+fn constant_sign(word: &[u8]) -> Option<bool>
+    ensures { result ≡ spec.constant_sign (spec.constant_parts word.now) }
 {
-    let parts = parts_of(word);
+    let parts = constant_parts(word);
     if parts.digits.is_empty() {
         None
     } else {
@@ -148,17 +148,17 @@ fn sign_of(word: &[u8]) -> Option<bool>
 pub(crate) fn is_constant(word: &[u8]) -> bool
     ensures { result ≡ spec.is_constant word.now }
 {
-    if digit_alone(word).is_some() {
+    if single_digit_value(word).is_some() {
         return true;
     }
-    sign_of(word).is_some()
+    constant_sign(word).is_some()
 }
 
 /// Whether a word is an integer constant with a `u` or `U`.
 pub(crate) fn has_u(word: &[u8]) -> bool
     ensures { result ≡ spec.has_u word.now }
 {
-    sign_of(word).unwrap_or(false)
+    constant_sign(word).unwrap_or(false)
 }
 
 /// The number that a digit is.
@@ -187,7 +187,7 @@ fn radix(base: Base) -> u64
 
 /// The number that digits of a base are; `None` where it is above 2^63-1.
 fn number(base: Base, digits: &[u8]) -> Option<i64>
-    ensures { result ≡ limited (spec.continued (base_of base) 0 digits.now) }
+    ensures { result ≡ limited (spec.append_digits (base_of base) 0 digits.now) }
 {
     let times = radix(base);
     let mut number: u64 = 0;
@@ -211,7 +211,7 @@ fn number(base: Base, digits: &[u8]) -> Option<i64>
 
 /// The number of a word that is one digit, as most constants are.
 #[inline(always)]
-pub(crate) fn digit_alone(word: &[u8]) -> Option<i64>
+pub(crate) fn single_digit_value(word: &[u8]) -> Option<i64>
     ensures { IfSome result (IsOneDigit word.now) }
 {
     match word {
@@ -229,6 +229,6 @@ pub(crate) fn digit_alone(word: &[u8]) -> Option<i64>
 pub(crate) fn constant_value(word: &[u8]) -> Option<i64>
     ensures { result ≡ constant_value word.now }
 {
-    let parts = parts_of(word);
+    let parts = constant_parts(word);
     number(parts.base, parts.digits)
 }

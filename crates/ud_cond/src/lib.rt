@@ -1,22 +1,22 @@
 //! Symbols, and what they decide of a condition.
 //!
 //! What a list of calls says of a name stands in ud_model, specs/conditions/Table.antt; what a condition is, in specs/conditions/Conditions.antt.
-//! `specs/Standing.antt` says what a `Symbols` stands for and how it is sorted, `specs/Marking.antt` which names it tells at once
-//! that it doesn't list, `specs/Worth.antt` what is kept of an expression while `rows` or `parsing` reads it, and
-//! `specs/Rows.antt` and `specs/Stacks.antt` what waits meanwhile.
+//! `specs/SymbolTable.antt` says what a `Symbols` stands for and how it is sorted, `specs/NameFilters.antt` which names it tells at once
+//! that it doesn't list, `specs/Evaluation.antt` what is kept of an expression while `fast_path` or `parsing` reads it, and
+//! `specs/TwoSlots.antt` and `specs/Stacks.antt` what waits meanwhile.
 #![tactic(auto)]
 
 mod conditions;
 mod constants;
+mod fast_path;
 mod fault;
-mod hints;
 mod keys;
-mod listed;
-mod marks;
-mod naming;
+mod list_names;
+mod name_filter;
+mod names_iter;
 mod operators;
 mod parsing;
-mod rows;
+mod slot_cache;
 mod stacks;
 mod symbols;
 mod tokens;
@@ -24,6 +24,6 @@ mod values;
 
 pub use conditions::{Answer, Rules, condition};
 pub use fault::SymbolFault;
-pub use listed::Names;
-pub use naming::names;
+pub use list_names::names;
+pub use names_iter::Names;
 pub use symbols::{Entry, Symbols};

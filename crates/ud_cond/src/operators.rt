@@ -6,8 +6,8 @@ ghost use Rattle.ud_model.specs.conditions.Expressions as trees;
 use ud_model::Operator;
 
 /// The level of an operator between two operands, 1 being the loosest; 0 where it stands between none.
-pub(crate) fn level(operator: Operator) -> u8
-    ensures value { result ≡ trees.level operator }
+pub(crate) fn precedence(operator: Operator) -> u8
+    ensures value { result ≡ trees.precedence operator }
     ensures bound { result ≤ 9 }
 {
     match operator {

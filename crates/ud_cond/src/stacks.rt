@@ -7,9 +7,9 @@ ghost use Rattle.std.specs.Prelude.{◌≡◌, ◌≤◌, ◌+◌, ◌∷◌, []
 ghost use Rattle.ud_model.specs.aids.Parsing.{left, before, paren, reduce};
 ghost use Rattle.ud_cond.specs.Stacks as spec;
 ghost use Rattle.ud_cond.specs.Stacks.{weight};
-ghost use Rattle.ud_cond.specs.Worth.{worth_in};
+ghost use Rattle.ud_cond.specs.Evaluation.{value_meaning_in};
 
-use crate::operators::level;
+use crate::operators::precedence;
 use crate::values::{Scope, Value, binary, unary};
 use arrayvec::ArrayVec;
 use std::marker::Model;
@@ -17,24 +17,24 @@ use ud_model::Operator;
 
 /// What waits on the stack of operators.
 #[derive(Clone, Copy)]
-pub(crate) enum Waiting {
+pub(crate) enum PendingOp {
     /// An open parenthesis.
     Opening,
     /// An operator whose left operand waits on the other stack.
-    Between(Operator),
+    Binary(Operator),
     /// An operator before its one operand.
-    Before(Operator),
+    Prefix(Operator),
 }
 
-impl Default for Waiting {
+impl Default for PendingOp {
     fn default() -> Self {
-        Waiting::Opening
+        PendingOp::Opening
     }
 }
 
 /// A left operand, in no more room than its number and facts take.
 #[derive(Default, Drop)]
-struct Operand {
+struct PackedValue {
     /// Its number, if that is known.
     number: i64,
     /// Whether the number is known.
@@ -44,29 +44,29 @@ struct Operand {
     /// A symbol of the table stands in it.
     is_listed: bool,
     /// An undefined symbol with arguments stands in it.
-    is_spoiled: bool,
+    calls_undefined: bool,
 }
 
-impl Model for Operand {
+impl Model for PackedValue {
     ghost use Rattle.std.specs.Prelude.{Some, None, if◌then◌else◌};
     ghost use Rattle.ud_cond.specs.declared.values.Value as declared;
 
     ghost Value = { declared.Value };
 
-    ghost view = { λ o. record { number = if o.is_known then Some o.number else None; unsigned = o.has_u; listed = o.is_listed; spoiled = o.is_spoiled } };
+    ghost view = { λ o. record { number = if o.is_known then Some o.number else None; unsigned = o.has_u; listed = o.is_listed; calls_undefined = o.calls_undefined } };
 }
 
-impl Operand {
+impl PackedValue {
     /// A value as it waits.
-    fn of(value: Value) -> Operand
+    fn of(value: Value) -> PackedValue
         ensures { result ≡ value }
     {
-        Operand {
+        PackedValue {
             number: value.number.unwrap_or(0),
             is_known: value.number.is_some(),
             has_u: value.unsigned,
             is_listed: value.listed,
-            is_spoiled: value.spoiled,
+            calls_undefined: value.calls_undefined,
         }
     }
 
@@ -82,7 +82,7 @@ impl Operand {
             },
             unsigned: self.has_u,
             listed: self.is_listed,
-            spoiled: self.is_spoiled,
+            calls_undefined: self.calls_undefined,
         }
     }
 }
@@ -91,9 +91,9 @@ impl Operand {
 #[derive(Drop)]
 pub(crate) struct Stacks<const BYTES: usize, const OPERANDS: usize> {
     /// Operators and parentheses; the last one is the innermost.
-    operators: ArrayVec<Waiting, BYTES>,
+    operators: ArrayVec<PendingOp, BYTES>,
     /// The left operands of those operators that have one.
-    operands: ArrayVec<Operand, OPERANDS>,
+    operands: ArrayVec<PackedValue, OPERANDS>,
 }
 
 impl<const BYTES: usize, const OPERANDS: usize> Model for Stacks<BYTES, OPERANDS> {
@@ -124,43 +124,43 @@ impl<const BYTES: usize, const OPERANDS: usize> Stacks<BYTES, OPERANDS> {
 
     /// Whether nothing waits.
     pub(crate) fn is_empty(&self) -> bool
-        ensures { result ≡ spec.is_nothing self.now }
+        ensures { result ≡ spec.is_empty self.now }
     {
         self.operators.is_empty()
     }
 
     /// An operator waits with its left operand.
-    pub(crate) fn push_left(&mut self, operator: Operator, operand: Value)
+    pub(crate) fn push_binary(&mut self, operator: Operator, operand: Value)
         requires { weight self.old + 2 ≤ BYTES }
         ensures { self.new ≡ left operator operand ∷ self.old }
     {
-        self.operators.push(Waiting::Between(operator));
-        self.operands.push(Operand::of(operand));
+        self.operators.push(PendingOp::Binary(operator));
+        self.operands.push(PackedValue::of(operand));
     }
 
     /// An operator waits before its operand.
-    pub(crate) fn push_before(&mut self, operator: Operator)
+    pub(crate) fn push_prefix(&mut self, operator: Operator)
         requires { weight self.old + 1 ≤ BYTES }
         ensures { self.new ≡ before operator ∷ self.old }
     {
-        self.operators.push(Waiting::Before(operator));
+        self.operators.push(PendingOp::Prefix(operator));
     }
 
     /// A parenthesis waits for its end.
-    pub(crate) fn push_opening(&mut self)
+    pub(crate) fn push_paren(&mut self)
         requires { weight self.old + 1 ≤ BYTES }
         ensures { self.new ≡ paren ∷ self.old }
     {
-        self.operators.push(Waiting::Opening);
+        self.operators.push(PendingOp::Opening);
     }
 
     /// Takes the innermost parenthesis, if nothing waits inside.
-    pub(crate) fn close(&mut self) -> bool
+    pub(crate) fn pop_paren(&mut self) -> bool
         ensures yes { IsTrue result → self.old ≡ paren ∷ self.new }
         ensures no { result ≡ false → spec.IsNoParen self.old }
     {
         match self.operators.pop() {
-            Some(Waiting::Opening) => true,
+            Some(PendingOp::Opening) => true,
             Some(other) => {
                 self.operators.push(other);
                 false
@@ -170,22 +170,22 @@ impl<const BYTES: usize, const OPERANDS: usize> Stacks<BYTES, OPERANDS> {
     }
 
     /// Takes the innermost operator, with its left operand if it has one, if it is of this level or tighter.
-    fn take(&mut self, least: u8) -> Option<(Operator, Option<Value>)>
+    fn pop_operator(&mut self, least: u8) -> Option<(Operator, Option<Value>)>
         ensures none { IfNone result (self.new ≡ self.old × spec.IsSettled least self.old) }
-        ensures some { IfSome result (λ t. self.old ≡ spec.taken t.0 t.1 ∷ self.new × spec.Takes least t.0 t.1) }
+        ensures some { IfSome result (λ t. self.old ≡ spec.popped t.0 t.1 ∷ self.new × spec.BindsAsTightly least t.0 t.1) }
     {
         match self.operators.pop() {
-            Some(Waiting::Between(operator)) => {
-                if level(operator) < least {
-                    self.operators.push(Waiting::Between(operator));
+            Some(PendingOp::Binary(operator)) => {
+                if precedence(operator) < least {
+                    self.operators.push(PendingOp::Binary(operator));
                     return None;
                 }
                 let operand = self.operands.pop().unwrap();
                 Some((operator, Some(operand.value())))
             }
-            Some(Waiting::Before(operator)) => Some((operator, None)),
-            Some(Waiting::Opening) => {
-                self.operators.push(Waiting::Opening);
+            Some(PendingOp::Prefix(operator)) => Some((operator, None)),
+            Some(PendingOp::Opening) => {
+                self.operators.push(PendingOp::Opening);
                 None
             }
             None => None,
@@ -194,11 +194,11 @@ impl<const BYTES: usize, const OPERANDS: usize> Stacks<BYTES, OPERANDS> {
 
     /// The operators of a level or tighter take their operands, of which this is the last.
     pub(crate) fn reduce(&mut self, scope: &Scope<'_>, least: u8, last: Value) -> Value
-        ensures value { reduce (worth_in scope.now) least last self.old ≡ (result, self.new) }
+        ensures value { reduce (value_meaning_in scope.now) least last self.old ≡ (result, self.new) }
         ensures lighter { weight self.new ≤ weight self.old }
     {
         let mut value = last;
-        'waiting: while let Some((operator, operand)) = self.take(least) {
+        'waiting: while let Some((operator, operand)) = self.pop_operator(least) {
             value = match operand {
                 Some(operand) => binary(scope, operator, operand, value),
                 None => unary(scope, operator, value),

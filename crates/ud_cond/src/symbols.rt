@@ -7,16 +7,16 @@
 ghost use Rattle.std.specs.Prelude.{◌≡◌, ◌++◌, ◌∷◌, [], List, option_map, OnOk, OnErr, IfOk, IfErr, IsErrOf, Some, None, ◌↔◌, false, true, IsTrue, length, bytes_eq};
 ghost use Rattle.std.specs.List.{insert};
 ghost use Rattle.ud_model.specs.conditions.Table.{Argument, entry_in};
-ghost use Rattle.ud_model.specs.answer.Arguments as names;
+ghost use Rattle.ud_model.specs.answer.SymbolArguments as names;
 ghost use Rattle.ud_model.specs.conditions.Symbols as ends;
 ghost use Rattle.ud_cond.specs.Keys as spec;
-ghost use Rattle.ud_cond.specs.Standing.{StandsFor, Changes, name_cmp, alike_cmp, IsRowOf, IsGapFor};
-ghost use Rattle.ud_cond.specs.CondViews.{as_entry, said};
+ghost use Rattle.ud_cond.specs.SymbolTable.{TableRepresents, SetsEntry, name_cmp, same_key_cmp, IsRowOf, IsGapFor};
+ghost use Rattle.ud_cond.specs.CondViews.{as_entry, argument_for};
 
 use crate::fault::SymbolFault;
-use crate::hints::Hints;
 use crate::keys::{is_same, key_of};
-use crate::marks::Marks;
+use crate::name_filter::NameFilter;
+use crate::slot_cache::SlotCache;
 use std::alloc::Global;
 use std::cmp::Ordering;
 use std::marker::Model;
@@ -47,12 +47,12 @@ struct Row {
 impl Model for Row {
     ghost use Rattle.std.specs.Prelude.{◌≡◌, option_map};
     ghost use Rattle.ud_model.specs.conditions.Table.{Argument};
-    ghost use Rattle.ud_cond.specs.CondViews.{said};
+    ghost use Rattle.ud_cond.specs.CondViews.{argument_for};
     ghost use Rattle.ud_cond.specs.Keys.{key_of};
 
     ghost Value = { Argument };
 
-    ghost view = { λ r. said r.symbol.items (option_map (λ v. v.items) r.text) r.ignores };
+    ghost view = { λ r. argument_for r.symbol.items (option_map (λ v. v.items) r.text) r.ignores };
 
     ghost invariant = { λ r. r.number ≡ key_of r.symbol.items };
 }
@@ -67,7 +67,7 @@ impl Row {
 
     /// Whether the row names it, which has this key.
     #[inline(always)]
-    fn is_of(&self, key: u64, name: &[u8]) -> bool
+    fn has_key_and_name(&self, key: u64, name: &[u8]) -> bool
         requires { key ≡ spec.key_of name.now }
         ensures { IsTrue result → bytes_eq self.now.name name.now ≡ true }
     {
@@ -75,7 +75,7 @@ impl Row {
     }
 
     /// Whether the row names it.
-    fn names(&self, name: &[u8]) -> bool
+    fn has_name(&self, name: &[u8]) -> bool
         ensures { result ≡ bytes_eq self.now.name name.now }
     {
         self.symbol.as_slice() == name
@@ -87,14 +87,14 @@ impl Row {
         ensures { result ≡ name_cmp self.now.name name.now }
     {
         match self.number.cmp(&key) {
-            Ordering::Equal => self.compare_alike(name),
+            Ordering::Equal => self.compare_same_key(name),
             other => other,
         }
     }
 
     /// How the row's name stands to a name with the same key.
-    fn compare_alike(&self, name: &[u8]) -> Ordering
-        ensures { result ≡ alike_cmp self.now.name name.now }
+    fn compare_same_key(&self, name: &[u8]) -> Ordering
+        ensures { result ≡ same_key_cmp self.now.name name.now }
     {
         match self.symbol.len().cmp(&name.len()) {
             Ordering::Equal => self.symbol.as_slice().cmp(&name),
@@ -124,35 +124,35 @@ pub struct Symbols {
     /// The rows, one a name, by their keys, and those of one key by their lengths and bytes.
     rows: Vec<Row>,
     /// The marks of their names.
-    marks: Marks,
+    filter: NameFilter,
     /// Where rows stand, to be tried before they are searched.
-    hints: Hints,
+    cache: SlotCache,
 }
 
 impl Model for Symbols {
     ghost use Rattle.std.specs.Prelude.{List};
     ghost use Rattle.ud_model.specs.conditions.Table.{Argument};
-    ghost use Rattle.ud_cond.specs.Standing.{AreSorted};
-    ghost use Rattle.ud_cond.specs.Marking.{AreNoted};
+    ghost use Rattle.ud_cond.specs.SymbolTable.{AreSorted};
+    ghost use Rattle.ud_cond.specs.NameFilters.{AreInFilter};
 
     ghost Value = { List Argument };
 
     ghost view = { λ s. s.rows.items };
 
-    ghost invariant = { λ s. AreSorted s.rows.items × AreNoted s.marks.noted s.rows.items };
+    ghost invariant = { λ s. AreSorted s.rows.items × AreInFilter s.filter.slots s.rows.items };
 }
 
 impl Symbols {
     /// The table that says nothing of any name. It takes no memory; what it takes later comes from `alloc`.
     pub fn new(alloc: Global) -> Symbols
         ensures value { result ≡ [] }
-        ensures stands { StandsFor result [] }
+        ensures represents { TableRepresents result [] }
     {
         Symbols {
             alloc,
             rows: Vec::new(alloc),
-            marks: Marks::new(),
-            hints: Hints::new(),
+            filter: NameFilter::new(),
+            cache: SlotCache::new(),
         }
     }
 
@@ -162,12 +162,12 @@ impl Symbols {
     /// In this order: `BadName` where the name isn't an identifier or is `defined` (C11 6.10.8p4), before memory is
     /// taken; `OutOfMemory` if memory is refused. The table stays as it was.
     pub fn define(&mut self, name: &[u8], value: &[u8], ignoring: bool) -> Result<(), SymbolFault>
-        ensures ok { OnOk result (Changes self.old self.new (said name.now (Some value.now) ignoring)) }
-        ensures stands { OnOk result ((calls : List Argument) → StandsFor self.old calls → StandsFor self.new (calls ++ said name.now (Some value.now) ignoring ∷ [])) }
+        ensures ok { OnOk result (SetsEntry self.old self.new (argument_for name.now (Some value.now) ignoring)) }
+        ensures represents { OnOk result ((calls : List Argument) → TableRepresents self.old calls → TableRepresents self.new (calls ++ argument_for name.now (Some value.now) ignoring ∷ [])) }
         ensures err { OnErr result (self.new ≡ self.old) }
         ensures bad { IsErrOf result SymbolFault.BadName ↔ names.is_name name.now ≡ false }
     {
-        self.say(name, Some(value), ignoring)
+        self.update(name, Some(value), ignoring)
     }
 
     /// Says of a name that it is undefined, and whether its sections are plain text.
@@ -176,25 +176,25 @@ impl Symbols {
     /// In this order: `BadName` where the name isn't an identifier or is `defined` (C11 6.10.8p4), before memory is
     /// taken; `OutOfMemory` if memory is refused. The table stays as it was.
     pub fn undefine(&mut self, name: &[u8], ignoring: bool) -> Result<(), SymbolFault>
-        ensures ok { OnOk result (Changes self.old self.new (said name.now None ignoring)) }
-        ensures stands { OnOk result ((calls : List Argument) → StandsFor self.old calls → StandsFor self.new (calls ++ said name.now None ignoring ∷ [])) }
+        ensures ok { OnOk result (SetsEntry self.old self.new (argument_for name.now None ignoring)) }
+        ensures represents { OnOk result ((calls : List Argument) → TableRepresents self.old calls → TableRepresents self.new (calls ++ argument_for name.now None ignoring ∷ [])) }
         ensures err { OnErr result (self.new ≡ self.old) }
         ensures bad { IsErrOf result SymbolFault.BadName ↔ names.is_name name.now ≡ false }
     {
-        self.say(name, None, ignoring)
+        self.update(name, None, ignoring)
     }
 
     /// What the last accepted call for a name said of it; `None` if no call named it.
     #[inline(always)]
     pub fn find(&self, name: &[u8]) -> Option<Entry<'_>>
         ensures value { option_map as_entry result ≡ entry_in self.now name.now }
-        ensures stands { (calls : List Argument) → StandsFor self.now calls → option_map as_entry result ≡ entry_in calls name.now }
+        ensures represents { (calls : List Argument) → TableRepresents self.now calls → option_map as_entry result ≡ entry_in calls name.now }
     {
         let key = key_of(name);
-        if !self.marks.has(key) {
+        if !self.filter.may_contain(key) {
             return None;
         }
-        match self.place(key, name) {
+        match self.position(key, name) {
             Ok(i) => Some(self.rows[i].entry()),
             Err(_) => None,
         }
@@ -208,7 +208,7 @@ impl Symbols {
     }
 
     /// The text as which a name is defined.
-    fn text_of(&self, name: &[u8]) -> Option<&[u8]>
+    fn defined_text(&self, name: &[u8]) -> Option<&[u8]>
         ensures { option_map (λ v. v.now) result ≡ ends.defined_text self.now name.now }
     {
         self.find(name)?.value
@@ -217,13 +217,13 @@ impl Symbols {
     /// The text at which the value of a name ends: the first that is no identifier, from name to name. There is none
     /// where a name on the way isn't defined, or where the way takes more steps than there are rows, since it then is a
     /// cycle.
-    pub(crate) fn end_of<'a>(&'a self, name: &'a [u8]) -> Option<&'a [u8]>
-        ensures { option_map (λ v. v.now) result ≡ ends.end_of self.now name.now }
+    pub(crate) fn resolve<'a>(&'a self, name: &'a [u8]) -> Option<&'a [u8]>
+        ensures { option_map (λ v. v.now) result ≡ ends.resolve self.now name.now }
     {
         let mut at = name;
         let most = self.count();
         'steps: for _ in 0..most {
-            let text = self.text_of(at)?;
+            let text = self.defined_text(at)?;
             if !is_identifier(text) {
                 return Some(text);
             }
@@ -234,21 +234,21 @@ impl Symbols {
 
     /// The place of the row of a name with this key, or the one at which it would stand. Most rows stand where it is told.
     #[inline(always)]
-    fn place(&self, key: u64, name: &[u8]) -> Result<usize, usize>
+    fn position(&self, key: u64, name: &[u8]) -> Result<usize, usize>
         requires keyed { key ≡ spec.key_of name.now }
         ensures found { IfOk result (λ i. IsRowOf self.now i name.now) }
         ensures absent { IfErr result (λ i. IsGapFor self.now i name.now) }
     {
-        let i = self.hints.told(key);
-        if i < self.rows.len() && self.rows[i].is_of(key, name) {
+        let i = self.cache.get(key);
+        if i < self.rows.len() && self.rows[i].has_key_and_name(key, name) {
             return Ok(i);
         }
-        self.search(key, name)
+        self.binary_search(key, name)
     }
 
     /// The same by halving. Most names have a key of their own.
     #[inline(never)]
-    fn search(&self, key: u64, name: &[u8]) -> Result<usize, usize>
+    fn binary_search(&self, key: u64, name: &[u8]) -> Result<usize, usize>
         requires keyed { key ≡ spec.key_of name.now }
         ensures found { IfOk result (λ i. IsRowOf self.now i name.now) }
         ensures absent { IfErr result (λ i. IsGapFor self.now i name.now) }
@@ -256,17 +256,17 @@ impl Symbols {
         match self.rows.binary_search_by_key(&key, |row| row.key()) {
             Err(i) => Err(i),
             Ok(i) => {
-                if self.rows[i].names(name) {
+                if self.rows[i].has_name(name) {
                     return Ok(i);
                 }
-                self.search_alike(key, name)
+                self.binary_search_same_key(key, name)
             }
         }
     }
 
     /// The same, where rows of other names have the same key.
     #[inline(never)]
-    fn search_alike(&self, key: u64, name: &[u8]) -> Result<usize, usize>
+    fn binary_search_same_key(&self, key: u64, name: &[u8]) -> Result<usize, usize>
         requires keyed { key ≡ spec.key_of name.now }
         ensures found { IfOk result (λ i. IsRowOf self.now i name.now) }
         ensures absent { IfErr result (λ i. IsGapFor self.now i name.now) }
@@ -275,26 +275,36 @@ impl Symbols {
     }
 
     /// Says of a name that it has this value, or that it is undefined.
-    fn say(&mut self, name: &[u8], value: Option<&[u8]>, ignoring: bool) -> Result<(), SymbolFault>
-        ensures ok { OnOk result (Changes self.old self.new (said name.now (option_map (λ v. v.now) value.entry) ignoring)) }
+    fn update(
+        &mut self,
+        name: &[u8],
+        value: Option<&[u8]>,
+        ignoring: bool,
+    ) -> Result<(), SymbolFault>
+        ensures ok { OnOk result (SetsEntry self.old self.new (argument_for name.now (option_map (λ v. v.now) value.entry) ignoring)) }
         ensures err { OnErr result (self.new ≡ self.old) }
         ensures bad { IsErrOf result SymbolFault.BadName ↔ names.is_name name.now ≡ false }
     {
         if !is_name(name) {
             return Err(SymbolFault::BadName);
         }
-        self.set(name, value, ignoring)
+        self.insert_or_replace(name, value, ignoring)
     }
 
     /// Changes the row of a name, or adds one.
-    fn set(&mut self, name: &[u8], value: Option<&[u8]>, ignoring: bool) -> Result<(), SymbolFault>
-        ensures ok { OnOk result (Changes self.old self.new (said name.now (option_map (λ v. v.now) value.entry) ignoring)) }
+    fn insert_or_replace(
+        &mut self,
+        name: &[u8],
+        value: Option<&[u8]>,
+        ignoring: bool,
+    ) -> Result<(), SymbolFault>
+        ensures ok { OnOk result (SetsEntry self.old self.new (argument_for name.now (option_map (λ v. v.now) value.entry) ignoring)) }
         ensures err { OnErr result (self.new ≡ self.old) }
         ensures fault { OnErr result (IsErrOf result SymbolFault.OutOfMemory) }
     {
-        let text = copy_of(self.alloc, value)?;
+        let text = try_clone(self.alloc, value)?;
         let key = key_of(name);
-        match self.search(key, name) {
+        match self.binary_search(key, name) {
             Ok(i) => {
                 let row = &mut self.rows[i];
                 row.text = text;
@@ -309,22 +319,22 @@ impl Symbols {
                     text,
                     ignores: ignoring,
                 };
-                self.add(i, key, row)
+                self.insert_at(i, key, row)
             }
         }
     }
 
     /// Adds a row at the place of its name.
-    fn add(&mut self, i: usize, key: u64, row: Row) -> Result<(), SymbolFault>
+    fn insert_at(&mut self, i: usize, key: u64, row: Row) -> Result<(), SymbolFault>
         requires gap { IsGapFor self.old i row.name }
         requires keyed { key ≡ spec.key_of row.name }
         ensures ok { OnOk result (self.new ≡ insert self.old i row) }
         ensures err { OnErr result (self.new ≡ self.old) }
         ensures fault { OnErr result (IsErrOf result SymbolFault.OutOfMemory) }
     {
-        self.marks.note(key);
+        self.filter.insert(key);
         let added = self.rows.insert(i, row);
-        tell_from(&mut self.hints, self.rows.as_slice(), i);
+        cache_positions_from(&mut self.cache, self.rows.as_slice(), i);
         match added {
             Ok(()) => Ok(()),
             Err(_) => Err(SymbolFault::OutOfMemory),
@@ -333,14 +343,14 @@ impl Symbols {
 }
 
 /// Tells where each row stands from this place on.
-fn tell_from(hints: &mut Hints, rows: &[Row], from: usize) {
+fn cache_positions_from(cache: &mut SlotCache, rows: &[Row], from: usize) {
     for i in from..rows.len() {
-        hints.tell(rows[i].key(), i);
+        cache.set(rows[i].key(), i);
     }
 }
 
 /// A value in memory of its own.
-fn copy_of(alloc: Global, value: Option<&[u8]>) -> Result<Option<Vec<u8>>, SymbolFault>
+fn try_clone(alloc: Global, value: Option<&[u8]>) -> Result<Option<Vec<u8>>, SymbolFault>
     ensures ok { IfOk result (λ c. option_map (λ v. v.items) c ≡ option_map (λ v. v.now) value.entry) }
     ensures fault { OnErr result (IsErrOf result SymbolFault.OutOfMemory) }
 {

@@ -10,7 +10,7 @@ ghost use Rattle.ud_cond.specs.CondViews.{as_next};
 
 use crate::constants::is_constant;
 use ud_model::Operator;
-use ud_model::bytes::{is_digit, is_word_byte, past_white, word_len};
+use ud_model::bytes::{is_digit, is_word_byte, skip_white, word_len};
 
 /// A token of an expression.
 #[derive(Clone, Copy)]
@@ -31,7 +31,7 @@ pub(crate) enum Token<'a> {
 
 /// What stands at the front of a text.
 #[derive(Clone, Copy)]
-pub(crate) enum Next<'a> {
+pub(crate) enum NextToken<'a> {
     /// White space alone.
     AtEnd,
     /// No token.
@@ -41,22 +41,22 @@ pub(crate) enum Next<'a> {
 }
 
 /// Whether a text begins with a byte.
-pub(crate) fn begins(byte: u8, text: &[u8]) -> bool
-    ensures { result ≡ texts.begins byte text.now }
+pub(crate) fn starts_with_byte(byte: u8, text: &[u8]) -> bool
+    ensures { result ≡ texts.starts_with_byte byte text.now }
 {
     text.first() == Some(&byte)
 }
 
 /// A text without the bytes in front, as many as it has at most.
-pub(crate) fn behind(count: usize, text: &[u8]) -> &[u8]
+pub(crate) fn skip_bytes(count: usize, text: &[u8]) -> &[u8]
     ensures { result.now ≡ drop count text.now }
 {
     text.get(count..).unwrap_or(&[])
 }
 
 /// What stands after the `)` that closes a parenthesis, of which what is inside comes first.
-fn behind_closing(text: &[u8]) -> Option<&[u8]>
-    ensures { option_map (λ rest. rest.now) result ≡ spec.behind_closing 0 text.now }
+fn after_matching_paren(text: &[u8]) -> Option<&[u8]>
+    ensures { option_map (λ rest. rest.now) result ≡ spec.after_matching_paren 0 text.now }
 {
     let mut open: usize = 0;
     let mut rest = text;
@@ -76,24 +76,25 @@ fn behind_closing(text: &[u8]) -> Option<&[u8]>
 
 /// A name, and the arguments after it if a `(` comes next.
 #[inline(always)]
-fn name_token<'a>(word: &'a [u8], rest: &'a [u8]) -> Next<'a>
+fn name_token<'a>(word: &'a [u8], rest: &'a [u8]) -> NextToken<'a>
     ensures { as_next result ≡ spec.name_token word.now rest.now }
 {
-    let next = past_white(rest);
-    if !begins(b'(', next) {
-        return Next::Found(Token::Name(word, false), rest);
+    let next = skip_white(rest);
+    if !starts_with_byte(b'(', next) {
+        return NextToken::Found(Token::Name(word, false), rest);
     }
-    match behind_closing(behind(1, next)) {
-        None => Next::Unreadable,
-        Some(rest) => Next::Found(Token::Name(word, true), rest),
+    match after_matching_paren(skip_bytes(1, next)) {
+        None => NextToken::Unreadable,
+        Some(rest) => NextToken::Found(Token::Name(word, true), rest),
     }
 }
 
 /// Whether a word ends in `e` or `E`, and a sign follows: C reads both as one token (C11 6.4.8).
-fn takes_sign(word: &[u8], rest: &[u8]) -> bool
-    ensures { result ≡ spec.takes_sign word.now rest.now }
+fn has_exponent_sign(word: &[u8], rest: &[u8]) -> bool
+    ensures { result ≡ spec.has_exponent_sign word.now rest.now }
 {
-    matches!(word.last(), Some(b'e' | b'E')) && (begins(b'+', rest) || begins(b'-', rest))
+    matches!(word.last(), Some(b'e' | b'E'))
+        && (starts_with_byte(b'+', rest) || starts_with_byte(b'-', rest))
 }
 
 /// Whether a word begins with a digit.
@@ -116,17 +117,17 @@ fn is_defined(word: &[u8]) -> bool
 
 /// The token of a word, which is a constant where it begins with a digit.
 #[inline(always)]
-fn word_token<'a>(word: &'a [u8], rest: &'a [u8]) -> Next<'a>
+fn word_token<'a>(word: &'a [u8], rest: &'a [u8]) -> NextToken<'a>
     ensures { as_next result ≡ spec.word_token word.now rest.now }
 {
     if begins_with_digit(word) {
-        if is_constant(word) && !takes_sign(word, rest) {
-            Next::Found(Token::Number(word), rest)
+        if is_constant(word) && !has_exponent_sign(word, rest) {
+            NextToken::Found(Token::Number(word), rest)
         } else {
-            Next::Unreadable
+            NextToken::Unreadable
         }
     } else if is_defined(word) {
-        Next::Found(Token::Defined, rest)
+        NextToken::Found(Token::Defined, rest)
     } else {
         name_token(word, rest)
     }
@@ -134,64 +135,69 @@ fn word_token<'a>(word: &'a [u8], rest: &'a [u8]) -> Next<'a>
 
 /// The operator of two bytes where the second one follows, else the one of one byte.
 #[inline(always)]
-fn longer_of<'a>(second: u8, long: Operator, short: Operator, rest: &'a [u8]) -> Next<'a>
-    ensures { as_next result ≡ spec.longer_of second long short rest.now }
+fn one_or_two_bytes<'a>(
+    second: u8,
+    long: Operator,
+    short: Operator,
+    rest: &'a [u8],
+) -> NextToken<'a>
+    ensures { as_next result ≡ spec.one_or_two_bytes second long short rest.now }
 {
-    if begins(second, rest) {
-        Next::Found(Token::Operator(long), behind(1, rest))
+    if starts_with_byte(second, rest) {
+        NextToken::Found(Token::Operator(long), skip_bytes(1, rest))
     } else {
-        Next::Found(Token::Operator(short), rest)
+        NextToken::Found(Token::Operator(short), rest)
     }
 }
 
 /// An operator of one byte.
 #[inline(always)]
-fn single(operator: Operator, rest: &[u8]) -> Next<'_>
+fn single(operator: Operator, rest: &[u8]) -> NextToken<'_>
     ensures { as_next result ≡ spec.found (spec.operator operator) rest.now }
 {
-    Next::Found(Token::Operator(operator), rest)
+    NextToken::Found(Token::Operator(operator), rest)
 }
 
 /// The token that begins with a byte that is in no word.
 #[inline(always)]
-fn sign_token(byte: u8, rest: &[u8]) -> Next<'_>
-    ensures { as_next result ≡ spec.sign_token byte rest.now }
+fn punctuator(byte: u8, rest: &[u8]) -> NextToken<'_>
+    ensures { as_next result ≡ spec.punctuator byte rest.now }
 {
     match byte {
-        b'(' => Next::Found(Token::Opening, rest),
-        b')' => Next::Found(Token::Closing, rest),
-        b'!' => longer_of(b'=', Operator::NotEqual, Operator::Not, rest),
-        b'<' => longer_of(b'=', Operator::LessEqual, Operator::Less, rest),
-        b'>' => longer_of(b'=', Operator::GreaterEqual, Operator::Greater, rest),
-        b'&' => longer_of(b'&', Operator::And, Operator::BitAnd, rest),
-        b'|' => longer_of(b'|', Operator::Or, Operator::BitOr, rest),
-        b'=' if begins(b'=', rest) => single(Operator::Equal, behind(1, rest)),
-        b'-' if !begins(b'-', rest) => single(Operator::Minus, rest),
+        b'(' => NextToken::Found(Token::Opening, rest),
+        b')' => NextToken::Found(Token::Closing, rest),
+        b'!' => one_or_two_bytes(b'=', Operator::NotEqual, Operator::Not, rest),
+        b'<' => one_or_two_bytes(b'=', Operator::LessEqual, Operator::Less, rest),
+        b'>' => one_or_two_bytes(b'=', Operator::GreaterEqual, Operator::Greater, rest),
+        b'&' => one_or_two_bytes(b'&', Operator::And, Operator::BitAnd, rest),
+        b'|' => one_or_two_bytes(b'|', Operator::Or, Operator::BitOr, rest),
+        b'=' if starts_with_byte(b'=', rest) => single(Operator::Equal, skip_bytes(1, rest)),
+        b'-' if !starts_with_byte(b'-', rest) => single(Operator::Minus, rest),
         b'+' => single(Operator::Plus, rest),
         b'*' => single(Operator::Times, rest),
         b'/' => single(Operator::Over, rest),
         b'%' => single(Operator::Remainder, rest),
         b'^' => single(Operator::BitXor, rest),
         b'~' => single(Operator::Complement, rest),
-        _ => Next::Unreadable,
+        _ => NextToken::Unreadable,
     }
 }
 
 /// The token at the front of a text, and the text after it.
 #[tactic(auto, unfolding(ud_model::specs::conditions::Tokens::next_token))]
 #[inline(always)]
-pub(crate) fn next_token(text: &[u8]) -> Next<'_>
+pub(crate) fn next_token(text: &[u8]) -> NextToken<'_>
     ensures { as_next result ≡ spec.next_token text.now }
 {
-    let text = past_white(text);
+    let text = skip_white(text);
     match text {
-        [] => Next::AtEnd,
+        [] => NextToken::AtEnd,
         [first, rest @ ..] => {
             if is_word_byte(*first) {
                 let length = word_len(text);
                 word_token(&text[..length], &text[length..])
             } else {
-                sign_token(*first, rest)
+                punctuator(*first, rest)
             }
         }
     }

@@ -1,15 +1,15 @@
 //! What an expression is worth, part by part.
 //!
-//! Numbers are those of ud_model, specs/conditions/Values.antt (C11 6.10.1p4 and 6.5); `specs/Worth.antt` says what is kept beside them.
+//! Numbers are those of ud_model, specs/conditions/Values.antt (C11 6.10.1p4 and 6.5); `specs/Evaluation.antt` says what is kept beside them.
 
 ghost use Rattle.std.specs.Prelude.{◌≡◌, Some, option_and_then, option_map};
 ghost use Rattle.ud_model.specs.conditions.Table.{entry_in};
-ghost use Rattle.ud_model.specs.conditions.Symbols.{end_of, defined_text};
+ghost use Rattle.ud_model.specs.conditions.Symbols.{resolve, defined_text};
 ghost use Rattle.ud_model.specs.conditions.Values as spec;
 ghost use Rattle.ud_cond.specs.CondViews.{as_entry};
-ghost use Rattle.ud_cond.specs.Worth.{table_in, constant_worth, name_worth, defined_name_worth, defined_worth, unary_worth, binary_worth};
+ghost use Rattle.ud_cond.specs.Evaluation.{table_in, constant_value_of, name_value_of, defined_name_value_of, defined_value_of, unary_value_of, binary_value_of};
 
-use crate::constants::{constant_value, digit_alone, has_u, is_constant};
+use crate::constants::{constant_value, has_u, is_constant, single_digit_value};
 use crate::symbols::{Entry, Symbols};
 use ud_model::Operator;
 use ud_model::bytes::is_identifier;
@@ -24,7 +24,7 @@ pub(crate) struct Value {
     /// A symbol of the table stands in it.
     pub(crate) listed: bool,
     /// An undefined symbol with arguments stands in it.
-    pub(crate) spoiled: bool,
+    pub(crate) calls_undefined: bool,
 }
 
 /// What decides the values of an expression.
@@ -48,42 +48,42 @@ impl Scope<'_> {
     }
 
     /// The text at which the value of a name ends that is defined as this text.
-    fn end_from<'a>(&'a self, name: &'a [u8], text: &'a [u8]) -> Option<&'a [u8]>
+    fn resolve_from<'a>(&'a self, name: &'a [u8], text: &'a [u8]) -> Option<&'a [u8]>
         requires { defined_text (table_in self.now) name.now ≡ Some text.now }
-        ensures { option_map (λ v. v.now) result ≡ end_of (table_in self.now) name.now }
+        ensures { option_map (λ v. v.now) result ≡ resolve (table_in self.now) name.now }
     {
         if is_identifier(text) {
-            self.end_of(name)
+            self.resolve(name)
         } else {
             Some(text)
         }
     }
 
     /// The text at which the value of a name ends.
-    #[tactic(auto, unfolding(ud_model::specs::conditions::Symbols::end_of))]
-    fn end_of<'a>(&'a self, name: &'a [u8]) -> Option<&'a [u8]>
-        ensures { option_map (λ v. v.now) result ≡ end_of (table_in self.now) name.now }
+    #[tactic(auto, unfolding(ud_model::specs::conditions::Symbols::resolve))]
+    fn resolve<'a>(&'a self, name: &'a [u8]) -> Option<&'a [u8]>
+        ensures { option_map (λ v. v.now) result ≡ resolve (table_in self.now) name.now }
     {
-        self.symbols?.end_of(name)
+        self.symbols?.resolve(name)
     }
 }
 
 /// What is worth nothing yet.
-pub(crate) const NOTHING: Value = Value {
+pub(crate) const NO_VALUE: Value = Value {
     number: None,
     unsigned: false,
     listed: false,
-    spoiled: false,
+    calls_undefined: false,
 };
 
 /// Values a constant.
 #[inline(always)]
 pub(crate) fn constant(word: &[u8], value: &mut Value)
-    ensures { value.new ≡ constant_worth word.now }
+    ensures { value.new ≡ constant_value_of word.now }
 {
     value.listed = false;
-    value.spoiled = false;
-    let digit = digit_alone(word);
+    value.calls_undefined = false;
+    let digit = single_digit_value(word);
     if digit.is_some() {
         value.number = digit;
         value.unsigned = false;
@@ -129,17 +129,17 @@ fn text_has_u(text: &[u8]) -> bool
 #[inline(always)]
 fn defined_as(scope: &Scope<'_>, name: &[u8], text: &[u8], value: &mut Value)
     requires { defined_text (table_in scope.now) name.now ≡ Some text.now }
-    ensures { value.new ≡ defined_name_worth (table_in scope.now) scope.now.unsigned name.now }
+    ensures { value.new ≡ defined_name_value_of (table_in scope.now) scope.now.unsigned name.now }
 {
     value.listed = true;
-    value.spoiled = false;
-    let digit = digit_alone(text);
+    value.calls_undefined = false;
+    let digit = single_digit_value(text);
     if digit.is_some() {
         value.number = digit;
         value.unsigned = false;
         return;
     }
-    match scope.end_from(name, text) {
+    match scope.resolve_from(name, text) {
         Some(end) => {
             value.number = text_value(scope.unsigned, end);
             value.unsigned = text_has_u(end);
@@ -154,21 +154,21 @@ fn defined_as(scope: &Scope<'_>, name: &[u8], text: &[u8], value: &mut Value)
 /// Values a name with or without arguments.
 #[inline(always)]
 pub(crate) fn named(scope: &Scope<'_>, name: &[u8], arguments: bool, value: &mut Value)
-    ensures { value.new ≡ name_worth (table_in scope.now) scope.now.unsigned name.now arguments }
+    ensures { value.new ≡ name_value_of (table_in scope.now) scope.now.unsigned name.now arguments }
 {
     match scope.find(name) {
         None => {
             value.number = None;
             value.unsigned = false;
             value.listed = false;
-            value.spoiled = false;
+            value.calls_undefined = false;
         }
         Some(entry) => match entry.value {
             None => {
                 value.number = Some(0);
                 value.unsigned = false;
                 value.listed = true;
-                value.spoiled = arguments;
+                value.calls_undefined = arguments;
             }
             Some(text) => defined_as(scope, name, text, value),
         },
@@ -179,10 +179,10 @@ pub(crate) fn named(scope: &Scope<'_>, name: &[u8], arguments: bool, value: &mut
 #[tactic(auto, unfolding(ud_model::specs::conditions::Values::defined_value))]
 #[inline(always)]
 pub(crate) fn defined(scope: &Scope<'_>, name: &[u8], value: &mut Value)
-    ensures { value.new ≡ defined_worth (table_in scope.now) name.now }
+    ensures { value.new ≡ defined_value_of (table_in scope.now) name.now }
 {
     value.unsigned = false;
-    value.spoiled = false;
+    value.calls_undefined = false;
     match scope.find(name) {
         None => {
             value.number = None;
@@ -221,19 +221,19 @@ fn truth(holds: bool) -> i64
 }
 
 /// The remainder of a division whose quotient is a number.
-#[tactic(auto, unfolding(ud_model::specs::conditions::Values::operate))]
+#[tactic(auto, unfolding(ud_model::specs::conditions::Values::apply_binary_known))]
 fn remainder(unsigned: bool, a: i64, b: i64) -> Option<i64>
-    ensures { result ≡ spec.operate unsigned Operator.Remainder a b }
+    ensures { result ≡ spec.apply_binary_known unsigned Operator.Remainder a b }
 {
     fit_checked(unsigned, a.checked_div(b))?;
     fit_checked(unsigned, a.checked_rem(b))
 }
 
 /// Two known operands and an operator.
-#[tactic(auto, unfolding(ud_model::specs::conditions::Values::operate))]
+#[tactic(auto, unfolding(ud_model::specs::conditions::Values::apply_binary_known))]
 #[inline(never)]
-fn operate(unsigned: bool, operator: Operator, a: i64, b: i64) -> Option<i64>
-    ensures { result ≡ spec.operate unsigned operator a b }
+fn apply_binary_known(unsigned: bool, operator: Operator, a: i64, b: i64) -> Option<i64>
+    ensures { result ≡ spec.apply_binary_known unsigned operator a b }
 {
     match operator {
         Operator::Or => Some(truth(a != 0 || b != 0)),
@@ -257,8 +257,8 @@ fn operate(unsigned: bool, operator: Operator, a: i64, b: i64) -> Option<i64>
 }
 
 /// What one known operand decides, whatever the other is.
-fn decides(strict: bool, operator: Operator, a: i64) -> Option<i64>
-    ensures { result ≡ spec.decides strict operator a }
+fn short_circuits(strict: bool, operator: Operator, a: i64) -> Option<i64>
+    ensures { result ≡ spec.short_circuits strict operator a }
 {
     if strict {
         return None;
@@ -272,26 +272,26 @@ fn decides(strict: bool, operator: Operator, a: i64) -> Option<i64>
 
 /// Two operands and an operator.
 #[inline(always)]
-pub(crate) fn combine(
+pub(crate) fn apply_binary(
     strict: bool,
     unsigned: bool,
     operator: Operator,
     a: Option<i64>,
     b: Option<i64>,
 ) -> Option<i64>
-    ensures { result ≡ spec.combine strict unsigned operator a b }
+    ensures { result ≡ spec.apply_binary strict unsigned operator a b }
 {
     match (a, b) {
-        (Some(a), Some(b)) => operate(unsigned, operator, a, b),
-        (Some(known), None) | (None, Some(known)) => decides(strict, operator, known),
+        (Some(a), Some(b)) => apply_binary_known(unsigned, operator, a, b),
+        (Some(known), None) | (None, Some(known)) => short_circuits(strict, operator, known),
         (None, None) => None,
     }
 }
 
 /// An operator before a known operand.
-#[tactic(auto, unfolding(ud_model::specs::conditions::Values::change))]
-fn change(unsigned: bool, operator: Operator, a: i64) -> Option<i64>
-    ensures { result ≡ spec.change unsigned operator a }
+#[tactic(auto, unfolding(ud_model::specs::conditions::Values::apply_unary_known))]
+fn apply_unary_known(unsigned: bool, operator: Operator, a: i64) -> Option<i64>
+    ensures { result ≡ spec.apply_unary_known unsigned operator a }
 {
     match operator {
         Operator::Not => Some(truth(a == 0)),
@@ -302,34 +302,34 @@ fn change(unsigned: bool, operator: Operator, a: i64) -> Option<i64>
 }
 
 /// An operator before one operand.
-pub(crate) fn alter(unsigned: bool, operator: Operator, a: Option<i64>) -> Option<i64>
-    ensures { result ≡ spec.alter unsigned operator a }
+pub(crate) fn apply_unary(unsigned: bool, operator: Operator, a: Option<i64>) -> Option<i64>
+    ensures { result ≡ spec.apply_unary unsigned operator a }
 {
-    change(unsigned, operator, a?)
+    apply_unary_known(unsigned, operator, a?)
 }
 
 /// What an operator before an operand is worth.
 #[inline(always)]
 pub(crate) fn unary(scope: &Scope<'_>, operator: Operator, a: Value) -> Value
-    ensures { result ≡ unary_worth scope.now.unsigned operator a }
+    ensures { result ≡ unary_value_of scope.now.unsigned operator a }
 {
     Value {
-        number: alter(scope.unsigned, operator, a.number),
+        number: apply_unary(scope.unsigned, operator, a.number),
         unsigned: a.unsigned,
         listed: a.listed,
-        spoiled: a.spoiled,
+        calls_undefined: a.calls_undefined,
     }
 }
 
 /// What two operands and an operator are worth.
 #[inline(always)]
 pub(crate) fn binary(scope: &Scope<'_>, operator: Operator, a: Value, b: Value) -> Value
-    ensures { result ≡ binary_worth scope.now.strict scope.now.unsigned operator a b }
+    ensures { result ≡ binary_value_of scope.now.strict scope.now.unsigned operator a b }
 {
     Value {
-        number: combine(scope.strict, scope.unsigned, operator, a.number, b.number),
+        number: apply_binary(scope.strict, scope.unsigned, operator, a.number, b.number),
         unsigned: a.unsigned || b.unsigned,
         listed: a.listed || b.listed,
-        spoiled: a.spoiled || b.spoiled,
+        calls_undefined: a.calls_undefined || b.calls_undefined,
     }
 }

@@ -6,24 +6,24 @@ use Rattle.ud_model.specs.text.Lines.{Line, whole_lines, last_line, line_at, num
 use Rattle.ud_model.specs.sections.Items.{Options, next_item}
 use Rattle.ud_model.specs.sections.Faults.{Fault, end_fault}
 use Rattle.ud_model.specs.answer.Printing.{Judged}
-use Rattle.ud_model.specs.answer.Runs.{GoesThrough, ReadsAs, lines_so_far, stops, ends}
+use Rattle.ud_model.specs.answer.Outcomes.{HasNoFault, ReadsAs, lines_so_far, stops, ends}
 use Rattle.ud_model.proofs.text.LinesLemmas.{last_line-some, numbered_from-next}
 use Rattle.ud_model.specs.conditions.Table.{Argument}
-use Rattle.ud_cond.specs.Standing.{StandsFor}
-use Rattle.ud_text.specs.Holding.{Holding}
+use Rattle.ud_cond.specs.SymbolTable.{TableRepresents}
+use Rattle.ud_text.specs.LinesState.{LinesState}
 use Rattle.ud_sections.proofs.NextLemmas.{lines_more}
-use Rattle.ud_sections.specs.Sections.{fault_of}
+use Rattle.ud_sections.specs.MachineState.{fault_of}
 use Rattle.ud_engine.specs.declared.fault.RunFault.{RunFault}
 use Rattle.ud_engine.specs.declared.fault.RunFault.TheVariants.{Text, Section, Read, Write}
-use Rattle.ud_engine.specs.declared.line_printer.LinePrinter.{LinePrinter}
-use Rattle.ud_engine.specs.Ending.{at_rest, PrintsAll, EndsAt, EndsShort, EndsWell, EndsIll}
-use Rattle.ud_engine.specs.Feeding.{Running, HasTaken, Fed}
-use Rattle.ud_engine.specs.Printing.{PrintsLine, PrintFails, differs_in}
-use Rattle.ud_engine.specs.Refusing.{LeavesOutput}
-use Rattle.ud_streams.specs.Sending.{Sent}
-use Rattle.ud_streams.specs.Watching.{Watching, AppendsFront}
-use Rattle.ud_streams.proofs.SendingLemmas.{sent_then_front, sent_part}
-use Rattle.ud_engine.proofs.TakingLemmas.{before_is, rest_is}
+use Rattle.ud_engine.specs.declared.line_processor.LineProcessor.{LineProcessor}
+use Rattle.ud_engine.specs.Finishing.{without_fault, PrintsAll, FinishFault, FinishTruncated, FinishOk, FinishErr}
+use Rattle.ud_engine.specs.Feeding.{EngineState, EngineRepresentsBuffered, EngineRepresents}
+use Rattle.ud_engine.specs.ProcessedLines.{PrintsLine, PrintErr, differs_in}
+use Rattle.ud_engine.specs.FaultEffects.{OutputUnchanged}
+use Rattle.ud_io.specs.Buffering.{AppendsAllBut}
+use Rattle.ud_io.specs.Watched.{WatchedState, AppendsPrefix}
+use Rattle.ud_io.proofs.BufferingLemmas.{appends_all_but_then_front, appends_all_but_part}
+use Rattle.ud_engine.proofs.LinePartLemmas.{before_is, rest_is}
 
 -- a rest of no bytes is no line
 no_last : (r : List ℕ) → (0 < length r → ⊥) → last_line r ≡ []
@@ -31,12 +31,12 @@ no_last [] none = refl
 no_last (b ∷ bs) none = absurd (none (omega arith))
 
 module _ {S : Type 0} (stands : S → List Judged → Type 0) (piece_of : S → List Judged → Judged → List ℕ) (o : Options) (piece : List Judged → Judged → List ℕ)
-    (e : Running S) (text printed : List ℕ) (fed : Fed stands piece_of e o piece text printed) where
-  abbrev h : HasTaken stands piece_of e o piece text printed
+    (e : EngineState S) (text printed : List ℕ) (fed : EngineRepresents stands piece_of e o piece text printed) where
+  abbrev h : EngineRepresentsBuffered stands piece_of e o piece text printed
   h = fed.taken
 
   -- the same engine, by its parts
-  pub rests : (symbols : List Argument) → symbols ≡ e.symbols → Fed stands piece_of (at_rest symbols e.lines e.printer e.gathered) o piece text printed
+  pub rests : (symbols : List Argument) → symbols ≡ e.symbols → EngineRepresents stands piece_of (without_fault symbols e.lines e.printer e.buffered) o piece text printed
   rests symbols same = record {
     taken = record {
       items = h.items;
@@ -44,7 +44,7 @@ module _ {S : Type 0} (stands : S → List Judged → Type 0) (piece_of : S → 
       goes = h.goes;
       has = h.has;
       printed_is = h.printed_is;
-      symbols = subst (λ s. StandsFor s o.table) (sym same) h.symbols;
+      symbols = subst (λ s. TableRepresents s o.table) (sym same) h.symbols;
       opened = h.opened;
       took = h.took;
       unrefused = h.unrefused;
@@ -73,7 +73,7 @@ module _ {S : Type 0} (stands : S → List Judged → Type 0) (piece_of : S → 
     appended = Appends-nil a;
   }
 
-  module _ (some : 0 < length e.lines.held) (lines : Holding) (closed : lines ≡ record e.lines { closed = true }) (l : Line) (is : l ≡ line_at (suc lines.before) lines.held) where
+  module _ (some : 0 < length e.lines.held) (lines : LinesState) (closed : lines ≡ record e.lines { closed = true }) (l : Line) (is : l ≡ line_at (suc lines.before) lines.held) where
     -- what is held is the last line
     pub last_is : lines_of text ≡ lines_so_far text ++ l ∷ []
     last_is =
@@ -83,20 +83,20 @@ module _ {S : Type 0} (stands : S → List Judged → Type 0) (piece_of : S → 
         ∙ numbered_from-next (whole_lines text) e.lines.held []
         ∙ ap (λ k. lines_so_far text ++ k ∷ [])
         (ap (λ n. line_at (suc n) e.lines.held) (sym (before_is stands piece_of o piece e text printed h))
-        ∙ sym (ap (λ (k : Holding). line_at (suc k.before) k.held) closed) ∙ sym is)
+        ∙ sym (ap (λ (k : LinesState). line_at (suc k.before) k.held) closed) ∙ sym is)
 
-    module _ (p : LinePrinter S) (a b : Option (List ℕ)) (left : List ℕ) (prints : PrintsLine stands piece_of p o piece h.items h.tree l true a b e.gathered left []) where
-      last_goes : GoesThrough o (lines_of text) (h.items ++ next_item o h.items h.tree l ∷ []) prints.tree
+    module _ (p : LineProcessor S) (a b : Option (List ℕ)) (left : List ℕ) (prints : PrintsLine stands piece_of p o piece h.items h.tree l true a b e.buffered left []) where
+      last_goes : HasNoFault o (lines_of text) (h.items ++ next_item o h.items h.tree l ∷ []) prints.tree
       last_goes = record {
         sound = prints.has.has.read.sound;
         are = last_is ∙ ap (λ ls. ls ++ l ∷ []) h.goes.are ∙ sym (lines_more o h.items h.tree l);
       }
 
-      last_sent : Sent a b prints.more left
-      last_sent = subst (λ x. Sent a b (x ++ ([] ++ prints.more)) left) fed.written prints.goes
+      last_sent : AppendsAllBut a b prints.more left
+      last_sent = subst (λ x. AppendsAllBut a b (x ++ ([] ++ prints.more)) left) fed.written prints.goes
 
       -- the last line is printed, and all is written
-      pub last_printed : (c : Option (List ℕ)) → Sent b c left [] → PrintsAll stands piece_of p o piece text printed a c
+      pub last_printed : (c : Option (List ℕ)) → AppendsAllBut b c left [] → PrintsAll stands piece_of p o piece text printed a c
       last_printed c s = record {
         items = h.items ++ next_item o h.items h.tree l ∷ [];
         tree = prints.tree;
@@ -105,13 +105,13 @@ module _ {S : Type 0} (stands : S → List Judged → Type 0) (piece_of : S → 
         more = prints.more;
         printed_is = ap (λ x. x ++ prints.more) h.printed_is ∙ sym prints.is_more;
         appended =
-            let all = sent_part a b c prints.more left [] (subst (λ x. Sent a b prints.more x) (sym (append-nil left)) last_sent)
+            let all = appends_all_but_part a b c prints.more left [] (subst (λ x. AppendsAllBut a b prints.more x) (sym (append-nil left)) last_sent)
             (subst (λ x. Appends b c x) (sym (s.joined ∙ append-nil s.front)) s.appended) in
             subst (λ x. Appends a c x) (sym (all.joined ∙ append-nil all.front)) all.appended;
       }
 
       -- a write fails after it is printed
-      pub last_cut : (c : Option (List ℕ)) → AppendsFront b c left → EndsShort o piece text printed a c
+      pub last_cut : (c : Option (List ℕ)) → AppendsPrefix b c left → FinishTruncated o piece text printed a c
       last_cut c front = record {
         items = h.items ++ next_item o h.items h.tree l ∷ [];
         tree = prints.tree;
@@ -119,15 +119,15 @@ module _ {S : Type 0} (stands : S → List Judged → Type 0) (piece_of : S → 
         more = prints.more;
         printed_is = ap (λ x. x ++ prints.more) h.printed_is ∙ sym prints.is_more;
         front =
-            subst (λ x. AppendsFront a c x) (append-nil prints.more)
-            (sent_then_front a b c prints.more left [] last_sent (subst (λ x. AppendsFront b c x) (sym (append-nil left)) front));
+            subst (λ x. AppendsPrefix a c x) (append-nil prints.more)
+            (appends_all_but_then_front a b c prints.more left [] last_sent (subst (λ x. AppendsPrefix b c x) (sym (append-nil left)) front));
       }
 
     -- the last line is faulty, or a write fails
-    pub last_fails : {W : Type 0} (contents : W → Option (List ℕ)) (old new : Watching W) (gathered left : List ℕ) → gathered ≡ [] → old.failed ≡ false → (f : RunFault) →
-        PrintFails o piece h.items h.tree l (contents old.inner) (contents new.inner) gathered [] f → LeavesOutput old new gathered left f →
-        EndsIll o piece new.failed (contents old.inner) (contents new.inner) text printed f
-    last_fails contents old new gathered left none works (Section f) fails leaves = (
+    pub last_fails : {W : Type 0} (contents : W → Option (List ℕ)) (old new : WatchedState W) (buffered left : List ℕ) → buffered ≡ [] → old.failed ≡ false → (f : RunFault) →
+        PrintErr o piece h.items h.tree l (contents old.inner) (contents new.inner) buffered [] f → OutputUnchanged old new buffered left f →
+        FinishErr o piece new.failed (contents old.inner) (contents new.inner) text printed f
+    last_fails contents old new buffered left none works (Section f) fails leaves = (
       ap (λ w. w.failed) leaves.0 ∙ works,
       record {
         items = h.items;
@@ -144,7 +144,7 @@ module _ {S : Type 0} (stands : S → List Judged → Type 0) (piece_of : S → 
         appended = subst (λ x. Appends (contents old.inner) x []) (sym (ap (λ w. contents w.inner) leaves.0)) (Appends-nil (contents old.inner));
       },
     )
-    last_fails contents old new gathered left none works Write fails leaves = (
+    last_fails contents old new buffered left none works Write fails leaves = (
       leaves,
       record {
         items = h.items ++ next_item o h.items h.tree l ∷ [];
@@ -152,16 +152,16 @@ module _ {S : Type 0} (stands : S → List Judged → Type 0) (piece_of : S → 
         goes = record { sound = fails.sound; are = last_is ∙ ap (λ ls. ls ++ l ∷ []) h.goes.are ∙ sym (lines_more o h.items h.tree l) };
         more = fails.more;
         printed_is = ap (λ x. x ++ fails.more) h.printed_is ∙ sym fails.is_more;
-        front = subst (λ x. AppendsFront (contents old.inner) (contents new.inner) (x ++ ([] ++ fails.more))) none fails.front;
+        front = subst (λ x. AppendsPrefix (contents old.inner) (contents new.inner) (x ++ ([] ++ fails.more))) none fails.front;
       },
     )
-    last_fails contents old new gathered left none works (Text f) fails leaves = absurd fails
-    last_fails contents old new gathered left none works Read fails leaves = absurd fails
+    last_fails contents old new buffered left none works (Text f) fails leaves = absurd fails
+    last_fails contents old new buffered left none works Read fails leaves = absurd fails
 
-module _ {S : Type 0} (stands : S → List Judged → Type 0) (piece_of : S → List Judged → Judged → List ℕ) (p : LinePrinter S) (o : Options) (piece : List Judged → Judged → List ℕ)
+module _ {S : Type 0} (stands : S → List Judged → Type 0) (piece_of : S → List Judged → Judged → List ℕ) (p : LineProcessor S) (o : Options) (piece : List Judged → Judged → List ℕ)
     (text printed : List ℕ) (a b : Option (List ℕ)) (all : PrintsAll stands piece_of p o piece text printed a b) where
   -- the end is faulty
-  pub ends_at : (f : Fault) → Some f ≡ end_fault all.items all.tree → EndsAt o piece text printed a b f
+  pub ends_at : (f : Fault) → Some f ≡ end_fault all.items all.tree → FinishFault o piece text printed a b f
   ends_at f e = record {
     items = all.items;
     tree = all.tree;
@@ -172,7 +172,7 @@ module _ {S : Type 0} (stands : S → List Judged → Type 0) (piece_of : S → 
   }
 
   -- the text is right
-  pub ends_well : (differs : Bool) → None ≡ end_fault all.items all.tree → differs ≡ differs_in o.settings.listing piece all.items all.tree → EndsWell o piece text printed a b differs
+  pub ends_well : (differs : Bool) → None ≡ end_fault all.items all.tree → differs ≡ differs_in o.settings.listing piece all.items all.tree → FinishOk o piece text printed a b differs
   ends_well differs e d = record {
     items = all.items;
     tree = all.tree;

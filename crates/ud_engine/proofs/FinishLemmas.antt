@@ -3,71 +3,71 @@ use Rattle.std.proofs.Common.{◌≡◌, ℕ, ◌≤◌, Bool, true, false, List
 use Rattle.std.specs.Io.KnownBytes.{Consumes, Keeps, IsAtEnd}
 use Rattle.std.proofs.KnownBytes.{Appends-nil, Appends-trans, Consumes-nil, Consumes-trans, Consumes-kept}
 use Rattle.ud_model.specs.sections.Items.{Options}
-use Rattle.ud_sections.specs.Printers.{printer_stands, printer_piece}
+use Rattle.ud_sections.specs.Printers.{printer_represents, printer_piece}
 use Rattle.ud_sections.specs.declared.printer.Printer.{Printer}
 use Rattle.ud_engine.specs.declared.fault.RunFault.{RunFault}
 use Rattle.ud_engine.specs.declared.fault.RunFault.TheVariants.{Read}
-use Rattle.ud_engine.specs.declared.running.TheConstants.{PIECE_BYTES}
-use Rattle.ud_engine.specs.Ending.{EndsWell, EndsIll, Ran}
-use Rattle.ud_engine.specs.Feeding.{Running, Fed, Fails, Goes}
-use Rattle.ud_engine.specs.Running.{UnderWay, Finished, TellsStreams}
+use Rattle.ud_engine.specs.declared.pump.TheConstants.{CHUNK_BYTES}
+use Rattle.ud_engine.specs.Finishing.{FinishOk, FinishErr, RunAnswers}
+use Rattle.ud_engine.specs.Feeding.{EngineState, EngineRepresents, FeedFails, Continues}
+use Rattle.ud_engine.specs.Runs.{InProgress, RunFinished, ErrorMatchesStreams}
 use Rattle.ud_engine.proofs.RunLemmas.{own_piece, input_is, input_begins, kept_up, ended_ran, ended_appended, ended_read, ended_write, fed_read, fed_write, feed_appended, ran_early, the_err}
-use Rattle.ud_engine.proofs.WentLemmas.{printed_so_far, fed_ends, end_ends}
+use Rattle.ud_engine.proofs.RunEndedLemmas.{printed_so_far, fed_ends, end_ends}
 
 -- a run begins
-pub begins : (o : Options) (e : Running Printer) (r w : Option (List ℕ)) → Fed printer_stands printer_piece e o (own_piece o) [] [] → UnderWay e o r r w w
+pub begins : (o : Options) (e : EngineState Printer) (r w : Option (List ℕ)) → EngineRepresents printer_represents printer_piece e o (own_piece o) [] [] → InProgress e o r r w w
 begins o e r w fed = record { given = []; printed = []; consumed = Consumes-nil r; fed = fed; appended = Appends-nil w }
 
-module _ (o : Options) (e : Running Printer) (r₀ r₁ w₀ w₁ : Option (List ℕ)) (u : UnderWay e o r₀ r₁ w₀ w₁) where
+module _ (o : Options) (e : EngineState Printer) (r₀ r₁ w₀ w₁ : Option (List ℕ)) (u : InProgress e o r₀ r₁ w₀ w₁) where
   -- a read failed
-  pub unread : (r₂ : Option (List ℕ)) → Keeps r₁ r₂ → (reader writer : Bool) → reader ≡ true → Finished o r₀ r₂ w₀ w₁ reader writer (Err Read)
+  pub unread : (r₂ : Option (List ℕ)) → Keeps r₁ r₂ → (reader writer : Bool) → reader ≡ true → RunFinished o r₀ r₂ w₀ w₁ reader writer (Err Read)
   unread r₂ kept reader writer failed =
       let all : Consumes r₀ r₂ u.given = Consumes-kept r₀ r₁ r₂ u.given u.consumed kept in
       record {
         ran = λ reads writes. cc;
         kept_up =
-            kept_up o printer_stands printer_piece e u.given u.printed u.fed.taken r₀ r₂ w₀ w₁ w₁ [] []
+            kept_up o printer_represents printer_piece e u.given u.printed u.fed.taken r₀ r₂ w₀ w₁ w₁ [] []
             (subst (λ (x : List ℕ). Consumes r₀ r₂ x) (sym (append-nil u.given)) all) (omega arith) u.appended (Appends-nil w₁);
         went = record {
           given = u.given;
           consumed = all;
-          ends = printed_so_far o printer_stands printer_piece e u.given u.printed u.fed.taken w₀ w₁ u.appended;
+          ends = printed_so_far o printer_represents printer_piece e u.given u.printed u.fed.taken w₀ w₁ u.appended;
         };
       }
 
   -- the reader had no byte more
   pub at_end : (r₂ w₂ : Option (List ℕ)) → Consumes r₁ r₂ [] → IsAtEnd r₂ → (reader writer : Bool) (result : Result Bool RunFault) →
-      IfOk result (EndsWell o (own_piece o) u.given u.printed w₁ w₂) → IfErr result (EndsIll o (own_piece o) writer w₁ w₂ u.given u.printed) →
-      Finished o r₀ r₂ w₀ w₂ reader writer result
+      IfOk result (FinishOk o (own_piece o) u.given u.printed w₁ w₂) → IfErr result (FinishErr o (own_piece o) writer w₁ w₂ u.given u.printed) →
+      RunFinished o r₀ r₂ w₀ w₂ reader writer result
   at_end r₂ w₂ last left reader writer result well ill =
       let joined = Consumes-trans r₀ r₁ r₂ u.given [] u.consumed last in
       let all : Consumes r₀ r₂ u.given = subst (λ (x : List ℕ). Consumes r₀ r₂ x) (append-nil u.given) joined in
       let more = ended_appended o w₀ w₁ w₂ u.given u.printed writer u.appended result well ill in
       record {
         ran = λ reads writes.
-            input_is r₀ r₂ u.given (λ input. Ran o input w₀ w₂ result) all left
+            input_is r₀ r₂ u.given (λ input. RunAnswers o input w₀ w₂ result) all left
             (ended_ran o w₀ w₁ w₂ u.given u.printed writer u.appended result well ill writes);
-        kept_up = kept_up o printer_stands printer_piece e u.given u.printed u.fed.taken r₀ r₂ w₀ w₁ w₂ [] more.0 joined (omega arith) u.appended more.1;
+        kept_up = kept_up o printer_represents printer_piece e u.given u.printed u.fed.taken r₀ r₂ w₀ w₁ w₂ [] more.0 joined (omega arith) u.appended more.1;
         went = record { given = u.given; consumed = all; ends = end_ends o r₂ w₀ w₁ w₂ u.printed u.appended writer u.given left result well ill };
       }
 
   module _ (r₂ w₂ : Option (List ℕ)) (piece : List ℕ) (read : Consumes r₁ r₂ piece) where
     -- a piece is faulty, or a write failed
-    pub stopped : length piece ≤ PIECE_BYTES → (reader writer : Bool) (f : RunFault) → Fails o (own_piece o) writer w₁ w₂ (u.given ++ piece) u.printed f →
-        Finished o r₀ r₂ w₀ w₂ reader writer (Err f)
+    pub stopped : length piece ≤ CHUNK_BYTES → (reader writer : Bool) (f : RunFault) → FeedFails o (own_piece o) writer w₁ w₂ (u.given ++ piece) u.printed f →
+        RunFinished o r₀ r₂ w₀ w₂ reader writer (Err f)
     stopped few reader writer f fails =
         let all = Consumes-trans r₀ r₁ r₂ u.given piece u.consumed read in
         let more = feed_appended o writer w₁ w₂ (u.given ++ piece) u.printed f fails in
         record {
           ran = λ reads writes.
-              input_begins r₀ r₂ (u.given ++ piece) (λ input. Ran o input w₀ w₂ (the_err f)) all
+              input_begins r₀ r₂ (u.given ++ piece) (λ input. RunAnswers o input w₀ w₂ (the_err f)) all
               (ran_early o w₀ w₁ w₂ (u.given ++ piece) u.printed writer f writes u.appended fails);
-          kept_up = kept_up o printer_stands printer_piece e u.given u.printed u.fed.taken r₀ r₂ w₀ w₁ w₂ piece more.0 all few u.appended more.1;
+          kept_up = kept_up o printer_represents printer_piece e u.given u.printed u.fed.taken r₀ r₂ w₀ w₁ w₂ piece more.0 all few u.appended more.1;
           went = record { given = u.given ++ piece; consumed = all; ends = fed_ends o r₂ w₀ w₁ w₂ u.printed u.appended writer (u.given ++ piece) f fails };
         }
 
     -- a piece was fed
-    pub fed_more : (f : Running Printer) → Goes printer_stands printer_piece f o (own_piece o) (u.given ++ piece) u.printed w₁ w₂ → UnderWay f o r₀ r₂ w₀ w₂
+    pub fed_more : (f : EngineState Printer) → Continues printer_represents printer_piece f o (own_piece o) (u.given ++ piece) u.printed w₁ w₂ → InProgress f o r₀ r₂ w₀ w₂
     fed_more f goes = record {
       given = u.given ++ piece;
       printed = u.printed ++ goes.more;
@@ -77,7 +77,7 @@ module _ (o : Options) (e : Running Printer) (r₀ r₁ w₀ w₁ : Option (List
     }
 
 -- an answer tells what failed: a read
-pub read_told : (reader writer : Bool) → reader ≡ true → writer ≡ false → TellsStreams reader writer (Err Read)
+pub read_told : (reader writer : Bool) → reader ≡ true → writer ≡ false → ErrorMatchesStreams reader writer (Err Read)
 read_told reader writer failed works = record { works = tt; read_fails = (λ f. refl, λ f. failed); write_fails = (λ f. cc, λ f. cc) }
 
 module _ (o : Options) (b c : Option (List ℕ)) (printed : List ℕ) (reader writer : Bool) (reads : reader ≡ false) where
@@ -86,8 +86,8 @@ module _ (o : Options) (b c : Option (List ℕ)) (printed : List ℕ) (reader wr
   both_work (Err f) works = tt
 
   -- or a write at the end
-  pub end_told : (given : List ℕ) (result : Result Bool RunFault) → OnOk result (writer ≡ false) → IfErr result (EndsIll o (own_piece o) writer b c given printed) →
-      TellsStreams reader writer result
+  pub end_told : (given : List ℕ) (result : Result Bool RunFault) → OnOk result (writer ≡ false) → IfErr result (FinishErr o (own_piece o) writer b c given printed) →
+      ErrorMatchesStreams reader writer result
   end_told given result works ill = record {
     works = both_work result works;
     read_fails = ended_read o b c given printed writer reader result reads ill;
@@ -95,7 +95,7 @@ module _ (o : Options) (b c : Option (List ℕ)) (printed : List ℕ) (reader wr
   }
 
   -- or a write of what is printed of a piece
-  pub feed_told : (longer : List ℕ) (f : RunFault) → Fails o (own_piece o) writer b c longer printed f → TellsStreams reader writer (Err f)
+  pub feed_told : (longer : List ℕ) (f : RunFault) → FeedFails o (own_piece o) writer b c longer printed f → ErrorMatchesStreams reader writer (Err f)
   feed_told longer f fails = record {
     works = tt;
     read_fails = fed_read o b c longer printed writer reader f reads fails;

@@ -3,13 +3,13 @@ use Rattle.std.proofs.Common.{◌≡◌, ℕ, ◌+◌, ◌-◌, ◌<◌, ◌≤�
 use Rattle.std.specs.Io.KnownBytes.{Appends, Consumes, IsAtEnd}
 use Rattle.std.proofs.lemmas.List.{take-append-le}
 use Rattle.std.proofs.KnownBytes.{Appends-trans}
-use Rattle.ud_model.specs.text.Lines.{whole_lines, open_rest}
+use Rattle.ud_model.specs.text.Lines.{whole_lines, partial_line}
 use Rattle.ud_model.specs.text.Scans.{Reading}
 use Rattle.ud_model.specs.sections.Tree.{Item, Tree}
 use Rattle.ud_model.specs.sections.Items.{Options}
 use Rattle.ud_model.specs.sections.Faults.{Fault}
-use Rattle.ud_model.specs.answer.Printing.{Judged, piece_behind, style_of}
-use Rattle.ud_model.specs.answer.Runs.{Outcome, RunsSoFar, ReadsAs, outcome_of, output_by, differs_by, ran_as, came_as}
+use Rattle.ud_model.specs.answer.Printing.{Judged, piece_after, style_of}
+use Rattle.ud_model.specs.answer.Outcomes.{Outcome, HasOutcomeSoFar, ReadsAs, outcome_of, output_by, differs_by, ran_as, came_as}
 use Rattle.ud_model.specs.declared.settings.Listing.{Listing}
 use Rattle.ud_model.specs.declared.settings.Listing.TheVariants.{Off, Names, Depths}
 use Rattle.ud_model.specs.declared.settings.Settings.{Settings}
@@ -18,23 +18,23 @@ use Rattle.ud_model.proofs.sections.FaultStays.{fault_stays, reads_stay}
 use Rattle.ud_model.proofs.sections.Soundness.{one_run_so_far}
 use Rattle.ud_model.proofs.answer.Onward.{prints_further}
 use Rattle.ud_model.proofs.text.LinesLemmas.{Growth, stays_open, ends_line, grows}
-use Rattle.ud_sections.specs.Sections.{fault_of}
+use Rattle.ud_sections.specs.MachineState.{fault_of}
 use Rattle.ud_engine.specs.declared.fault.RunFault.{RunFault}
 use Rattle.ud_engine.specs.declared.fault.RunFault.TheVariants.{Text, Section, Read, Write}
-use Rattle.ud_engine.specs.declared.running.TheConstants.{PIECE_BYTES}
-use Rattle.ud_engine.specs.Ending.{EndsAt, EndsWell, EndsIll, Ran, RanAs, fault_told}
-use Rattle.ud_engine.specs.Feeding.{Running, HasTaken, Fails, Stops, limit_of}
-use Rattle.ud_engine.specs.Printing.{text_by, differs_in}
-use Rattle.ud_engine.specs.Running.{KeptUp, settled, room}
-use Rattle.ud_engine.proofs.TakingLemmas.{before_is, rest_is, reads_so_far}
+use Rattle.ud_engine.specs.declared.pump.TheConstants.{CHUNK_BYTES}
+use Rattle.ud_engine.specs.Finishing.{FinishFault, FinishOk, FinishErr, RunAnswers, ResultIs, text_fault_of}
+use Rattle.ud_engine.specs.Feeding.{EngineState, EngineRepresentsBuffered, FeedFails, FaultsAfter, limit_of}
+use Rattle.ud_engine.specs.ProcessedLines.{text_by, differs_in}
+use Rattle.ud_engine.specs.Runs.{LagsOneRead, all_but_last_chunk, bytes_to_limit}
+use Rattle.ud_engine.proofs.LinePartLemmas.{before_is, rest_is, reads_so_far}
 
 -- what a definition prints is its output
-pub same_text : (q : Listing) (s : Settings) (xs : List (Item Reading)) (t : Tree Reading) → text_by q (piece_behind (style_of s)) xs t ≡ output_by q s xs t
+pub same_text : (q : Listing) (s : Settings) (xs : List (Item Reading)) (t : Tree Reading) → text_by q (piece_after (style_of s)) xs t ≡ output_by q s xs t
 same_text Off s xs t = refl
 same_text Names s xs t = refl
 same_text Depths s xs t = refl
 
-same_differs : (q : Listing) (s : Settings) (xs : List (Item Reading)) (t : Tree Reading) → differs_in q (piece_behind (style_of s)) xs t ≡ differs_by q s xs t
+same_differs : (q : Listing) (s : Settings) (xs : List (Item Reading)) (t : Tree Reading) → differs_in q (piece_after (style_of s)) xs t ≡ differs_by q s xs t
 same_differs Off s xs t = refl
 same_differs Names s xs t = refl
 same_differs Depths s xs t = refl
@@ -57,10 +57,10 @@ the_err f = Err f
 
 module _ (o : Options) where
   abbrev pub own_piece : List Judged → Judged → List ℕ
-  own_piece = piece_behind (style_of o.settings)
+  own_piece = piece_after (style_of o.settings)
 
   outcome_at : (input : List ℕ) (xs : List (Item Reading)) (t : Tree Reading) (f : Option Fault) (a b : Option (List ℕ)) (result : Result Bool RunFault) (all : List ℕ) →
-      ReadsAs o input xs t f → all ≡ text_by o.settings.listing own_piece xs t → Appends a b all → RanAs result (outcome_of o.settings xs t f) → Ran o input a b result
+      ReadsAs o input xs t f → all ≡ text_by o.settings.listing own_piece xs t → Appends a b all → ResultIs result (outcome_of o.settings xs t f) → RunAnswers o input a b result
   outcome_at input xs t f a b result all reads is appended answered = record {
     outcome = outcome_of o.settings xs t f;
     runs = ran_as reads;
@@ -70,71 +70,71 @@ module _ (o : Options) where
 
   -- the text has ended, and is right
   pub ran_well : (a b c : Option (List ℕ)) (given printed : List ℕ) (differs : Bool) → Appends a b printed →
-      EndsWell o own_piece given printed b c differs → Ran o given a c (Ok differs)
+      FinishOk o own_piece given printed b c differs → RunAnswers o given a c (Ok differs)
   ran_well a b c given printed differs before w =
       outcome_at given w.items w.tree None a c (Ok differs) (printed ++ w.more) w.reads w.printed_is
       (Appends-trans a b c printed w.more before w.appended)
       (refl, w.differs_is ∙ same_differs o.settings.listing o.settings w.items w.tree)
 
-  ran_at : (a b c : Option (List ℕ)) (given printed : List ℕ) (f : Fault) (by : RunFault) → fault_told by ≡ Some f → Appends a b printed →
-      EndsAt o own_piece given printed b c f → Ran o given a c (Err by)
+  ran_at : (a b c : Option (List ℕ)) (given printed : List ℕ) (f : Fault) (by : RunFault) → text_fault_of by ≡ Some f → Appends a b printed →
+      FinishFault o own_piece given printed b c f → RunAnswers o given a c (Err by)
   ran_at a b c given printed f by told before w =
       outcome_at given w.items w.tree (Some f) a c (Err by) (printed ++ w.more) w.reads w.printed_is
       (Appends-trans a b c printed w.more before w.appended) (sym told, λ none. cc)
 
   -- the text has ended, and is faulty
   pub ran_ill : (a b c : Option (List ℕ)) (given printed : List ℕ) (failed : Bool) (f : RunFault) → failed ≡ false → Appends a b printed →
-      EndsIll o own_piece failed b c given printed f → Ran o given a c (Err f)
+      FinishErr o own_piece failed b c given printed f → RunAnswers o given a c (Err f)
   ran_ill a b c given printed failed (Text f) works before w = ran_at a b c given printed (limit_of f) (Text f) refl before w.1
   ran_ill a b c given printed failed (Section f) works before w = ran_at a b c given printed (fault_of f) (Section f) refl before w.1
   ran_ill a b c given printed failed Read works before w = absurd w
   ran_ill a b c given printed failed Write works before w = cc
 
-  ran_stopped : (a b c : Option (List ℕ)) (longer printed more : List ℕ) (f : Fault) (by : RunFault) → fault_told by ≡ Some f → Appends a b printed → Appends b c more →
-      Stops o own_piece longer (printed ++ more) f → (later : List ℕ) → Ran o (longer ++ later) a c (Err by)
+  ran_stopped : (a b c : Option (List ℕ)) (longer printed more : List ℕ) (f : Fault) (by : RunFault) → text_fault_of by ≡ Some f → Appends a b printed → Appends b c more →
+      FaultsAfter o own_piece longer (printed ++ more) f → (later : List ℕ) → RunAnswers o (longer ++ later) a c (Err by)
   ran_stopped a b c longer printed more f by told before appended w later =
       outcome_at (longer ++ later) w.items w.tree (Some f) a c (Err by) (printed ++ more) (reads_stay later w.reads).1 w.printed_is
       (Appends-trans a b c printed more before appended) (sym told, λ none. cc)
 
   -- it is faulty before its end
   pub ran_early : (a b c : Option (List ℕ)) (longer printed : List ℕ) (failed : Bool) (f : RunFault) → failed ≡ false → Appends a b printed →
-      Fails o own_piece failed b c longer printed f → (later : List ℕ) → Ran o (longer ++ later) a c (Err f)
+      FeedFails o own_piece failed b c longer printed f → (later : List ℕ) → RunAnswers o (longer ++ later) a c (Err f)
   ran_early a b c longer printed failed (Text f) works before w later = ran_stopped a b c longer printed w.1.0 (limit_of f) (Text f) refl before w.1.2 w.1.1 later
   ran_early a b c longer printed failed (Section f) works before w later = ran_stopped a b c longer printed w.1.0 (fault_of f) (Section f) refl before w.1.2 w.1.1 later
   ran_early a b c longer printed failed Read works before w later = absurd w
   ran_early a b c longer printed failed Write works before w later = cc
 
-  module _ {S : Type 0} (stands : S → List Judged → Type 0) (piece_of : S → List Judged → Judged → List ℕ) (e : Running S) (text printed : List ℕ)
-      (h : HasTaken stands piece_of e o own_piece text printed) where
+  module _ {S : Type 0} (stands : S → List Judged → Type 0) (piece_of : S → List Judged → Judged → List ℕ) (e : EngineState S) (text printed : List ℕ)
+      (h : EngineRepresentsBuffered stands piece_of e o own_piece text printed) where
     abbrev so_far : Outcome
     so_far = outcome_of o.settings h.items h.tree None
 
-    right : (q more : List ℕ) (r : Outcome) → q ++ more ≡ text → RunsSoFar o q r → (f : Option Fault) → r.fault ≡ f → f ≡ None
+    right : (q more : List ℕ) (r : Outcome) → q ++ more ≡ text → HasOutcomeSoFar o q r → (f : Option Fault) → r.fault ≡ f → f ≡ None
     right q more r is runs None e₁ = refl
     right q more r is runs (Some f) e₁ =
-        let longer : RunsSoFar o text r = subst (λ x. RunsSoFar o x r) is (fault_stays o q more r runs f e₁).0 in
+        let longer : HasOutcomeSoFar o text r = subst (λ x. HasOutcomeSoFar o x r) is (fault_stays o q more r runs f e₁).0 in
         let same : r ≡ so_far = one_run_so_far longer (came_as (reads_so_far stands piece_of o own_piece e text printed h)) in
         let no : r.fault ≡ None = ap (λ (s : Outcome). s.fault) same in
         sym e₁ ∙ no
 
     -- what came before the last piece is written
-    pub kept_up : (r₀ r₁ a b c : Option (List ℕ)) (last more : List ℕ) → Consumes r₀ r₁ (text ++ last) → length last ≤ PIECE_BYTES → Appends a b printed → Appends b c more →
-        KeptUp o r₀ r₁ a c
+    pub kept_up : (r₀ r₁ a b c : Option (List ℕ)) (last more : List ℕ) → Consumes r₀ r₁ (text ++ last) → length last ≤ CHUNK_BYTES → Appends a b printed → Appends b c more →
+        LagsOneRead o r₀ r₁ a c
     kept_up r₀ r₁ a b c last more consumed few before after =
-        let n : ℕ = length (text ++ last) - PIECE_BYTES in
+        let n : ℕ = length (text ++ last) - CHUNK_BYTES in
         let len = length-append text last in
         let within : n ≤ length text = omega (arith, len, few) in
-        let front : settled (text ++ last) ≡ take n text = take-append-le n text last within in
-        let joined : settled (text ++ last) ++ drop n text ≡ text = ap (λ x. x ++ drop n text) front ∙ take-append-drop n text in
-        let r : (r : Outcome) × RunsSoFar o (settled (text ++ last)) r = run_so_far_exists o (settled (text ++ last)) in
+        let front : all_but_last_chunk (text ++ last) ≡ take n text = take-append-le n text last within in
+        let joined : all_but_last_chunk (text ++ last) ++ drop n text ≡ text = ap (λ x. x ++ drop n text) front ∙ take-append-drop n text in
+        let r : (r : Outcome) × HasOutcomeSoFar o (all_but_last_chunk (text ++ last)) r = run_so_far_exists o (all_but_last_chunk (text ++ last)) in
         let grown : (rest : List ℕ) × (so_far.output ≡ r.0.output ++ rest) =
-        prints_further o (settled (text ++ last)) (drop n text) r.1 (subst (λ x. RunsSoFar o x so_far) (sym joined) (came_as (reads_so_far stands piece_of o own_piece e text printed h))) in
+        prints_further o (all_but_last_chunk (text ++ last)) (drop n text) r.1 (subst (λ x. HasOutcomeSoFar o x so_far) (sym joined) (came_as (reads_so_far stands piece_of o own_piece e text printed h))) in
         record {
           given = text ++ last;
           consumed = consumed;
           outcome = r.0;
           runs = r.1;
-          right = right (settled (text ++ last)) (drop n text) r.0 joined r.1 r.0.fault refl;
+          right = right (all_but_last_chunk (text ++ last)) (drop n text) r.0 joined r.1 r.0.fault refl;
           more = grown.0 ++ more;
           appended =
               subst (λ x. Appends a c x)
@@ -143,7 +143,7 @@ module _ (o : Options) where
         }
 
     -- the more is fed, the less fits below the limits
-    pub fed_room : (f : Running S) (bytes later : List ℕ) → HasTaken stands piece_of f o own_piece (text ++ bytes) later → 0 < length bytes → room f.lines < room e.lines
+    pub fed_room : (f : EngineState S) (bytes later : List ℕ) → EngineRepresentsBuffered stands piece_of f o own_piece (text ++ bytes) later → 0 < length bytes → bytes_to_limit f.lines < bytes_to_limit e.lines
     fed_room f bytes later k some = by_growth (grows text bytes)
       where
         before : e.lines.before ≡ length (whole_lines text)
@@ -152,7 +152,7 @@ module _ (o : Options) where
         before_more : f.lines.before ≡ length (whole_lines (text ++ bytes))
         before_more = before_is stands piece_of o own_piece f (text ++ bytes) later k
 
-        by_growth : Growth text bytes → room f.lines < room e.lines
+        by_growth : Growth text bytes → bytes_to_limit f.lines < bytes_to_limit e.lines
         by_growth (stays_open lines rest) =
             let n = ap length lines in
             let held : length f.lines.held ≡ length e.lines.held + length bytes =
@@ -161,19 +161,19 @@ module _ (o : Options) where
             let s = k.opened.short in
             omega (arith, before, before_more, n, held, s, some)
         by_growth (ends_line x l lines) =
-            let n = ap length lines ∙ length-append (whole_lines text) ((open_rest text ++ x) ∷ l) in
+            let n = ap length lines ∙ length-append (whole_lines text) ((partial_line text ++ x) ∷ l) in
             let c = k.count in
             omega (arith, before, before_more, n, c)
 
   -- however the end went, something was appended
-  pub end_appended : (failed : Bool) (b c : Option (List ℕ)) (given printed : List ℕ) (f : RunFault) → EndsIll o own_piece failed b c given printed f → (x : List ℕ) × Appends b c x
+  pub end_appended : (failed : Bool) (b c : Option (List ℕ)) (given printed : List ℕ) (f : RunFault) → FinishErr o own_piece failed b c given printed f → (x : List ℕ) × Appends b c x
   end_appended failed b c given printed (Text f) w = (w.1.more, w.1.appended)
   end_appended failed b c given printed (Section f) w = (w.1.more, w.1.appended)
   end_appended failed b c given printed Read w = absurd w
   end_appended failed b c given printed Write w = (w.1.front.0, w.1.front.3)
 
   -- however a piece went, something was appended
-  pub feed_appended : (failed : Bool) (b c : Option (List ℕ)) (longer printed : List ℕ) (f : RunFault) → Fails o own_piece failed b c longer printed f → (x : List ℕ) × Appends b c x
+  pub feed_appended : (failed : Bool) (b c : Option (List ℕ)) (longer printed : List ℕ) (f : RunFault) → FeedFails o own_piece failed b c longer printed f → (x : List ℕ) × Appends b c x
   feed_appended failed b c longer printed (Text f) w = (w.1.0, w.1.2)
   feed_appended failed b c longer printed (Section f) w = (w.1.0, w.1.2)
   feed_appended failed b c longer printed Read w = absurd w
@@ -181,16 +181,16 @@ module _ (o : Options) where
 
   module _ (a b c : Option (List ℕ)) (given printed : List ℕ) (failed : Bool) (before : Appends a b printed) where
     -- the end of the text
-    pub ended_ran : (r : Result Bool RunFault) → IfOk r (EndsWell o own_piece given printed b c) → IfErr r (EndsIll o own_piece failed b c given printed) → failed ≡ false → Ran o given a c r
+    pub ended_ran : (r : Result Bool RunFault) → IfOk r (FinishOk o own_piece given printed b c) → IfErr r (FinishErr o own_piece failed b c given printed) → failed ≡ false → RunAnswers o given a c r
     ended_ran (Ok d) w x works = ran_well a b c given printed d before w
     ended_ran (Err f) w x works = ran_ill a b c given printed failed f works before x
 
-    pub ended_appended : (r : Result Bool RunFault) → IfOk r (EndsWell o own_piece given printed b c) → IfErr r (EndsIll o own_piece failed b c given printed) → (x : List ℕ) × Appends b c x
+    pub ended_appended : (r : Result Bool RunFault) → IfOk r (FinishOk o own_piece given printed b c) → IfErr r (FinishErr o own_piece failed b c given printed) → (x : List ℕ) × Appends b c x
     ended_appended (Ok d) w x = (w.more, w.appended)
     ended_appended (Err f) w x = end_appended failed b c given printed f x
 
   -- which faults the end gives
-  pub ended_read : (b c : Option (List ℕ)) (given printed : List ℕ) (failed reader : Bool) (r : Result Bool RunFault) → reader ≡ false → IfErr r (EndsIll o own_piece failed b c given printed) →
+  pub ended_read : (b c : Option (List ℕ)) (given printed : List ℕ) (failed reader : Bool) (r : Result Bool RunFault) → reader ≡ false → IfErr r (FinishErr o own_piece failed b c given printed) →
       (reader ≡ true → r ≡ Err Read) × (r ≡ Err Read → reader ≡ true)
   ended_read b c given printed failed reader (Ok d) e w = (λ f. cc, λ f. cc)
   ended_read b c given printed failed reader (Err (Text f)) e w = (λ f. cc, λ f. cc)
@@ -198,7 +198,7 @@ module _ (o : Options) where
   ended_read b c given printed failed reader (Err Read) e w = absurd w
   ended_read b c given printed failed reader (Err Write) e w = (λ f. cc, λ f. cc)
 
-  pub ended_write : (b c : Option (List ℕ)) (given printed : List ℕ) (failed : Bool) (r : Result Bool RunFault) → OnOk r (failed ≡ false) → IfErr r (EndsIll o own_piece failed b c given printed) →
+  pub ended_write : (b c : Option (List ℕ)) (given printed : List ℕ) (failed : Bool) (r : Result Bool RunFault) → OnOk r (failed ≡ false) → IfErr r (FinishErr o own_piece failed b c given printed) →
       (failed ≡ true → r ≡ Err Write) × (r ≡ Err Write → failed ≡ true)
   ended_write b c given printed failed (Ok d) e w = (λ f. cc, λ f. cc)
   ended_write b c given printed failed (Err (Text f)) e w = (λ g. let no = w.0 in cc, λ g. cc)
@@ -207,14 +207,14 @@ module _ (o : Options) where
   ended_write b c given printed failed (Err Write) e w = (λ f. refl, λ f. w.0)
 
   -- which faults a piece gives
-  pub fed_read : (b c : Option (List ℕ)) (longer printed : List ℕ) (failed reader : Bool) (f : RunFault) → reader ≡ false → Fails o own_piece failed b c longer printed f →
+  pub fed_read : (b c : Option (List ℕ)) (longer printed : List ℕ) (failed reader : Bool) (f : RunFault) → reader ≡ false → FeedFails o own_piece failed b c longer printed f →
       (reader ≡ true → the_err f ≡ Err Read) × (the_err f ≡ Err Read → reader ≡ true)
   fed_read b c longer printed failed reader (Text f) e w = (λ g. cc, λ g. cc)
   fed_read b c longer printed failed reader (Section f) e w = (λ g. cc, λ g. cc)
   fed_read b c longer printed failed reader Read e w = absurd w
   fed_read b c longer printed failed reader Write e w = (λ g. cc, λ g. cc)
 
-  pub fed_write : (b c : Option (List ℕ)) (longer printed : List ℕ) (failed : Bool) (f : RunFault) → Fails o own_piece failed b c longer printed f →
+  pub fed_write : (b c : Option (List ℕ)) (longer printed : List ℕ) (failed : Bool) (f : RunFault) → FeedFails o own_piece failed b c longer printed f →
       (failed ≡ true → the_err f ≡ Err Write) × (the_err f ≡ Err Write → failed ≡ true)
   fed_write b c longer printed failed (Text f) w = (λ g. let no = w.0 in cc, λ g. cc)
   fed_write b c longer printed failed (Section f) w = (λ g. let no = w.0 in cc, λ g. cc)

@@ -2,171 +2,171 @@
 use Rattle.std.proofs.Common.{◌≡◌, ℕ, suc, ◌+◌, ◌-◌, ◌<◌, ◌≤◌, Bool, true, false, List, [], ◌∷◌, ◌++◌, length, take, drop, Option, None, sym, ◌∙◌, ap, subst, ap₂, append_assoc, append-nil, take-append-drop, arith}
 use Rattle.std.proofs.lemmas.Grind.{common_steps}
 use Rattle.std.proofs.lemmas.List.{drop-take}
-use Rattle.ud_model.specs.text.Lines.{Line, NoFeed, IsWhole, Parts, ending_of, whole_lines, line_at, text_of}
+use Rattle.ud_model.specs.text.Lines.{Line, NoNewline, IsWhole, SplitLines, ending_of, whole_lines, line_at, text_of}
 use Rattle.ud_model.specs.sections.Items.{Options}
 use Rattle.ud_model.specs.answer.Printing.{Judged}
-use Rattle.ud_model.specs.answer.Runs.{lines_so_far}
+use Rattle.ud_model.specs.answer.Outcomes.{lines_so_far}
 use Rattle.ud_model.specs.declared.limits.TheConstants.{LINE_BYTES, TEXT_LINES}
 use Rattle.ud_model.proofs.text.LinesLemmas.{no_feed-append, text_of-line_at}
-use Rattle.ud_text.specs.Holding.{Holding, Took, UpToFeed, HasRoom}
-use Rattle.ud_text.specs.Borrowing.{CanLend}
-use Rattle.ud_text.proofs.RunLemmas.{no_feed-take}
+use Rattle.ud_text.specs.LinesState.{LinesState, LinesRepresent, UpToNewline, HasCapacity}
+use Rattle.ud_text.specs.Borrowing.{CanBorrow}
+use Rattle.ud_text.proofs.MaskLemmas.{no_feed-take}
 use Rattle.ud_text.proofs.StepLemmas.{drop_both}
-use Rattle.ud_sections.specs.Limits.{IsWithin}
-use Rattle.ud_sections.specs.Sections.{fault_of}
+use Rattle.ud_sections.specs.Limits.{IsWithinLimits}
+use Rattle.ud_sections.specs.MachineState.{fault_of}
 use Rattle.ud_engine.specs.declared.fault.RunFault.{RunFault}
 use Rattle.ud_engine.specs.declared.fault.RunFault.TheVariants.{Text, Section, Read, Write}
-use Rattle.ud_engine.specs.Advancing.{Advances, StopsAt, between}
-use Rattle.ud_engine.specs.Feeding.{Running, IsOpen, HasTaken}
-use Rattle.ud_engine.specs.Printing.{PrintsLine, PrintFails}
-use Rattle.ud_streams.specs.Sending.{Sent}
-use Rattle.ud_streams.specs.Watching.{AppendsFront}
-use Rattle.ud_streams.proofs.SendingLemmas.{sent_none}
-use Rattle.ud_engine.proofs.TakingLemmas.{before_is, rest_is, parts_of-front_of, parts_behind, line_taken, open_taken, line_next, line_stops, line_falls_short, run_falls_short}
+use Rattle.ud_engine.specs.Advancing.{Advances, StepFails, slice_between}
+use Rattle.ud_engine.specs.Feeding.{EngineState, IsOpen, EngineRepresentsBuffered}
+use Rattle.ud_engine.specs.ProcessedLines.{PrintsLine, PrintErr}
+use Rattle.ud_io.specs.Buffering.{AppendsAllBut}
+use Rattle.ud_io.specs.Watched.{AppendsPrefix}
+use Rattle.ud_io.proofs.BufferingLemmas.{appends_all_but_none}
+use Rattle.ud_engine.proofs.LinePartLemmas.{before_is, rest_is, split_lines-front_of, parts_behind, line_taken, open_taken, line_next, line_stops, line_falls_short, run_falls_short}
 
 -- a last line that has no line feed has none in its body
-pub rest_feedless : (n : ℕ) (l : List ℕ) → NoFeed l → NoFeed (line_at n l).body
+pub rest_feedless : (n : ℕ) (l : List ℕ) → NoNewline l → NoNewline (line_at n l).body
 rest_feedless n l h = no_feed-take (length l - length (ending_of l)) l h
 
 -- the line that is held with what a piece ends it by
-pub held_whole : (held rest : List ℕ) (used : ℕ) (whole : Bool) → whole ≡ true → NoFeed held → UpToFeed rest used whole → IsWhole (held ++ take used rest)
+pub held_whole : (held rest : List ℕ) (used : ℕ) (whole : Bool) → whole ≡ true → NoNewline held → UpToNewline rest used whole → IsWhole (held ++ take used rest)
 held_whole held rest used whole e h to =
-    let line : (front : List ℕ) × NoFeed front × (take used rest ≡ front ++ 10 ∷ []) = to.line e in
+    let line : (front : List ℕ) × NoNewline front × (take used rest ≡ front ++ 10 ∷ []) = to.line e in
     (held ++ line.0, no_feed-append held line.0 h line.1, ap (λ x. held ++ x) line.2 ∙ sym (append_assoc held line.0 (10 ∷ [])))
 
 -- a line of this number within the limits
-pub is_within : (l : Line) (n : ℕ) (bytes : List ℕ) → l ≡ line_at n bytes → n ≤ TEXT_LINES → length bytes ≤ LINE_BYTES → IsWithin l
+pub is_within : (l : Line) (n : ℕ) (bytes : List ℕ) → l ≡ line_at n bytes → n ≤ TEXT_LINES → length bytes ≤ LINE_BYTES → IsWithinLimits l
 is_within l n bytes e number fits = record {
   number_fits = subst (λ (k : Line). k.number ≤ TEXT_LINES) (sym e) number;
   bytes_fit = subst (λ (k : Line). length (text_of k) ≤ LINE_BYTES) (sym e) (subst (λ (x : List ℕ). length x ≤ LINE_BYTES) (sym (text_of-line_at n bytes)) fits);
 }
 
 -- bytes without a line feed lengthen the line
-pub still_open : (lines mid : Holding) (rest : List ℕ) (used : ℕ) (whole : Bool) → whole ≡ false → IsOpen lines → UpToFeed rest used whole →
+pub still_open : (lines mid : LinesState) (rest : List ℕ) (used : ℕ) (whole : Bool) → whole ≡ false → IsOpen lines → UpToNewline rest used whole →
     mid ≡ record lines { held = lines.held ++ take used rest; whole = whole } → length mid.held ≤ LINE_BYTES → IsOpen mid
 still_open lines mid rest used whole e h to is short =
-    let all : (used ≡ length rest) × NoFeed rest = to.all e in
+    let all : (used ≡ length rest) × NoNewline rest = to.all e in
     record {
-      part = ap (λ (l : Holding). l.whole) is ∙ e;
-      goes_on = ap (λ (l : Holding). l.closed) is ∙ h.goes_on;
-      limit = ap (λ (l : Holding). l.last_line) is ∙ h.limit;
+      part = ap (λ (l : LinesState). l.whole) is ∙ e;
+      goes_on = ap (λ (l : LinesState). l.closed) is ∙ h.goes_on;
+      limit = ap (λ (l : LinesState). l.last_line) is ∙ h.limit;
       short = short;
-      feedless =
-          subst (λ (x : List ℕ). NoFeed x) (sym (ap (λ (l : Holding). l.held) is))
-          (no_feed-append lines.held (take used rest) h.feedless (no_feed-take used rest all.1));
+      no_newline =
+          subst (λ (x : List ℕ). NoNewline x) (sym (ap (λ (l : LinesState). l.held) is))
+          (no_feed-append lines.held (take used rest) h.no_newline (no_feed-take used rest all.1));
     }
 
 -- what was taken of a piece takes no more room than it has
-pub has_room : (room : ℕ) (lines new : Holding) (left used : ℕ) → HasRoom room lines left → used ≤ left → length new.held ≤ length lines.held + used → HasRoom room new (left - used)
+pub has_room : (room : ℕ) (lines new : LinesState) (left used : ℕ) → HasCapacity room lines left → used ≤ left → length new.held ≤ length lines.held + used → HasCapacity room new (left - used)
 has_room room lines new left used has within few = λ small. let h = has small in omega (arith, h, within, few)
 
 -- after a whole line nothing is held
-pub open_again : (lines mid new : Holding) (rest : List ℕ) (used : ℕ) (whole : Bool) → IsOpen lines →
+pub open_again : (lines mid new : LinesState) (rest : List ℕ) (used : ℕ) (whole : Bool) → IsOpen lines →
     mid ≡ record lines { held = lines.held ++ take used rest; whole = whole } → new ≡ record mid { held = []; whole = false; before = mid.before + 1 } → IsOpen new
 open_again lines mid new rest used whole h is cleared = record {
-  part = ap (λ (l : Holding). l.whole) cleared;
-  goes_on = ap (λ (l : Holding). l.closed) cleared ∙ ap (λ (l : Holding). l.closed) is ∙ h.goes_on;
-  limit = ap (λ (l : Holding). l.last_line) cleared ∙ ap (λ (l : Holding). l.last_line) is ∙ h.limit;
-  short = let z = ap (λ (l : Holding). length l.held) cleared in omega (arith, z);
-  feedless = subst (λ (x : List ℕ). NoFeed x) (sym (ap (λ (l : Holding). l.held) cleared)) tt;
+  part = ap (λ (l : LinesState). l.whole) cleared;
+  goes_on = ap (λ (l : LinesState). l.closed) cleared ∙ ap (λ (l : LinesState). l.closed) is ∙ h.goes_on;
+  limit = ap (λ (l : LinesState). l.last_line) cleared ∙ ap (λ (l : LinesState). l.last_line) is ∙ h.limit;
+  short = let z = ap (λ (l : LinesState). length l.held) cleared in omega (arith, z);
+  no_newline = subst (λ (x : List ℕ). NoNewline x) (sym (ap (λ (l : LinesState). l.held) cleared)) tt;
 }
 
 -- a refusal leaves what is held
-pub open_refused : (lines new : Holding) (f : _) → IsOpen lines → new ≡ record lines { refusal = f } → IsOpen new
+pub open_refused : (lines new : LinesState) (f : _) → IsOpen lines → new ≡ record lines { fault = f } → IsOpen new
 open_refused lines new f h is = record {
-  part = ap (λ (l : Holding). l.whole) is ∙ h.part;
-  goes_on = ap (λ (l : Holding). l.closed) is ∙ h.goes_on;
-  limit = ap (λ (l : Holding). l.last_line) is ∙ h.limit;
-  short = let z = ap (λ (l : Holding). length l.held) is in let s = h.short in omega (arith, z, s);
-  feedless = subst (λ (x : List ℕ). NoFeed x) (sym (ap (λ (l : Holding). l.held) is)) h.feedless;
+  part = ap (λ (l : LinesState). l.whole) is ∙ h.part;
+  goes_on = ap (λ (l : LinesState). l.closed) is ∙ h.goes_on;
+  limit = ap (λ (l : LinesState). l.last_line) is ∙ h.limit;
+  short = let z = ap (λ (l : LinesState). length l.held) is in let s = h.short in omega (arith, z, s);
+  no_newline = subst (λ (x : List ℕ). NoNewline x) (sym (ap (λ (l : LinesState). l.held) is)) h.no_newline;
 }
 
 module _ {S : Type 0} (stands : S → List Judged → Type 0) (piece_of : S → List Judged → Judged → List ℕ) (o : Options) (piece : List Judged → Judged → List ℕ)
-    (e : Running S) (text printed : List ℕ) (h : HasTaken stands piece_of e o piece text printed) (a b : Option (List ℕ)) (g run rest : List ℕ) (ge : e.gathered ≡ g) where
+    (e : EngineState S) (text printed : List ℕ) (h : EngineRepresentsBuffered stands piece_of e o piece text printed) (a b : Option (List ℕ)) (g pending rest : List ℕ) (ge : e.buffered ≡ g) where
   -- bytes without a line feed are held, and the run before them is put
-  pub open_step : (f : Running S) (used : ℕ) (whole : Bool) → whole ≡ false → UpToFeed rest used whole → f.symbols ≡ e.symbols → f.printer ≡ e.printer →
-      f.lines ≡ record e.lines { held = e.lines.held ++ take used rest; whole = whole } → Took f.lines (text ++ take used rest) → f.lines.refusal ≡ None →
-      (length f.lines.held ≤ LINE_BYTES) × (e.lines.before < e.lines.last_line) → Sent a b (e.gathered ++ run) f.gathered →
-      Advances stands piece_of f o piece text printed (take used rest) a b (g ++ run) f.gathered
+  pub open_step : (f : EngineState S) (used : ℕ) (whole : Bool) → whole ≡ false → UpToNewline rest used whole → f.symbols ≡ e.symbols → f.printer ≡ e.printer →
+      f.lines ≡ record e.lines { held = e.lines.held ++ take used rest; whole = whole } → LinesRepresent f.lines (text ++ take used rest) → f.lines.fault ≡ None →
+      (length f.lines.held ≤ LINE_BYTES) × (e.lines.before < e.lines.last_line) → AppendsAllBut a b (e.buffered ++ pending) f.buffered →
+      Advances stands piece_of f o piece text printed (take used rest) a b (g ++ pending) f.buffered
   open_step f used whole w to symbols printer is took unrefused limits sent =
-      let parts = parts_of-front_of text e.lines.held rest used whole (rest_is stands piece_of o piece e text printed h) to in
+      let parts = split_lines-front_of text e.lines.held rest used whole (rest_is stands piece_of o piece e text printed h) to in
       let lines : whole_lines (text ++ take used rest) ≡ whole_lines text =
-      ap (λ (q : Parts). q.whole) (parts ∙ ap (parts_behind text e.lines.held (take used rest)) w) in
+      ap (λ (q : SplitLines). q.whole) (parts ∙ ap (parts_behind text e.lines.held (take used rest)) w) in
       record {
         more = [];
         taken =
             open_taken stands piece_of o piece e text printed h f (take used rest) lines symbols printer
             (still_open e.lines f.lines rest used whole w h.opened to is limits.0) took unrefused
-            (λ some. let k = limits.1 in let m = h.opened.limit in let n = ap (λ (l : Holding). l.before) is in omega (arith, k, m, n))
-            (let k = h.count in let n = ap (λ (l : Holding). l.before) is in omega (arith, k, n));
+            (λ some. let k = limits.1 in let m = h.opened.limit in let n = ap (λ (l : LinesState). l.before) is in omega (arith, k, m, n))
+            (let k = h.count in let n = ap (λ (l : LinesState). l.before) is in omega (arith, k, n));
         sent =
-            subst (λ x. Sent a b x f.gathered) (sym (append-nil (g ++ run)))
-            (subst (λ x. Sent a b (x ++ run) f.gathered) ge sent);
+            subst (λ x. AppendsAllBut a b x f.buffered) (sym (append-nil (g ++ pending)))
+            (subst (λ x. AppendsAllBut a b (x ++ pending) f.buffered) ge sent);
       }
 
   -- a line feed ends the line, and what is printed of it is put after the run
-  pub line_step : (f : Running S) (mid : Holding) (used : ℕ) (whole : Bool) (l : Line) → whole ≡ true → UpToFeed rest used whole → f.symbols ≡ e.symbols →
+  pub line_step : (f : EngineState S) (mid : LinesState) (used : ℕ) (whole : Bool) (l : Line) → whole ≡ true → UpToNewline rest used whole → f.symbols ≡ e.symbols →
       mid ≡ record e.lines { held = e.lines.held ++ take used rest; whole = whole } →
-      f.lines ≡ record mid { held = []; whole = false; before = mid.before + 1 } → Took f.lines (text ++ take used rest) → mid.refusal ≡ None → e.lines.before < e.lines.last_line →
+      f.lines ≡ record mid { held = []; whole = false; before = mid.before + 1 } → LinesRepresent f.lines (text ++ take used rest) → mid.fault ≡ None → e.lines.before < e.lines.last_line →
       l ≡ line_at (suc mid.before) mid.held →
-      PrintsLine stands piece_of f.printer o piece h.items h.tree l true a b e.gathered f.gathered run →
-      Advances stands piece_of f o piece text printed (take used rest) a b (g ++ run) f.gathered
+      PrintsLine stands piece_of f.printer o piece h.items h.tree l true a b e.buffered f.buffered pending →
+      Advances stands piece_of f o piece text printed (take used rest) a b (g ++ pending) f.buffered
   line_step f mid used whole l w to symbols is cleared took unrefused few line prints =
-      let parts = parts_of-front_of text e.lines.held rest used whole (rest_is stands piece_of o piece e text printed h) to in
+      let parts = split_lines-front_of text e.lines.held rest used whole (rest_is stands piece_of o piece e text printed h) to in
       let lines : whole_lines (text ++ take used rest) ≡ whole_lines text ++ (e.lines.held ++ take used rest) ∷ [] =
-      ap (λ (q : Parts). q.whole) (parts ∙ ap (parts_behind text e.lines.held (take used rest)) w) in
+      ap (λ (q : SplitLines). q.whole) (parts ∙ ap (parts_behind text e.lines.held (take used rest)) w) in
       let at : line_at (suc mid.before) mid.held ≡ line_at (suc (length (whole_lines text))) (e.lines.held ++ take used rest) =
-      ap (λ (k : Holding). line_at (suc k.before) k.held) is ∙ ap (λ n. line_at (suc n) (e.lines.held ++ take used rest)) (before_is stands piece_of o piece e text printed h) in
+      ap (λ (k : LinesState). line_at (suc k.before) k.held) is ∙ ap (λ n. line_at (suc n) (e.lines.held ++ take used rest)) (before_is stands piece_of o piece e text printed h) in
       record {
         more = prints.more;
         taken =
             line_taken stands piece_of o piece e text printed h f (take used rest) (e.lines.held ++ take used rest) l prints.tree prints.more lines (line ∙ at) symbols
-            (open_again e.lines mid f.lines rest used whole h.opened is cleared) took (ap (λ (k : Holding). k.refusal) cleared ∙ unrefused)
-            (ap (λ (k : Holding). k.held) cleared)
-            (let m = h.opened.limit in let n = ap (λ (k : Holding). k.before) is in let q = ap (λ (k : Holding). k.before) cleared in omega (arith, few, m, n, q))
+            (open_again e.lines mid f.lines rest used whole h.opened is cleared) took (ap (λ (k : LinesState). k.fault) cleared ∙ unrefused)
+            (ap (λ (k : LinesState). k.held) cleared)
+            (let m = h.opened.limit in let n = ap (λ (k : LinesState). k.before) is in let q = ap (λ (k : LinesState). k.before) cleared in omega (arith, few, m, n, q))
             prints.has prints.is_more;
         sent =
-            subst (λ x. Sent a b x f.gathered) (sym (append_assoc g run prints.more))
-            (subst (λ x. Sent a b (x ++ (run ++ prints.more)) f.gathered) ge prints.goes);
+            subst (λ x. AppendsAllBut a b x f.buffered) (sym (append_assoc g pending prints.more))
+            (subst (λ x. AppendsAllBut a b (x ++ (pending ++ prints.more)) f.buffered) ge prints.goes);
       }
 
   -- the next line is faulty, or a write fails
   pub refused_by : (l : Line) (f : RunFault) (later : List Line) → lines_so_far (text ++ rest) ≡ lines_so_far text ++ l ∷ later →
-      PrintFails o piece h.items h.tree l a b e.gathered run f → StopsAt o piece (text ++ rest) printed a b (g ++ run) f
+      PrintErr o piece h.items h.tree l a b e.buffered pending f → StepFails o piece (text ++ rest) printed a b (g ++ pending) f
   refused_by l (Section f) later are fails = line_stops stands piece_of o piece e text printed h (text ++ rest) l later (fault_of f) are fails
   refused_by l Write later are fails =
-      subst (λ x. StopsAt o piece (text ++ rest) printed a b (x ++ run) Write) ge
-      (line_falls_short stands piece_of o piece e text printed h (text ++ rest) l later a b e.gathered run are fails)
+      subst (λ x. StepFails o piece (text ++ rest) printed a b (x ++ pending) Write) ge
+      (line_falls_short stands piece_of o piece e text printed h (text ++ rest) l later a b e.buffered pending are fails)
   refused_by l (Text f) later are fails = absurd fails
   refused_by l Read later are fails = absurd fails
 
   -- the line that a line feed ends is faulty, or a write fails
-  pub line_refused : (mid : Holding) (used : ℕ) (whole : Bool) (l : Line) (f : RunFault) → whole ≡ true → UpToFeed rest used whole →
+  pub line_refused : (mid : LinesState) (used : ℕ) (whole : Bool) (l : Line) (f : RunFault) → whole ≡ true → UpToNewline rest used whole →
       mid ≡ record e.lines { held = e.lines.held ++ take used rest; whole = whole } → l ≡ line_at (suc mid.before) mid.held →
-      PrintFails o piece h.items h.tree l a b e.gathered run f → StopsAt o piece (text ++ rest) printed a b (g ++ run) f
+      PrintErr o piece h.items h.tree l a b e.buffered pending f → StepFails o piece (text ++ rest) printed a b (g ++ pending) f
   line_refused mid used whole l f w to is line fails =
-      let parts = parts_of-front_of text e.lines.held rest used whole (rest_is stands piece_of o piece e text printed h) to in
+      let parts = split_lines-front_of text e.lines.held rest used whole (rest_is stands piece_of o piece e text printed h) to in
       let lines : whole_lines (text ++ take used rest) ≡ whole_lines text ++ (e.lines.held ++ take used rest) ∷ [] =
-      ap (λ (q : Parts). q.whole) (parts ∙ ap (parts_behind text e.lines.held (take used rest)) w) in
+      ap (λ (q : SplitLines). q.whole) (parts ∙ ap (parts_behind text e.lines.held (take used rest)) w) in
       let at : l ≡ line_at (suc (length (whole_lines text))) (e.lines.held ++ take used rest) =
-      line ∙ ap (λ (k : Holding). line_at (suc k.before) k.held) is ∙ ap (λ n. line_at (suc n) (e.lines.held ++ take used rest)) (before_is stands piece_of o piece e text printed h) in
+      line ∙ ap (λ (k : LinesState). line_at (suc k.before) k.held) is ∙ ap (λ n. line_at (suc n) (e.lines.held ++ take used rest)) (before_is stands piece_of o piece e text printed h) in
       let next = line_next stands piece_of o piece e text printed h rest used (e.lines.held ++ take used rest) lines in
       refused_by l f next.0 (next.1 ∙ ap (λ k. lines_so_far text ++ k ∷ next.0) (sym at)) fails
 
-  pub run_refused_by : AppendsFront a b (e.gathered ++ run) → StopsAt o piece (text ++ rest) printed a b (g ++ run) Write
+  pub run_refused_by : AppendsPrefix a b (e.buffered ++ pending) → StepFails o piece (text ++ rest) printed a b (g ++ pending) Write
   run_refused_by front =
-      run_falls_short stands piece_of o piece e text printed h rest a b (g ++ run) (subst (λ x. AppendsFront a b (x ++ run)) ge front)
+      run_falls_short stands piece_of o piece e text printed h rest a b (g ++ pending) (subst (λ x. AppendsPrefix a b (x ++ pending)) ge front)
 
 -- what a slice from a place on is
 pub slice_from : (p : List ℕ) (n : ℕ) → take (length p - n) (drop n p) ≡ drop n p
 slice_from p n = grind (arith, common_steps)
 
 -- no bytes stand between a place and itself
-pub between_none : (p : List ℕ) (n : ℕ) → between p n n ≡ []
+pub between_none : (p : List ℕ) (n : ℕ) → slice_between p n n ≡ []
 between_none p n = let z : n - n ≡ 0 = omega arith in ap (λ k. take k (drop n p)) z
 
 -- the bytes up to a place and those from there to another
-pub between_more : (p : List ℕ) (from at end : ℕ) → from ≤ at → at ≤ end → between p from end ≡ between p from at ++ between p at end
+pub between_more : (p : List ℕ) (from at end : ℕ) → from ≤ at → at ≤ end → slice_between p from end ≡ slice_between p from at ++ slice_between p at end
 between_more p from at end h k =
     let n : end - from ≡ (at - from) + (end - at) = omega (arith, h, k) in
     let m : from + (at - from) ≡ at = omega (arith, h) in
@@ -180,98 +180,98 @@ between_more p from at end h k =
     take-front i j q = grind (arith, common_steps)
 
 -- the same from the beginning
-pub take_more_of : (p : List ℕ) (at end : ℕ) → at ≤ end → take at p ++ between p at end ≡ take end p
+pub take_more_of : (p : List ℕ) (at end : ℕ) → at ≤ end → take at p ++ slice_between p at end ≡ take end p
 take_more_of p at end h =
     let n : at - 0 ≡ at = omega arith in
     let m : end - 0 ≡ end = omega arith in
-    ap (λ k. take k p ++ between p at end) (sym n) ∙ sym (between_more p 0 at end (omega arith) h) ∙ ap (λ k. take k p) m
+    ap (λ k. take k p ++ slice_between p at end) (sym n) ∙ sym (between_more p 0 at end (omega arith) h) ∙ ap (λ k. take k p) m
 
 module _ {S : Type 0} (stands : S → List Judged → Type 0) (piece_of : S → List Judged → Judged → List ℕ) (o : Options) (piece : List Judged → Judged → List ℕ)
-    (e : Running S) (text printed : List ℕ) (h : HasTaken stands piece_of e o piece text printed) (a b : Option (List ℕ)) (g : List ℕ) (ge : e.gathered ≡ g)
+    (e : EngineState S) (text printed : List ℕ) (h : EngineRepresentsBuffered stands piece_of e o piece text printed) (a b : Option (List ℕ)) (g : List ℕ) (ge : e.buffered ≡ g)
     (bytes rest : List ℕ) (from at end : ℕ) (rest_from : rest ≡ drop at bytes) (ordered : from ≤ at) (later : at ≤ end)
-    (f : Running S) (l : Line) (lends : CanLend e.lines rest (length (text_of l))) (is : text_of l ≡ take (length (text_of l)) rest) (ends : length (text_of l) ≡ end - at)
+    (f : EngineState S) (l : Line) (lends : CanBorrow e.lines rest (length (text_of l))) (is : text_of l ≡ take (length (text_of l)) rest) (ends : length (text_of l) ≡ end - at)
     (value : l ≡ line_at (suc e.lines.before) (take (length (text_of l)) rest)) (counted : f.lines ≡ record e.lines { before = e.lines.before + 1 })
-    (symbols : f.symbols ≡ e.symbols) (took : Took f.lines (text ++ text_of l)) where
-  own_bytes : text_of l ≡ between bytes at end
+    (symbols : f.symbols ≡ e.symbols) (took : LinesRepresent f.lines (text ++ text_of l)) where
+  own_bytes : text_of l ≡ slice_between bytes at end
   own_bytes = is ∙ ap₂ (λ n r. take n r) ends rest_from
 
   own_line : whole_lines (text ++ text_of l) ≡ whole_lines text ++ text_of l ∷ []
   own_line =
       subst (λ x. whole_lines (text ++ x) ≡ whole_lines text ++ x ∷ []) (sym is)
-      (ap (λ (q : Parts). q.whole) (parts_of-front_of text [] rest (length (text_of l)) true (rest_is stands piece_of o piece e text printed h ∙ lends.unheld) lends.front))
+      (ap (λ (q : SplitLines). q.whole) (split_lines-front_of text [] rest (length (text_of l)) true (rest_is stands piece_of o piece e text printed h ∙ lends.unheld) lends.front))
 
   own_number : l ≡ line_at (suc (length (whole_lines text))) (text_of l)
   own_number = value ∙ ap₂ (λ n x. line_at (suc n) x) (before_is stands piece_of o piece e text printed h) (sym is)
 
   own_open : IsOpen f.lines
   own_open = record {
-    part = ap (λ (k : Holding). k.whole) counted ∙ h.opened.part;
-    goes_on = ap (λ (k : Holding). k.closed) counted ∙ h.opened.goes_on;
-    limit = ap (λ (k : Holding). k.last_line) counted ∙ h.opened.limit;
-    short = let z = ap (λ (k : Holding). length k.held) counted in let s = h.opened.short in omega (arith, z, s);
-    feedless = subst (λ (x : List ℕ). NoFeed x) (sym (ap (λ (k : Holding). k.held) counted)) h.opened.feedless;
+    part = ap (λ (k : LinesState). k.whole) counted ∙ h.opened.part;
+    goes_on = ap (λ (k : LinesState). k.closed) counted ∙ h.opened.goes_on;
+    limit = ap (λ (k : LinesState). k.last_line) counted ∙ h.opened.limit;
+    short = let z = ap (λ (k : LinesState). length k.held) counted in let s = h.opened.short in omega (arith, z, s);
+    no_newline = subst (λ (x : List ℕ). NoNewline x) (sym (ap (λ (k : LinesState). k.held) counted)) h.opened.no_newline;
   }
 
-  lent_taken : (put : Bool) (p : PrintsLine stands piece_of f.printer o piece h.items h.tree l put a b e.gathered f.gathered (between bytes from at)) →
-      HasTaken stands piece_of f o piece (text ++ between bytes at end) (printed ++ p.more)
+  lent_taken : (put : Bool) (p : PrintsLine stands piece_of f.printer o piece h.items h.tree l put a b e.buffered f.buffered (slice_between bytes from at)) →
+      EngineRepresentsBuffered stands piece_of f o piece (text ++ slice_between bytes at end) (printed ++ p.more)
   lent_taken put p =
-      subst (λ x. HasTaken stands piece_of f o piece (text ++ x) (printed ++ p.more)) own_bytes
+      subst (λ x. EngineRepresentsBuffered stands piece_of f o piece (text ++ x) (printed ++ p.more)) own_bytes
       (line_taken stands piece_of o piece e text printed h f (text_of l) (text_of l) l p.tree p.more own_line own_number symbols own_open took
-      (ap (λ (k : Holding). k.refusal) counted ∙ h.unrefused) (ap (λ (k : Holding). k.held) counted ∙ lends.unheld)
-      (let m = h.opened.limit in let n = ap (λ (k : Holding). k.before) counted in let q = lends.numbered in omega (arith, m, n, q)) p.has p.is_more)
+      (ap (λ (k : LinesState). k.fault) counted ∙ h.unrefused) (ap (λ (k : LinesState). k.held) counted ∙ lends.unheld)
+      (let m = h.opened.limit in let n = ap (λ (k : LinesState). k.before) counted in let q = lends.numbered in omega (arith, m, n, q)) p.has p.is_more)
 
   -- what is printed of a line is put after the run before it, and a new run begins after it
-  pub lent_put : (put : Bool) → put ≡ true → PrintsLine stands piece_of f.printer o piece h.items h.tree l put a b e.gathered f.gathered (between bytes from at) →
-      Advances stands piece_of f o piece text printed (between bytes at end) a b (g ++ between bytes from at) (f.gathered ++ between bytes end end)
+  pub lent_put : (put : Bool) → put ≡ true → PrintsLine stands piece_of f.printer o piece h.items h.tree l put a b e.buffered f.buffered (slice_between bytes from at) →
+      Advances stands piece_of f o piece text printed (slice_between bytes at end) a b (g ++ slice_between bytes from at) (f.buffered ++ slice_between bytes end end)
   lent_put false w p = cc
   lent_put true w p = record {
     more = p.more;
     taken = lent_taken true p;
     sent =
-        subst (λ x. Sent a b ((g ++ between bytes from at) ++ p.more) x) (sym (ap (λ x. f.gathered ++ x) (between_none bytes end) ∙ append-nil f.gathered))
-        (subst (λ x. Sent a b x f.gathered) (sym (append_assoc g (between bytes from at) p.more))
-        (subst (λ x. Sent a b (x ++ (between bytes from at ++ p.more)) f.gathered) ge p.goes));
+        subst (λ x. AppendsAllBut a b ((g ++ slice_between bytes from at) ++ p.more) x) (sym (ap (λ x. f.buffered ++ x) (between_none bytes end) ∙ append-nil f.buffered))
+        (subst (λ x. AppendsAllBut a b x f.buffered) (sym (append_assoc g (slice_between bytes from at) p.more))
+        (subst (λ x. AppendsAllBut a b (x ++ (slice_between bytes from at ++ p.more)) f.buffered) ge p.goes));
   }
 
   -- a line that stays as it is lengthens the run
-  pub lent_kept : (put : Bool) → put ≡ false → PrintsLine stands piece_of f.printer o piece h.items h.tree l put a b e.gathered f.gathered (between bytes from at) →
-      Advances stands piece_of f o piece text printed (between bytes at end) a b (g ++ between bytes from at) (f.gathered ++ between bytes from end)
+  pub lent_kept : (put : Bool) → put ≡ false → PrintsLine stands piece_of f.printer o piece h.items h.tree l put a b e.buffered f.buffered (slice_between bytes from at) →
+      Advances stands piece_of f o piece text printed (slice_between bytes at end) a b (g ++ slice_between bytes from at) (f.buffered ++ slice_between bytes from end)
   lent_kept true w p = cc
   lent_kept false w p =
-      let joined : f.gathered ++ between bytes from end ≡ (g ++ between bytes from at) ++ p.more =
+      let joined : f.buffered ++ slice_between bytes from end ≡ (g ++ slice_between bytes from at) ++ p.more =
       ap₂ (λ x y. x ++ y) (p.goes.1 ∙ ge) (between_more bytes from at end ordered later)
-      ∙ sym (append_assoc g (between bytes from at) (between bytes at end))
-      ∙ ap (λ x. (g ++ between bytes from at) ++ x) (sym own_bytes ∙ sym p.goes.2) in
+      ∙ sym (append_assoc g (slice_between bytes from at) (slice_between bytes at end))
+      ∙ ap (λ x. (g ++ slice_between bytes from at) ++ x) (sym own_bytes ∙ sym p.goes.2) in
       record {
         more = p.more;
         taken = lent_taken false p;
         sent =
-            subst (λ x. Sent a b ((g ++ between bytes from at) ++ p.more) x) (sym joined)
-            (subst (λ x. Sent a x ((g ++ between bytes from at) ++ p.more) ((g ++ between bytes from at) ++ p.more)) (sym p.goes.0) (sent_none a ((g ++ between bytes from at) ++ p.more)));
+            subst (λ x. AppendsAllBut a b ((g ++ slice_between bytes from at) ++ p.more) x) (sym joined)
+            (subst (λ x. AppendsAllBut a x ((g ++ slice_between bytes from at) ++ p.more) ((g ++ slice_between bytes from at) ++ p.more)) (sym p.goes.0) (appends_all_but_none a ((g ++ slice_between bytes from at) ++ p.more)));
       }
 
   -- the line is faulty, or a write fails
-  pub lent_refused : (fault : RunFault) → PrintFails o piece h.items h.tree l a b e.gathered (between bytes from at) fault →
-      StopsAt o piece (text ++ drop at bytes) printed a b (g ++ between bytes from at) fault
+  pub lent_refused : (fault : RunFault) → PrintErr o piece h.items h.tree l a b e.buffered (slice_between bytes from at) fault →
+      StepFails o piece (text ++ drop at bytes) printed a b (g ++ slice_between bytes from at) fault
   lent_refused fault fails =
       let next = line_next stands piece_of o piece e text printed h rest (length (text_of l)) (text_of l)
       (subst (λ x. whole_lines (text ++ x) ≡ whole_lines text ++ text_of l ∷ []) is own_line) in
-      subst (λ x. StopsAt o piece (text ++ x) printed a b (g ++ between bytes from at) fault) rest_from
-      (refused_by stands piece_of o piece e text printed h a b g (between bytes from at) rest ge l fault next.0
+      subst (λ x. StepFails o piece (text ++ x) printed a b (g ++ slice_between bytes from at) fault) rest_from
+      (refused_by stands piece_of o piece e text printed h a b g (slice_between bytes from at) rest ge l fault next.0
       (next.1 ∙ ap (λ k. lines_so_far text ++ k ∷ next.0) (sym own_number)) fails)
 
 -- bytes that were taken by way of the line that is held
 module _ {S : Type 0} (stands : S → List Judged → Type 0) (piece_of : S → List Judged → Judged → List ℕ) (o : Options) (piece : List Judged → Judged → List ℕ)
-    (text printed : List ℕ) (a b : Option (List ℕ)) (bytes rest : List ℕ) (at used : ℕ) (rest_from : rest ≡ drop at bytes) (f : Running S) (pending : List ℕ) where
-  pub held_taken : Advances stands piece_of f o piece text printed (take used rest) a b pending f.gathered →
-      Advances stands piece_of f o piece text printed (between bytes at (at + used)) a b pending (f.gathered ++ between bytes (at + used) (at + used))
+    (text printed : List ℕ) (a b : Option (List ℕ)) (bytes rest : List ℕ) (at used : ℕ) (rest_from : rest ≡ drop at bytes) (f : EngineState S) (pending : List ℕ) where
+  pub held_taken : Advances stands piece_of f o piece text printed (take used rest) a b pending f.buffered →
+      Advances stands piece_of f o piece text printed (slice_between bytes at (at + used)) a b pending (f.buffered ++ slice_between bytes (at + used) (at + used))
   held_taken p =
       let n : (at + used) - at ≡ used = omega arith in
-      let same : take used rest ≡ between bytes at (at + used) = ap₂ (λ i r. take i r) (sym n) rest_from in
+      let same : take used rest ≡ slice_between bytes at (at + used) = ap₂ (λ i r. take i r) (sym n) rest_from in
       record {
         more = p.more;
-        taken = subst (λ x. HasTaken stands piece_of f o piece (text ++ x) (printed ++ p.more)) same p.taken;
+        taken = subst (λ x. EngineRepresentsBuffered stands piece_of f o piece (text ++ x) (printed ++ p.more)) same p.taken;
         sent =
-            subst (λ x. Sent a b (pending ++ p.more) x)
-            (sym (ap (λ x. f.gathered ++ x) (between_none bytes (at + used)) ∙ append-nil f.gathered)) p.sent;
+            subst (λ x. AppendsAllBut a b (pending ++ p.more) x)
+            (sym (ap (λ x. f.buffered ++ x) (between_none bytes (at + used)) ∙ append-nil f.buffered)) p.sent;
       }

@@ -1,9 +1,9 @@
-pub mod Names
-pub mod Reading
-pub mod Listing
-pub mod Printing
-pub mod Refusing
+pub mod NameLines
+pub mod DecidedLines
+pub mod NameListing
+pub mod ProcessedLines
+pub mod FaultEffects
 pub mod Feeding
 pub mod Advancing
-pub mod Ending
-pub mod Running
+pub mod Finishing
+pub mod Runs

@@ -7,51 +7,51 @@
 ghost use Rattle.std.specs.Prelude.{◌≡◌, ◌++◌, [], ◌<◌, ◌≤◌, ◌-◌, List, ℕ, length, drop, true, false, IfOk, IfErr, OnOk, IfSome, None, Some, Err, take, not};
 ghost use Rattle.ud_model.specs.sections.Items.{Options};
 ghost use Rattle.ud_model.specs.answer.Printing.{Judged};
-ghost use Rattle.ud_cond.specs.Standing.{StandsFor};
-ghost use Rattle.ud_streams.specs.Sending.{Puts};
-ghost use Rattle.ud_text.specs.Holding.{HasRoom};
-ghost use Rattle.ud_engine.specs.Feeding.{IsOpen, Fed, TellsWriter};
-ghost use Rattle.ud_engine.specs.Ending.{EndsIll, PrintsAll, at_rest};
-ghost use Rattle.ud_engine.specs.Advancing.{IsPlace};
+ghost use Rattle.ud_cond.specs.SymbolTable.{TableRepresents};
+ghost use Rattle.ud_io.specs.Buffering.{AppendsAllButOrPrefix};
+ghost use Rattle.ud_text.specs.LinesState.{HasCapacity};
+ghost use Rattle.ud_engine.specs.Feeding.{IsOpen, EngineRepresents, ErrorMatchesWriter};
+ghost use Rattle.ud_engine.specs.Finishing.{FinishErr, PrintsAll, without_fault};
+ghost use Rattle.ud_engine.specs.Advancing.{IsCursor};
 
 use crate::fault::RunFault;
-use crate::line_printer::LinePrinter;
+use crate::line_processor::LineProcessor;
 use crate::output::Output;
 use std::io::Write;
 use std::marker::Model;
 use std::mem;
+use ud_args::Plan;
 use ud_cond::Symbols;
+use ud_io::Watched;
 use ud_model::TEXT_LINES;
-use ud_model::bytes::past_white;
+use ud_model::bytes::skip_white;
 use ud_sections::Show;
-use ud_streams::Watched;
-use ud_text::{Lines, LongRoom, Room};
-use ud_words::Plan;
+use ud_text::{LineBuffer, Lines, LongLineBuffer};
 
-/// How far a piece is read. The bytes from `from` to `at` are to be written as they are.
+/// How far a piece is read. The bytes from `pending_start` to `pos` are to be written as they are.
 #[derive(Clone, Copy)]
-struct Reached {
-    from: usize,
-    at: usize,
-    /// If it lies after `at`, the bytes up to here are whole lines within the limits.
-    whole: usize,
+struct Cursor {
+    pending_start: usize,
+    pos: usize,
+    /// If it lies after `pos`, the bytes up to here are whole lines within the limits.
+    whole_end: usize,
     /// Whether the next lines were tried to be read at once, so that one of them goes by itself.
-    tried: bool,
+    bulk_tried: bool,
 }
 
 /// A place in a piece, before which nothing is to be written.
-fn place_in<H: Room>(lines: &Lines<H>, piece: &[u8], at: usize) -> Reached
-    requires within { at ≤ length piece.now }
-    requires room { HasRoom H.CAPACITY lines.now (length piece.now - at) }
-    ensures place { IsPlace H.CAPACITY lines.now piece.now result }
-    ensures from { result.from ≡ at }
-    ensures at { result.at ≡ at }
+fn cursor_at<H: LineBuffer>(lines: &Lines<H>, chunk: &[u8], at: usize) -> Cursor
+    requires within { at ≤ length chunk.now }
+    requires fits { HasCapacity H.CAPACITY lines.now (length chunk.now - at) }
+    ensures cursor { IsCursor H.CAPACITY lines.now chunk.now result }
+    ensures from { result.pending_start ≡ at }
+    ensures at { result.pos ≡ at }
 {
-    Reached {
-        from: at,
-        at,
-        whole: at + lines.whole_run(&piece[at..]),
-        tried: false,
+    Cursor {
+        pending_start: at,
+        pos: at,
+        whole_end: at + lines.whole_lines_len(&chunk[at..]),
+        bulk_tried: false,
     }
 }
 
@@ -60,86 +60,86 @@ fn begins_conditional(line: &[u8]) -> bool {
     match line {
         [b'#', b'i', b'f', ..] | [b'#', b'e', b'l' | b'n', ..] => true,
         [b'#', b' ' | b'\t', rest @ ..] => {
-            matches!(past_white(rest), [b'i', b'f', ..] | [b'e', b'l' | b'n', ..])
+            matches!(skip_white(rest), [b'i', b'f', ..] | [b'e', b'l' | b'n', ..])
         }
         _ => false,
     }
 }
 
 /// Whether the next lines may be read at once. It isn't tried at a conditional, which stops the reading.
-fn may_pass(piece: &[u8], reached: Reached) -> bool
-    requires { reached.at ≤ length piece.now }
-    ensures untried { result ≡ true → reached.tried ≡ false }
-    ensures some { result ≡ true → reached.at < reached.whole }
+fn may_skip_text(chunk: &[u8], cursor: Cursor) -> bool
+    requires { cursor.pos ≤ length chunk.now }
+    ensures untried { result ≡ true → cursor.bulk_tried ≡ false }
+    ensures some { result ≡ true → cursor.pos < cursor.whole_end }
 {
-    !reached.tried && reached.at < reached.whole && !begins_conditional(&piece[reached.at..])
+    !cursor.bulk_tried && cursor.pos < cursor.whole_end && !begins_conditional(&chunk[cursor.pos..])
 }
 
 /// unifdef(1) over a text that comes in pieces.
 #[derive(Drop)]
-pub struct Engine<'p, S: Show, H: Room = LongRoom> {
+pub struct Engine<'p, S: Show, H: LineBuffer = LongLineBuffer> {
     /// What the words say.
     plan: &'p Plan,
     /// The line so far.
     lines: Lines<H>,
     /// What reads the lines, and prints them.
-    printer: LinePrinter<S>,
+    printer: LineProcessor<S>,
     /// What is to be written.
     output: Output,
     /// What was refused, for good.
     fault: Option<RunFault>,
 }
 
-impl<'p, S: Show, H: Room> Model for Engine<'p, S, H> {
-    ghost use Rattle.ud_engine.specs.Feeding.{Running, IsOpen};
+impl<'p, S: Show, H: LineBuffer> Model for Engine<'p, S, H> {
+    ghost use Rattle.ud_engine.specs.Feeding.{EngineState, IsOpen};
 
-    ghost Value = { Running S };
+    ghost Value = { EngineState S };
 
     ghost view = { λ e. record {
       symbols = e.plan.now.symbols;
       lines = e.lines;
       printer = e.printer;
-      gathered = e.output;
-      refused = e.fault;
+      buffered = e.output;
+      fault = e.fault;
     } };
 
     ghost invariant = { λ e. IsOpen e.lines };
 }
 
-impl<'p, S: Show> Engine<'p, S, LongRoom> {
-    ghost use Rattle.ud_engine.specs.Feeding.{Fed};
+impl<'p, S: Show> Engine<'p, S, LongLineBuffer> {
+    ghost use Rattle.ud_engine.specs.Feeding.{EngineRepresents};
 
     /// An engine that was fed nothing. It prints by `show`, or if the plan asks for it lists names.
     ///
     /// `show` was given no line. Takes no memory.
-    pub fn new(plan: &'p Plan, show: S) -> Engine<'p, S, LongRoom>
-        ensures fed { (o : Options) → (piece : List Judged → Judged → List ℕ) → o.settings ≡ plan.now.settings → StandsFor plan.now.symbols o.table →
-            S.stands show [] → ((before : List Judged) → (j : Judged) → S.piece show before j ≡ piece before j) →
-            Fed S.stands S.piece result o piece [] [] }
-        ensures unrefused { result.refused ≡ None }
+    pub fn new(plan: &'p Plan, show: S) -> Engine<'p, S, LongLineBuffer>
+        ensures represents { (o : Options) → (piece : List Judged → Judged → List ℕ) → o.settings ≡ plan.now.settings → TableRepresents plan.now.symbols o.table →
+            S.represents show [] → ((before : List Judged) → (j : Judged) → S.piece show before j ≡ piece before j) →
+            EngineRepresents S.represents S.piece result o piece [] [] }
+        ensures unrefused { result.fault ≡ None }
     {
-        Engine::at_start(plan, show)
+        Engine::with_buffer(plan, show)
     }
 }
 
-impl<'p, S: Show, H: Room> Engine<'p, S, H> {
-    ghost use Rattle.ud_engine.specs.Feeding.{Fed, HasTaken, Goes, Fails, TellsWriter};
-    ghost use Rattle.ud_engine.specs.Ending.{EndsWell, EndsIll};
-    ghost use Rattle.ud_engine.specs.Advancing.{Advances, StopsAt, IsPlace, between, todo};
-    ghost use Rattle.ud_engine.specs.Refusing.{LeavesOutput, LeavesWorking, StoppedBy};
+impl<'p, S: Show, H: LineBuffer> Engine<'p, S, H> {
+    ghost use Rattle.ud_engine.specs.Feeding.{EngineRepresents, EngineRepresentsBuffered, Continues, FeedFails, ErrorMatchesWriter};
+    ghost use Rattle.ud_engine.specs.Finishing.{FinishOk, FinishErr};
+    ghost use Rattle.ud_engine.specs.Advancing.{Advances, StepFails, IsCursor, slice_between, measure};
+    ghost use Rattle.ud_engine.specs.FaultEffects.{OutputUnchanged, ErrorMatchesFailure, FailsAfterFlush};
     ghost use Rattle.ud_model.specs.declared.limits.TheConstants.{LINE_BYTES};
 
     /// An engine that was fed nothing, and holds the line so far in a room of this type. Else as `new`.
-    pub(crate) fn at_start(plan: &'p Plan, show: S) -> Engine<'p, S, H>
-        ensures fed { (o : Options) → (piece : List Judged → Judged → List ℕ) → o.settings ≡ plan.now.settings → StandsFor plan.now.symbols o.table →
-            S.stands show [] → ((before : List Judged) → (j : Judged) → S.piece show before j ≡ piece before j) →
-            Fed S.stands S.piece result o piece [] [] }
-        ensures unrefused { result.refused ≡ None }
+    pub(crate) fn with_buffer(plan: &'p Plan, show: S) -> Engine<'p, S, H>
+        ensures represents { (o : Options) → (piece : List Judged → Judged → List ℕ) → o.settings ≡ plan.now.settings → TableRepresents plan.now.symbols o.table →
+            S.represents show [] → ((before : List Judged) → (j : Judged) → S.piece show before j ≡ piece before j) →
+            EngineRepresents S.represents S.piece result o piece [] [] }
+        ensures unrefused { result.fault ≡ None }
     {
         Engine {
             plan,
-            lines: Lines::at_start(TEXT_LINES),
-            printer: LinePrinter::new(plan.settings(), show),
+            lines: Lines::with_buffer(TEXT_LINES),
+            printer: LineProcessor::new(plan.settings(), show),
             output: Output::new(),
             fault: None,
         }
@@ -147,31 +147,31 @@ impl<'p, S: Show, H: Room> Engine<'p, S, H> {
 
     /// Takes the next bytes of the text, and writes what is left of the lines that they end.
     ///
-    /// `piece` may have any bytes, and any length if there is room for a line of any length, as in an engine that `new` makes; else
-    /// as many as `spare` says. What it begins of a line, at most `LINE_BYTES`, is held until the line
+    /// `chunk` may have any bytes, and any length if there is room for a line of any length, as in an engine that `new` makes; else
+    /// as many as `remaining_capacity` says. What it begins of a line, at most `LINE_BYTES`, is held until the line
     /// ends. `out` hasn't failed, unless the engine has refused.
     ///
     /// # Errors
     /// `Text` or `Section` if a line is faulty, after what is left of the lines before it; `Write` if a write fails, after a
     /// front of what is left. Every later `feed` and `finish` answers the same, and writes nothing.
-    pub fn feed<W: Write>(&mut self, piece: &[u8], out: &mut Watched<W>) -> Result<(), RunFault>
-        requires works { self.old.refused ≡ None → out.old.failed ≡ false }
-        requires room { HasRoom H.CAPACITY self.old.lines (length piece.now) }
-        ensures fed { (o : Options) → (pieces : List Judged → Judged → List ℕ) → (text : List ℕ) → (printed : List ℕ) →
-            Fed S.stands S.piece self.old o pieces text printed →
-            OnOk result (Goes S.stands S.piece self.new o pieces (text ++ piece.now) printed (W.contents out.old.inner) (W.contents out.new.inner)) }
+    pub fn feed<W: Write>(&mut self, chunk: &[u8], out: &mut Watched<W>) -> Result<(), RunFault>
+        requires not_failed { self.old.fault ≡ None → out.old.failed ≡ false }
+        requires fits { HasCapacity H.CAPACITY self.old.lines (length chunk.now) }
+        ensures represents { (o : Options) → (pieces : List Judged → Judged → List ℕ) → (text : List ℕ) → (printed : List ℕ) →
+            EngineRepresents S.represents S.piece self.old o pieces text printed →
+            OnOk result (Continues S.represents S.piece self.new o pieces (text ++ chunk.now) printed (W.contents out.old.inner) (W.contents out.new.inner)) }
         ensures fails { (o : Options) → (pieces : List Judged → Judged → List ℕ) → (text : List ℕ) → (printed : List ℕ) →
-            Fed S.stands S.piece self.old o pieces text printed →
-            IfErr result (Fails o pieces out.new.failed (W.contents out.old.inner) (W.contents out.new.inner) (text ++ piece.now) printed) }
-        ensures works { OnOk result (out.new.failed ≡ false) }
-        ensures tells { self.old.refused ≡ None → IfErr result (TellsWriter out.new.failed) }
-        ensures refused { IfErr result (λ f. self.new.refused ≡ Some f) }
-        ensures again { IfSome self.old.refused (λ f. (result ≡ Err f) × (self.new ≡ self.old) × (out.new ≡ out.old)) }
+            EngineRepresents S.represents S.piece self.old o pieces text printed →
+            IfErr result (FeedFails o pieces out.new.failed (W.contents out.old.inner) (W.contents out.new.inner) (text ++ chunk.now) printed) }
+        ensures not_failed { OnOk result (out.new.failed ≡ false) }
+        ensures error_matches { self.old.fault ≡ None → IfErr result (ErrorMatchesWriter out.new.failed) }
+        ensures records_fault { IfErr result (λ f. self.new.fault ≡ Some f) }
+        ensures fused { IfSome self.old.fault (λ f. (result ≡ Err f) × (self.new ≡ self.old) × (out.new ≡ out.old)) }
     {
         if let Some(fault) = self.fault {
             return Err(fault);
         }
-        match self.read_piece(piece, out) {
+        match self.process_chunk(chunk, out) {
             Ok(()) => Ok(()),
             Err(fault) => {
                 self.fault = Some(fault);
@@ -189,48 +189,51 @@ impl<'p, S: Show, H: Room> Engine<'p, S, H> {
     /// What `feed` refused, again, and nothing is written. `Section` if the last line is faulty, after what is left of the
     /// lines before it, or if the text ends in a block comment or a section, after what is left of all lines; `Write` if a write fails.
     pub fn finish<W: Write>(self, out: &mut Watched<W>) -> Result<bool, RunFault>
-        requires { self.refused ≡ None → out.old.failed ≡ false }
+        requires { self.fault ≡ None → out.old.failed ≡ false }
         ensures ended { (o : Options) → (pieces : List Judged → Judged → List ℕ) → (text : List ℕ) → (printed : List ℕ) →
-            Fed S.stands S.piece self.entry o pieces text printed →
-            IfOk result (EndsWell o pieces text printed (W.contents out.old.inner) (W.contents out.new.inner)) }
+            EngineRepresents S.represents S.piece self.entry o pieces text printed →
+            IfOk result (FinishOk o pieces text printed (W.contents out.old.inner) (W.contents out.new.inner)) }
         ensures fails { (o : Options) → (pieces : List Judged → Judged → List ℕ) → (text : List ℕ) → (printed : List ℕ) →
-            Fed S.stands S.piece self.entry o pieces text printed →
-            IfErr result (EndsIll o pieces out.new.failed (W.contents out.old.inner) (W.contents out.new.inner) text printed) }
-        ensures works { OnOk result (out.new.failed ≡ false) }
-        ensures tells { self.entry.refused ≡ None → IfErr result (TellsWriter out.new.failed) }
-        ensures again { IfSome self.entry.refused (λ f. (result ≡ Err f) × (out.new ≡ out.old)) }
+            EngineRepresents S.represents S.piece self.entry o pieces text printed →
+            IfErr result (FinishErr o pieces out.new.failed (W.contents out.old.inner) (W.contents out.new.inner) text printed) }
+        ensures not_failed { OnOk result (out.new.failed ≡ false) }
+        ensures error_matches { self.entry.fault ≡ None → IfErr result (ErrorMatchesWriter out.new.failed) }
+        ensures fused { IfSome self.entry.fault (λ f. (result ≡ Err f) × (out.new ≡ out.old)) }
     {
         let mut engine = self;
-        engine.end(out)
+        engine.finish_in_place(out)
     }
 
     /// Ends the text, as `finish` does, and stands before another one, which isn't to be fed.
     ///
     /// # Errors
     /// As `finish`.
-    pub(crate) fn end<W: Write>(&mut self, out: &mut Watched<W>) -> Result<bool, RunFault>
-        requires { self.old.refused ≡ None → out.old.failed ≡ false }
+    pub(crate) fn finish_in_place<W: Write>(
+        &mut self,
+        out: &mut Watched<W>,
+    ) -> Result<bool, RunFault>
+        requires { self.old.fault ≡ None → out.old.failed ≡ false }
         ensures ended { (o : Options) → (pieces : List Judged → Judged → List ℕ) → (text : List ℕ) → (printed : List ℕ) →
-            Fed S.stands S.piece self.old o pieces text printed →
-            IfOk result (EndsWell o pieces text printed (W.contents out.old.inner) (W.contents out.new.inner)) }
+            EngineRepresents S.represents S.piece self.old o pieces text printed →
+            IfOk result (FinishOk o pieces text printed (W.contents out.old.inner) (W.contents out.new.inner)) }
         ensures fails { (o : Options) → (pieces : List Judged → Judged → List ℕ) → (text : List ℕ) → (printed : List ℕ) →
-            Fed S.stands S.piece self.old o pieces text printed →
-            IfErr result (EndsIll o pieces out.new.failed (W.contents out.old.inner) (W.contents out.new.inner) text printed) }
-        ensures works { OnOk result (out.new.failed ≡ false) }
-        ensures tells { self.old.refused ≡ None → IfErr result (TellsWriter out.new.failed) }
-        ensures again { IfSome self.old.refused (λ f. (result ≡ Err f) × (out.new ≡ out.old)) }
+            EngineRepresents S.represents S.piece self.old o pieces text printed →
+            IfErr result (FinishErr o pieces out.new.failed (W.contents out.old.inner) (W.contents out.new.inner) text printed) }
+        ensures not_failed { OnOk result (out.new.failed ≡ false) }
+        ensures error_matches { self.old.fault ≡ None → IfErr result (ErrorMatchesWriter out.new.failed) }
+        ensures fused { IfSome self.old.fault (λ f. (result ≡ Err f) × (out.new ≡ out.old)) }
     {
         if let Some(refused) = self.fault {
             return Err(refused);
         }
-        let ended = print_last(
+        let ended = print_last_line(
             &mut self.lines,
             &mut self.printer,
             self.plan.symbols(),
             &mut self.output,
             out,
         );
-        self.lines.restart();
+        self.lines.reset();
         if let Err(fault) = ended {
             return Err(fault);
         }
@@ -242,24 +245,24 @@ impl<'p, S: Show, H: Room> Engine<'p, S, H> {
 
     /// How many bytes a piece may have, at most `most`: as many as fit beside what is held, or all of them if there is room for a
     /// line of any length.
-    pub(crate) fn spare(&self, most: usize) -> usize
+    pub(crate) fn remaining_capacity(&self, most: usize) -> usize
         ensures bound { result ≤ most }
-        ensures room { HasRoom H.CAPACITY self.now.lines result }
+        ensures fits { HasCapacity H.CAPACITY self.now.lines result }
         ensures short { result < most → H.CAPACITY < LINE_BYTES }
     {
-        self.lines.spare(most)
+        self.lines.remaining_capacity(most)
     }
 
     /// The same engine, with room for a line of any length. In its place stays one that was fed nothing and prints by `show`.
     #[inline(never)]
-    pub(crate) fn lengthen(&mut self, show: S) -> Engine<'p, S, LongRoom>
+    pub(crate) fn take_as_long(&mut self, show: S) -> Engine<'p, S, LongLineBuffer>
         ensures { result ≡ self.old }
     {
-        let spent: Engine<'p, S, H> = Engine::at_start(self.plan, show);
+        let spent: Engine<'p, S, H> = Engine::with_buffer(self.plan, show);
         let engine = mem::replace(self, spent);
         Engine {
             plan: engine.plan,
-            lines: engine.lines.lengthened(),
+            lines: engine.lines.into_long(),
             printer: engine.printer,
             output: engine.output,
             fault: engine.fault,
@@ -270,26 +273,34 @@ impl<'p, S: Show, H: Room> Engine<'p, S, H> {
     ///
     /// # Errors
     /// As `feed`.
-    fn read_piece<W: Write>(&mut self, piece: &[u8], out: &mut Watched<W>) -> Result<(), RunFault>
-        requires works { out.old.failed ≡ false }
-        requires room { HasRoom H.CAPACITY self.old.lines (length piece.now) }
-        ensures fed { (o : Options) → (pieces : List Judged → Judged → List ℕ) → (text : List ℕ) → (printed : List ℕ) →
-            Fed S.stands S.piece self.old o pieces text printed →
-            OnOk result (Goes S.stands S.piece self.new o pieces (text ++ piece.now) printed (W.contents out.old.inner) (W.contents out.new.inner)) }
+    fn process_chunk<W: Write>(
+        &mut self,
+        chunk: &[u8],
+        out: &mut Watched<W>,
+    ) -> Result<(), RunFault>
+        requires not_failed { out.old.failed ≡ false }
+        requires fits { HasCapacity H.CAPACITY self.old.lines (length chunk.now) }
+        ensures represents { (o : Options) → (pieces : List Judged → Judged → List ℕ) → (text : List ℕ) → (printed : List ℕ) →
+            EngineRepresents S.represents S.piece self.old o pieces text printed →
+            OnOk result (Continues S.represents S.piece self.new o pieces (text ++ chunk.now) printed (W.contents out.old.inner) (W.contents out.new.inner)) }
         ensures fails { (o : Options) → (pieces : List Judged → Judged → List ℕ) → (text : List ℕ) → (printed : List ℕ) →
-            Fed S.stands S.piece self.old o pieces text printed →
-            IfErr result (Fails o pieces out.new.failed (W.contents out.old.inner) (W.contents out.new.inner) (text ++ piece.now) printed) }
-        ensures works { OnOk result (out.new.failed ≡ false) }
-        ensures tells { IfErr result (TellsWriter out.new.failed) }
+            EngineRepresents S.represents S.piece self.old o pieces text printed →
+            IfErr result (FeedFails o pieces out.new.failed (W.contents out.old.inner) (W.contents out.new.inner) (text ++ chunk.now) printed) }
+        ensures not_failed { OnOk result (out.new.failed ≡ false) }
+        ensures error_matches { IfErr result (ErrorMatchesWriter out.new.failed) }
     {
-        let mut reached = place_in(&self.lines, piece, 0);
-        while reached.at < piece.len() {
-            match self.advance(piece, reached, out) {
-                Ok(next) => reached = next,
-                Err(fault) => return Err(self.stop(fault, &piece[reached.from..reached.at], out)),
+        let mut cursor = cursor_at(&self.lines, chunk, 0);
+        while cursor.pos < chunk.len() {
+            match self.advance(chunk, cursor, out) {
+                Ok(next) => cursor = next,
+                Err(fault) => return Err(self.flush_and_fail(
+                    fault,
+                    &chunk[cursor.pending_start..cursor.pos],
+                    out,
+                )),
             }
         }
-        if self.write_out(&piece[reached.from..reached.at], out) {
+        if self.flush_pending(&chunk[cursor.pending_start..cursor.pos], out) {
             Ok(())
         } else {
             Err(RunFault::Write)
@@ -303,32 +314,32 @@ impl<'p, S: Show, H: Room> Engine<'p, S, H> {
     /// As `feed`, but what is to be written of the lines before isn't written yet.
     fn advance<W: Write>(
         &mut self,
-        piece: &[u8],
-        reached: Reached,
+        chunk: &[u8],
+        cursor: Cursor,
         out: &mut Watched<W>,
-    ) -> Result<Reached, RunFault>
-        requires works { out.old.failed ≡ false }
-        requires place { IsPlace H.CAPACITY self.old.lines piece.now reached }
-        requires some { reached.at < length piece.now }
-        ensures place { IfOk result (λ next. IsPlace H.CAPACITY self.new.lines piece.now next) }
-        ensures forth { IfOk result (λ next. (reached.at ≤ next.at) × (todo piece.now next < todo piece.now reached)) }
+    ) -> Result<Cursor, RunFault>
+        requires not_failed { out.old.failed ≡ false }
+        requires cursor { IsCursor H.CAPACITY self.old.lines chunk.now cursor }
+        requires some { cursor.pos < length chunk.now }
+        ensures cursor { IfOk result (λ next. IsCursor H.CAPACITY self.new.lines chunk.now next) }
+        ensures progress { IfOk result (λ next. (cursor.pos ≤ next.pos) × (measure chunk.now next < measure chunk.now cursor)) }
         ensures taken { (o : Options) → (pieces : List Judged → Judged → List ℕ) → (text : List ℕ) → (printed : List ℕ) →
-            HasTaken S.stands S.piece self.old o pieces text printed →
-            IfOk result (λ next. Advances S.stands S.piece self.new o pieces text printed (between piece.now reached.at next.at)
+            EngineRepresentsBuffered S.represents S.piece self.old o pieces text printed →
+            IfOk result (λ next. Advances S.represents S.piece self.new o pieces text printed (slice_between chunk.now cursor.pos next.pos)
             (W.contents out.old.inner) (W.contents out.new.inner)
-            (self.old.gathered ++ between piece.now reached.from reached.at) (self.new.gathered ++ between piece.now next.from next.at)) }
+            (self.old.buffered ++ slice_between chunk.now cursor.pending_start cursor.pos) (self.new.buffered ++ slice_between chunk.now next.pending_start next.pos)) }
         ensures stops { (o : Options) → (pieces : List Judged → Judged → List ℕ) → (text : List ℕ) → (printed : List ℕ) →
-            HasTaken S.stands S.piece self.old o pieces text printed →
-            IfErr result (StopsAt o pieces (text ++ drop reached.at piece.now) printed (W.contents out.old.inner) (W.contents out.new.inner)
-            (self.old.gathered ++ between piece.now reached.from reached.at)) }
-        ensures works { OnOk result (out.new.failed ≡ false) }
-        ensures leaves { IfErr result (LeavesOutput out.old out.new self.old.gathered self.new.gathered) }
-        ensures refused { self.new.refused ≡ self.old.refused }
+            EngineRepresentsBuffered S.represents S.piece self.old o pieces text printed →
+            IfErr result (StepFails o pieces (text ++ drop cursor.pos chunk.now) printed (W.contents out.old.inner) (W.contents out.new.inner)
+            (self.old.buffered ++ slice_between chunk.now cursor.pending_start cursor.pos)) }
+        ensures not_failed { OnOk result (out.new.failed ≡ false) }
+        ensures output_unchanged { IfErr result (OutputUnchanged out.old out.new self.old.buffered self.new.buffered) }
+        ensures fault_unchanged { self.new.fault ≡ self.old.fault }
     {
-        if may_pass(piece, reached) {
-            self.advance_lines(piece, reached, out)
+        if may_skip_text(chunk, cursor) {
+            self.advance_in_bulk(chunk, cursor, out)
         } else {
-            self.advance_line(piece, reached, out)
+            self.advance_line(chunk, cursor, out)
         }
     }
 
@@ -337,51 +348,51 @@ impl<'p, S: Show, H: Room> Engine<'p, S, H> {
     ///
     /// # Errors
     /// As `advance`; `Write` alone.
-    fn advance_lines<W: Write>(
+    fn advance_in_bulk<W: Write>(
         &mut self,
-        piece: &[u8],
-        reached: Reached,
+        chunk: &[u8],
+        cursor: Cursor,
         out: &mut Watched<W>,
-    ) -> Result<Reached, RunFault>
-        requires works { out.old.failed ≡ false }
-        requires place { IsPlace H.CAPACITY self.old.lines piece.now reached }
-        requires untried { reached.tried ≡ false }
-        requires some { reached.at < reached.whole }
-        ensures place { IfOk result (λ next. IsPlace H.CAPACITY self.new.lines piece.now next) }
-        ensures forth { IfOk result (λ next. (reached.at ≤ next.at) × (todo piece.now next < todo piece.now reached)) }
+    ) -> Result<Cursor, RunFault>
+        requires not_failed { out.old.failed ≡ false }
+        requires cursor { IsCursor H.CAPACITY self.old.lines chunk.now cursor }
+        requires untried { cursor.bulk_tried ≡ false }
+        requires some { cursor.pos < cursor.whole_end }
+        ensures cursor { IfOk result (λ next. IsCursor H.CAPACITY self.new.lines chunk.now next) }
+        ensures progress { IfOk result (λ next. (cursor.pos ≤ next.pos) × (measure chunk.now next < measure chunk.now cursor)) }
         ensures taken { (o : Options) → (pieces : List Judged → Judged → List ℕ) → (text : List ℕ) → (printed : List ℕ) →
-            HasTaken S.stands S.piece self.old o pieces text printed →
-            IfOk result (λ next. Advances S.stands S.piece self.new o pieces text printed (between piece.now reached.at next.at)
+            EngineRepresentsBuffered S.represents S.piece self.old o pieces text printed →
+            IfOk result (λ next. Advances S.represents S.piece self.new o pieces text printed (slice_between chunk.now cursor.pos next.pos)
             (W.contents out.old.inner) (W.contents out.new.inner)
-            (self.old.gathered ++ between piece.now reached.from reached.at) (self.new.gathered ++ between piece.now next.from next.at)) }
+            (self.old.buffered ++ slice_between chunk.now cursor.pending_start cursor.pos) (self.new.buffered ++ slice_between chunk.now next.pending_start next.pos)) }
         ensures stops { (o : Options) → (pieces : List Judged → Judged → List ℕ) → (text : List ℕ) → (printed : List ℕ) →
-            HasTaken S.stands S.piece self.old o pieces text printed →
-            IfErr result (StopsAt o pieces (text ++ drop reached.at piece.now) printed (W.contents out.old.inner) (W.contents out.new.inner)
-            (self.old.gathered ++ between piece.now reached.from reached.at)) }
-        ensures works { OnOk result (out.new.failed ≡ false) }
-        ensures leaves { IfErr result (LeavesOutput out.old out.new self.old.gathered self.new.gathered) }
-        ensures refused { self.new.refused ≡ self.old.refused }
+            EngineRepresentsBuffered S.represents S.piece self.old o pieces text printed →
+            IfErr result (StepFails o pieces (text ++ drop cursor.pos chunk.now) printed (W.contents out.old.inner) (W.contents out.new.inner)
+            (self.old.buffered ++ slice_between chunk.now cursor.pending_start cursor.pos)) }
+        ensures not_failed { OnOk result (out.new.failed ≡ false) }
+        ensures output_unchanged { IfErr result (OutputUnchanged out.old out.new self.old.buffered self.new.buffered) }
+        ensures fault_unchanged { self.new.fault ≡ self.old.fault }
     {
-        let pending = &piece[reached.from..reached.at];
-        let lines = &piece[reached.at..reached.whole];
-        let passed = self.printer.pass(lines, &mut self.lines);
-        let at = reached.at + passed.count;
+        let pending = &chunk[cursor.pending_start..cursor.pos];
+        let lines = &chunk[cursor.pos..cursor.whole_end];
+        let passed = self.printer.skip_text(lines, &mut self.lines);
+        let at = cursor.pos + passed.count;
         if passed.kept {
-            return Ok(Reached {
-                from: reached.from,
-                at,
-                whole: reached.whole,
-                tried: true,
+            return Ok(Cursor {
+                pending_start: cursor.pending_start,
+                pos: at,
+                whole_end: cursor.whole_end,
+                bulk_tried: true,
             });
         }
-        if !self.output.put(pending, out) {
+        if !self.output.append(pending, out) {
             return Err(RunFault::Write);
         }
-        Ok(Reached {
-            from: at,
-            at,
-            whole: reached.whole,
-            tried: true,
+        Ok(Cursor {
+            pending_start: at,
+            pos: at,
+            whole_end: cursor.whole_end,
+            bulk_tried: true,
         })
     }
 
@@ -391,55 +402,55 @@ impl<'p, S: Show, H: Room> Engine<'p, S, H> {
     /// As `advance`.
     fn advance_line<W: Write>(
         &mut self,
-        piece: &[u8],
-        reached: Reached,
+        chunk: &[u8],
+        cursor: Cursor,
         out: &mut Watched<W>,
-    ) -> Result<Reached, RunFault>
-        requires works { out.old.failed ≡ false }
-        requires place { IsPlace H.CAPACITY self.old.lines piece.now reached }
-        requires some { reached.at < length piece.now }
-        ensures place { IfOk result (λ next. IsPlace H.CAPACITY self.new.lines piece.now next) }
-        ensures forth { IfOk result (λ next. (reached.at ≤ next.at) × (todo piece.now next < todo piece.now reached)) }
+    ) -> Result<Cursor, RunFault>
+        requires not_failed { out.old.failed ≡ false }
+        requires cursor { IsCursor H.CAPACITY self.old.lines chunk.now cursor }
+        requires some { cursor.pos < length chunk.now }
+        ensures cursor { IfOk result (λ next. IsCursor H.CAPACITY self.new.lines chunk.now next) }
+        ensures progress { IfOk result (λ next. (cursor.pos ≤ next.pos) × (measure chunk.now next < measure chunk.now cursor)) }
         ensures taken { (o : Options) → (pieces : List Judged → Judged → List ℕ) → (text : List ℕ) → (printed : List ℕ) →
-            HasTaken S.stands S.piece self.old o pieces text printed →
-            IfOk result (λ next. Advances S.stands S.piece self.new o pieces text printed (between piece.now reached.at next.at)
+            EngineRepresentsBuffered S.represents S.piece self.old o pieces text printed →
+            IfOk result (λ next. Advances S.represents S.piece self.new o pieces text printed (slice_between chunk.now cursor.pos next.pos)
             (W.contents out.old.inner) (W.contents out.new.inner)
-            (self.old.gathered ++ between piece.now reached.from reached.at) (self.new.gathered ++ between piece.now next.from next.at)) }
+            (self.old.buffered ++ slice_between chunk.now cursor.pending_start cursor.pos) (self.new.buffered ++ slice_between chunk.now next.pending_start next.pos)) }
         ensures stops { (o : Options) → (pieces : List Judged → Judged → List ℕ) → (text : List ℕ) → (printed : List ℕ) →
-            HasTaken S.stands S.piece self.old o pieces text printed →
-            IfErr result (StopsAt o pieces (text ++ drop reached.at piece.now) printed (W.contents out.old.inner) (W.contents out.new.inner)
-            (self.old.gathered ++ between piece.now reached.from reached.at)) }
-        ensures works { OnOk result (out.new.failed ≡ false) }
-        ensures leaves { IfErr result (LeavesOutput out.old out.new self.old.gathered self.new.gathered) }
-        ensures refused { self.new.refused ≡ self.old.refused }
+            EngineRepresentsBuffered S.represents S.piece self.old o pieces text printed →
+            IfErr result (StepFails o pieces (text ++ drop cursor.pos chunk.now) printed (W.contents out.old.inner) (W.contents out.new.inner)
+            (self.old.buffered ++ slice_between chunk.now cursor.pending_start cursor.pos)) }
+        ensures not_failed { OnOk result (out.new.failed ≡ false) }
+        ensures output_unchanged { IfErr result (OutputUnchanged out.old out.new self.old.buffered self.new.buffered) }
+        ensures fault_unchanged { self.new.fault ≡ self.old.fault }
     {
-        let run = &piece[reached.from..reached.at];
-        let rest = &piece[reached.at..];
+        let pending = &chunk[cursor.pending_start..cursor.pos];
+        let rest = &chunk[cursor.pos..];
         let Some(line) = self.lines.whole_in(rest) else {
-            match self.take(rest, run, out) {
+            match self.push_line_part(rest, pending, out) {
                 Err(fault) => return Err(fault),
-                Ok(used) => return Ok(place_in(&self.lines, piece, reached.at + used)),
+                Ok(used) => return Ok(cursor_at(&self.lines, chunk, cursor.pos + used)),
             }
         };
-        let end = reached.at + (line.body.len() + line.ending.len());
+        let end = cursor.pos + (line.body.len() + line.ending.len());
         let printer = &mut self.printer;
-        let put = match printer.print(&line, self.plan.symbols(), run, &mut self.output, out) {
+        let put = match printer.print(&line, self.plan.symbols(), pending, &mut self.output, out) {
             Ok(put) => put,
             Err(fault) => return Err(fault),
         };
         if put {
-            return Ok(Reached {
-                from: end,
-                at: end,
-                whole: reached.whole,
-                tried: false,
+            return Ok(Cursor {
+                pending_start: end,
+                pos: end,
+                whole_end: cursor.whole_end,
+                bulk_tried: false,
             });
         }
-        Ok(Reached {
-            from: reached.from,
-            at: end,
-            whole: reached.whole,
-            tried: false,
+        Ok(Cursor {
+            pending_start: cursor.pending_start,
+            pos: end,
+            whole_end: cursor.whole_end,
+            bulk_tried: false,
         })
     }
 
@@ -448,35 +459,35 @@ impl<'p, S: Show, H: Room> Engine<'p, S, H> {
     ///
     /// # Errors
     /// As `advance`.
-    fn take<W: Write>(
+    fn push_line_part<W: Write>(
         &mut self,
         rest: &[u8],
-        run: &[u8],
+        pending: &[u8],
         out: &mut Watched<W>,
     ) -> Result<usize, RunFault>
-        requires works { out.old.failed ≡ false }
+        requires not_failed { out.old.failed ≡ false }
         requires some { 0 < length rest.now }
-        requires room { HasRoom H.CAPACITY self.old.lines (length rest.now) }
-        ensures forth { IfOk result (λ used. (0 < used) × (used ≤ length rest.now)) }
-        ensures room { IfOk result (λ used. HasRoom H.CAPACITY self.new.lines (length rest.now - used)) }
+        requires fits { HasCapacity H.CAPACITY self.old.lines (length rest.now) }
+        ensures progress { IfOk result (λ used. (0 < used) × (used ≤ length rest.now)) }
+        ensures fits { IfOk result (λ used. HasCapacity H.CAPACITY self.new.lines (length rest.now - used)) }
         ensures taken { (o : Options) → (pieces : List Judged → Judged → List ℕ) → (text : List ℕ) → (printed : List ℕ) →
-            HasTaken S.stands S.piece self.old o pieces text printed →
-            IfOk result (λ used. Advances S.stands S.piece self.new o pieces text printed (take used rest.now)
-            (W.contents out.old.inner) (W.contents out.new.inner) (self.old.gathered ++ run.now) self.new.gathered) }
+            EngineRepresentsBuffered S.represents S.piece self.old o pieces text printed →
+            IfOk result (λ used. Advances S.represents S.piece self.new o pieces text printed (take used rest.now)
+            (W.contents out.old.inner) (W.contents out.new.inner) (self.old.buffered ++ pending.now) self.new.buffered) }
         ensures stops { (o : Options) → (pieces : List Judged → Judged → List ℕ) → (text : List ℕ) → (printed : List ℕ) →
-            HasTaken S.stands S.piece self.old o pieces text printed →
-            IfErr result (StopsAt o pieces (text ++ rest.now) printed (W.contents out.old.inner) (W.contents out.new.inner)
-            (self.old.gathered ++ run.now)) }
-        ensures works { OnOk result (out.new.failed ≡ false) }
-        ensures leaves { IfErr result (LeavesOutput out.old out.new self.old.gathered self.new.gathered) }
-        ensures refused { self.new.refused ≡ self.old.refused }
+            EngineRepresentsBuffered S.represents S.piece self.old o pieces text printed →
+            IfErr result (StepFails o pieces (text ++ rest.now) printed (W.contents out.old.inner) (W.contents out.new.inner)
+            (self.old.buffered ++ pending.now)) }
+        ensures not_failed { OnOk result (out.new.failed ≡ false) }
+        ensures output_unchanged { IfErr result (OutputUnchanged out.old out.new self.old.buffered self.new.buffered) }
+        ensures fault_unchanged { self.new.fault ≡ self.old.fault }
     {
         let taken = match self.lines.take(rest) {
             Ok(taken) => taken,
             Err(fault) => return Err(RunFault::Text(fault)),
         };
         if !taken.whole {
-            if !self.output.put(run, out) {
+            if !self.output.append(pending, out) {
                 return Err(RunFault::Write);
             }
             return Ok(taken.used);
@@ -484,7 +495,7 @@ impl<'p, S: Show, H: Room> Engine<'p, S, H> {
         let printed = self.printer.put_line(
             &self.lines.line(),
             self.plan.symbols(),
-            run,
+            pending,
             &mut self.output,
             out,
         );
@@ -496,13 +507,18 @@ impl<'p, S: Show, H: Room> Engine<'p, S, H> {
     }
 
     /// What ends the run: this fault, after what is to be written of the lines before it; or a write that fails.
-    fn stop<W: Write>(&mut self, fault: RunFault, run: &[u8], out: &mut Watched<W>) -> RunFault
-        requires works { LeavesWorking out.old.failed fault }
-        ensures written { StoppedBy out.new.failed (W.contents out.old.inner) (W.contents out.new.inner) (self.old.gathered ++ run.now) fault result }
+    fn flush_and_fail<W: Write>(
+        &mut self,
+        fault: RunFault,
+        pending: &[u8],
+        out: &mut Watched<W>,
+    ) -> RunFault
+        requires not_failed { ErrorMatchesFailure out.old.failed fault }
+        ensures written { FailsAfterFlush out.new.failed (W.contents out.old.inner) (W.contents out.new.inner) (self.old.buffered ++ pending.now) fault result }
     {
         match fault {
             RunFault::Write => RunFault::Write,
-            _ if self.write_out(run, out) => fault,
+            _ if self.flush_pending(pending, out) => fault,
             _ => RunFault::Write,
         }
     }
@@ -511,13 +527,13 @@ impl<'p, S: Show, H: Room> Engine<'p, S, H> {
     ///
     /// # Errors
     /// `false` if a write fails: a front of all these bytes is written, and `out` has failed.
-    fn write_out<W: Write>(&mut self, run: &[u8], out: &mut Watched<W>) -> bool
-        requires works { out.old.failed ≡ false }
-        ensures puts { Puts result (W.contents out.old.inner) (W.contents out.new.inner) (self.old.gathered ++ run.now) [] }
+    fn flush_pending<W: Write>(&mut self, pending: &[u8], out: &mut Watched<W>) -> bool
+        requires not_failed { out.old.failed ≡ false }
+        ensures appends { AppendsAllButOrPrefix result (W.contents out.old.inner) (W.contents out.new.inner) (self.old.buffered ++ pending.now) [] }
         ensures failed { out.new.failed ≡ not result }
-        ensures rest { (gathered : List ℕ) × (self.new ≡ record self.old { gathered = gathered }) × (result ≡ true → gathered ≡ []) }
+        ensures rest { (buffered : List ℕ) × (self.new ≡ record self.old { buffered = buffered }) × (result ≡ true → buffered ≡ []) }
     {
-        self.output.put(run, out) && self.output.write_out(out)
+        self.output.append(pending, out) && self.output.flush_buffer(out)
     }
 }
 
@@ -525,23 +541,23 @@ impl<'p, S: Show, H: Room> Engine<'p, S, H> {
 ///
 /// # Errors
 /// As `Engine::finish`.
-fn print_last<S: Show, H: Room, W: Write>(
+fn print_last_line<S: Show, H: LineBuffer, W: Write>(
     lines: &mut Lines<H>,
-    printer: &mut LinePrinter<S>,
+    printer: &mut LineProcessor<S>,
     symbols: &Symbols,
     output: &mut Output,
     out: &mut Watched<W>,
 ) -> Result<(), RunFault>
-    requires works { out.old.failed ≡ false }
+    requires not_failed { out.old.failed ≡ false }
     requires opened { IsOpen lines.old }
     ensures last { (o : Options) → (pieces : List Judged → Judged → List ℕ) → (text : List ℕ) → (printed : List ℕ) →
-        Fed S.stands S.piece (at_rest symbols.now lines.old printer.old output.old) o pieces text printed →
-        OnOk result (PrintsAll S.stands S.piece printer.new o pieces text printed (W.contents out.old.inner) (W.contents out.new.inner)) }
+        EngineRepresents S.represents S.piece (without_fault symbols.now lines.old printer.old output.old) o pieces text printed →
+        OnOk result (PrintsAll S.represents S.piece printer.new o pieces text printed (W.contents out.old.inner) (W.contents out.new.inner)) }
     ensures fails { (o : Options) → (pieces : List Judged → Judged → List ℕ) → (text : List ℕ) → (printed : List ℕ) →
-        Fed S.stands S.piece (at_rest symbols.now lines.old printer.old output.old) o pieces text printed →
-        IfErr result (EndsIll o pieces out.new.failed (W.contents out.old.inner) (W.contents out.new.inner) text printed) }
-    ensures works { OnOk result (out.new.failed ≡ false) }
-    ensures tells { IfErr result (TellsWriter out.new.failed) }
+        EngineRepresents S.represents S.piece (without_fault symbols.now lines.old printer.old output.old) o pieces text printed →
+        IfErr result (FinishErr o pieces out.new.failed (W.contents out.old.inner) (W.contents out.new.inner) text printed) }
+    ensures not_failed { OnOk result (out.new.failed ≡ false) }
+    ensures error_matches { IfErr result (ErrorMatchesWriter out.new.failed) }
     ensures limit { lines.new.last_line ≡ lines.old.last_line }
 {
     match lines.close() {
@@ -550,7 +566,7 @@ fn print_last<S: Show, H: Room, W: Write>(
         Ok(true) => match printer.put_line(&lines.line(), symbols, &[], output, out) {
             Err(fault) => Err(fault),
             Ok(()) => {
-                if output.write_out(out) {
+                if output.flush_buffer(out) {
                     Ok(())
                 } else {
                     Err(RunFault::Write)

@@ -2,17 +2,17 @@
 
 ghost use Rattle.std.specs.Prelude.{◌≡◌, ◌++◌, [], false, true, not};
 ghost use Rattle.std.specs.List.{flat_map};
-ghost use Rattle.ud_streams.specs.Sending.{Puts};
+ghost use Rattle.ud_io.specs.Buffering.{AppendsAllButOrPrefix};
 
-use crate::gathered::Gathered;
+use crate::output_buffer::OutputBuffer;
 use std::io::Write;
 use std::marker::Model;
-use ud_streams::{Watched, emit};
+use ud_io::{Watched, write_all};
 
 /// What is to be written, and isn't yet.
 #[derive(Drop)]
 pub(crate) struct Output {
-    gathered: Gathered,
+    buffered: OutputBuffer,
 }
 
 impl Model for Output {
@@ -20,7 +20,7 @@ impl Model for Output {
 
     ghost Value = { List ℕ };
 
-    ghost view = { λ o. o.gathered };
+    ghost view = { λ o. o.buffered };
 }
 
 impl Output {
@@ -29,7 +29,7 @@ impl Output {
         ensures { result ≡ [] }
     {
         Output {
-            gathered: Gathered::new(),
+            buffered: OutputBuffer::new(),
         }
     }
 
@@ -38,46 +38,46 @@ impl Output {
     /// # Errors
     /// `false` if a write fails: a front of all these bytes is written, and `out` has failed.
     #[inline(always)]
-    pub(crate) fn put<W: Write>(&mut self, bytes: &[u8], out: &mut Watched<W>) -> bool
-        requires works { out.old.failed ≡ false }
-        ensures puts { Puts result (W.contents out.old.inner) (W.contents out.new.inner) (self.old ++ bytes.now) self.new }
+    pub(crate) fn append<W: Write>(&mut self, bytes: &[u8], out: &mut Watched<W>) -> bool
+        requires not_failed { out.old.failed ≡ false }
+        ensures appends { AppendsAllButOrPrefix result (W.contents out.old.inner) (W.contents out.new.inner) (self.old ++ bytes.now) self.new }
         ensures failed { out.new.failed ≡ not result }
     {
         if bytes.is_empty() {
             return true;
         }
-        self.put_some(bytes, out)
+        self.append_nonempty(bytes, out)
     }
 
     /// The same of bytes of which there are some.
-    fn put_some<W: Write>(&mut self, bytes: &[u8], out: &mut Watched<W>) -> bool
-        requires works { out.old.failed ≡ false }
-        ensures puts { Puts result (W.contents out.old.inner) (W.contents out.new.inner) (self.old ++ bytes.now) self.new }
+    fn append_nonempty<W: Write>(&mut self, bytes: &[u8], out: &mut Watched<W>) -> bool
+        requires not_failed { out.old.failed ≡ false }
+        ensures appends { AppendsAllButOrPrefix result (W.contents out.old.inner) (W.contents out.new.inner) (self.old ++ bytes.now) self.new }
         ensures failed { out.new.failed ≡ not result }
     {
-        if self.gathered.push(bytes) {
+        if self.buffered.try_append(bytes) {
             return true;
         }
-        if !self.write_out(out) {
+        if !self.flush_buffer(out) {
             return false;
         }
-        if self.gathered.push(bytes) {
+        if self.buffered.try_append(bytes) {
             return true;
         }
-        emit(out, bytes)
+        write_all(out, bytes)
     }
 
     /// Puts these parts in turn after the bytes that are gathered.
     ///
     /// # Errors
-    /// As `put`.
-    pub(crate) fn put_parts<W: Write>(&mut self, parts: &[&[u8]], out: &mut Watched<W>) -> bool
-        requires works { out.old.failed ≡ false }
-        ensures puts { Puts result (W.contents out.old.inner) (W.contents out.new.inner) (self.old ++ flat_map (λ p. p.now) parts.now) self.new }
+    /// As `append`.
+    pub(crate) fn append_parts<W: Write>(&mut self, parts: &[&[u8]], out: &mut Watched<W>) -> bool
+        requires not_failed { out.old.failed ≡ false }
+        ensures appends { AppendsAllButOrPrefix result (W.contents out.old.inner) (W.contents out.new.inner) (self.old ++ flat_map (λ p. p.now) parts.now) self.new }
         ensures failed { out.new.failed ≡ not result }
     {
         for part in parts {
-            if !self.put(part, out) {
+            if !self.append(part, out) {
                 return false;
             }
         }
@@ -88,14 +88,14 @@ impl Output {
     ///
     /// # Errors
     /// `false` if a write fails: a front of the bytes is written, and `out` has failed.
-    pub(crate) fn write_out<W: Write>(&mut self, out: &mut Watched<W>) -> bool
-        requires works { out.old.failed ≡ false }
-        ensures puts { Puts result (W.contents out.old.inner) (W.contents out.new.inner) self.old self.new }
+    pub(crate) fn flush_buffer<W: Write>(&mut self, out: &mut Watched<W>) -> bool
+        requires not_failed { out.old.failed ≡ false }
+        ensures appends { AppendsAllButOrPrefix result (W.contents out.old.inner) (W.contents out.new.inner) self.old self.new }
         ensures failed { out.new.failed ≡ not result }
         ensures all { result ≡ true → self.new ≡ [] }
     {
-        let written = emit(out, self.gathered.as_slice());
-        self.gathered.clear();
+        let written = write_all(out, self.buffered.as_slice());
+        self.buffered.clear();
         written
     }
 }

@@ -4,9 +4,9 @@ pub mod ByteTables
 pub mod LinesLemmas
 pub mod Pushes
 pub mod Steps
-pub mod PlaceLemmas
+pub mod LexStateLemmas
 pub mod ScanLemmas
-pub mod CutLemmas
-pub mod CutExists
+pub mod LexLemmas
+pub mod LexExists
 pub mod ScanLaws
 pub mod ScanBytes

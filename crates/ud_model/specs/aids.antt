@@ -1,5 +1,5 @@
 -- Other forms of definitions, equal to them by a law or a lemma. They serve proofs and contracts of the code, and are no part of the meaning.
-pub mod Places
+pub mod LexStates
 pub mod Parsing
 pub mod SoFar
 pub mod Height

@@ -1,9 +1,9 @@
 -- The words of a command line, what is printed, and the answer to words and an input (POSIX XBD 12.2, unifdef(1)).
 pub mod Printing
 pub mod Listing
-pub mod Arguments
+pub mod SymbolArguments
 pub mod CommandLine
-pub mod WordGives
+pub mod SingleArguments
 pub mod Messages
-pub mod Runs
+pub mod Outcomes
 pub mod Answer

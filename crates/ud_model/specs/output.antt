@@ -3,8 +3,8 @@ pub mod Worlds
 pub mod Pruned
 pub mod Rereading
 pub mod CSelection
-pub mod Naming
-pub mod InPlace
-pub mod Sharing
-pub mod PutIn
-pub mod Woven
+pub mod ListedNames
+pub mod BlankedLines
+pub mod SharedLines
+pub mod InsertedLines
+pub mod InsertedNodes

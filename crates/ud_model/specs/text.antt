@@ -3,5 +3,5 @@ pub mod Bytes
 pub mod Lines
 pub mod Scans
 pub mod Splicing
-pub mod Pieces
+pub mod Lexemes
 pub mod Scanning

@@ -1,11 +1,11 @@
 //! Bytes with a meaning: white space, and the words that they make up.
 //!
 //! The meaning is that of ASCII; bytes from 128 on and NUL belong to no word. Which byte is which is said in
-//! specs/text/Bytes.antt, and which text names a symbol in specs/answer/Arguments.antt.
+//! specs/text/Bytes.antt, and which text names a symbol in specs/answer/SymbolArguments.antt.
 
 ghost use Rattle.std.specs.Prelude.{◌≡◌, ◌≤◌, take, drop, length};
-ghost use Rattle.ud_model.specs.text.Bytes.{is_white, is_digit, is_word_byte, is_identifier, are_white, are_word_bytes, past_white, word_in_front, past_word};
-ghost use Rattle.ud_model.specs.answer.Arguments.{is_name};
+ghost use Rattle.ud_model.specs.text.Bytes.{is_white, is_digit, is_word_byte, is_identifier, are_white, are_word_bytes, skip_white, leading_word, skip_word};
+ghost use Rattle.ud_model.specs.answer.SymbolArguments.{is_name};
 
 /// Whether a byte is white space within a line: space, tab, vertical tab, form feed or carriage return.
 #[inline(always)]
@@ -70,13 +70,13 @@ pub fn are_word_bytes(bytes: &[u8]) -> bool
 pub fn are_white(bytes: &[u8]) -> bool
     ensures { result ≡ are_white bytes.now }
 {
-    past_white(bytes).is_empty()
+    skip_white(bytes).is_empty()
 }
 
 /// The bytes after the white space in front.
 #[inline(always)]
-pub fn past_white(bytes: &[u8]) -> &[u8]
-    ensures { result.now ≡ past_white bytes.now }
+pub fn skip_white(bytes: &[u8]) -> &[u8]
+    ensures { result.now ≡ skip_white bytes.now }
 {
     let mut rest = bytes;
     while let Some((first, others)) = rest.split_first() {
@@ -92,8 +92,8 @@ pub fn past_white(bytes: &[u8]) -> &[u8]
 #[inline(always)]
 pub fn word_len(bytes: &[u8]) -> usize
     ensures bound { result ≤ length bytes.now }
-    ensures word { take result bytes.now ≡ word_in_front bytes.now }
-    ensures rest { drop result bytes.now ≡ past_word bytes.now }
+    ensures word { take result bytes.now ≡ leading_word bytes.now }
+    ensures rest { drop result bytes.now ≡ skip_word bytes.now }
 {
     bytes
         .iter()

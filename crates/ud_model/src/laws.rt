@@ -1,11 +1,11 @@
 //! Laws over the definitions: functions without a body, whose contracts are theorems.
 
 ghost use Rattle.std.specs.Prelude.{◌≡◌, ◌≢◌, ◌++◌, ℕ, suc, List, [], ◌∷◌, length, map, true, false, Bool, Option, Some, ℤ, pos, bytes_eq, codes};
-ghost use Rattle.ud_model.specs.text.Lines.{Line, AreLines, AreParts, texts_of, text_of, lines_of, whole_lines, open_rest};
+ghost use Rattle.ud_model.specs.text.Lines.{Line, AreLines, AreSplitLines, texts_of, text_of, lines_of, whole_lines, partial_line};
 ghost use Rattle.ud_model.specs.text.Scans.{Reading};
-ghost use Rattle.ud_model.specs.text.Splicing.{content, run_of};
-ghost use Rattle.ud_model.specs.text.Pieces.{Piece, Cell, IsCut, cells_of, cut, shown};
-ghost use Rattle.ud_model.specs.text.Scanning.{own_cells, scan_after, next_reading, readings_after, readings_of};
+ghost use Rattle.ud_model.specs.text.Splicing.{content, c_run_of};
+ghost use Rattle.ud_model.specs.text.Lexemes.{Lexeme, Cell, AreLexemes, cells_of, lex, shown};
+ghost use Rattle.ud_model.specs.text.Scanning.{content_cells, scan_after, next_reading, readings_after, readings_of};
 ghost use Rattle.ud_model.specs.declared.kind.Mode.{Mode};
 ghost use Rattle.ud_model.specs.sections.Tree.{Item, Tree, lines};
 ghost use Rattle.ud_model.specs.sections.Pruning.{Mark, marks, marks_in};
@@ -14,12 +14,12 @@ ghost use Rattle.ud_model.specs.sections.Items.{Options, line_of};
 ghost use Rattle.ud_model.specs.answer.Printing.{Judged, judged_lines, pieces_by};
 ghost use Rattle.ud_model.specs.answer.Listing.{levels};
 ghost use Rattle.ud_model.specs.sections.Faults.{Fault, FaultOf, NoneHolds, cases};
-ghost use Rattle.ud_model.specs.answer.Runs.{Outcome, ReadsAs, ReadsSoFar, Runs, RunsSoFar};
-ghost use Rattle.ud_model.specs.answer.CommandLine.{letters_in, operands_from, given_from};
-ghost use Rattle.ud_model.specs.answer.WordGives.{letters_give, given_next};
+ghost use Rattle.ud_model.specs.answer.Outcomes.{Outcome, ReadsAs, ReadsSoFar, HasOutcome, HasOutcomeSoFar};
+ghost use Rattle.ud_model.specs.answer.CommandLine.{option_letters, operands_from, parsed_from};
+ghost use Rattle.ud_model.specs.answer.SingleArguments.{letters_give, given_next};
 ghost use Rattle.ud_model.specs.answer.Answer.{Answer, IsAnswer};
 ghost use Rattle.ud_model.specs.conditions.Table.{Argument, entry_in};
-ghost use Rattle.ud_model.specs.conditions.Symbols.{EndsAt, end_of};
+ghost use Rattle.ud_model.specs.conditions.Symbols.{ResolvesTo, resolve};
 ghost use Rattle.ud_model.specs.conditions.Expressions.{Expression, IsWritten};
 ghost use Rattle.ud_model.specs.aids.Parsing.{expression_of};
 ghost use Rattle.ud_model.specs.conditions.Values.{value_of};
@@ -36,16 +36,16 @@ pub fn law_lines()
     ensures only { (text : List ℕ) → (ls : List (List ℕ)) → AreLines text ls → ls ≡ texts_of text }
     ensures bytes { (text : List ℕ) → map text_of (lines_of text) ≡ texts_of text }
     ensures number { (text : List ℕ) → (front : List Line) → (l : Line) → (later : List Line) → lines_of text ≡ front ++ l ∷ later → l.number ≡ suc (length front) }
-    ensures whole { (text : List ℕ) → AreParts text (record { whole = whole_lines text; rest = open_rest text }) }
-    ensures only_whole { (text : List ℕ) → (ls : List (List ℕ)) → (rest : List ℕ) → AreParts text (record { whole = ls; rest = rest }) → (ls ≡ whole_lines text) × (rest ≡ open_rest text) }
+    ensures whole { (text : List ℕ) → AreSplitLines text (record { whole = whole_lines text; rest = partial_line text }) }
+    ensures only_whole { (text : List ℕ) → (ls : List (List ℕ)) → (rest : List ℕ) → AreSplitLines text (record { whole = ls; rest = rest }) → (ls ≡ whole_lines text) × (rest ≡ partial_line text) }
 {}
 
 /// A joined text is cut into comments, literals and single bytes in one way, and the computed cells are those of this
 /// cut.
-pub fn law_cut()
-    ensures exists { (text : List ℕ) → (pieces : List Piece) × IsCut pieces text }
-    ensures only { (text : List ℕ) → (pieces : List Piece) → (others : List Piece) → IsCut pieces text → IsCut others text → pieces ≡ others }
-    ensures cells { (text : List ℕ) → (pieces : List Piece) → IsCut pieces text → cells_of pieces ≡ cut text }
+pub fn law_lexemes()
+    ensures exists { (text : List ℕ) → (pieces : List Lexeme) × AreLexemes pieces text }
+    ensures only { (text : List ℕ) → (pieces : List Lexeme) → (others : List Lexeme) → AreLexemes pieces text → AreLexemes others text → pieces ≡ others }
+    ensures cells { (text : List ℕ) → (pieces : List Lexeme) → AreLexemes pieces text → cells_of pieces ≡ lex text }
 {}
 
 /// A line is seen by its logical line alone: after a line that has an ending and doesn't join the next one, lines are
@@ -58,8 +58,8 @@ pub fn law_scan_alone()
 /// Place i of a masked line is place i of the body: the masked line shows a cell for each byte of the line's content,
 /// in order, and the body begins with the content.
 pub fn law_scan_bytes()
-    ensures shows { (before : List Reading) → (l : Line) → (scan_after before Mode.C l).masked ≡ map shown (own_cells (run_of before) l) }
-    ensures bytes { (run : List Line) → (l : Line) → map (λ (c : Cell). c.byte) (own_cells run l) ≡ content l }
+    ensures shows { (before : List Reading) → (l : Line) → (scan_after before Mode.C l).masked ≡ map shown (content_cells (c_run_of before) l) }
+    ensures bytes { (run : List Line) → (l : Line) → map (λ (c : Cell). c.byte) (content_cells run l) ≡ content l }
     ensures len { (before : List Reading) → (l : Line) → length (scan_after before Mode.C l).masked ≡ length (content l) }
     ensures front { (l : Line) → (rest : List ℕ) × (l.body ≡ content l ++ rest) }
 {}
@@ -97,7 +97,7 @@ pub fn law_one_fault()
 /// A fault of the text so far is the fault of every longer text, whether that goes on or has ended, and what is
 /// printed before it is the same.
 pub fn law_fault_stays()
-    ensures { (o : Options) → (given : List ℕ) → (more : List ℕ) → (r : Outcome) → RunsSoFar o given r → (f : Fault) → r.fault ≡ Some f → RunsSoFar o (given ++ more) r × Runs o (given ++ more) r }
+    ensures { (o : Options) → (given : List ℕ) → (more : List ℕ) → (r : Outcome) → HasOutcomeSoFar o given r → (f : Fault) → r.fault ≡ Some f → HasOutcomeSoFar o (given ++ more) r × HasOutcome o (given ++ more) r }
 {}
 
 /// How a text so far is read, and what is printed of it, is the front of that of every longer text, whether that goes on or
@@ -107,8 +107,8 @@ pub fn law_output_grows()
     ensures items_so_far { (o : Options) → (given : List ℕ) → (more : List ℕ) → (xs : List (Item Reading)) → (ys : List (Item Reading)) → (t : Tree Reading) → (u : Tree Reading) → (f : Option Fault) → (g : Option Fault) → ReadsSoFar o given xs t f → ReadsSoFar o (given ++ more) ys u g → (rest : List (Item Reading)) × (ys ≡ xs ++ rest) }
     ensures items { (o : Options) → (given : List ℕ) → (more : List ℕ) → (xs : List (Item Reading)) → (ys : List (Item Reading)) → (t : Tree Reading) → (u : Tree Reading) → (f : Option Fault) → (g : Option Fault) → ReadsSoFar o given xs t f → ReadsAs o (given ++ more) ys u g → (rest : List (Item Reading)) × (ys ≡ xs ++ rest) }
     ensures pieces { (piece : List Judged → Judged → List ℕ) → (t : Tree Reading) → (u : Tree Reading) → (more : List (Item Reading)) → lines u ≡ lines t ++ more → (rest : List (List ℕ)) × (pieces_by piece [] (judged_lines (lines u) (marks u)) ≡ pieces_by piece [] (judged_lines (lines t) (marks t)) ++ rest) }
-    ensures output_so_far { (o : Options) → (given : List ℕ) → (more : List ℕ) → (r : Outcome) → (s : Outcome) → RunsSoFar o given r → RunsSoFar o (given ++ more) s → (rest : List ℕ) × (s.output ≡ r.output ++ rest) }
-    ensures output { (o : Options) → (given : List ℕ) → (more : List ℕ) → (r : Outcome) → (s : Outcome) → RunsSoFar o given r → Runs o (given ++ more) s → (rest : List ℕ) × (s.output ≡ r.output ++ rest) }
+    ensures output_so_far { (o : Options) → (given : List ℕ) → (more : List ℕ) → (r : Outcome) → (s : Outcome) → HasOutcomeSoFar o given r → HasOutcomeSoFar o (given ++ more) s → (rest : List ℕ) × (s.output ≡ r.output ++ rest) }
+    ensures output { (o : Options) → (given : List ℕ) → (more : List ℕ) → (r : Outcome) → (s : Outcome) → HasOutcomeSoFar o given r → HasOutcome o (given ++ more) s → (rest : List ℕ) × (s.output ≡ r.output ++ rest) }
 {}
 
 /// A text is read in one way, as items with a tree, and as far as its first fault; these are the lines of the tree. So it is
@@ -124,24 +124,24 @@ pub fn law_one_reading()
 
 /// A text has one outcome, whether it has ended or goes on: what the settings make of the items as which it is read.
 pub fn law_one_outcome()
-    ensures exists { (o : Options) → (input : List ℕ) → (r : Outcome) × Runs o input r }
-    ensures only { (o : Options) → (input : List ℕ) → (r : Outcome) → (s : Outcome) → Runs o input r → Runs o input s → r ≡ s }
-    ensures exists_so_far { (o : Options) → (given : List ℕ) → (r : Outcome) × RunsSoFar o given r }
-    ensures only_so_far { (o : Options) → (given : List ℕ) → (r : Outcome) → (s : Outcome) → RunsSoFar o given r → RunsSoFar o given s → r ≡ s }
+    ensures exists { (o : Options) → (input : List ℕ) → (r : Outcome) × HasOutcome o input r }
+    ensures only { (o : Options) → (input : List ℕ) → (r : Outcome) → (s : Outcome) → HasOutcome o input r → HasOutcome o input s → r ≡ s }
+    ensures exists_so_far { (o : Options) → (given : List ℕ) → (r : Outcome) × HasOutcomeSoFar o given r }
+    ensures only_so_far { (o : Options) → (given : List ℕ) → (r : Outcome) → (s : Outcome) → HasOutcomeSoFar o given r → HasOutcomeSoFar o given s → r ≡ s }
 {}
 
 /// What words give is what each gives by itself, in order. After `--` each word is an operand, and so it is from the first
 /// operand on. The letters of a word give options, of which the last may wait for the next word.
-pub fn law_words()
-    ensures ended { (n : ℕ) → (words : List (List ℕ)) → given_from n (codes "--" ∷ words) ≡ operands_from (suc n) words }
-    ensures operand { (n : ℕ) → (w : List ℕ) → (words : List (List ℕ)) → bytes_eq w (codes "--") ≡ false → letters_in w ≡ [] → given_from n (w ∷ words) ≡ operands_from n (w ∷ words) }
-    ensures options { (n : ℕ) → (w : List ℕ) → (words : List (List ℕ)) → (c : ℕ) → (cs : List ℕ) → bytes_eq w (codes "--") ≡ false → letters_in w ≡ c ∷ cs → given_from n (w ∷ words) ≡ (letters_give (suc n) (c ∷ cs)).given ++ given_next (letters_give (suc n) (c ∷ cs)).waits (suc n) words }
+pub fn law_arguments()
+    ensures ended { (n : ℕ) → (args : List (List ℕ)) → parsed_from n (codes "--" ∷ args) ≡ operands_from (suc n) args }
+    ensures operand { (n : ℕ) → (w : List ℕ) → (args : List (List ℕ)) → bytes_eq w (codes "--") ≡ false → option_letters w ≡ [] → parsed_from n (w ∷ args) ≡ operands_from n (w ∷ args) }
+    ensures options { (n : ℕ) → (w : List ℕ) → (args : List (List ℕ)) → (c : ℕ) → (cs : List ℕ) → bytes_eq w (codes "--") ≡ false → option_letters w ≡ c ∷ cs → parsed_from n (w ∷ args) ≡ (letters_give (suc n) (c ∷ cs)).given ++ given_next (letters_give (suc n) (c ∷ cs)).waits (suc n) args }
 {}
 
 /// Words and an input have one answer.
 pub fn law_one_answer()
-    ensures exists { (words : List (List ℕ)) → (input : List ℕ) → (a : Answer) × IsAnswer words input a }
-    ensures only { (words : List (List ℕ)) → (input : List ℕ) → (a : Answer) → (b : Answer) → IsAnswer words input a → IsAnswer words input b → a ≡ b }
+    ensures exists { (args : List (List ℕ)) → (input : List ℕ) → (a : Answer) × IsAnswer args input a }
+    ensures only { (args : List (List ℕ)) → (input : List ℕ) → (a : Answer) → (b : Answer) → IsAnswer args input a → IsAnswer args input b → a ≡ b }
 {}
 
 /// A text is written for one tree at most, and the computed tree is the one for which it is written (C11 6.5).
@@ -167,8 +167,8 @@ pub fn law_condition_by_entries()
 
 /// The computed end of a symbol's value is the one at which it ends, from name to name; there is no other.
 pub fn law_symbol_end()
-    ensures found { (table : List Argument) → (n : List ℕ) → (v : List ℕ) → EndsAt table n v → end_of table n ≡ Some v }
-    ensures ends { (table : List Argument) → (n : List ℕ) → (v : List ℕ) → end_of table n ≡ Some v → EndsAt table n v }
+    ensures found { (table : List Argument) → (n : List ℕ) → (v : List ℕ) → ResolvesTo table n v → resolve table n ≡ Some v }
+    ensures ends { (table : List Argument) → (n : List ℕ) → (v : List ℕ) → resolve table n ≡ Some v → ResolvesTo table n v }
 {}
 
 /// Where the value of an expression is known, it is the C value, whatever stands for the names that the table leaves open,

@@ -6,7 +6,7 @@ ghost use Rattle.ud_model.specs.text.Scans.{Reading};
 ghost use Rattle.ud_model.specs.sections.Tree.{Nodes, Tree, closed, lines_of_nodes, with_lines};
 ghost use Rattle.ud_model.specs.sections.Pruning.{marks};
 ghost use Rattle.ud_model.specs.sections.Items.{Options};
-ghost use Rattle.ud_model.specs.answer.Runs.{Outcome, Runs};
+ghost use Rattle.ud_model.specs.answer.Outcomes.{Outcome, HasOutcome};
 ghost use Rattle.ud_model.specs.output.Worlds.{World, Agrees, selected, openers};
 ghost use Rattle.ud_model.specs.output.Pruned.{Edited, edited, pruned, printed, IsUndecided};
 ghost use Rattle.ud_model.specs.output.Rereading.{IsTreeOf, IsClean, CleanRun, LinesFit, line_bytes, edited_bytes, KeepsTruths};
@@ -17,7 +17,7 @@ ghost use Rattle.ud_model.specs.declared.verdict.Verdict.{Verdict};
 /// If lines aren't numbered (`-n`) and no names are listed (`-s`, `-S`), some line of a text without a fault differs exactly
 /// if output and input are different bytes. So the exit status tells whether the output is a copy (unifdef(1)).
 pub fn law_changed()
-    ensures { (o : Options) → o.settings.renumber ≡ false → o.settings.listing ≡ Listing.Off → (input : List ℕ) → (r : Outcome) → Runs o input r → r.fault ≡ None → r.differs ≡ not (bytes_eq r.output input) }
+    ensures { (o : Options) → o.settings.renumber ≡ false → o.settings.listing ≡ Listing.Off → (input : List ℕ) → (r : Outcome) → HasOutcome o input r → r.fault ≡ None → r.differs ≡ not (bytes_eq r.output input) }
 {}
 
 /// In a world that agrees with what is decided, what is selected of the pruned nodes is what is selected of the nodes
@@ -33,7 +33,7 @@ pub fn law_printed()
 
 /// A text without a fault has a tree, whose sections are all closed; and a text has one tree at most (C11 6.10).
 pub fn law_tree_of()
-    ensures exists { (o : Options) → (input : List ℕ) → (r : Outcome) → Runs o input r → r.fault ≡ None → (ns : Nodes Reading) × IsTreeOf o input (closed ns) }
+    ensures exists { (o : Options) → (input : List ℕ) → (r : Outcome) → HasOutcome o input r → r.fault ≡ None → (ns : Nodes Reading) × IsTreeOf o input (closed ns) }
     ensures only { (o : Options) → (text : List ℕ) → (t : Tree Reading) → (u : Tree Reading) → IsTreeOf o text t → IsTreeOf o text u → t ≡ u }
 {}
 
@@ -44,7 +44,7 @@ pub fn law_reread()
     ensures tree { (o : Options) → (input : List ℕ) → (r : Outcome) → IsClean o input r → (ns : Nodes Reading) → IsTreeOf o input (closed ns) → (us : Nodes Reading) × IsTreeOf o r.output (closed us) }
     ensures left { (k : CleanRun) → with_lines line_bytes k.after ≡ with_lines edited_bytes (pruned k.before) }
     ensures undecided { (k : CleanRun) → IsUndecided k.after }
-    ensures again { (o : Options) → (input : List ℕ) → (r : Outcome) → IsClean o input r → LinesFit (lines_of r.output) → Runs o r.output (record { output = r.output; fault = None; differs = false }) }
+    ensures again { (o : Options) → (input : List ℕ) → (r : Outcome) → IsClean o input r → LinesFit (lines_of r.output) → HasOutcome o r.output (record { output = r.output; fault = None; differs = false }) }
 {}
 
 /// Each opener of the output can be given the truth of the opener from which it comes. If the world agrees with what is

@@ -7,10 +7,10 @@ use Rattle.ud_model.specs.sections.Directives.{content_of}
 use Rattle.ud_model.specs.sections.Tree.{Item, Tree, lines, depth}
 use Rattle.ud_model.specs.sections.Pruning.{Mark, marks}
 use Rattle.ud_model.specs.sections.Items.{reading_of, line_of}
-use Rattle.ud_model.specs.sections.Faults.{Fault, FaultOf, Case, past_last, too_long, cut, out_of_place, too_deep, spoiled, is_cut, is_spoiled, misplaced, NoneHolds, cases, obfuscated, too_many_levels}
+use Rattle.ud_model.specs.sections.Faults.{Fault, FaultOf, Case, past_last, too_long, cut, out_of_place, too_deep, obfuscated_case, is_cut, is_obfuscated, misplaced_fault, NoneHolds, cases, obfuscated, too_many_levels}
 use Rattle.ud_model.specs.declared.limits.TheConstants.{LINE_BYTES, TEXT_LINES, OPEN_SECTIONS}
 use Rattle.ud_model.proofs.sections.Unique.{unique}
-use Rattle.ud_sections.specs.Limits.{IsWithin}
+use Rattle.ud_sections.specs.Limits.{IsWithinLimits}
 
 not_true : (b : Bool) → b ≡ false → IsTrue b → ⊥
 not_true b e h = cc
@@ -19,7 +19,7 @@ not_true b e h = cc
 abbrev pub is_cut_item : Item Reading → Bool
 is_cut_item x = is_cut (content_of (reading_of x).scan)
 
-module _ (xs : List (Item Reading)) (x : Item Reading) (w : IsWithin (line_of x)) where
+module _ (xs : List (Item Reading)) (x : Item Reading) (w : IsWithinLimits (line_of x)) where
   -- a line within the limits isn't faulty in the first two ways
   within_first : (cs : List Case) → NoneHolds xs x cs → NoneHolds xs x (past_last ∷ too_long ∷ cs)
   within_first cs others = (
@@ -37,7 +37,7 @@ module _ (xs : List (Item Reading)) (x : Item Reading) (w : IsWithin (line_of x)
 
   -- a directive that no tree takes has the fault of its name
   pub out_of_place_fault : (t : Tree Reading) (f : Fault) → is_cut_item x ≡ false → lines t ≡ xs →
-      ((u : Tree Reading) → lines u ≡ xs ++ x ∷ [] → ⊥) → misplaced x ≡ Some f → FaultOf xs x f
+      ((u : Tree Reading) → lines u ≡ xs ++ x ∷ [] → ⊥) → misplaced_fault x ≡ Some f → FaultOf xs x f
   out_of_place_fault t f h e refuses named = record {
     which = out_of_place;
     holds = ((t, e), λ j. refuses j.0 j.1);
@@ -62,9 +62,9 @@ module _ (xs : List (Item Reading)) (x : Item Reading) (w : IsWithin (line_of x)
 
     -- a directive that spans lines and would have to be changed
     pub spoiled_fault : (before : List Mark) (m : Mark) → depth u ≤ OPEN_SECTIONS → marks u ≡ before ++ m ∷ [] →
-        is_spoiled before x m ≡ true → FaultOf xs x (obfuscated (line_of x).number)
+        is_obfuscated before x m ≡ true → FaultOf xs x (obfuscated (line_of x).number)
     spoiled_fault before m d k s = record {
-      which = spoiled;
+      which = obfuscated_case;
       holds = (before, m, (u, e, k), s);
       first = within_clear (out_of_place ∷ too_deep ∷ []) whole (λ j. j.1 (u, e), (too_deep_not d, tt));
       named = refl;
@@ -72,8 +72,8 @@ module _ (xs : List (Item Reading)) (x : Item Reading) (w : IsWithin (line_of x)
 
     -- a line isn't faulty if it and the lines before have a tree that isn't too deep, and it isn't spoiled
     pub clear_line : (before : List Mark) (m : Mark) → depth u ≤ OPEN_SECTIONS → marks u ≡ before ++ m ∷ [] →
-        is_spoiled before x m ≡ false → NoneHolds xs x cases
-    clear_line before m d k s = within_clear (out_of_place ∷ too_deep ∷ spoiled ∷ []) whole (
+        is_obfuscated before x m ≡ false → NoneHolds xs x cases
+    clear_line before m d k s = within_clear (out_of_place ∷ too_deep ∷ obfuscated_case ∷ []) whole (
       λ h. h.1 (u, e),
       (
         too_deep_not d,
@@ -81,8 +81,8 @@ module _ (xs : List (Item Reading)) (x : Item Reading) (w : IsWithin (line_of x)
           λ h.
               let q : h.2.0 ≡ u = unique h.2.0 u (h.2.1 ∙ sym e) in
               let same : (h.0 ≡ before) × (h.1 ≡ m) = same_from_push h.0 before h.1 m (sym h.2.2 ∙ ap marks q ∙ k) in
-              not_true (is_spoiled before x m) s
-              (subst (λ (n : Mark). IsTrue (is_spoiled before x n)) same.1 (subst (λ (ms : List Mark). IsTrue (is_spoiled ms x h.1)) same.0 h.3)),
+              not_true (is_obfuscated before x m) s
+              (subst (λ (n : Mark). IsTrue (is_obfuscated before x n)) same.1 (subst (λ (ms : List Mark). IsTrue (is_obfuscated ms x h.1)) same.0 h.3)),
           tt,
         ),
       ),

@@ -8,7 +8,7 @@ use Rattle.ud_model.specs.sections.Tree.{Item, Tree}
 use Rattle.ud_model.specs.sections.Items.{Options, reading_of, line_of, mode_after, read_after, next_item}
 use Rattle.ud_model.specs.sections.Faults.{ends_in_comment}
 use Rattle.ud_model.proofs.sections.Soundness.{reading_of-item_of, reading_of-next}
-use Rattle.ud_text.specs.Carrying.{ends_in_block}
+use Rattle.ud_text.specs.ScannerState.{ends_in_block}
 
 -- the readings are one more
 pub readings_more : (o : Options) (xs : List (Item Reading)) (t : Tree Reading) (l : Line) →

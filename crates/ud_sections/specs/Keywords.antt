@@ -1,16 +1,16 @@
 -- Keywords: the keyword that stands in front of bytes.
 --
---   IsInFront keyword rest   the first word of these bytes is this keyword
+--   IsLeadingKeyword keyword rest   the first word of these bytes is this keyword
 --
 -- Example: of `if x` it is `if`, which has two bytes, and the space and `x` follow it.
 use Rattle.std.specs.Prelude.{◌≡◌, ◌≤◌, ℕ, List, length, drop, Some}
-use Rattle.ud_model.specs.text.Bytes.{word_in_front, past_word}
+use Rattle.ud_model.specs.text.Bytes.{leading_word, skip_word}
 use Rattle.ud_model.specs.sections.Directives.{kind_of}
 use Rattle.ud_sections.specs.declared.keywords.Keyword.{Keyword}
 
 -- the first word of these bytes is this keyword
-pub record IsInFront (keyword : Keyword) (rest : List ℕ) : Type 0 where
+pub record IsLeadingKeyword (keyword : Keyword) (rest : List ℕ) : Type 0 where
   pub bound : keyword.len ≤ length rest
-  pub len_is : keyword.len ≡ length (word_in_front rest)
-  pub after_is : drop keyword.len rest ≡ past_word rest
-  pub kind_is : kind_of (word_in_front rest) ≡ Some keyword.kind
+  pub len_is : keyword.len ≡ length (leading_word rest)
+  pub after_is : drop keyword.len rest ≡ skip_word rest
+  pub kind_is : kind_of (leading_word rest) ≡ Some keyword.kind

@@ -1,7 +1,7 @@
 -- StepViews: lines and their steps as the definitions have them.
 --
---   judged line step      the line with its verdict, and where its keyword lies
---   HoldsKeyword step l   a directive that is edited has its keyword in its line's body
+--   judged_step line step   the line with its verdict, and where its keyword lies
+--   HoldsKeyword step l     a directive that is edited has its keyword in its line's body
 --
 -- Example: a text line that is kept is judged as itself, Keep, with a keyword of 0 bytes at 0.
 use Rattle.std.specs.Prelude.{ℕ, ◌+◌, ◌≤◌, List, length}
@@ -19,17 +19,17 @@ abbrev pub as_span : Span → TextSpan
 as_span s = record { at = s.at; len = s.len }
 
 -- a line with its step
-abbrev pub judged : Line → Step → Judged
-judged line step = record { line = as_line line; verdict = step.verdict; keyword = as_span step.keyword }
+abbrev pub judged_step : Line → Step → Judged
+judged_step line step = record { line = as_line line; verdict = step.verdict; keyword = as_span step.keyword }
 
 -- a directive with this verdict whose keyword lies here has it in this body, if it is edited
-abbrev pub IsWithin : Verdict → Span → List ℕ → Type 0
-IsWithin Keep keyword body = Unit {0}
-IsWithin Remove keyword body = Unit {0}
-IsWithin ToIf keyword body = keyword.at + keyword.len ≤ length body
-IsWithin ToElse keyword body = keyword.at + keyword.len ≤ length body
-IsWithin ToEndif keyword body = keyword.at + keyword.len ≤ length body
+abbrev pub KeywordIsWithin : Verdict → Span → List ℕ → Type 0
+KeywordIsWithin Keep keyword body = Unit {0}
+KeywordIsWithin Remove keyword body = Unit {0}
+KeywordIsWithin ToIf keyword body = keyword.at + keyword.len ≤ length body
+KeywordIsWithin ToElse keyword body = keyword.at + keyword.len ≤ length body
+KeywordIsWithin ToEndif keyword body = keyword.at + keyword.len ≤ length body
 
 -- a directive that is edited has its keyword in its line's body
 abbrev pub HoldsKeyword : Step → Line → Type 0
-HoldsKeyword step line = IsWithin step.verdict step.keyword line.body.now
+HoldsKeyword step line = KeywordIsWithin step.verdict step.keyword line.body.now

@@ -1,6 +1,6 @@
 //! Printing removed lines as blank ones.
 
-use crate::left::Left;
+use crate::line_output::LineOutput;
 use crate::pieces::Pieces;
 use crate::show::Show;
 use crate::step::Step;
@@ -13,34 +13,34 @@ pub struct Blank;
 
 impl Blank {
     ghost use Rattle.std.specs.Prelude.{[]};
-    ghost use Rattle.ud_sections.specs.Styles.{blank_stands};
+    ghost use Rattle.ud_sections.specs.Styles.{blank_represents};
 
     /// The printer at the beginning of a text.
     pub fn new() -> Blank
-        ensures { blank_stands result [] }
+        ensures { blank_represents result [] }
     {
         Blank
     }
 }
 
 impl Show for Blank {
-    ghost use Rattle.ud_model.specs.answer.Printing.{piece_behind};
-    ghost use Rattle.ud_sections.specs.Styles.{blank_stands, blank_style};
+    ghost use Rattle.ud_model.specs.answer.Printing.{piece_after};
+    ghost use Rattle.ud_sections.specs.Styles.{blank_represents, blank_style};
 
-    ghost stands = { blank_stands };
+    ghost represents = { blank_represents };
 
-    ghost piece = { λ b. piece_behind blank_style };
+    ghost piece = { λ b. piece_after blank_style };
 
     fn pieces<'a>(&'a mut self, line: &Line<'a>, step: Step) -> Pieces<'a> {
-        Pieces::alone(line, step, line.ending)
+        Pieces::for_line(line, step, line.ending)
     }
 
     #[inline(always)]
-    fn left(&self, verdict: Verdict) -> Left {
+    fn line_output(&self, verdict: Verdict) -> LineOutput {
         match verdict {
-            Verdict::Keep => Left::Whole,
-            Verdict::Remove => Left::Ending,
-            _ => Left::Parts,
+            Verdict::Keep => LineOutput::Whole,
+            Verdict::Remove => LineOutput::Ending,
+            _ => LineOutput::Parts,
         }
     }
 }

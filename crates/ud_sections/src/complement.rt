@@ -1,9 +1,9 @@
 //! Printing what would be removed.
 
 ghost use Rattle.std.specs.Prelude.{◌≡◌};
-ghost use Rattle.ud_model.specs.answer.Printing.{turned};
+ghost use Rattle.ud_model.specs.answer.Printing.{complement_verdict};
 
-use crate::left::Left;
+use crate::line_output::LineOutput;
 use crate::pieces::Pieces;
 use crate::show::Show;
 use crate::step::Step;
@@ -32,7 +32,7 @@ impl<S: Show> Show for Complement<S> {
     ghost use Rattle.std.specs.Prelude.{map};
     ghost use Rattle.ud_model.specs.answer.Printing.{complemented};
 
-    ghost stands = { λ c before. S.stands c.inner (map complemented before) };
+    ghost represents = { λ c before. S.represents c.inner (map complemented before) };
 
     ghost piece = { λ c before j. S.piece c.inner (map complemented before) (complemented j) };
 
@@ -45,15 +45,15 @@ impl<S: Show> Show for Complement<S> {
     }
 
     #[inline(always)]
-    fn left(&self, verdict: Verdict) -> Left {
-        self.inner.left(complement_of(verdict))
+    fn line_output(&self, verdict: Verdict) -> LineOutput {
+        self.inner.line_output(complement_of(verdict))
     }
 }
 
 /// What becomes of a line under the complement.
 #[inline(always)]
 fn complement_of(verdict: Verdict) -> Verdict
-    ensures { result ≡ turned verdict }
+    ensures { result ≡ complement_verdict verdict }
 {
     match verdict {
         Verdict::Remove => Verdict::Keep,

@@ -1,6 +1,6 @@
 //! Printing what is kept.
 
-use crate::left::Left;
+use crate::line_output::LineOutput;
 use crate::pieces::Pieces;
 use crate::show::Show;
 use crate::step::Step;
@@ -13,35 +13,35 @@ pub struct Delete;
 
 impl Delete {
     ghost use Rattle.std.specs.Prelude.{[]};
-    ghost use Rattle.ud_sections.specs.Styles.{delete_stands};
+    ghost use Rattle.ud_sections.specs.Styles.{delete_represents};
 
     /// The printer at the beginning of a text.
     pub fn new() -> Delete
-        ensures { delete_stands result [] }
+        ensures { delete_represents result [] }
     {
         Delete
     }
 }
 
 impl Show for Delete {
-    ghost use Rattle.ud_model.specs.answer.Printing.{piece_behind, plain_style};
-    ghost use Rattle.ud_sections.specs.Styles.{delete_stands};
+    ghost use Rattle.ud_model.specs.answer.Printing.{piece_after, plain_style};
+    ghost use Rattle.ud_sections.specs.Styles.{delete_represents};
 
-    ghost stands = { delete_stands };
+    ghost represents = { delete_represents };
 
-    ghost piece = { λ d. piece_behind plain_style };
+    ghost piece = { λ d. piece_after plain_style };
 
     #[inline(always)]
     fn pieces<'a>(&'a mut self, line: &Line<'a>, step: Step) -> Pieces<'a> {
-        Pieces::alone(line, step, &[])
+        Pieces::for_line(line, step, &[])
     }
 
     #[inline(always)]
-    fn left(&self, verdict: Verdict) -> Left {
+    fn line_output(&self, verdict: Verdict) -> LineOutput {
         match verdict {
-            Verdict::Keep => Left::Whole,
-            Verdict::Remove => Left::Nothing,
-            _ => Left::Parts,
+            Verdict::Keep => LineOutput::Whole,
+            Verdict::Remove => LineOutput::Nothing,
+            _ => LineOutput::Parts,
         }
     }
 }

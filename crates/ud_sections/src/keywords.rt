@@ -1,9 +1,9 @@
 //! The keywords of the directives that unifdef acts on (C11 6.10.1, C23 6.10).
 
 ghost use Rattle.std.specs.Prelude.{◌≡◌, [], IfSome, IfNone, None};
-ghost use Rattle.ud_model.specs.text.Bytes.{word_in_front, past_word};
-ghost use Rattle.ud_model.specs.sections.Directives.{kind_of, begins_keyword};
-ghost use Rattle.ud_sections.specs.Keywords.{IsInFront};
+ghost use Rattle.ud_model.specs.text.Bytes.{leading_word, skip_word};
+ghost use Rattle.ud_model.specs.sections.Directives.{kind_of, is_prefix_of_keyword};
+ghost use Rattle.ud_sections.specs.Keywords.{IsLeadingKeyword};
 
 use ud_model::Kind;
 use ud_model::bytes::{is_word_byte, word_len};
@@ -31,9 +31,9 @@ const KEYWORDS: [&[u8]; 8] = [
 
 /// The keyword in front of these bytes, if their first word is one.
 #[inline(always)]
-pub(crate) fn keyword_in_front(rest: &[u8]) -> Option<Keyword>
-    ensures some { IfSome result (λ k. IsInFront k rest.now) }
-    ensures none { IfNone result (kind_of (word_in_front rest.now) ≡ None) }
+pub(crate) fn leading_keyword(rest: &[u8]) -> Option<Keyword>
+    ensures some { IfSome result (λ k. IsLeadingKeyword k rest.now) }
+    ensures none { IfNone result (kind_of (leading_word rest.now) ≡ None) }
 {
     if let Some(keyword) = common_keyword(rest) {
         return Some(keyword);
@@ -47,23 +47,23 @@ pub(crate) fn keyword_in_front(rest: &[u8]) -> Option<Keyword>
 /// end isn't searched.
 #[inline(always)]
 fn common_keyword(rest: &[u8]) -> Option<Keyword>
-    ensures { IfSome result (λ k. IsInFront k rest.now) }
+    ensures { IfSome result (λ k. IsLeadingKeyword k rest.now) }
 {
     match rest {
-        [b'e', b'n', b'd', b'i', b'f', after @ ..] => keyword_before(Kind::Endif, 5, after),
-        [b'i', b'f', b'd', b'e', b'f', after @ ..] => keyword_before(Kind::Ifdef, 5, after),
-        [b'i', b'f', b'n', b'd', b'e', b'f', after @ ..] => keyword_before(Kind::Ifndef, 6, after),
-        [b'i', b'f', after @ ..] => keyword_before(Kind::If, 2, after),
-        [b'e', b'l', b's', b'e', after @ ..] => keyword_before(Kind::Else, 4, after),
-        [b'e', b'l', b'i', b'f', after @ ..] => keyword_before(Kind::Elif, 4, after),
+        [b'e', b'n', b'd', b'i', b'f', after @ ..] => whole_keyword(Kind::Endif, 5, after),
+        [b'i', b'f', b'd', b'e', b'f', after @ ..] => whole_keyword(Kind::Ifdef, 5, after),
+        [b'i', b'f', b'n', b'd', b'e', b'f', after @ ..] => whole_keyword(Kind::Ifndef, 6, after),
+        [b'i', b'f', after @ ..] => whole_keyword(Kind::If, 2, after),
+        [b'e', b'l', b's', b'e', after @ ..] => whole_keyword(Kind::Else, 4, after),
+        [b'e', b'l', b'i', b'f', after @ ..] => whole_keyword(Kind::Elif, 4, after),
         _ => None,
     }
 }
 
 /// The keyword of this kind and length, if no word goes on after it.
 #[inline(always)]
-fn keyword_before(kind: Kind, len: usize, after: &[u8]) -> Option<Keyword>
-    ensures { IfSome result (λ k. (k ≡ record { kind = kind; len = len }) × (word_in_front after.now ≡ []) × (past_word after.now ≡ after.now)) }
+fn whole_keyword(kind: Kind, len: usize, after: &[u8]) -> Option<Keyword>
+    ensures { IfSome result (λ k. (k ≡ record { kind = kind; len = len }) × (leading_word after.now ≡ []) × (skip_word after.now ≡ after.now)) }
 {
     match after.first() {
         Some(byte) if is_word_byte(*byte) => None,
@@ -90,8 +90,8 @@ fn kind_of(word: &[u8]) -> Option<Kind>
 }
 
 /// Whether a word is a front of a keyword, or a whole one.
-pub(crate) fn begins_keyword(word: &[u8]) -> bool
-    ensures { result ≡ begins_keyword word.now }
+pub(crate) fn is_prefix_of_keyword(word: &[u8]) -> bool
+    ensures { result ≡ is_prefix_of_keyword word.now }
 {
     KEYWORDS.iter().any(|keyword| keyword.starts_with(word))
 }

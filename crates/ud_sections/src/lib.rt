@@ -4,41 +4,41 @@
 //! line of the definitions a line and its step are.
 #![tactic(auto)]
 
-mod appending;
+mod append_bytes;
 mod blank;
+mod bulk_output;
+mod check;
+mod classify_line;
 mod complement;
 mod delete;
+mod directives;
 mod fault;
-mod finding;
-mod found;
-mod judging;
 mod keywords;
-mod left;
-mod level;
+mod line_kind;
+mod line_output;
 mod lister;
 mod machine;
-mod phase;
+mod open_section;
+mod parse_directive;
 mod pieces;
 mod printer;
 mod renumber;
-mod run;
-mod seeing;
-mod shape;
+mod section_state;
 mod show;
 mod step;
 
 pub use blank::Blank;
+pub use bulk_output::BulkOutput;
 pub use complement::Complement;
 pub use delete::Delete;
+pub use directives::{Cut, Directive};
 pub use fault::SectionFault;
-pub use finding::directive;
-pub use found::{Cut, Directive};
-pub use left::Left;
+pub use line_output::LineOutput;
 pub use lister::Lister;
 pub use machine::Machine;
+pub use parse_directive::directive;
 pub use pieces::Pieces;
 pub use printer::Printer;
 pub use renumber::Renumber;
-pub use run::Run;
 pub use show::Show;
 pub use step::{Span, Step};

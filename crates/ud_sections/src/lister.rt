@@ -3,8 +3,8 @@
 ghost use Rattle.std.specs.Prelude.{◌≡◌, ◌+◌, ◌≤◌, ◌++◌, length, Bool};
 ghost use Rattle.ud_model.specs.answer.Listing.{depth_prefix};
 
-use crate::appending::append;
-use crate::finding::directive;
+use crate::append_bytes::append;
+use crate::parse_directive::directive;
 use arrayvec::ArrayVec;
 use itoa::Buffer;
 use std::marker::Model;
@@ -39,7 +39,7 @@ impl Lister {
     ghost use Rattle.ud_model.specs.answer.Listing.{names_in_content};
     ghost use Rattle.ud_model.specs.declared.limits.TheConstants.{LINE_BYTES};
     ghost use Rattle.ud_text.specs.LineViews.{as_scan};
-    ghost use Rattle.ud_sections.specs.Listing.{StaysSame};
+    ghost use Rattle.ud_sections.specs.ListerBorrows.{StaysSame};
 
     /// What lists names, each after its depth, or by itself.
     pub fn new(depths: bool) -> Lister
@@ -69,7 +69,7 @@ impl Lister {
     /// and a space.
     pub fn prefix(&mut self, depth: usize) -> &[u8]
         ensures text { result.now ≡ depth_prefix self.old depth }
-        ensures* stays { sem 𝓛 (StaysSame self.entry) }
+        ensures* unchanged { sem 𝓛 (StaysSame self.entry) }
     {
         write_prefix(&mut self.text, self.depths, depth);
         self.text.as_slice()

@@ -1,31 +1,31 @@
 //! What decides the lines of a text, one after another.
 //!
 //! A machine holds no line and takes no memory. Of each open section it keeps how far it is among its groups; of the lines
-//! only whether the last one is removed, and its number. What a line does is decided by `judging`, after all its faults;
-//! then the open sections change. `specs/Sections.antt` says what a machine stands for: a list of lines and their tree.
+//! only whether the last one is removed, and its number. What a line does is decided by `check`, after all its faults;
+//! then the open sections change. `specs/MachineState.antt` says what a machine stands for: a list of lines and their tree.
 
 ghost use Rattle.std.specs.Prelude.{◌≡◌, ◌≤◌, ◌<◌, ◌+◌, ◌∷◌, [], ◌++◌, List, length, map, IsTrue, IfOk, IfErr, OnOk, OnErr, None, Some};
 ghost use Rattle.arrayvec.specs.ArrayVec.{array_vec_len};
 ghost use Rattle.ud_model.specs.text.Scans.{Reading};
 ghost use Rattle.ud_model.specs.sections.Tree.{Item, Tree, text_line, closed, nothing, depth};
-ghost use Rattle.ud_model.specs.sections.Directives.{content_of, past_sign};
+ghost use Rattle.ud_model.specs.sections.Directives.{content_of, skip_hash_if_fresh};
 ghost use Rattle.ud_model.specs.conditions.Table.{Argument};
 ghost use Rattle.ud_model.specs.sections.Items.{Options, mode_after, next_item, rules_of};
 ghost use Rattle.ud_model.specs.sections.Faults.{FaultOf, ends_in_comment, end_fault, last_number};
 ghost use Rattle.ud_model.specs.declared.limits.TheConstants.{LINE_BYTES, OPEN_SECTIONS};
-ghost use Rattle.ud_cond.specs.Standing.{StandsFor};
+ghost use Rattle.ud_cond.specs.SymbolTable.{TableRepresents};
 ghost use Rattle.ud_text.specs.LineViews.{as_line, as_scan};
-ghost use Rattle.ud_sections.specs.Limits.{IsWithin};
+ghost use Rattle.ud_sections.specs.Limits.{IsWithinLimits};
 ghost use Rattle.ud_sections.specs.StepViews.{HoldsKeyword};
-ghost use Rattle.ud_sections.specs.Changing.{changed, last_of};
+ghost use Rattle.ud_sections.specs.StackOps.{applied, innermost_of};
 ghost use Rattle.ud_model.specs.sections.Pruning.{is_removed};
-ghost use Rattle.ud_sections.specs.Judging.{is_push};
+ghost use Rattle.ud_sections.specs.Checking.{opens_section};
 
+use crate::check::{LineContext, check_line};
+use crate::classify_line::classify;
 use crate::fault::SectionFault;
-use crate::finding::sign_on;
-use crate::judging::{Before, judge};
-use crate::level::{Change, Level, Place};
-use crate::seeing::see;
+use crate::open_section::{Enclosing, OpenSection, StackOp};
+use crate::parse_directive::after_hash;
 use crate::step::{Span, Step};
 use arrayvec::ArrayVec;
 use ud_cond::Symbols;
@@ -34,11 +34,11 @@ use ud_text::{Line, Scan};
 
 /// What becomes of a line, and what it does to the open sections.
 #[derive(Clone, Copy)]
-struct Turn {
+struct Transition {
     /// What becomes of it.
     step: Step,
     /// What it does to the open sections.
-    change: Change,
+    change: StackOp,
 }
 
 /// Decides the lines of a text in order: whether each is kept, removed, or kept as another directive.
@@ -47,41 +47,41 @@ pub struct Machine {
     /// How the words have lines read.
     settings: Settings,
     /// What is kept of the open sections, the outermost first.
-    open_sections: ArrayVec<Level, OPEN_SECTIONS>,
+    open_sections: ArrayVec<OpenSection, OPEN_SECTIONS>,
     /// The last line is removed.
     removed: bool,
     /// The number of the last line; 0 if none is read.
     last: u32,
     /// What was refused, for good.
-    refused: Option<SectionFault>,
+    fault: Option<SectionFault>,
 }
 
 impl Machine {
-    ghost use Rattle.ud_sections.specs.Sections.{HasRead, ComesNext, ReadsLine, AreText, ReadsText, refusal, refused_with, fault_of, end_told};
-    ghost use Rattle.ud_sections.specs.Turning.{before_in, turned, text_verdict};
-    ghost use Rattle.ud_sections.specs.Acting.{kept_at, text_action};
-    ghost use Rattle.ud_sections.specs.Seeing.{seen_on};
-    ghost use Rattle.ud_sections.specs.Ending.{end_in};
+    ghost use Rattle.ud_sections.specs.MachineState.{MachineRepresents, ComesNext, StepsLine, AreTextLines, StepsText, machine_fault, machine_with_fault, fault_of, end_fault_of};
+    ghost use Rattle.ud_sections.specs.Transitions.{context_of, transition_of, text_verdict};
+    ghost use Rattle.ud_sections.specs.Actions.{kept_at, text_action};
+    ghost use Rattle.ud_sections.specs.ClassifiedLines.{classified};
+    ghost use Rattle.ud_sections.specs.EndFaults.{end_in};
 
     /// Has read no line.
     pub fn new(settings: Settings) -> Machine
-        ensures stands { (o : Options) → o.settings ≡ settings → HasRead result o [] (closed nothing) }
-        ensures unrefused { refusal result ≡ None }
+        ensures represents { (o : Options) → o.settings ≡ settings → MachineRepresents result o [] (closed nothing) }
+        ensures no_fault { machine_fault result ≡ None }
     {
         Machine {
             settings,
             open_sections: ArrayVec::new(),
             removed: false,
             last: 0,
-            refused: None,
+            fault: None,
         }
     }
 
     /// The mode in which the next line is to be read.
     pub fn mode(&self) -> Mode
-        ensures { (o : Options) → (xs : List (Item Reading)) → (t : Tree Reading) → HasRead self.now o xs t → result ≡ mode_after o t }
+        ensures { (o : Options) → (xs : List (Item Reading)) → (t : Tree Reading) → MachineRepresents self.now o xs t → result ≡ mode_after o t }
     {
-        if self.place().is_plain() {
+        if self.enclosing().is_plain() {
             Mode::Plain
         } else {
             Mode::C
@@ -90,7 +90,7 @@ impl Machine {
 
     /// How many sections are open; at most `OPEN_SECTIONS`.
     pub fn depth(&self) -> usize
-        ensures value { (o : Options) → (xs : List (Item Reading)) → (t : Tree Reading) → HasRead self.now o xs t → result ≡ depth t }
+        ensures value { (o : Options) → (xs : List (Item Reading)) → (t : Tree Reading) → MachineRepresents self.now o xs t → result ≡ depth t }
         ensures bound { result ≤ OPEN_SECTIONS }
     {
         self.open_sections.len()
@@ -101,7 +101,7 @@ impl Machine {
         ensures value { result ≡ text_verdict self.now }
         ensures fits { array_vec_len self.now.open_sections ≤ OPEN_SECTIONS }
     {
-        self.place().text_action().verdict
+        self.enclosing().text_action().verdict
     }
 
     /// Reads the next line, and tells what becomes of it. Lines that follow never count.
@@ -121,38 +121,38 @@ impl Machine {
         symbols: &Symbols,
     ) -> Result<Step, SectionFault>
         requires fits { length scan.now.masked.now ≤ length line.now.body.now }
-        requires within { IsWithin (as_line line.now) }
-        ensures stands { (o : Options) → (xs : List (Item Reading)) → (t : Tree Reading) → HasRead self.old o xs t →
+        requires within { IsWithinLimits (as_line line.now) }
+        ensures represents { (o : Options) → (xs : List (Item Reading)) → (t : Tree Reading) → MachineRepresents self.old o xs t →
             ComesNext o xs t (as_scan scan.now) (as_line line.now) symbols.now →
-            IfOk result (ReadsLine self.new o xs t (as_line line.now)) }
-        ensures refuses { (o : Options) → (xs : List (Item Reading)) → (t : Tree Reading) → HasRead self.old o xs t →
-            ComesNext o xs t (as_scan scan.now) (as_line line.now) symbols.now → refusal self.old ≡ None →
+            IfOk result (StepsLine self.new o xs t (as_line line.now)) }
+        ensures finds_fault { (o : Options) → (xs : List (Item Reading)) → (t : Tree Reading) → MachineRepresents self.old o xs t →
+            ComesNext o xs t (as_scan scan.now) (as_line line.now) symbols.now → machine_fault self.old ≡ None →
             IfErr result (λ f. FaultOf xs (next_item o xs t (as_line line.now)) (fault_of f)) }
         ensures place { IfOk result (λ step. HoldsKeyword step line.now) }
-        ensures unrefused { OnOk result ((refusal self.old ≡ None) × (refusal self.new ≡ None)) }
-        ensures refusal { IfErr result (λ f. self.new ≡ refused_with self.old f) }
-        ensures still { OnErr result ((o : Options) → (xs : List (Item Reading)) → (t : Tree Reading) →
-            HasRead self.old o xs t → HasRead self.new o xs t) }
-        ensures again { (f : SectionFault) → refusal self.old ≡ Some f → result ≡ Err f }
+        ensures no_fault { OnOk result ((machine_fault self.old ≡ None) × (machine_fault self.new ≡ None)) }
+        ensures records_fault { IfErr result (λ f. self.new ≡ machine_with_fault self.old f) }
+        ensures unchanged { OnErr result ((o : Options) → (xs : List (Item Reading)) → (t : Tree Reading) →
+            MachineRepresents self.old o xs t → MachineRepresents self.new o xs t) }
+        ensures fused { (f : SectionFault) → machine_fault self.old ≡ Some f → result ≡ Err f }
     {
-        if let Some(fault) = self.refused {
+        if let Some(fault) = self.fault {
             return Err(fault);
         }
-        let Some(behind) = sign_on(scan) else {
+        let Some(behind) = after_hash(scan) else {
             return Ok(Step {
-                verdict: self.read_text(line.number),
+                verdict: self.note_text(line.number),
                 keyword: Span { at: 0, len: 0 },
             });
         };
-        match self.turn(scan, behind, line.number, symbols) {
+        match self.transition(scan, behind, line.number, symbols) {
             Ok(turn) => {
-                change(&mut self.open_sections, turn.change);
+                apply(&mut self.open_sections, turn.change);
                 self.removed = turn.step.verdict.is_removed();
                 self.last = line.number;
                 Ok(turn.step)
             }
             Err(fault) => {
-                self.refused = Some(fault);
+                self.fault = Some(fault);
                 Err(fault)
             }
         }
@@ -163,29 +163,29 @@ impl Machine {
     /// # Errors
     /// What `step` refused, again; else the text ends in a block comment, or else in a section.
     pub fn finish(&self, in_comment: bool) -> Result<(), SectionFault>
-        ensures value { (o : Options) → (xs : List (Item Reading)) → (t : Tree Reading) → HasRead self.now o xs t →
-            refusal self.now ≡ None → in_comment ≡ ends_in_comment xs → end_told result ≡ end_fault xs t }
-        ensures again { (f : SectionFault) → refusal self.now ≡ Some f → result ≡ Err f }
+        ensures value { (o : Options) → (xs : List (Item Reading)) → (t : Tree Reading) → MachineRepresents self.now o xs t →
+            machine_fault self.now ≡ None → in_comment ≡ ends_in_comment xs → end_fault_of result ≡ end_fault xs t }
+        ensures fused { (f : SectionFault) → machine_fault self.now ≡ Some f → result ≡ Err f }
     {
-        if let Some(fault) = self.refused {
+        if let Some(fault) = self.fault {
             return Err(fault);
         }
-        self.end(in_comment)
+        self.end_fault(in_comment)
     }
 
     /// Reads all lines up to the one with this number, which are text, one at least, and tells the verdict of them all.
-    pub fn text(&mut self, last: u32) -> Verdict
-        ensures value { (o : Options) → (xs : List (Item Reading)) → (t : Tree Reading) → HasRead self.old o xs t →
-            (r : Reading) → (rs : List Reading) → AreText o (mode_after o t) xs (r ∷ rs) → last ≡ last_number (xs ++ map text_line (r ∷ rs)) →
-            ReadsText self.new o xs t (r ∷ rs) result }
+    pub fn step_text(&mut self, last: u32) -> Verdict
+        ensures value { (o : Options) → (xs : List (Item Reading)) → (t : Tree Reading) → MachineRepresents self.old o xs t →
+            (r : Reading) → (rs : List Reading) → AreTextLines o (mode_after o t) xs (r ∷ rs) → last ≡ last_number (xs ++ map text_line (r ∷ rs)) →
+            StepsText self.new o xs t (r ∷ rs) result }
         ensures verdict { result ≡ text_verdict self.old }
-        ensures refusal { refusal self.new ≡ refusal self.old }
+        ensures records_fault { machine_fault self.new ≡ machine_fault self.old }
     {
-        self.read_text(last)
+        self.note_text(last)
     }
 
     /// Reads text lines, the last of which has this number, and tells their verdict.
-    fn read_text(&mut self, last: u32) -> Verdict
+    fn note_text(&mut self, last: u32) -> Verdict
         ensures value { result ≡ text_verdict self.old }
         ensures rest { self.new ≡ record self.old { removed = is_removed result; last = last } }
         ensures fits { array_vec_len self.old.open_sections ≤ OPEN_SECTIONS }
@@ -197,11 +197,11 @@ impl Machine {
     }
 
     /// Where the next line stands.
-    fn place(&self) -> Place
-        ensures place { result ≡ record { section = last_of self.now.open_sections.items; plain = self.now.settings.plain } }
+    fn enclosing(&self) -> Enclosing
+        ensures place { result ≡ record { section = innermost_of self.now.open_sections.items; plain = self.now.settings.plain } }
         ensures fits { array_vec_len self.now.open_sections ≤ OPEN_SECTIONS }
     {
-        Place {
+        Enclosing {
             section: self.open_sections.as_slice().last().copied(),
             plain: self.settings.plain,
         }
@@ -209,49 +209,49 @@ impl Machine {
 
     /// What becomes of the next line, of which this follows the `#`, and what it does to the open sections.
     #[inline(always)]
-    fn turn<'a>(
+    fn transition<'a>(
         &self,
         scan: &Scan<'a>,
         behind: &'a [u8],
         number: u32,
         symbols: &Symbols,
-    ) -> Result<Turn, SectionFault>
+    ) -> Result<Transition, SectionFault>
         requires fits { length scan.now.masked.now ≤ LINE_BYTES }
-        requires behind { past_sign scan.now.masked.now ≡ Some behind.now }
-        ensures value { (calls : List Argument) → StandsFor symbols.now calls →
-            result ≡ turned (before_in self.now) number (seen_on (as_scan scan.now) calls (rules_of self.now.settings) (content_of (as_scan scan.now))) }
+        requires after_hash { skip_hash_if_fresh scan.now.masked.now ≡ Some behind.now }
+        ensures value { (calls : List Argument) → TableRepresents symbols.now calls →
+            result ≡ transition_of (context_of self.now) number (classified (as_scan scan.now) calls (rules_of self.now.settings) (content_of (as_scan scan.now))) }
         ensures place { IfOk result (λ turn. turn.step.keyword.at + turn.step.keyword.len ≤ length scan.now.masked.now) }
         ensures fits { array_vec_len self.now.open_sections ≤ OPEN_SECTIONS }
-        ensures room { IfOk result (λ turn. IsTrue (is_push turn.change) → array_vec_len self.now.open_sections < OPEN_SECTIONS) }
+        ensures has_space { IfOk result (λ turn. IsTrue (opens_section turn.change) → array_vec_len self.now.open_sections < OPEN_SECTIONS) }
     {
-        let before = Before {
-            place: self.place(),
+        let before = LineContext {
+            enclosing: self.enclosing(),
             depth: self.open_sections.len(),
             removed: self.removed,
         };
-        let Ok(seen) = see(scan, behind, symbols, self.settings) else {
+        let Ok(seen) = classify(scan, behind, symbols, self.settings) else {
             return Err(SectionFault::Obfuscated { line: number });
         };
-        let action = judge(before, seen, number)?;
+        let action = check_line(before, seen, number)?;
         let step = Step {
             verdict: action.verdict,
             keyword: seen.keyword,
         };
-        Ok(Turn {
+        Ok(Transition {
             step,
             change: action.change,
         })
     }
 
     /// What the end of the text says to the open sections.
-    fn end(&self, in_comment: bool) -> Result<(), SectionFault>
-        ensures { result ≡ end_in in_comment self.now.last (last_of self.now.open_sections.items) }
+    fn end_fault(&self, in_comment: bool) -> Result<(), SectionFault>
+        ensures { result ≡ end_in in_comment self.now.last (innermost_of self.now.open_sections.items) }
     {
         let line = self.last;
         if in_comment {
             return Err(SectionFault::EofInComment { line });
         }
-        match self.place().section {
+        match self.enclosing().section {
             Some(level) => Err(SectionFault::PrematureEof {
                 line,
                 if_line: level.if_line,
@@ -263,19 +263,19 @@ impl Machine {
 
 /// Does to the open sections what a line does.
 #[inline(always)]
-fn change(open_sections: &mut ArrayVec<Level, OPEN_SECTIONS>, change: Change)
+fn apply(open_sections: &mut ArrayVec<OpenSection, OPEN_SECTIONS>, change: StackOp)
     requires fits { array_vec_len open_sections.old ≤ OPEN_SECTIONS }
-    requires room { IsTrue (is_push change) → array_vec_len open_sections.old < OPEN_SECTIONS }
-    ensures { open_sections.new.items ≡ changed change open_sections.old.items }
+    requires has_space { IsTrue (opens_section change) → array_vec_len open_sections.old < OPEN_SECTIONS }
+    ensures { open_sections.new.items ≡ applied change open_sections.old.items }
 {
     match change {
-        Change::Stay => {}
-        Change::Push(level) => open_sections.push(level),
-        Change::Replace(level) => {
+        StackOp::Stay => {}
+        StackOp::Push(level) => open_sections.push(level),
+        StackOp::Replace(level) => {
             let _ = open_sections.pop();
             open_sections.push(level);
         }
-        Change::Pop => {
+        StackOp::Pop => {
             let _ = open_sections.pop();
         }
     }

@@ -3,7 +3,7 @@
 ghost use Rattle.std.specs.Prelude.{◌≡◌, ◌≤◌, bytes_eq};
 ghost use Rattle.std.specs.List.{flat_map};
 ghost use Rattle.ud_model.specs.text.Lines.{text_of};
-ghost use Rattle.ud_model.specs.answer.Printing.{if_word};
+ghost use Rattle.ud_model.specs.answer.Printing.{opener_keyword};
 ghost use Rattle.ud_text.specs.LineViews.{as_line};
 
 use crate::step::Step;
@@ -24,8 +24,8 @@ pub struct Pieces<'a> {
 
 /// What stands in place of a keyword of this length in a directive that becomes the first one of its section: `ifdef` for
 /// `elifdef`, `ifndef` for `elifndef`, else `if`, each with two spaces for the bytes that are lost.
-fn if_word<'a>(len: usize) -> &'a [u8]
-    ensures { result.now ≡ if_word len }
+fn opener_keyword<'a>(len: usize) -> &'a [u8]
+    ensures { result.now ≡ opener_keyword len }
 {
     match len {
         7 => b"ifdef  ",
@@ -38,18 +38,18 @@ impl<'a> Pieces<'a> {
     ghost use Rattle.std.specs.Prelude.{◌+◌, ◌++◌, length, take, if◌then◌else◌};
     ghost use Rattle.ud_model.specs.answer.Printing.{piece_by};
     ghost use Rattle.ud_model.specs.sections.Pruning.{is_removed};
-    ghost use Rattle.ud_sections.specs.Joining.{joined, count_of, is_same};
+    ghost use Rattle.ud_sections.specs.PieceParts.{concatenated, count_of, is_unchanged};
     ghost use Rattle.ud_sections.specs.StepViews.{as_span, HoldsKeyword};
 
     /// The first `count` of these parts, printed in place of a line.
     #[inline(always)]
     fn new(slices: [&'a [u8]; 5], count: usize, line: &Line<'_>) -> Pieces<'a>
         requires few { count ≤ 5 }
-        ensures parts { joined result ≡ flat_map (λ s. s.now) (take count slices.entry) }
+        ensures parts { concatenated result ≡ flat_map (λ s. s.now) (take count slices.entry) }
         ensures count { count_of result ≡ count }
-        ensures same { is_same result ≡ bytes_eq (joined result) (text_of (as_line line.now)) }
+        ensures is_unchanged { is_unchanged result ≡ bytes_eq (concatenated result) (text_of (as_line line.now)) }
     {
-        let same = is_joined(&slices[..count], line);
+        let same = equals_line(&slices[..count], line);
         Pieces {
             slices,
             count,
@@ -60,9 +60,9 @@ impl<'a> Pieces<'a> {
     /// A line as it is.
     #[inline(always)]
     fn whole(line: &Line<'a>) -> Pieces<'a>
-        ensures parts { joined result ≡ text_of (as_line line.now) }
+        ensures parts { concatenated result ≡ text_of (as_line line.now) }
         ensures count { count_of result ≡ 2 }
-        ensures same { is_same result ≡ bytes_eq (joined result) (text_of (as_line line.now)) }
+        ensures is_unchanged { is_unchanged result ≡ bytes_eq (concatenated result) (text_of (as_line line.now)) }
     {
         Pieces {
             slices: [line.body, line.ending, &[], &[], &[]],
@@ -73,11 +73,11 @@ impl<'a> Pieces<'a> {
 
     /// What a line's step leaves of it by itself, with `blank` in place of a line that is removed.
     #[inline(always)]
-    pub(crate) fn alone(line: &Line<'a>, step: Step, blank: &'a [u8]) -> Pieces<'a>
+    pub(crate) fn for_line(line: &Line<'a>, step: Step, blank: &'a [u8]) -> Pieces<'a>
         requires keyword { HoldsKeyword step line.now }
-        ensures parts { joined result ≡ (if is_removed step.verdict then blank.now else piece_by step.verdict (as_span step.keyword) (as_line line.now)) }
+        ensures parts { concatenated result ≡ (if is_removed step.verdict then blank.now else piece_by step.verdict (as_span step.keyword) (as_line line.now)) }
         ensures count { count_of result ≤ 4 }
-        ensures same { is_same result ≡ bytes_eq (joined result) (text_of (as_line line.now)) }
+        ensures is_unchanged { is_unchanged result ≡ bytes_eq (concatenated result) (text_of (as_line line.now)) }
     {
         match step.verdict {
             Verdict::Keep => Pieces::whole(line),
@@ -85,7 +85,7 @@ impl<'a> Pieces<'a> {
             Verdict::ToIf => {
                 let before = &line.body[..step.keyword.at];
                 let behind = &line.body[step.keyword.at + step.keyword.len..];
-                let word = if_word(step.keyword.len);
+                let word = opener_keyword(step.keyword.len);
                 Pieces::new([before, word, behind, line.ending, &[]], 4, line)
             }
             Verdict::ToElse => {
@@ -100,11 +100,11 @@ impl<'a> Pieces<'a> {
     }
 
     /// These parts after another one, printed in place of a line. There must be room for it.
-    pub(crate) fn behind(self, first: &'a [u8], line: &Line<'_>) -> Pieces<'a>
-        requires room { count_of self ≤ 4 }
-        ensures parts { joined result ≡ first.now ++ joined self.entry }
+    pub(crate) fn prepend(self, first: &'a [u8], line: &Line<'_>) -> Pieces<'a>
+        requires has_space { count_of self ≤ 4 }
+        ensures parts { concatenated result ≡ first.now ++ concatenated self.entry }
         ensures count { count_of result ≡ count_of self.entry + 1 }
-        ensures same { is_same result ≡ bytes_eq (joined result) (text_of (as_line line.now)) }
+        ensures is_unchanged { is_unchanged result ≡ bytes_eq (concatenated result) (text_of (as_line line.now)) }
     {
         let [a, b, c, d, _] = self.slices;
         Pieces::new([first, a, b, c, d], self.count + 1, line)
@@ -112,7 +112,7 @@ impl<'a> Pieces<'a> {
 
     /// The parts, in order; at most five. Some may be empty.
     pub fn parts(&self) -> &[&'a [u8]]
-        ensures joined { flat_map (λ s. s.now) result.now ≡ joined self.now }
+        ensures joined { flat_map (λ s. s.now) result.now ≡ concatenated self.now }
         ensures few { length result.now ≤ 5 }
     {
         &self.slices[..self.count]
@@ -120,7 +120,7 @@ impl<'a> Pieces<'a> {
 
     /// Whether the parts joined are the line itself.
     pub fn same(&self) -> bool
-        ensures { result ≡ is_same self.now }
+        ensures { result ≡ is_unchanged self.now }
     {
         self.same
     }
@@ -128,7 +128,7 @@ impl<'a> Pieces<'a> {
 
 /// Whether these parts joined are a line with its ending.
 #[inline(always)]
-fn is_joined(parts: &[&[u8]], line: &Line<'_>) -> bool
+fn equals_line(parts: &[&[u8]], line: &Line<'_>) -> bool
     ensures { result ≡ bytes_eq (flat_map (λ p. p.now) parts.now) (text_of (as_line line.now)) }
 {
     let mut body = line.body;

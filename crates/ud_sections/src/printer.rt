@@ -3,7 +3,7 @@
 use crate::blank::Blank;
 use crate::complement::Complement;
 use crate::delete::Delete;
-use crate::left::Left;
+use crate::line_output::LineOutput;
 use crate::pieces::Pieces;
 use crate::renumber::Renumber;
 use crate::show::Show;
@@ -30,13 +30,13 @@ pub enum Printer {
 
 impl Printer {
     ghost use Rattle.std.specs.Prelude.{◌≡◌, [], List, ℕ};
-    ghost use Rattle.ud_model.specs.answer.Printing.{Judged, piece_behind, style_of};
-    ghost use Rattle.ud_sections.specs.Printers.{printer_stands, printer_piece};
+    ghost use Rattle.ud_model.specs.answer.Printing.{Judged, piece_after, style_of};
+    ghost use Rattle.ud_sections.specs.Printers.{printer_represents, printer_piece};
 
     /// The printer for these settings, at the beginning of a text. Where removed lines are blanked, none is numbered.
     pub fn of(settings: &Settings) -> Printer
-        ensures stands { printer_stands result [] }
-        ensures piece { (before : List Judged) → (j : Judged) → printer_piece result before j ≡ piece_behind (style_of settings.now) before j }
+        ensures represents { printer_represents result [] }
+        ensures piece { (before : List Judged) → (j : Judged) → printer_piece result before j ≡ piece_after (style_of settings.now) before j }
     {
         match (settings.complement, settings.blank, settings.renumber) {
             (false, true, _) => Printer::Blanks(Blank::new()),
@@ -50,9 +50,9 @@ impl Printer {
 }
 
 impl Show for Printer {
-    ghost use Rattle.ud_sections.specs.Printers.{printer_stands, printer_piece};
+    ghost use Rattle.ud_sections.specs.Printers.{printer_represents, printer_piece};
 
-    ghost stands = { printer_stands };
+    ghost represents = { printer_represents };
 
     ghost piece = { printer_piece };
 
@@ -69,14 +69,14 @@ impl Show for Printer {
     }
 
     #[inline(always)]
-    fn left(&self, verdict: Verdict) -> Left {
+    fn line_output(&self, verdict: Verdict) -> LineOutput {
         match self {
-            Printer::Deletes(printer) => printer.left(verdict),
-            Printer::Blanks(printer) => printer.left(verdict),
-            Printer::Renumbers(printer) => printer.left(verdict),
-            Printer::ComplementDeletes(printer) => printer.left(verdict),
-            Printer::ComplementBlanks(printer) => printer.left(verdict),
-            Printer::ComplementRenumbers(printer) => printer.left(verdict),
+            Printer::Deletes(printer) => printer.line_output(verdict),
+            Printer::Blanks(printer) => printer.line_output(verdict),
+            Printer::Renumbers(printer) => printer.line_output(verdict),
+            Printer::ComplementDeletes(printer) => printer.line_output(verdict),
+            Printer::ComplementBlanks(printer) => printer.line_output(verdict),
+            Printer::ComplementRenumbers(printer) => printer.line_output(verdict),
         }
     }
 }

@@ -4,8 +4,8 @@ ghost use Rattle.std.specs.Prelude.{◌≡◌, ◌+◌, ◌≤◌, ◌++◌, len
 ghost use Rattle.ud_model.specs.answer.Printing.{number_line};
 ghost use Rattle.ud_text.specs.LineViews.{as_line};
 
-use crate::appending::append;
-use crate::left::Left;
+use crate::append_bytes::append;
+use crate::line_output::LineOutput;
 use crate::pieces::Pieces;
 use crate::show::Show;
 use crate::step::Step;
@@ -29,11 +29,11 @@ pub struct Renumber {
 
 impl Renumber {
     ghost use Rattle.std.specs.Prelude.{[]};
-    ghost use Rattle.ud_sections.specs.Styles.{renumber_stands};
+    ghost use Rattle.ud_sections.specs.Styles.{renumber_represents};
 
     /// The printer at the beginning of a text.
     pub fn new() -> Renumber
-        ensures { renumber_stands result [] }
+        ensures { renumber_represents result [] }
     {
         Renumber {
             removed: false,
@@ -43,18 +43,18 @@ impl Renumber {
 }
 
 impl Show for Renumber {
-    ghost use Rattle.ud_model.specs.answer.Printing.{piece_behind};
-    ghost use Rattle.ud_sections.specs.Styles.{renumber_stands, renumber_style};
+    ghost use Rattle.ud_model.specs.answer.Printing.{piece_after};
+    ghost use Rattle.ud_sections.specs.Styles.{renumber_represents, renumber_style};
 
-    ghost stands = { renumber_stands };
+    ghost represents = { renumber_represents };
 
-    ghost piece = { λ r. piece_behind renumber_style };
+    ghost piece = { λ r. piece_after renumber_style };
 
     fn pieces<'a>(&'a mut self, line: &Line<'a>, step: Step) -> Pieces<'a> {
         let follows_removed = self.removed;
         let removed = step.verdict.is_removed();
         self.removed = removed;
-        let alone = Pieces::alone(line, step, &[]);
+        let alone = Pieces::for_line(line, step, &[]);
         if removed {
             return alone;
         }
@@ -62,15 +62,15 @@ impl Show for Renumber {
             return alone;
         }
         write_number_line(&mut self.number_line, line);
-        alone.behind(self.number_line.as_slice(), line)
+        alone.prepend(self.number_line.as_slice(), line)
     }
 
     #[inline(always)]
-    fn left(&self, verdict: Verdict) -> Left {
+    fn line_output(&self, verdict: Verdict) -> LineOutput {
         match verdict {
-            Verdict::Keep if !self.removed => Left::Whole,
-            Verdict::Remove if self.removed => Left::Nothing,
-            _ => Left::Parts,
+            Verdict::Keep if !self.removed => LineOutput::Whole,
+            Verdict::Remove if self.removed => LineOutput::Nothing,
+            _ => LineOutput::Parts,
         }
     }
 }

@@ -4,13 +4,13 @@ use Rattle.std.proofs.lemmas.Bool.{eqb-true, cases_lt}
 use Rattle.std.proofs.lemmas.List.{take-take, length-append}
 use Rattle.std.proofs.Math.ListN.{length-take}
 use Rattle.ud_model.specs.declared.limits.TheConstants.{LINE_BYTES}
-use Rattle.ud_model.specs.text.Lines.{NoFeed, IsWhole, Line, text_of, line_at}
+use Rattle.ud_model.specs.text.Lines.{NoNewline, IsWhole, Line, text_of, line_at}
 use Rattle.ud_model.proofs.text.LinesLemmas.{text_of-line_at}
-use Rattle.ud_text.specs.Holding.{Holding, Took, UpToFeed, IsLineOf}
-use Rattle.ud_text.specs.Borrowing.{CanLend, IsFirstLine}
-use Rattle.ud_text.proofs.FeedLemmas.{up_to_feed-once, whole_feedless, feed_at_end}
-use Rattle.ud_text.proofs.RunLemmas.{no_feed-take}
-use Rattle.ud_text.proofs.HoldingLemmas.{took_take, took_clear}
+use Rattle.ud_text.specs.LinesState.{LinesState, LinesRepresent, UpToNewline, IsLineOf}
+use Rattle.ud_text.specs.Borrowing.{CanBorrow, IsFirstLine}
+use Rattle.ud_text.proofs.NewlineLemmas.{up_to_newline-once, whole_newlineless, newline_at_end}
+use Rattle.ud_text.proofs.MaskLemmas.{no_feed-take}
+use Rattle.ud_text.proofs.LinesLemmas.{represent_take, represent_clear}
 
 -- where there is no byte, there are none
 pub none_held : (bytes : List ℕ) (empty : Bool) → empty ≡ (length bytes == 0) → not empty ≡ false → bytes ≡ []
@@ -19,32 +19,32 @@ none_held (b ∷ bytes) true e h = let k : suc (length bytes) ≡ 0 = eqb-true (
 none_held (b ∷ bytes) false e h = cc
 
 -- where the front of a piece has no line feed or is too long, each whole line in front of it is too long
-pub none_fits : (piece : List ℕ) (used other : ℕ) (whole : Bool) → UpToFeed piece used whole → (whole ≡ true → LINE_BYTES < used) →
-    UpToFeed piece other true → LINE_BYTES < other
-none_fits piece used other whole a long b =
-    let once : (whole ≡ true) × (used ≡ other) = up_to_feed-once piece used other whole true a b in
+pub none_fits : (chunk : List ℕ) (used other : ℕ) (whole : Bool) → UpToNewline chunk used whole → (whole ≡ true → LINE_BYTES < used) →
+    UpToNewline chunk other true → LINE_BYTES < other
+none_fits chunk used other whole a long b =
+    let once : (whole ≡ true) × (used ≡ other) = up_to_newline-once chunk used other whole true a b in
     subst (λ (n : ℕ). LINE_BYTES < n) once.1 (long once.0)
 
 -- where no line feed stands in so much as a line may have, each whole line in front is too long
-pub none_here : (rest : List ℕ) (size : ℕ) → size ≡ min (length rest) LINE_BYTES → NoFeed (take size rest) → (used : ℕ) → UpToFeed rest used true → LINE_BYTES < used
+pub none_here : (rest : List ℕ) (size : ℕ) → size ≡ min (length rest) LINE_BYTES → NoNewline (take size rest) → (used : ℕ) → UpToNewline rest used true → LINE_BYTES < used
 none_here rest size e none used to =
     elim (cases_lt LINE_BYTES used) [
       | inl long ↦ long
       | inr short ↦
-          let line : (front : List ℕ) × NoFeed front × (take used rest ≡ front ++ 10 ∷ []) = to.line refl in
-          absurd (feed_at_end line.0 (subst NoFeed (take-take used size rest (omega (arith, e, to.within)) ∙ line.2) (no_feed-take used (take size rest) none)))
+          let line : (front : List ℕ) × NoNewline front × (take used rest ≡ front ++ 10 ∷ []) = to.line refl in
+          absurd (newline_at_end line.0 (subst NoNewline (take-take used size rest (omega (arith, e, to.within)) ∙ line.2) (no_feed-take used (take size rest) none)))
     ]
 
 -- no line stands in front of nothing
-pub none_after : (rest : List ℕ) → length rest ≡ 0 → (used : ℕ) → UpToFeed rest used true → LINE_BYTES < used
+pub none_after : (rest : List ℕ) → length rest ≡ 0 → (used : ℕ) → UpToNewline rest used true → LINE_BYTES < used
 none_after rest e used to =
-    let line : (front : List ℕ) × NoFeed front × (take used rest ≡ front ++ 10 ∷ []) = to.line refl in
+    let line : (front : List ℕ) × NoNewline front × (take used rest ≡ front ++ 10 ∷ []) = to.line refl in
     absurd (omega (arith, e, ap length line.2, length-append line.0 (10 ∷ []), length-take used rest))
 
 -- the first line of a piece is whole
-first_whole : (piece line : List ℕ) → IsFirstLine piece line → IsWhole line
-first_whole piece line f =
-    let to : (front : List ℕ) × NoFeed front × (take (length line) piece ≡ front ++ 10 ∷ []) = f.front.line refl in
+first_whole : (chunk line : List ℕ) → IsFirstLine chunk line → IsWhole line
+first_whole chunk line f =
+    let to : (front : List ℕ) × NoNewline front × (take (length line) chunk ≡ front ++ 10 ∷ []) = f.front.line refl in
     (to.0, to.1, f.bytes ∙ to.2)
 
 -- a body and an ending are the bytes of their line
@@ -52,28 +52,28 @@ joined_is : (body ending line : List ℕ) (n : ℕ) → IsLineOf body ending n (
 joined_is body ending line n e = ap text_of e ∙ text_of-line_at n line
 
 -- the line is that of the piece's front
-pub lent_value : (piece body ending line : List ℕ) (n : ℕ) → IsFirstLine piece line → IsLineOf body ending n (line_at n line) →
-    IsLineOf body ending n (line_at n (take (length (body ++ ending)) piece))
-lent_value piece body ending line n f e =
-    e ∙ ap (line_at n) (f.bytes ∙ ap (λ (l : List ℕ). take (length l) piece) (sym (joined_is body ending line n e)))
+pub borrowed_value : (chunk body ending line : List ℕ) (n : ℕ) → IsFirstLine chunk line → IsLineOf body ending n (line_at n line) →
+    IsLineOf body ending n (line_at n (take (length (body ++ ending)) chunk))
+borrowed_value chunk body ending line n f e =
+    e ∙ ap (line_at n) (f.bytes ∙ ap (λ (l : List ℕ). take (length l) chunk) (sym (joined_is body ending line n e)))
 
 -- its bytes are the piece's front
-pub lent_bytes : (piece body ending line : List ℕ) (n : ℕ) → IsFirstLine piece line → IsLineOf body ending n (line_at n line) →
-    body ++ ending ≡ take (length (body ++ ending)) piece
-lent_bytes piece body ending line n f e =
+pub borrowed_bytes : (chunk body ending line : List ℕ) (n : ℕ) → IsFirstLine chunk line → IsLineOf body ending n (line_at n line) →
+    body ++ ending ≡ take (length (body ++ ending)) chunk
+borrowed_bytes chunk body ending line n f e =
     let same : body ++ ending ≡ line = joined_is body ending line n e in
-    same ∙ (f.bytes ∙ ap (λ (l : List ℕ). take (length l) piece) (sym same))
+    same ∙ (f.bytes ∙ ap (λ (l : List ℕ). take (length l) chunk) (sym same))
 
 -- no line feed stands in its body
-pub lent_feedless : (piece body ending line : List ℕ) (n : ℕ) → IsFirstLine piece line → IsLineOf body ending n (line_at n line) → NoFeed body
-lent_feedless piece body ending line n f e =
-    subst NoFeed (ap (λ (l : Line). l.body) (sym e)) (whole_feedless n line (first_whole piece line f))
+pub borrowed_no_newline : (chunk body ending line : List ℕ) (n : ℕ) → IsFirstLine chunk line → IsLineOf body ending n (line_at n line) → NoNewline body
+borrowed_no_newline chunk body ending line n f e =
+    subst NoNewline (ap (λ (l : Line). l.body) (sym e)) (whole_newlineless n line (first_whole chunk line f))
 
 -- it could be lent
-pub can_lend : (lines : Holding) (piece body ending line : List ℕ) (n : ℕ) → lines.held ≡ [] → lines.refusal ≡ None → lines.before < lines.last_line →
-    IsFirstLine piece line → IsLineOf body ending n (line_at n line) → CanLend lines piece (length (body ++ ending))
-can_lend lines piece body ending line n unheld unrefused numbered f e =
-    subst (λ (l : List ℕ). CanLend lines piece (length l)) (sym (joined_is body ending line n e)) (record {
+pub can_borrow : (lines : LinesState) (chunk body ending line : List ℕ) (n : ℕ) → lines.held ≡ [] → lines.fault ≡ None → lines.before < lines.last_line →
+    IsFirstLine chunk line → IsLineOf body ending n (line_at n line) → CanBorrow lines chunk (length (body ++ ending))
+can_borrow lines chunk body ending line n unheld unrefused numbered f e =
+    subst (λ (l : List ℕ). CanBorrow lines chunk (length l)) (sym (joined_is body ending line n e)) (record {
       unheld = unheld;
       unrefused = unrefused;
       front = f.front;
@@ -82,16 +82,16 @@ can_lend lines piece body ending line n unheld unrefused numbered f e =
     })
 
 -- a line that is taken and given up leaves nothing held, as before
-given_up : (lines : Holding) (text piece : List ℕ) (used : ℕ) → lines.held ≡ [] → lines.whole ≡ false → UpToFeed piece used true → Took lines text →
-    Took (record lines { before = lines.before + 1 }) (text ++ take used piece)
-given_up lines text piece used unheld part to h =
-    subst (λ (held : List ℕ). Took (record lines { held = held; before = lines.before + 1 }) (text ++ take used piece)) (sym unheld)
-    (subst (λ (whole : Bool). Took (record lines { held = []; whole = whole; before = lines.before + 1 }) (text ++ take used piece)) (sym part)
-    (took_clear (record lines { held = lines.held ++ take used piece; whole = true }) (text ++ take used piece) refl (took_take lines text piece used true part to h)))
+consumed_line : (lines : LinesState) (text chunk : List ℕ) (used : ℕ) → lines.held ≡ [] → lines.whole ≡ false → UpToNewline chunk used true → LinesRepresent lines text →
+    LinesRepresent (record lines { before = lines.before + 1 }) (text ++ take used chunk)
+consumed_line lines text chunk used unheld part to h =
+    subst (λ (held : List ℕ). LinesRepresent (record lines { held = held; before = lines.before + 1 }) (text ++ take used chunk)) (sym unheld)
+    (subst (λ (whole : Bool). LinesRepresent (record lines { held = []; whole = whole; before = lines.before + 1 }) (text ++ take used chunk)) (sym part)
+    (represent_clear (record lines { held = lines.held ++ take used chunk; whole = true }) (text ++ take used chunk) refl (represent_take lines text chunk used true part to h)))
 
 -- with it one line more is taken and given up
-pub took_lent : (lines : Holding) (text piece body ending line : List ℕ) (n : ℕ) → lines.held ≡ [] → lines.whole ≡ false →
-    IsFirstLine piece line → IsLineOf body ending n (line_at n line) → Took lines text → Took (record lines { before = lines.before + 1 }) (text ++ (body ++ ending))
-took_lent lines text piece body ending line n unheld part f e h =
-    subst (λ (l : List ℕ). Took (record lines { before = lines.before + 1 }) (text ++ l)) (sym (f.bytes) ∙ sym (joined_is body ending line n e))
-    (given_up lines text piece (length line) unheld part f.front h)
+pub represent_borrowed : (lines : LinesState) (text chunk body ending line : List ℕ) (n : ℕ) → lines.held ≡ [] → lines.whole ≡ false →
+    IsFirstLine chunk line → IsLineOf body ending n (line_at n line) → LinesRepresent lines text → LinesRepresent (record lines { before = lines.before + 1 }) (text ++ (body ++ ending))
+represent_borrowed lines text chunk body ending line n unheld part f e h =
+    subst (λ (l : List ℕ). LinesRepresent (record lines { before = lines.before + 1 }) (text ++ l)) (sym (f.bytes) ∙ sym (joined_is body ending line n e))
+    (consumed_line lines text chunk (length line) unheld part f.front h)

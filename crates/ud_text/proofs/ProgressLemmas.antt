@@ -2,16 +2,16 @@
 use Rattle.std.proofs.Common.{◌≡◌, ℕ, ◌+◌, ◌-◌, ◌<◌, ◌≤◌, List, [], ◌∷◌, ◌++◌, length, take, drop, Bool, true, false, refl, sym, ◌∙◌, ap, subst, append_assoc, append-nil, arith, length-append}
 use Rattle.std.proofs.lemmas.List.{take-append-drop, length-take-le}
 use Rattle.ud_model.specs.text.Scanning.{is_block}
-use Rattle.ud_model.specs.aids.Places.{Place, in_text, at_slash, in_block, at_star, in_line, in_literal, at_backslash, next, whitens, place_kind}
-use Rattle.ud_text.specs.States.{next_state, State, text_state, NoFeedInBlock, state_after, Passed, IsQuiet, AtLine}
-use Rattle.ud_text.proofs.QuietLemmas.{state_after-append, IsQuiet-append, IsQuiet-feed, NoFeedInBlock-append, NoFeedInBlock-rest}
-use Rattle.ud_text.proofs.QuietLineLemmas.{passed_none, passed_quiet, Passed-append}
+use Rattle.ud_model.specs.aids.LexStates.{LexState, in_text, at_slash, in_block, at_star, in_line, in_literal, at_backslash, next_state, stays_white, kind_in_state}
+use Rattle.ud_text.specs.BulkStates.{next_bulk_state, BulkState, code_state, NoNewlineInBlock, bulk_state_after, Skipped, HasNoStop, AtLine}
+use Rattle.ud_text.proofs.QuietLemmas.{bulk_state_after-append, HasNoStop-append, HasNoStop-feed, NoNewlineInBlock-append, NoNewlineInBlock-rest}
+use Rattle.ud_text.proofs.QuietLineLemmas.{passed_none, passed_quiet, Skipped-append}
 use Rattle.ud_text.proofs.SpliceLemmas.{passed_splice}
-use Rattle.ud_text.proofs.SpanLemmas.{NoComment-append}
-use Rattle.ud_text.specs.Spans.{after_feed, at_start, LineSpan, NoComment, LastBegins, TextSpan, BeginsLine, IsSplice}
+use Rattle.ud_text.proofs.LexemeLemmas.{NoComment-append}
+use Rattle.ud_text.specs.BulkLexemes.{after_feed, at_start, LineLexeme, NoComment, LastLineStarts, CodeLexeme, IsLineStart, IsSplice}
 use Rattle.ud_text.specs.Progress.{ReadTo, ReadOutside}
 use Rattle.std.proofs.Math.Seq.{drop-append_seam, take-append_seam}
-use Rattle.ud_model.specs.text.Bytes.{line_feed}
+use Rattle.ud_model.specs.text.Bytes.{newline}
 
 drop_front : (p q : List ℕ) (n : ℕ) → n ≡ length p → drop n (p ++ q) ≡ q
 drop_front p q n e = ap (λ (k : ℕ). drop k (p ++ q)) e ∙ drop-append_seam p q
@@ -20,13 +20,13 @@ take_front : (p q : List ℕ) (n : ℕ) → n ≡ length p → take n (p ++ q) �
 take_front p q n e = ap (λ (k : ℕ). take k (p ++ q)) e ∙ take-append_seam p q
 
 -- a line begins after bytes that end with a line feed, whatever stands before them
-pub begins-append : (p q : List ℕ) → BeginsLine (q ++ line_feed ∷ []) → BeginsLine (p ++ (q ++ line_feed ∷ []))
-begins-append p q h = subst BeginsLine (append_assoc p q (line_feed ∷ [])) (after_feed (p ++ q))
+pub begins-append : (p q : List ℕ) → IsLineStart (q ++ newline ∷ []) → IsLineStart (p ++ (q ++ newline ∷ []))
+begins-append p q h = subst IsLineStart (append_assoc p q (newline ∷ [])) (after_feed (p ++ q))
 
-feed_open : (s : State) → is_block (place_kind s.place) ≡ false → next_state s line_feed ≡ text_state true
-feed_open s e = by_place s.place e
+feed_open : (s : BulkState) → is_block (kind_in_state s.state) ≡ false → next_bulk_state s newline ≡ code_state true
+feed_open s e = by_place s.state e
   where
-    by_place : (w : Place) → is_block (place_kind w) ≡ false → ◌≡◌ {A = State} (record { place = next w line_feed; white = whitens w s.white line_feed; spliced = false }) (text_state true)
+    by_place : (w : LexState) → is_block (kind_in_state w) ≡ false → ◌≡◌ {A = BulkState} (record { state = next_state w newline; white = stays_white w s.white newline; spliced = false }) (code_state true)
     by_place in_text e = refl
     by_place at_slash e = refl
     by_place in_block e = cc
@@ -35,7 +35,7 @@ feed_open s e = by_place s.place e
     by_place (in_literal q) e = refl
     by_place (at_backslash q) e = refl
 
-module _ {start : State} {bytes : List ℕ} {line : ℕ} {kept : State} {at : ℕ} {now : State}
+module _ {start : BulkState} {bytes : List ℕ} {line : ℕ} {kept : BulkState} {at : ℕ} {now : BulkState}
     (r : ReadTo start bytes line kept at now) where
   -- the bytes from the place on
   pub rest_of : drop at bytes ≡ r.rest
@@ -48,13 +48,13 @@ module _ {start : State} {bytes : List ℕ} {line : ℕ} {kept : State} {at : �
       ∙ take_front r.mid r.rest (at - line) (let e : at ≡ length r.front + length r.mid = r.at_is in let f : line ≡ length r.front = r.line_is in omega arith)
 
   -- the lines before that beginning are passed
-  pub passed_of : Passed start (take line bytes) kept
-  passed_of = subst (λ (l : List ℕ). Passed start l kept)
+  pub passed_of : Skipped start (take line bytes) kept
+  passed_of = subst (λ (l : List ℕ). Skipped start l kept)
       (sym (ap (λ (l : List ℕ). take line l) r.is ∙ take_front r.front (r.mid ++ r.rest) line r.line_is)) r.passed
 
   -- further bytes are read
-  pub read_on : (k : ℕ) (run : List ℕ) → run ≡ take k (drop at bytes) → k ≤ length (drop at bytes) → IsQuiet now run → NoFeedInBlock now run →
-      (v : State) → state_after now run ≡ v → ReadTo start bytes line kept (at + k) v
+  pub read_on : (k : ℕ) (run : List ℕ) → run ≡ take k (drop at bytes) → k ≤ length (drop at bytes) → HasNoStop now run → NoNewlineInBlock now run →
+      (v : BulkState) → bulk_state_after now run ≡ v → ReadTo start bytes line kept (at + k) v
   unfolding rest_of
   read_on k run e h q l v there = record {
     front = r.front;
@@ -68,50 +68,50 @@ module _ {start : State} {bytes : List ℕ} {line : ℕ} {kept : State} {at : �
         let g : length run ≡ k = ap length e ∙ length-take-le k (drop at bytes) h in
         omega (arith, length-append r.mid run));
     passed = r.passed;
-    quiet = IsQuiet-append kept r.mid run r.quiet (subst (λ (s : State). IsQuiet s run) (sym r.leads) q);
-    no_feed = NoFeedInBlock-append kept r.mid run r.no_feed (subst (λ (s : State). NoFeedInBlock s run) (sym r.leads) l);
-    leads = state_after-append kept r.mid run ∙ ap (λ (s : State). state_after s run) r.leads ∙ there;
+    quiet = HasNoStop-append kept r.mid run r.quiet (subst (λ (s : BulkState). HasNoStop s run) (sym r.leads) q);
+    no_feed = NoNewlineInBlock-append kept r.mid run r.no_feed (subst (λ (s : BulkState). NoNewlineInBlock s run) (sym r.leads) l);
+    leads = bulk_state_after-append kept r.mid run ∙ ap (λ (s : BulkState). bulk_state_after s run) r.leads ∙ there;
   }
 
   -- the same, said from the beginning of a later line
-  settled_at : (n : ℕ) (m : List ℕ) → BeginsLine m → m ≡ take n r.mid → n ≤ length r.mid → 0 < n → ReadTo start bytes (line + n) (text_state true) at now
+  settled_at : (n : ℕ) (m : List ℕ) → IsLineStart m → m ≡ take n r.mid → n ≤ length r.mid → 0 < n → ReadTo start bytes (line + n) (code_state true) at now
   settled_at n _ at_start e h k = absurd (let f : 0 ≡ n = ap length e ∙ length-take-le n r.mid h in omega arith)
   settled_at n _ (after_feed x) e h k =
       let y : List ℕ = drop n r.mid in
-      let split : r.mid ≡ (x ++ line_feed ∷ []) ++ y = sym (take-append-drop n r.mid) ∙ ap (λ (l : List ℕ). l ++ drop n r.mid) (sym e) in
-      let whole : r.mid ≡ x ++ line_feed ∷ y = split ∙ append_assoc x (line_feed ∷ []) y in
-      let parts : IsQuiet kept (x ++ line_feed ∷ []) × IsQuiet (state_after kept (x ++ line_feed ∷ [])) y = IsQuiet-feed kept x y (subst (λ (l : List ℕ). IsQuiet kept l) whole r.quiet) in
-      let kept_on : NoFeedInBlock (state_after kept x) (line_feed ∷ y) = NoFeedInBlock-rest kept x (line_feed ∷ y) (subst (λ (l : List ℕ). NoFeedInBlock kept l) whole r.no_feed) in
-      let there : state_after kept (x ++ line_feed ∷ []) ≡ text_state true = state_after-append kept x (line_feed ∷ []) ∙ feed_open (state_after kept x) kept_on.0 in
+      let split : r.mid ≡ (x ++ newline ∷ []) ++ y = sym (take-append-drop n r.mid) ∙ ap (λ (l : List ℕ). l ++ drop n r.mid) (sym e) in
+      let whole : r.mid ≡ x ++ newline ∷ y = split ∙ append_assoc x (newline ∷ []) y in
+      let parts : HasNoStop kept (x ++ newline ∷ []) × HasNoStop (bulk_state_after kept (x ++ newline ∷ [])) y = HasNoStop-feed kept x y (subst (λ (l : List ℕ). HasNoStop kept l) whole r.quiet) in
+      let kept_on : NoNewlineInBlock (bulk_state_after kept x) (newline ∷ y) = NoNewlineInBlock-rest kept x (newline ∷ y) (subst (λ (l : List ℕ). NoNewlineInBlock kept l) whole r.no_feed) in
+      let there : bulk_state_after kept (x ++ newline ∷ []) ≡ code_state true = bulk_state_after-append kept x (newline ∷ []) ∙ feed_open (bulk_state_after kept x) kept_on.0 in
       record {
-        front = r.front ++ (x ++ line_feed ∷ []);
+        front = r.front ++ (x ++ newline ∷ []);
         mid = y;
         rest = r.rest;
-        is = r.is ∙ ap (λ (l : List ℕ). r.front ++ (l ++ r.rest)) split ∙ ap (λ (l : List ℕ). r.front ++ l) (append_assoc (x ++ line_feed ∷ []) y r.rest)
-            ∙ sym (append_assoc r.front (x ++ line_feed ∷ []) (y ++ r.rest));
+        is = r.is ∙ ap (λ (l : List ℕ). r.front ++ (l ++ r.rest)) split ∙ ap (λ (l : List ℕ). r.front ++ l) (append_assoc (x ++ newline ∷ []) y r.rest)
+            ∙ sym (append_assoc r.front (x ++ newline ∷ []) (y ++ r.rest));
         line_is = (let f : line ≡ length r.front = r.line_is in
-            let g : length (x ++ line_feed ∷ []) ≡ n = ap length e ∙ length-take-le n r.mid h in
-            omega (arith, length-append r.front (x ++ line_feed ∷ [])));
+            let g : length (x ++ newline ∷ []) ≡ n = ap length e ∙ length-take-le n r.mid h in
+            omega (arith, length-append r.front (x ++ newline ∷ [])));
         at_is = (let f : at ≡ length r.front + length r.mid = r.at_is in
-            let g : length r.mid ≡ length (x ++ line_feed ∷ []) + length y = ap length split ∙ length-append (x ++ line_feed ∷ []) y in
-            omega (arith, length-append r.front (x ++ line_feed ∷ [])));
-        passed = Passed-append r.front (x ++ line_feed ∷ []) r.passed
-            (subst (λ (s : State). Passed kept (x ++ line_feed ∷ []) s) there (passed_quiet kept (x ++ line_feed ∷ []) r.passed.at_line (after_feed x) parts.0));
-        quiet = subst (λ (t : State). IsQuiet t y) there parts.1;
-        no_feed = subst (λ (t : State). NoFeedInBlock t y) (sym (state_after-append kept x (line_feed ∷ [])) ∙ there) kept_on.1;
-        leads = ap (λ (t : State). state_after t y) (sym there) ∙ sym (state_after-append kept (x ++ line_feed ∷ []) y) ∙ ap (λ (l : List ℕ). state_after kept l) (sym split) ∙ r.leads;
+            let g : length r.mid ≡ length (x ++ newline ∷ []) + length y = ap length split ∙ length-append (x ++ newline ∷ []) y in
+            omega (arith, length-append r.front (x ++ newline ∷ [])));
+        passed = Skipped-append r.front (x ++ newline ∷ []) r.passed
+            (subst (λ (s : BulkState). Skipped kept (x ++ newline ∷ []) s) there (passed_quiet kept (x ++ newline ∷ []) r.passed.at_line (after_feed x) parts.0));
+        quiet = subst (λ (t : BulkState). HasNoStop t y) there parts.1;
+        no_feed = subst (λ (t : BulkState). NoNewlineInBlock t y) (sym (bulk_state_after-append kept x (newline ∷ [])) ∙ there) kept_on.1;
+        leads = ap (λ (t : BulkState). bulk_state_after t y) (sym there) ∙ sym (bulk_state_after-append kept (x ++ newline ∷ []) y) ∙ ap (λ (l : List ℕ). bulk_state_after kept l) (sym split) ∙ r.leads;
       }
 
   -- and from the beginning of the last line
-  pub settled : (n : ℕ) → LastBegins (take (at - line) (drop line bytes)) n → 0 < n → ReadTo start bytes (line + n) (text_state true) at now
+  pub settled : (n : ℕ) → LastLineStarts (take (at - line) (drop line bytes)) n → 0 < n → ReadTo start bytes (line + n) (code_state true) at now
   unfolding mid_of
   settled n h k =
-      let l : LastBegins r.mid n = subst (λ (x : List ℕ). LastBegins x n) mid_of h in
+      let l : LastLineStarts r.mid n = subst (λ (x : List ℕ). LastLineStarts x n) mid_of h in
       settled_at n (take n r.mid) l.begins refl l.within k
 
   -- a splice on a logical line that isn't white ends a line
-  pub read_splice : now ≡ text_state false → (k : ℕ) → k ≤ length (drop at bytes) → IsSplice (take k (drop at bytes)) →
-      ReadTo start bytes (at + k) (text_state false) (at + k) (text_state false)
+  pub read_splice : now ≡ code_state false → (k : ℕ) → k ≤ length (drop at bytes) → IsSplice (take k (drop at bytes)) →
+      ReadTo start bytes (at + k) (code_state false) (at + k) (code_state false)
   unfolding rest_of
   read_splice e k h s =
       let splice : List ℕ = take k (drop at bytes) in
@@ -129,7 +129,7 @@ module _ {start : State} {bytes : List ℕ} {line : ℕ} {kept : State} {at : �
             ∙ sym (append_assoc r.front (r.mid ++ take k (drop at bytes)) (drop k (drop at bytes)));
         line_is = ends;
         at_is = omega (arith, ends);
-        passed = Passed-append r.front (r.mid ++ take k (drop at bytes)) r.passed
+        passed = Skipped-append r.front (r.mid ++ take k (drop at bytes)) r.passed
             (passed_splice kept r.mid (take k (drop at bytes)) r.passed.at_line r.quiet (r.leads ∙ e) s);
         quiet = tt;
         no_feed = tt;
@@ -137,7 +137,7 @@ module _ {start : State} {bytes : List ℕ} {line : ℕ} {kept : State} {at : �
       }
 
 -- nothing is read yet
-pub read_none : (start : State) (bytes : List ℕ) → AtLine start → ReadTo start bytes 0 start 0 start
+pub read_none : (start : BulkState) (bytes : List ℕ) → AtLine start → ReadTo start bytes 0 start 0 start
 read_none start bytes at = record {
   front = [];
   mid = [];
@@ -152,11 +152,11 @@ read_none start bytes at = record {
 }
 
 -- nothing is read yet, outside comments
-pub read_start : (bytes : List ℕ) (white : Bool) → ReadOutside (text_state white) bytes 0 (text_state white) 0 white 0
+pub read_start : (bytes : List ℕ) (white : Bool) → ReadOutside (code_state white) bytes 0 (code_state white) 0 white 0
 unfolding read_none
 read_start bytes white = record {
   now_white = white;
-  so_far = read_none (text_state white) bytes (record { is = refl; starts = refl });
+  so_far = read_none (code_state white) bytes (record { is = refl; starts = refl });
   before = [];
   plain = [];
   mid_is = refl;
@@ -166,8 +166,8 @@ read_start bytes white = record {
 }
 
 -- the place itself is a base
-pub read_base : {start : State} {bytes : List ℕ} {line : ℕ} {kept : State} {at : ℕ} (begins : Bool) →
-    ReadTo start bytes line kept at (text_state begins) → ReadOutside start bytes line kept at begins at
+pub read_base : {start : BulkState} {bytes : List ℕ} {line : ℕ} {kept : BulkState} {at : ℕ} (begins : Bool) →
+    ReadTo start bytes line kept at (code_state begins) → ReadOutside start bytes line kept at begins at
 read_base begins r = record {
   now_white = begins;
   so_far = r;
@@ -179,12 +179,12 @@ read_base begins r = record {
   no_comment = tt;
 }
 
-module _ {start : State} {bytes : List ℕ} {line : ℕ} {kept : State} {base : ℕ} {begins : Bool} {at : ℕ}
+module _ {start : BulkState} {bytes : List ℕ} {line : ℕ} {kept : BulkState} {base : ℕ} {begins : Bool} {at : ℕ}
     (r : ReadOutside start bytes line kept base begins at) where
   -- where the bytes after the base lead
-  pub plain_leads : state_after (text_state begins) r.plain ≡ text_state r.now_white
-  plain_leads = ap (λ (s : State). state_after s r.plain) (sym r.base_leads) ∙ sym (state_after-append kept r.before r.plain)
-      ∙ ap (λ (l : List ℕ). state_after kept l) (sym r.mid_is) ∙ r.so_far.leads
+  pub plain_leads : bulk_state_after (code_state begins) r.plain ≡ code_state r.now_white
+  plain_leads = ap (λ (s : BulkState). bulk_state_after s r.plain) (sym r.base_leads) ∙ sym (bulk_state_after-append kept r.before r.plain)
+      ∙ ap (λ (l : List ℕ). bulk_state_after kept l) (sym r.mid_is) ∙ r.so_far.leads
 
   -- the bytes after the base
   pub plain_of : take (at - base) (drop base bytes) ≡ r.plain
@@ -199,21 +199,21 @@ module _ {start : State} {bytes : List ℕ} {line : ℕ} {kept : State} {base : 
       omega arith)
 
   -- further bytes are read outside comments
-  pub read_text : (k : ℕ) → k ≤ length (drop at bytes) → TextSpan r.now_white (take k (drop at bytes)) → ReadOutside start bytes line kept base begins (at + k)
+  pub read_text : (k : ℕ) → k ≤ length (drop at bytes) → CodeLexeme r.now_white (take k (drop at bytes)) → ReadOutside start bytes line kept base begins (at + k)
   unfolding read_on
   read_text k h t = record {
     now_white = t.now_white;
-    so_far = read_on r.so_far k (take k (drop at bytes)) refl h t.quiet t.no_feed (text_state t.now_white) t.leads;
+    so_far = read_on r.so_far k (take k (drop at bytes)) refl h t.quiet t.no_feed (code_state t.now_white) t.leads;
     before = r.before;
     plain = r.plain ++ take k (drop at bytes);
     mid_is = ap (λ (l : List ℕ). l ++ take k (drop at bytes)) r.mid_is ∙ append_assoc r.before r.plain (take k (drop at bytes));
     base_is = r.base_is;
     base_leads = r.base_leads;
-    no_comment = NoComment-append (text_state begins) r.plain (take k (drop at bytes)) r.no_comment
-        (subst (λ (x : State). NoComment x.place (take k (drop at bytes))) (sym plain_leads) t.no_comment);
+    no_comment = NoComment-append (code_state begins) r.plain (take k (drop at bytes)) r.no_comment
+        (subst (λ (x : BulkState). NoComment x.state (take k (drop at bytes))) (sym plain_leads) t.no_comment);
   }
 
   -- further bytes are read up to the beginning of a line, if there is a new base
-  pub read_line : (k : ℕ) → k ≤ length (drop at bytes) → LineSpan r.now_white (take k (drop at bytes)) → ReadOutside start bytes line kept (at + k) true (at + k)
+  pub read_line : (k : ℕ) → k ≤ length (drop at bytes) → LineLexeme r.now_white (take k (drop at bytes)) → ReadOutside start bytes line kept (at + k) true (at + k)
   read_line k h t = read_base true
-      (read_on r.so_far k (take k (drop at bytes)) refl h t.quiet t.no_feed (text_state true) t.leads)
+      (read_on r.so_far k (take k (drop at bytes)) refl h t.quiet t.no_feed (code_state true) t.leads)

@@ -5,16 +5,16 @@ use Rattle.std.proofs.lemmas.Bool.Decides.{Decides-eqb}
 use Rattle.std.proofs.lemmas.List.{take_all}
 use Rattle.std.proofs.lemmas.Slice.Eq.{ends_is}
 use Rattle.ud_model.specs.text.Bytes.{backslash, is_mark, are_white}
-use Rattle.ud_model.specs.text.Lines.{Line, NoFeed}
+use Rattle.ud_model.specs.text.Lines.{Line, NoNewline}
 use Rattle.ud_model.specs.text.Scans.{Reading}
-use Rattle.ud_model.specs.text.Splicing.{is_spliced, is_empty, content, stays_open, joined, run_of}
+use Rattle.ud_model.specs.text.Splicing.{is_spliced, is_empty, content, stays_open, spliced_text, c_run_of}
 use Rattle.ud_model.specs.text.Scanning.{is_block, comment_at, scan_after, next_reading}
-use Rattle.ud_model.specs.aids.Places.{Place, in_text, place_kind, fresh_at, closed_place, closed_white, Masks}
+use Rattle.ud_model.specs.aids.LexStates.{LexState, in_text, kind_in_state, fresh_at, state_after_line, white_after_line, Masks}
 use Rattle.ud_model.specs.declared.kind.Mode.TheVariants.{C}
 use Rattle.ud_model.specs.declared.kind.CommentAt.TheVariants.{Outside}
-use Rattle.ud_text.specs.Carrying.{Carried, Carries, nothing_carried}
-use Rattle.ud_text.proofs.RunLemmas.{NoMark, no_mark_before, plain_run}
-use Rattle.ud_text.proofs.CarryLemmas.{scan_carried, carries_code, same_parts}
+use Rattle.ud_text.specs.ScannerState.{ScannerState, ScannerRepresents, initial_scanner_state}
+use Rattle.ud_text.proofs.MaskLemmas.{NoMark, no_mark_before, plain_run}
+use Rattle.ud_text.proofs.ScannerLemmas.{scan_carried, represents_code, same_parts}
 
 -- bytes that end in a backslash have a mark
 ends_marked : (front : List ℕ) → NoMark (front ++ backslash ∷ []) → ⊥
@@ -31,8 +31,8 @@ unspliced line h =
     by_end true e f = absurd (ends_marked (take (length line.body - 1) line.body) (subst NoMark (f refl) h))
     by_end false e f = refl
 
-module _ (carry : Carried) (before : List Reading) (line : Line) (h : Carries carry before) (place : carry.place ≡ in_text)
-    (count : ℕ) (first : count ≡ position_or_len is_mark line.body) (whole : count ≡ length line.body) (one_line : NoFeed line.body)
+module _ (scan_state : ScannerState) (before : List Reading) (line : Line) (h : ScannerRepresents scan_state before) (state : scan_state.state ≡ in_text)
+    (count : ℕ) (first : count ≡ position_or_len is_mark line.body) (whole : count ≡ length line.body) (one_line : NoNewline line.body)
     (some : is_empty line.ending ≡ false) where
   no_mark : NoMark line.body
   no_mark =
@@ -49,29 +49,29 @@ module _ (carry : Carried) (before : List Reading) (line : Line) (h : Carries ca
   content_is = sym (ap (λ (s : Bool). if s then take (length line.body - 1) line.body else line.body) spliced_is)
 
   abbrev white : Bool
-  white = carry.white && are_white line.body
+  white = scan_state.white && are_white line.body
 
-  shown : Masks (length (joined (run_of before))) (joined (run_of before) ++ content line) in_text white line.body
+  shown : Masks (length (spliced_text (c_run_of before))) (spliced_text (c_run_of before) ++ content line) in_text white line.body
   shown =
-      subst (λ (l : List ℕ). Masks (length (joined (run_of before))) (joined (run_of before) ++ l) in_text white line.body) content_is
-      (plain_run (joined (run_of before)) line.body white count h.reads place first whole one_line refl)
+      subst (λ (l : List ℕ). Masks (length (spliced_text (c_run_of before))) (spliced_text (c_run_of before) ++ l) in_text white line.body) content_is
+      (plain_run (spliced_text (c_run_of before)) line.body white count h.reads state first whole one_line refl)
 
   -- nothing is carried over it
-  pub unmarked_carries : (left : Carried) → left ≡ nothing_carried → Carries left (before ++ next_reading before C line ∷ [])
+  pub unmarked_carries : (left : ScannerState) → left ≡ initial_scanner_state → ScannerRepresents left (before ++ next_reading before C line ∷ [])
   unmarked_carries left e =
-      subst (λ (k : Carried). Carries k (before ++ next_reading before C line ∷ [])) (sym e)
-      (carries_code carry before line line.body in_text white nothing_carried h shown
-      (ap (λ (s : Bool). closed_place s in_text) (sym stays_is)) (ap (λ (s : Bool). closed_white s in_text white) (sym stays_is))
-      (ap (λ (s : Bool). s || is_block (place_kind in_text)) (sym spliced_is)))
+      subst (λ (k : ScannerState). ScannerRepresents k (before ++ next_reading before C line ∷ [])) (sym e)
+      (represents_code scan_state before line line.body in_text white initial_scanner_state h shown
+      (ap (λ (s : Bool). state_after_line s in_text) (sym stays_is)) (ap (λ (s : Bool). white_after_line s in_text white) (sym stays_is))
+      (ap (λ (s : Bool). s || is_block (kind_in_state in_text)) (sym spliced_is)))
 
   -- and it is seen as it stands
-  pub unmarked_scan : (fresh joins : Bool) → fresh ≡ carry.white → joins ≡ carry.joins →
+  pub unmarked_scan : (fresh joins : Bool) → fresh ≡ scan_state.white → joins ≡ scan_state.joins →
       record { masked = line.body; fresh = fresh; joins_before = joins; joins_after = false; spliced = false; comment = Outside } ≡ scan_after before C line
   unmarked_scan fresh joins f j =
-      same_parts refl (f ∙ sym (ap (λ (p : Place). fresh_at p carry.white (content line)) place)) j
-      (sym (ap (λ (s : Bool). s || is_block (place_kind (closed_place (stays_open line) in_text))) spliced_is
-      ∙ ap (λ (s : Bool). is_block (place_kind (closed_place s in_text))) stays_is))
+      same_parts refl (f ∙ sym (ap (λ (p : LexState). fresh_at p scan_state.white (content line)) state)) j
+      (sym (ap (λ (s : Bool). s || is_block (kind_in_state (state_after_line (stays_open line) in_text))) spliced_is
+      ∙ ap (λ (s : Bool). is_block (kind_in_state (state_after_line s in_text))) stays_is))
       (sym spliced_is)
-      (sym (ap (λ (s : Bool). comment_at s (place_kind (closed_place (stays_open line) in_text))) spliced_is
-      ∙ ap (λ (s : Bool). comment_at false (place_kind (closed_place s in_text))) stays_is))
-      ∙ sym (scan_carried carry before line line.body in_text white h shown)
+      (sym (ap (λ (s : Bool). comment_at s (kind_in_state (state_after_line (stays_open line) in_text))) spliced_is
+      ∙ ap (λ (s : Bool). comment_at false (kind_in_state (state_after_line s in_text))) stays_is))
+      ∙ sym (scan_carried scan_state before line line.body in_text white h shown)

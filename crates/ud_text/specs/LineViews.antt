@@ -1,20 +1,20 @@
 -- LineViews: lines, scans and places of the program as the definitions have them.
 --
---   as_line line      the line with its body, its ending and its number
---   as_scan scan      the scan
---   place_of place    where a text leaves off
---   shown_in lent m   the masked bytes: those that are lent or, if none are, these
+--   as_line line         the line with its body, its ending and its number
+--   as_scan scan         the scan
+--   lex_state_of place   where a text leaves off
+--   shown_in lent m      the masked bytes: those that are lent or, if none are, these
 --
 -- Example: the scan of a line in plain mode, as `as_scan` gives it, is `plain_scan` of the line.
 use Rattle.std.specs.Prelude.{ℕ, List, Option, Some, None}
 use Rattle.std.specs.Borrow.{Bor}
 use Rattle.ud_model.specs.text.Lines.{Line as TextLine}
 use Rattle.ud_model.specs.text.Scans.{Scan as LineScan}
-use Rattle.ud_model.specs.aids.Places.{Place as TextPlace, in_text, at_slash, in_block, at_star, in_line, in_literal, at_backslash}
+use Rattle.ud_model.specs.aids.LexStates.{LexState as TextPlace, in_text, at_slash, in_block, at_star, in_line, in_literal, at_backslash}
 use Rattle.ud_text.specs.declared.line.Line.{Line}
 use Rattle.ud_text.specs.declared.scan.Scan.{Scan}
-use Rattle.ud_text.specs.declared.masking.Place.{Place}
-use Rattle.ud_text.specs.declared.masking.Place.TheVariants.{Text, Slash, Block, Star, ToLineEnd, Literal, Backslash}
+use Rattle.ud_text.specs.declared.lexer.LexState.{LexState}
+use Rattle.ud_text.specs.declared.lexer.LexState.TheVariants.{Text, Slash, Block, Star, ToLineEnd, Literal, Backslash}
 
 -- a line with its body, its ending and its number
 abbrev pub as_line : Line → TextLine
@@ -32,14 +32,14 @@ as_scan scan = record {
 }
 
 -- where a text leaves off
-abbrev pub place_of : Place → TextPlace
-place_of Text = in_text
-place_of Slash = at_slash
-place_of Block = in_block
-place_of Star = at_star
-place_of ToLineEnd = in_line
-place_of (Literal quote) = in_literal quote
-place_of (Backslash quote) = at_backslash quote
+abbrev pub lex_state_of : LexState → TextPlace
+lex_state_of Text = in_text
+lex_state_of Slash = at_slash
+lex_state_of Block = in_block
+lex_state_of Star = at_star
+lex_state_of ToLineEnd = in_line
+lex_state_of (Literal quote) = in_literal quote
+lex_state_of (Backslash quote) = at_backslash quote
 
 -- the masked bytes of a line: those that are lent or, if none are, these
 abbrev pub shown_in : Option (Bor (List ℕ)) → List ℕ → List ℕ

@@ -4,12 +4,12 @@ ghost use Rattle.std.specs.Prelude.{◌≡◌};
 ghost use Rattle.std.specs.List.{position_or_len};
 ghost use Rattle.ud_model.specs.text.Bytes.{is_mark};
 
-use crate::lanes::first_near;
+use crate::simd::find_near;
 
 /// The place of the first byte at which a comment, a literal or a splice may begin or end: `/`, `*`, `"`, `'` or a
 /// backslash (C11 5.1.1.2, 6.4.4.4, 6.4.5 and 6.4.9). The number of bytes if there is none.
 pub fn first_mark(bytes: &[u8]) -> usize
     ensures { result ≡ position_or_len is_mark bytes.now }
 {
-    first_near(bytes, [b'/', b'*', b'"', b'\'', b'\\'])
+    find_near(bytes, [b'/', b'*', b'"', b'\'', b'\\'])
 }

@@ -8,27 +8,27 @@ ghost use Rattle.std.specs.Prelude.{◌≡◌, ◌≤◌, ◌||◌, ℕ, List, [
 ghost use Rattle.std.specs.Borrow.{sem};
 ghost use Rattle.std.specs.List.{position_or_len};
 ghost use Rattle.ud_model.specs.text.Bytes.{is_mark};
-ghost use Rattle.ud_model.specs.text.Lines.{NoFeed};
+ghost use Rattle.ud_model.specs.text.Lines.{NoNewline};
 ghost use Rattle.ud_model.specs.text.Lines.{Line as TextLine};
 ghost use Rattle.ud_model.specs.declared.kind.Mode.{Mode};
 ghost use Rattle.ud_model.specs.text.Splicing.{is_spliced, content, stays_open};
 ghost use Rattle.ud_model.specs.text.Scans.{Reading};
 ghost use Rattle.ud_model.specs.text.Scanning.{comment_at, scan_after, next_reading};
-ghost use Rattle.ud_model.specs.aids.Places.{place_kind, closed_place, closed_white};
-ghost use Rattle.ud_text.specs.LineViews.{as_line, as_scan, place_of, shown_in};
-ghost use Rattle.ud_text.specs.Carrying.{Carried, Carries, carried_by, nothing_carried, scan_with, ends_in_block};
-ghost use Rattle.ud_text.specs.Lending.{ReadsLine};
-ghost use Rattle.ud_text.specs.Passing.{EndsLine, PassesText};
-ghost use Rattle.ud_text.specs.States.{can_start, joins_at};
+ghost use Rattle.ud_model.specs.aids.LexStates.{kind_in_state, state_after_line, white_after_line};
+ghost use Rattle.ud_text.specs.LineViews.{as_line, as_scan, lex_state_of, shown_in};
+ghost use Rattle.ud_text.specs.ScannerState.{ScannerState, ScannerRepresents, scanner_state_of, initial_scanner_state, scan_with, ends_in_block};
+ghost use Rattle.ud_text.specs.ScanBorrows.{ScansLine};
+ghost use Rattle.ud_text.specs.BulkScanning.{AreWholeLines, SkipsText};
+ghost use Rattle.ud_text.specs.BulkStates.{can_start, continues_line};
 ghost use Rattle.ud_model.specs.text.Scanning.{is_block};
 
+use crate::bulk::skip_text_lines;
+use crate::bulk_plain::lines_without_hash;
+use crate::lexer::{
+    LexState, Lexer, is_fresh, is_in_block_comment, mask_or_borrow, next_state, stays_white,
+};
 use crate::line::Line;
 use crate::marks::first_mark;
-use crate::masking::{
-    Place, Reached, is_fresh, is_in_block, is_white_with, next_place, show_content,
-};
-use crate::passing::pass_run;
-use crate::plain_lines::signless_lines;
 use crate::scan::Scan;
 use arrayvec::ArrayVec;
 use std::marker::Model;
@@ -36,16 +36,16 @@ use ud_model::{CommentAt, LINE_BYTES, Mode};
 
 /// What is carried from line to line.
 #[derive(Clone, Copy)]
-pub(crate) struct Carry {
+pub(crate) struct ScanState {
     /// How far the joined text is read. The text is that of the lines in C mode after the last one in plain mode.
-    pub(crate) reached: Reached,
+    pub(crate) lexer: Lexer,
     /// Whether the last of these lines joins the next one.
     joins: bool,
 }
 
 /// What is seen of a line beside its masked bytes.
 #[derive(Clone, Copy)]
-pub(crate) struct Facts {
+pub(crate) struct LineFlags {
     /// The masked bytes of its logical line on earlier lines are white space.
     pub(crate) fresh: bool,
     /// The line before joins it.
@@ -60,31 +60,31 @@ pub(crate) struct Facts {
 
 /// What a line leaves, and what is seen of it.
 #[derive(Clone, Copy)]
-pub(crate) struct Seen<'a> {
+pub(crate) struct ScannedLine<'a> {
     /// What it leaves.
-    pub(crate) carry: Carry,
+    pub(crate) scan_state: ScanState,
     /// What is seen of it beside its masked bytes.
-    pub(crate) facts: Facts,
+    pub(crate) flags: LineFlags,
     /// Its masked bytes if they are bytes of the line itself. Else they were put into the scanner.
-    pub(crate) lent: Option<&'a [u8]>,
+    pub(crate) borrowed: Option<&'a [u8]>,
 }
 
 /// Reads the lines of a text in order, each in its mode.
 #[derive(Drop)]
 pub struct Scanner {
     /// What the lines so far leave.
-    pub(crate) carry: Carry,
+    pub(crate) scan_state: ScanState,
     /// The last line as it was shown, if its own bytes weren't lent.
     pub(crate) masked: ArrayVec<u8, LINE_BYTES>,
 }
 
 /// What is carried where the run has no lines.
-pub(crate) fn nothing() -> Carry
-    ensures { carried_by result ≡ nothing_carried }
+pub(crate) fn initial_state() -> ScanState
+    ensures { scanner_state_of result ≡ initial_scanner_state }
 {
-    Carry {
-        reached: Reached {
-            place: Place::Text,
+    ScanState {
+        lexer: Lexer {
+            state: LexState::Text,
             white: true,
         },
         joins: false,
@@ -111,28 +111,28 @@ fn content<'a>(line: &Line<'a>, spliced: bool) -> &'a [u8]
 }
 
 /// How far the text is read after the line's new-line, if it has one.
-fn close(line: &Line<'_>, spliced: bool, inside: Reached) -> Reached
+fn end_line(line: &Line<'_>, spliced: bool, inside: Lexer) -> Lexer
     requires { spliced ≡ is_spliced (as_line line.now) }
-    ensures place { place_of result.place ≡ closed_place (stays_open (as_line line.now)) (place_of inside.place) }
-    ensures white { result.white ≡ closed_white (stays_open (as_line line.now)) (place_of inside.place) inside.white }
+    ensures state { lex_state_of result.state ≡ state_after_line (stays_open (as_line line.now)) (lex_state_of inside.state) }
+    ensures white { result.white ≡ white_after_line (stays_open (as_line line.now)) (lex_state_of inside.state) inside.white }
 {
     if spliced || line.ending.is_empty() {
         inside
     } else {
-        Reached {
-            place: next_place(inside.place, b'\n'),
-            white: is_white_with(inside.place, inside.white, b'\n'),
+        Lexer {
+            state: next_state(inside.state, b'\n'),
+            white: stays_white(inside.state, inside.white, b'\n'),
         }
     }
 }
 
 /// What is unclosed at the end of a line whose text leaves off at this place.
-fn comment_at(spliced: bool, place: Place) -> CommentAt
-    ensures { result ≡ comment_at spliced (place_kind (place_of place)) }
+fn comment_at(spliced: bool, state: LexState) -> CommentAt
+    ensures { result ≡ comment_at spliced (kind_in_state (lex_state_of state)) }
 {
-    match place {
-        Place::Block | Place::Star => CommentAt::InBlock,
-        Place::ToLineEnd if spliced => CommentAt::InLine,
+    match state {
+        LexState::Block | LexState::Star => CommentAt::InBlock,
+        LexState::ToLineEnd if spliced => CommentAt::InLine,
         _ => CommentAt::Outside,
     }
 }
@@ -140,38 +140,42 @@ fn comment_at(spliced: bool, place: Place) -> CommentAt
 /// Reads a line in C mode. Where its masked bytes aren't lent, they are put into `masked`.
 #[inline(always)]
 fn scan_code<'a, const ROOM: usize>(
-    carry: Carry,
+    scan_state: ScanState,
     line: &Line<'a>,
     masked: &mut ArrayVec<u8, ROOM>,
-) -> Seen<'a>
+) -> ScannedLine<'a>
     requires empty { masked.old.items ≡ [] }
     requires fits { length line.now.body.now ≤ ROOM }
-    requires one_line { NoFeed line.now.body.now }
-    ensures stands { (before : List Reading) → Carries (carried_by carry) before → Carries (carried_by result.carry) (before ++ next_reading before Mode.C (as_line line.now) ∷ []) }
-    ensures value { (before : List Reading) → Carries (carried_by carry) before → scan_with (shown_in result.lent masked.new.items) result.facts ≡ scan_after before Mode.C (as_line line.now) }
-    ensures fits { length (shown_in result.lent masked.new.items) ≤ length line.now.body.now }
+    requires one_line { NoNewline line.now.body.now }
+    ensures represents { (before : List Reading) → ScannerRepresents (scanner_state_of scan_state) before → ScannerRepresents (scanner_state_of result.scan_state) (before ++ next_reading before Mode.C (as_line line.now) ∷ []) }
+    ensures value { (before : List Reading) → ScannerRepresents (scanner_state_of scan_state) before → scan_with (shown_in result.borrowed masked.new.items) result.flags ≡ scan_after before Mode.C (as_line line.now) }
+    ensures fits { length (shown_in result.borrowed masked.new.items) ≤ length line.now.body.now }
 {
     let spliced = is_spliced(line);
     let bytes = content(line, spliced);
-    let fresh = is_fresh(carry.reached, bytes);
-    let (inside, lent) = show_content(carry.reached, bytes, masked);
-    let reached = close(line, spliced, inside);
-    let joins = spliced || is_in_block(reached.place);
-    let facts = Facts {
+    let fresh = is_fresh(scan_state.lexer, bytes);
+    let (inside, lent) = mask_or_borrow(scan_state.lexer, bytes, masked);
+    let lexer = end_line(line, spliced, inside);
+    let joins = spliced || is_in_block_comment(lexer.state);
+    let facts = LineFlags {
         fresh,
-        joins_before: carry.joins,
+        joins_before: scan_state.joins,
         joins_after: joins,
         spliced,
-        comment: comment_at(spliced, reached.place),
+        comment: comment_at(spliced, lexer.state),
     };
-    let carry = Carry { reached, joins };
-    Seen { carry, facts, lent }
+    let scan_state = ScanState { lexer, joins };
+    ScannedLine {
+        scan_state,
+        flags: facts,
+        borrowed: lent,
+    }
 }
 
 /// Whether no mark stands in a line's body. Two directives that every other section ends with are told apart from the
 /// others by their bytes alone.
 #[inline(always)]
-fn is_unmarked(body: &[u8]) -> bool
+fn has_no_mark(body: &[u8]) -> bool
     ensures { result ≡ true → position_or_len is_mark body.now ≡ length body.now }
 {
     match body {
@@ -183,157 +187,161 @@ fn is_unmarked(body: &[u8]) -> bool
 /// Reads a line in C mode that is seen as it stands, and leaves nothing. No answer if that isn't seen at once: the text before
 /// it leaves off in a comment or a literal, a mark stands in it, or it has no ending.
 #[inline(always)]
-fn scan_unmarked<'a>(carry: Carry, line: &Line<'a>) -> Option<Seen<'a>>
-    requires one_line { NoFeed line.now.body.now }
-    ensures stands { IfSome result (λ seen. (before : List Reading) → Carries (carried_by carry) before →
-        Carries (carried_by seen.carry) (before ++ next_reading before Mode.C (as_line line.now) ∷ [])) }
-    ensures value { IfSome result (λ seen. (masked : List ℕ) → (before : List Reading) → Carries (carried_by carry) before →
-        scan_with (shown_in seen.lent masked) seen.facts ≡ scan_after before Mode.C (as_line line.now)) }
-    ensures fits { IfSome result (λ seen. (masked : List ℕ) → length (shown_in seen.lent masked) ≤ length line.now.body.now) }
+fn scan_without_marks<'a>(scan_state: ScanState, line: &Line<'a>) -> Option<ScannedLine<'a>>
+    requires one_line { NoNewline line.now.body.now }
+    ensures represents { IfSome result (λ seen. (before : List Reading) → ScannerRepresents (scanner_state_of scan_state) before →
+        ScannerRepresents (scanner_state_of seen.scan_state) (before ++ next_reading before Mode.C (as_line line.now) ∷ [])) }
+    ensures value { IfSome result (λ seen. (masked : List ℕ) → (before : List Reading) → ScannerRepresents (scanner_state_of scan_state) before →
+        scan_with (shown_in seen.borrowed masked) seen.flags ≡ scan_after before Mode.C (as_line line.now)) }
+    ensures fits { IfSome result (λ seen. (masked : List ℕ) → length (shown_in seen.borrowed masked) ≤ length line.now.body.now) }
 {
-    let Place::Text = carry.reached.place else {
+    let LexState::Text = scan_state.lexer.state else {
         return None;
     };
-    if line.ending.is_empty() || !is_unmarked(line.body) {
+    if line.ending.is_empty() || !has_no_mark(line.body) {
         return None;
     }
-    let facts = Facts {
-        fresh: carry.reached.white,
-        joins_before: carry.joins,
+    let facts = LineFlags {
+        fresh: scan_state.lexer.white,
+        joins_before: scan_state.joins,
         joins_after: false,
         spliced: false,
         comment: CommentAt::Outside,
     };
-    let left = nothing();
-    Some(Seen {
-        carry: left,
-        facts,
-        lent: Some(line.body),
+    let left = initial_state();
+    Some(ScannedLine {
+        scan_state: left,
+        flags: facts,
+        borrowed: Some(line.body),
     })
 }
 
 /// Reads a line in plain mode, in which it is seen as it stands.
 #[inline(always)]
-fn scan_plain<'a>(line: &Line<'a>) -> Seen<'a>
-    ensures stands { (before : List Reading) → Carries (carried_by result.carry) (before ++ next_reading before Mode.Plain (as_line line.now) ∷ []) }
-    ensures value { (masked : List ℕ) → (before : List Reading) → scan_with (shown_in result.lent masked) result.facts ≡ scan_after before Mode.Plain (as_line line.now) }
-    ensures fits { (masked : List ℕ) → length (shown_in result.lent masked) ≤ length line.now.body.now }
+fn scan_plain<'a>(line: &Line<'a>) -> ScannedLine<'a>
+    ensures represents { (before : List Reading) → ScannerRepresents (scanner_state_of result.scan_state) (before ++ next_reading before Mode.Plain (as_line line.now) ∷ []) }
+    ensures value { (masked : List ℕ) → (before : List Reading) → scan_with (shown_in result.borrowed masked) result.flags ≡ scan_after before Mode.Plain (as_line line.now) }
+    ensures fits { (masked : List ℕ) → length (shown_in result.borrowed masked) ≤ length line.now.body.now }
 {
-    let facts = Facts {
+    let facts = LineFlags {
         fresh: true,
         joins_before: false,
         joins_after: false,
         spliced: false,
         comment: CommentAt::Outside,
     };
-    let carry = nothing();
+    let scan_state = initial_state();
     let lent = Some(line.body);
-    Seen { carry, facts, lent }
+    ScannedLine {
+        scan_state,
+        flags: facts,
+        borrowed: lent,
+    }
 }
 
 /// Reads a line in its mode. Where its masked bytes aren't lent, they are put into `masked`.
 #[inline(always)]
 pub(crate) fn scan_line<'a, const ROOM: usize>(
     mode: Mode,
-    carry: Carry,
+    scan_state: ScanState,
     line: &Line<'a>,
     masked: &mut ArrayVec<u8, ROOM>,
-) -> Seen<'a>
+) -> ScannedLine<'a>
     requires fits { length line.now.body.now ≤ ROOM }
-    requires one_line { NoFeed line.now.body.now }
-    ensures stands { (before : List Reading) → Carries (carried_by carry) before → Carries (carried_by result.carry) (before ++ next_reading before mode (as_line line.now) ∷ []) }
-    ensures value { (before : List Reading) → Carries (carried_by carry) before → scan_with (shown_in result.lent masked.new.items) result.facts ≡ scan_after before mode (as_line line.now) }
-    ensures fits { length (shown_in result.lent masked.new.items) ≤ length line.now.body.now }
+    requires one_line { NoNewline line.now.body.now }
+    ensures represents { (before : List Reading) → ScannerRepresents (scanner_state_of scan_state) before → ScannerRepresents (scanner_state_of result.scan_state) (before ++ next_reading before mode (as_line line.now) ∷ []) }
+    ensures value { (before : List Reading) → ScannerRepresents (scanner_state_of scan_state) before → scan_with (shown_in result.borrowed masked.new.items) result.flags ≡ scan_after before mode (as_line line.now) }
+    ensures fits { length (shown_in result.borrowed masked.new.items) ≤ length line.now.body.now }
 {
     match mode {
         Mode::C => {
-            if let Some(seen) = scan_unmarked(carry, line) {
+            if let Some(seen) = scan_without_marks(scan_state, line) {
                 return seen;
             }
             masked.clear();
-            scan_code(carry, line, masked)
+            scan_code(scan_state, line, masked)
         }
         Mode::Plain => scan_plain(line),
     }
 }
 
 /// Whether the line before joins one that begins so: a block comment goes on, or a logical line that isn't white.
-fn joins_at(reached: Reached) -> bool
-    ensures { result ≡ joins_at (place_of reached.place) reached.white }
+fn continues_line(lexer: Lexer) -> bool
+    ensures { result ≡ continues_line (lex_state_of lexer.state) lexer.white }
 {
-    is_in_block(reached.place) || !reached.white
+    is_in_block_comment(lexer.state) || !lexer.white
 }
 
 /// Whether many lines can be read from here: the next one begins a logical line, or goes on with a block comment or with a
 /// logical line that isn't white, outside comments and literals.
-fn can_pass(carry: Carry) -> bool
-    ensures starts { result ≡ true → can_start (place_of carry.reached.place) ≡ true }
-    ensures joins { result ≡ true → carry.joins ≡ joins_at (place_of carry.reached.place) carry.reached.white }
+fn can_skip_text(scan_state: ScanState) -> bool
+    ensures starts { result ≡ true → can_start (lex_state_of scan_state.lexer.state) ≡ true }
+    ensures joins { result ≡ true → scan_state.joins ≡ continues_line (lex_state_of scan_state.lexer.state) scan_state.lexer.white }
 {
-    match carry.reached.place {
-        Place::Text | Place::Block => carry.joins == joins_at(carry.reached),
+    match scan_state.lexer.state {
+        LexState::Text | LexState::Block => scan_state.joins == continues_line(scan_state.lexer),
         _ => false,
     }
 }
 
 /// Reads in C mode as many of these lines as are seen to be text. Answers how many bytes they have, and what they leave.
-fn pass_code(carry: Carry, lines: &[u8]) -> (usize, Carry)
+fn skip_text_in_c_mode(scan_state: ScanState, lines: &[u8]) -> (usize, ScanState)
     ensures bound { result.0 ≤ length lines.now }
-    ensures ends { EndsLine (take result.0 lines.now) }
-    ensures passes { PassesText Mode.C (carried_by carry) (carried_by result.1) (take result.0 lines.now) }
+    ensures ends { AreWholeLines (take result.0 lines.now) }
+    ensures skips { SkipsText Mode.C (scanner_state_of scan_state) (scanner_state_of result.1) (take result.0 lines.now) }
 {
-    if !can_pass(carry) {
-        return (0, carry);
+    if !can_skip_text(scan_state) {
+        return (0, scan_state);
     }
-    let next = pass_run(carry.reached, lines);
-    let joins = joins_at(next.reached);
-    let left = Carry {
-        reached: next.reached,
+    let next = skip_text_lines(scan_state.lexer, lines);
+    let joins = continues_line(next.lexer);
+    let left = ScanState {
+        lexer: next.lexer,
         joins,
     };
     (next.at, left)
 }
 
 /// The same in plain mode.
-fn pass_plain(carry: Carry, lines: &[u8]) -> (usize, Carry)
+fn skip_text_in_plain_mode(scan_state: ScanState, lines: &[u8]) -> (usize, ScanState)
     ensures bound { result.0 ≤ length lines.now }
-    ensures ends { EndsLine (take result.0 lines.now) }
-    ensures passes { PassesText Mode.Plain (carried_by carry) (carried_by result.1) (take result.0 lines.now) }
+    ensures ends { AreWholeLines (take result.0 lines.now) }
+    ensures skips { SkipsText Mode.Plain (scanner_state_of scan_state) (scanner_state_of result.1) (take result.0 lines.now) }
 {
-    let count = signless_lines(lines);
+    let count = lines_without_hash(lines);
     if count == 0 {
-        return (0, carry);
+        return (0, scan_state);
     }
-    (count, nothing())
+    (count, initial_state())
 }
 
 /// The same in a mode.
-pub(crate) fn pass_lines(mode: Mode, carry: Carry, lines: &[u8]) -> (usize, Carry)
+pub(crate) fn skip_text_in(mode: Mode, scan_state: ScanState, lines: &[u8]) -> (usize, ScanState)
     ensures bound { result.0 ≤ length lines.now }
-    ensures ends { EndsLine (take result.0 lines.now) }
-    ensures passes { PassesText mode (carried_by carry) (carried_by result.1) (take result.0 lines.now) }
+    ensures ends { AreWholeLines (take result.0 lines.now) }
+    ensures skips { SkipsText mode (scanner_state_of scan_state) (scanner_state_of result.1) (take result.0 lines.now) }
 {
     match mode {
-        Mode::C => pass_code(carry, lines),
-        Mode::Plain => pass_plain(carry, lines),
+        Mode::C => skip_text_in_c_mode(scan_state, lines),
+        Mode::Plain => skip_text_in_plain_mode(scan_state, lines),
     }
 }
 
 impl Model for Scanner {
-    ghost use Rattle.ud_text.specs.Carrying.{Carried, carried_by};
+    ghost use Rattle.ud_text.specs.ScannerState.{ScannerState, scanner_state_of};
 
-    ghost Value = { Carried };
+    ghost Value = { ScannerState };
 
-    ghost view = { λ s. carried_by s.carry };
+    ghost view = { λ s. scanner_state_of s.scan_state };
 }
 
 impl Scanner {
     /// Has read no line.
     pub fn new() -> Scanner
-        ensures { Carries result [] }
+        ensures { ScannerRepresents result [] }
     {
         Scanner {
-            carry: nothing(),
+            scan_state: initial_state(),
             masked: ArrayVec::new(),
         }
     }
@@ -346,24 +354,24 @@ impl Scanner {
     #[inline(always)]
     pub fn read<'s, 'a: 's>(&'s mut self, mode: Mode, line: &Line<'a>) -> Scan<'s>
         requires fits { length line.now.body.now ≤ LINE_BYTES }
-        requires one_line { NoFeed line.now.body.now }
-        ensures* stands { sem 𝓛 (ReadsLine self.entry mode (as_line line.now)) }
-        ensures value { (before : List Reading) → Carries self.old before → as_scan result ≡ scan_after before mode (as_line line.now) }
+        requires one_line { NoNewline line.now.body.now }
+        ensures* represents { sem 𝓛 (ScansLine self.entry mode (as_line line.now)) }
+        ensures value { (before : List Reading) → ScannerRepresents self.old before → as_scan result ≡ scan_after before mode (as_line line.now) }
         ensures fits { length result.masked.now ≤ length line.now.body.now }
     {
-        let seen = scan_line(mode, self.carry, line, &mut self.masked);
-        self.carry = seen.carry;
-        let masked = match seen.lent {
+        let seen = scan_line(mode, self.scan_state, line, &mut self.masked);
+        self.scan_state = seen.scan_state;
+        let masked = match seen.borrowed {
             Some(bytes) => bytes,
             None => self.masked.as_slice(),
         };
         Scan {
             masked,
-            fresh: seen.facts.fresh,
-            joins_before: seen.facts.joins_before,
-            joins_after: seen.facts.joins_after,
-            spliced: seen.facts.spliced,
-            comment: seen.facts.comment,
+            fresh: seen.flags.fresh,
+            joins_before: seen.flags.joins_before,
+            joins_after: seen.flags.joins_after,
+            spliced: seen.flags.spliced,
+            comment: seen.flags.comment,
         }
     }
 
@@ -375,26 +383,26 @@ impl Scanner {
     /// of the lines up to there, as `read` would have it, whatever numbers they have; none of them carries a directive or a
     /// cut keyword (C11 5.1.1.2, phases 2 and 3, 6.4.9 and 6.10). Nothing is said of how far it goes: if the answer is
     /// less than all lines, the next one is to be read by `read`.
-    pub fn pass(&mut self, mode: Mode, lines: &[u8]) -> usize
+    pub fn skip_text(&mut self, mode: Mode, lines: &[u8]) -> usize
         ensures bound { result ≤ length lines.now }
-        ensures ends { EndsLine (take result lines.now) }
-        ensures passes { PassesText mode self.old self.new (take result lines.now) }
+        ensures ends { AreWholeLines (take result lines.now) }
+        ensures skips { SkipsText mode self.old self.new (take result lines.now) }
     {
-        let (count, carry) = pass_lines(mode, self.carry, lines);
-        self.carry = carry;
+        let (count, scan_state) = skip_text_in(mode, self.scan_state, lines);
+        self.scan_state = scan_state;
         count
     }
 
     /// Whether a block comment is unclosed at the end of the last line; false if no line is read.
     pub fn in_comment(&self) -> bool
-        ensures { (before : List Reading) → Carries self.now before → result ≡ ends_in_block before }
+        ensures { (before : List Reading) → ScannerRepresents self.now before → result ≡ ends_in_block before }
     {
-        is_in_block(self.carry.reached.place)
+        is_in_block_comment(self.scan_state.lexer.state)
     }
 }
 
 /// What is carried decides what is seen of the next line: where it stands for two lists of readings, each line is seen
 /// alike after both.
 pub fn law_same_scans()
-    ensures { (carry : Carried) → (before : List Reading) → (others : List Reading) → (m : Mode) → (l : TextLine) → Carries carry before → Carries carry others → scan_after before m l ≡ scan_after others m l }
+    ensures { (scan_state : ScannerState) → (before : List Reading) → (others : List Reading) → (m : Mode) → (l : TextLine) → ScannerRepresents scan_state before → ScannerRepresents scan_state others → scan_after before m l ≡ scan_after others m l }
 {}

@@ -3,42 +3,42 @@
 ghost use Rattle.std.specs.Prelude.{◌≡◌, ◌≤◌, ◌<◌, ◌+◌, ◌-◌, length, take, drop, slice_index, true};
 ghost use Rattle.std.specs.List.{position_or_len};
 ghost use Rattle.ud_text.specs.Searches.{pairs_of, is_found};
-ghost use Rattle.ud_text.specs.Rows.{special_bits};
-ghost use Rattle.ud_text.specs.Spans.{is_special, is_pair, NoPair, LastBegins};
+ghost use Rattle.ud_text.specs.Blocks.{significant_bits};
+ghost use Rattle.ud_text.specs.BulkLexemes.{is_significant, is_star_pair, NoStarPair, LastLineStarts};
 
-use crate::lanes::{first_near, lowest_bit};
+use crate::simd::{find_near, lowest_set_bit};
 use memchr::memrchr;
 use std::simd::Simd;
 use std::simd::prelude::*;
 
 /// Whether a byte may matter outside comments and literals.
-pub(crate) fn is_special(byte: u8) -> bool
-    ensures { result ≡ is_special byte }
+pub(crate) fn is_significant(byte: u8) -> bool
+    ensures { result ≡ is_significant byte }
 {
     matches!(byte, b'/' | b'"' | b'\'' | b'\\' | b'#')
 }
 
 /// The place of the first byte that may matter outside comments and literals: `/`, `"`, `'`, a backslash or `#`
 /// (C11 5.1.1.2, 6.4.4.4, 6.4.5, 6.4.9 and 6.10). The number of bytes if there is none.
-pub(crate) fn first_special(bytes: &[u8]) -> usize
-    ensures value { result ≡ position_or_len is_special bytes.now }
+pub(crate) fn find_significant(bytes: &[u8]) -> usize
+    ensures value { result ≡ position_or_len is_significant bytes.now }
     ensures bound { result ≤ length bytes.now }
 {
     if bytes.len() >= 64 {
-        special_by::<64>(bytes)
+        significant_by_lanes::<64>(bytes)
     } else if bytes.len() >= 16 {
-        special_by::<16>(bytes)
+        significant_by_lanes::<16>(bytes)
     } else {
-        first_near(bytes, [b'/', b'"', b'\'', b'\\', b'#'])
+        find_near(bytes, [b'/', b'"', b'\'', b'\\', b'#'])
     }
 }
 
 /// A bit for each of the `N` bytes from a place on that may matter, the lowest for the first.
 #[inline(always)]
-pub(crate) fn special_bits<const N: usize>(bytes: &[u8], at: usize) -> u64
+pub(crate) fn significant_bits<const N: usize>(bytes: &[u8], at: usize) -> u64
     requires few { N ≤ 64 }
-    requires room { at + N ≤ length bytes.now }
-    ensures { result ≡ special_bits (take N (drop at bytes.now)) }
+    requires fits { at + N ≤ length bytes.now }
+    ensures { result ≡ significant_bits (take N (drop at bytes.now)) }
 {
     // A `"` is a `#` without the lowest bit, and a `'` a `/` without the bit of 8: three tests find five bytes.
     let lanes = Simd::<u8, N>::from_slice(&bytes[at..]);
@@ -50,47 +50,47 @@ pub(crate) fn special_bits<const N: usize>(bytes: &[u8], at: usize) -> u64
 
 /// How many of the `N` bytes from a place on stand before the first that may matter; all if none does.
 #[inline(always)]
-fn special_among<const N: usize>(bytes: &[u8], at: usize) -> usize
+fn significant_in_lanes<const N: usize>(bytes: &[u8], at: usize) -> usize
     requires few { N ≤ 64 }
-    requires room { at + N ≤ length bytes.now }
-    ensures value { result ≡ position_or_len is_special (take N (drop at bytes.now)) }
+    requires fits { at + N ≤ length bytes.now }
+    ensures value { result ≡ position_or_len is_significant (take N (drop at bytes.now)) }
     ensures bound { result ≤ N }
 {
-    lowest_bit(special_bits::<N>(bytes, at), N)
+    lowest_set_bit(significant_bits::<N>(bytes, at), N)
 }
 
 /// The place of the first byte that may matter, by `N` lanes. The number of bytes if there is none.
 #[inline(always)]
-fn special_by<const N: usize>(bytes: &[u8]) -> usize
+fn significant_by_lanes<const N: usize>(bytes: &[u8]) -> usize
     requires some { 0 < N }
     requires few { N ≤ 64 }
-    requires room { N ≤ length bytes.now }
-    ensures { result ≡ position_or_len is_special bytes.now }
+    requires fits { N ≤ length bytes.now }
+    ensures { result ≡ position_or_len is_significant bytes.now }
 {
     let last = bytes.len() - N;
     let mut at = 0;
     while at < last {
-        let count = special_among::<N>(bytes, at);
+        let count = significant_in_lanes::<N>(bytes, at);
         if count < N {
             return at + count;
         }
         at += N;
     }
-    last + special_among::<N>(bytes, last)
+    last + significant_in_lanes::<N>(bytes, last)
 }
 
 /// Whether two bytes are a star before a slash or a backslash.
-fn is_pair(first: u8, second: u8) -> bool
-    ensures { result ≡ is_pair first second }
+fn is_star_pair(first: u8, second: u8) -> bool
+    ensures { result ≡ is_star_pair first second }
 {
     first == b'*' && (second == b'/' || second == b'\\')
 }
 
 /// How many of the `N` bytes from a place on stand before the first that makes a pair with the next; all if none does.
 #[inline(always)]
-fn pair_among<const N: usize>(bytes: &[u8], at: usize) -> usize
+fn star_pair_in_lanes<const N: usize>(bytes: &[u8], at: usize) -> usize
     requires few { N ≤ 64 }
-    requires room { at + N < length bytes.now }
+    requires fits { at + N < length bytes.now }
     ensures value { result ≡ position_or_len is_found (take N (drop at (pairs_of bytes.now))) }
     ensures bound { result ≤ N }
 {
@@ -98,36 +98,36 @@ fn pair_among<const N: usize>(bytes: &[u8], at: usize) -> usize
     let second = Simd::<u8, N>::from_slice(&bytes[at + 1..]);
     let ends = second.simd_eq(Simd::splat(b'/')) | second.simd_eq(Simd::splat(b'\\'));
     let found = first.simd_eq(Simd::splat(b'*')) & ends;
-    lowest_bit(found.to_bitmask(), N)
+    lowest_set_bit(found.to_bitmask(), N)
 }
 
 /// How many bytes stand before the first pair, by `N` lanes; all but the last if there is none.
 #[inline(always)]
-fn pair_by<const N: usize>(bytes: &[u8]) -> usize
+fn star_pair_by_lanes<const N: usize>(bytes: &[u8]) -> usize
     requires some { 0 < N }
     requires few { N ≤ 64 }
-    requires room { N < length bytes.now }
+    requires fits { N < length bytes.now }
     ensures { result ≡ position_or_len is_found (pairs_of bytes.now) }
 {
     let last = bytes.len() - 1 - N;
     let mut at = 0;
     while at < last {
-        let count = pair_among::<N>(bytes, at);
+        let count = star_pair_in_lanes::<N>(bytes, at);
         if count < N {
             return at + count;
         }
         at += N;
     }
-    last + pair_among::<N>(bytes, last)
+    last + star_pair_in_lanes::<N>(bytes, last)
 }
 
 /// The same, one by one.
-fn pair_one_by_one(bytes: &[u8]) -> usize
+fn star_pair_one_by_one(bytes: &[u8]) -> usize
     ensures { result ≡ position_or_len is_found (pairs_of bytes.now) }
 {
     let mut at = 0;
     while at + 1 < bytes.len() {
-        if is_pair(bytes[at], bytes[at + 1]) {
+        if is_star_pair(bytes[at], bytes[at + 1]) {
             return at;
         }
         at += 1;
@@ -136,29 +136,29 @@ fn pair_one_by_one(bytes: &[u8]) -> usize
 }
 
 /// How many bytes stand before the first pair; all but the last if there is none.
-fn pair_place(bytes: &[u8]) -> usize
+fn star_pair_offset(bytes: &[u8]) -> usize
     ensures value { result ≡ position_or_len is_found (pairs_of bytes.now) }
     ensures bound { result ≤ length bytes.now - 1 }
 {
     if bytes.len() > 64 {
-        pair_by::<64>(bytes)
+        star_pair_by_lanes::<64>(bytes)
     } else if bytes.len() > 16 {
-        pair_by::<16>(bytes)
+        star_pair_by_lanes::<16>(bytes)
     } else {
-        pair_one_by_one(bytes)
+        star_pair_one_by_one(bytes)
     }
 }
 
 /// The place of the first star before a slash, which closes a block comment, or before a backslash, by which a splice may
 /// stand between the two (C11 6.4.9). The number of bytes if there is none.
-pub(crate) fn first_pair(bytes: &[u8]) -> usize
+pub(crate) fn find_star_pair(bytes: &[u8]) -> usize
     ensures bound { result ≤ length bytes.now }
-    ensures before { NoPair (take (result + 1) bytes.now) }
+    ensures before { NoStarPair (take (result + 1) bytes.now) }
     ensures whole { result < length bytes.now → result + 1 < length bytes.now }
     ensures found { result < length bytes.now →
-        is_pair (slice_index bytes.now result) (slice_index bytes.now (result + 1)) ≡ true }
+        is_star_pair (slice_index bytes.now result) (slice_index bytes.now (result + 1)) ≡ true }
 {
-    let at = pair_place(bytes);
+    let at = star_pair_offset(bytes);
     if at + 1 < bytes.len() {
         at
     } else {
@@ -167,8 +167,8 @@ pub(crate) fn first_pair(bytes: &[u8]) -> usize
 }
 
 /// The beginning of the last line of these bytes; their end if they end with a line feed.
-pub(crate) fn line_begin(bytes: &[u8]) -> usize
-    ensures { LastBegins bytes.now result }
+pub(crate) fn last_line_start(bytes: &[u8]) -> usize
+    ensures { LastLineStarts bytes.now result }
 {
     match memrchr(b'\n', bytes) {
         Some(at) => at + 1,

@@ -5,49 +5,49 @@
 
 ghost use Rattle.std.specs.Prelude.{◌≡◌, ◌≤◌, List, [], length, take};
 ghost use Rattle.std.specs.Borrow.{sem};
-ghost use Rattle.ud_model.specs.text.Lines.{NoFeed};
+ghost use Rattle.ud_model.specs.text.Lines.{NoNewline};
 ghost use Rattle.ud_model.specs.text.Scans.{Reading};
 ghost use Rattle.ud_model.specs.text.Scanning.{scan_after};
 ghost use Rattle.ud_text.specs.LineViews.{as_line, as_scan};
-ghost use Rattle.ud_text.specs.Carrying.{Carries, ends_in_block};
-ghost use Rattle.ud_text.specs.Lending.{ReadsShortLine};
-ghost use Rattle.ud_text.specs.Passing.{EndsLine, PassesText};
+ghost use Rattle.ud_text.specs.ScannerState.{ScannerRepresents, ends_in_block};
+ghost use Rattle.ud_text.specs.ScanBorrows.{ScansShortLine};
+ghost use Rattle.ud_text.specs.BulkScanning.{AreWholeLines, SkipsText};
 
+use crate::lexer::is_in_block_comment;
 use crate::line::Line;
-use crate::masking::is_in_block;
 use crate::scan::Scan;
-use crate::scanner::{Carry, Scanner, nothing, pass_lines, scan_line};
+use crate::scanner::{ScanState, Scanner, initial_state, scan_line, skip_text_in};
 use arrayvec::ArrayVec;
 use std::marker::Model;
 use ud_model::Mode;
 
 /// The most bytes of a short line's body.
-pub const SHORT_BYTES: usize = 4096;
+pub const SHORT_LINE_BYTES: usize = 4096;
 
 /// Reads the lines of a text in order, each in its mode, as a `Scanner` does.
 #[derive(Drop)]
 pub struct ShortScanner {
     /// What the lines so far leave.
-    carry: Carry,
+    scan_state: ScanState,
     /// The last line as it was shown, if its own bytes weren't lent.
-    masked: ArrayVec<u8, SHORT_BYTES>,
+    masked: ArrayVec<u8, SHORT_LINE_BYTES>,
 }
 
 impl Model for ShortScanner {
-    ghost use Rattle.ud_text.specs.Carrying.{Carried, carried_by};
+    ghost use Rattle.ud_text.specs.ScannerState.{ScannerState, scanner_state_of};
 
-    ghost Value = { Carried };
+    ghost Value = { ScannerState };
 
-    ghost view = { λ s. carried_by s.carry };
+    ghost view = { λ s. scanner_state_of s.scan_state };
 }
 
 impl ShortScanner {
     /// Has read no line.
     pub fn new() -> ShortScanner
-        ensures { Carries result [] }
+        ensures { ScannerRepresents result [] }
     {
         ShortScanner {
-            carry: nothing(),
+            scan_state: initial_state(),
             masked: ArrayVec::new(),
         }
     }
@@ -55,60 +55,60 @@ impl ShortScanner {
     /// Reads the next line of the text, which is short, as `Scanner::read` does.
     #[inline(always)]
     pub fn read<'s, 'a: 's>(&'s mut self, mode: Mode, line: &Line<'a>) -> Scan<'s>
-        requires fits { length line.now.body.now ≤ SHORT_BYTES }
-        requires one_line { NoFeed line.now.body.now }
-        ensures* stands { sem 𝓛 (ReadsShortLine self.entry mode (as_line line.now)) }
-        ensures value { (before : List Reading) → Carries self.old before → as_scan result ≡ scan_after before mode (as_line line.now) }
+        requires fits { length line.now.body.now ≤ SHORT_LINE_BYTES }
+        requires one_line { NoNewline line.now.body.now }
+        ensures* represents { sem 𝓛 (ScansShortLine self.entry mode (as_line line.now)) }
+        ensures value { (before : List Reading) → ScannerRepresents self.old before → as_scan result ≡ scan_after before mode (as_line line.now) }
         ensures fits { length result.masked.now ≤ length line.now.body.now }
     {
-        let seen = scan_line(mode, self.carry, line, &mut self.masked);
-        self.carry = seen.carry;
-        let masked = match seen.lent {
+        let seen = scan_line(mode, self.scan_state, line, &mut self.masked);
+        self.scan_state = seen.scan_state;
+        let masked = match seen.borrowed {
             Some(bytes) => bytes,
             None => self.masked.as_slice(),
         };
         Scan {
             masked,
-            fresh: seen.facts.fresh,
-            joins_before: seen.facts.joins_before,
-            joins_after: seen.facts.joins_after,
-            spliced: seen.facts.spliced,
-            comment: seen.facts.comment,
+            fresh: seen.flags.fresh,
+            joins_before: seen.flags.joins_before,
+            joins_after: seen.flags.joins_after,
+            spliced: seen.flags.spliced,
+            comment: seen.flags.comment,
         }
     }
 
-    /// Reads many lines at once, long ones too, as `Scanner::pass` does.
-    pub fn pass(&mut self, mode: Mode, lines: &[u8]) -> usize
+    /// Reads many lines at once, long ones too, as `Scanner::skip_text` does.
+    pub fn skip_text(&mut self, mode: Mode, lines: &[u8]) -> usize
         ensures bound { result ≤ length lines.now }
-        ensures ends { EndsLine (take result lines.now) }
-        ensures passes { PassesText mode self.old self.new (take result lines.now) }
+        ensures ends { AreWholeLines (take result lines.now) }
+        ensures skips { SkipsText mode self.old self.new (take result lines.now) }
     {
-        let (count, carry) = pass_lines(mode, self.carry, lines);
-        self.carry = carry;
+        let (count, scan_state) = skip_text_in(mode, self.scan_state, lines);
+        self.scan_state = scan_state;
         count
     }
 
     /// Whether a block comment is unclosed at the end of the last line; false if no line is read.
     pub fn in_comment(&self) -> bool
-        ensures { (before : List Reading) → Carries self.now before → result ≡ ends_in_block before }
+        ensures { (before : List Reading) → ScannerRepresents self.now before → result ≡ ends_in_block before }
     {
-        is_in_block(self.carry.reached.place)
+        is_in_block_comment(self.scan_state.lexer.state)
     }
 
     /// A scanner that stands where this one does, for a long line.
-    pub fn for_long(&self) -> Scanner
+    pub fn to_scanner(&self) -> Scanner
         ensures { result ≡ self.now }
     {
         Scanner {
-            carry: self.carry,
+            scan_state: self.scan_state,
             masked: ArrayVec::new(),
         }
     }
 
     /// Goes on where a scanner stands.
-    pub fn go_on(&mut self, scanner: &Scanner)
+    pub fn copy_state_of(&mut self, scanner: &Scanner)
         ensures { self.new ≡ scanner.now }
     {
-        self.carry = scanner.carry;
+        self.scan_state = scanner.scan_state;
     }
 }

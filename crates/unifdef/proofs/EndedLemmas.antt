@@ -6,39 +6,39 @@ use Rattle.ud_model.specs.sections.Items.{Options}
 use Rattle.ud_model.specs.sections.Faults.{Fault}
 use Rattle.ud_engine.specs.declared.fault.RunFault.{RunFault}
 use Rattle.ud_engine.specs.declared.fault.RunFault.TheVariants.{Text, Section, Read, Write}
-use Rattle.ud_engine.specs.Running.{Went, EndsAs, FallsShort, CutShort, FoundFault, in_course, at_end}
-use Rattle.ud_streams.proofs.SendingLemmas.{kept}
-use Rattle.unifdef.specs.Ended.{is_read_error, is_write_error}
+use Rattle.ud_engine.specs.Runs.{RunEnded, EndsWith, AppendsPrefixOfOutput, Truncated, StoppedAtFault, in_course, at_end}
+use Rattle.ud_io.proofs.BufferingLemmas.{appends_kept}
+use Rattle.unifdef.specs.ToolEnded.{is_read_error, is_write_error}
 
 module _ (o : Options) (given : List ℕ) (left uo um un : Option (List ℕ)) (keeps : Keeps um un) where
-  short_kept : (ls : List Line) → FallsShort o ls uo um → FallsShort o ls uo un
+  short_kept : (ls : List Line) → AppendsPrefixOfOutput o ls uo um → AppendsPrefixOfOutput o ls uo un
   short_kept ls h = record {
     items = h.items;
     tree = h.tree;
     goes = h.goes;
-    front = (h.front.0, h.front.1, h.front.2, kept uo um un h.front.0 h.front.3 keeps);
+    front = (h.front.0, h.front.1, h.front.2, appends_kept uo um un h.front.0 h.front.3 keeps);
   }
 
-  cut_kept : CutShort o given left uo um → CutShort o given left uo un
+  cut_kept : Truncated o given left uo um → Truncated o given left uo un
   cut_kept (in_course ls later are h) = in_course ls later are (short_kept ls h)
   cut_kept (at_end ended h) = at_end ended (short_kept _ h)
 
-  found_kept : (f : Fault) → FoundFault o given left uo um f → FoundFault o given left uo un f
-  found_kept f h = record { outcome = h.outcome; runs = h.runs; fault = h.fault; appended = kept uo um un h.outcome.output h.appended keeps }
+  found_kept : (f : Fault) → StoppedAtFault o given left uo um f → StoppedAtFault o given left uo un f
+  found_kept f h = record { outcome = h.outcome; runs = h.runs; fault = h.fault; appended = appends_kept uo um un h.outcome.output h.appended keeps }
 
   -- what was written stays so after a flush
-  ends_kept : (r : Result Bool RunFault) → EndsAs o given left uo um r → EndsAs o given left uo un r
+  ends_kept : (r : Result Bool RunFault) → EndsWith o given left uo um r → EndsWith o given left uo un r
   ends_kept (Ok differs) h = (
     h.0,
-    record { outcome = h.1.outcome; runs = h.1.runs; output = kept uo um un h.1.outcome.output h.1.output keeps; answered = h.1.answered },
+    record { outcome = h.1.outcome; runs = h.1.runs; output = appends_kept uo um un h.1.outcome.output h.1.output keeps; answered = h.1.answered },
   )
   ends_kept (Err (Text f)) h = found_kept _ h
   ends_kept (Err (Section f)) h = found_kept _ h
-  ends_kept (Err Read) h = record { outcome = h.outcome; runs = h.runs; right = h.right; appended = kept uo um un h.outcome.output h.appended keeps }
+  ends_kept (Err Read) h = record { outcome = h.outcome; runs = h.runs; right = h.right; appended = appends_kept uo um un h.outcome.output h.appended keeps }
   ends_kept (Err Write) h = cut_kept h
 
 -- how a run went stays so after a flush
-pub flushed_went : (o : Options) (read_old read_new uo um un : Option (List ℕ)) (r : Result Bool RunFault) → Went o read_old read_new uo um r → Keeps um un → Went o read_old read_new uo un r
+pub flushed_went : (o : Options) (read_old read_new uo um un : Option (List ℕ)) (r : Result Bool RunFault) → RunEnded o read_old read_new uo um r → Keeps um un → RunEnded o read_old read_new uo un r
 flushed_went o read_old read_new uo um un r w keeps = record {
   given = w.given;
   consumed = w.consumed;

@@ -2,23 +2,23 @@
 use Rattle.std.proofs.Common.{◌≡◌, ◌⊎◌, ◌∙◌, inl, inr, refl, sym, ap, subst, ℕ, List, Bool, true, false, Option, Some, None}
 use Rattle.std.specs.Prelude.{IfSome, IsSome}
 use Rattle.std.proofs.lemmas.Option.{none-some, same_Some}
-use Rattle.ud_model.specs.answer.CommandLine.{Given, UsageFault, first_fault, unknown_option, missing_argument, bad_symbol_in, bad_mode_in, too_many_files, usage_message}
+use Rattle.ud_model.specs.answer.CommandLine.{ParsedArg, UsageFault, first_fault, unknown_option, missing_argument, bad_symbol_in, bad_mode_in, too_many_files, usage_message}
 use Rattle.ud_model.specs.answer.Messages.{out_of_memory}
-use Rattle.ud_messages.specs.Refusals.{refusal_text, TellsUsage}
-use Rattle.ud_streams.specs.Watching.{Says}
-use Rattle.ud_words.specs.Storing.{PutsSymbol}
-use Rattle.ud_words.specs.Saying.{IsUsageOf}
-use Rattle.ud_words.specs.declared.usage.Usage.{Usage}
-use Rattle.ud_words.specs.declared.usage.Usage.TheVariants.{UnknownOption, MissingArgument, BadSymbol, BadMode, TooManyFiles, OutOfMemory}
+use Rattle.ud_diagnostics.specs.UsageMessages.{usage_text, ReportsUsage}
+use Rattle.ud_io.specs.Watched.{AppendsAllOrPrefix}
+use Rattle.ud_args.specs.SymbolStorage.{StoresSymbol}
+use Rattle.ud_args.specs.ParsedSettings.{IsUsageOf}
+use Rattle.ud_args.specs.declared.usage.Usage.{Usage}
+use Rattle.ud_args.specs.declared.usage.Usage.TheVariants.{UnknownOption, MissingArgument, BadSymbol, BadMode, TooManyFiles, OutOfMemory}
 
 -- the words have this fault, and the text is its message
 pub record TellsFault (fault : Option UsageFault) (u : Usage) : Type 0 where
   pub told : UsageFault
   pub is : fault ≡ Some told
-  pub text : refusal_text u ≡ usage_message told
+  pub text : usage_text u ≡ usage_message told
 
 -- what a plan answers is a fault of the words, told by its message, or memory for a symbol was refused
-pub tells-IsUsageOf : (gs : List Given) (u : Usage) → IsUsageOf gs u → TellsFault (first_fault gs) u ⊎ (PutsSymbol gs × (refusal_text u ≡ out_of_memory))
+pub tells-IsUsageOf : (gs : List ParsedArg) (u : Usage) → IsUsageOf gs u → TellsFault (first_fault gs) u ⊎ (StoresSymbol gs × (usage_text u ≡ out_of_memory))
 tells-IsUsageOf gs (UnknownOption letter) h = inl (record { told = unknown_option letter; is = h; text = refl })
 tells-IsUsageOf gs (MissingArgument letter) h = inl (record { told = missing_argument letter; is = h; text = refl })
 tells-IsUsageOf gs (BadSymbol word) h = inl (record { told = bad_symbol_in word; is = h; text = refl })
@@ -27,16 +27,16 @@ tells-IsUsageOf gs TooManyFiles h = inl (record { told = too_many_files; is = h;
 tells-IsUsageOf gs OutOfMemory h = inr (h, refl)
 
 -- at the first fault of what is given the refusal tells that fault, or that memory for a symbol was refused
-pub tells_usage : (gs : List Given) (u : Usage) (first : Option UsageFault) (e : Bool) (eo en : Option (List ℕ)) (s : ℕ) →
-    first_fault gs ≡ first → IsUsageOf gs u → Says e eo en (refusal_text u) → s ≡ 2 → IfSome first (λ fault. TellsUsage gs fault e eo en s)
+pub tells_usage : (gs : List ParsedArg) (u : Usage) (first : Option UsageFault) (e : Bool) (eo en : Option (List ℕ)) (s : ℕ) →
+    first_fault gs ≡ first → IsUsageOf gs u → AppendsAllOrPrefix e eo en (usage_text u) → s ≡ 2 → IfSome first (λ fault. ReportsUsage gs fault e eo en s)
 tells_usage gs u None e eo en s is wrong said status = tt
 tells_usage gs u (Some fault) e eo en s is wrong said status = by_case (tells-IsUsageOf gs u wrong)
   where
-    by_case : TellsFault (first_fault gs) u ⊎ (PutsSymbol gs × (refusal_text u ≡ out_of_memory)) → TellsUsage gs fault e eo en s
+    by_case : TellsFault (first_fault gs) u ⊎ (StoresSymbol gs × (usage_text u ≡ out_of_memory)) → ReportsUsage gs fault e eo en s
     by_case (inl t) =
         let same : t.told ≡ fault = same_Some t.told fault (sym t.is ∙ is) in
-        record { message = inl (subst (λ (x : List ℕ). Says e eo en x) (t.text ∙ ap usage_message same) said); answered = status }
-    by_case (inr t) = record { message = inr (t.0, subst (λ (x : List ℕ). Says e eo en x) t.1 said); answered = status }
+        record { message = inl (subst (λ (x : List ℕ). AppendsAllOrPrefix e eo en x) (t.text ∙ ap usage_message same) said); answered = status }
+    by_case (inr t) = record { message = inr (t.0, subst (λ (x : List ℕ). AppendsAllOrPrefix e eo en x) t.1 said); answered = status }
 
 -- where there is no fault, none has to be told
 pub none_told : {X : Type 0} (o : Option X) (P : X → Type 0) → o ≡ None → IfSome o P

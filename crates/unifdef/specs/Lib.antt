@@ -1,2 +1,2 @@
-pub mod Gave
-pub mod Ended
+pub mod ToolAnswer
+pub mod ToolEnded

@@ -1,8 +1,8 @@
 //! The tool as a library: unifdef(1) over a reader and two writers.
 //!
-//! `tool` is the whole of it. Its words are read by ud_words, and ud_engine runs over the text and writes what is left of
-//! it; ud_messages tells what is wrong with either, and how it all ends.
-//! What ud_words and ud_engine offer to callers that hold a text in pieces is offered here too:
+//! `tool` is the whole of it. Its words are read by ud_args, and ud_engine runs over the text and writes what is left of
+//! it; ud_diagnostics tells what is wrong with either, and how it all ends.
+//! What ud_args and ud_engine offer to callers that hold a text in pieces is offered here too:
 //!
 //! - `plan` reads words, and refuses them as the program does (`Usage`); `input_of` tells which of them names the input.
 //! - `run` feeds a whole reader to the engine of a `Plan`, and writes what is left to a writer. Its answer is whether some
@@ -17,5 +17,5 @@
 mod running;
 
 pub use running::tool;
+pub use ud_args::{Plan, Usage, input_of, plan};
 pub use ud_engine::{Engine, RunFault, Watched, run};
-pub use ud_words::{Plan, Usage, input_of, plan};

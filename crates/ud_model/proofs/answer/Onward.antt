@@ -8,12 +8,12 @@ use Rattle.ud_model.specs.text.Scans.{Reading}
 use Rattle.ud_model.specs.sections.Tree.{Item, Tree, lines}
 use Rattle.ud_model.specs.sections.Pruning.{Mark, marks}
 use Rattle.ud_model.specs.sections.Items.{Options, line_of, next_item}
-use Rattle.ud_model.specs.sections.Faults.{Fault, AreSound, no_lines, one_more}
-use Rattle.ud_model.specs.answer.Printing.{Judged, judged, judged_lines, pieces_by, piece_behind, style_of}
+use Rattle.ud_model.specs.sections.Faults.{Fault, AreFaultless, no_lines, one_more}
+use Rattle.ud_model.specs.answer.Printing.{Judged, judged_line, judged_lines, pieces_by, piece_after, style_of}
 use Rattle.ud_model.specs.answer.Listing.{levels, listed, listed_names, depth_prefix, names_at}
-use Rattle.ud_model.specs.answer.Runs.{Outcome, output_by, StopsAt, GoesThrough, lines_so_far, ReadsAs, ReadsSoFar, Runs, ran_as, RunsSoFar, came_as}
-use Rattle.ud_model.specs.answer.Runs.ReadsAs.{stops, ends}
-use Rattle.ud_model.specs.answer.Runs.ReadsSoFar.{stops as stops_so_far, breaks, goes_on}
+use Rattle.ud_model.specs.answer.Outcomes.{Outcome, output_by, FirstFaultAt, HasNoFault, lines_so_far, ReadsAs, ReadsSoFar, HasOutcome, ran_as, HasOutcomeSoFar, came_as}
+use Rattle.ud_model.specs.answer.Outcomes.ReadsAs.{stops, ends}
+use Rattle.ud_model.specs.answer.Outcomes.ReadsSoFar.{stops as stops_so_far, breaks, goes_on}
 use Rattle.ud_model.specs.declared.settings.Settings.{Settings}
 use Rattle.ud_model.specs.declared.settings.Listing.{Listing}
 use Rattle.ud_model.specs.declared.settings.Listing.TheVariants.{Off, Names, Depths}
@@ -29,7 +29,7 @@ abbrev pub BeginsWith : List (Item Reading) → List (Item Reading) → Type 0
 BeginsWith xs ys = (zs : List (Item Reading)) × (ys ≡ xs ++ zs)
 
 module _ (o : Options) where
-  parts_by : (xs : List (Item Reading)) (t : Tree Reading) → AreSound o xs t → {more : List Line} → ByPush more → (ys : List (Item Reading)) (u : Tree Reading) → AreSound o ys u →
+  parts_by : (xs : List (Item Reading)) (t : Tree Reading) → AreFaultless o xs t → {more : List Line} → ByPush more → (ys : List (Item Reading)) (u : Tree Reading) → AreFaultless o ys u →
       map line_of ys ≡ map line_of xs ++ more → BeginsWith xs ys
   parts_by xs t a none ys u b e = ([], sound_same o ys xs u t b a (e ∙ append-nil (map line_of xs)) ∙ sym (append-nil xs))
   parts_by xs t a (push {xs = ms} l p) _ _ no_lines e = absurd (push_not_nil (map line_of xs ++ ms) l (append_assoc (map line_of xs) ms (l ∷ []) ∙ sym e))
@@ -40,7 +40,7 @@ module _ (o : Options) where
       (r.0 ++ next_item o ys u k ∷ [], ap (λ (qs : List (Item Reading)). qs ++ next_item o ys u k ∷ []) r.1 ∙ append_assoc xs r.0 (next_item o ys u k ∷ []))
 
   -- sound items whose lines begin with those of others begin with these
-  sound_parts : (xs ys : List (Item Reading)) (t u : Tree Reading) (more : List Line) → AreSound o xs t → AreSound o ys u → map line_of ys ≡ map line_of xs ++ more → BeginsWith xs ys
+  sound_parts : (xs ys : List (Item Reading)) (t u : Tree Reading) (more : List Line) → AreFaultless o xs t → AreFaultless o ys u → map line_of ys ≡ map line_of xs ++ more → BeginsWith xs ys
   sound_parts xs ys t u more a b e = parts_by xs t a (by_push more) ys u b e
 
 -- of two fronts of a list of lines one begins with the other
@@ -58,12 +58,12 @@ meet (a ∷ ks) (b ∷ bs) x cs ds e = go (meet ks bs x cs ds (cc))
     go (inl s) = inl (s.0, cc)
     go (inr s) = inr (s.0, cc)
 
-module _ (o : Options) (ls later : List Line) (xs : List (Item Reading)) (t : Tree Reading) (through : GoesThrough o ls xs t) where
-  through_more : (all : List Line) → all ≡ ls ++ later → (ys : List (Item Reading)) (u : Tree Reading) → GoesThrough o all ys u → BeginsWith xs ys
+module _ (o : Options) (ls later : List Line) (xs : List (Item Reading)) (t : Tree Reading) (through : HasNoFault o ls xs t) where
+  through_more : (all : List Line) → all ≡ ls ++ later → (ys : List (Item Reading)) (u : Tree Reading) → HasNoFault o all ys u → BeginsWith xs ys
   through_more all e ys u h =
       sound_parts o xs ys t u later through.sound h.sound (sym h.are ∙ e ∙ ap (λ (ks : List Line). ks ++ later) through.are)
 
-  stops_later : (all : List Line) → all ≡ ls ++ later → (ys : List (Item Reading)) (u : Tree Reading) (f : Fault) → StopsAt o all ys u f → BeginsWith xs ys
+  stops_later : (all : List Line) → all ≡ ls ++ later → (ys : List (Item Reading)) (u : Tree Reading) (f : Fault) → FirstFaultAt o all ys u f → BeginsWith xs ys
   stops_later all e ys u f h =
       go (meet (map line_of ys) (map line_of xs) h.faulty h.later later (sym h.are ∙ e ∙ ap (λ (ks : List Line). ks ++ later) through.are))
     where
@@ -71,7 +71,7 @@ module _ (o : Options) (ls later : List Line) (xs : List (Item Reading)) (t : Tr
       go (inl s) = absurd (faulty_inside o ys xs u t h.faulty s.0 f h.sound h.fault through.sound s.1)
       go (inr s) = sound_parts o xs ys t u s.0 through.sound h.sound s.1
 
-module _ (o : Options) (given more : List ℕ) (xs : List (Item Reading)) (t : Tree Reading) (through : GoesThrough o (lines_so_far given) xs t) where
+module _ (o : Options) (given more : List ℕ) (xs : List (Item Reading)) (t : Tree Reading) (through : HasNoFault o (lines_so_far given) xs t) where
   ended : {ys : List (Item Reading)} {u : Tree Reading} {g : Option Fault} → ReadsAs o (given ++ more) ys u g → BeginsWith xs ys
   ended (stops ys u f h) =
       stops_later o (lines_so_far given) (lines_of-append given more).0 xs t through (lines_of (given ++ more)) (lines_of-append given more).1 ys u f h
@@ -120,7 +120,7 @@ pub judged_more : (xs ys : List (Item Reading)) (ms ns : List Mark) → length x
 judged_more [] ys [] ns e = refl
 judged_more [] ys (m ∷ ms) ns e = absurd (omega arith)
 judged_more (x ∷ xs) ys [] ns e = absurd (omega arith)
-judged_more (x ∷ xs) ys (m ∷ ms) ns e = ap (λ (js : List Judged). judged x m ∷ js) (judged_more xs ys ms ns (omega arith))
+judged_more (x ∷ xs) ys (m ∷ ms) ns e = ap (λ (js : List Judged). judged_line x m ∷ js) (judged_more xs ys ms ns (omega arith))
 
 -- lines with marks of which there are as many are all judged
 pub judged_all : (xs : List (Item Reading)) (ms : List Mark) → length ms ≡ length xs → map (λ (j : Judged). j.line) (judged_lines xs ms) ≡ map line_of xs
@@ -173,9 +173,9 @@ module _ (t u : Tree Reading) (more : List (Item Reading)) (e : lines u ≡ line
   -- the output of a longer text begins with that of the text
   pub output_grows : (q : Listing) (s : Settings) → (rest : List ℕ) × (output_by q s (lines u) u ≡ output_by q s (lines t) t ++ rest)
   output_grows Off s =
-      let p : (rest : List (List ℕ)) × (pieces_by (piece_behind (style_of s)) [] (judged_lines (lines u) (marks u)) ≡ pieces_by (piece_behind (style_of s)) [] (judged_lines (lines t) (marks t)) ++ rest) =
-      pieces_grow (piece_behind (style_of s)) in
-      (concat p.0, ap concat p.1 ∙ concat-append (pieces_by (piece_behind (style_of s)) [] (judged_lines (lines t) (marks t))) p.0)
+      let p : (rest : List (List ℕ)) × (pieces_by (piece_after (style_of s)) [] (judged_lines (lines u) (marks u)) ≡ pieces_by (piece_after (style_of s)) [] (judged_lines (lines t) (marks t)) ++ rest) =
+      pieces_grow (piece_after (style_of s)) in
+      (concat p.0, ap concat p.1 ∙ concat-append (pieces_by (piece_after (style_of s)) [] (judged_lines (lines t) (marks t))) p.0)
   output_grows Names s = listed_grow false
   output_grows Depths s = listed_grow true
 
@@ -190,11 +190,11 @@ printed_on s xs ys t u d e b =
     )
 
 -- what is printed of a text that goes on begins with what is printed of it so far
-pub prints_further : (o : Options) (given more : List ℕ) {r s : Outcome} → RunsSoFar o given r → RunsSoFar o (given ++ more) s → (rest : List ℕ) × (s.output ≡ r.output ++ rest)
+pub prints_further : (o : Options) (given more : List ℕ) {r s : Outcome} → HasOutcomeSoFar o given r → HasOutcomeSoFar o (given ++ more) s → (rest : List ℕ) × (s.output ≡ r.output ++ rest)
 prints_further o given more (came_as {xs = xs} {t = t} a) (came_as {xs = ys} {t = u} b) =
     printed_on o.settings xs ys t u (read_so_far_lines a) (read_so_far_lines b) (reads_further o given more a b)
 
 -- and so does what is printed of one that ends
-pub prints_on : (o : Options) (given more : List ℕ) {r s : Outcome} → RunsSoFar o given r → Runs o (given ++ more) s → (rest : List ℕ) × (s.output ≡ r.output ++ rest)
+pub prints_on : (o : Options) (given more : List ℕ) {r s : Outcome} → HasOutcomeSoFar o given r → HasOutcome o (given ++ more) s → (rest : List ℕ) × (s.output ≡ r.output ++ rest)
 prints_on o given more (came_as {xs = xs} {t = t} a) (ran_as {xs = ys} {t = u} b) =
     printed_on o.settings xs ys t u (read_so_far_lines a) (read_lines b) (reads_on o given more a b)

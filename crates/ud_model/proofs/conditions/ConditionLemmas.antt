@@ -4,8 +4,8 @@ use Rattle.ud_model.specs.sections.Directives.{role_of, test_of}
 use Rattle.ud_model.specs.conditions.Table.{Argument, Entry}
 use Rattle.ud_model.specs.conditions.Expressions.{Expression, constant, named, is_defined, unary, binary, parens}
 use Rattle.ud_model.specs.aids.Parsing.{expression_of}
-use Rattle.ud_model.specs.conditions.Values.{alter, combine, name_value, name_value_by, name_has_u, end_has_u, defined_value, defined_value_by, number_of, has_unsigned, value_of}
-use Rattle.ud_model.specs.conditions.Conditions.{Rules, names_listed, undefined_by, calls_undefined, tree_cond, tree_cond_if, expression_cond, decided_by, begins_section, condition_of, Decision, sole_name, ifdef_by, ifdef_decision, negated}
+use Rattle.ud_model.specs.conditions.Values.{apply_unary, apply_binary, name_value, name_value_by, name_has_u, end_has_u, defined_value, defined_value_by, number_of, has_unsigned, value_of}
+use Rattle.ud_model.specs.conditions.Conditions.{Rules, mentions_listed, undefined_by, calls_undefined, tree_cond, tree_cond_if, expression_cond, decision_by_test, begins_section, condition_of, Decision, sole_name, ifdef_by, ifdef_decision, negate}
 use Rattle.ud_model.specs.declared.cond.Cond.{Cond}
 use Rattle.ud_model.specs.declared.kind.Kind.{Kind}
 use Rattle.ud_model.specs.declared.kind.Test.{Test}
@@ -33,8 +33,8 @@ module _ (t u : List Argument) (same : SaySame t u) where
   number_of_same strict b (constant w) = refl
   number_of_same strict b (named n a) = name_value_same b n
   number_of_same strict b (is_defined n p) = defined_value_same n
-  number_of_same strict b (unary o x) = ap (alter b o) (number_of_same strict b x)
-  number_of_same strict b (binary o x y) = ap₂ (combine strict b o) (number_of_same strict b x) (number_of_same strict b y)
+  number_of_same strict b (unary o x) = ap (apply_unary b o) (number_of_same strict b x)
+  number_of_same strict b (binary o x y) = ap₂ (apply_binary strict b o) (number_of_same strict b x) (number_of_same strict b y)
   number_of_same strict b (parens x) = number_of_same strict b x
 
   -- a `u` stands in it or not
@@ -47,7 +47,7 @@ module _ (t u : List Argument) (same : SaySame t u) where
   has_unsigned_same (parens x) = has_unsigned_same x
 
   -- a listed name stands in it or not
-  pub names_listed_same : (e : Expression) → names_listed t e ≡ names_listed u e
+  pub names_listed_same : (e : Expression) → mentions_listed t e ≡ mentions_listed u e
   names_listed_same (constant w) = refl
   names_listed_same (named n a) = ap is_some (same n)
   names_listed_same (is_defined n p) = ap is_some (same n)
@@ -84,10 +84,10 @@ module _ (t u : List Argument) (same : SaySame t u) where
   ifdef_decision_same None = refl
   ifdef_decision_same (Some n) = ap ifdef_by (same n)
 
-  decided_by_same : (p : Test) (text : List ℕ) (rules : Rules) → decided_by p text t rules ≡ decided_by p text u rules
+  decided_by_same : (p : Test) (text : List ℕ) (rules : Rules) → decision_by_test p text t rules ≡ decision_by_test p text u rules
   decided_by_same Nonzero text rules = ap (λ (c : Cond). record { cond = c; ignoring = false }) (expression_cond_same text rules)
   decided_by_same Defined text rules = ifdef_decision_same (sole_name text)
-  decided_by_same Undefined text rules = ap (λ (d : Decision). record d { cond = negated d.cond }) (ifdef_decision_same (sole_name text))
+  decided_by_same Undefined text rules = ap (λ (d : Decision). record d { cond = negate d.cond }) (ifdef_decision_same (sole_name text))
   decided_by_same Nothing text rules = refl
 
   -- each condition is decided alike

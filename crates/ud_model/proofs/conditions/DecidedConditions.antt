@@ -5,7 +5,7 @@ use Rattle.ud_model.specs.conditions.Table.{Argument, Entry, entry_in}
 use Rattle.ud_model.specs.conditions.Expressions.{Expression, IsWritten}
 use Rattle.ud_model.specs.aids.Parsing.{expression_of}
 use Rattle.ud_model.specs.conditions.Values.{is_zero, value_of}
-use Rattle.ud_model.specs.conditions.Conditions.{Rules, names_listed, calls_undefined, truth_of, tree_cond, tree_cond_if, expression_cond, sole_name, ifdef_by, ifdef_decision, negated, decided_by}
+use Rattle.ud_model.specs.conditions.Conditions.{Rules, mentions_listed, calls_undefined, truth_of, tree_cond, tree_cond_if, expression_cond, sole_name, ifdef_by, ifdef_decision, negate, decision_by_test}
 use Rattle.ud_model.specs.conditions.Names.{names_in, names_in_tree, names_of}
 use Rattle.ud_model.specs.conditions.CValues.{Number, number, IsCValue}
 use Rattle.ud_model.specs.declared.cond.Cond.{Cond}
@@ -65,13 +65,13 @@ no_by false (Some z) e = by (is_zero z) refl e
 -- a condition that is true has no C value but such as aren't 0
 pub yes_is_true : (table : List Argument) (rules : Rules) (e : Expression) (c : Number) → tree_cond e table rules ≡ Yes → IsCValue table e c → number c ≢ pos 0
 yes_is_true table rules e c d v h =
-    let q : (z : ℤ) × (value_of table rules.strict e ≡ Some z) × (is_zero z ≡ false) = yes_by (calls_undefined table e || not (rules.constants || names_listed table e)) (value_of table rules.strict e) d in
+    let q : (z : ℤ) × (value_of table rules.strict e ≡ Some z) × (is_zero z ≡ false) = yes_by (calls_undefined table e || not (rules.constants || mentions_listed table e)) (value_of table rules.strict e) d in
     false≢true (sym q.2 ∙ (zero_decides q.0).1 (sym (known_stays table rules.strict e q.0 c q.1 v) ∙ h))
 
 -- a condition that is false has the C value 0 at most
 pub no_is_false : (table : List Argument) (rules : Rules) (e : Expression) (c : Number) → tree_cond e table rules ≡ No → IsCValue table e c → number c ≡ pos 0
 no_is_false table rules e c d v =
-    let q : (z : ℤ) × (value_of table rules.strict e ≡ Some z) × (is_zero z ≡ true) = no_by (calls_undefined table e || not (rules.constants || names_listed table e)) (value_of table rules.strict e) d in
+    let q : (z : ℤ) × (value_of table rules.strict e ≡ Some z) × (is_zero z ≡ true) = no_by (calls_undefined table e || not (rules.constants || mentions_listed table e)) (value_of table rules.strict e) d in
     known_stays table rules.strict e q.0 c q.1 v ∙ (zero_decides q.0).0 q.2
 
 -- an entry decides
@@ -87,13 +87,13 @@ by_name : (o : Option (List ℕ)) (table : List Argument) → (ifdef_decision o 
 by_name None table e = refl
 by_name (Some n) table e = by_entry (entry_in table n) e
 
-negated_unknown : (c : Cond) → negated c ≡ Unknown → c ≡ Unknown
+negated_unknown : (c : Cond) → negate c ≡ Unknown → c ≡ Unknown
 negated_unknown Yes e = cc
 negated_unknown No e = cc
 negated_unknown Unknown e = refl
 
 -- a condition that is unknown makes no section plain text
-pub unknown_heeds : (p : Test) (after : List ℕ) (table : List Argument) (rules : Rules) → (decided_by p after table rules).cond ≡ Unknown → (decided_by p after table rules).ignoring ≡ false
+pub unknown_heeds : (p : Test) (after : List ℕ) (table : List Argument) (rules : Rules) → (decision_by_test p after table rules).cond ≡ Unknown → (decision_by_test p after table rules).ignoring ≡ false
 unknown_heeds Nonzero after table rules e = refl
 unknown_heeds Defined after table rules e = by_name (sole_name after) table e
 unknown_heeds Undefined after table rules e = by_name (sole_name after) table (negated_unknown (ifdef_decision (sole_name after) table).cond e)

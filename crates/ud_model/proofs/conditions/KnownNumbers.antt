@@ -12,8 +12,8 @@ use Rattle.std.proofs.lemmas.Int.{to_z_pos}
 use Rattle.std.proofs.Math.Nat.{mod-eq_of_lt, add-mul-mod_self_right}
 use Rattle.std.proofs.Math.Facts.{to_z-neg}
 use mir.Syntax.{w64}
-use Rattle.ud_model.specs.conditions.Values.{fits, fit, truth, is_zero, same, operate, change}
-use Rattle.ud_model.specs.conditions.CValues.{Changes, Number, signed, unsigned, number, IsTruth, GivesSigned, GivesUnsigned, Gives}
+use Rattle.ud_model.specs.conditions.Values.{fits, fit, truth, is_zero, equal_numbers, apply_binary_known, apply_unary_known}
+use Rattle.ud_model.specs.conditions.CValues.{GivesUnary, Number, signed, unsigned, number, IsTruth, GivesSigned, GivesUnsigned, Gives}
 use Rattle.ud_model.specs.declared.operator.Operator.{Operator}
 use Rattle.ud_model.specs.declared.operator.Operator.TheVariants.{Or, And, BitOr, BitXor, BitAnd, Equal, NotEqual, Less, LessEqual, Greater, GreaterEqual, Plus, Minus, Times, Over, Remainder, Not, Complement}
 
@@ -98,7 +98,7 @@ negsuc_same : (a b : ℕ) → negsuc a ≡ negsuc b → a ≡ b
 negsuc_same a b e = let q : suc a ≡ suc b = ap unsigned_abs e in omega arith
 
 -- the test for equal numbers decides
-pub same_decides : (a b : ℤ) → Decides (same a b) (a ≡ b)
+pub same_decides : (a b : ℤ) → Decides (equal_numbers a b) (a ≡ b)
 same_decides (pos a) (pos b) = like_decides (leb a b && leb b a) (λ e. ap pos e) (pos_same a b) (both_ways a b)
 same_decides (pos a) (negsuc b) = ((λ e. absurd (false≢true e)), λ h. cc)
 same_decides (negsuc a) (pos b) = ((λ e. absurd (false≢true e)), λ h. cc)
@@ -113,15 +113,15 @@ in_range true o n e = e
 in_range false o n e = absurd (none-some n e)
 
 -- two known operands of intmax_t
-pub signed_agrees : (u : Bool) (o : Operator) (a b n : ℤ) (c : Number) → operate u o a b ≡ Some n → GivesSigned o a b c → Agrees u n c
-unfolding operate
+pub signed_agrees : (u : Bool) (o : Operator) (a b n : ℤ) (c : Number) → apply_binary_known u o a b ≡ Some n → GivesSigned o a b c → Agrees u n c
+unfolding apply_binary_known
 signed_agrees u Or a b n c e g = absurd g
 signed_agrees u And a b n c e g = absurd g
 signed_agrees u BitOr a b n c e g = as_signed u n c _ g (fit_is u _ n e)
 signed_agrees u BitXor a b n c e g = as_signed u n c _ g (fit_is u _ n e)
 signed_agrees u BitAnd a b n c e g = as_signed u n c _ g (fit_is u _ n e)
-signed_agrees u Equal a b n c e g = truth_agrees (a ≡ b) u (same a b) n c (same_decides a b) e g
-signed_agrees u NotEqual a b n c e g = truth_agrees (a ≢ b) u (not (same a b)) n c (not_decides (same a b) (same_decides a b)) e g
+signed_agrees u Equal a b n c e g = truth_agrees (a ≡ b) u (equal_numbers a b) n c (same_decides a b) e g
+signed_agrees u NotEqual a b n c e g = truth_agrees (a ≢ b) u (not (equal_numbers a b)) n c (not_decides (equal_numbers a b) (same_decides a b)) e g
 signed_agrees u Less a b n c e g = truth_agrees (a <ℤ b) u (int_lt a b) n c (less_decides a b) e g
 signed_agrees u LessEqual a b n c e g = truth_agrees (a ≤ℤ b) u (int_le a b) n c (at_most_decides a b) e g
 signed_agrees u Greater a b n c e g = truth_agrees (b <ℤ a) u (int_lt b a) n c (less_decides b a) e g
@@ -169,9 +169,9 @@ minus_known a zero n c l e g =
 minus_known a (suc k) n c l e g = sub_known (ltb a (suc k)) a k n c refl g e l
 
 -- two known operands, one of them of uintmax_t
-pub unsigned_agrees : (o : Operator) (a b : ℕ) (n : ℤ) (c : Number) → a < 2 ^ 63 → b < 2 ^ 63 → operate true o (pos a) (pos b) ≡ Some n → GivesUnsigned o a b c →
+pub unsigned_agrees : (o : Operator) (a b : ℕ) (n : ℤ) (c : Number) → a < 2 ^ 63 → b < 2 ^ 63 → apply_binary_known true o (pos a) (pos b) ≡ Some n → GivesUnsigned o a b c →
     Agrees true n c
-unfolding operate
+unfolding apply_binary_known
 unsigned_agrees Or a b n c k l e g = absurd g
 unsigned_agrees And a b n c k l e g = absurd g
 unsigned_agrees BitOr a b n c k l e g = as_natural n c (bit_or a b) g (bits_known (bit_or a b) n (or_lt 63 a b k l) e)
@@ -201,7 +201,7 @@ natural_of (pos j) f = (j, refl, (Decides-ltb j (2 ^ 63)).0 f)
 natural_of (negsuc j) f = absurd (false≢true f)
 
 gives_by : (u : Bool) (o : Operator) (a b n : ℤ) (c : Number) (j k : ℕ) → u ≡ true → fits u a ≡ true → fits u b ≡ true → j ≡ cast_unsigned w64 a → k ≡ cast_unsigned w64 b →
-    operate u o a b ≡ Some n → GivesUnsigned o j k c → Agrees u n c
+    apply_binary_known u o a b ≡ Some n → GivesUnsigned o j k c → Agrees u n c
 gives_by true o a b n c j k t f g p q e h =
     let x : (i : ℕ) × (a ≡ pos i) × (i < 2 ^ 63) = natural_of a f in
     let y : (i : ℕ) × (b ≡ pos i) × (i < 2 ^ 63) = natural_of b g in
@@ -211,7 +211,7 @@ gives_by true o a b n c j k t f g p q e h =
 gives_by false o a b n c j k t f g p q e h = absurd (false≢true t)
 
 -- C's result agrees with the known one
-pub gives_agrees : (u : Bool) (o : Operator) (a b n : ℤ) (x y c : Number) → Agrees u a x → Agrees u b y → operate u o a b ≡ Some n → Gives o x y c → Agrees u n c
+pub gives_agrees : (u : Bool) (o : Operator) (a b n : ℤ) (x y c : Number) → Agrees u a x → Agrees u b y → apply_binary_known u o a b ≡ Some n → Gives o x y c → Agrees u n c
 gives_agrees u o a b n (signed s) (signed t) c p q e g = signed_agrees u o a b n c e (rw (p.0, q.0) at g)
 gives_agrees u o a b n (signed s) (unsigned t) c p q e g =
     gives_by u o a b n c _ t q.2 p.1 q.1 (ap (cast_unsigned w64) p.0) (ap (cast_unsigned w64) q.0) e g
@@ -263,8 +263,8 @@ no_complement : (j : ℕ) (n : ℤ) → fit true (neg_ℤ (pos j) -ℤ pos 1) �
 no_complement j n e = none-some n (rw (minus_one j) at e)
 
 -- C's result agrees with the known one
-pub changes_agrees : (u : Bool) (o : Operator) (a n : ℤ) (x c : Number) → Agrees u a x → change u o a ≡ Some n → Changes o x c → Agrees u n c
-unfolding change
+pub changes_agrees : (u : Bool) (o : Operator) (a n : ℤ) (x c : Number) → Agrees u a x → apply_unary_known u o a ≡ Some n → GivesUnary o x c → Agrees u n c
+unfolding apply_unary_known
 changes_agrees u Not a n x c p e g = truth_agrees (number x ≡ pos 0) u (is_zero a) n c (zero_agrees u a x p) e g
 changes_agrees u Minus a n (signed s) c p e g = as_signed u n c (neg_ℤ s) g.1 (fit_is u (neg_ℤ s) n (ap (λ z. fit u (neg_ℤ z)) p.0 ∙ e))
 changes_agrees true Minus a n (unsigned j) c p e g = negated_natural j n c (ap (λ z. fit true (neg_ℤ z)) p.0 ∙ e) g

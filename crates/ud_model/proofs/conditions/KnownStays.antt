@@ -11,10 +11,10 @@ use Rattle.std.proofs.lemmas.Bool.Decides.{Decides-ltb}
 use mir.Syntax.{w64}
 use Rattle.ud_model.specs.conditions.Table.{Argument, Entry, entry_in}
 use Rattle.ud_model.specs.conditions.Constants.{has_u, is_constant, constant_number}
-use Rattle.ud_model.specs.conditions.Symbols.{end_of}
+use Rattle.ud_model.specs.conditions.Symbols.{resolve}
 use Rattle.ud_model.specs.conditions.Expressions.{Expression}
-use Rattle.ud_model.specs.conditions.Values.{fits, truth, is_zero, operate, decided, decides, combine, alter, limited, constant_value, negated_value, text_value, end_value, defined_name_value, name_value_by, name_value, name_has_u, defined_value_by, defined_value, number_of, has_unsigned, value_of}
-use Rattle.ud_model.specs.conditions.CValues.{Number, signed, unsigned, number, IsTruth, IsZero, Gives, Changes, IsConstantValue, plain, by_suffix, by_size, typed, CValue, of_constant, of_known_name, of_open_name, of_known_defined, of_open_defined, of_unary, of_binary, of_and_left, of_and_both, of_or_left, of_or_both, of_parens, IsCValue}
+use Rattle.ud_model.specs.conditions.Values.{fits, truth, is_zero, apply_binary_known, short_circuit, short_circuits, apply_binary, apply_unary, limited, constant_value, negated_value, text_value, end_value, defined_name_value, name_value_by, name_value, name_has_u, defined_value_by, defined_value, number_of, has_unsigned, value_of}
+use Rattle.ud_model.specs.conditions.CValues.{Number, signed, unsigned, number, IsTruth, IsZero, Gives, GivesUnary, IsConstantValue, plain, by_suffix, by_size, typed, CValue, of_constant, of_known_name, of_open_name, of_known_defined, of_open_defined, of_unary, of_binary, of_and_left, of_and_both, of_or_left, of_or_both, of_parens, IsCValue}
 use Rattle.ud_model.specs.declared.operator.Operator.{Operator}
 use Rattle.ud_model.specs.declared.operator.Operator.TheVariants.{Or, And}
 use Rattle.ud_model.proofs.conditions.KnownNumbers.{Agrees, agrees_number, fit_is, truth_agrees, not_decides, zero_agrees, gives_agrees, changes_agrees}
@@ -78,7 +78,7 @@ entry_fits u end (Some x) n e = defined_fits u end x.value n e
 -- the known value of a name is in range
 name_fits : (table : List Argument) (u : Bool) (name : List ℕ) (n : ℤ) → name_value table u name ≡ Some n → fits u n ≡ true
 unfolding name_value
-name_fits table u name n e = entry_fits u (end_of table name) (entry_in table name) n e
+name_fits table u name n e = entry_fits u (resolve table name) (entry_in table name) n e
 
 typed_natural : (u : Bool) (z : ℤ) → u ≡ true → fits u z ≡ true → Agrees u z (unsigned (cast_unsigned w64 z))
 typed_natural true (pos j) t f = (refl, f, refl)
@@ -101,7 +101,7 @@ defined_known : (table : List Argument) (u : Bool) (name : List ℕ) (z n : ℤ)
 unfolding defined_value
 defined_known table u name z n d e = (same_Some z n (sym d ∙ e), defined_value_fits u (entry_in table name) n e)
 
-unary_known : (u : Bool) (o : Operator) (v : Option ℤ) (x c : Number) → Knows u v x → Changes o x c → Knows u (alter u o v) c
+unary_known : (u : Bool) (o : Operator) (v : Option ℤ) (x c : Number) → Knows u v x → GivesUnary o x c → Knows u (apply_unary u o v) c
 unary_known u o None x c f g n e = absurd (none-some n e)
 unary_known u o (Some a) x c f g n e = changes_agrees u o a n x c (f a refl) e g
 
@@ -118,16 +118,16 @@ no_or (signed a) (unsigned b) c g = g
 no_or (unsigned a) (signed b) c g = g
 no_or (unsigned a) (unsigned b) c g = g
 
-not_decided : (o : Operator) (x y c : Number) (a n : ℤ) → Gives o x y c → decided o a ≡ Some n → ⊥
+not_decided : (o : Operator) (x y c : Number) (a n : ℤ) → Gives o x y c → short_circuit o a ≡ Some n → ⊥
 not_decided And x y c a n g e = no_and x y c g
 not_decided Or x y c a n g e = no_or x y c g
 not_decided _ x y c a n g e = none-some n e
 
-undecided : (strict : Bool) (o : Operator) (x y c : Number) (a n : ℤ) → Gives o x y c → decides strict o a ≡ Some n → ⊥
+undecided : (strict : Bool) (o : Operator) (x y c : Number) (a n : ℤ) → Gives o x y c → short_circuits strict o a ≡ Some n → ⊥
 undecided true o x y c a n g e = none-some n e
 undecided false o x y c a n g e = not_decided o x y c a n g e
 
-binary_known : (strict u : Bool) (o : Operator) (v w : Option ℤ) (x y c : Number) → Knows u v x → Knows u w y → Gives o x y c → Knows u (combine strict u o v w) c
+binary_known : (strict u : Bool) (o : Operator) (v w : Option ℤ) (x y c : Number) → Knows u v x → Knows u w y → Gives o x y c → Knows u (apply_binary strict u o v w) c
 binary_known strict u o (Some a) (Some b) x y c f g h n e = gives_agrees u o a b n x y c (f a refl) (g b refl) e h
 binary_known strict u o (Some a) None x y c f g h n e = absurd (undecided strict o x y c a n h e)
 binary_known strict u o None (Some b) x y c f g h n e = absurd (undecided strict o x y c b n h e)
@@ -140,7 +140,7 @@ is_one : (u : Bool) (n : ℤ) → pos 1 ≡ n → Agrees u n (signed (pos 1))
 is_one u n e = (e, ap (fits u) (sym e))
 
 -- where one operand decides `&&`, it is 0 and so is the value
-and_by : (strict : Bool) (a n : ℤ) → decides strict And a ≡ Some n → (is_zero a ≡ true) × (pos 0 ≡ n)
+and_by : (strict : Bool) (a n : ℤ) → short_circuits strict And a ≡ Some n → (is_zero a ≡ true) × (pos 0 ≡ n)
 and_by true a n e = absurd (none-some n e)
 and_by false a n e = by (is_zero a) e
   where
@@ -149,7 +149,7 @@ and_by false a n e = by (is_zero a) e
     by false d = absurd (none-some n d)
 
 -- where one operand decides `||`, it isn't 0, and the value is 1
-or_by : (strict : Bool) (a n : ℤ) → decides strict Or a ≡ Some n → (is_zero a ≡ false) × (pos 1 ≡ n)
+or_by : (strict : Bool) (a n : ℤ) → short_circuits strict Or a ≡ Some n → (is_zero a ≡ false) × (pos 1 ≡ n)
 or_by true a n e = absurd (none-some n e)
 or_by false a n e = by (is_zero a) e
   where
@@ -164,8 +164,8 @@ no_zero u a x p h = by (is_zero a) refl
     by true d = absurd (h ((zero_agrees u a x p).0 d))
     by false d = refl
 
-and_left_known : (strict u : Bool) (v w : Option ℤ) (x : Number) → Knows u v x → IsZero x → Knows u (combine strict u And v w) (signed (pos 0))
-unfolding operate
+and_left_known : (strict u : Bool) (v w : Option ℤ) (x : Number) → Knows u v x → IsZero x → Knows u (apply_binary strict u And v w) (signed (pos 0))
+unfolding apply_binary_known
 and_left_known strict u (Some a) (Some b) x f z n e =
     let q : is_zero a ≡ true = (zero_agrees u a x (f a refl)).1 z in
     is_nought u n (same_Some (pos 0) n (sym (ap (λ (t : Bool). Some (truth (not t && not (is_zero b)))) q) ∙ e))
@@ -173,8 +173,8 @@ and_left_known strict u (Some a) None x f z n e = is_nought u n (and_by strict a
 and_left_known strict u None (Some b) x f z n e = is_nought u n (and_by strict b n e).1
 and_left_known strict u None None x f z n e = absurd (none-some n e)
 
-or_left_known : (strict u : Bool) (v w : Option ℤ) (x : Number) → Knows u v x → (IsZero x → ⊥) → Knows u (combine strict u Or v w) (signed (pos 1))
-unfolding operate
+or_left_known : (strict u : Bool) (v w : Option ℤ) (x : Number) → Knows u v x → (IsZero x → ⊥) → Knows u (apply_binary strict u Or v w) (signed (pos 1))
+unfolding apply_binary_known
 or_left_known strict u (Some a) (Some b) x f z n e =
     let q : is_zero a ≡ false = no_zero u a x (f a refl) z in
     is_one u n (same_Some (pos 1) n (sym (ap (λ (t : Bool). Some (truth (not t || not (is_zero b)))) q) ∙ e))
@@ -191,8 +191,8 @@ true_truth : (Holds : Type 0) (u : Bool) (n : ℤ) (c : Number) → IsTruth Hold
 true_truth Holds u n c (inl p) h e = subst (λ x. Agrees u n x) (sym p.1) (is_one u n e)
 true_truth Holds u n c (inr p) h e = absurd (p.0 h)
 
-and_both_known : (strict u : Bool) (v w : Option ℤ) (x y c : Number) → Knows u v x → Knows u w y → (IsZero x → ⊥) → IsTruth (IsZero y → ⊥) c → Knows u (combine strict u And v w) c
-unfolding operate
+and_both_known : (strict u : Bool) (v w : Option ℤ) (x y c : Number) → Knows u v x → Knows u w y → (IsZero x → ⊥) → IsTruth (IsZero y → ⊥) c → Knows u (apply_binary strict u And v w) c
+unfolding apply_binary_known
 and_both_known strict u (Some a) (Some b) x y c f g z t n e =
     let q : is_zero a ≡ false = no_zero u a x (f a refl) z in
     truth_agrees (IsZero y → ⊥) u (not (is_zero b)) n c (not_decides (is_zero b) (zero_agrees u b y (g b refl)))
@@ -203,8 +203,8 @@ and_both_known strict u None (Some b) x y c f g z t n e =
     false_truth (IsZero y → ⊥) u n c t (λ h. h ((zero_agrees u b y (g b refl)).0 p.0)) p.1
 and_both_known strict u None None x y c f g z t n e = absurd (none-some n e)
 
-or_both_known : (strict u : Bool) (v w : Option ℤ) (x y c : Number) → Knows u v x → Knows u w y → IsZero x → IsTruth (IsZero y → ⊥) c → Knows u (combine strict u Or v w) c
-unfolding operate
+or_both_known : (strict u : Bool) (v w : Option ℤ) (x y c : Number) → Knows u v x → Knows u w y → IsZero x → IsTruth (IsZero y → ⊥) c → Knows u (apply_binary strict u Or v w) c
+unfolding apply_binary_known
 or_both_known strict u (Some a) (Some b) x y c f g z t n e =
     let q : is_zero a ≡ true = (zero_agrees u a x (f a refl)).1 z in
     truth_agrees (IsZero y → ⊥) u (not (is_zero b)) n c (not_decides (is_zero b) (zero_agrees u b y (g b refl)))

@@ -4,15 +4,15 @@ use Rattle.ud_model.specs.text.Bytes.{is_identifier}
 use Rattle.ud_model.specs.text.Scans.{Scan, Reading}
 use Rattle.ud_model.specs.sections.Directives.{Directive, Content, cut_keyword, directive, text, role_of, test_of}
 use Rattle.ud_model.specs.conditions.Table.{Argument, Entry, entry_in}
-use Rattle.ud_model.specs.conditions.Symbols.{defined_text, text_in, EndsAt, at_text, by_name, end_of}
+use Rattle.ud_model.specs.conditions.Symbols.{defined_text, text_in, ResolvesTo, at_text, by_name, resolve}
 use Rattle.ud_model.specs.conditions.Expressions.{Expression, constant, named, is_defined, unary, binary, parens}
 use Rattle.ud_model.specs.aids.Parsing.{expression_of}
-use Rattle.ud_model.specs.conditions.Values.{alter, combine, name_value, name_value_by, name_has_u, end_has_u, defined_value, defined_value_by, number_of, has_unsigned, value_of}
-use Rattle.ud_model.specs.conditions.Conditions.{Rules, names_listed, undefined_by, calls_undefined, tree_cond, tree_cond_if, expression_cond, decided_by, begins_section, condition_of, decision_on, Decision, sole_name, ifdef_by, ifdef_decision, negated, undecided}
+use Rattle.ud_model.specs.conditions.Values.{apply_unary, apply_binary, name_value, name_value_by, name_has_u, end_has_u, defined_value, defined_value_by, number_of, has_unsigned, value_of}
+use Rattle.ud_model.specs.conditions.Conditions.{Rules, mentions_listed, undefined_by, calls_undefined, tree_cond, tree_cond_if, expression_cond, decision_by_test, begins_section, condition_of, decision_on, Decision, sole_name, ifdef_by, ifdef_decision, negate, undecided}
 use Rattle.ud_model.specs.conditions.Names.{names_in, names_in_tree, name_alone, names_by, names_of, names_on}
 use Rattle.ud_model.specs.sections.Items.{Options, rules_of, item_by, directive_item}
 use Rattle.ud_model.specs.answer.Listing.{names_in_content}
-use Rattle.ud_model.specs.output.Naming.{LeadsTo, itself, by_value}
+use Rattle.ud_model.specs.output.ListedNames.{LeadsTo, itself, by_value}
 use Rattle.ud_model.specs.declared.cond.Cond.{Cond}
 use Rattle.ud_model.specs.declared.kind.Kind.{Kind}
 use Rattle.ud_model.specs.declared.kind.Test.{Test}
@@ -33,20 +33,20 @@ module _ (t u : List Argument) where
   further : (n v : List ℕ) → Alike n → defined_text t n ≡ Some v → is_identifier v ≡ true → Alike v
   further n v h d i m l = h m (by_value n v m d i l)
 
-  ends_over : (n v : List ℕ) → Alike n → EndsAt t n v → EndsAt u n v
+  ends_over : (n v : List ℕ) → Alike n → ResolvesTo t n v → ResolvesTo u n v
   ends_over n v h (at_text _ _ d i) = at_text n v (ap text_in (sym (h n (itself n))) ∙ d) i
   ends_over n v h (by_name _ m _ d i e) = by_name n m v (ap text_in (sym (h n (itself n))) ∙ d) i (ends_over m v (further n m h d i) e)
 
-  ends_back : (n v : List ℕ) → Alike n → EndsAt u n v → EndsAt t n v
+  ends_back : (n v : List ℕ) → Alike n → ResolvesTo u n v → ResolvesTo t n v
   ends_back n v h (at_text _ _ d i) = at_text n v (ap text_in (h n (itself n)) ∙ d) i
   ends_back n v h (by_name _ m _ d i e) =
       let d' : defined_text t n ≡ Some m = ap text_in (h n (itself n)) ∙ d in
       by_name n m v d' i (ends_back m v (further n m h d' i) e)
 
   -- its value ends at the same text
-  end_alike : (n : List ℕ) → Alike n → end_of t n ≡ end_of u n
+  end_alike : (n : List ℕ) → Alike n → resolve t n ≡ resolve u n
   end_alike n h =
-      same_by (end_of t n) (end_of u n) (λ v e. end_found u n v (ends_over n v h (end_is t n v e))) (λ v e. end_found t n v (ends_back n v h (end_is u n v e)))
+      same_by (resolve t n) (resolve u n) (λ v e. end_found u n v (ends_over n v h (end_is t n v e))) (λ v e. end_found t n v (ends_back n v h (end_is u n v e)))
 
   name_value_alike : (b : Bool) (n : List ℕ) → Alike n → name_value t b n ≡ name_value u b n
   unfolding name_value
@@ -64,10 +64,10 @@ module _ (t u : List Argument) where
   number_of_alike strict b (constant w) h = refl
   number_of_alike strict b (named n a) h = name_value_alike b n h.0
   number_of_alike strict b (is_defined n p) h = defined_value_alike n h.0
-  number_of_alike strict b (unary o x) h = ap (alter b o) (number_of_alike strict b x h)
+  number_of_alike strict b (unary o x) h = ap (apply_unary b o) (number_of_alike strict b x h)
   number_of_alike strict b (binary o x y) h =
       let p : Each Alike (names_in x) × Each Alike (names_in y) = each_parts Alike (names_in x) (names_in y) h in
-      ap₂ (combine strict b o) (number_of_alike strict b x p.0) (number_of_alike strict b y p.1)
+      ap₂ (apply_binary strict b o) (number_of_alike strict b x p.0) (number_of_alike strict b y p.1)
   number_of_alike strict b (parens x) h = number_of_alike strict b x h
 
   has_unsigned_alike : (e : Expression) → Each Alike (names_in e) → has_unsigned t e ≡ has_unsigned u e
@@ -80,7 +80,7 @@ module _ (t u : List Argument) where
       ap₂ (λ (a : Bool) (b : Bool). a || b) (has_unsigned_alike x p.0) (has_unsigned_alike y p.1)
   has_unsigned_alike (parens x) h = has_unsigned_alike x h
 
-  names_listed_alike : (e : Expression) → Each Alike (names_in e) → names_listed t e ≡ names_listed u e
+  names_listed_alike : (e : Expression) → Each Alike (names_in e) → mentions_listed t e ≡ mentions_listed u e
   names_listed_alike (constant w) h = refl
   names_listed_alike (named n a) h = ap is_some (h.0 n (itself n))
   names_listed_alike (is_defined n p) h = ap is_some (h.0 n (itself n))
@@ -118,10 +118,10 @@ module _ (t u : List Argument) where
   ifdef_decision_alike None h = refl
   ifdef_decision_alike (Some n) h = ap ifdef_by (h.0 n (itself n))
 
-  decided_by_alike : (p : Test) (after : List ℕ) (rules : Rules) → Each Alike (names_by p after) → decided_by p after t rules ≡ decided_by p after u rules
+  decided_by_alike : (p : Test) (after : List ℕ) (rules : Rules) → Each Alike (names_by p after) → decision_by_test p after t rules ≡ decision_by_test p after u rules
   decided_by_alike Nonzero after rules h = ap (λ (c : Cond). record { cond = c; ignoring = false }) (expression_cond_alike after rules h)
   decided_by_alike Defined after rules h = ifdef_decision_alike (sole_name after) h
-  decided_by_alike Undefined after rules h = ap (λ (d : Decision). record d { cond = negated d.cond }) (ifdef_decision_alike (sole_name after) h)
+  decided_by_alike Undefined after rules h = ap (λ (d : Decision). record d { cond = negate d.cond }) (ifdef_decision_alike (sole_name after) h)
   decided_by_alike Nothing after rules h = refl
 
   condition_of_alike : (k : Kind) (after : List ℕ) (rules : Rules) → Each Alike (names_of k after) → condition_of k after t rules ≡ condition_of k after u rules

@@ -3,11 +3,11 @@ use Rattle.std.proofs.Common.{◌≡◌, ◌≢◌, ℕ, List, [], ◌∷◌, Bo
 use Rattle.std.proofs.lemmas.Option.{none-some}
 use Rattle.ud_model.specs.conditions.Table.{Argument, Entry, entry_in}
 use Rattle.ud_model.specs.conditions.Constants.{is_constant}
-use Rattle.ud_model.specs.conditions.Symbols.{defined_text, text_in, EndsAt, at_text, by_name, end_of}
+use Rattle.ud_model.specs.conditions.Symbols.{defined_text, text_in, ResolvesTo, at_text, by_name, resolve}
 use Rattle.ud_model.specs.conditions.Expressions.{Expression, constant, named, is_defined, unary, binary, parens}
-use Rattle.ud_model.specs.conditions.Values.{fits, fit, truth, is_zero, by_bits, operate, decided, decides, combine, change, alter, constant_value, negated_value, text_value, end_value, defined_name_value, name_value_by, name_value, defined_value_by, defined_value, number_of, has_unsigned, value_of}
-use Rattle.ud_model.specs.conditions.Conditions.{Rules, names_listed, calls_undefined, truth_of, tree_cond}
-use Rattle.ud_model.specs.output.Naming.{SaysMore}
+use Rattle.ud_model.specs.conditions.Values.{fits, fit, truth, is_zero, by_bits, apply_binary_known, short_circuit, short_circuits, apply_binary, apply_unary_known, apply_unary, constant_value, negated_value, text_value, end_value, defined_name_value, name_value_by, name_value, defined_value_by, defined_value, number_of, has_unsigned, value_of}
+use Rattle.ud_model.specs.conditions.Conditions.{Rules, mentions_listed, calls_undefined, truth_of, tree_cond}
+use Rattle.ud_model.specs.output.ListedNames.{ExtendsTable}
 use Rattle.ud_model.specs.declared.cond.Cond.{Cond}
 use Rattle.ud_model.specs.declared.cond.Cond.TheVariants.{Unknown}
 use Rattle.ud_model.specs.declared.operator.Operator.{Operator}
@@ -41,19 +41,19 @@ when_after false d a b h z e = absurd (none-some z e)
 when_after true true a b h z e = h z e
 when_after true false a b h z e = inr refl
 
-operate_after : (b c : Bool) (o : Operator) (x y : ℤ) → After (operate b o x y) (operate c o x y)
-unfolding operate
-operate_after b c Or x y = same_after (operate b Or x y)
-operate_after b c And x y = same_after (operate b And x y)
+operate_after : (b c : Bool) (o : Operator) (x y : ℤ) → After (apply_binary_known b o x y) (apply_binary_known c o x y)
+unfolding apply_binary_known
+operate_after b c Or x y = same_after (apply_binary_known b Or x y)
+operate_after b c And x y = same_after (apply_binary_known b And x y)
 operate_after b c BitOr x y = fit_after b c (by_bits bit_or x y)
 operate_after b c BitXor x y = fit_after b c (by_bits bit_xor x y)
 operate_after b c BitAnd x y = fit_after b c (by_bits bit_and x y)
-operate_after b c Equal x y = same_after (operate b Equal x y)
-operate_after b c NotEqual x y = same_after (operate b NotEqual x y)
-operate_after b c Less x y = same_after (operate b Less x y)
-operate_after b c LessEqual x y = same_after (operate b LessEqual x y)
-operate_after b c Greater x y = same_after (operate b Greater x y)
-operate_after b c GreaterEqual x y = same_after (operate b GreaterEqual x y)
+operate_after b c Equal x y = same_after (apply_binary_known b Equal x y)
+operate_after b c NotEqual x y = same_after (apply_binary_known b NotEqual x y)
+operate_after b c Less x y = same_after (apply_binary_known b Less x y)
+operate_after b c LessEqual x y = same_after (apply_binary_known b LessEqual x y)
+operate_after b c Greater x y = same_after (apply_binary_known b Greater x y)
+operate_after b c GreaterEqual x y = same_after (apply_binary_known b GreaterEqual x y)
 operate_after b c Plus x y = fit_after b c (x +ℤ y)
 operate_after b c Minus x y = fit_after b c (x -ℤ y)
 operate_after b c Times x y = fit_after b c (x *ℤ y)
@@ -64,8 +64,8 @@ operate_after b c Remainder x y =
 operate_after b c Not x y = same_after None
 operate_after b c Complement x y = same_after None
 
-change_after : (b c : Bool) (o : Operator) (x : ℤ) → After (change b o x) (change c o x)
-unfolding change
+change_after : (b c : Bool) (o : Operator) (x : ℤ) → After (apply_unary_known b o x) (apply_unary_known c o x)
+unfolding apply_unary_known
 change_after b c Or x = same_after None
 change_after b c And x = same_after None
 change_after b c BitOr x = same_after None
@@ -82,16 +82,16 @@ change_after b c Minus x = fit_after b c (neg_ℤ x)
 change_after b c Times x = same_after None
 change_after b c Over x = same_after None
 change_after b c Remainder x = same_after None
-change_after b c Not x = same_after (change b Not x)
+change_after b c Not x = same_after (apply_unary_known b Not x)
 change_after b c Complement x = fit_after b c (neg_ℤ x -ℤ pos 1)
 
-alter_after : (b c : Bool) (o : Operator) (x y : Option ℤ) → After x y → After (alter b o x) (alter c o y)
+alter_after : (b c : Bool) (o : Operator) (x y : Option ℤ) → After x y → After (apply_unary b o x) (apply_unary c o y)
 alter_after b c o None y h z e = absurd (none-some z e)
 alter_after b c o (Some k) y h z e = by (h k refl)
   where
-    by : Or_none k y → Or_none z (alter c o y)
-    by (inl f) = subst (λ (q : Option ℤ). Or_none z (alter c o q)) (sym f) (change_after b c o k z e)
-    by (inr f) = inr (ap (alter c o) f)
+    by : Or_none k y → Or_none z (apply_unary c o y)
+    by (inl f) = subst (λ (q : Option ℤ). Or_none z (apply_unary c o q)) (sym f) (change_after b c o k z e)
+    by (inr f) = inr (ap (apply_unary c o) f)
 
 -- 1. One operand that decides, and both.
 
@@ -127,7 +127,7 @@ or_by : (x : ℤ) (b : Bool) → is_zero x ≡ b → Decides Or x (if b then Non
 or_by x true e = by_none
 or_by x false e = or_some e
 
-decided_is : (o : Operator) (x : ℤ) → Decides o x (decided o x)
+decided_is : (o : Operator) (x : ℤ) → Decides o x (short_circuit o x)
 decided_is And x = and_by x (is_zero x) refl
 decided_is Or x = or_by x (is_zero x) refl
 decided_is BitOr x = by_none
@@ -147,19 +147,19 @@ decided_is Remainder x = by_none
 decided_is Not x = by_none
 decided_is Complement x = by_none
 
-decides_is : (s : Bool) (o : Operator) (x : ℤ) → Decides o x (decides s o x)
+decides_is : (s : Bool) (o : Operator) (x : ℤ) → Decides o x (short_circuits s o x)
 decides_is true o x = by_none
 decides_is false o x = decided_is o x
 
 -- where one operand decides, both give the same
-left_decides : (b : Bool) (o : Operator) (x y : ℤ) (d : Option ℤ) → Decides o x d → After d (operate b o x y)
-unfolding operate
+left_decides : (b : Bool) (o : Operator) (x y : ℤ) (d : Option ℤ) → Decides o x d → After d (apply_binary_known b o x y)
+unfolding apply_binary_known
 left_decides b o x y _ by_none z e = absurd (none-some z e)
 left_decides b _ x y _ (and_zero h) z e = inl (both_zero (is_zero x) (is_zero y) h ∙ e)
 left_decides b _ x y _ (or_some h) z e = inl (left_one (is_zero x) (is_zero y) h ∙ e)
 
-right_decides : (b : Bool) (o : Operator) (x y : ℤ) (d : Option ℤ) → Decides o y d → After d (operate b o x y)
-unfolding operate
+right_decides : (b : Bool) (o : Operator) (x y : ℤ) (d : Option ℤ) → Decides o y d → After d (apply_binary_known b o x y)
+unfolding apply_binary_known
 right_decides b o x y _ by_none z e = absurd (none-some z e)
 right_decides b _ x y _ (and_zero h) z e = inl (right_zero (is_zero x) (is_zero y) h ∙ e)
 right_decides b _ x y _ (or_some h) z e = inl (right_one (is_zero x) (is_zero y) h ∙ e)
@@ -168,17 +168,17 @@ back : (a b : Option ℤ) → ((z : ℤ) → a ≡ Some z → b ≡ Some z) → 
 back None b h z e = inr refl
 back (Some k) b h z e = let f : b ≡ Some k = h k refl in let g : Some k ≡ Some z = sym f ∙ e in inl g
 
-left_back : (b : Bool) (o : Operator) (x y : ℤ) (d : Option ℤ) → Decides o x d → After (operate b o x y) d
-unfolding operate
-left_back b o x y _ by_none = back None (operate b o x y) (λ z e. absurd (none-some z e))
-left_back b _ x y _ (and_zero h) = back (Some (pos 0)) (operate b And x y) (λ z e. both_zero (is_zero x) (is_zero y) h ∙ e)
-left_back b _ x y _ (or_some h) = back (Some (pos 1)) (operate b Or x y) (λ z e. left_one (is_zero x) (is_zero y) h ∙ e)
+left_back : (b : Bool) (o : Operator) (x y : ℤ) (d : Option ℤ) → Decides o x d → After (apply_binary_known b o x y) d
+unfolding apply_binary_known
+left_back b o x y _ by_none = back None (apply_binary_known b o x y) (λ z e. absurd (none-some z e))
+left_back b _ x y _ (and_zero h) = back (Some (pos 0)) (apply_binary_known b And x y) (λ z e. both_zero (is_zero x) (is_zero y) h ∙ e)
+left_back b _ x y _ (or_some h) = back (Some (pos 1)) (apply_binary_known b Or x y) (λ z e. left_one (is_zero x) (is_zero y) h ∙ e)
 
-right_back : (b : Bool) (o : Operator) (x y : ℤ) (d : Option ℤ) → Decides o y d → After (operate b o x y) d
-unfolding operate
-right_back b o x y _ by_none = back None (operate b o x y) (λ z e. absurd (none-some z e))
-right_back b _ x y _ (and_zero h) = back (Some (pos 0)) (operate b And x y) (λ z e. right_zero (is_zero x) (is_zero y) h ∙ e)
-right_back b _ x y _ (or_some h) = back (Some (pos 1)) (operate b Or x y) (λ z e. right_one (is_zero x) (is_zero y) h ∙ e)
+right_back : (b : Bool) (o : Operator) (x y : ℤ) (d : Option ℤ) → Decides o y d → After (apply_binary_known b o x y) d
+unfolding apply_binary_known
+right_back b o x y _ by_none = back None (apply_binary_known b o x y) (λ z e. absurd (none-some z e))
+right_back b _ x y _ (and_zero h) = back (Some (pos 0)) (apply_binary_known b And x y) (λ z e. right_zero (is_zero x) (is_zero y) h ∙ e)
+right_back b _ x y _ (or_some h) = back (Some (pos 1)) (apply_binary_known b Or x y) (λ z e. right_one (is_zero x) (is_zero y) h ∙ e)
 
 -- two operands that decide decide the same
 two_decide : (o : Operator) (x y : ℤ) (d e : Option ℤ) → Decides o x d → Decides o y e → After d e
@@ -190,31 +190,31 @@ two_decide _ x y _ _ (or_some h) (or_some k) z f = inl f
 
 -- 2. Expressions.
 
-combine_after : (s b c : Bool) (o : Operator) (x y v w : Option ℤ) → After x v → After y w → After (combine s b o x y) (combine s c o v w)
+combine_after : (s b c : Bool) (o : Operator) (x y v w : Option ℤ) → After x v → After y w → After (apply_binary s b o x y) (apply_binary s c o v w)
 combine_after s b c o None None v w h k z e = absurd (none-some z e)
 combine_after s b c o (Some p) (Some q) v w h k z e = by (h p refl) (k q refl)
   where
-    by : Or_none p v → Or_none q w → Or_none z (combine s c o v w)
-    by (inl f) (inl g) = subst (λ (d : Option ℤ). Or_none z d) (sym (ap₂ (combine s c o) f g)) (operate_after b c o p q z e)
-    by (inl f) (inr g) = subst (λ (d : Option ℤ). Or_none z d) (sym (ap₂ (combine s c o) f g)) (left_back b o p q (decides s o p) (decides_is s o p) z e)
-    by (inr f) (inl g) = subst (λ (d : Option ℤ). Or_none z d) (sym (ap₂ (combine s c o) f g)) (right_back b o p q (decides s o q) (decides_is s o q) z e)
-    by (inr f) (inr g) = inr (ap₂ (combine s c o) f g)
+    by : Or_none p v → Or_none q w → Or_none z (apply_binary s c o v w)
+    by (inl f) (inl g) = subst (λ (d : Option ℤ). Or_none z d) (sym (ap₂ (apply_binary s c o) f g)) (operate_after b c o p q z e)
+    by (inl f) (inr g) = subst (λ (d : Option ℤ). Or_none z d) (sym (ap₂ (apply_binary s c o) f g)) (left_back b o p q (short_circuits s o p) (decides_is s o p) z e)
+    by (inr f) (inl g) = subst (λ (d : Option ℤ). Or_none z d) (sym (ap₂ (apply_binary s c o) f g)) (right_back b o p q (short_circuits s o q) (decides_is s o q) z e)
+    by (inr f) (inr g) = inr (ap₂ (apply_binary s c o) f g)
 combine_after s b c o (Some p) None v w h k z e = by (h p refl) w
   where
-    by : Or_none p v → (d : Option ℤ) → Or_none z (combine s c o v d)
-    by (inl f) None = inl (ap (λ (d : Option ℤ). combine s c o d None) f ∙ e)
-    by (inl f) (Some q) = subst (λ (d : Option ℤ). Or_none z d) (sym (ap (λ (d : Option ℤ). combine s c o d (Some q)) f)) (left_decides c o p q (decides s o p) (decides_is s o p) z e)
-    by (inr f) None = inr (ap (λ (d : Option ℤ). combine s c o d None) f)
-    by (inr f) (Some q) = subst (λ (d : Option ℤ). Or_none z d) (sym (ap (λ (d : Option ℤ). combine s c o d (Some q)) f))
-        (two_decide o p q (decides s o p) (decides s o q) (decides_is s o p) (decides_is s o q) z e)
+    by : Or_none p v → (d : Option ℤ) → Or_none z (apply_binary s c o v d)
+    by (inl f) None = inl (ap (λ (d : Option ℤ). apply_binary s c o d None) f ∙ e)
+    by (inl f) (Some q) = subst (λ (d : Option ℤ). Or_none z d) (sym (ap (λ (d : Option ℤ). apply_binary s c o d (Some q)) f)) (left_decides c o p q (short_circuits s o p) (decides_is s o p) z e)
+    by (inr f) None = inr (ap (λ (d : Option ℤ). apply_binary s c o d None) f)
+    by (inr f) (Some q) = subst (λ (d : Option ℤ). Or_none z d) (sym (ap (λ (d : Option ℤ). apply_binary s c o d (Some q)) f))
+        (two_decide o p q (short_circuits s o p) (short_circuits s o q) (decides_is s o p) (decides_is s o q) z e)
 combine_after s b c o None (Some q) v w h k z e = by (k q refl) v
   where
-    by : Or_none q w → (d : Option ℤ) → Or_none z (combine s c o d w)
-    by (inl f) None = inl (ap (λ (d : Option ℤ). combine s c o None d) f ∙ e)
-    by (inl f) (Some p) = subst (λ (d : Option ℤ). Or_none z d) (sym (ap (λ (d : Option ℤ). combine s c o (Some p) d) f)) (right_decides c o p q (decides s o q) (decides_is s o q) z e)
-    by (inr f) None = inr (ap (λ (d : Option ℤ). combine s c o None d) f)
-    by (inr f) (Some p) = subst (λ (d : Option ℤ). Or_none z d) (sym (ap (λ (d : Option ℤ). combine s c o (Some p) d) f))
-        (two_decide o q p (decides s o q) (decides s o p) (decides_is s o q) (decides_is s o p) z e)
+    by : Or_none q w → (d : Option ℤ) → Or_none z (apply_binary s c o d w)
+    by (inl f) None = inl (ap (λ (d : Option ℤ). apply_binary s c o None d) f ∙ e)
+    by (inl f) (Some p) = subst (λ (d : Option ℤ). Or_none z d) (sym (ap (λ (d : Option ℤ). apply_binary s c o (Some p) d) f)) (right_decides c o p q (short_circuits s o q) (decides_is s o q) z e)
+    by (inr f) None = inr (ap (λ (d : Option ℤ). apply_binary s c o None d) f)
+    by (inr f) (Some p) = subst (λ (d : Option ℤ). Or_none z d) (sym (ap (λ (d : Option ℤ). apply_binary s c o (Some p) d) f))
+        (two_decide o q p (short_circuits s o q) (short_circuits s o p) (decides_is s o q) (decides_is s o p) z e)
 
 negated_after : (b c : Bool) (x : Option ℤ) → After (negated_value b x) (negated_value c x)
 negated_after b c None z e = absurd (none-some z e)
@@ -230,29 +230,29 @@ text_after b c (x ∷ w) z e = by (x == 45) (is_constant w) z e
     by true false = same_after None
     by false d = same_after (if is_constant (x ∷ w) then constant_value (x ∷ w) else None)
 
-module _ (t u : List Argument) (more : SaysMore t u) where
+module _ (t u : List Argument) (more : ExtendsTable t u) where
   text_more : (n v : List ℕ) (o : Option Entry) → entry_in t n ≡ o → text_in o ≡ Some v → defined_text u n ≡ Some v
   text_more n v None e f = absurd (none-some v f)
   text_more n v (Some x) e f = ap text_in (more n x e) ∙ f
 
-  ends_more : (n v : List ℕ) → EndsAt t n v → EndsAt u n v
+  ends_more : (n v : List ℕ) → ResolvesTo t n v → ResolvesTo u n v
   ends_more n v (at_text _ _ d i) = at_text n v (text_more n v (entry_in t n) refl d) i
   ends_more n v (by_name _ m _ d i e) = by_name n m v (text_more n m (entry_in t n) refl d) i (ends_more m v e)
 
-  end_more : (n v : List ℕ) → end_of t n ≡ Some v → end_of u n ≡ Some v
+  end_more : (n v : List ℕ) → resolve t n ≡ Some v → resolve u n ≡ Some v
   end_more n v e = end_found u n v (ends_more n v (end_is t n v e))
 
   end_after : (b c : Bool) (x y : Option (List ℕ)) → ((v : List ℕ) → x ≡ Some v → y ≡ Some v) → After (end_value b x) (end_value c y)
   end_after b c None y h z e = absurd (none-some z e)
   end_after b c (Some v) y h z e = subst (λ (d : Option (List ℕ)). Or_none z (end_value c d)) (sym (h v refl)) (text_after b c v z e)
 
-  entry_after : (b c : Bool) (n : List ℕ) (value : Option (List ℕ)) → After (defined_name_value b (end_of t n) value) (defined_name_value c (end_of u n) value)
+  entry_after : (b c : Bool) (n : List ℕ) (value : Option (List ℕ)) → After (defined_name_value b (resolve t n) value) (defined_name_value c (resolve u n) value)
   entry_after b c n None z e = inl e
-  entry_after b c n (Some v) z e = end_after b c (end_of t n) (end_of u n) (λ w f. end_more n w f) z e
+  entry_after b c n (Some v) z e = end_after b c (resolve t n) (resolve u n) (λ w f. end_more n w f) z e
 
-  name_by : (b c : Bool) (n : List ℕ) (o : Option Entry) → entry_in t n ≡ o → After (name_value_by b (end_of t n) o) (name_value_by c (end_of u n) (entry_in u n))
+  name_by : (b c : Bool) (n : List ℕ) (o : Option Entry) → entry_in t n ≡ o → After (name_value_by b (resolve t n) o) (name_value_by c (resolve u n) (entry_in u n))
   name_by b c n None f z e = absurd (none-some z e)
-  name_by b c n (Some x) f z e = subst (λ (d : Option Entry). Or_none z (name_value_by c (end_of u n) d)) (sym (more n x f)) (entry_after b c n x.value z e)
+  name_by b c n (Some x) f z e = subst (λ (d : Option Entry). Or_none z (name_value_by c (resolve u n) d)) (sym (more n x f)) (entry_after b c n x.value z e)
 
   name_after : (b c : Bool) (n : List ℕ) → After (name_value t b n) (name_value u c n)
   unfolding name_value
@@ -292,6 +292,6 @@ module _ (t u : List Argument) (more : SaysMore t u) where
   -- and a condition
   pub cond_after : (e : Expression) (r : Rules) → tree_cond e t r ≢ Unknown → (tree_cond e u r ≡ tree_cond e t r) ⊎ (tree_cond e u r ≡ Unknown)
   cond_after e r n =
-      unless_known (calls_undefined t e || not (r.constants || names_listed t e)) (calls_undefined u e || not (r.constants || names_listed u e))
+      unless_known (calls_undefined t e || not (r.constants || mentions_listed t e)) (calls_undefined u e || not (r.constants || mentions_listed u e))
       (truth_of (value_of t r.strict e)) (truth_of (value_of u r.strict e))
       (truth_after (value_of t r.strict e) (value_of u r.strict e) (value_after r.strict e)) n

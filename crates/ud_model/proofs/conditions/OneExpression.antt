@@ -2,8 +2,8 @@
 use Rattle.std.proofs.Common.{◌≡◌, ℕ, List, [], Option, Some, None, refl, sym, ◌∙◌, ap, subst}
 use Rattle.std.proofs.lemmas.Option.{none-some, same_Some}
 use Rattle.ud_model.specs.conditions.Tokens.{Token, AreTokens}
-use Rattle.ud_model.specs.conditions.Expressions.{Expression, spelling, IsOfLevel, IsWritten}
-use Rattle.ud_model.specs.aids.Parsing.{needs, run_all, tokens_of, reads, itself, expression_of}
+use Rattle.ud_model.specs.conditions.Expressions.{Expression, spelling, HasPrecedence, IsWritten}
+use Rattle.ud_model.specs.aids.Parsing.{needs, parse_all_tokens, tokens_of, reads, itself, expression_of}
 use Rattle.ud_model.proofs.conditions.ParsingComplete.{complete_alone, meaning_itself}
 use Rattle.ud_model.proofs.conditions.ParsingSound.{sound}
 use Rattle.ud_model.proofs.conditions.TokenLemmas.{tokens_of_only, tokens_of_are}
@@ -12,11 +12,11 @@ use Rattle.ud_model.proofs.conditions.TokenLemmas.{tokens_of_only, tokens_of_are
 pub expression_only : (text : List ℕ) (e : Expression) → IsWritten text e → expression_of text ≡ Some e
 unfolding expression_of reads
 expression_only text e p =
-    ap (run_all itself (needs [])) (tokens_of_only text (spelling e) p.1) ∙ complete_alone itself e p.0 ∙ ap Some (meaning_itself e)
+    ap (parse_all_tokens itself (needs [])) (tokens_of_only text (spelling e) p.1) ∙ complete_alone itself e p.0 ∙ ap Some (meaning_itself e)
 
-run_written : (text : List ℕ) (o : Option (List Token)) (e : Expression) → tokens_of text ≡ o → run_all itself (needs []) o ≡ Some e → IsWritten text e
+run_written : (text : List ℕ) (o : Option (List Token)) (e : Expression) → tokens_of text ≡ o → parse_all_tokens itself (needs []) o ≡ Some e → IsWritten text e
 run_written text None e d f = absurd (none-some e f)
-run_written text (Some ts) e d f = let q : IsOfLevel 1 e × (spelling e ≡ ts) = sound ts e f in (q.0, subst (λ us. AreTokens text us) (sym q.1) (tokens_of_are text ts d))
+run_written text (Some ts) e d f = let q : HasPrecedence 1 e × (spelling e ≡ ts) = sound ts e f in (q.0, subst (λ us. AreTokens text us) (sym q.1) (tokens_of_are text ts d))
 
 -- a text is written for the tree as which it is read
 pub expression_is : (text : List ℕ) (e : Expression) → expression_of text ≡ Some e → IsWritten text e

@@ -2,15 +2,15 @@
 use Rattle.std.proofs.Common.{◌≡◌, ℕ, ◌+◌, ◌<◌, ◌≤◌, List, [], ◌∷◌, ◌++◌, Bool, true, false, IsTrue, if◌then◌else◌, leb, Some, refl, sym, ◌∙◌, ap, ap₂, append_assoc, append-nil, inl, inr, arith}
 use Rattle.std.proofs.lemmas.Bool.Decides.{leb_tells}
 use Rattle.ud_model.specs.conditions.Tokens.{Token, number, name, defined, operator, opening, closing}
-use Rattle.ud_model.specs.conditions.Expressions.{Expression, constant, named, is_defined, unary, binary, parens, level, is_prefix, spelling, IsOfLevel}
-use Rattle.ud_model.specs.aids.Parsing.{Meaning, meaning, Frame, left, before, paren, Below, needs, has, stuck, reduce, close, wait, alone, run, itself}
+use Rattle.ud_model.specs.conditions.Expressions.{Expression, constant, named, is_defined, unary, binary, parens, precedence, is_prefix, spelling, HasPrecedence}
+use Rattle.ud_model.specs.aids.Parsing.{Meaning, meaning, Frame, left, before, paren, Below, needs, has, stuck, reduce, close, wait, alone, parse_tokens, itself}
 use Rattle.ud_model.specs.declared.operator.Operator.{Operator}
 use Rattle.ud_model.specs.declared.operator.Operator.TheVariants.{Or, And, BitOr, BitXor, BitAnd, Equal, NotEqual, Less, LessEqual, Greater, GreaterEqual, Plus, Minus, Times, Over, Remainder, Not, Complement}
 
 -- no operator tighter than level k comes next
 abbrev pub Stops : ℕ → List Token → Type 0
 Stops k [] = Unit {0}
-Stops k (operator o ∷ ts) = level o ≤ k
+Stops k (operator o ∷ ts) = precedence o ≤ k
 Stops k (number w ∷ ts) = Unit {0}
 Stops k (name n a ∷ ts) = Unit {0}
 Stops k (defined ∷ ts) = Unit {0}
@@ -18,7 +18,7 @@ Stops k (opening ∷ ts) = Unit {0}
 Stops k (closing ∷ ts) = Unit {0}
 
 -- each level between two operands is below that of an operator before one
-pub level_most : (o : Operator) → level o ≤ 9
+pub level_most : (o : Operator) → precedence o ≤ 9
 level_most Or = omega arith
 level_most And = omega arith
 level_most BitOr = omega arith
@@ -66,7 +66,7 @@ stops_more j k (closing ∷ ts) l b = tt
 -- after a prefix operator every operator stops
 stops_ten : (ts : List Token) → Stops 10 ts
 stops_ten [] = tt
-stops_ten (operator o ∷ ts) = let h : level o ≤ 9 = level_most o in omega arith
+stops_ten (operator o ∷ ts) = let h : precedence o ≤ 9 = level_most o in omega arith
 stops_ten (number w ∷ ts) = tt
 stops_ten (name n a ∷ ts) = tt
 stops_ten (defined ∷ ts) = tt
@@ -75,15 +75,15 @@ stops_ten (closing ∷ ts) = tt
 
 module _ {A : Type 0} (m : Meaning A) where
   -- what waits further out takes nothing yet
-  reduce_below : (o : Operator) (x : A) (s : List (Frame A)) → Below (level o) s → reduce m (level o) x s ≡ (x, s)
+  reduce_below : (o : Operator) (x : A) (s : List (Frame A)) → Below (precedence o) s → reduce m (precedence o) x s ≡ (x, s)
   reduce_below o x [] b = refl
   reduce_below o x (left p a ∷ s) b =
-      ap (λ (t : Bool). if t then reduce m (level o) (m.binary p a x) s else (x, left p a ∷ s)) (leb_no (level o) (level p) b)
-  reduce_below o x (before p ∷ s) b = let h : level o ≤ 9 = level_most o in absurd (omega arith)
+      ap (λ (t : Bool). if t then reduce m (precedence o) (m.binary p a x) s else (x, left p a ∷ s)) (leb_no (precedence o) (precedence p) b)
+  reduce_below o x (before p ∷ s) b = let h : precedence o ≤ 9 = level_most o in absurd (omega arith)
   reduce_below o x (paren ∷ s) b = refl
 
   -- a prefix operator takes its operand whatever comes next
-  take_before : (o : Operator) (x : A) (s : List (Frame A)) (ts : List Token) → run m (has x (before o ∷ s)) ts ≡ run m (has (m.unary o x) s) ts
+  take_before : (o : Operator) (x : A) (s : List (Frame A)) (ts : List Token) → parse_tokens m (has x (before o ∷ s)) ts ≡ parse_tokens m (has (m.unary o x) s) ts
   take_before o x s [] = refl
   take_before o x s (operator p ∷ ts) = refl
   take_before o x s (number w ∷ ts) = refl
@@ -92,33 +92,33 @@ module _ {A : Type 0} (m : Meaning A) where
   take_before o x s (opening ∷ ts) = refl
   take_before o x s (closing ∷ ts) = refl
 
-  reduce_left : (j : ℕ) (o : Operator) (a x : A) (s : List (Frame A)) → j ≤ level o → reduce m j x (left o a ∷ s) ≡ reduce m j (m.binary o a x) s
+  reduce_left : (j : ℕ) (o : Operator) (a x : A) (s : List (Frame A)) → j ≤ precedence o → reduce m j x (left o a ∷ s) ≡ reduce m j (m.binary o a x) s
   reduce_left j o a x s l =
-      ap (λ (t : Bool). if t then reduce m j (m.binary o a x) s else (x, left o a ∷ s)) (leb_yes j (level o) l)
+      ap (λ (t : Bool). if t then reduce m j (m.binary o a x) s else (x, left o a ∷ s)) (leb_yes j (precedence o) l)
 
   -- an operator takes its right operand if no tighter one comes next
-  take_left : (o : Operator) (a x : A) (s : List (Frame A)) (ts : List Token) → Stops (level o) ts → run m (has x (left o a ∷ s)) ts ≡ run m (has (m.binary o a x) s) ts
+  take_left : (o : Operator) (a x : A) (s : List (Frame A)) (ts : List Token) → Stops (precedence o) ts → parse_tokens m (has x (left o a ∷ s)) ts ≡ parse_tokens m (has (m.binary o a x) s) ts
   take_left o a x s [] h = ap (alone m) (reduce_left 0 o a x s (omega arith))
   take_left o a x s (operator p ∷ ts) h =
-      ap (λ r. run m (if leb 1 (level p) then wait m p r else stuck) ts) (reduce_left (level p) o a x s h)
+      ap (λ r. parse_tokens m (if leb 1 (precedence p) then wait m p r else stuck) ts) (reduce_left (precedence p) o a x s h)
   take_left o a x s (number w ∷ ts) h = refl
   take_left o a x s (name n b ∷ ts) h = refl
   take_left o a x s (defined ∷ ts) h = refl
   take_left o a x s (opening ∷ ts) h = refl
-  take_left o a x s (closing ∷ ts) h = ap (λ r. run m (close m r) ts) (reduce_left 0 o a x s (omega arith))
+  take_left o a x s (closing ∷ ts) h = ap (λ r. parse_tokens m (close m r) ts) (reduce_left 0 o a x s (omega arith))
 
-  prefix_step : (o : Operator) (s : List (Frame A)) (ts : List Token) → IsTrue (is_prefix o) → run m (needs s) (operator o ∷ ts) ≡ run m (needs (before o ∷ s)) ts
-  prefix_step o s ts h = ap (λ (t : Bool). run m (if t then needs (before o ∷ s) else stuck) ts) h
+  prefix_step : (o : Operator) (s : List (Frame A)) (ts : List Token) → IsTrue (is_prefix o) → parse_tokens m (needs s) (operator o ∷ ts) ≡ parse_tokens m (needs (before o ∷ s)) ts
+  prefix_step o s ts h = ap (λ (t : Bool). parse_tokens m (if t then needs (before o ∷ s) else stuck) ts) h
 
-  wait_step : (o : Operator) (x : A) (s : List (Frame A)) (ts : List Token) → 1 ≤ level o → Below (level o) s →
-      run m (has x s) (operator o ∷ ts) ≡ run m (needs (left o x ∷ s)) ts
+  wait_step : (o : Operator) (x : A) (s : List (Frame A)) (ts : List Token) → 1 ≤ precedence o → Below (precedence o) s →
+      parse_tokens m (has x s) (operator o ∷ ts) ≡ parse_tokens m (needs (left o x ∷ s)) ts
   wait_step o x s ts l b =
-      ap (λ (t : Bool). run m (if t then wait m o (reduce m (level o) x s) else stuck) ts) (leb_yes 1 (level o) l)
-      ∙ ap (λ r. run m (wait m o r) ts) (reduce_below o x s b)
+      ap (λ (t : Bool). parse_tokens m (if t then wait m o (reduce m (precedence o) x s) else stuck) ts) (leb_yes 1 (precedence o) l)
+      ∙ ap (λ r. parse_tokens m (wait m o r) ts) (reduce_below o x s b)
 
   -- the tokens of a tree give what the tree means, whatever waits and whatever comes next
-  pub complete : (e : Expression) (k : ℕ) → 1 ≤ k → IsOfLevel k e → (s : List (Frame A)) → Below k s → (ts : List Token) → Stops k ts →
-      run m (needs s) (spelling e ++ ts) ≡ run m (has (meaning m e) s) ts
+  pub complete : (e : Expression) (k : ℕ) → 1 ≤ k → HasPrecedence k e → (s : List (Frame A)) → Below k s → (ts : List Token) → Stops k ts →
+      parse_tokens m (needs s) (spelling e ++ ts) ≡ parse_tokens m (has (meaning m e) s) ts
   complete (constant w) k l i s b ts h = refl
   complete (named n a) k l i s b ts h = refl
   complete (is_defined n false) k l i s b ts h = refl
@@ -128,21 +128,21 @@ module _ {A : Type 0} (m : Meaning A) where
       ∙ complete a 10 (omega arith) i.1 (before o ∷ s) (omega arith) ts (stops_ten ts)
       ∙ take_before o (meaning m a) s ts
   complete (binary o a b) k l i s f ts h =
-      let more : 1 ≤ level o = let d : k ≤ level o = i.0 in omega arith in
-      let under : Below (level o) s = below_more k (level o) s i.0 f in
-      let stop : Stops (level o) ts = stops_more k (level o) ts i.0 h in
-      ap (λ us. run m (needs s) us) (append_assoc (spelling a) (operator o ∷ spelling b) ts)
-      ∙ complete a (level o) more i.1 s under (operator o ∷ spelling b ++ ts) (omega arith)
+      let more : 1 ≤ precedence o = let d : k ≤ precedence o = i.0 in omega arith in
+      let under : Below (precedence o) s = below_more k (precedence o) s i.0 f in
+      let stop : Stops (precedence o) ts = stops_more k (precedence o) ts i.0 h in
+      ap (λ us. parse_tokens m (needs s) us) (append_assoc (spelling a) (operator o ∷ spelling b) ts)
+      ∙ complete a (precedence o) more i.1 s under (operator o ∷ spelling b ++ ts) (omega arith)
       ∙ wait_step o (meaning m a) s (spelling b ++ ts) more under
-      ∙ complete b (level o + 1) (omega arith) i.2 (left o (meaning m a) ∷ s) (omega arith) ts (stops_more (level o) (level o + 1) ts (omega arith) stop)
+      ∙ complete b (precedence o + 1) (omega arith) i.2 (left o (meaning m a) ∷ s) (omega arith) ts (stops_more (precedence o) (precedence o + 1) ts (omega arith) stop)
       ∙ take_left o (meaning m a) (meaning m b) s ts stop
   complete (parens a) k l i s b ts h =
-      ap (λ us. run m (needs (paren ∷ s)) us) (append_assoc (spelling a) (closing ∷ []) ts)
+      ap (λ us. parse_tokens m (needs (paren ∷ s)) us) (append_assoc (spelling a) (closing ∷ []) ts)
       ∙ complete a 1 (omega arith) i (paren ∷ s) tt (closing ∷ ts) tt
 
   -- the tokens of an expression alone give what it means
-  pub complete_alone : (e : Expression) → IsOfLevel 1 e → run m (needs []) (spelling e) ≡ Some (meaning m e)
-  complete_alone e i = ap (λ us. run m (needs []) us) (sym (append-nil (spelling e))) ∙ complete e 1 (omega arith) i [] tt [] tt
+  pub complete_alone : (e : Expression) → HasPrecedence 1 e → parse_tokens m (needs []) (spelling e) ≡ Some (meaning m e)
+  complete_alone e i = ap (λ us. parse_tokens m (needs []) us) (sym (append-nil (spelling e))) ∙ complete e 1 (omega arith) i [] tt [] tt
 
 -- each tree means itself
 pub meaning_itself : (e : Expression) → meaning itself e ≡ e

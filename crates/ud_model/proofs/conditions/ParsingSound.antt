@@ -5,8 +5,8 @@ use Rattle.std.proofs.Common.{◌≡◌, ℕ, ◌+◌, ◌<◌, ◌≤◌, List,
 use Rattle.std.proofs.lemmas.Option.{none-some, same_Some}
 use Rattle.std.proofs.lemmas.Bool.Decides.{leb_tells}
 use Rattle.ud_model.specs.conditions.Tokens.{Token, number, name, defined, operator, opening, closing}
-use Rattle.ud_model.specs.conditions.Expressions.{Expression, constant, named, is_defined, unary, binary, parens, level, is_prefix, spelling, IsOfLevel}
-use Rattle.ud_model.specs.aids.Parsing.{Frame, left, before, paren, State, needs, has, asks, asks_inside, asks_end, stuck, reduce, close, wait, step, alone, finish, run, itself}
+use Rattle.ud_model.specs.conditions.Expressions.{Expression, constant, named, is_defined, unary, binary, parens, precedence, is_prefix, spelling, HasPrecedence}
+use Rattle.ud_model.specs.aids.Parsing.{Frame, left, before, paren, ParseState, needs, has, asks, asks_inside, asks_end, stuck, reduce, close, wait, step, alone, finish, parse_tokens, itself}
 use Rattle.ud_model.specs.declared.operator.Operator.{Operator}
 use Rattle.ud_model.proofs.conditions.ParsingComplete.{level_most}
 
@@ -20,50 +20,50 @@ written (paren ∷ s) = written s ++ opening ∷ []
 -- the level that an operand has to have for what waits
 abbrev pub hole : List (Frame Expression) → ℕ
 hole [] = 1
-hole (left o a ∷ s) = level o + 1
+hole (left o a ∷ s) = precedence o + 1
 hole (before o ∷ s) = 10
 hole (paren ∷ s) = 1
 
 -- what waits can become part of a tree
 abbrev pub Fits : List (Frame Expression) → Type 0
 Fits [] = Unit {0}
-Fits (left o a ∷ s) = IsOfLevel (level o) a × (1 ≤ level o) × (hole s ≤ level o) × Fits s
+Fits (left o a ∷ s) = HasPrecedence (precedence o) a × (1 ≤ precedence o) × (hole s ≤ precedence o) × Fits s
 Fits (before o ∷ s) = IsTrue (is_prefix o) × Fits s
 Fits (paren ∷ s) = Fits s
 
 -- the tokens so far are those of the state
-abbrev pub Holds : List Token → State Expression → Type 0
+abbrev pub Holds : List Token → ParseState Expression → Type 0
 Holds us (needs s) = Fits s × (written s ≡ us)
-Holds us (has x s) = Fits s × IsOfLevel 10 x × (written s ++ spelling x ≡ us)
+Holds us (has x s) = Fits s × HasPrecedence 10 x × (written s ++ spelling x ≡ us)
 Holds us (asks s) = Fits s × (written s ++ defined ∷ [] ≡ us)
 Holds us (asks_inside s) = Fits s × (written s ++ defined ∷ opening ∷ [] ≡ us)
 Holds us (asks_end n s) = Fits s × (written s ++ defined ∷ opening ∷ name n false ∷ [] ≡ us)
 Holds us stuck = Unit {0}
 
 -- a tree of the tightest level is of each level
-loosen : (k : ℕ) (x : Expression) → IsOfLevel 10 x → IsOfLevel k x
+loosen : (k : ℕ) (x : Expression) → HasPrecedence 10 x → HasPrecedence k x
 loosen k (constant w) i = tt
 loosen k (named n a) i = tt
 loosen k (is_defined n p) i = tt
 loosen k (unary o a) i = i
-loosen k (binary o a b) i = let h : level o ≤ 9 = level_most o in let l : 10 ≤ level o = i.0 in absurd (omega arith)
+loosen k (binary o a b) i = let h : precedence o ≤ 9 = level_most o in let l : 10 ≤ precedence o = i.0 in absurd (omega arith)
 loosen k (parens a) i = i
 
 -- what is left where operators of level j or tighter have taken their operands
 pub record Reduced (j : ℕ) (x : Expression) (s : List (Frame Expression)) (r : Expression × List (Frame Expression)) : Type 0 where
   pub same : written r.1 ++ spelling r.0 ≡ written s ++ spelling x
   pub fits : Fits r.1
-  pub in_hole : IsOfLevel (hole r.1) r.0
-  pub tight : IsOfLevel j r.0
+  pub in_hole : HasPrecedence (hole r.1) r.0
+  pub tight : HasPrecedence j r.0
   pub further : 1 ≤ j → hole r.1 ≤ j
 
-reduced_here : (j : ℕ) (x : Expression) (s : List (Frame Expression)) → Fits s → IsOfLevel (hole s) x → IsOfLevel j x → (1 ≤ j → hole s ≤ j) → Reduced j x s (x, s)
+reduced_here : (j : ℕ) (x : Expression) (s : List (Frame Expression)) → Fits s → HasPrecedence (hole s) x → HasPrecedence j x → (1 ≤ j → hole s ≤ j) → Reduced j x s (x, s)
 reduced_here j x s f i t h = record { same = refl; fits = f; in_hole = i; tight = t; further = h }
 
-left_if : (b : Bool) (j : ℕ) (o : Operator) (a x : Expression) (s : List (Frame Expression)) (r : Expression × List (Frame Expression)) → leb j (level o) ≡ b → Fits (left o a ∷ s) → IsOfLevel (level o + 1) x →
-    IsOfLevel j x → (j ≤ level o → Reduced j (binary o a x) s r) → Reduced j x (left o a ∷ s) (if b then r else (x, left o a ∷ s))
+left_if : (b : Bool) (j : ℕ) (o : Operator) (a x : Expression) (s : List (Frame Expression)) (r : Expression × List (Frame Expression)) → leb j (precedence o) ≡ b → Fits (left o a ∷ s) → HasPrecedence (precedence o + 1) x →
+    HasPrecedence j x → (j ≤ precedence o → Reduced j (binary o a x) s r) → Reduced j x (left o a ∷ s) (if b then r else (x, left o a ∷ s))
 left_if true j o a x s r e f i t g =
-    let l : j ≤ level o = elim (leb_tells j (level o)) [ inl p ↦ p.1 | inr p ↦ absurd (cc) ] in
+    let l : j ≤ precedence o = elim (leb_tells j (precedence o)) [ inl p ↦ p.1 | inr p ↦ absurd (cc) ] in
     let q : Reduced j (binary o a x) s r = g l in
     record {
       same = q.same ∙ sym (append_assoc (written s) (spelling a ++ operator o ∷ []) (spelling x) ∙ ap (λ us. written s ++ us) (append_assoc (spelling a) (operator o ∷ []) (spelling x)));
@@ -73,13 +73,13 @@ left_if true j o a x s r e f i t g =
       further = q.further;
     }
 left_if false j o a x s r e f i t g =
-    let l : level o < j = elim (leb_tells j (level o)) [ inl p ↦ absurd (cc) | inr p ↦ p.1 ] in
+    let l : precedence o < j = elim (leb_tells j (precedence o)) [ inl p ↦ absurd (cc) | inr p ↦ p.1 ] in
     reduced_here j x (left o a ∷ s) f i t (λ h. omega arith)
 
-reduced : (j : ℕ) (x : Expression) (s : List (Frame Expression)) → Fits s → IsOfLevel (hole s) x → IsOfLevel j x → Reduced j x s (reduce itself j x s)
+reduced : (j : ℕ) (x : Expression) (s : List (Frame Expression)) → Fits s → HasPrecedence (hole s) x → HasPrecedence j x → Reduced j x s (reduce itself j x s)
 reduced j x [] f i t = reduced_here j x [] f i t (λ h. h)
 reduced j x (left o a ∷ s) f i t =
-    left_if (leb j (level o)) j o a x s (reduce itself j (binary o a x) s) refl f i t
+    left_if (leb j (precedence o)) j o a x s (reduce itself j (binary o a x) s) refl f i t
     (λ l. reduced j (binary o a x) s f.3 (f.2, f.0, i) (l, f.0, i))
 reduced j x (before o ∷ s) f i t =
     let q : Reduced j (unary o x) s (reduce itself j (unary o x) s) = reduced j (unary o x) s f.1 (f.0, i) (f.0, i) in
@@ -96,15 +96,15 @@ reduced j x (paren ∷ s) f i t = reduced_here j x (paren ∷ s) f i t (λ h. h)
 pushed : (us vs ws xs : List Token) → us ++ vs ≡ ws → us ++ (vs ++ xs) ≡ ws ++ xs
 pushed us vs ws xs e = sym (append_assoc us vs xs) ∙ ap (λ ys. ys ++ xs) e
 
-wait_holds : (o : Operator) (x : Expression) (s : List (Frame Expression)) (us : List Token) (r : Expression × List (Frame Expression)) → 1 ≤ level o →
-    written s ++ spelling x ≡ us → Reduced (level o) x s r → Holds (us ++ operator o ∷ []) (wait itself o r)
+wait_holds : (o : Operator) (x : Expression) (s : List (Frame Expression)) (us : List Token) (r : Expression × List (Frame Expression)) → 1 ≤ precedence o →
+    written s ++ spelling x ≡ us → Reduced (precedence o) x s r → Holds (us ++ operator o ∷ []) (wait itself o r)
 wait_holds o x s us (y, t) l e q = ((q.tight, l, q.further l, q.fits), pushed (written t) (spelling y) us (operator o ∷ []) (q.same ∙ e))
 
-wait_if : (b : Bool) (o : Operator) (x : Expression) (s : List (Frame Expression)) (us : List Token) → leb 1 (level o) ≡ b → Holds us (has x s) →
-    Holds (us ++ operator o ∷ []) (if b then wait itself o (reduce itself (level o) x s) else stuck)
+wait_if : (b : Bool) (o : Operator) (x : Expression) (s : List (Frame Expression)) (us : List Token) → leb 1 (precedence o) ≡ b → Holds us (has x s) →
+    Holds (us ++ operator o ∷ []) (if b then wait itself o (reduce itself (precedence o) x s) else stuck)
 wait_if true o x s us e h =
-    let l : 1 ≤ level o = elim (leb_tells 1 (level o)) [ inl p ↦ p.1 | inr p ↦ absurd (cc) ] in
-    wait_holds o x s us (reduce itself (level o) x s) l h.2 (reduced (level o) x s h.0 (loosen (hole s) x h.1) (loosen (level o) x h.1))
+    let l : 1 ≤ precedence o = elim (leb_tells 1 (precedence o)) [ inl p ↦ p.1 | inr p ↦ absurd (cc) ] in
+    wait_holds o x s us (reduce itself (precedence o) x s) l h.2 (reduced (precedence o) x s h.0 (loosen (hole s) x h.1) (loosen (precedence o) x h.1))
 wait_if false o x s us e h = tt
 
 close_holds : (x : Expression) (s : List (Frame Expression)) (us : List Token) (r : Expression × List (Frame Expression)) →
@@ -121,7 +121,7 @@ prefix_if true o s us e f w = ((e, f), ap (λ ys. ys ++ operator o ∷ []) w)
 prefix_if false o s us e f w = tt
 
 -- a token more is one of the state after it
-step_holds : (us : List Token) (st : State Expression) (t : Token) → Holds us st → Holds (us ++ t ∷ []) (step itself st t)
+step_holds : (us : List Token) (st : ParseState Expression) (t : Token) → Holds us st → Holds (us ++ t ∷ []) (step itself st t)
 step_holds us (needs s) (number w) h = (h.0, tt, ap (λ ys. ys ++ number w ∷ []) h.1)
 step_holds us (needs s) (name n a) h = (h.0, tt, ap (λ ys. ys ++ name n a ∷ []) h.1)
 step_holds us (needs s) defined h = (h.0, ap (λ ys. ys ++ defined ∷ []) h.1)
@@ -131,7 +131,7 @@ step_holds us (needs s) closing h = tt
 step_holds us (has x s) (number w) h = tt
 step_holds us (has x s) (name n a) h = tt
 step_holds us (has x s) defined h = tt
-step_holds us (has x s) (operator o) h = wait_if (leb 1 (level o)) o x s us refl h
+step_holds us (has x s) (operator o) h = wait_if (leb 1 (precedence o)) o x s us refl h
 step_holds us (has x s) opening h = tt
 step_holds us (has x s) closing h = close_holds x s us (reduce itself 0 x s) h.2 (reduced 0 x s h.0 (loosen (hole s) x h.1) (loosen 0 x h.1))
 step_holds us (asks s) (number w) h = tt
@@ -157,13 +157,13 @@ step_holds us (asks_end n s) closing h = (h.0, tt, pushed (written s) (defined �
 step_holds us stuck t h = tt
 
 alone_holds : (e x : Expression) (s : List (Frame Expression)) (us : List Token) (r : Expression × List (Frame Expression)) →
-    written s ++ spelling x ≡ us → Reduced 0 x s r → alone itself r ≡ Some e → IsOfLevel 1 e × (spelling e ≡ us)
+    written s ++ spelling x ≡ us → Reduced 0 x s r → alone itself r ≡ Some e → HasPrecedence 1 e × (spelling e ≡ us)
 alone_holds e x s us (y, []) w q a =
     let d : y ≡ e = same_Some y e a in
-    (subst (λ z. IsOfLevel 1 z) d q.in_hole, ap spelling (sym d) ∙ q.same ∙ w)
+    (subst (λ z. HasPrecedence 1 z) d q.in_hole, ap spelling (sym d) ∙ q.same ∙ w)
 alone_holds e x s us (y, f ∷ t) w q a = absurd (none-some e a)
 
-finish_holds : (us : List Token) (st : State Expression) (e : Expression) → Holds us st → finish itself st ≡ Some e → IsOfLevel 1 e × (spelling e ≡ us)
+finish_holds : (us : List Token) (st : ParseState Expression) (e : Expression) → Holds us st → finish itself st ≡ Some e → HasPrecedence 1 e × (spelling e ≡ us)
 finish_holds us (needs s) e h f = absurd (none-some e f)
 finish_holds us (has x s) e h f = alone_holds e x s us (reduce itself 0 x s) h.2 (reduced 0 x s h.0 (loosen (hole s) x h.1) (loosen 0 x h.1)) f
 finish_holds us (asks s) e h f = absurd (none-some e f)
@@ -171,12 +171,12 @@ finish_holds us (asks_inside s) e h f = absurd (none-some e f)
 finish_holds us (asks_end n s) e h f = absurd (none-some e f)
 finish_holds us stuck e h f = absurd (none-some e f)
 
-run_holds : (ts us : List Token) (st : State Expression) (e : Expression) → Holds us st → run itself st ts ≡ Some e → IsOfLevel 1 e × (spelling e ≡ us ++ ts)
-run_holds [] us st e h f = let q : IsOfLevel 1 e × (spelling e ≡ us) = finish_holds us st e h f in (q.0, q.1 ∙ sym (append-nil us))
+run_holds : (ts us : List Token) (st : ParseState Expression) (e : Expression) → Holds us st → parse_tokens itself st ts ≡ Some e → HasPrecedence 1 e × (spelling e ≡ us ++ ts)
+run_holds [] us st e h f = let q : HasPrecedence 1 e × (spelling e ≡ us) = finish_holds us st e h f in (q.0, q.1 ∙ sym (append-nil us))
 run_holds (t ∷ ts) us st e h f =
-    let q : IsOfLevel 1 e × (spelling e ≡ (us ++ t ∷ []) ++ ts) = run_holds ts (us ++ t ∷ []) (step itself st t) e (step_holds us st t h) f in
+    let q : HasPrecedence 1 e × (spelling e ≡ (us ++ t ∷ []) ++ ts) = run_holds ts (us ++ t ∷ []) (step itself st t) e (step_holds us st t h) f in
     (q.0, q.1 ∙ append_assoc us (t ∷ []) ts)
 
 -- tokens that are read as a tree are those that it is written with
-pub sound : (ts : List Token) (e : Expression) → run itself (needs []) ts ≡ Some e → IsOfLevel 1 e × (spelling e ≡ ts)
+pub sound : (ts : List Token) (e : Expression) → parse_tokens itself (needs []) ts ≡ Some e → HasPrecedence 1 e × (spelling e ≡ ts)
 sound ts e f = run_holds ts [] (needs []) e (tt, refl) f

@@ -1,8 +1,8 @@
 -- Readings: what a text means in a state is what the tree that is read in that state means.
 use Rattle.std.proofs.Common.{◌≡◌, ℕ, List, [], ◌∷◌, Bool, true, false, if◌then◌else◌, leb, Option, Some, None, option_map, refl, ◌∙◌, ap}
 use Rattle.ud_model.specs.conditions.Tokens.{Token, number, name, defined, operator, opening, closing}
-use Rattle.ud_model.specs.conditions.Expressions.{Expression, level, is_prefix}
-use Rattle.ud_model.specs.aids.Parsing.{Meaning, meaning, Frame, left, before, paren, State, needs, has, asks, asks_inside, asks_end, stuck, reduce, close, wait, step, alone, finish, run, run_all, tokens_of, reads, itself, expression_of}
+use Rattle.ud_model.specs.conditions.Expressions.{Expression, precedence, is_prefix}
+use Rattle.ud_model.specs.aids.Parsing.{Meaning, meaning, Frame, left, before, paren, ParseState, needs, has, asks, asks_inside, asks_end, stuck, reduce, close, wait, step, alone, finish, parse_tokens, parse_all_tokens, tokens_of, reads, itself, expression_of}
 use Rattle.ud_model.specs.declared.operator.Operator.{Operator}
 
 module _ {A : Type 0} (m : Meaning A) where
@@ -18,7 +18,7 @@ module _ {A : Type 0} (m : Meaning A) where
   pair_meant (e, s) = (meaning m e, frames_meant s)
 
   -- a state, taken by its meaning
-  abbrev pub state_meant : State Expression → State A
+  abbrev pub state_meant : ParseState Expression → ParseState A
   state_meant (needs s) = needs (frames_meant s)
   state_meant (has e s) = has (meaning m e) (frames_meant s)
   state_meant (asks s) = asks (frames_meant s)
@@ -33,7 +33,7 @@ module _ {A : Type 0} (m : Meaning A) where
 
   reduce_meant : (j : ℕ) (e : Expression) (s : List (Frame Expression)) → reduce m j (meaning m e) (frames_meant s) ≡ pair_meant (reduce itself j e s)
   reduce_meant j e [] = refl
-  reduce_meant j e (left o a ∷ s) = on_either (leb j (level o)) _ _ (reduce_meant j (itself.binary o a e) s) refl
+  reduce_meant j e (left o a ∷ s) = on_either (leb j (precedence o)) _ _ (reduce_meant j (itself.binary o a e) s) refl
   reduce_meant j e (before o ∷ s) = reduce_meant j (itself.unary o e) s
   reduce_meant j e (paren ∷ s) = refl
 
@@ -58,11 +58,11 @@ module _ {A : Type 0} (m : Meaning A) where
   prefix_meant false o s = refl
 
   infix_meant : (b : Bool) (o : Operator) (e : Expression) (s : List (Frame Expression)) →
-      (if b then wait m o (reduce m (level o) (meaning m e) (frames_meant s)) else stuck) ≡ state_meant (if b then wait itself o (reduce itself (level o) e s) else stuck)
-  infix_meant true o e s = ap (wait m o) (reduce_meant (level o) e s) ∙ wait_meant o (reduce itself (level o) e s)
+      (if b then wait m o (reduce m (precedence o) (meaning m e) (frames_meant s)) else stuck) ≡ state_meant (if b then wait itself o (reduce itself (precedence o) e s) else stuck)
+  infix_meant true o e s = ap (wait m o) (reduce_meant (precedence o) e s) ∙ wait_meant o (reduce itself (precedence o) e s)
   infix_meant false o e s = refl
 
-  step_meant : (s : State Expression) (t : Token) → step m (state_meant s) t ≡ state_meant (step itself s t)
+  step_meant : (s : ParseState Expression) (t : Token) → step m (state_meant s) t ≡ state_meant (step itself s t)
   step_meant (needs s) (number w) = refl
   step_meant (needs s) (name n a) = refl
   step_meant (needs s) defined = refl
@@ -72,7 +72,7 @@ module _ {A : Type 0} (m : Meaning A) where
   step_meant (has e s) (number w) = refl
   step_meant (has e s) (name n a) = refl
   step_meant (has e s) defined = refl
-  step_meant (has e s) (operator o) = infix_meant (leb 1 (level o)) o e s
+  step_meant (has e s) (operator o) = infix_meant (leb 1 (precedence o)) o e s
   step_meant (has e s) opening = refl
   step_meant (has e s) closing = ap (close m) (reduce_meant 0 e s) ∙ close_meant (reduce itself 0 e s)
   step_meant (asks s) (number w) = refl
@@ -97,7 +97,7 @@ module _ {A : Type 0} (m : Meaning A) where
   step_meant (asks_end n s) closing = refl
   step_meant stuck t = refl
 
-  finish_meant : (s : State Expression) → finish m (state_meant s) ≡ option_map (meaning m) (finish itself s)
+  finish_meant : (s : ParseState Expression) → finish m (state_meant s) ≡ option_map (meaning m) (finish itself s)
   finish_meant (needs s) = refl
   finish_meant (has e s) = ap (alone m) (reduce_meant 0 e s) ∙ alone_meant (reduce itself 0 e s)
   finish_meant (asks s) = refl
@@ -106,11 +106,11 @@ module _ {A : Type 0} (m : Meaning A) where
   finish_meant stuck = refl
 
   -- tokens mean what their tree means
-  pub run_meant : (s : State Expression) (ts : List Token) → run m (state_meant s) ts ≡ option_map (meaning m) (run itself s ts)
+  pub run_meant : (s : ParseState Expression) (ts : List Token) → parse_tokens m (state_meant s) ts ≡ option_map (meaning m) (parse_tokens itself s ts)
   run_meant s [] = finish_meant s
-  run_meant s (t ∷ ts) = ap (λ q. run m q ts) (step_meant s t) ∙ run_meant (step itself s t) ts
+  run_meant s (t ∷ ts) = ap (λ q. parse_tokens m q ts) (step_meant s t) ∙ run_meant (step itself s t) ts
 
-  run_all_meant : (s : State Expression) (ts : Option (List Token)) → run_all m (state_meant s) ts ≡ option_map (meaning m) (run_all itself s ts)
+  run_all_meant : (s : ParseState Expression) (ts : Option (List Token)) → parse_all_tokens m (state_meant s) ts ≡ option_map (meaning m) (parse_all_tokens itself s ts)
   run_all_meant s None = refl
   run_all_meant s (Some ts) = run_meant s ts
 

@@ -1,11 +1,11 @@
 -- White space in front of a condition says nothing.
 use Rattle.std.proofs.Common.{◌≡◌, ℕ, List, [], ◌∷◌, Option, Some, None, option_map, Bool, true, false, ◌&&◌, if◌then◌else◌, refl, sym, ◌∙◌, ap}
-use Rattle.ud_model.specs.text.Bytes.{is_white, past_white, word_in_front, past_word, are_white, is_identifier}
+use Rattle.ud_model.specs.text.Bytes.{is_white, skip_white, leading_word, skip_word, are_white, is_identifier}
 use Rattle.ud_model.specs.conditions.Table.{Argument}
 use Rattle.ud_model.specs.conditions.Expressions.{Expression, is_defined, unary}
-use Rattle.ud_model.specs.conditions.Tokens.{Token, next_token, token_in_front, AreTokens}
-use Rattle.ud_model.specs.aids.Parsing.{tokens_of, reads, run_all, itself, needs, expression_of}
-use Rattle.ud_model.specs.conditions.Conditions.{Rules, sole_name, ifdef_decision, negated, expression_cond, tree_cond_if, decided_by}
+use Rattle.ud_model.specs.conditions.Tokens.{Token, next_token, leading_token, AreTokens}
+use Rattle.ud_model.specs.aids.Parsing.{tokens_of, reads, parse_all_tokens, itself, needs, expression_of}
+use Rattle.ud_model.specs.conditions.Conditions.{Rules, sole_name, ifdef_decision, negate, expression_cond, tree_cond_if, decision_by_test}
 use Rattle.ud_model.specs.output.CSelection.{condition_by_test}
 use Rattle.ud_model.specs.declared.cond.Cond.{Cond}
 use Rattle.ud_model.specs.declared.kind.Test.{Test}
@@ -13,12 +13,12 @@ use Rattle.ud_model.specs.declared.kind.Test.TheVariants.{Nonzero, Defined, Unde
 use Rattle.ud_model.specs.declared.operator.Operator.TheVariants.{Not}
 use Rattle.ud_model.proofs.conditions.TokenLemmas.{tokens_of_only, tokens_of_are}
 
-past_one : (b : ℕ) (t : List ℕ) → is_white b ≡ true → past_white (b ∷ t) ≡ past_white t
-past_one b t e = ap (λ (w : Bool). if w then past_white t else b ∷ t) e
+past_one : (b : ℕ) (t : List ℕ) → is_white b ≡ true → skip_white (b ∷ t) ≡ skip_white t
+past_one b t e = ap (λ (w : Bool). if w then skip_white t else b ∷ t) e
 
 token_past : (b : ℕ) (t : List ℕ) → is_white b ≡ true → next_token (b ∷ t) ≡ next_token t
 unfolding next_token
-token_past b t e = ap token_in_front (past_one b t e)
+token_past b t e = ap leading_token (past_one b t e)
 
 tokens_past : (b : ℕ) (t : List ℕ) (ts : List Token) → is_white b ≡ true → AreTokens (b ∷ t) ts → AreTokens t ts
 tokens_past b t [] e h = sym (token_past b t e) ∙ h
@@ -40,7 +40,7 @@ tokens_same b t e = go (tokens_of (b ∷ t)) (tokens_of t) refl refl
 -- the expression of a text is that with white space in front
 expression_past : (b : ℕ) (t : List ℕ) → is_white b ≡ true → expression_of (b ∷ t) ≡ expression_of t
 unfolding expression_of reads
-expression_past b t e = ap (λ (ts : Option (List Token)). run_all itself (needs []) ts) (tokens_same b t e)
+expression_past b t e = ap (λ (ts : Option (List Token)). parse_all_tokens itself (needs []) ts) (tokens_same b t e)
 
 cond_past : (b : ℕ) (t : List ℕ) (table : List Argument) (rules : Rules) → is_white b ≡ true → expression_cond (b ∷ t) table rules ≡ expression_cond t table rules
 unfolding expression_cond
@@ -48,7 +48,7 @@ cond_past b t table rules e = ap (λ (o : Option Expression). tree_cond_if o tab
 
 -- and so is its one name
 name_past : (b : ℕ) (t : List ℕ) → is_white b ≡ true → sole_name (b ∷ t) ≡ sole_name t
-name_past b t e = ap (λ (w : List ℕ). if is_identifier (word_in_front w) && are_white (past_word w) then Some (word_in_front w) else None) (past_one b t e)
+name_past b t e = ap (λ (w : List ℕ). if is_identifier (leading_word w) && are_white (skip_word w) then Some (leading_word w) else None) (past_one b t e)
 
 -- what makes a condition true is the same with white space in front
 pub condition_past : (p : Test) (b : ℕ) (t : List ℕ) → is_white b ≡ true → condition_by_test p (b ∷ t) ≡ condition_by_test p t
@@ -58,9 +58,9 @@ condition_past Undefined b t e = ap (λ (o : Option (List ℕ)). option_map (λ 
 condition_past Nothing b t e = refl
 
 -- and so is what is decided of it
-pub decided_past : (p : Test) (b : ℕ) (t : List ℕ) (table : List Argument) (rules : Rules) → is_white b ≡ true → decided_by p (b ∷ t) table rules ≡ decided_by p t table rules
+pub decided_past : (p : Test) (b : ℕ) (t : List ℕ) (table : List Argument) (rules : Rules) → is_white b ≡ true → decision_by_test p (b ∷ t) table rules ≡ decision_by_test p t table rules
 decided_past Nonzero b t table rules e = ap (λ (c : Cond). record { cond = c; ignoring = false }) (cond_past b t table rules e)
 decided_past Defined b t table rules e = ap (λ (o : Option (List ℕ)). ifdef_decision o table) (name_past b t e)
 decided_past Undefined b t table rules e =
-    ap (λ (o : Option (List ℕ)). record (ifdef_decision o table) { cond = negated (ifdef_decision o table).cond }) (name_past b t e)
+    ap (λ (o : Option (List ℕ)). record (ifdef_decision o table) { cond = negate (ifdef_decision o table).cond }) (name_past b t e)
 decided_past Nothing b t table rules e = refl

@@ -3,8 +3,8 @@ use Rattle.std.proofs.Common.{◌≡◌, ◌≢◌, List, Bool, true, false, not
 use Rattle.std.proofs.lemmas.Option.{none-some}
 use Rattle.ud_model.specs.conditions.Table.{Argument}
 use Rattle.ud_model.specs.conditions.Expressions.{Expression, constant, named, is_defined, unary, binary, parens}
-use Rattle.ud_model.specs.conditions.Values.{alter, combine, number_of, has_unsigned, value_of}
-use Rattle.ud_model.specs.conditions.Conditions.{names_listed, calls_undefined, truth_of, tree_cond}
+use Rattle.ud_model.specs.conditions.Values.{apply_unary, apply_binary, number_of, has_unsigned, value_of}
+use Rattle.ud_model.specs.conditions.Conditions.{mentions_listed, calls_undefined, truth_of, tree_cond}
 use Rattle.ud_model.specs.declared.cond.Cond.{Cond}
 use Rattle.ud_model.specs.declared.cond.Cond.TheVariants.{Unknown}
 use Rattle.ud_model.specs.declared.operator.Operator.{Operator}
@@ -13,15 +13,15 @@ use Rattle.ud_model.specs.declared.operator.Operator.{Operator}
 abbrev Keeps : Option ℤ → Option ℤ → Type 0
 Keeps a b = (z : ℤ) → a ≡ Some z → b ≡ Some z
 
-alter_keeps : (u : Bool) (o : Operator) (a b : Option ℤ) → Keeps a b → Keeps (alter u o a) (alter u o b)
+alter_keeps : (u : Bool) (o : Operator) (a b : Option ℤ) → Keeps a b → Keeps (apply_unary u o a) (apply_unary u o b)
 alter_keeps u o None b h z e = absurd (none-some z e)
-alter_keeps u o (Some x) b h z e = ap (alter u o) (h x refl) ∙ e
+alter_keeps u o (Some x) b h z e = ap (apply_unary u o) (h x refl) ∙ e
 
-combine_keeps : (u : Bool) (o : Operator) (a b c d : Option ℤ) → Keeps a c → Keeps b d → Keeps (combine true u o a b) (combine false u o c d)
+combine_keeps : (u : Bool) (o : Operator) (a b c d : Option ℤ) → Keeps a c → Keeps b d → Keeps (apply_binary true u o a b) (apply_binary false u o c d)
 combine_keeps u o None None c d h k z e = absurd (none-some z e)
 combine_keeps u o None (Some y) c d h k z e = absurd (none-some z e)
 combine_keeps u o (Some x) None c d h k z e = absurd (none-some z e)
-combine_keeps u o (Some x) (Some y) c d h k z e = ap₂ (combine false u o) (h x refl) (k y refl) ∙ e
+combine_keeps u o (Some x) (Some y) c d h k z e = ap₂ (apply_binary false u o) (h x refl) (k y refl) ∙ e
 
 module _ (table : List Argument) where
   number_keeps : (u : Bool) (e : Expression) → Keeps (number_of table true u e) (number_of table false u e)
@@ -49,5 +49,5 @@ module _ (table : List Argument) where
   pub cond_keeps : (e : Expression) (k : Bool) → tree_cond e table (record { constants = k; strict = true }) ≢ Unknown →
       tree_cond e table (record { constants = k; strict = false }) ≡ tree_cond e table (record { constants = k; strict = true })
   cond_keeps e k n =
-      unless_keeps (calls_undefined table e || not (k || names_listed table e)) (truth_of (value_of table true e)) (truth_of (value_of table false e))
+      unless_keeps (calls_undefined table e || not (k || mentions_listed table e)) (truth_of (value_of table true e)) (truth_of (value_of table false e))
       (truth_keeps (value_of table true e) (value_of table false e) (value_keeps e)) n

@@ -7,7 +7,7 @@ use Rattle.std.proofs.lemmas.Slice.Eq.{bytes_eq-Decides}
 use Rattle.std.proofs.lemmas.Option.{none-some, same_Some}
 use Rattle.ud_model.specs.text.Bytes.{is_identifier}
 use Rattle.ud_model.specs.conditions.Table.{Argument, Entry, entry_from, entry_in}
-use Rattle.ud_model.specs.conditions.Symbols.{text_in, defined_text, EndsAt, at_text, by_name, on_text, ends_in, end_of}
+use Rattle.ud_model.specs.conditions.Symbols.{text_in, defined_text, ResolvesTo, at_text, by_name, on_text, resolve_within, resolve}
 
 -- the tables say the same of every name
 abbrev pub SaySame : List Argument → List Argument → Type 0
@@ -17,19 +17,19 @@ SaySame t u = (n : List ℕ) → entry_in t n ≡ entry_in u n
 pub record Goes (t : List Argument) (k : ℕ) (n v : List ℕ) : Type 0 where
   pub text : List ℕ
   pub says : defined_text t n ≡ Some text
-  pub on : ((is_identifier text ≡ false) × (text ≡ v)) ⊎ ((is_identifier text ≡ true) × (ends_in k t text ≡ Some v))
+  pub on : ((is_identifier text ≡ false) × (text ≡ v)) ⊎ ((is_identifier text ≡ true) × (resolve_within k t text ≡ Some v))
 
 goes_by : (f : List ℕ → Option (List ℕ)) (b : Bool) (w v : List ℕ) → (if b then f w else Some w) ≡ Some v →
     ((b ≡ false) × (w ≡ v)) ⊎ ((b ≡ true) × (f w ≡ Some v))
 goes_by f true w v e = inr (refl, e)
 goes_by f false w v e = inl (refl, same_Some w v e)
 
-goes_on : (t : List Argument) (k : ℕ) (n v : List ℕ) (o : Option (List ℕ)) → defined_text t n ≡ o → on_text (λ w. ends_in k t w) o ≡ Some v → Goes t k n v
+goes_on : (t : List Argument) (k : ℕ) (n v : List ℕ) (o : Option (List ℕ)) → defined_text t n ≡ o → on_text (λ w. resolve_within k t w) o ≡ Some v → Goes t k n v
 goes_on t k n v None d e = absurd (none-some v e)
-goes_on t k n v (Some w) d e = record { text = w; says = d; on = goes_by (λ x. ends_in k t x) (is_identifier w) w v e }
+goes_on t k n v (Some w) d e = record { text = w; says = d; on = goes_by (λ x. resolve_within k t x) (is_identifier w) w v e }
 
 -- the first step of a way that ends
-pub goes : (t : List Argument) (k : ℕ) (n v : List ℕ) → ends_in (suc k) t n ≡ Some v → Goes t k n v
+pub goes : (t : List Argument) (k : ℕ) (n v : List ℕ) → resolve_within (suc k) t n ≡ Some v → Goes t k n v
 goes t k n v e = goes_on t k n v (defined_text t n) refl e
 
 if_end : (f : List ℕ → Option (List ℕ)) (b : Bool) (w : List ℕ) → b ≡ false → (if b then f w else Some w) ≡ Some w
@@ -39,12 +39,12 @@ if_name : (f : List ℕ → Option (List ℕ)) (b : Bool) (w : List ℕ) → b �
 if_name f b w e = rw e
 
 -- the text is an end
-pub ends_here : (t : List Argument) (k : ℕ) (n w : List ℕ) → defined_text t n ≡ Some w → is_identifier w ≡ false → ends_in (suc k) t n ≡ Some w
-ends_here t k n w d e = ap (on_text (λ x. ends_in k t x)) d ∙ if_end (λ x. ends_in k t x) (is_identifier w) w e
+pub ends_here : (t : List Argument) (k : ℕ) (n w : List ℕ) → defined_text t n ≡ Some w → is_identifier w ≡ false → resolve_within (suc k) t n ≡ Some w
+ends_here t k n w d e = ap (on_text (λ x. resolve_within k t x)) d ∙ if_end (λ x. resolve_within k t x) (is_identifier w) w e
 
 -- the way goes on from the text
-pub ends_behind : (t : List Argument) (k : ℕ) (n w : List ℕ) → defined_text t n ≡ Some w → is_identifier w ≡ true → ends_in (suc k) t n ≡ ends_in k t w
-ends_behind t k n w d e = ap (on_text (λ x. ends_in k t x)) d ∙ if_name (λ x. ends_in k t x) (is_identifier w) w e
+pub ends_behind : (t : List Argument) (k : ℕ) (n w : List ℕ) → defined_text t n ≡ Some w → is_identifier w ≡ true → resolve_within (suc k) t n ≡ resolve_within k t w
+ends_behind t k n w d e = ap (on_text (λ x. resolve_within k t x)) d ∙ if_name (λ x. resolve_within k t x) (is_identifier w) w e
 
 -- the way on which `u` goes as `t` does, wherever `t` has a text
 abbrev pub Follows : List Argument → List Argument → Type 0
@@ -52,15 +52,15 @@ Follows t u = (n w : List ℕ) → defined_text t n ≡ Some w → defined_text 
 
 -- a step is taken over a table that follows, where the way after it is
 step_follows : (j k : ℕ) (t u : List Argument) → Follows t u → (n v : List ℕ) → Goes t j n v →
-    ((w : List ℕ) → ends_in j t w ≡ Some v → ends_in k u w ≡ Some v) → ends_in (suc k) u n ≡ Some v
+    ((w : List ℕ) → resolve_within j t w ≡ Some v → resolve_within k u w ≡ Some v) → resolve_within (suc k) u n ≡ Some v
 step_follows j k t u f n v g further = by g.on
   where
-    by : ((is_identifier g.text ≡ false) × (g.text ≡ v)) ⊎ ((is_identifier g.text ≡ true) × (ends_in j t g.text ≡ Some v)) → ends_in (suc k) u n ≡ Some v
+    by : ((is_identifier g.text ≡ false) × (g.text ≡ v)) ⊎ ((is_identifier g.text ≡ true) × (resolve_within j t g.text ≡ Some v)) → resolve_within (suc k) u n ≡ Some v
     by (inl p) = ends_here u k n g.text (f n g.text g.says) p.0 ∙ ap Some p.1
     by (inr p) = ends_behind u k n g.text (f n g.text g.says) p.0 ∙ further g.text p.1
 
 -- more steps, over a table that follows, come to the same end
-pub ends_more : (j k : ℕ) (t u : List Argument) → Follows t u → (n v : List ℕ) → j ≤ k → ends_in j t n ≡ Some v → ends_in k u n ≡ Some v
+pub ends_more : (j k : ℕ) (t u : List Argument) → Follows t u → (n v : List ℕ) → j ≤ k → resolve_within j t n ≡ Some v → resolve_within k u n ≡ Some v
 ends_more zero k t u f n v l e = absurd (none-some v e)
 ends_more (suc j) zero t u f n v l e = absurd (omega arith)
 ends_more (suc j) (suc k) t u f n v l e = step_follows j k t u f n v (goes t j n v e) (λ w h. ends_more j k t u f w v (omega arith) h)
@@ -139,60 +139,60 @@ follows n t m w d = follows_by n t m w (bytes_eq n m) refl d
 
 -- a way of so many steps that ends avoids a name, or what is left of it begins there
 abbrev pub Splits : ℕ → List Argument → List ℕ → List ℕ → List ℕ → Type 0
-Splits k t n w v = (ends_in k (without n t) w ≡ Some v) ⊎ ((j : ℕ) × (j ≤ k) × (ends_in j t n ≡ Some v))
+Splits k t n w v = (resolve_within k (without n t) w ≡ Some v) ⊎ ((j : ℕ) × (j ≤ k) × (resolve_within j t n ≡ Some v))
 
 split_on : (k : ℕ) (t : List Argument) (n w v x : List ℕ) → defined_text (without n t) w ≡ Some x → is_identifier x ≡ true → Splits k t n x v → Splits (suc k) t n w v
 split_on k t n w v x d i (inl e) = inl (ends_behind (without n t) k w x d i ∙ e)
 split_on k t n w v x d i (inr (j, l, e)) = inr (j, omega arith, e)
 
-split_other : (k : ℕ) (t : List Argument) (n w v : List ℕ) → bytes_eq n w ≡ false → Goes t k w v → ((x : List ℕ) → ends_in k t x ≡ Some v → Splits k t n x v) → Splits (suc k) t n w v
+split_other : (k : ℕ) (t : List Argument) (n w v : List ℕ) → bytes_eq n w ≡ false → Goes t k w v → ((x : List ℕ) → resolve_within k t x ≡ Some v → Splits k t n x v) → Splits (suc k) t n w v
 split_other k t n w v q g further = by g.on
   where
     says : defined_text (without n t) w ≡ Some g.text
     says = ap text_in (without_other n w q t None) ∙ g.says
 
-    by : ((is_identifier g.text ≡ false) × (g.text ≡ v)) ⊎ ((is_identifier g.text ≡ true) × (ends_in k t g.text ≡ Some v)) → Splits (suc k) t n w v
+    by : ((is_identifier g.text ≡ false) × (g.text ≡ v)) ⊎ ((is_identifier g.text ≡ true) × (resolve_within k t g.text ≡ Some v)) → Splits (suc k) t n w v
     by (inl p) = inl (ends_here (without n t) k w g.text says p.0 ∙ ap Some p.1)
     by (inr p) = split_on k t n w v g.text says p.0 (further g.text p.1)
 
-split_by : (k : ℕ) (t : List Argument) (n w v : List ℕ) (b : Bool) → bytes_eq n w ≡ b → ends_in (suc k) t w ≡ Some v → ((x : List ℕ) → ends_in k t x ≡ Some v → Splits k t n x v) →
+split_by : (k : ℕ) (t : List Argument) (n w v : List ℕ) (b : Bool) → bytes_eq n w ≡ b → resolve_within (suc k) t w ≡ Some v → ((x : List ℕ) → resolve_within k t x ≡ Some v → Splits k t n x v) →
     Splits (suc k) t n w v
-split_by k t n w v true q e further = inr (suc k, omega arith, subst (λ m. ends_in (suc k) t m ≡ Some v) (sym ((bytes_eq-Decides n w).0 q)) e)
+split_by k t n w v true q e further = inr (suc k, omega arith, subst (λ m. resolve_within (suc k) t m ≡ Some v) (sym ((bytes_eq-Decides n w).0 q)) e)
 split_by k t n w v false q e further = split_other k t n w v q (goes t k w v e) further
 
-split : (k : ℕ) (t : List Argument) (n w v : List ℕ) → ends_in k t w ≡ Some v → Splits k t n w v
+split : (k : ℕ) (t : List Argument) (n w v : List ℕ) → resolve_within k t w ≡ Some v → Splits k t n w v
 split zero t n w v e = absurd (none-some v e)
 split (suc k) t n w v e = split_by k t n w v (bytes_eq n w) refl e (λ x h. split k t n x v h)
 
 -- a way that ends does so in as many steps as there are arguments
 abbrev pub Soon : List Argument → Type 0
-Soon t = (k : ℕ) (n v : List ℕ) → ends_in k t n ≡ Some v → ends_in (length t) t n ≡ Some v
+Soon t = (k : ℕ) (n v : List ℕ) → resolve_within k t n ≡ Some v → resolve_within (length t) t n ≡ Some v
 
 -- at most so many steps
 abbrev pub SoonWithin : ℕ → List Argument → Type 0
-SoonWithin most t = (k : ℕ) (n v : List ℕ) → k ≤ most → ends_in k t n ≡ Some v → ends_in (length t) t n ≡ Some v
+SoonWithin most t = (k : ℕ) (n v : List ℕ) → k ≤ most → resolve_within k t n ≡ Some v → resolve_within (length t) t n ≡ Some v
 
 same_follows : (t : List Argument) → Follows t t
 same_follows t n w d = d
 
 -- one step, and then a way over fewer arguments
-soon_behind : (t : List Argument) (n w v : List ℕ) → defined_text t n ≡ Some w → is_identifier w ≡ true → ends_in (length (without n t)) (without n t) w ≡ Some v →
-    ends_in (length t) t n ≡ Some v
+soon_behind : (t : List Argument) (n w v : List ℕ) → defined_text t n ≡ Some w → is_identifier w ≡ true → resolve_within (length (without n t)) (without n t) w ≡ Some v →
+    resolve_within (length t) t n ≡ Some v
 soon_behind t n w v d i e =
     let l : length (without n t) < length t = fewer n w t d in
-    let h : ends_in (length (without n t)) t w ≡ Some v = ends_more (length (without n t)) (length (without n t)) (without n t) t (follows n t) w v (omega arith) e in
+    let h : resolve_within (length (without n t)) t w ≡ Some v = ends_more (length (without n t)) (length (without n t)) (without n t) t (follows n t) w v (omega arith) e in
     ends_more (suc (length (without n t))) (length t) t t (same_follows t) n v (omega arith) (ends_behind t (length (without n t)) n w d i ∙ h)
 
 soon_split : (most : ℕ) (t : List Argument) → ((n w : List ℕ) → defined_text t n ≡ Some w → Soon (without n t)) → SoonWithin most t →
-    (k : ℕ) (n w v : List ℕ) → k ≤ most → defined_text t n ≡ Some w → is_identifier w ≡ true → Splits k t n w v → ends_in (length t) t n ≡ Some v
+    (k : ℕ) (n w v : List ℕ) → k ≤ most → defined_text t n ≡ Some w → is_identifier w ≡ true → Splits k t n w v → resolve_within (length t) t n ≡ Some v
 soon_split most t smaller within k n w v l d i (inl e) = soon_behind t n w v d i (smaller n w d k w v e)
 soon_split most t smaller within k n w v l d i (inr (j, q, e)) = within j n v (omega arith) e
 
 soon_step : (most : ℕ) (t : List Argument) → ((n w : List ℕ) → defined_text t n ≡ Some w → Soon (without n t)) → SoonWithin most t →
-    (k : ℕ) (n v : List ℕ) → k ≤ most → Goes t k n v → ends_in (length t) t n ≡ Some v
+    (k : ℕ) (n v : List ℕ) → k ≤ most → Goes t k n v → resolve_within (length t) t n ≡ Some v
 soon_step most t smaller within k n v l g = by g.on
   where
-    by : ((is_identifier g.text ≡ false) × (g.text ≡ v)) ⊎ ((is_identifier g.text ≡ true) × (ends_in k t g.text ≡ Some v)) → ends_in (length t) t n ≡ Some v
+    by : ((is_identifier g.text ≡ false) × (g.text ≡ v)) ⊎ ((is_identifier g.text ≡ true) × (resolve_within k t g.text ≡ Some v)) → resolve_within (length t) t n ≡ Some v
     by (inl p) =
         let q : length (without n t) < length t = fewer n g.text t g.says in
         ends_more 1 (length t) t t (same_follows t) n v (omega arith) (ends_here t 0 n g.text g.says p.0 ∙ ap Some p.1)
@@ -216,8 +216,8 @@ ends_soon t = soon_below (length t) t (omega arith)
 same_follows_same : (t u : List Argument) → SaySame t u → Follows t u
 same_follows_same t u f n w d = ap text_in (sym (f n)) ∙ d
 
-ends_over : (t u : List Argument) → SaySame t u → (n v : List ℕ) → end_of t n ≡ Some v → end_of u n ≡ Some v
-unfolding end_of
+ends_over : (t u : List Argument) → SaySame t u → (n v : List ℕ) → resolve t n ≡ Some v → resolve u n ≡ Some v
+unfolding resolve
 ends_over t u f n v e = ends_soon u (length t) n v (ends_more (length t) (length t) t u (same_follows_same t u f) n v (omega arith) e)
 
 same_by : {A : Type 0} (o p : Option A) → ((x : A) → o ≡ Some x → p ≡ Some x) → ((x : A) → p ≡ Some x → o ≡ Some x) → o ≡ p
@@ -226,31 +226,31 @@ same_by None None f g = refl
 same_by None (Some x) f g = g x refl
 
 -- tables that say the same of every name give a name's value the same end
-pub end_same : (t u : List Argument) → SaySame t u → (n : List ℕ) → end_of t n ≡ end_of u n
-end_same t u f n = same_by (end_of t n) (end_of u n) (ends_over t u f n) (ends_over u t (λ m. sym (f m)) n)
+pub end_same : (t u : List Argument) → SaySame t u → (n : List ℕ) → resolve t n ≡ resolve u n
+end_same t u f n = same_by (resolve t n) (resolve u n) (ends_over t u f n) (ends_over u t (λ m. sym (f m)) n)
 
 -- a way that ends has so many steps
-steps : (t : List Argument) (n v : List ℕ) → EndsAt t n v → (k : ℕ) × (ends_in k t n ≡ Some v)
+steps : (t : List Argument) (n v : List ℕ) → ResolvesTo t n v → (k : ℕ) × (resolve_within k t n ≡ Some v)
 steps t _ _ (at_text n v d i) = (1, ends_here t 0 n v d i)
-steps t _ _ (by_name n m v d i e) = let s : (k : ℕ) × (ends_in k t m ≡ Some v) = steps t m v e in (suc s.0, ends_behind t s.0 n m d i ∙ s.1)
+steps t _ _ (by_name n m v d i e) = let s : (k : ℕ) × (resolve_within k t m ≡ Some v) = steps t m v e in (suc s.0, ends_behind t s.0 n m d i ∙ s.1)
 
 -- the computed end is the one at which the value ends
-pub end_found : (t : List Argument) (n v : List ℕ) → EndsAt t n v → end_of t n ≡ Some v
-unfolding end_of
-end_found t n v h = let s : (k : ℕ) × (ends_in k t n ≡ Some v) = steps t n v h in ends_soon t s.0 n v s.1
+pub end_found : (t : List Argument) (n v : List ℕ) → ResolvesTo t n v → resolve t n ≡ Some v
+unfolding resolve
+end_found t n v h = let s : (k : ℕ) × (resolve_within k t n ≡ Some v) = steps t n v h in ends_soon t s.0 n v s.1
 
-ends_by : (t : List Argument) (k : ℕ) (n v : List ℕ) → ((w : List ℕ) → ends_in k t w ≡ Some v → EndsAt t w v) → Goes t k n v → EndsAt t n v
+ends_by : (t : List Argument) (k : ℕ) (n v : List ℕ) → ((w : List ℕ) → resolve_within k t w ≡ Some v → ResolvesTo t w v) → Goes t k n v → ResolvesTo t n v
 ends_by t k n v further g = by g.on
   where
-    by : ((is_identifier g.text ≡ false) × (g.text ≡ v)) ⊎ ((is_identifier g.text ≡ true) × (ends_in k t g.text ≡ Some v)) → EndsAt t n v
-    by (inl p) = subst (EndsAt t n) p.1 (at_text n g.text g.says p.0)
+    by : ((is_identifier g.text ≡ false) × (g.text ≡ v)) ⊎ ((is_identifier g.text ≡ true) × (resolve_within k t g.text ≡ Some v)) → ResolvesTo t n v
+    by (inl p) = subst (ResolvesTo t n) p.1 (at_text n g.text g.says p.0)
     by (inr p) = by_name n g.text v g.says p.0 (further g.text p.1)
 
-ends_at : (t : List Argument) (k : ℕ) (n v : List ℕ) → ends_in k t n ≡ Some v → EndsAt t n v
+ends_at : (t : List Argument) (k : ℕ) (n v : List ℕ) → resolve_within k t n ≡ Some v → ResolvesTo t n v
 ends_at t zero n v e = absurd (none-some v e)
 ends_at t (suc k) n v e = ends_by t k n v (λ w h. ends_at t k w v h) (goes t k n v e)
 
 -- and the value ends where the computed end is
-pub end_is : (t : List Argument) (n v : List ℕ) → end_of t n ≡ Some v → EndsAt t n v
-unfolding end_of
+pub end_is : (t : List Argument) (n v : List ℕ) → resolve t n ≡ Some v → ResolvesTo t n v
+unfolding resolve
 end_is t n v e = ends_at t (length t) n v e

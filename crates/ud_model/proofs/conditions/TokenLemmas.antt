@@ -1,15 +1,15 @@
 -- Tokens: the tokens that are computed of a text are those of the relation, since each token has a byte at least.
 use Rattle.std.proofs.Common.{◌≡◌, ℕ, zero, suc, ◌<◌, ◌≤◌, ◌==◌, List, [], ◌∷◌, length, drop, slice_index, Bool, true, false, not, ◌&&◌, if◌then◌else◌, Option, Some, None, bytes_eq, codes, option_map, refl, sym, ◌∙◌, ap, subst, arith, length-drop}
 use Rattle.std.proofs.lemmas.Option.{none-some, same_Some}
-use Rattle.ud_model.specs.text.Bytes.{is_white, is_digit, is_word_byte, past_white, word_in_front, past_word}
-use Rattle.ud_model.specs.conditions.Constants.{begins, is_constant}
-use Rattle.ud_model.specs.conditions.Tokens.{Token, number, name, defined, operator, Next, at_end, unreadable, found, behind_closing, with_arguments, name_token, takes_sign, word_token, longer_of, sign_token, token_in_front, next_token, AreTokens}
-use Rattle.ud_model.specs.aids.Parsing.{cut, tokens_in, tokens_of}
+use Rattle.ud_model.specs.text.Bytes.{is_white, is_digit, is_word_byte, skip_white, leading_word, skip_word}
+use Rattle.ud_model.specs.conditions.Constants.{starts_with_byte, is_constant}
+use Rattle.ud_model.specs.conditions.Tokens.{Token, number, name, defined, operator, NextToken, at_end, unreadable, found, after_matching_paren, with_arguments, name_token, has_exponent_sign, word_token, one_or_two_bytes, punctuator, leading_token, next_token, AreTokens}
+use Rattle.ud_model.specs.aids.Parsing.{prepend_token, tokens_in, tokens_of}
 use Rattle.ud_model.specs.declared.operator.Operator.{Operator}
 use Rattle.ud_model.specs.declared.operator.Operator.TheVariants.{Or, And, BitOr, BitAnd, NotEqual, Less, LessEqual, Greater, GreaterEqual, Not}
 
 -- what follows the token has fewer bytes than k
-abbrev pub Shorter : ℕ → Next → Type 0
+abbrev pub Shorter : ℕ → NextToken → Type 0
 Shorter k at_end = Unit {0}
 Shorter k unreadable = Unit {0}
 Shorter k (found t rest) = length rest < k
@@ -19,11 +19,11 @@ abbrev pub Within : ℕ → Option (List ℕ) → Type 0
 Within k None = Unit {0}
 Within k (Some rest) = length rest ≤ k
 
-shorter_either : (k : ℕ) (b : Bool) (x y : Next) → Shorter k x → Shorter k y → Shorter k (if b then x else y)
+shorter_either : (k : ℕ) (b : Bool) (x y : NextToken) → Shorter k x → Shorter k y → Shorter k (if b then x else y)
 shorter_either k true x y p q = p
 shorter_either k false x y p q = q
 
-shorter_more : (j k : ℕ) (x : Next) → j ≤ k → Shorter j x → Shorter k x
+shorter_more : (j k : ℕ) (x : NextToken) → j ≤ k → Shorter j x → Shorter k x
 shorter_more j k at_end l p = tt
 shorter_more j k unreadable l p = tt
 shorter_more j k (found t rest) l p = omega arith
@@ -43,25 +43,25 @@ length_either k false x y p q = q
 drop_one_most : (t : List ℕ) → length (drop 1 t) ≤ length t
 drop_one_most t = rw length-drop (omega arith)
 
-past_white_most : (t : List ℕ) → length (past_white t) ≤ length t
+past_white_most : (t : List ℕ) → length (skip_white t) ≤ length t
 past_white_most [] = omega arith
-past_white_most (b ∷ t) = let h : length (past_white t) ≤ length t = past_white_most t in length_either (suc (length t)) (is_white b) (past_white t) (b ∷ t) (omega arith) (omega arith)
+past_white_most (b ∷ t) = let h : length (skip_white t) ≤ length t = past_white_most t in length_either (suc (length t)) (is_white b) (skip_white t) (b ∷ t) (omega arith) (omega arith)
 
-past_word_most : (t : List ℕ) → length (past_word t) ≤ length t
+past_word_most : (t : List ℕ) → length (skip_word t) ≤ length t
 past_word_most [] = omega arith
-past_word_most (b ∷ t) = let h : length (past_word t) ≤ length t = past_word_most t in length_either (suc (length t)) (is_word_byte b) (past_word t) (b ∷ t) (omega arith) (omega arith)
+past_word_most (b ∷ t) = let h : length (skip_word t) ≤ length t = past_word_most t in length_either (suc (length t)) (is_word_byte b) (skip_word t) (b ∷ t) (omega arith) (omega arith)
 
-behind_within : (n : ℕ) (t : List ℕ) → Within (length t) (behind_closing n t)
+behind_within : (n : ℕ) (t : List ℕ) → Within (length t) (after_matching_paren n t)
 behind_within zero [] = tt
 behind_within (suc n) [] = tt
 behind_within zero (b ∷ t) =
-    within_either (suc (length t)) (b == 40) (behind_closing 1 t) (if b == 41 then Some t else behind_closing 0 t)
-    (within_more (length t) (suc (length t)) (behind_closing 1 t) (omega arith) (behind_within 1 t))
-    (within_either (suc (length t)) (b == 41) (Some t) (behind_closing 0 t) (omega arith) (within_more (length t) (suc (length t)) (behind_closing 0 t) (omega arith) (behind_within 0 t)))
+    within_either (suc (length t)) (b == 40) (after_matching_paren 1 t) (if b == 41 then Some t else after_matching_paren 0 t)
+    (within_more (length t) (suc (length t)) (after_matching_paren 1 t) (omega arith) (behind_within 1 t))
+    (within_either (suc (length t)) (b == 41) (Some t) (after_matching_paren 0 t) (omega arith) (within_more (length t) (suc (length t)) (after_matching_paren 0 t) (omega arith) (behind_within 0 t)))
 behind_within (suc n) (b ∷ t) =
-    within_either (suc (length t)) (b == 40) (behind_closing (suc (suc n)) t) (if b == 41 then behind_closing n t else behind_closing (suc n) t)
-    (within_more (length t) (suc (length t)) (behind_closing (suc (suc n)) t) (omega arith) (behind_within (suc (suc n)) t))
-    (within_either (suc (length t)) (b == 41) (behind_closing n t) (behind_closing (suc n) t) (within_more (length t) (suc (length t)) (behind_closing n t) (omega arith) (behind_within n t)) (within_more (length t) (suc (length t)) (behind_closing (suc n) t) (omega arith) (behind_within (suc n) t)))
+    within_either (suc (length t)) (b == 40) (after_matching_paren (suc (suc n)) t) (if b == 41 then after_matching_paren n t else after_matching_paren (suc n) t)
+    (within_more (length t) (suc (length t)) (after_matching_paren (suc (suc n)) t) (omega arith) (behind_within (suc (suc n)) t))
+    (within_either (suc (length t)) (b == 41) (after_matching_paren n t) (after_matching_paren (suc n) t) (within_more (length t) (suc (length t)) (after_matching_paren n t) (omega arith) (behind_within n t)) (within_more (length t) (suc (length t)) (after_matching_paren (suc n) t) (omega arith) (behind_within (suc n) t)))
 
 with_shorter : (k j : ℕ) (w : List ℕ) (o : Option (List ℕ)) → j < k → Within j o → Shorter k (with_arguments w o)
 with_shorter k j w None l p = tt
@@ -69,23 +69,23 @@ with_shorter k j w (Some rest) l p = omega arith
 
 name_shorter : (k : ℕ) (w rest : List ℕ) → length rest < k → Shorter k (name_token w rest)
 name_shorter k w rest l =
-    let h : length (past_white rest) ≤ length rest = past_white_most rest in
-    let g : length (drop 1 (past_white rest)) ≤ length (past_white rest) = drop_one_most (past_white rest) in
-    shorter_either k (begins 40 (past_white rest)) (with_arguments w (behind_closing 0 (drop 1 (past_white rest)))) (found (name w false) rest)
-    (with_shorter k (length (drop 1 (past_white rest))) w (behind_closing 0 (drop 1 (past_white rest))) (omega arith) (behind_within 0 (drop 1 (past_white rest)))) l
+    let h : length (skip_white rest) ≤ length rest = past_white_most rest in
+    let g : length (drop 1 (skip_white rest)) ≤ length (skip_white rest) = drop_one_most (skip_white rest) in
+    shorter_either k (starts_with_byte 40 (skip_white rest)) (with_arguments w (after_matching_paren 0 (drop 1 (skip_white rest)))) (found (name w false) rest)
+    (with_shorter k (length (drop 1 (skip_white rest))) w (after_matching_paren 0 (drop 1 (skip_white rest))) (omega arith) (behind_within 0 (drop 1 (skip_white rest)))) l
 
 word_shorter : (k : ℕ) (w rest : List ℕ) → length rest < k → Shorter k (word_token w rest)
 word_shorter k w rest l =
-    shorter_either k (is_digit (slice_index w 0)) (if is_constant w && not (takes_sign w rest) then found (number w) rest else unreadable) (if bytes_eq w (codes "defined") then found defined rest else name_token w rest)
-    (shorter_either k (is_constant w && not (takes_sign w rest)) (found (number w) rest) unreadable l tt)
+    shorter_either k (is_digit (slice_index w 0)) (if is_constant w && not (has_exponent_sign w rest) then found (number w) rest else unreadable) (if bytes_eq w (codes "defined") then found defined rest else name_token w rest)
+    (shorter_either k (is_constant w && not (has_exponent_sign w rest)) (found (number w) rest) unreadable l tt)
     (shorter_either k (bytes_eq w (codes "defined")) (found defined rest) (name_token w rest) l (name_shorter k w rest l))
 
-longer_shorter : (c : ℕ) (o p : Operator) (rest : List ℕ) → Shorter (suc (length rest)) (longer_of c o p rest)
+longer_shorter : (c : ℕ) (o p : Operator) (rest : List ℕ) → Shorter (suc (length rest)) (one_or_two_bytes c o p rest)
 longer_shorter c o p rest =
     let h : length (drop 1 rest) ≤ length rest = drop_one_most rest in
-    shorter_either (suc (length rest)) (begins c rest) (found (operator o) (drop 1 rest)) (found (operator p) rest) (omega arith) (omega arith)
+    shorter_either (suc (length rest)) (starts_with_byte c rest) (found (operator o) (drop 1 rest)) (found (operator p) rest) (omega arith) (omega arith)
 
-sign_shorter : (b : ℕ) (rest : List ℕ) → Shorter (suc (length rest)) (sign_token b rest)
+sign_shorter : (b : ℕ) (rest : List ℕ) → Shorter (suc (length rest)) (punctuator b rest)
 sign_shorter b rest =
     let h : length (drop 1 rest) ≤ length rest = drop_one_most rest in
     let k : ℕ = suc (length rest) in
@@ -96,8 +96,8 @@ sign_shorter b rest =
     (shorter_either k (b == 62) _ _ (longer_shorter 61 GreaterEqual Greater rest)
     (shorter_either k (b == 38) _ _ (longer_shorter 38 And BitAnd rest)
     (shorter_either k (b == 124) _ _ (longer_shorter 124 Or BitOr rest)
-    (shorter_either k (b == 61) _ _ (shorter_either k (begins 61 rest) _ _ (omega arith) tt)
-    (shorter_either k (b == 45) _ _ (shorter_either k (begins 45 rest) _ _ tt (omega arith))
+    (shorter_either k (b == 61) _ _ (shorter_either k (starts_with_byte 61 rest) _ _ (omega arith) tt)
+    (shorter_either k (b == 45) _ _ (shorter_either k (starts_with_byte 45 rest) _ _ tt (omega arith))
     (shorter_either k (b == 43) _ _ (omega arith)
     (shorter_either k (b == 42) _ _ (omega arith)
     (shorter_either k (b == 47) _ _ (omega arith)
@@ -105,23 +105,23 @@ sign_shorter b rest =
     (shorter_either k (b == 94) _ _ (omega arith)
     (shorter_either k (b == 126) _ _ (omega arith) tt))))))))))))))
 
-past_word_behind : (b : ℕ) (t : List ℕ) → is_word_byte b ≡ true → length (past_word (b ∷ t)) < suc (length t)
+past_word_behind : (b : ℕ) (t : List ℕ) → is_word_byte b ≡ true → length (skip_word (b ∷ t)) < suc (length t)
 past_word_behind b t e =
-    let h : length (past_word t) ≤ length t = past_word_most t in
-    subst (λ (c : Bool). length (if c then past_word t else b ∷ t) < suc (length t)) (sym e) (omega arith)
+    let h : length (skip_word t) ≤ length t = past_word_most t in
+    subst (λ (c : Bool). length (if c then skip_word t else b ∷ t) < suc (length t)) (sym e) (omega arith)
 
 front_by : (b : ℕ) (t : List ℕ) (c : Bool) → is_word_byte b ≡ c →
-    Shorter (suc (length t)) (if c then word_token (word_in_front (b ∷ t)) (past_word (b ∷ t)) else sign_token b t)
-front_by b t true e = word_shorter (suc (length t)) (word_in_front (b ∷ t)) (past_word (b ∷ t)) (past_word_behind b t e)
+    Shorter (suc (length t)) (if c then word_token (leading_word (b ∷ t)) (skip_word (b ∷ t)) else punctuator b t)
+front_by b t true e = word_shorter (suc (length t)) (leading_word (b ∷ t)) (skip_word (b ∷ t)) (past_word_behind b t e)
 front_by b t false e = sign_shorter b t
 
-front_shorter : (t : List ℕ) → Shorter (length t) (token_in_front t)
+front_shorter : (t : List ℕ) → Shorter (length t) (leading_token t)
 front_shorter [] = tt
 front_shorter (b ∷ t) = front_by b t (is_word_byte b) refl
 
 next_shorter : (text : List ℕ) → Shorter (length text) (next_token text)
 unfolding next_token
-next_shorter text = shorter_more (length (past_white text)) (length text) (token_in_front (past_white text)) (past_white_most text) (front_shorter (past_white text))
+next_shorter text = shorter_more (length (skip_white text)) (length text) (leading_token (skip_white text)) (past_white_most text) (front_shorter (skip_white text))
 
 -- what follows a token is shorter than the text
 pub shorter : (text rest : List ℕ) (t : Token) → next_token text ≡ found t rest → length rest < length text
@@ -130,17 +130,17 @@ shorter text rest t e = subst (λ x. Shorter (length text) x) e (next_shorter te
 -- the tokens of a text are found with as many steps as it has bytes, and one
 pub tokens_enough : (ts : List Token) (n : ℕ) (text : List ℕ) → length text < n → AreTokens text ts → tokens_in n text ≡ Some ts
 tokens_enough ts zero text l p = absurd (omega arith)
-tokens_enough [] (suc n) text l p = ap (cut (λ rest. tokens_in n rest)) p
+tokens_enough [] (suc n) text l p = ap (prepend_token (λ rest. tokens_in n rest)) p
 tokens_enough (t ∷ ts) (suc n) text l p =
     let h : length p.0 < length text = shorter text p.0 t p.1 in
-    ap (cut (λ rest. tokens_in n rest)) p.1 ∙ ap (option_map (λ us. t ∷ us)) (tokens_enough ts n p.0 (omega arith) p.2)
+    ap (prepend_token (λ rest. tokens_in n rest)) p.1 ∙ ap (option_map (λ us. t ∷ us)) (tokens_enough ts n p.0 (omega arith) p.2)
 
 tail_is : (t : Token) (o : Option (List Token)) (ts : List Token) → option_map (λ us. t ∷ us) o ≡ Some ts → (us : List Token) × (o ≡ Some us) × (t ∷ us ≡ ts)
 tail_is t None ts e = absurd (none-some ts e)
 tail_is t (Some us) ts e = (us, refl, same_Some (t ∷ us) ts e)
 
-cut_tokens : (n : ℕ) (text : List ℕ) (ts : List Token) (x : Next) → next_token text ≡ x → ((rest : List ℕ) (us : List Token) → tokens_in n rest ≡ Some us → AreTokens rest us) →
-    cut (λ rest. tokens_in n rest) x ≡ Some ts → AreTokens text ts
+cut_tokens : (n : ℕ) (text : List ℕ) (ts : List Token) (x : NextToken) → next_token text ≡ x → ((rest : List ℕ) (us : List Token) → tokens_in n rest ≡ Some us → AreTokens rest us) →
+    prepend_token (λ rest. tokens_in n rest) x ≡ Some ts → AreTokens text ts
 cut_tokens n text ts at_end d f e = subst (λ us. AreTokens text us) (same_Some [] ts e) d
 cut_tokens n text ts unreadable d f e = absurd (none-some ts e)
 cut_tokens n text ts (found t rest) d f e =

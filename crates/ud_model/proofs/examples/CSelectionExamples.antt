@@ -5,9 +5,9 @@ use Rattle.ud_model.specs.conditions.Table.{Argument}
 use Rattle.ud_model.specs.conditions.Tokens.{next_token}
 use Rattle.ud_model.specs.conditions.Expressions.{named, is_defined, binary, unary}
 use Rattle.ud_model.specs.aids.Parsing.{tokens_of, reads, expression_of}
-use Rattle.ud_model.specs.conditions.Symbols.{end_of}
+use Rattle.ud_model.specs.conditions.Symbols.{resolve}
 use Rattle.ud_model.specs.conditions.Constants.{suffix_sign}
-use Rattle.ud_model.specs.conditions.Values.{name_value, name_has_u, operate}
+use Rattle.ud_model.specs.conditions.Values.{name_value, name_has_u, apply_binary_known}
 use Rattle.ud_model.specs.conditions.CValues.{signed, CValue, of_and_left, of_and_both, of_open_name}
 use Rattle.ud_model.specs.sections.Tree.{Nodes, Opener, nothing, text, section, conditional, first, elif}
 use Rattle.ud_model.specs.output.Worlds.{World, selected}
@@ -63,26 +63,26 @@ x_is table n l e = of_open_name e (record { sfits = omega arith })
 
 -- with A undefined `A && X` is false
 pub may_be_false : MayBe without (condition_in (line_at 1 (codes "#if A && X"))) false
-unfolding expression_of reads tokens_of next_token suffix_sign name_value name_has_u end_of
+unfolding expression_of reads tokens_of next_token suffix_sign name_value name_has_u resolve
 may_be_false = (signed (pos 0), of_and_left (a_is_nought false) refl, refl)
 
 -- and never true
 pub never_true : ¬ (MayBe without (condition_in (line_at 1 (codes "#if A && X"))) true)
-unfolding expression_of reads tokens_of next_token suffix_sign operate name_value name_has_u end_of
+unfolding expression_of reads tokens_of next_token suffix_sign apply_binary_known name_value name_has_u resolve
 never_true h = h.2 (no_is_false without usual (binary And (named (codes "A") false) (named (codes "X") false)) h.0 refl h.1)
 
 -- with A as 5 it is true or false, by X
 pub may_be_true : MayBe five (condition_in (line_at 1 (codes "#if A && X"))) true
-unfolding expression_of reads tokens_of next_token suffix_sign name_value name_has_u end_of
+unfolding expression_of reads tokens_of next_token suffix_sign name_value name_has_u resolve
 may_be_true = (signed (pos 1), of_and_both (a_is_five false) (λ h. cc) (x_is five 7 (omega arith) refl) (inl ((λ h. cc), refl)), λ h. cc)
 
 pub may_be_either : MayBe five (condition_in (line_at 1 (codes "#if A && X"))) false
-unfolding expression_of reads tokens_of next_token suffix_sign name_value name_has_u end_of
+unfolding expression_of reads tokens_of next_token suffix_sign name_value name_has_u resolve
 may_be_either = (signed (pos 0), of_and_both (a_is_five false) (λ h. cc) (x_is five 0 (omega arith) refl) (inr ((λ h. h refl), refl)), refl)
 
 -- with A undefined C may find X true
 x_true : MayBe without (condition_in (line_at 3 (codes "#elif X"))) true
-unfolding expression_of reads tokens_of next_token suffix_sign name_value name_has_u end_of
+unfolding expression_of reads tokens_of next_token suffix_sign name_value name_has_u resolve
 x_true = (signed (pos 7), x_is without 7 (omega arith) refl, λ h. cc)
 
 -- so there is a world in which it selects b

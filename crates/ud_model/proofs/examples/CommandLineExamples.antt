@@ -7,7 +7,7 @@ use Rattle.ud_model.specs.conditions.Table.{Argument}
 use Rattle.ud_model.specs.declared.settings.Settings.{Settings}
 use Rattle.ud_model.specs.declared.settings.Listing.TheVariants.{Off, Names, Depths}
 use Rattle.ud_model.specs.declared.settings.ExitMode.TheVariants.{Zero, Two}
-use Rattle.ud_model.specs.answer.CommandLine.{unknown_option, missing_argument, bad_symbol_in, bad_mode_in, too_many_files, usage_fault, options_of, operand_of, input_name, input_of, usage_message}
+use Rattle.ud_model.specs.answer.CommandLine.{unknown_option, missing_argument, bad_symbol_in, bad_mode_in, too_many_files, usage_fault, options_of, operand_of, display_name, input_of, usage_message}
 
 -- one symbol, defined or undefined
 abbrev pub symbol : List ℕ → Option (List ℕ) → Argument
@@ -62,7 +62,7 @@ pub behind_two_dashes : operand_of (codes "-DA" ∷ codes "--" ∷ codes "-" ∷
 unfolding chars encode_utf8
 behind_two_dashes = refl
 
-pub dash_is_standard : input_name (codes "-DA" ∷ codes "--" ∷ codes "-" ∷ []) ≡ codes "stdin"
+pub dash_is_standard : display_name (codes "-DA" ∷ codes "--" ∷ codes "-" ∷ []) ≡ codes "stdin"
 unfolding chars encode_utf8
 dash_is_standard = refl
 
@@ -71,7 +71,7 @@ unfolding chars encode_utf8
 dash_names_no_file = refl
 
 -- a file, its place and its name
-pub file_is_named : input_name (codes "-DA" ∷ codes "f.c" ∷ []) ≡ codes "f.c"
+pub file_is_named : display_name (codes "-DA" ∷ codes "f.c" ∷ []) ≡ codes "f.c"
 unfolding chars encode_utf8
 file_is_named = refl
 

@@ -2,7 +2,7 @@
 use Rattle.std.proofs.Common.{◌≡◌, zero, refl, ◌∙◌, ap, ℕ, suc, ◌+◌, ◌-◌, List, [], ◌∷◌, ◌++◌, codes, map, replicate, length, length-append, Option, Some, None, Bool, true, false, ◌==◌, ◌||◌, arith}
 use Rattle.std.proofs.lemmas.List.{length-replicate}
 use Rattle.std.proofs.lemmas.Fmt.{decimal_digit}
-use Rattle.ud_model.specs.text.Lines.{Line, NoFeed, Parts, lines_of, parts_of, last_line, text_of, line_at, numbered_from}
+use Rattle.ud_model.specs.text.Lines.{Line, NoNewline, SplitLines, lines_of, split_lines, last_line, text_of, line_at, numbered_from}
 use Rattle.ud_model.specs.text.Scans.{Scan, plain_scan}
 use Rattle.ud_model.specs.sections.Directives.{cut_keyword, directive, content_of}
 use Rattle.ud_model.specs.sections.Directives.{text as no_directive}
@@ -22,7 +22,7 @@ use Rattle.ud_model.specs.declared.kind.CommentAt.TheVariants.{Outside, InLine}
 use Rattle.ud_model.specs.declared.verdict.Verdict.{Verdict}
 use Rattle.ud_model.specs.declared.verdict.Verdict.TheVariants.{Keep, Remove, ToIf, ToElse, ToEndif}
 use Rattle.ud_model.proofs.sections.Counts.{ifs, elifs, elses, endifs, endifs_of_tree, elifs_of_tree, elses_of_tree}
-use Rattle.ud_model.proofs.text.LinesLemmas.{parts_of-front, text_of-line_at}
+use Rattle.ud_model.proofs.text.LinesLemmas.{split_lines-front, text_of-line_at}
 
 -- a line of this body, ending and number
 abbrev pub a_line : List ℕ → List ℕ → ℕ → Line
@@ -36,40 +36,40 @@ pub endings_of_two_bytes : lines_of (codes "a\r\n#ifdef A\r\nx\r\n#endif\r\nb\r\
     ∷ a_line (codes "#endif") (codes "\r\n") 4
     ∷ a_line (codes "b") (codes "\r\n") 5
     ∷ []
-unfolding parts_of
+unfolding split_lines
 endings_of_two_bytes = refl
 
 -- the last line may lack its ending
 pub last_line_without_ending : lines_of (codes "#ifdef A\nx\n#endif") ≡
     a_line (codes "#ifdef A") (codes "\n") 1 ∷ a_line (codes "x") (codes "\n") 2 ∷ a_line (codes "#endif") [] 3 ∷ []
-unfolding parts_of
+unfolding split_lines
 last_line_without_ending = refl
 
 -- of two carriage returns the first belongs to the body
 pub two_carriage_returns : lines_of (codes "\r\r\n") ≡ a_line (codes "\r") (codes "\r\n") 1 ∷ []
-unfolding parts_of
+unfolding split_lines
 two_carriage_returns = refl
 
 -- without a line feed a carriage return belongs to the body
 pub carriage_return_at_end : lines_of (codes "a\r") ≡ a_line (codes "a\r") [] 1 ∷ []
-unfolding parts_of
+unfolding split_lines
 carriage_return_at_end = refl
 
 -- an empty text has no lines
 pub empty_text : lines_of [] ≡ []
-unfolding parts_of
+unfolding split_lines
 empty_text = refl
 
 -- no line feed stands among letters
-pub feedless_letters : (n : ℕ) → NoFeed (replicate n 97)
+pub feedless_letters : (n : ℕ) → NoNewline (replicate n 97)
 feedless_letters zero = tt
 feedless_letters (suc n) = ((λ e. omega arith), feedless_letters n)
 
 -- letters and a line feed are one line
 pub line_of_letters : (n : ℕ) → lines_of (replicate n 97 ++ 10 ∷ []) ≡ line_at 1 (replicate n 97 ++ 10 ∷ []) ∷ []
-unfolding parts_of
+unfolding split_lines
 line_of_letters n =
-    ap (λ (q : Parts). numbered_from 1 (q.whole ++ last_line q.rest)) (parts_of-front (replicate n 97) [] (feedless_letters n))
+    ap (λ (q : SplitLines). numbered_from 1 (q.whole ++ last_line q.rest)) (split_lines-front (replicate n 97) [] (feedless_letters n))
 
 -- such a line has a byte more than letters
 pub bytes_of_letters : (n : ℕ) → length (text_of (line_at 1 (replicate n 97 ++ 10 ∷ []))) ≡ n + 1

@@ -7,8 +7,8 @@ use Rattle.ud_model.specs.conditions.Constants.{suffix_sign, has_u, constant_num
 use Rattle.ud_model.specs.conditions.Tokens.{next_token}
 use Rattle.ud_model.specs.conditions.Expressions.{Expression, constant, named, is_defined, unary, binary}
 use Rattle.ud_model.specs.aids.Parsing.{tokens_of, reads, expression_of}
-use Rattle.ud_model.specs.conditions.Symbols.{end_of}
-use Rattle.ud_model.specs.conditions.Values.{operate, change, name_value, name_has_u, defined_value, value_of}
+use Rattle.ud_model.specs.conditions.Symbols.{resolve}
+use Rattle.ud_model.specs.conditions.Values.{apply_binary_known, apply_unary_known, name_value, name_has_u, defined_value, value_of}
 use Rattle.ud_model.specs.conditions.CValues.{Number, signed, unsigned, plain, by_suffix, CValue, of_constant, of_known_name, of_open_name, of_known_defined, of_open_defined, of_unary, of_binary, of_and_left, of_and_both, of_or_both, IsCValue}
 use Rattle.ud_model.specs.declared.operator.Operator.TheVariants.{Or, And, BitAnd, Equal, Less, Plus, Minus, Over, Remainder, Not, Complement}
 use Rattle.ud_model.proofs.examples.ExpressionExamples.{five, without}
@@ -24,12 +24,12 @@ pub record Shown (table : List Argument) (text : List ℕ) (n : ℤ) : Type 0 wh
 module _ (u : Bool) where
   -- A is 5
   pub a_is_five : CValue five u (named (codes "A") false) (signed (pos 5))
-  unfolding suffix_sign name_value name_has_u end_of
+  unfolding suffix_sign name_value name_has_u resolve
   a_is_five = of_known_name {z = pos 5} refl
 
   -- an undefined A is 0
   pub a_is_nought : CValue without u (named (codes "A") false) (signed (pos 0))
-  unfolding suffix_sign name_value name_has_u end_of
+  unfolding suffix_sign name_value name_has_u resolve
   a_is_nought = of_known_name {z = pos 0} refl
 
   -- X may be 7
@@ -52,7 +52,7 @@ c w = constant w
 
 -- -5 / 2 is -2
 pub half_of_minus_five : Shown five (codes "-A / 2 == -2") (pos 1)
-unfolding expression_of reads tokens_of next_token suffix_sign operate change name_value name_has_u end_of defined_value
+unfolding expression_of reads tokens_of next_token suffix_sign apply_binary_known apply_unary_known name_value name_has_u resolve defined_value
 half_of_minus_five = record {
   tree = binary Equal (binary Over (unary Minus a) (c (codes "2"))) (unary Minus (c (codes "2")));
   value = signed (pos 1);
@@ -63,7 +63,7 @@ half_of_minus_five = record {
 
 -- -5 % 2 is -1
 pub remainder_of_minus_five : Shown five (codes "-A % 2 == -1") (pos 1)
-unfolding expression_of reads tokens_of next_token suffix_sign operate change name_value name_has_u end_of defined_value
+unfolding expression_of reads tokens_of next_token suffix_sign apply_binary_known apply_unary_known name_value name_has_u resolve defined_value
 remainder_of_minus_five = record {
   tree = binary Equal (binary Remainder (unary Minus a) (c (codes "2"))) (unary Minus (c (codes "1")));
   value = signed (pos 1);
@@ -74,7 +74,7 @@ remainder_of_minus_five = record {
 
 -- the bits of 5 turned are those of -6
 pub complement_of_five : Shown five (codes "~A == -6") (pos 1)
-unfolding expression_of reads tokens_of next_token suffix_sign operate change name_value name_has_u end_of defined_value
+unfolding expression_of reads tokens_of next_token suffix_sign apply_binary_known apply_unary_known name_value name_has_u resolve defined_value
 complement_of_five = record {
   tree = binary Equal (unary Complement a) (unary Minus (c (codes "6")));
   value = signed (pos 1);
@@ -85,7 +85,7 @@ complement_of_five = record {
 
 -- 8 + 5 is 13
 pub octal_sum : Shown five (codes "010 + A == 13") (pos 1)
-unfolding expression_of reads tokens_of next_token suffix_sign operate change name_value name_has_u end_of defined_value
+unfolding expression_of reads tokens_of next_token suffix_sign apply_binary_known apply_unary_known name_value name_has_u resolve defined_value
 octal_sum = record {
   tree = binary Equal (binary Plus (c (codes "010")) a) (c (codes "13"));
   value = signed (pos 1);
@@ -96,7 +96,7 @@ octal_sum = record {
 
 -- `==` gives 1, and 5 & 1 is 1
 pub bit_of_a_comparison : Shown five (codes "A & 4 == 4") (pos 1)
-unfolding expression_of reads tokens_of next_token suffix_sign operate change name_value name_has_u end_of defined_value
+unfolding expression_of reads tokens_of next_token suffix_sign apply_binary_known apply_unary_known name_value name_has_u resolve defined_value
 bit_of_a_comparison = record {
   tree = binary BitAnd a (binary Equal (c (codes "4")) (c (codes "4")));
   value = signed (pos 1);
@@ -107,7 +107,7 @@ bit_of_a_comparison = record {
 
 -- 1 < 5 is 1, and 1 < 2 is 1
 pub comparisons_from_the_left : Shown five (codes "1 < A < 2") (pos 1)
-unfolding expression_of reads tokens_of next_token suffix_sign operate change name_value name_has_u end_of defined_value
+unfolding expression_of reads tokens_of next_token suffix_sign apply_binary_known apply_unary_known name_value name_has_u resolve defined_value
 comparisons_from_the_left = record {
   tree = binary Less (binary Less (c (codes "1")) a) (c (codes "2"));
   value = signed (pos 1);
@@ -118,7 +118,7 @@ comparisons_from_the_left = record {
 
 -- the least number of intmax_t
 pub least_number : Shown five (codes "-9223372036854775807 - 1 < A") (pos 1)
-unfolding expression_of reads tokens_of next_token suffix_sign operate change name_value name_has_u end_of defined_value
+unfolding expression_of reads tokens_of next_token suffix_sign apply_binary_known apply_unary_known name_value name_has_u resolve defined_value
 least_number = record {
   tree = binary Less (binary Minus (unary Minus (c (codes "9223372036854775807"))) (c (codes "1"))) a;
   value = signed (pos 1);
@@ -129,7 +129,7 @@ least_number = record {
 
 -- beside `0u` -6 is 2^64 - 6, which isn't below 0; so the right operand counts
 pub or_by_its_right : Shown five (codes "~A < 0u || A") (pos 1)
-unfolding expression_of reads tokens_of next_token suffix_sign operate change name_value name_has_u end_of defined_value
+unfolding expression_of reads tokens_of next_token suffix_sign apply_binary_known apply_unary_known name_value name_has_u resolve defined_value
 or_by_its_right = record {
   tree = binary Or (binary Less (unary Complement a) (c (codes "0u"))) a;
   value = signed (pos 1);
@@ -140,7 +140,7 @@ or_by_its_right = record {
 
 -- X may be 7; what decides is that A isn't 0
 pub and_by_its_right : Shown five (codes "X && !A") (pos 0)
-unfolding expression_of reads tokens_of next_token suffix_sign operate change name_value name_has_u end_of defined_value
+unfolding expression_of reads tokens_of next_token suffix_sign apply_binary_known apply_unary_known name_value name_has_u resolve defined_value
 and_by_its_right = record {
   tree = binary And x (unary Not a);
   value = signed (pos 0);
@@ -151,7 +151,7 @@ and_by_its_right = record {
 
 -- where A is undefined, X isn't looked at
 pub and_by_its_left : Shown without (codes "A && X") (pos 0)
-unfolding expression_of reads tokens_of next_token suffix_sign operate change name_value name_has_u end_of defined_value
+unfolding expression_of reads tokens_of next_token suffix_sign apply_binary_known apply_unary_known name_value name_has_u resolve defined_value
 and_by_its_left = record {
   tree = binary And a x;
   value = signed (pos 0);
@@ -162,7 +162,7 @@ and_by_its_left = record {
 
 -- 5 - 5u is 0, as 2^64 is
 pub difference_beside_u : Shown five (codes "A - 5u") (pos 0)
-unfolding expression_of reads tokens_of next_token suffix_sign operate change name_value name_has_u end_of defined_value
+unfolding expression_of reads tokens_of next_token suffix_sign apply_binary_known apply_unary_known name_value name_has_u resolve defined_value
 difference_beside_u = record {
   tree = binary Minus a (c (codes "5u"));
   value = unsigned 0;
@@ -173,7 +173,7 @@ difference_beside_u = record {
 
 -- whether X is defined isn't asked where A is
 pub defined_or_not : Shown five (codes "defined(X) || defined A") (pos 1)
-unfolding expression_of reads tokens_of next_token suffix_sign operate change name_value name_has_u end_of defined_value
+unfolding expression_of reads tokens_of next_token suffix_sign apply_binary_known apply_unary_known name_value name_has_u resolve defined_value
 defined_or_not = record {
   tree = binary Or (is_defined (codes "X") true) (is_defined (codes "A") false);
   value = signed (pos 1);

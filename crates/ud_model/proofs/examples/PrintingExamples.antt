@@ -3,7 +3,7 @@ use Rattle.std.proofs.Common.{◌≡◌, ℕ, List, [], ◌∷◌, map, Bool, tr
 use Rattle.std.proofs.lemmas.Fmt.{decimal_digit}
 use Rattle.std.specs.List.{concat}
 use Rattle.ud_model.specs.sections.Directives.{Span}
-use Rattle.ud_model.specs.answer.Printing.{Judged, Style, piece_by, piece_behind, pieces_by, some_other}
+use Rattle.ud_model.specs.answer.Printing.{Judged, Style, piece_by, piece_after, pieces_by, some_other}
 use Rattle.ud_model.specs.declared.verdict.Verdict.{Verdict}
 use Rattle.ud_model.specs.declared.verdict.Verdict.TheVariants.{Keep, Remove, ToIf}
 
@@ -17,7 +17,7 @@ line body ending number v = record {
 
 -- these lines as they are printed in a style
 abbrev shown : Style → List Judged → List ℕ
-shown style js = concat (pieces_by (piece_behind style) [] js)
+shown style js = concat (pieces_by (piece_after style) [] js)
 
 abbrev style : Bool → Bool → Bool → Style
 style blank complement renumber = record { blank = blank; complement = complement; renumber = renumber }
@@ -58,9 +58,9 @@ same_bytes = line (codes "#line 2") (codes "\n") 1 Keep ∷ line (codes "#endif"
 pub same_bytes_printed : shown (style false true true) same_bytes ≡ codes "#line 2\n#endif\n"
 same_bytes_printed = rw (decimal_digit 2 (omega arith)) refl
 
-pub same_bytes_differ : some_other (pieces_by (piece_behind (style false true true)) [] same_bytes) same_bytes ≡ true
+pub same_bytes_differ : some_other (pieces_by (piece_after (style false true true)) [] same_bytes) same_bytes ≡ true
 same_bytes_differ = refl
 
 -- `-b`: a blank line that is removed doesn't differ
-pub blank_line_stays : some_other (pieces_by (piece_behind (style true false false)) [] (line [] (codes "\n") 1 Remove ∷ [])) (line [] (codes "\n") 1 Remove ∷ []) ≡ false
+pub blank_line_stays : some_other (pieces_by (piece_after (style true false false)) [] (line [] (codes "\n") 1 Remove ∷ [])) (line [] (codes "\n") 1 Remove ∷ []) ≡ false
 blank_line_stays = refl

@@ -2,8 +2,8 @@
 use Rattle.std.proofs.Common.{◌≡◌, refl, ℕ, List, [], ◌∷◌, codes, map, true, false}
 use Rattle.ud_model.specs.text.Lines.{Line}
 use Rattle.ud_model.specs.text.Scans.{Reading, plain_scan}
-use Rattle.ud_model.specs.text.Pieces.{block_comment, piece_at, cut_from, cut, kind_at_end}
-use Rattle.ud_model.specs.text.Scanning.{joins, scan_behind, scan_after, next_reading}
+use Rattle.ud_model.specs.text.Lexemes.{block_comment, lexeme_at, lex_from, lex, kind_at_end}
+use Rattle.ud_model.specs.text.Scanning.{joins, scan_after_run, scan_after, next_reading}
 use Rattle.ud_model.specs.declared.kind.Mode.TheVariants.{C, Plain}
 use Rattle.ud_model.specs.declared.kind.CommentAt.TheVariants.{Outside, InLine, InBlock}
 
@@ -24,7 +24,7 @@ pub open_comment_is_masked : scan_after [] C (fed (codes "x /* c")) ≡ record {
   spliced = false;
   comment = InBlock;
 }
-unfolding scan_behind joins kind_at_end cut cut_from piece_at
+unfolding scan_after_run joins kind_at_end lex lex_from lexeme_at
 open_comment_is_masked = refl
 
 -- the line that closes the comment is joined to the line before, whose bytes make it stale
@@ -36,7 +36,7 @@ pub closed_comment_is_stale : scan_after (behind_line (codes "x /* c")) C (fed (
   spliced = false;
   comment = Outside;
 }
-unfolding scan_behind joins kind_at_end cut cut_from piece_at
+unfolding scan_after_run joins kind_at_end lex lex_from lexeme_at
 closed_comment_is_stale = refl
 
 -- a slash before a splice begins a comment once the next line shows it, so that line is fresh
@@ -48,7 +48,7 @@ pub comment_across_a_splice : scan_after (behind_line (codes "/\\")) C (fed (cod
   spliced = false;
   comment = Outside;
 }
-unfolding scan_behind joins kind_at_end cut cut_from piece_at
+unfolding scan_after_run joins kind_at_end lex lex_from lexeme_at
 comment_across_a_splice = refl
 
 -- where the next line doesn't go on with a comment, the slash is a byte of its own, and that line is stale
@@ -60,7 +60,7 @@ pub slash_across_a_splice : scan_after (behind_line (codes "/\\")) C (fed (codes
   spliced = false;
   comment = Outside;
 }
-unfolding scan_behind joins kind_at_end cut cut_from piece_at
+unfolding scan_after_run joins kind_at_end lex lex_from lexeme_at
 slash_across_a_splice = refl
 
 -- before the splice the slash is seen as it is
@@ -72,7 +72,7 @@ pub slash_before_a_splice : scan_after [] C (fed (codes "/\\")) ≡ record {
   spliced = true;
   comment = Outside;
 }
-unfolding scan_behind joins kind_at_end cut cut_from piece_at
+unfolding scan_after_run joins kind_at_end lex lex_from lexeme_at
 slash_before_a_splice = refl
 
 -- no comment begins in a literal, and a literal that isn't closed ends with its line
@@ -84,7 +84,7 @@ pub literal_without_end : scan_after [] C (fed (codes "\"/*")) ≡ record {
   spliced = false;
   comment = Outside;
 }
-unfolding scan_behind joins kind_at_end cut cut_from piece_at
+unfolding scan_after_run joins kind_at_end lex lex_from lexeme_at
 literal_without_end = refl
 
 -- a splice carries a line comment on
@@ -96,23 +96,23 @@ pub line_comment_is_carried : scan_after [] C (fed (codes "// c \\")) ≡ record
   spliced = true;
   comment = InLine;
 }
-unfolding scan_behind joins kind_at_end cut cut_from piece_at
+unfolding scan_after_run joins kind_at_end lex lex_from lexeme_at
 line_comment_is_carried = refl
 
 -- `/*/` doesn't close the comment that it begins, also across a splice
-pub slash_star_slash : (cut (codes "/*/") ≡ map (λ b. record { byte = b; kind = block_comment }) (codes "/*/"))
+pub slash_star_slash : (lex (codes "/*/") ≡ map (λ b. record { byte = b; kind = block_comment }) (codes "/*/"))
     × ((scan_after (behind_line (codes "/*\\")) C (fed (codes "/"))).comment ≡ InBlock)
-unfolding scan_behind joins kind_at_end cut cut_from piece_at
+unfolding scan_after_run joins kind_at_end lex lex_from lexeme_at
 slash_star_slash = (refl, refl)
 
 -- a backslash before a splice passes over the first byte of the next line
 pub backslash_across_a_splice : (scan_after (behind_line (codes "\"a\\\\")) C (fed (codes "\" /*"))).masked ≡ codes "\" /*"
-unfolding scan_behind joins kind_at_end cut cut_from piece_at
+unfolding scan_after_run joins kind_at_end lex lex_from lexeme_at
 backslash_across_a_splice = refl
 
 -- after a line in plain mode C mode starts afresh
 pub afresh_behind_plain : scan_after (next_reading [] Plain (fed (codes "/*")) ∷ []) C (fed (codes "a")) ≡ plain_scan (fed (codes "a"))
-unfolding scan_behind joins kind_at_end cut cut_from piece_at
+unfolding scan_after_run joins kind_at_end lex lex_from lexeme_at
 afresh_behind_plain = refl
 
 -- in plain mode a line is seen as it stands

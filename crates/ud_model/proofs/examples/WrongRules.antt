@@ -6,8 +6,8 @@ use Rattle.ud_model.specs.conditions.Constants.{suffix_sign}
 use Rattle.ud_model.specs.conditions.Tokens.{next_token}
 use Rattle.ud_model.specs.conditions.Expressions.{Expression, constant, named, unary, binary}
 use Rattle.ud_model.specs.aids.Parsing.{tokens_of, reads, expression_of}
-use Rattle.ud_model.specs.conditions.Symbols.{end_of}
-use Rattle.ud_model.specs.conditions.Values.{operate, change, name_value, name_has_u, number_of, value_of}
+use Rattle.ud_model.specs.conditions.Symbols.{resolve}
+use Rattle.ud_model.specs.conditions.Values.{apply_binary_known, apply_unary_known, name_value, name_has_u, number_of, value_of}
 use Rattle.ud_model.specs.conditions.CValues.{Number, Gives, IsConstantValue, signed, unsigned, number, plain, by_suffix, by_size, CValue, of_constant, of_unary, of_binary, IsCValue}
 use Rattle.ud_model.specs.declared.operator.Operator.TheVariants.{Less, Plus, Minus, Remainder, Complement}
 use Rattle.ud_model.proofs.examples.ExpressionExamples.{five}
@@ -28,7 +28,7 @@ c w = constant w
 
 -- beside `0u` the -6 is 2^64 - 6, which isn't below 0; compared as signed numbers it would be
 pub signed_comparison : Tempting (codes "~A < 0u") (pos 1)
-unfolding expression_of reads tokens_of next_token suffix_sign operate change name_value name_has_u end_of
+unfolding expression_of reads tokens_of next_token suffix_sign apply_binary_known apply_unary_known name_value name_has_u resolve
 signed_comparison = record {
   tree = binary Less (unary Complement (named (codes "A") false)) (c (codes "0u"));
   value = signed (pos 0);
@@ -40,7 +40,7 @@ signed_comparison = record {
 
 -- the sum is 2^63; wrapped at 64 bits with a sign it would be -2^63
 pub wrapping_sum : Tempting (codes "9223372036854775807u + 1") (negsuc 9223372036854775807)
-unfolding expression_of reads tokens_of next_token suffix_sign operate change name_value name_has_u end_of
+unfolding expression_of reads tokens_of next_token suffix_sign apply_binary_known apply_unary_known name_value name_has_u resolve
 wrapping_sum = record {
   tree = binary Plus (c (codes "9223372036854775807u")) (c (codes "1"));
   value = unsigned 9223372036854775808;
@@ -52,7 +52,7 @@ wrapping_sum = record {
 
 -- the bits of 0u turned are 2^64-1; as a signed number -1
 pub complement_beside_u : Tempting (codes "~0u") (negsuc 0)
-unfolding expression_of reads tokens_of next_token suffix_sign operate change name_value name_has_u end_of
+unfolding expression_of reads tokens_of next_token suffix_sign apply_binary_known apply_unary_known name_value name_has_u resolve
 complement_beside_u = record {
   tree = unary Complement (c (codes "0u"));
   value = unsigned 18446744073709551615;
@@ -64,7 +64,7 @@ complement_beside_u = record {
 
 -- a hexadecimal constant above 2^63-1 is of the unsigned type; its bits as a signed number would be -1
 pub hex_as_signed : Tempting (codes "0xFFFFFFFFFFFFFFFF") (negsuc 0)
-unfolding expression_of reads tokens_of next_token suffix_sign operate change name_value name_has_u end_of
+unfolding expression_of reads tokens_of next_token suffix_sign apply_binary_known apply_unary_known name_value name_has_u resolve
 hex_as_signed = record {
   tree = c (codes "0xFFFFFFFFFFFFFFFF");
   value = unsigned 18446744073709551615;
@@ -80,7 +80,7 @@ remainder_by_zero = binary Remainder (unary Minus (c (codes "1"))) (c (codes "0"
 
 -- it has no known value
 pub remainder_by_zero_unknown : (table : List Argument) (strict u : Bool) → number_of table strict u remainder_by_zero ≡ None
-unfolding operate change
+unfolding apply_binary_known apply_unary_known
 remainder_by_zero_unknown table true true = refl
 remainder_by_zero_unknown table true false = refl
 remainder_by_zero_unknown table false true = refl

@@ -21,24 +21,24 @@ faultless s d None n = refl
 faultless s d (Some f) n = absurd (n refl)
 
 -- what is left is left again
-pub answered_again : {words : List (List ℕ)} {input : List ℕ} {a : Answer} → IsAnswer words input a → a.status ≢ 2 → IsPlain (options_of words) →
-    LinesFit (lines_of a.output) → IsAnswer words a.output (copy_answer words a.output)
+pub answered_again : {args : List (List ℕ)} {input : List ℕ} {a : Answer} → IsAnswer args input a → a.status ≢ 2 → IsPlain (options_of args) →
+    LinesFit (lines_of a.output) → IsAnswer args a.output (copy_answer args a.output)
 answered_again (refused f e) n p fit = absurd (n refl)
-answered_again {words = words} {input = input} (ran r e d) n p fit =
+answered_again {args = args} {input = input} (ran r e d) n p fit =
     ran (record { output = r.output; fault = None; differs = false }) e
-    (runs_output (options_of words) p input d (faultless (options_of words).settings r.differs r.fault n) fit)
+    (runs_output (options_of args) p input d (faultless (options_of args).settings r.differs r.fault n) fit)
 
 -- C selects the same lines
-pub answered_selects : {words : List (List ℕ)} {input : List ℕ} {a : Answer} → IsAnswer words input a → a.status ≢ 2 → IsPlain (options_of words) →
-    (ns us : Nodes Reading) → IsTreeOf (options_of words) input (closed ns) → IsTreeOf (options_of words) a.output (closed us) →
-    (w v : World Reading) → IsCWorld (options_of words).table w ns → KeepsTruths w ns v us → map line_bytes (selected v us) ≡ map line_bytes (selected w ns)
+pub answered_selects : {args : List (List ℕ)} {input : List ℕ} {a : Answer} → IsAnswer args input a → a.status ≢ 2 → IsPlain (options_of args) →
+    (ns us : Nodes Reading) → IsTreeOf (options_of args) input (closed ns) → IsTreeOf (options_of args) a.output (closed us) →
+    (w v : World Reading) → IsCWorld (options_of args).table w ns → KeepsTruths w ns v us → map line_bytes (selected v us) ≡ map line_bytes (selected w ns)
 answered_selects (refused f e) n p ns us b c w v g t = absurd (n refl)
-answered_selects {words = words} {input = input} (ran r e d) n p ns us b c w v g t =
+answered_selects {args = args} {input = input} (ran r e d) n p ns us b c w v g t =
     c_selected_again (record {
-      options = options_of words;
+      options = options_of args;
       input = input;
       outcome = r;
-      clean = record { plain = p; runs = d; faultless = faultless (options_of words).settings r.differs r.fault n };
+      clean = record { plain = p; runs = d; faultless = faultless (options_of args).settings r.differs r.fault n };
       before = ns;
       of_input = b;
       after = us;
@@ -46,12 +46,12 @@ answered_selects {words = words} {input = input} (ran r e d) n p ns us b c w v g
     }) w g v t
 
 -- the status is that of a copy exactly if the bytes are the same
-pub answered_status : {words : List (List ℕ)} {input : List ℕ} {a : Answer} → IsAnswer words input a → a.status ≢ 2 →
-    (options_of words).settings.renumber ≡ false → (options_of words).settings.listing ≡ Off →
-    a.status ≡ status_by (options_of words).settings.exit_mode (not (bytes_eq a.output input))
+pub answered_status : {args : List (List ℕ)} {input : List ℕ} {a : Answer} → IsAnswer args input a → a.status ≢ 2 →
+    (options_of args).settings.renumber ≡ false → (options_of args).settings.listing ≡ Off →
+    a.status ≡ status_by (options_of args).settings.exit_mode (not (bytes_eq a.output input))
 answered_status (refused f e) n k off = absurd (n refl)
-answered_status {words = words} {input = input} (ran r e d) n k off =
-    let none : r.fault ≡ None = faultless (options_of words).settings r.differs r.fault n in
-    ap (λ (f : Option Fault). status_of (options_of words).settings r.differs f) none
-    ∙ ap (λ (q : Listing). status_under q (options_of words).settings.exit_mode r.differs) off
-    ∙ ap (λ (b : Bool). status_by (options_of words).settings.exit_mode b) (changed (options_of words) k off input d none)
+answered_status {args = args} {input = input} (ran r e d) n k off =
+    let none : r.fault ≡ None = faultless (options_of args).settings r.differs r.fault n in
+    ap (λ (f : Option Fault). status_of (options_of args).settings r.differs f) none
+    ∙ ap (λ (q : Listing). status_under q (options_of args).settings.exit_mode r.differs) off
+    ∙ ap (λ (b : Bool). status_by (options_of args).settings.exit_mode b) (changed (options_of args) k off input d none)

@@ -5,8 +5,8 @@ use Rattle.ud_model.specs.sections.Directives.{Content, cut_keyword, directive, 
 use Rattle.ud_model.specs.conditions.Table.{Argument, Entry, entry_in}
 use Rattle.ud_model.specs.conditions.Expressions.{Expression, is_defined, unary}
 use Rattle.ud_model.specs.aids.Parsing.{expression_of}
-use Rattle.ud_model.specs.conditions.Values.{truth, is_zero, change, alter, defined_value, defined_value_by, value_of}
-use Rattle.ud_model.specs.conditions.Conditions.{Decision, Rules, undecided, sole_name, ifdef_by, ifdef_decision, negated, tree_cond, tree_cond_if, expression_cond, decided_by, condition_of, decision_on}
+use Rattle.ud_model.specs.conditions.Values.{truth, is_zero, apply_unary_known, apply_unary, defined_value, defined_value_by, value_of}
+use Rattle.ud_model.specs.conditions.Conditions.{Decision, Rules, undecided, sole_name, ifdef_by, ifdef_decision, negate, tree_cond, tree_cond_if, expression_cond, decision_by_test, condition_of, decision_on}
 use Rattle.ud_model.specs.conditions.CValues.{Number, number}
 use Rattle.ud_model.specs.output.CSelection.{condition_by_test, condition_after, condition_by, condition_in, HasTruth, MayBe}
 use Rattle.ud_model.specs.sections.Tree.{Item, text_line, if_line, elif_line, else_line, endif_line}
@@ -57,15 +57,15 @@ module _ (table : List Argument) where
   defined_is n x e = ap defined_value_by e
 
   undefined_is : (n : List ℕ) (x : Entry) → entry_in table n ≡ Some x → value_of table false (unary Not (is_defined n false)) ≡ Some (truth (is_zero (truth (is_some x.value))))
-  unfolding defined_value change
-  undefined_is n x e = ap (λ (o : Option Entry). alter false Not (defined_value_by o)) e
+  unfolding defined_value apply_unary_known
+  undefined_is n x e = ap (λ (o : Option Entry). apply_unary false Not (defined_value_by o)) e
 
   value_fits : (v : Option (List ℕ)) (i b : Bool) (c : Number) → number c ≡ truth (is_some v) → HasTruth b c → Fits (ifdef_by (Some (record { value = v; ignoring = i }))).cond b
   value_fits None i b c e h = false_by b c h e
   value_fits (Some x) i b c e h = true_by b c h (λ z. cc)
 
   negated_fits : (v : Option (List ℕ)) (i b : Bool) (c : Number) → number c ≡ truth (is_zero (truth (is_some v))) → HasTruth b c →
-      Fits (negated (ifdef_by (Some (record { value = v; ignoring = i }))).cond) b
+      Fits (negate (ifdef_by (Some (record { value = v; ignoring = i }))).cond) b
   negated_fits None i b c e h = true_by b c h (λ z. cc)
   negated_fits (Some x) i b c e h = false_by b c h e
 
@@ -74,7 +74,7 @@ module _ (table : List Argument) where
   entry_fits n b h (Some x) e =
       value_fits x.value x.ignoring b h.0 (known_stays table false (is_defined n false) (truth (is_some x.value)) h.0 (defined_is n x e) h.1) h.2
 
-  no_entry_fits : (n : List ℕ) (b : Bool) → MayBe table (Some (unary Not (is_defined n false))) b → (o : Option Entry) → entry_in table n ≡ o → Fits (negated (ifdef_by o).cond) b
+  no_entry_fits : (n : List ℕ) (b : Bool) → MayBe table (Some (unary Not (is_defined n false))) b → (o : Option Entry) → entry_in table n ≡ o → Fits (negate (ifdef_by o).cond) b
   no_entry_fits n b h None e = tt
   no_entry_fits n b h (Some x) e =
       negated_fits x.value x.ignoring b h.0
@@ -86,11 +86,11 @@ module _ (table : List Argument) where
   ifdef_fits (Some n) b h = entry_fits n b h (entry_in table n) refl
 
   -- `#ifndef`
-  ifndef_fits : (o : Option (List ℕ)) (b : Bool) → MayBe table (option_map (λ n. unary Not (is_defined n false)) o) b → Fits (negated (ifdef_decision o table).cond) b
+  ifndef_fits : (o : Option (List ℕ)) (b : Bool) → MayBe table (option_map (λ n. unary Not (is_defined n false)) o) b → Fits (negate (ifdef_decision o table).cond) b
   ifndef_fits None b h = tt
   ifndef_fits (Some n) b h = no_entry_fits n b h (entry_in table n) refl
 
-  test_fits : (rules : Rules) (p : Test) (after : List ℕ) (b : Bool) → MayBe table (condition_by_test p after) b → Fits (decided_by p after table rules).cond b
+  test_fits : (rules : Rules) (p : Test) (after : List ℕ) (b : Bool) → MayBe table (condition_by_test p after) b → Fits (decision_by_test p after table rules).cond b
   test_fits rules Nonzero after b h = expression_fits rules after b h
   test_fits rules Defined after b h = ifdef_fits (sole_name after) b h
   test_fits rules Undefined after b h = ifndef_fits (sole_name after) b h

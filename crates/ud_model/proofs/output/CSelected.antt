@@ -11,7 +11,7 @@ use Rattle.ud_model.specs.sections.Tree.{Item, Opener, Nodes, Groups, Elifs, Tre
 use Rattle.ud_model.specs.sections.Pruning.{Mark, marked, any_true, is_kept, an_if, an_elif, an_else, marks, conds_of_elifs, conds_of_groups, endif_verdict}
 use Rattle.ud_model.specs.aids.SoFar.{verdict_so_far, nodes_so_far, groups_so_far, elifs_so_far}
 use Rattle.ud_model.specs.sections.Items.{Options, reading_of, item_of, mode_after, read_after, next_item}
-use Rattle.ud_model.specs.sections.Faults.{AreSound, no_lines, one_more, ends_removed, is_spoiled_behind, is_directive, keeps_rest}
+use Rattle.ud_model.specs.sections.Faults.{AreFaultless, no_lines, one_more, ends_removed, is_obfuscated_after, is_directive, keeps_rest}
 use Rattle.ud_model.specs.output.Worlds.{World, or_else, where_true, selected, selected_elifs, EachReached, GroupsReached, ElifsReached, AgreesWith, Agrees}
 use Rattle.ud_model.specs.output.CSelection.{condition_in, MayBe, IsCWorld}
 use Rattle.ud_model.specs.declared.verdict.Verdict.{Verdict}
@@ -41,7 +41,7 @@ alone_by false before true k r q e a b c = cc
 alone_by true before true false r q e a b c = cc
 alone_by true before true true true q e a b c = cc
 
-pub sound_clear : (o : Options) (xs : List (Item Reading)) (t : Tree Reading) → AreSound o xs t → Pairwise (Clear o) xs (marks t)
+pub sound_clear : (o : Options) (xs : List (Item Reading)) (t : Tree Reading) → AreFaultless o xs t → Pairwise (Clear o) xs (marks t)
 sound_clear o _ _ no_lines = tt
 sound_clear o _ _ (one_more xs t s l u e n) =
     let x : Item Reading = next_item o xs t l in
@@ -51,7 +51,7 @@ sound_clear o _ _ (one_more xs t s l u e n) =
       own = ap (item_of o) (sym (reading_of-item_of o (read_after xs (mode_after o t) l)));
       alone = alone_by (is_directive x) (reading_of x).scan.joins_before (reading_of x).scan.joins_after m.0.kept (keeps_rest m.0.verdict)
           ((reading_of x).scan.joins_before && ends_removed (marks t))
-          (false_from_ne_true (is_spoiled_behind (ends_removed (marks t)) x m.0) (λ h. n.1.1.1.1.1.0 (marks t, m.0, (u, e, m.1), h)));
+          (false_from_ne_true (is_obfuscated_after (ends_removed (marks t)) x m.0) (λ h. n.1.1.1.1.1.0 (marks t, m.0, (u, e, m.1), h)));
     } in
     subst (λ (ms : List Mark). Pairwise (Clear o) (xs ++ x ∷ []) ms) (sym m.1)
     (pairwise_both (Clear o) xs (marks t) (x ∷ []) (m.0 ∷ [])

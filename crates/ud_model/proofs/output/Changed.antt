@@ -10,10 +10,10 @@ use Rattle.ud_model.specs.sections.Tree.{Item, Opener, Nodes, Groups, Elifs, Hea
 use Rattle.ud_model.specs.sections.Items.{Options, reading_of, line_of, mode_after, read_after, next_item}
 use Rattle.ud_model.specs.sections.Pruning.{Mark, Part, an_if, an_elif, an_else, marked, marks, is_kept, endif_verdict, conds_of_elifs, conds_of_groups}
 use Rattle.ud_model.specs.aids.SoFar.{verdict_so_far, nodes_so_far, groups_so_far, elifs_so_far}
-use Rattle.ud_model.specs.sections.Faults.{AreSound, no_lines, one_more, end_by, ends_in_comment, last_number}
-use Rattle.ud_model.specs.answer.Printing.{Judged, style_of, piece_alone, piece_behind, pieces_by, some_other, judged, judged_lines, keyword_in, complemented, printed_by, some_differ_by}
-use Rattle.ud_model.specs.answer.Runs.{Outcome, Runs, ran_as, output_by, differs_by}
-use Rattle.ud_model.specs.answer.Runs.ReadsAs.{stops, ends}
+use Rattle.ud_model.specs.sections.Faults.{AreFaultless, no_lines, one_more, end_by, ends_in_comment, last_number}
+use Rattle.ud_model.specs.answer.Printing.{Judged, style_of, piece_alone, piece_after, pieces_by, some_other, judged_line, judged_lines, keyword_in, complemented, printed_by, some_differ_by}
+use Rattle.ud_model.specs.answer.Outcomes.{Outcome, HasOutcome, ran_as, output_by, differs_by}
+use Rattle.ud_model.specs.answer.Outcomes.ReadsAs.{stops, ends}
 use Rattle.ud_model.specs.declared.cond.Cond.{Cond}
 use Rattle.ud_model.specs.declared.cond.Cond.TheVariants.{Yes}
 use Rattle.ud_model.specs.declared.verdict.Verdict.{Verdict}
@@ -57,7 +57,7 @@ pub judged_lines-append : (xs ys : List (Item Reading)) (ms ns : List Mark) → 
 judged_lines-append [] ys [] ns e = refl
 judged_lines-append [] ys (m ∷ ms) ns e = absurd (omega arith)
 judged_lines-append (x ∷ xs) ys [] ns e = absurd (omega arith)
-judged_lines-append (x ∷ xs) ys (m ∷ ms) ns e = ap (λ (js : List Judged). judged x m ∷ js) (judged_lines-append xs ys ms ns (omega arith))
+judged_lines-append (x ∷ xs) ys (m ∷ ms) ns e = ap (λ (js : List Judged). judged_line x m ∷ js) (judged_lines-append xs ys ms ns (omega arith))
 
 module _ (blank : Bool) where
   abbrev f : Judged → List ℕ
@@ -92,12 +92,12 @@ module _ (blank : Bool) where
   -- a line that stays or goes fits
   one_fits : (x : Item Reading) (kept : Bool) (v : Verdict) → KeepsOrGoes v → ItemsFit (x ∷ []) (marked kept v ∷ [])
   one_fits x kept v h =
-      fits_one f (judged x (marked kept v))
+      fits_one f (judged_line x (marked kept v))
       (keeps_size blank (marked kept v).verdict (keyword_in (content_of (reading_of x).scan)) (line_of x) (keeps_mark kept v h))
 
   -- a line whose keyword has four bytes at least
   word_size : (x : Item Reading) → HasWord (reading_of x) 4 → (v : Verdict) →
-      AtMost v (length (f (judged x (record { kept = true; verdict = v })))) (length (text_of (line_of x)))
+      AtMost v (length (f (judged_line x (record { kept = true; verdict = v })))) (length (text_of (line_of x)))
   word_size x w v = edited_size blank v (keyword_in (content_of (reading_of x).scan)) (line_of x) w.size w.within
 
   fits_to_loose : (js : List Judged) → Fits f js → Loose f js
@@ -117,19 +117,19 @@ module _ (blank : Bool) where
   opener_step xs ms x true true ToElse e w m a = let q : ToElse ≡ Remove = m.0 in cc
   opener_step xs ms x true true ToEndif e w m a = let q : ToEndif ≡ Remove = m.0 in cc
   opener_step xs ms x false true ToEndif e w m a =
-      then_loose xs (x ∷ []) ms (marked true ToEndif ∷ []) e a (loose_one f (judged x (marked true ToEndif)) (word_size x w ToEndif))
+      then_loose xs (x ∷ []) ms (marked true ToEndif ∷ []) e a (loose_one f (judged_line x (marked true ToEndif)) (word_size x w ToEndif))
   opener_step xs ms x false false ToEndif e w m a = let q : false ≡ true = m in cc
-  opener_step xs ms x false now Keep e w m a = to_held now (xs ++ x ∷ []) (ms ++ marked true Keep ∷ []) (items_then xs (x ∷ []) ms (marked true Keep ∷ []) e a (fits_one f (judged x (marked true Keep)) (word_size x w Keep)))
-  opener_step xs ms x false now Remove e w m a = to_held now (xs ++ x ∷ []) (ms ++ marked true Remove ∷ []) (items_then xs (x ∷ []) ms (marked true Remove ∷ []) e a (fits_one f (judged x (marked true Remove)) (word_size x w Remove)))
-  opener_step xs ms x false now ToIf e w m a = to_held now (xs ++ x ∷ []) (ms ++ marked true ToIf ∷ []) (items_then xs (x ∷ []) ms (marked true ToIf ∷ []) e a (fits_one f (judged x (marked true ToIf)) (word_size x w ToIf)))
-  opener_step xs ms x false now ToElse e w m a = to_held now (xs ++ x ∷ []) (ms ++ marked true ToElse ∷ []) (items_then xs (x ∷ []) ms (marked true ToElse ∷ []) e a (fits_one f (judged x (marked true ToElse)) (word_size x w ToElse)))
+  opener_step xs ms x false now Keep e w m a = to_held now (xs ++ x ∷ []) (ms ++ marked true Keep ∷ []) (items_then xs (x ∷ []) ms (marked true Keep ∷ []) e a (fits_one f (judged_line x (marked true Keep)) (word_size x w Keep)))
+  opener_step xs ms x false now Remove e w m a = to_held now (xs ++ x ∷ []) (ms ++ marked true Remove ∷ []) (items_then xs (x ∷ []) ms (marked true Remove ∷ []) e a (fits_one f (judged_line x (marked true Remove)) (word_size x w Remove)))
+  opener_step xs ms x false now ToIf e w m a = to_held now (xs ++ x ∷ []) (ms ++ marked true ToIf ∷ []) (items_then xs (x ∷ []) ms (marked true ToIf ∷ []) e a (fits_one f (judged_line x (marked true ToIf)) (word_size x w ToIf)))
+  opener_step xs ms x false now ToElse e w m a = to_held now (xs ++ x ∷ []) (ms ++ marked true ToElse ∷ []) (items_then xs (x ∷ []) ms (marked true ToElse ∷ []) e a (fits_one f (judged_line x (marked true ToElse)) (word_size x w ToElse)))
 
   opener_any : (kept : Bool) (xs : List (Item Reading)) (ms : List Mark) (x : Item Reading) (was now : Bool) (v : Verdict) → length xs ≡ length ms →
       HasWord (reading_of x) 4 → Moves was v now → Held (kept && was) xs ms → Held (kept && now) (xs ++ x ∷ []) (ms ++ marked kept v ∷ [])
   opener_any true xs ms x was now v e w m a = opener_step xs ms x was now v e w m a
   opener_any false xs ms x was now v e w m a = items_then xs (x ∷ []) ms (marked false Remove ∷ []) e a (one_fits x false Remove tt)
 
-  closing_size : (x : Item Reading) → HasWord (reading_of x) 5 → length (f (judged x (marked true Remove))) + 2 ≤ length (whole (judged x (marked true Remove)))
+  closing_size : (x : Item Reading) → HasWord (reading_of x) 5 → length (f (judged_line x (marked true Remove))) + 2 ≤ length (whole (judged_line x (marked true Remove)))
   closing_size x w =
       let s = removed_size blank (keyword_in (content_of (reading_of x).scan)) (line_of x) in
       let a = w.size in
@@ -143,7 +143,7 @@ module _ (blank : Bool) where
   endif_step true true xs ms x v e w k h a =
       subst (λ (u : Verdict). ItemsFit (xs ++ x ∷ []) (ms ++ marked true u ∷ [])) (sym (h refl))
       (subst (Fits f) (sym (judged_lines-append xs (x ∷ []) ms (marked true Remove ∷ []) e))
-      (loose_closed f (judged_lines xs ms) (judged x (marked true Remove)) a (closing_size x w)))
+      (loose_closed f (judged_lines xs ms) (judged_line x (marked true Remove)) a (closing_size x w)))
 
   more_long : (xs : List (Item Reading)) (ms : List Mark) (x : Item Reading) (m : Mark) → length xs ≡ length ms → length (xs ++ x ∷ []) ≡ length (ms ++ m ∷ [])
   more_long xs ms x m e = simp length-append (omega (arith, e))
@@ -213,13 +213,13 @@ abbrev pub lone : Bool → Bool → Judged → List ℕ
 lone blank true j = piece_alone blank (complemented j)
 lone blank false j = piece_alone blank j
 
-piece_lone : (b c n : Bool) (before : List Judged) (j : Judged) → n ≡ false → piece_behind (record { blank = b; complement = c; renumber = n }) before j ≡ lone b c j
+piece_lone : (b c n : Bool) (before : List Judged) (j : Judged) → n ≡ false → piece_after (record { blank = b; complement = c; renumber = n }) before j ≡ lone b c j
 piece_lone b c true before j e = cc
 piece_lone b true false before j e = refl
 piece_lone b false false before j e = refl
 
 -- if lines aren't numbered, each is printed by itself
-pub pieces_lone : (b c n : Bool) (before js : List Judged) → n ≡ false → pieces_by (piece_behind (record { blank = b; complement = c; renumber = n })) before js ≡ map (lone b c) js
+pub pieces_lone : (b c n : Bool) (before js : List Judged) → n ≡ false → pieces_by (piece_after (record { blank = b; complement = c; renumber = n })) before js ≡ map (lone b c) js
 pieces_lone b c n before [] e = refl
 pieces_lone b c n before (j ∷ js) e =
     ap₂ (λ (p : List ℕ) (ps : List (List ℕ)). p ∷ ps) (piece_lone b c n before j e) (pieces_lone b c n (before ++ j ∷ []) js e)
@@ -239,7 +239,7 @@ masked_size xs C l =
 masked_size xs Plain l = omega arith
 
 -- the keywords of sound lines lie in them
-pub keywords : {o : Options} {xs : List (Item Reading)} {t : Tree Reading} → AreSound o xs t → Each HasKeyword xs
+pub keywords : {o : Options} {xs : List (Item Reading)} {t : Tree Reading} → AreFaultless o xs t → Each HasKeyword xs
 keywords no_lines = tt
 keywords {o = o} (one_more xs t s l u e n) =
     each_both HasKeyword xs (next_item o xs t l ∷ []) (keywords s)
@@ -260,7 +260,7 @@ module _ (s : Settings) (n : s.renumber ≡ false) where
       some_differ_by s (lines_of_nodes ns) (marks (closed ns)) ≡ not (bytes_eq (printed_by s (lines_of_nodes ns) (marks (closed ns))) input)
   closed_differs input ns h e =
       let js : List Judged = judged_lines (lines_of_nodes ns) (marks (closed ns)) in
-      let ps : pieces_by (piece_behind (style_of s)) [] js ≡ map (lone s.blank s.complement) js = pieces_lone s.blank s.complement s.renumber [] js n in
+      let ps : pieces_by (piece_after (style_of s)) [] js ≡ map (lone s.blank s.complement) js = pieces_lone s.blank s.complement s.renumber [] js n in
       let many : length (lines_of_nodes ns) ≡ length (marks (closed ns)) =
       as_many_nodes true ns ∙ ap (λ (ms : List Mark). length ms) (sym (marks_so_far_same true (closed ns))) in
       let back : out whole js ≡ input =
@@ -289,7 +289,7 @@ module _ (o : Options) (n : o.settings.renumber ≡ false) (off : o.settings.lis
       (closed_differs o.settings n input ns (subst (λ (ys : List (Item Reading)). Each HasKeyword ys) (sym l) k) (ap (λ (ys : List (Item Reading)). map line_of ys) l ∙ m))
 
   -- some line differs exactly if the output isn't the input
-  pub changed : {r : Outcome} → Runs o input r → r.fault ≡ None → r.differs ≡ not (bytes_eq r.output input)
+  pub changed : {r : Outcome} → HasOutcome o input r → r.fault ≡ None → r.differs ≡ not (bytes_eq r.output input)
   changed (ran_as (stops xs t f s)) e = cc
   changed (ran_as (ends xs t g)) e =
       ap (λ (q : Listing). differs_by q o.settings xs t) off

@@ -3,18 +3,18 @@ use Rattle.std.proofs.Common.{◌≡◌, ◌≢◌, ℕ, suc, ◌^◌, ◌<◌, 
 use Rattle.std.specs.List.{concat}
 use Rattle.std.proofs.lemmas.List.Folds.{concat-append}
 use Rattle.std.proofs.lemmas.List.{map-append}
-use Rattle.ud_model.specs.text.Lines.{Line, numbered_from, ending_of, IsWhole, IsUnended, AreWhole, AreFormed}
+use Rattle.ud_model.specs.text.Lines.{Line, numbered_from, ending_of, IsWhole, IsUnterminated, AreWhole, AreFormed}
 use Rattle.ud_model.specs.text.Scans.{Reading}
-use Rattle.ud_model.specs.aids.Places.{in_text}
+use Rattle.ud_model.specs.aids.LexStates.{in_text}
 use Rattle.ud_model.specs.sections.Directives.{Span, content_of}
 use Rattle.ud_model.specs.sections.Tree.{Item, Tree, nothing, closed, lines}
 use Rattle.ud_model.specs.sections.Pruning.{Mark, marks, is_removed}
 use Rattle.ud_model.specs.sections.Items.{Options, reading_of, line_of, item_of, read_after}
 use Rattle.ud_model.specs.sections.Faults.{NoneHolds, cases, ends_removed}
-use Rattle.ud_model.specs.answer.Printing.{Judged, piece_by, pieces_by, last_removed, judged, judged_lines, keyword_in, number_line, ending_or_feed}
-use Rattle.ud_model.specs.output.Pruned.{Edited, left_item, printed}
+use Rattle.ud_model.specs.answer.Printing.{Judged, piece_by, pieces_by, last_removed, judged_line, judged_lines, keyword_in, number_line, ending_or_newline}
+use Rattle.ud_model.specs.output.Pruned.{Edited, kept_line, printed}
 use Rattle.ud_model.specs.output.Rereading.{line_bytes, edited_bytes}
-use Rattle.ud_model.specs.output.PutIn.{IsPrinted, Counted, no_line, goes, blanked, counts_on, starts_anew}
+use Rattle.ud_model.specs.output.InsertedLines.{IsPrinted, Counted, no_line, goes, blanked, counts_on, starts_anew}
 use Rattle.ud_model.specs.declared.kind.Mode.{Mode}
 use Rattle.ud_model.specs.declared.kind.Mode.TheVariants.{C, Plain}
 use Rattle.ud_model.specs.declared.verdict.Verdict.{Verdict}
@@ -33,7 +33,7 @@ use Rattle.ud_model.proofs.output.RereadLaws.{item_bytes}
 use Rattle.ud_model.proofs.output.RereadMore.{last_removed as last_removed_mark}
 use Rattle.ud_model.proofs.output.Rereads.{Again, Between, Carry, alike, gone, IsLine, start}
 use Rattle.ud_model.proofs.output.RereadStep.{More, the_more, step, plain_run, stayed_alone, goes_or_left, left_stays}
-use Rattle.ud_model.proofs.output.Weaving.{Weave, line_behind, with_line, are_more, put, put_lone, left, left_seen, lines_last, read_once, piece_of, gone_blank, gone_number, left_blank, left_number, removed_last}
+use Rattle.ud_model.proofs.output.Inserting.{Weave, line_behind, with_line, are_more, put, put_lone, left, left_seen, lines_last, read_once, piece_of, gone_blank, gone_number, left_blank, left_number, removed_last}
 
 -- 1. Where lines are put in.
 
@@ -69,17 +69,17 @@ edited_piece y = edited_bytes (line_in y)
 
 module _ (o : Options) (m : Mode) (xs : List (Item Reading)) (x : Item Reading) (t u : Tree Reading) (ys zs : List (Item Reading)) (mark : Mark)
     (more : marks u ≡ marks t ++ mark ∷ []) (long : length xs ≡ length (marks t)) (a : Again o m xs t ys) (b : Again o m (xs ++ x ∷ []) u zs) where
-  bytes_next : bytes_of zs ≡ bytes_of ys ++ map edited_piece (left_item mark.verdict x)
+  bytes_next : bytes_of zs ≡ bytes_of ys ++ map edited_piece (kept_line mark.verdict x)
   unfolding bytes_of
   bytes_next =
       item_bytes zs (printed (xs ++ x ∷ []) (marks u)) b.same
       ∙ ap (λ (ms : List Mark). map edited_piece (printed (xs ++ x ∷ []) ms)) more
       ∙ ap (λ (ws : List (Item (Edited Reading))). map edited_piece ws) (printed-append xs (x ∷ []) (marks t) (mark ∷ []) long)
-      ∙ ap (λ (ws : List (Item (Edited Reading))). map edited_piece (printed xs (marks t) ++ ws)) (append-nil (left_item mark.verdict x))
-      ∙ map-append edited_piece (printed xs (marks t)) (left_item mark.verdict x)
-      ∙ ap (λ (bs : List (List ℕ)). bs ++ map edited_piece (left_item mark.verdict x)) (sym (item_bytes ys (printed xs (marks t)) a.same))
+      ∙ ap (λ (ws : List (Item (Edited Reading))). map edited_piece (printed xs (marks t) ++ ws)) (append-nil (kept_line mark.verdict x))
+      ∙ map-append edited_piece (printed xs (marks t)) (kept_line mark.verdict x)
+      ∙ ap (λ (bs : List (List ℕ)). bs ++ map edited_piece (kept_line mark.verdict x)) (sym (item_bytes ys (printed xs (marks t)) a.same))
 
-  lines_next : map line_of zs ≡ numbered_from 1 (bytes_of ys ++ map edited_piece (left_item mark.verdict x))
+  lines_next : map line_of zs ≡ numbered_from 1 (bytes_of ys ++ map edited_piece (kept_line mark.verdict x))
   unfolding bytes_of
   lines_next = b.numbered ∙ ap (λ (bs : List (List ℕ)). numbered_from 1 bs) bytes_next
 
@@ -88,7 +88,7 @@ module _ (o : Options) (m : Mode) (xs : List (Item Reading)) (x : Item Reading) 
   unfolding bytes_of
   same_items e =
       read_once o m zs ys b.read a.read
-      (lines_next ∙ ap (λ (v : Verdict). numbered_from 1 (bytes_of ys ++ map edited_piece (left_item v x))) e
+      (lines_next ∙ ap (λ (v : Verdict). numbered_from 1 (bytes_of ys ++ map edited_piece (kept_line v x))) e
       ∙ ap (λ (bs : List (List ℕ)). numbered_from 1 bs) (append-nil (bytes_of ys)) ∙ sym a.numbered)
 
   -- or its piece
@@ -123,13 +123,13 @@ whole_more (p ∷ qs) q a w = (a.0, whole_more qs q a.1 w)
 formed_all : (qs : List (List ℕ)) → AreWhole qs → AreFormed qs
 formed_all qs a = subst AreFormed (append-nil qs) (formed qs [] a tt)
 
-formed_last : (qs : List (List ℕ)) (q : List ℕ) → AreWhole qs → IsUnended q → AreFormed (qs ++ q ∷ [])
+formed_last : (qs : List (List ℕ)) (q : List ℕ) → AreWhole qs → IsUnterminated q → AreFormed (qs ++ q ∷ [])
 formed_last qs q a w = subst (λ (rs : List (List ℕ)). AreFormed (qs ++ rs)) (last_line-some q w.0) (formed qs q a w.1)
 
-feed_end : (e : List ℕ) → IsEnd e ⊎ (e ≡ []) → IsEnd (ending_or_feed e)
-feed_end e (inl (inl h)) = subst (λ (x : List ℕ). IsEnd (ending_or_feed x)) (sym h) (inl refl)
-feed_end e (inl (inr h)) = subst (λ (x : List ℕ). IsEnd (ending_or_feed x)) (sym h) (inr refl)
-feed_end e (inr h) = subst (λ (x : List ℕ). IsEnd (ending_or_feed x)) (sym h) (inr refl)
+feed_end : (e : List ℕ) → IsEnd e ⊎ (e ≡ []) → IsEnd (ending_or_newline e)
+feed_end e (inl (inl h)) = subst (λ (x : List ℕ). IsEnd (ending_or_newline x)) (sym h) (inl refl)
+feed_end e (inl (inr h)) = subst (λ (x : List ℕ). IsEnd (ending_or_newline x)) (sym h) (inr refl)
+feed_end e (inr h) = subst (λ (x : List ℕ). IsEnd (ending_or_newline x)) (sym h) (inr refl)
 
 -- the ending of a line that was cut from a text
 ends_or_not : (l : Line) → IsLine l → IsEnd l.ending ⊎ (l.ending ≡ [])
@@ -143,9 +143,9 @@ piece_whole v k l (n, t, e, inr w) h left = absurd (h (ap (λ (k : Line). k.endi
 some_ending : (t : List ℕ) → IsWhole t → ending_of t ≢ []
 some_ending t w = end_is_some (ending_of t) (whole_ending t w)
 
-piece_unended : (v : Verdict) (k : Span) (l : Line) → IsLine l → l.ending ≡ [] → IsLeft v → IsUnended (piece_by v k l)
+piece_unended : (v : Verdict) (k : Span) (l : Line) → IsLine l → l.ending ≡ [] → IsLeft v → IsUnterminated (piece_by v k l)
 piece_unended v k l (n, t, e, inl w) h left = absurd (some_ending t w (sym (ap (λ (k : Line). k.ending) e) ∙ h))
-piece_unended v k l (n, t, e, inr w) h left = subst (λ (j : Line). IsUnended (piece_by v k j)) (sym e) (unended_piece v k n t left w)
+piece_unended v k l (n, t, e, inr w) h left = subst (λ (j : Line). IsUnterminated (piece_by v k j)) (sym e) (unended_piece v k n t left w)
 
 quiet_by : (l k : Line) → l ≡ k → IsQuiet k → IsQuiet l
 quiet_by l k e q = subst IsQuiet (sym e) q
@@ -234,7 +234,7 @@ module _ (o : Options) (m : Mode) (b n : Bool) (some : (b || n) ≡ true) where
     v = k.grown.mark.verdict
 
     abbrev j : Judged
-    j = judged x k.grown.mark
+    j = judged_line x k.grown.mark
 
     line_j : j.line ≡ l
     line_j = ap (λ (r : Reading). r.line) (reading_of-item_of o (read_after xs m l))
@@ -287,17 +287,17 @@ module _ (o : Options) (m : Mode) (b n : Bool) (some : (b || n) ≡ true) where
     ready_number f g =
         let rest : LeavesOff s.ys in_text true false = rests_after o xs t s.ys m s.between f in
         let d : List ℕ = number_line j.line in
-        let end : IsEnd (ending_or_feed j.line.ending) = feed_end j.line.ending (ends_or_not j.line (subst IsLine (sym line_j) i)) in
+        let end : IsEnd (ending_or_newline j.line.ending) = feed_end j.line.ending (ends_or_not j.line (subst IsLine (sym line_j) i)) in
         let few : j.line.number < 2 ^ 64 = subst (λ (z : Line). z.number < 2 ^ 64) (sym line_j) small in
         let cut = number_quiet (suc (length s.qs)) j.line end few in
-        let quiet : IsQuiet (line_behind s.qs d) = quiet_by (line_behind s.qs d) (record { body = says_number j.line.number; ending = ending_or_feed j.line.ending; number = suc (length s.qs) }) cut (record { quiet = says_quiet j.line.number few; end = end }) in
+        let quiet : IsQuiet (line_behind s.qs d) = quiet_by (line_behind s.qs d) (record { body = says_number j.line.number; ending = ending_or_newline j.line.ending; number = suc (length s.qs) }) cut (record { quiet = says_quiet j.line.number few; end = end }) in
         let w = put o m s.ys s.zs s.qs s.weave rest d quiet in
         let z : Reading = read_after s.zs m (line_behind s.qs d) in
         record {
           zs = with_line o m s.zs (line_behind s.qs d);
           qs = s.qs ++ d ∷ [];
           weave = w;
-          whole = whole_more s.qs d s.whole (quiet_whole (says_number j.line.number) (ending_or_feed j.line.ending) (says_quiet j.line.number few) end);
+          whole = whole_more s.qs d s.whole (quiet_whole (says_number j.line.number) (ending_or_newline j.line.ending) (says_quiet j.line.number few) end);
           same = ap (λ (c : List ℕ). c ++ piece_by j.verdict j.keyword j.line) (concat_more s.qs d)
               ∙ append_assoc (concat s.qs) d (piece_by j.verdict j.keyword j.line)
               ∙ ap₂ (λ (a c : List ℕ). a ++ c) s.same (sym g) ∙ sym shown_u;

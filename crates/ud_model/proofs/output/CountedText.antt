@@ -8,19 +8,19 @@ use Rattle.ud_model.specs.text.Scanning.{next_reading, readings_of}
 use Rattle.ud_model.specs.sections.Tree.{Item, Tree, lines}
 use Rattle.ud_model.specs.sections.Pruning.{marks}
 use Rattle.ud_model.specs.sections.Items.{Options, reading_of, line_of, item_of, read_after, next_item}
-use Rattle.ud_model.specs.sections.Faults.{Fault, AreSound, no_lines, one_more, NoneHolds, cases}
-use Rattle.ud_model.specs.answer.Printing.{Judged, piece_behind, pieces_by, judged_lines}
-use Rattle.ud_model.specs.answer.Runs.{Outcome, output_by, ReadsAs, Runs, ran_as}
-use Rattle.ud_model.specs.answer.Runs.ReadsAs.{stops, ends}
+use Rattle.ud_model.specs.sections.Faults.{Fault, AreFaultless, no_lines, one_more, NoneHolds, cases}
+use Rattle.ud_model.specs.answer.Printing.{Judged, piece_after, pieces_by, judged_lines}
+use Rattle.ud_model.specs.answer.Outcomes.{Outcome, output_by, ReadsAs, HasOutcome, ran_as}
+use Rattle.ud_model.specs.answer.Outcomes.ReadsAs.{stops, ends}
 use Rattle.ud_model.specs.output.Pruned.{printed}
 use Rattle.ud_model.specs.output.Rereading.{IsPlain}
-use Rattle.ud_model.specs.output.PutIn.{put_in, in_mode, read_in, read_as, Counted}
+use Rattle.ud_model.specs.output.InsertedLines.{with_blank_renumber, in_mode, read_in, read_as, Counted}
 use Rattle.ud_model.specs.declared.limits.TheConstants.{TEXT_LINES}
 use Rattle.ud_model.specs.declared.kind.Mode.{Mode}
 use Rattle.ud_model.specs.declared.settings.Listing.{Listing}
 use Rattle.ud_model.proofs.text.ScanLaws.{readings_after-append}
 use Rattle.ud_model.proofs.sections.Soundness.{reading_of-next, sound_lines, one_run}
-use Rattle.ud_model.proofs.output.BlankedLines.{lines_read}
+use Rattle.ud_model.proofs.output.BlankedLineLemmas.{lines_read}
 use Rattle.ud_model.proofs.output.CountedLines.{State, Done, done, first_state, next_state, next_done}
 use Rattle.ud_model.proofs.output.Each.{Each, each_parts}
 use Rattle.ud_model.proofs.output.Heeding.{ReadIn, none_read, one_read, the_mode}
@@ -29,8 +29,8 @@ use Rattle.ud_model.proofs.output.OutputPieces.{all_formed, all_pieces, output_l
 use Rattle.ud_model.proofs.output.RereadChain.{AllButLast, IsInner, ends_before, lines_end, next_is, line_last}
 use Rattle.ud_model.proofs.output.RereadLaws.{plain_output, left_piece, item_bytes}
 use Rattle.ud_model.proofs.output.Rereads.{IsLine}
-use Rattle.ud_model.proofs.output.SharedLines.{reads_too}
-use Rattle.ud_model.proofs.output.Weaving.{lines_last}
+use Rattle.ud_model.proofs.output.SharedLineLemmas.{reads_too}
+use Rattle.ud_model.proofs.output.Inserting.{lines_last}
 
 -- these lines are numbered on from here
 InOrder : ℕ → List Line → Type 0
@@ -63,7 +63,7 @@ module _ (o : Options) (p : IsPlain o) (b n : Bool) (some : (b || n) ≡ true) w
       let e : (line_of (next_item o xs t l)).number ≡ l.number = ap (λ (k : Line). k.number) (reading_of-next o xs t l) in
       let f : TEXT_LINES < (line_of (next_item o xs t l)).number → ⊥ = h.0 in omega (arith, e, f)
 
-  inside : {xs : List (Item Reading)} {t : Tree Reading} → AreSound o xs t → Each IsInner (map line_of xs) → InOrder 1 (map line_of xs) → The xs t
+  inside : {xs : List (Item Reading)} {t : Tree Reading} → AreFaultless o xs t → Each IsInner (map line_of xs) → InOrder 1 (map line_of xs) → The xs t
   inside no_lines h i = first_state o (the_mode o) b n some
   inside (one_more xs t s l u e w) h i =
       let k : Each IsInner (map line_of xs) × Each IsInner (l ∷ []) = each_parts IsInner (map line_of xs) (l ∷ []) (subst (Each IsInner) (line_last o p xs t l) h) in
@@ -73,7 +73,7 @@ module _ (o : Options) (p : IsPlain o) (b n : Bool) (some : (b || n) ≡ true) w
       (next_state o (the_mode o) b n some xs t (sound_lines s) (inside s k.0 c.0) l u (c.1 ∙ ap (λ (d : ℕ). 1 + d) (order_map xs) ∙ omega arith) (few xs t l w)
       (subst (λ (x : Item Reading). lines u ≡ xs ++ x ∷ []) same e) (subst (λ (x : Item Reading). NoneHolds xs x cases) same w) k.1.0.1 k.1.0.0)
 
-  to_the_end : {xs : List (Item Reading)} {t : Tree Reading} → AreSound o xs t → AllButLast (map line_of xs) → InOrder 1 (map line_of xs) → End xs t
+  to_the_end : {xs : List (Item Reading)} {t : Tree Reading} → AreFaultless o xs t → AllButLast (map line_of xs) → InOrder 1 (map line_of xs) → End xs t
   to_the_end no_lines h i = done o (the_mode o) b n some [] _ (first_state o (the_mode o) b n some)
   to_the_end (one_more xs t s l u e w) h i =
       let k : Each IsInner (map line_of xs) × IsLine l = ends_before (map line_of xs) l (subst AllButLast (line_last o p xs t l) h) in
@@ -93,7 +93,7 @@ read_lines_in o m _ (one_read ys r l) =
     ∙ ap (λ (ks : List (Mode × Line)). readings_of ks) (sym (map-append (in_mode m) (map line_of ys) (l ∷ [])))
     ∙ ap (λ (ls : List Line). read_in m ls) (sym (lines_last o ys m l))
 
-reads_sound : {o : Options} {input : List ℕ} {xs : List (Item Reading)} {t : Tree Reading} {f : Option Fault} → ReadsAs o input xs t f → AreSound o xs t
+reads_sound : {o : Options} {input : List ℕ} {xs : List (Item Reading)} {t : Tree Reading} {f : Option Fault} → ReadsAs o input xs t f → AreFaultless o xs t
 reads_sound (stops xs t f s) = s.sound
 reads_sound (ends xs t g) = g.sound
 
@@ -103,7 +103,7 @@ formed_pieces xs t ts e f = all_formed xs (marks t) 1 ts e f
 
 -- each line that is left has its own number
 pub counted_text : (o : Options) → IsPlain o → (b n : Bool) → (b || n) ≡ true → (input : List ℕ) → {xs : List (Item Reading)} {t : Tree Reading} {f : Option Fault} {r s : Outcome} →
-    ReadsAs o input xs t f → Runs o input r → Runs (put_in b n o) input s →
+    ReadsAs o input xs t f → HasOutcome o input r → HasOutcome (with_blank_renumber b n o) input s →
     (k : ℕ) × Counted (judged_lines xs (marks t)) (read_as (the_mode o) r.output) (read_as (the_mode o) s.output) k
 counted_text o p b n some input {xs = xs} {t = t} {r = r} {s = s} a run other =
     let js : List Judged = judged_lines xs (marks t) in
@@ -116,10 +116,10 @@ counted_text o p b n some input {xs = xs} {t = t} {r = r} {s = s} a run other =
     let first : lines_of r.output ≡ map line_of d.ys =
     ap (λ (q : List ℕ). lines_of q) plain ∙ output_lines (map left_piece (printed xs (marks t))) (formed_pieces xs t ls.0 ls.2 ls.1)
     ∙ ap (λ (ps : List (List ℕ)). numbered_from 1 ps) (sym (item_bytes d.ys (printed xs (marks t)) d.again.same)) ∙ sym d.again.numbered in
-    let e = reads_too o (put_in b n o) refl refl refl a in
+    let e = reads_too o (with_blank_renumber b n o) refl refl refl a in
     let out : s.output ≡ concat d.qs =
-    ap (λ (z : Outcome). z.output) (one_run other (ran_as e)) ∙ ap (λ (q : Listing). output_by q (put_in b n o).settings xs t) p.unlisted
-    ∙ ap (λ (c : Bool). concat (pieces_by (piece_behind (record { blank = b; complement = c; renumber = n })) [] js)) p.uncomplemented ∙ sym d.same in
+    ap (λ (z : Outcome). z.output) (one_run other (ran_as e)) ∙ ap (λ (q : Listing). output_by q (with_blank_renumber b n o).settings xs t) p.unlisted
+    ∙ ap (λ (c : Bool). concat (pieces_by (piece_after (record { blank = b; complement = c; renumber = n })) [] js)) p.uncomplemented ∙ sym d.same in
     let second : lines_of s.output ≡ map line_of d.zs = ap (λ (q : List ℕ). lines_of q) out ∙ output_lines d.qs d.formed ∙ sym d.are in (
       d.next,
       subst (λ (rs : List Reading). Counted js rs (read_as m s.output) d.next) (read_lines_in o m d.ys d.again.read ∙ ap (λ (ks : List Line). read_in m ks) (sym first))

@@ -1,9 +1,9 @@
 -- What stands before a directive's keyword, and the keyword itself.
 use Rattle.std.proofs.Common.{◌≡◌, ◌≢◌, ℕ, ◌+◌, ◌-◌, ◌==◌, List, [], ◌∷◌, ◌++◌, length, Bool, true, false, not, ◌&&◌, ◌||◌, Option, Some, None, if◌then◌else◌, refl, sym, ◌∙◌, ap, ap₂, subst, append_assoc, arith, length-append, eqb-true, ◌⊎◌, inl, inr}
 use Rattle.std.proofs.lemmas.Bool.{and_parts, not-true}
-use Rattle.ud_model.specs.text.Bytes.{slash, space, line_feed, is_quote, is_white, is_word_byte, past_white, word_in_front, past_word}
+use Rattle.ud_model.specs.text.Bytes.{slash, space, newline, is_quote, is_white, is_word_byte, skip_white, leading_word, skip_word}
 use Rattle.ud_model.specs.text.Scans.{Scan}
-use Rattle.ud_model.specs.sections.Directives.{Content, Directive, cut_keyword, directive, text, content_of, past_sign, past_sign_of, has_cut_keyword, found_behind, directive_at, kind_of, is_cut_off}
+use Rattle.ud_model.specs.sections.Directives.{Content, Directive, cut_keyword, directive, text, content_of, skip_hash_if_fresh, skip_hash, has_split_keyword, content_after_hash, directive_at, kind_of, is_continued_outside_comment}
 use Rattle.ud_model.specs.declared.kind.Kind.{Kind}
 use Rattle.ud_model.proofs.output.Each.{Each}
 use Rattle.ud_model.proofs.output.EditedScan.{has_quote, ends_in_slash}
@@ -15,19 +15,19 @@ abbrev pub IsWhite : ℕ → Type 0
 IsWhite b = is_white b ≡ true
 
 -- white space, and what follows it
-white_split : (t : List ℕ) → (ws : List ℕ) × (t ≡ ws ++ past_white t) × Each IsWhite ws
+white_split : (t : List ℕ) → (ws : List ℕ) × (t ≡ ws ++ skip_white t) × Each IsWhite ws
 white_split [] = ([], refl, tt)
 white_split (b ∷ t) = by_white (is_white b) refl (white_split t)
   where
-    by_white : (w : Bool) → is_white b ≡ w → ((ws : List ℕ) × (t ≡ ws ++ past_white t) × Each IsWhite ws) → (ws : List ℕ) × (b ∷ t ≡ ws ++ (if w then past_white t else b ∷ t)) × Each IsWhite ws
+    by_white : (w : Bool) → is_white b ≡ w → ((ws : List ℕ) × (t ≡ ws ++ skip_white t) × Each IsWhite ws) → (ws : List ℕ) × (b ∷ t ≡ ws ++ (if w then skip_white t else b ∷ t)) × Each IsWhite ws
     by_white true e r = (b ∷ r.0, ap (λ (l : List ℕ). b ∷ l) r.1, (e, r.2))
     by_white false e r = ([], refl, tt)
 
-word_split : (t : List ℕ) → t ≡ word_in_front t ++ past_word t
+word_split : (t : List ℕ) → t ≡ leading_word t ++ skip_word t
 word_split [] = refl
 word_split (b ∷ t) = by_word (is_word_byte b) (word_split t)
   where
-    by_word : (w : Bool) → t ≡ word_in_front t ++ past_word t → b ∷ t ≡ (if w then b ∷ word_in_front t else []) ++ (if w then past_word t else b ∷ t)
+    by_word : (w : Bool) → t ≡ leading_word t ++ skip_word t → b ∷ t ≡ (if w then b ∷ leading_word t else []) ++ (if w then skip_word t else b ∷ t)
     by_word true r = ap (λ (l : List ℕ). b ∷ l) r
     by_word false r = refl
 
@@ -43,9 +43,9 @@ pub record Front (scan : Scan) (d : Directive) : Type 0 where
   pub len_is : d.keyword.len ≡ length word
   pub kind_is : kind_of word ≡ Some d.kind
   pub fresh_is : scan.fresh ≡ true
-  pub broken_is : d.broken ≡ is_cut_off scan
+  pub broken_is : d.broken ≡ is_continued_outside_comment scan
 
-sign_of : (t rest : List ℕ) → past_sign_of t ≡ Some rest → t ≡ 35 ∷ rest
+sign_of : (t rest : List ℕ) → skip_hash t ≡ Some rest → t ≡ 35 ∷ rest
 sign_of [] rest e = cc
 sign_of (b ∷ t) rest e = by_sign (b == 35) refl e
   where
@@ -55,15 +55,15 @@ sign_of (b ∷ t) rest e = by_sign (b == 35) refl e
 
 module _ (scan : Scan) where
   at_kind : (ws gs rest : List ℕ) (k : Option Kind) (d : Directive) → Each IsWhite ws → Each IsWhite gs → scan.masked ≡ (ws ++ 35 ∷ gs) ++ rest → scan.fresh ≡ true →
-      kind_of (word_in_front rest) ≡ k → directive_at scan rest k ≡ directive d → Front scan d
+      kind_of (leading_word rest) ≡ k → directive_at scan rest k ≡ directive d → Front scan d
   at_kind ws gs rest None d w g m f e h = cc
   at_kind ws gs rest (Some k) d w g m f e h =
-      let q : record { kind = k; keyword = record { at = length scan.masked - length rest; len = length (word_in_front rest) }; after = past_word rest; broken = is_cut_off scan } ≡ d = cc in
+      let q : record { kind = k; keyword = record { at = length scan.masked - length rest; len = length (leading_word rest) }; after = skip_word rest; broken = is_continued_outside_comment scan } ≡ d = cc in
       let l : length scan.masked ≡ length (ws ++ 35 ∷ gs) + length rest = ap (λ (t : List ℕ). length t) m ∙ length-append (ws ++ 35 ∷ gs) rest in
       subst (Front scan) q (record {
         white = ws;
         gap = gs;
-        word = word_in_front rest;
+        word = leading_word rest;
         whites = w;
         gaps = g;
         masked_is = m ∙ ap (λ (t : List ℕ). (ws ++ 35 ∷ gs) ++ t) (word_split rest);
@@ -75,19 +75,19 @@ module _ (scan : Scan) where
       })
 
   at_fresh : (fresh : Bool) (ws gs rest : List ℕ) (d : Directive) → Each IsWhite ws → Each IsWhite gs → scan.masked ≡ (ws ++ 35 ∷ gs) ++ rest → scan.fresh ≡ fresh →
-      (if fresh then directive_at scan rest (kind_of (word_in_front rest)) else text) ≡ directive d → Front scan d
-  at_fresh true ws gs rest d w g m f h = at_kind ws gs rest (kind_of (word_in_front rest)) d w g m f refl h
+      (if fresh then directive_at scan rest (kind_of (leading_word rest)) else text) ≡ directive d → Front scan d
+  at_fresh true ws gs rest d w g m f h = at_kind ws gs rest (kind_of (leading_word rest)) d w g m f refl h
   at_fresh false ws gs rest d w g m f h = cc
 
-  at_sign : (sign : Option (List ℕ)) (d : Directive) → past_sign scan.masked ≡ sign → found_behind scan sign ≡ directive d → Front scan d
+  at_sign : (sign : Option (List ℕ)) (d : Directive) → skip_hash_if_fresh scan.masked ≡ sign → content_after_hash scan sign ≡ directive d → Front scan d
   at_sign None d e h = cc
   at_sign (Some rest) d e h =
-      let s : (ws : List ℕ) × (scan.masked ≡ ws ++ past_white scan.masked) × Each IsWhite ws = white_split scan.masked in
-      let g : (gs : List ℕ) × (rest ≡ gs ++ past_white rest) × Each IsWhite gs = white_split rest in
-      let m : scan.masked ≡ (s.0 ++ 35 ∷ g.0) ++ past_white rest =
-      s.1 ∙ ap (λ (t : List ℕ). s.0 ++ t) (sign_of (past_white scan.masked) rest e ∙ ap (λ (t : List ℕ). 35 ∷ t) g.1)
-      ∙ sym (append_assoc s.0 (35 ∷ g.0) (past_white rest)) in
-      at_fresh scan.fresh s.0 g.0 (past_white rest) d s.2 g.2 m refl h
+      let s : (ws : List ℕ) × (scan.masked ≡ ws ++ skip_white scan.masked) × Each IsWhite ws = white_split scan.masked in
+      let g : (gs : List ℕ) × (rest ≡ gs ++ skip_white rest) × Each IsWhite gs = white_split rest in
+      let m : scan.masked ≡ (s.0 ++ 35 ∷ g.0) ++ skip_white rest =
+      s.1 ∙ ap (λ (t : List ℕ). s.0 ++ t) (sign_of (skip_white scan.masked) rest e ∙ ap (λ (t : List ℕ). 35 ∷ t) g.1)
+      ∙ sym (append_assoc s.0 (35 ∷ g.0) (skip_white rest)) in
+      at_fresh scan.fresh s.0 g.0 (skip_white rest) d s.2 g.2 m refl h
 
   unless_cut : (t : Bool) (c : Content) (d : Directive) → (if t then cut_keyword else c) ≡ directive d → c ≡ directive d
   unless_cut true c d e = cc
@@ -96,7 +96,7 @@ module _ (scan : Scan) where
   -- a line with a directive is seen so
   pub directive_front : (d : Directive) → content_of scan ≡ directive d → Front scan d
   directive_front d e =
-      at_sign (past_sign scan.masked) d refl (unless_cut (has_cut_keyword scan (past_sign scan.masked)) (found_behind scan (past_sign scan.masked)) d e)
+      at_sign (skip_hash_if_fresh scan.masked) d refl (unless_cut (has_split_keyword scan (skip_hash_if_fresh scan.masked)) (content_after_hash scan (skip_hash_if_fresh scan.masked)) d e)
 
 -- if one of two holds, the first or the second does
 pub either : (a b : Bool) → (a || b) ≡ true → (a ≡ true) ⊎ (b ≡ true)
@@ -128,13 +128,13 @@ each_white P p q r s t b e = go (either ((b == 32) || (b == 9) || (b == 11) || (
 
 -- the byte begins no comment and no literal
 abbrev is_inert : ℕ → Bool
-is_inert c = not (c == slash) && not (is_quote c) && not (c == line_feed)
+is_inert c = not (c == slash) && not (is_quote c) && not (c == newline)
 
 inert_byte : (c : ℕ) → is_inert c ≡ true → IsInert c
 inert_byte c e =
-    let q : ((not (c == slash) && not (is_quote c)) ≡ true) × (not (c == line_feed) ≡ true) = and_parts (not (c == slash) && not (is_quote c)) (not (c == line_feed)) e in
+    let q : ((not (c == slash) && not (is_quote c)) ≡ true) × (not (c == newline) ≡ true) = and_parts (not (c == slash) && not (is_quote c)) (not (c == newline)) e in
     let r : (not (c == slash) ≡ true) × (not (is_quote c) ≡ true) = and_parts (not (c == slash)) (not (is_quote c)) q.0 in
-    record { no_slash = not-true (c == slash) r.0; no_quote = not-true (is_quote c) r.1; no_feed = not-true (c == line_feed) q.1 }
+    record { no_slash = not-true (c == slash) r.0; no_quote = not-true (is_quote c) r.1; no_feed = not-true (c == newline) q.1 }
 
 -- each of these bytes is so
 abbrev pub are_inert : List ℕ → Bool

@@ -1,25 +1,25 @@
 -- The scan of an edited line: before the keyword of a directive no comment and no literal is open, so another keyword in
 -- its place changes nothing of what follows.
 use Rattle.std.proofs.Common.{◌≡◌, ℕ, ◌==◌, List, [], ◌∷◌, ◌++◌, Bool, true, false, ◌||◌, if◌then◌else◌, refl, sym, ◌∙◌, ap, append-nil, append_assoc, ◌⊎◌, inl, inr}
-use Rattle.ud_model.specs.text.Bytes.{slash, star, space, line_feed, backslash, is_quote}
-use Rattle.ud_model.specs.aids.Places.{Place, in_text, at_slash, in_block, at_star, in_line, in_literal, at_backslash, next, opens, shows, whitens, blank_last}
-use Rattle.ud_model.proofs.text.PlaceLemmas.{blank_last-last}
+use Rattle.ud_model.specs.text.Bytes.{slash, star, space, newline, backslash, is_quote}
+use Rattle.ud_model.specs.aids.LexStates.{LexState, in_text, at_slash, in_block, at_star, in_line, in_literal, at_backslash, next_state, opens_comment, masked_byte, stays_white, blank_last}
+use Rattle.ud_model.proofs.text.LexStateLemmas.{blank_last-last}
 use Rattle.ud_model.proofs.text.ScanLaws.{place_after, white_after, masked_after}
 
 -- where a text leaves off with some bytes and further ones
-pub place_after-append : (w : Place) (a b : List ℕ) → place_after w (a ++ b) ≡ place_after (place_after w a) b
+pub place_after-append : (w : LexState) (a b : List ℕ) → place_after w (a ++ b) ≡ place_after (place_after w a) b
 place_after-append w [] b = refl
-place_after-append w (x ∷ a) b = place_after-append (next w x) a b
+place_after-append w (x ∷ a) b = place_after-append (next_state w x) a b
 
 -- how it is shown with them
-pub masked_after-append : (w : Place) (m a b : List ℕ) → masked_after w m (a ++ b) ≡ masked_after (place_after w a) (masked_after w m a) b
+pub masked_after-append : (w : LexState) (m a b : List ℕ) → masked_after w m (a ++ b) ≡ masked_after (place_after w a) (masked_after w m a) b
 masked_after-append w m [] b = refl
-masked_after-append w m (x ∷ a) b = masked_after-append (next w x) ((if opens w x then blank_last m else m) ++ shows w x ∷ []) a b
+masked_after-append w m (x ∷ a) b = masked_after-append (next_state w x) ((if opens_comment w x then blank_last m else m) ++ masked_byte w x ∷ []) a b
 
 -- whether its last logical line is white with them
-pub white_after-append : (w : Place) (white : Bool) (a b : List ℕ) → white_after w white (a ++ b) ≡ white_after (place_after w a) (white_after w white a) b
+pub white_after-append : (w : LexState) (white : Bool) (a b : List ℕ) → white_after w white (a ++ b) ≡ white_after (place_after w a) (white_after w white a) b
 white_after-append w white [] b = refl
-white_after-append w white (x ∷ a) b = white_after-append (next w x) (whitens w white x) a b
+white_after-append w white (x ∷ a) b = white_after-append (next_state w x) (stays_white w white x) a b
 
 -- the last byte, as it is shown by whether a comment begins with it
 abbrev blanked : Bool → ℕ → ℕ
@@ -30,30 +30,30 @@ blank_by true m c = blank_last-last m c
 blank_by false m c = refl
 
 -- of what is shown only the last byte may still change
-pub masked_front : (bytes : List ℕ) (w : Place) (m : List ℕ) (c : ℕ) → masked_after w (m ++ c ∷ []) bytes ≡ m ++ masked_after w (c ∷ []) bytes
+pub masked_front : (bytes : List ℕ) (w : LexState) (m : List ℕ) (c : ℕ) → masked_after w (m ++ c ∷ []) bytes ≡ m ++ masked_after w (c ∷ []) bytes
 masked_front [] w m c = refl
 masked_front (b ∷ bytes) w m c =
-    ap (λ (l : List ℕ). masked_after (next w b) (l ++ shows w b ∷ []) bytes) (blank_by (opens w b) m c)
-    ∙ masked_front bytes (next w b) (m ++ blanked (opens w b) c ∷ []) (shows w b)
-    ∙ append_assoc m (blanked (opens w b) c ∷ []) (masked_after (next w b) (shows w b ∷ []) bytes)
+    ap (λ (l : List ℕ). masked_after (next_state w b) (l ++ masked_byte w b ∷ []) bytes) (blank_by (opens_comment w b) m c)
+    ∙ masked_front bytes (next_state w b) (m ++ blanked (opens_comment w b) c ∷ []) (masked_byte w b)
+    ∙ append_assoc m (blanked (opens_comment w b) c ∷ []) (masked_after (next_state w b) (masked_byte w b ∷ []) bytes)
     ∙ ap (λ (l : List ℕ). m ++ l)
-    (sym (ap (λ (l : List ℕ). masked_after (next w b) (l ++ shows w b ∷ []) bytes) (blank_by (opens w b) [] c)
-    ∙ masked_front bytes (next w b) (blanked (opens w b) c ∷ []) (shows w b)))
+    (sym (ap (λ (l : List ℕ). masked_after (next_state w b) (l ++ masked_byte w b ∷ []) bytes) (blank_by (opens_comment w b) [] c)
+    ∙ masked_front bytes (next_state w b) (blanked (opens_comment w b) c ∷ []) (masked_byte w b)))
 
 -- it stays, or becomes a space
-pub first_shown : (bytes : List ℕ) (w : Place) (c : ℕ) → (rest : List ℕ) × ((masked_after w (c ∷ []) bytes ≡ c ∷ rest) ⊎ (masked_after w (c ∷ []) bytes ≡ space ∷ rest))
+pub first_shown : (bytes : List ℕ) (w : LexState) (c : ℕ) → (rest : List ℕ) × ((masked_after w (c ∷ []) bytes ≡ c ∷ rest) ⊎ (masked_after w (c ∷ []) bytes ≡ space ∷ rest))
 first_shown [] w c = ([], inl refl)
-first_shown (b ∷ bytes) w c = (masked_after (next w b) (shows w b ∷ []) bytes, by_open (opens w b) refl)
+first_shown (b ∷ bytes) w c = (masked_after (next_state w b) (masked_byte w b ∷ []) bytes, by_open (opens_comment w b) refl)
   where
-    by_open : (o : Bool) → opens w b ≡ o → (masked_after w (c ∷ []) (b ∷ bytes) ≡ c ∷ masked_after (next w b) (shows w b ∷ []) bytes)
-        ⊎ (masked_after w (c ∷ []) (b ∷ bytes) ≡ space ∷ masked_after (next w b) (shows w b ∷ []) bytes)
-    by_open true e = inr (ap (λ (t : Bool). masked_after (next w b) ((if t then space ∷ [] else c ∷ []) ++ shows w b ∷ []) bytes) e ∙ masked_front bytes (next w b) (space ∷ []) (shows w b))
-    by_open false e = inl (ap (λ (t : Bool). masked_after (next w b) ((if t then space ∷ [] else c ∷ []) ++ shows w b ∷ []) bytes) e ∙ masked_front bytes (next w b) (c ∷ []) (shows w b))
+    by_open : (o : Bool) → opens_comment w b ≡ o → (masked_after w (c ∷ []) (b ∷ bytes) ≡ c ∷ masked_after (next_state w b) (masked_byte w b ∷ []) bytes)
+        ⊎ (masked_after w (c ∷ []) (b ∷ bytes) ≡ space ∷ masked_after (next_state w b) (masked_byte w b ∷ []) bytes)
+    by_open true e = inr (ap (λ (t : Bool). masked_after (next_state w b) ((if t then space ∷ [] else c ∷ []) ++ masked_byte w b ∷ []) bytes) e ∙ masked_front bytes (next_state w b) (space ∷ []) (masked_byte w b))
+    by_open false e = inl (ap (λ (t : Bool). masked_after (next_state w b) ((if t then space ∷ [] else c ∷ []) ++ masked_byte w b ∷ []) bytes) e ∙ masked_front bytes (next_state w b) (c ∷ []) (masked_byte w b))
 
 -- between pieces nothing that is shown changes any more
 pub text_front : (bytes m : List ℕ) → masked_after in_text m bytes ≡ m ++ masked_after in_text [] bytes
 text_front [] m = sym (append-nil m)
-text_front (b ∷ bytes) m = masked_front bytes (next in_text b) m (shows in_text b)
+text_front (b ∷ bytes) m = masked_front bytes (next_state in_text b) m (masked_byte in_text b)
 
 -- some byte is a quote
 abbrev pub has_quote : List ℕ → Bool
@@ -80,7 +80,7 @@ slash-last (c ∷ []) b = refl
 slash-last (c ∷ d ∷ m) b = slash-last (d ∷ m) b
 
 -- if a literal is open, its quote is shown
-abbrev pub Quoted : Place → List ℕ → Type 0
+abbrev pub Quoted : LexState → List ℕ → Type 0
 Quoted in_text m = Unit {0}
 Quoted at_slash m = Unit {0}
 Quoted in_block m = Unit {0}
@@ -90,7 +90,7 @@ Quoted (in_literal q) m = has_quote m ≡ true
 Quoted (at_backslash q) m = has_quote m ≡ true
 
 -- and if a text ends in a slash, that is shown
-abbrev pub Shown : Place → List ℕ → Type 0
+abbrev pub Shown : LexState → List ℕ → Type 0
 Shown in_text m = Unit {0}
 Shown at_slash m = ends_in_slash m ≡ true
 Shown in_block m = Unit {0}
@@ -99,7 +99,7 @@ Shown in_line m = Unit {0}
 Shown (in_literal q) m = has_quote m ≡ true
 Shown (at_backslash q) m = has_quote m ≡ true
 
-shown_quoted : (w : Place) (m : List ℕ) → Shown w m → Quoted w m
+shown_quoted : (w : LexState) (m : List ℕ) → Shown w m → Quoted w m
 shown_quoted in_text m h = tt
 shown_quoted at_slash m h = tt
 shown_quoted in_block m h = tt
@@ -153,24 +153,24 @@ from_backslash : (q : ℕ) (f : Bool) (m : List ℕ) → has_quote m ≡ true �
 from_backslash q true m h = tt
 from_backslash q false m h = h
 
-shown_step : (w : Place) (m : List ℕ) (b : ℕ) → Quoted w m → Shown (next w b) ((if opens w b then blank_last m else m) ++ shows w b ∷ [])
+shown_step : (w : LexState) (m : List ℕ) (b : ℕ) → Quoted w m → Shown (next_state w b) ((if opens_comment w b then blank_last m else m) ++ masked_byte w b ∷ [])
 shown_step in_text m b h = from_text (b == slash) (is_quote b) m b refl refl
 shown_step at_slash m b h = from_slash (b == star) (b == slash) (is_quote b) m b refl refl refl
 shown_step in_block m b h = from_block (b == star) (m ++ space ∷ [])
 shown_step at_star m b h = from_star (b == slash) (b == star) (m ++ space ∷ [])
-shown_step in_line m b h = from_line (b == line_feed) (m ++ (if b == line_feed then b else space) ∷ [])
-shown_step (in_literal q) m b h = from_literal q (b == line_feed) (b == q) (b == backslash) (m ++ b ∷ []) (quote_before m b h)
-shown_step (at_backslash q) m b h = from_backslash q (b == line_feed) (m ++ b ∷ []) (quote_before m b h)
+shown_step in_line m b h = from_line (b == newline) (m ++ (if b == newline then b else space) ∷ [])
+shown_step (in_literal q) m b h = from_literal q (b == newline) (b == q) (b == backslash) (m ++ b ∷ []) (quote_before m b h)
+shown_step (at_backslash q) m b h = from_backslash q (b == newline) (m ++ b ∷ []) (quote_before m b h)
 
-quoted_all : (bytes : List ℕ) (w : Place) (m : List ℕ) → Quoted w m → Quoted (place_after w bytes) (masked_after w m bytes)
+quoted_all : (bytes : List ℕ) (w : LexState) (m : List ℕ) → Quoted w m → Quoted (place_after w bytes) (masked_after w m bytes)
 quoted_all [] w m h = h
 quoted_all (b ∷ bytes) w m h =
-    let n : List ℕ = (if opens w b then blank_last m else m) ++ shows w b ∷ [] in
-    quoted_all bytes (next w b) n (shown_quoted (next w b) n (shown_step w m b h))
+    let n : List ℕ = (if opens_comment w b then blank_last m else m) ++ masked_byte w b ∷ [] in
+    quoted_all bytes (next_state w b) n (shown_quoted (next_state w b) n (shown_step w m b h))
 
 -- after a byte at least, what is open is shown
-pub shown_all : (b : ℕ) (bytes : List ℕ) (w : Place) (m : List ℕ) → Quoted w m → Shown (place_after w (b ∷ bytes)) (masked_after w m (b ∷ bytes))
+pub shown_all : (b : ℕ) (bytes : List ℕ) (w : LexState) (m : List ℕ) → Quoted w m → Shown (place_after w (b ∷ bytes)) (masked_after w m (b ∷ bytes))
 shown_all b [] w m h = shown_step w m b h
 shown_all b (c ∷ bytes) w m h =
-    let n : List ℕ = (if opens w b then blank_last m else m) ++ shows w b ∷ [] in
-    shown_all c bytes (next w b) n (shown_quoted (next w b) n (shown_step w m b h))
+    let n : List ℕ = (if opens_comment w b then blank_last m else m) ++ masked_byte w b ∷ [] in
+    shown_all c bytes (next_state w b) n (shown_quoted (next_state w b) n (shown_step w m b h))

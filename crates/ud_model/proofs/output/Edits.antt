@@ -4,7 +4,7 @@ use Rattle.ud_model.specs.text.Lines.{Line, text_of}
 use Rattle.ud_model.specs.sections.Directives.{Span}
 use Rattle.ud_model.specs.sections.Pruning.{Part, an_if, an_elif, an_else, is_removed, any_true, gives_way, ends_with_first_true, endif_verdict, later_verdict}
 use Rattle.ud_model.specs.aids.SoFar.{verdict_so_far}
-use Rattle.ud_model.specs.answer.Printing.{Judged, if_word, piece_alone, complemented}
+use Rattle.ud_model.specs.answer.Printing.{Judged, opener_keyword, piece_alone, complemented}
 use Rattle.ud_model.specs.declared.cond.Cond.{Cond}
 use Rattle.ud_model.specs.declared.cond.Cond.TheVariants.{Yes, No, Unknown}
 use Rattle.ud_model.specs.declared.verdict.Verdict.{Verdict}
@@ -120,7 +120,7 @@ fits_by a b c false true n f g h = g refl
 fits_by a b c false false n f g h = h
 
 -- the word of a first directive in place of a keyword of four bytes at least isn't longer
-if_size : (n : ℕ) → 4 ≤ n → length (if_word n) ≤ n
+if_size : (n : ℕ) → 4 ≤ n → length (opener_keyword n) ≤ n
 if_size n h =
     fits_by _ _ _ (n == 7) (n == 8) n (λ e. let q : n ≡ 7 = eqb-true n 7 e in omega (arith, q)) (λ e. let q : n ≡ 8 = eqb-true n 8 e in omega (arith, q)) h
 

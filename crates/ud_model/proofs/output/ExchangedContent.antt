@@ -2,10 +2,10 @@
 use Rattle.std.proofs.Common.{◌≡◌, ℕ, ◌+◌, ◌-◌, ◌==◌, List, [], ◌∷◌, ◌++◌, length, take, Bool, true, false, not, ◌&&◌, Option, Some, if◌then◌else◌, refl, sym, ◌∙◌, ap, ap₂, append_assoc, arith, length-append, ◌⊎◌, inl, inr}
 use Rattle.std.proofs.Math.Bool.{and-false}
 use Rattle.std.proofs.lemmas.List.{take_at}
-use Rattle.ud_model.specs.text.Bytes.{past_white, word_in_front, past_word}
+use Rattle.ud_model.specs.text.Bytes.{skip_white, leading_word, skip_word}
 use Rattle.ud_model.specs.text.Scans.{Scan}
-use Rattle.ud_model.specs.sections.Directives.{Directive, cut_keyword, directive, text, content_of, past_sign, past_sign_of, has_cut_keyword, leaves_keyword, found_behind, directive_at, kind_of, role_of, test_of, is_cut_off, is_in_line}
-use Rattle.ud_model.specs.answer.Printing.{by_length, if_word}
+use Rattle.ud_model.specs.sections.Directives.{Directive, cut_keyword, directive, text, content_of, skip_hash_if_fresh, skip_hash, has_split_keyword, may_split_keyword, content_after_hash, directive_at, kind_of, role_of, test_of, is_continued_outside_comment, is_in_line}
+use Rattle.ud_model.specs.answer.Printing.{by_length, opener_keyword}
 use Rattle.ud_model.specs.declared.kind.Kind.{Kind}
 use Rattle.ud_model.specs.declared.kind.Kind.TheVariants.{If, Ifdef, Ifndef}
 use Rattle.ud_model.specs.declared.kind.Role.TheVariants.{IfGroup, ElifGroup}
@@ -14,17 +14,17 @@ use Rattle.ud_model.proofs.output.ByLength.{each_length}
 use Rattle.ud_model.proofs.output.Each.{Each}
 use Rattle.ud_model.proofs.output.DirectiveFront.{IsWhite, Front, directive_front, StartsDark}
 
-past_dark : (t : List ℕ) → StartsDark t → past_white t ≡ t
+past_dark : (t : List ℕ) → StartsDark t → skip_white t ≡ t
 past_dark [] d = absurd d
-past_dark (b ∷ t) d = ap (λ (w : Bool). if w then past_white t else b ∷ t) d
+past_dark (b ∷ t) d = ap (λ (w : Bool). if w then skip_white t else b ∷ t) d
 
-past_all : (ws t : List ℕ) → Each IsWhite ws → StartsDark t → past_white (ws ++ t) ≡ t
+past_all : (ws t : List ℕ) → Each IsWhite ws → StartsDark t → skip_white (ws ++ t) ≡ t
 past_all [] t h d = past_dark t d
-past_all (b ∷ ws) t h d = ap (λ (w : Bool). if w then past_white (ws ++ t) else b ∷ (ws ++ t)) h.0 ∙ past_all ws t h.1 d
+past_all (b ∷ ws) t h d = ap (λ (w : Bool). if w then skip_white (ws ++ t) else b ∷ (ws ++ t)) h.0 ∙ past_all ws t h.1 d
 
 -- the keyword isn't cut: the line joins no next one, or what follows the sign settles it
 abbrev pub Settled : Scan → List ℕ → Type 0
-Settled now tail = (now.joins_after ≡ false) ⊎ (leaves_keyword now tail ≡ false)
+Settled now tail = (now.joins_after ≡ false) ⊎ (may_split_keyword now tail ≡ false)
 
 uncut : (f j c l : Bool) → (j ≡ false) ⊎ (l ≡ false) → (f && j && c && l) ≡ false
 uncut false j c l h = refl
@@ -35,19 +35,19 @@ uncut true true true true (inl e) = e
 uncut true true true true (inr e) = e
 
 module _ (now : Scan) (ws gs tail : List ℕ) (k : Kind) (w : Each IsWhite ws) (g : Each IsWhite gs) (d : StartsDark tail) (m : now.masked ≡ (ws ++ 35 ∷ gs) ++ tail)
-    (f : now.fresh ≡ true) (s : Settled now tail) (kind : kind_of (word_in_front tail) ≡ Some k) where
-  sign_is : past_sign now.masked ≡ Some (gs ++ tail)
+    (f : now.fresh ≡ true) (s : Settled now tail) (kind : kind_of (leading_word tail) ≡ Some k) where
+  sign_is : skip_hash_if_fresh now.masked ≡ Some (gs ++ tail)
   sign_is =
-      ap past_sign (m ∙ append_assoc ws (35 ∷ gs) tail) ∙ ap past_sign_of (past_all ws (35 ∷ (gs ++ tail)) w refl)
+      ap skip_hash_if_fresh (m ∙ append_assoc ws (35 ∷ gs) tail) ∙ ap skip_hash (past_all ws (35 ∷ (gs ++ tail)) w refl)
 
-  tail_is : past_white (gs ++ tail) ≡ tail
+  tail_is : skip_white (gs ++ tail) ≡ tail
   tail_is = past_all gs tail g d
 
-  not_cut : has_cut_keyword now (past_sign now.masked) ≡ false
+  not_cut : has_split_keyword now (skip_hash_if_fresh now.masked) ≡ false
   not_cut =
-      ap (λ (o : Option (List ℕ)). has_cut_keyword now o) sign_is
-      ∙ ap (λ (t : List ℕ). now.fresh && now.joins_after && not (is_in_line now.comment) && leaves_keyword now t) tail_is
-      ∙ uncut now.fresh now.joins_after (not (is_in_line now.comment)) (leaves_keyword now tail) s
+      ap (λ (o : Option (List ℕ)). has_split_keyword now o) sign_is
+      ∙ ap (λ (t : List ℕ). now.fresh && now.joins_after && not (is_in_line now.comment) && may_split_keyword now t) tail_is
+      ∙ uncut now.fresh now.joins_after (not (is_in_line now.comment)) (may_split_keyword now tail) s
 
   at_is : length now.masked - length tail ≡ length (ws ++ 35 ∷ gs)
   at_is =
@@ -56,16 +56,16 @@ module _ (now : Scan) (ws gs tail : List ℕ) (k : Kind) (w : Each IsWhite ws) (
   -- a line that is seen so carries this directive
   pub carries : content_of now ≡ directive (record {
     kind = k;
-    keyword = record { at = length (ws ++ 35 ∷ gs); len = length (word_in_front tail) };
-    after = past_word tail;
-    broken = is_cut_off now;
+    keyword = record { at = length (ws ++ 35 ∷ gs); len = length (leading_word tail) };
+    after = skip_word tail;
+    broken = is_continued_outside_comment now;
   })
   carries =
-      ap (λ (t : Bool). if t then cut_keyword else found_behind now (past_sign now.masked)) not_cut
-      ∙ ap (λ (o : Option (List ℕ)). found_behind now o) sign_is
-      ∙ ap₂ (λ (b : Bool) (t : List ℕ). if b then directive_at now t (kind_of (word_in_front t)) else text) f tail_is
+      ap (λ (t : Bool). if t then cut_keyword else content_after_hash now (skip_hash_if_fresh now.masked)) not_cut
+      ∙ ap (λ (o : Option (List ℕ)). content_after_hash now o) sign_is
+      ∙ ap₂ (λ (b : Bool) (t : List ℕ). if b then directive_at now t (kind_of (leading_word t)) else text) f tail_is
       ∙ ap (λ (o : Option Kind). directive_at now tail o) kind
-      ∙ ap (λ (n : ℕ). directive (record { kind = k; keyword = record { at = n; len = length (word_in_front tail) }; after = past_word tail; broken = is_cut_off now })) at_is
+      ∙ ap (λ (n : ℕ). directive (record { kind = k; keyword = record { at = n; len = length (leading_word tail) }; after = skip_word tail; broken = is_continued_outside_comment now })) at_is
 
 -- a directive with another keyword, and two spaces more after it
 abbrev pub spaced : Directive → Kind → ℕ → Directive
@@ -95,25 +95,25 @@ to_if_test scan d e h =
     let p : Front scan d = directive_front scan d e in
     ap (λ (n : ℕ). test_of (if_kind n)) p.len_is ∙ tested_alike p.word d.kind p.kind_is h
 
-module _ (scan now : Scan) (d : Directive) (e : content_of scan ≡ directive d) (f : now.fresh ≡ scan.fresh) (c : is_cut_off now ≡ is_cut_off scan) where
+module _ (scan now : Scan) (d : Directive) (e : content_of scan ≡ directive d) (f : now.fresh ≡ scan.fresh) (c : is_continued_outside_comment now ≡ is_continued_outside_comment scan) where
   with_tail : (tail : List ℕ) (k : Kind) (n : ℕ) → now.masked ≡ take d.keyword.at scan.masked ++ tail → StartsDark tail → Settled now tail →
-      kind_of (word_in_front tail) ≡ Some k → length (word_in_front tail) ≡ n → past_word tail ≡ 32 ∷ 32 ∷ d.after → content_of now ≡ directive (spaced d k n)
+      kind_of (leading_word tail) ≡ Some k → length (leading_word tail) ≡ n → skip_word tail ≡ 32 ∷ 32 ∷ d.after → content_of now ≡ directive (spaced d k n)
   with_tail tail k n m dark settled kind long rest =
       let p : Front scan d = directive_front scan d e in
       let head : take d.keyword.at scan.masked ≡ p.white ++ 35 ∷ p.gap =
       ap₂ (λ (n : ℕ) (t : List ℕ). take n t) p.at_is p.masked_is ∙ take_at (p.white ++ 35 ∷ p.gap) (p.word ++ d.after) (length (p.white ++ 35 ∷ p.gap)) refl in
       carries now p.white p.gap tail k p.whites p.gaps dark (m ∙ ap (λ (t : List ℕ). t ++ tail) head) (f ∙ p.fresh_is) settled kind
-      ∙ ap₂ (λ (q : ℕ) (b : Bool). directive (record { kind = k; keyword = record { at = q; len = length (word_in_front tail) }; after = past_word tail; broken = b }))
+      ∙ ap₂ (λ (q : ℕ) (b : Bool). directive (record { kind = k; keyword = record { at = q; len = length (leading_word tail) }; after = skip_word tail; broken = b }))
       (sym p.at_is) (c ∙ sym p.broken_is)
       ∙ ap₂ (λ (u : ℕ) (t : List ℕ). directive (record { kind = k; keyword = record { at = d.keyword.at; len = u }; after = t; broken = d.broken })) long rest
 
   -- the word and what follows are this keyword and two spaces more
   record IsWord (word : List ℕ) (k : Kind) (n : ℕ) : Type 0 where
     dark : StartsDark (word ++ d.after)
-    settled : leaves_keyword now (word ++ d.after) ≡ false
-    kind : kind_of (word_in_front (word ++ d.after)) ≡ Some k
-    long : length (word_in_front (word ++ d.after)) ≡ n
-    rest : past_word (word ++ d.after) ≡ 32 ∷ 32 ∷ d.after
+    settled : may_split_keyword now (word ++ d.after) ≡ false
+    kind : kind_of (leading_word (word ++ d.after)) ≡ Some k
+    long : length (leading_word (word ++ d.after)) ≡ n
+    rest : skip_word (word ++ d.after) ≡ 32 ∷ 32 ∷ d.after
 
   with_word : (word : List ℕ) (k : Kind) (n : ℕ) → IsWord word k n → now.masked ≡ take d.keyword.at scan.masked ++ (word ++ d.after) → content_of now ≡ directive (spaced d k n)
   with_word word k n w m = with_tail (word ++ d.after) k n m w.dark (inr w.settled) w.kind w.long w.rest
@@ -126,20 +126,20 @@ module _ (scan now : Scan) (d : Directive) (e : content_of scan ≡ directive d)
   by_words {a} {b} {c} {i} {j} {k} {l} {m} {n} x y z false false e = with_word c k n z e
 
   -- with the word of a first directive in place of its keyword it is one, with the same text after two spaces
-  pub to_if_content : now.masked ≡ take d.keyword.at scan.masked ++ (if_word d.keyword.len ++ d.after) → content_of now ≡ directive (spaced d (if_kind d.keyword.len) (if_len d.keyword.len))
+  pub to_if_content : now.masked ≡ take d.keyword.at scan.masked ++ (opener_keyword d.keyword.len ++ d.after) → content_of now ≡ directive (spaced d (if_kind d.keyword.len) (if_len d.keyword.len))
   to_if_content m =
-      by_words (record { dark = refl; settled = and-false (is_cut_off now); kind = refl; long = refl; rest = refl })
-      (record { dark = refl; settled = and-false (is_cut_off now); kind = refl; long = refl; rest = refl })
-      (record { dark = refl; settled = and-false (is_cut_off now); kind = refl; long = refl; rest = refl }) (d.keyword.len == 7) (d.keyword.len == 8) m
+      by_words (record { dark = refl; settled = and-false (is_continued_outside_comment now); kind = refl; long = refl; rest = refl })
+      (record { dark = refl; settled = and-false (is_continued_outside_comment now); kind = refl; long = refl; rest = refl })
+      (record { dark = refl; settled = and-false (is_continued_outside_comment now); kind = refl; long = refl; rest = refl }) (d.keyword.len == 7) (d.keyword.len == 8) m
 
 -- a line that ends after `else` or `endif` in place of its keyword, and joins no other
 pub cut_content : (scan now : Scan) (d : Directive) (word : List ℕ) (k : Kind) → content_of scan ≡ directive d → now.masked ≡ take d.keyword.at scan.masked ++ word →
-    now.fresh ≡ scan.fresh → now.joins_after ≡ false → is_cut_off now ≡ false → StartsDark word → word_in_front word ≡ word → past_word word ≡ [] → kind_of word ≡ Some k →
+    now.fresh ≡ scan.fresh → now.joins_after ≡ false → is_continued_outside_comment now ≡ false → StartsDark word → leading_word word ≡ word → skip_word word ≡ [] → kind_of word ≡ Some k →
     content_of now ≡ directive (record { kind = k; keyword = record { at = d.keyword.at; len = length word }; after = []; broken = false })
 cut_content scan now d word k e m f j c dark front rest kind =
     let p : Front scan d = directive_front scan d e in
     let head : take d.keyword.at scan.masked ≡ p.white ++ 35 ∷ p.gap =
     ap₂ (λ (n : ℕ) (t : List ℕ). take n t) p.at_is p.masked_is ∙ take_at (p.white ++ 35 ∷ p.gap) (p.word ++ d.after) (length (p.white ++ 35 ∷ p.gap)) refl in
     carries now p.white p.gap word k p.whites p.gaps dark (m ∙ ap (λ (t : List ℕ). t ++ word) head) (f ∙ p.fresh_is) (inl j) (ap kind_of front ∙ kind)
-    ∙ ap₂ (λ (n : ℕ) (b : Bool). directive (record { kind = k; keyword = record { at = n; len = length (word_in_front word) }; after = past_word word; broken = b })) (sym p.at_is) c
+    ∙ ap₂ (λ (n : ℕ) (b : Bool). directive (record { kind = k; keyword = record { at = n; len = length (leading_word word) }; after = skip_word word; broken = b })) (sym p.at_is) c
     ∙ ap₂ (λ (u t : List ℕ). directive (record { kind = k; keyword = record { at = d.keyword.at; len = length u }; after = t; broken = false })) front rest

@@ -1,10 +1,10 @@
 -- A line whose keyword is exchanged is seen as before but for the keyword, and leaves off where it did.
 use Rattle.std.proofs.Common.{◌≡◌, ◌≢◌, ℕ, suc, ◌+◌, ◌==◌, List, [], ◌∷◌, ◌++◌, length, take, drop, Bool, true, false, refl, sym, ◌∙◌, ap, ap₂, subst, append-nil, append_assoc, arith, length-append, length-take}
 use Rattle.std.proofs.lemmas.List.{take-append-drop, take_at, drop_at}
-use Rattle.ud_model.specs.text.Bytes.{space, line_feed, is_white}
+use Rattle.ud_model.specs.text.Bytes.{space, newline, is_white}
 use Rattle.ud_model.specs.text.Lines.{Line}
 use Rattle.ud_model.specs.text.Splicing.{content}
-use Rattle.ud_model.specs.aids.Places.{Place, in_text, at_slash, in_block, at_star, in_line, in_literal, at_backslash, fresh_at}
+use Rattle.ud_model.specs.aids.LexStates.{LexState, in_text, at_slash, in_block, at_star, in_line, in_literal, at_backslash, fresh_at}
 use Rattle.ud_model.specs.sections.Directives.{Directive, directive, content_of}
 use Rattle.ud_model.proofs.output.Each.{Each}
 use Rattle.ud_model.proofs.text.ScanLaws.{place_after, white_after, masked_after, scan_from}
@@ -13,7 +13,7 @@ use Rattle.ud_model.proofs.output.KeywordPlace.{Found, found_by, length-masked_a
 use Rattle.ud_model.proofs.output.DirectiveFront.{Front, directive_front, quiet_word, keyword_quiet, StartsDark, keyword_dark, front_unquoted, front_unslashed}
 
 -- an open literal isn't white
-abbrev pub Sane : Place → Bool → Type 0
+abbrev pub Sane : LexState → Bool → Type 0
 Sane in_text white = Unit {0}
 Sane at_slash white = Unit {0}
 Sane in_block white = Unit {0}
@@ -23,7 +23,7 @@ Sane (in_literal q) white = white ≡ false
 Sane (at_backslash q) white = white ≡ false
 
 -- if a line is fresh no literal is open before it
-fresh_quoted : (w : Place) (white : Bool) (t : List ℕ) → Sane w white → fresh_at w white t ≡ true → Quoted w []
+fresh_quoted : (w : LexState) (white : Bool) (t : List ℕ) → Sane w white → fresh_at w white t ≡ true → Quoted w []
 fresh_quoted in_text white t s f = tt
 fresh_quoted at_slash white t s f = tt
 fresh_quoted in_block white t s f = tt
@@ -33,7 +33,7 @@ fresh_quoted (in_literal q) white t s f = let e : true ≡ false = sym f ∙ s i
 fresh_quoted (at_backslash q) white t s f = let e : true ≡ false = sym f ∙ s in cc
 
 -- only the first byte of a line counts for whether it is fresh
-fresh_first : (w : Place) (white : Bool) (a t u : List ℕ) (n : ℕ) → length a ≡ suc n → fresh_at w white (a ++ t) ≡ fresh_at w white (a ++ u)
+fresh_first : (w : LexState) (white : Bool) (a t u : List ℕ) (n : ℕ) → length a ≡ suc n → fresh_at w white (a ++ t) ≡ fresh_at w white (a ++ u)
 fresh_first w white [] t u n e = absurd (omega arith)
 fresh_first in_text white (y ∷ a) t u n e = refl
 fresh_first at_slash white (y ∷ a) t u n e = refl
@@ -44,7 +44,7 @@ fresh_first (in_literal q) white (y ∷ a) t u n e = refl
 fresh_first (at_backslash q) white (y ∷ a) t u n e = refl
 
 -- if a keyword is seen, the text before it is between pieces
-keyword_place : (w : Place) (bytes front : List ℕ) (c : ℕ) (rest : List ℕ) (n : ℕ) → has_quote front ≡ false → ends_in_slash front ≡ false → c ≢ space → c ≢ line_feed →
+keyword_place : (w : LexState) (bytes front : List ℕ) (c : ℕ) (rest : List ℕ) (n : ℕ) → has_quote front ≡ false → ends_in_slash front ≡ false → c ≢ space → c ≢ newline →
     Quoted w [] → length front ≡ suc n → masked_after w [] bytes ≡ front ++ c ∷ rest → Found w bytes front c rest
 keyword_place w [] front c rest n u s p q k l e =
     let f : 0 ≡ length (front ++ c ∷ rest) = ap (λ (t : List ℕ). length t) e in
@@ -59,7 +59,7 @@ keyword_place w (x ∷ bytes) front c rest n u s p q k l e =
     (found_by c front u s p q w x (take n bytes) (drop n bytes) rest k long (subst (λ (t : List ℕ). masked_after w [] t ≡ front ++ c ∷ rest) (sym split) e))
 
 -- A line with a directive: what stands before its keyword, the keyword, and what follows.
-pub record Spelled (w : Place) (white : Bool) (bytes : List ℕ) (d : Directive) : Type 0 where
+pub record Spelled (w : LexState) (white : Bool) (bytes : List ℕ) (d : Directive) : Type 0 where
   pub before : List ℕ
   pub first : ℕ
   pub word : List ℕ
@@ -75,13 +75,13 @@ pub record Spelled (w : Place) (white : Bool) (bytes : List ℕ) (d : Directive)
   pub inert : Each IsInert (first ∷ word)
   pub dark : is_white first ≡ false
 
-spelled_by : (w : Place) (white : Bool) (bytes ws gs keyword : List ℕ) (d : Directive) → Quoted w [] → has_quote (ws ++ 35 ∷ gs) ≡ false → ends_in_slash (ws ++ 35 ∷ gs) ≡ false →
+spelled_by : (w : LexState) (white : Bool) (bytes ws gs keyword : List ℕ) (d : Directive) → Quoted w [] → has_quote (ws ++ 35 ∷ gs) ≡ false → ends_in_slash (ws ++ 35 ∷ gs) ≡ false →
     Each IsInert keyword → Each (λ c. c ≢ space) keyword → StartsDark keyword → d.keyword.at ≡ length (ws ++ 35 ∷ gs) → d.keyword.len ≡ length keyword →
     masked_after w [] bytes ≡ (ws ++ 35 ∷ gs) ++ (keyword ++ d.after) → Spelled w white bytes d
 spelled_by w white bytes ws gs [] d q u s i n k a l e = absurd k
 spelled_by w white bytes ws gs (c ∷ word) d q u s i n k a l e =
     let some : length (ws ++ 35 ∷ gs) ≡ suc (length ws + length gs) = omega (arith, length-append ws (35 ∷ gs)) in
-    let no_feed : c ≢ line_feed = λ h. let f : true ≡ false = sym (ap (λ (x : ℕ). x == line_feed) h) ∙ i.0.no_feed in cc in
+    let no_feed : c ≢ newline = λ h. let f : true ≡ false = sym (ap (λ (x : ℕ). x == newline) h) ∙ i.0.no_feed in cc in
     let f : Found w bytes (ws ++ 35 ∷ gs) c (word ++ d.after) = keyword_place w bytes (ws ++ 35 ∷ gs) c (word ++ d.after) (length ws + length gs) u s n.0 no_feed q some e in
     let r : (more : List ℕ) × (f.behind ≡ (c ∷ word) ++ more) × (masked_after in_text [] more ≡ d.after) = word_stands (c ∷ word) f.behind d.after i n f.goes_on in
     let long : length (ws ++ 35 ∷ gs) ≡ length f.before = ap (λ (t : List ℕ). length t) (sym f.masks) ∙ length-masked_after f.before w [] ∙ omega arith in
@@ -103,7 +103,7 @@ spelled_by w white bytes ws gs (c ∷ word) d q u s i n k a l e =
     }
 
 -- how a line with a directive is spelled
-pub spelled : (w : Place) (white before : Bool) (l : Line) (d : Directive) → Sane w white → content_of (scan_from w white before l) ≡ directive d → Spelled w white (content l) d
+pub spelled : (w : LexState) (white before : Bool) (l : Line) (d : Directive) → Sane w white → content_of (scan_from w white before l) ≡ directive d → Spelled w white (content l) d
 unfolding scan_from
 spelled w white before l d s e =
     let f : Front (scan_from w white before l) d = directive_front (scan_from w white before l) d e in
@@ -117,14 +117,14 @@ drop_two a b c n e =
     ap (λ (t : List ℕ). drop n t) (sym (append_assoc a b c)) ∙ drop_at (a ++ b) c n (length-append a b ∙ sym e)
 
 -- a line whose keyword is exchanged is seen as before but for its keyword, and leaves off where it did.
-pub record Exchanged (w : Place) (white before : Bool) (l k : Line) (d : Directive) (word : List ℕ) : Type 0 where
+pub record Exchanged (w : LexState) (white before : Bool) (l k : Line) (d : Directive) (word : List ℕ) : Type 0 where
   pub masked_is : (scan_from w white before k).masked ≡ take d.keyword.at (scan_from w white before l).masked ++ (word ++ d.after)
   pub fresh_is : (scan_from w white before k).fresh ≡ (scan_from w white before l).fresh
   pub place_is : place_after w (content k) ≡ place_after w (content l)
   pub white_is : white_after w white (content k) ≡ white_after w white (content l)
 
 -- if the new keyword begins nothing either, a line is seen so
-pub exchanged_scan : (w : Place) (white before : Bool) (l k : Line) (d : Directive) (word : List ℕ) → Sane w white →
+pub exchanged_scan : (w : LexState) (white before : Bool) (l k : Line) (d : Directive) (word : List ℕ) → Sane w white →
     content_of (scan_from w white before l) ≡ directive d → Each IsInert word → StartsDark word →
     content k ≡ take d.keyword.at (content l) ++ (word ++ drop (d.keyword.at + d.keyword.len) (content l)) →
     Exchanged w white before l k d word
@@ -156,13 +156,13 @@ exchanged_scan w white before l k d (c ∷ word) s e i n are =
     }
 
 -- a line that ends after its new keyword is seen up to there, and leaves off between pieces
-pub record CutOff (w : Place) (white before : Bool) (l k : Line) (d : Directive) (word : List ℕ) : Type 0 where
+pub record CutOff (w : LexState) (white before : Bool) (l k : Line) (d : Directive) (word : List ℕ) : Type 0 where
   pub masked_is : (scan_from w white before k).masked ≡ take d.keyword.at (scan_from w white before l).masked ++ word
   pub fresh_is : (scan_from w white before k).fresh ≡ (scan_from w white before l).fresh
   pub place_is : place_after w (content k) ≡ in_text
 
 -- if that begins nothing, a line is seen so
-pub cut_scan : (w : Place) (white before : Bool) (l k : Line) (d : Directive) (word : List ℕ) → Sane w white →
+pub cut_scan : (w : LexState) (white before : Bool) (l k : Line) (d : Directive) (word : List ℕ) → Sane w white →
     content_of (scan_from w white before l) ≡ directive d → Each IsInert word → content k ≡ take d.keyword.at (content l) ++ word → CutOff w white before l k d word
 unfolding scan_from
 cut_scan w white before l k d word s e i are =

@@ -5,21 +5,21 @@ use Rattle.std.specs.List.{ends_with}
 use Rattle.std.proofs.lemmas.Bool.Decides.{Decides-eqb}
 use Rattle.std.proofs.lemmas.Slice.Eq.{ends_is}
 use Rattle.std.proofs.lemmas.List.{take-append-drop, take_at, same_from_push}
-use Rattle.ud_model.specs.text.Lines.{NoFeed, IsWhole, IsUnended, AreFormed, ending_of, Line, line_at}
+use Rattle.ud_model.specs.text.Lines.{NoNewline, IsWhole, IsUnterminated, AreFormed, ending_of, Line, line_at}
 use Rattle.ud_model.specs.sections.Directives.{Span}
-use Rattle.ud_model.specs.answer.Printing.{if_word, piece_by}
+use Rattle.ud_model.specs.answer.Printing.{opener_keyword, piece_by}
 use Rattle.ud_model.specs.declared.verdict.Verdict.{Verdict}
 use Rattle.ud_model.specs.declared.verdict.Verdict.TheVariants.{Keep, Remove, ToIf, ToElse, ToEndif}
 use Rattle.ud_model.proofs.output.ByLength.{each_length}
 use Rattle.ud_model.proofs.text.Pushes.{ByPush, none, push, by_push}
 use Rattle.ud_model.proofs.text.LinesLemmas.{no_feed-append, body-ending}
 
-no_feed_parts : (p q : List ℕ) → NoFeed (p ++ q) → NoFeed p × NoFeed q
+no_feed_parts : (p q : List ℕ) → NoNewline (p ++ q) → NoNewline p × NoNewline q
 no_feed_parts [] q h = (tt, h)
-no_feed_parts (b ∷ p) q h = let r : NoFeed p × NoFeed q = no_feed_parts p q h.1 in ((h.0, r.0), r.1)
+no_feed_parts (b ∷ p) q h = let r : NoNewline p × NoNewline q = no_feed_parts p q h.1 in ((h.0, r.0), r.1)
 
-no_feed_cut : (n : ℕ) (t : List ℕ) → NoFeed t → NoFeed (take n t) × NoFeed (drop n t)
-no_feed_cut n t h = no_feed_parts (take n t) (drop n t) (subst NoFeed (sym (take-append-drop n t)) h)
+no_feed_cut : (n : ℕ) (t : List ℕ) → NoNewline t → NoNewline (take n t) × NoNewline (drop n t)
+no_feed_cut n t h = no_feed_parts (take n t) (drop n t) (subst NoNewline (sym (take-append-drop n t)) h)
 
 -- the ending of a whole line
 abbrev pub IsEnd : List ℕ → Type 0
@@ -36,31 +36,31 @@ whole_ending l (front, n, e) =
     by_tests false false h = cc
 
 -- a body and an ending
-ended : (b e : List ℕ) → NoFeed b → IsEnd e → IsWhole (b ++ e)
+ended : (b e : List ℕ) → NoNewline b → IsEnd e → IsWhole (b ++ e)
 ended b e n (inl h) = (b ++ 13 ∷ [], no_feed-append b (13 ∷ []) n ((λ p. omega arith), tt), ap (λ (t : List ℕ). b ++ t) h ∙ sym (append_assoc b (13 ∷ []) (10 ∷ [])))
 ended b e n (inr h) = (b, n, ap (λ (t : List ℕ). b ++ t) h)
 
 abbrev body_of : List ℕ → List ℕ
 body_of t = take (length t - length (ending_of t)) t
 
-whole_body : (t : List ℕ) → IsWhole t → NoFeed (body_of t)
+whole_body : (t : List ℕ) → IsWhole t → NoNewline (body_of t)
 whole_body t (front, n, e) = go (whole_ending t (front, n, e))
   where
-    go : IsEnd (ending_of t) → NoFeed (body_of t)
+    go : IsEnd (ending_of t) → NoNewline (body_of t)
     go (inl h) =
         let p : (body_of t ++ 13 ∷ []) ++ 10 ∷ [] ≡ front ++ 10 ∷ [] =
         append_assoc (body_of t) (13 ∷ []) (10 ∷ []) ∙ ap (λ (x : List ℕ). body_of t ++ x) (sym h) ∙ body-ending t ∙ e in
         let q = same_from_push (body_of t ++ 13 ∷ []) front 10 10 p in
-        (no_feed_parts (body_of t) (13 ∷ []) (subst NoFeed (sym q.0) n)).0
+        (no_feed_parts (body_of t) (13 ∷ []) (subst NoNewline (sym q.0) n)).0
     go (inr h) =
         let p : body_of t ++ 10 ∷ [] ≡ front ++ 10 ∷ [] = ap (λ (x : List ℕ). body_of t ++ x) (sym h) ∙ body-ending t ∙ e in
-        subst NoFeed (sym (same_from_push (body_of t) front 10 10 p).0) n
+        subst NoNewline (sym (same_from_push (body_of t) front 10 10 p).0) n
 
 -- what is printed of a body
 unfoldable pub edited_body : Verdict → Span → List ℕ → List ℕ
 edited_body Keep k b = b
 edited_body Remove k b = b
-edited_body ToIf k b = (take k.at b ++ if_word k.len) ++ drop (k.at + k.len) b
+edited_body ToIf k b = (take k.at b ++ opener_keyword k.len) ++ drop (k.at + k.len) b
 edited_body ToElse k b = take k.at b ++ codes "else"
 edited_body ToEndif k b = take k.at b ++ codes "endif"
 
@@ -84,19 +84,19 @@ abbrev has_feed : List ℕ → Bool
 has_feed [] = false
 has_feed (b ∷ bs) = (b == 10) || has_feed bs
 
-word_no_feed : (w : List ℕ) → has_feed w ≡ false → NoFeed w
+word_no_feed : (w : List ℕ) → has_feed w ≡ false → NoNewline w
 word_no_feed [] e = tt
 word_no_feed (b ∷ w) e =
     let p : ((b == 10) ≡ false) × (has_feed w ≡ false) = or_parts (b == 10) (has_feed w) e in
     (λ h. let f : true ≡ false = sym (ap (λ (x : ℕ). x == 10) h) ∙ p.0 in cc, word_no_feed w p.1)
 
-edited_no_feed : (v : Verdict) (k : Span) (b : List ℕ) → NoFeed b → NoFeed (edited_body v k b)
+edited_no_feed : (v : Verdict) (k : Span) (b : List ℕ) → NoNewline b → NoNewline (edited_body v k b)
 unfolding edited_body
 edited_no_feed Keep k b n = n
 edited_no_feed Remove k b n = n
 edited_no_feed ToIf k b n =
-    no_feed-append (take k.at b ++ if_word k.len) (drop (k.at + k.len) b)
-    (no_feed-append (take k.at b) (if_word k.len) (no_feed_cut k.at b n).0 (word_no_feed (if_word k.len) (each_length (λ w. has_feed w ≡ false) refl refl refl k.len)))
+    no_feed-append (take k.at b ++ opener_keyword k.len) (drop (k.at + k.len) b)
+    (no_feed-append (take k.at b) (opener_keyword k.len) (no_feed_cut k.at b n).0 (word_no_feed (opener_keyword k.len) (each_length (λ w. has_feed w ≡ false) refl refl refl k.len)))
     (no_feed_cut (k.at + k.len) b n).1
 edited_no_feed ToElse k b n = no_feed-append (take k.at b) (codes "else") (no_feed_cut k.at b n).0 (word_no_feed (codes "else") refl)
 edited_no_feed ToEndif k b n = no_feed-append (take k.at b) (codes "endif") (no_feed_cut k.at b n).0 (word_no_feed (codes "endif") refl)
@@ -115,25 +115,25 @@ nil_front [] b n e = n refl
 nil_front (x ∷ a) b n e = cc
 
 -- the piece of an unended line that is left is an unended line
-pub unended_piece : (v : Verdict) (k : Span) (n : ℕ) (t : List ℕ) → IsLeft v → IsUnended t → IsUnended (piece_by v k (line_at n t))
+pub unended_piece : (v : Verdict) (k : Span) (n : ℕ) (t : List ℕ) → IsLeft v → IsUnterminated t → IsUnterminated (piece_by v k (line_at n t))
 unfolding edited_body
-unended_piece Keep k n t h (s, w) = (subst (λ (x : List ℕ). x ≢ []) (sym (body-ending t)) s, subst NoFeed (sym (body-ending t)) w)
+unended_piece Keep k n t h (s, w) = (subst (λ (x : List ℕ). x ≢ []) (sym (body-ending t)) s, subst NoNewline (sym (body-ending t)) w)
 unended_piece Remove k n t h w = absurd h
 unended_piece ToIf k n t h (s, w) =
-    let p : NoFeed (body_of t) × NoFeed (ending_of t) = no_feed_parts (body_of t) (ending_of t) (subst NoFeed (sym (body-ending t)) w) in (
-      nil_front ((take k.at (body_of t) ++ if_word k.len) ++ drop (k.at + k.len) (body_of t)) (ending_of t)
-          (nil_front (take k.at (body_of t) ++ if_word k.len) (drop (k.at + k.len) (body_of t))
+    let p : NoNewline (body_of t) × NoNewline (ending_of t) = no_feed_parts (body_of t) (ending_of t) (subst NoNewline (sym (body-ending t)) w) in (
+      nil_front ((take k.at (body_of t) ++ opener_keyword k.len) ++ drop (k.at + k.len) (body_of t)) (ending_of t)
+          (nil_front (take k.at (body_of t) ++ opener_keyword k.len) (drop (k.at + k.len) (body_of t))
           (each_length (λ w. take k.at (body_of t) ++ w ≢ []) (not_nil (take k.at (body_of t)) (codes "fdef  ") 105) (not_nil (take k.at (body_of t)) (codes "fndef  ") 105)
           (not_nil (take k.at (body_of t)) (codes "f  ") 105) k.len)),
-      no_feed-append ((take k.at (body_of t) ++ if_word k.len) ++ drop (k.at + k.len) (body_of t)) (ending_of t) (edited_no_feed ToIf k (body_of t) p.0) p.1,
+      no_feed-append ((take k.at (body_of t) ++ opener_keyword k.len) ++ drop (k.at + k.len) (body_of t)) (ending_of t) (edited_no_feed ToIf k (body_of t) p.0) p.1,
     )
 unended_piece ToElse k n t h (s, w) =
-    let p : NoFeed (body_of t) × NoFeed (ending_of t) = no_feed_parts (body_of t) (ending_of t) (subst NoFeed (sym (body-ending t)) w) in (
+    let p : NoNewline (body_of t) × NoNewline (ending_of t) = no_feed_parts (body_of t) (ending_of t) (subst NoNewline (sym (body-ending t)) w) in (
       nil_front (take k.at (body_of t) ++ codes "else") (ending_of t) (not_nil (take k.at (body_of t)) (codes "lse") 101),
       no_feed-append (take k.at (body_of t) ++ codes "else") (ending_of t) (edited_no_feed ToElse k (body_of t) p.0) p.1,
     )
 unended_piece ToEndif k n t h (s, w) =
-    let p : NoFeed (body_of t) × NoFeed (ending_of t) = no_feed_parts (body_of t) (ending_of t) (subst NoFeed (sym (body-ending t)) w) in (
+    let p : NoNewline (body_of t) × NoNewline (ending_of t) = no_feed_parts (body_of t) (ending_of t) (subst NoNewline (sym (body-ending t)) w) in (
       nil_front (take k.at (body_of t) ++ codes "endif") (ending_of t) (not_nil (take k.at (body_of t)) (codes "ndif") 101),
       no_feed-append (take k.at (body_of t) ++ codes "endif") (ending_of t) (edited_no_feed ToEndif k (body_of t) p.0) p.1,
     )
@@ -179,7 +179,7 @@ edited_end q o Keep k b h = h
 edited_end q o Remove k b h = h
 edited_end q o ToIf k b h =
     end_drop q (k.at + k.len) b
-    (end_front q (take k.at b ++ if_word k.len) (drop (k.at + k.len) b) (by_push (drop (k.at + k.len) b)) refl
+    (end_front q (take k.at b ++ opener_keyword k.len) (drop (k.at + k.len) b) (by_push (drop (k.at + k.len) b)) refl
     (λ r. each_length (λ w. EndsIn q (take k.at b ++ w) → ⊥) (not_end q (take k.at b) (codes "ifdef ") 32 o.no_space) (not_end q (take k.at b) (codes "ifndef ") 32 o.no_space)
     (not_end q (take k.at b) (codes "if ") 32 o.no_space) k.len) h)
 edited_end q o ToElse k b h = absurd (not_end q (take k.at b) (codes "els") 101 o.no_else h)
@@ -209,17 +209,17 @@ ending_feed b n =
     (test_false (b ++ 10 ∷ []) (13 ∷ 10 ∷ []) (λ f e. n (f, (same_from_push b (f ++ 13 ∷ []) 10 10 (e ∙ sym (append_assoc f (13 ∷ []) (10 ∷ [])))).0)))
     ((ends_is Decides-eqb (b ++ 10 ∷ []) (10 ∷ []) (ends_with nat_eq (b ++ 10 ∷ []) (10 ∷ [])) refl).1 b refl)
 
-feed_inside : (f : List ℕ) → NoFeed (f ++ 10 ∷ []) → ⊥
+feed_inside : (f : List ℕ) → NoNewline (f ++ 10 ∷ []) → ⊥
 feed_inside [] h = h.0 refl
 feed_inside (x ∷ f) h = feed_inside f h.1
 
-feed_inside_both : (f : List ℕ) → NoFeed (f ++ 13 ∷ 10 ∷ []) → ⊥
+feed_inside_both : (f : List ℕ) → NoNewline (f ++ 13 ∷ 10 ∷ []) → ⊥
 feed_inside_both [] h = h.1.0 refl
 feed_inside_both (x ∷ f) h = feed_inside_both f h.1
 
-pub ending_none : (b : List ℕ) → NoFeed b → ending_of b ≡ []
+pub ending_none : (b : List ℕ) → NoNewline b → ending_of b ≡ []
 ending_none b n =
-    by_ends b false false (test_false b (13 ∷ 10 ∷ []) (λ f e. feed_inside_both f (subst NoFeed e n))) (test_false b (10 ∷ []) (λ f e. feed_inside f (subst NoFeed e n)))
+    by_ends b false false (test_false b (13 ∷ 10 ∷ []) (λ f e. feed_inside_both f (subst NoNewline e n))) (test_false b (10 ∷ []) (λ f e. feed_inside f (subst NoNewline e n)))
 
 cr_or_not : (t : List ℕ) → ending_of t ≡ 10 ∷ [] → EndsIn 13 (body_of t) → ⊥
 unfolding EndsIn
@@ -239,21 +239,21 @@ whole_keeps v k t w = go (whole_ending t w)
         ap (λ (x : List ℕ). ending_of (edited_body v k (body_of t) ++ x)) e
         ∙ ending_feed (edited_body v k (body_of t)) (λ h. cr_or_not t e (edited_end 13 (record { no_space = refl; no_else = refl; no_endif = refl }) v k (body_of t) h)) ∙ sym e
 
-unended_keeps : (v : Verdict) (k : Span) (t : List ℕ) → IsUnended t → ending_of (edited_body v k (body_of t) ++ ending_of t) ≡ ending_of t
+unended_keeps : (v : Verdict) (k : Span) (t : List ℕ) → IsUnterminated t → ending_of (edited_body v k (body_of t) ++ ending_of t) ≡ ending_of t
 unended_keeps v k t (s, w) =
     let none : ending_of t ≡ [] = ending_none t w in
-    let b : NoFeed (body_of t) = (no_feed_parts (body_of t) (ending_of t) (subst NoFeed (sym (body-ending t)) w)).0 in
+    let b : NoNewline (body_of t) = (no_feed_parts (body_of t) (ending_of t) (subst NoNewline (sym (body-ending t)) w)).0 in
     ap (λ (x : List ℕ). ending_of (edited_body v k (body_of t) ++ x)) none
     ∙ ap ending_of (append-nil (edited_body v k (body_of t))) ∙ ending_none (edited_body v k (body_of t)) (edited_no_feed v k (body_of t) b) ∙ sym none
 
 -- what is left of a line, cut again into body and ending
-pub left_line : (v : Verdict) (k : Span) (n m : ℕ) (t : List ℕ) → IsLeft v → IsWhole t ⊎ IsUnended t →
+pub left_line : (v : Verdict) (k : Span) (n m : ℕ) (t : List ℕ) → IsLeft v → IsWhole t ⊎ IsUnterminated t →
     line_at m (piece_by v k (line_at n t)) ≡ record { body = edited_body v k (body_of t); ending = ending_of t; number = m }
 left_line v k n m t h w =
     ap (λ (q : List ℕ). line_at m q) (piece_parts v k (line_at n t) h)
     ∙ ap₂ (λ (e b : List ℕ). let l : Line = record { body = b; ending = e; number = m } in l) (keeps w) (by_ending (keeps w))
   where
-    keeps : IsWhole t ⊎ IsUnended t → ending_of (edited_body v k (body_of t) ++ ending_of t) ≡ ending_of t
+    keeps : IsWhole t ⊎ IsUnterminated t → ending_of (edited_body v k (body_of t) ++ ending_of t) ≡ ending_of t
     keeps (inl a) = whole_keeps v k t a
     keeps (inr a) = unended_keeps v k t a
 

@@ -5,10 +5,10 @@ use Rattle.ud_model.specs.text.Lines.{Line}
 use Rattle.ud_model.specs.text.Scans.{Reading}
 use Rattle.ud_model.specs.sections.Directives.{Content, cut_keyword, directive, text, content_of, role_of, test_of}
 use Rattle.ud_model.specs.conditions.Table.{Argument, Entry, entry_in, entry_from}
-use Rattle.ud_model.specs.conditions.Conditions.{Decision, Rules, decision_on, decided_by, begins_section, condition_of, ifdef_by, ifdef_decision, sole_name, undecided}
+use Rattle.ud_model.specs.conditions.Conditions.{Decision, Rules, decision_on, decision_by_test, begins_section, condition_of, ifdef_by, ifdef_decision, sole_name, undecided}
 use Rattle.ud_model.specs.sections.Tree.{Item, Elifs, Head, Tree, text_line, if_line, elif_line, else_line, endif_line, nothing, first, elif, if_head, elif_head, else_head, closed, open_section, lines, lines_of_nodes, lines_of_elifs, lines_of_head, is_ignoring, opener_of_elifs, opener_of_head}
 use Rattle.ud_model.specs.sections.Items.{Options, item_of, item_by, directive_item, mode_by, mode_after, read_after, next_item, rules_of}
-use Rattle.ud_model.specs.sections.Faults.{AreSound, no_lines, one_more}
+use Rattle.ud_model.specs.sections.Faults.{AreFaultless, no_lines, one_more}
 use Rattle.ud_model.specs.output.Rereading.{NoneIgnores, AreRead, no_items, one_item}
 use Rattle.ud_model.specs.declared.kind.Kind.{Kind}
 use Rattle.ud_model.specs.declared.kind.Role.{Role}
@@ -58,7 +58,7 @@ calm_ifdef : (name : Option (List ℕ)) (table : List Argument) → NoneIgnores 
 calm_ifdef None table n = refl
 calm_ifdef (Some name) table n = calm_by (entry_in table name) (calm_from None table name tt n)
 
-calm_test : (p : Test) (after : List ℕ) (table : List Argument) (rules : Rules) → NoneIgnores table → (decided_by p after table rules).ignoring ≡ false
+calm_test : (p : Test) (after : List ℕ) (table : List Argument) (rules : Rules) → NoneIgnores table → (decision_by_test p after table rules).ignoring ≡ false
 calm_test Nonzero after table rules n = refl
 calm_test Defined after table rules n = calm_ifdef (sole_name after) table n
 calm_test Undefined after table rules n = calm_ifdef (sole_name after) table n
@@ -117,7 +117,7 @@ module _ (o : Options) (n : NoneIgnores o.table) where
   all_heed m _ (one_read ys r l) = each_both Heeds ys (item_of o (read_after ys m l) ∷ []) (all_heed m ys r) (item_heeds o (read_after ys m l) n, tt)
 
   -- and so does each of sound items
-  pub sound_heed : (xs : List (Item Reading)) (t : Tree Reading) → AreSound o xs t → Each Heeds xs
+  pub sound_heed : (xs : List (Item Reading)) (t : Tree Reading) → AreFaultless o xs t → Each Heeds xs
   sound_heed _ _ no_lines = tt
   sound_heed _ _ (one_more xs t s l u e w) = each_both Heeds xs (next_item o xs t l ∷ []) (sound_heed xs t s) (item_heeds o (read_after xs (mode_after o t) l) n, tt)
 

@@ -12,7 +12,7 @@ use Rattle.ud_model.specs.sections.Tree.{Item, Opener, Tree, text_line, if_line,
 use Rattle.ud_model.specs.sections.Pruning.{Part, an_if, an_elif, an_else, Mark, marked, is_kept, is_inside_kept, is_removed, conds_of_elifs, conds_of_groups, endif_verdict}
 use Rattle.ud_model.specs.aids.SoFar.{verdict_so_far, marks_so_far}
 use Rattle.ud_model.specs.sections.Items.{reading_of}
-use Rattle.ud_model.specs.sections.Faults.{keeps_rest, is_spoiled_behind}
+use Rattle.ud_model.specs.sections.Faults.{keeps_rest, is_obfuscated_after}
 use Rattle.ud_model.proofs.sections.Growth.{Adds, adds_text, adds_if, elif_after_if, elif_after_elif, else_after_if, else_after_elif, adds_endif, adds_under, complete}
 use Rattle.ud_model.proofs.sections.Stays.{groups_so_far-complete}
 use Rattle.ud_model.proofs.output.Suited.{Suits, suits_marked, suits_if, suits_elif, suits_else, suits_endif}
@@ -156,7 +156,7 @@ inside_not v inside k h = keeps_stays v h ∙ ap (λ (b : Bool). not b) (sym (k 
 
 module _ (removed : Bool) where
   -- what is known after a line that isn't spoiled and joins the next one
-  pub carried_step : {x : Item Reading} {before behind : Bool} {m : Mark} → Does x before m behind → is_spoiled_behind removed x m ≡ false → Carried x m behind
+  pub carried_step : {x : Item Reading} {before behind : Bool} {m : Mark} → Does x before m behind → is_obfuscated_after removed x m ≡ false → Carried x m behind
   carried_step (does_text l before) e j = marked_text before
   carried_step (does_if o false v inside k) e j = refl
   carried_step (does_if o true v inside k) e j =
@@ -178,7 +178,7 @@ module _ (removed : Bool) where
       keeps_stays v p.0 ∙ sym (p.1 j)
 
   -- a line that joins the one before it goes where that went
-  pub joined_alike : {x : Item Reading} {before behind : Bool} {m : Mark} → Does x before m behind → is_spoiled_behind removed x m ≡ false →
+  pub joined_alike : {x : Item Reading} {before behind : Bool} {m : Mark} → Does x before m behind → is_obfuscated_after removed x m ≡ false →
       (reading_of x).scan.joins_before ≡ true → removed ≡ not before → is_removed m.verdict ≡ removed
   joined_alike (does_text l before) e j h = marked_text before ∙ sym h
   joined_alike (does_if o false v inside k) e j h = sym h
@@ -196,7 +196,7 @@ module _ (removed : Bool) where
   alone_by true j false e h = cc
 
   -- a line that is edited, but not to an `#if`, joins no other
-  pub edited_alone : {x : Item Reading} {before behind : Bool} {m : Mark} → Does x before m behind → is_spoiled_behind removed x m ≡ false →
+  pub edited_alone : {x : Item Reading} {before behind : Bool} {m : Mark} → Does x before m behind → is_obfuscated_after removed x m ≡ false →
       keeps_rest m.verdict ≡ false → is_removed m.verdict ≡ false → is_spanning (reading_of x).scan ≡ false
   edited_alone (does_text l true) e k r = cc
   edited_alone (does_text l false) e k r = cc

@@ -1,9 +1,9 @@
 -- The place of a keyword: before it no comment and no literal is open, and what stands there may be exchanged.
 use Rattle.std.proofs.Common.{◌≡◌, ◌≢◌, ℕ, ◌+◌, ◌==◌, List, [], ◌∷◌, ◌++◌, length, Bool, true, false, ◌&&◌, ◌||◌, if◌then◌else◌, refl, sym, ◌∙◌, ap, ap₂, subst, append-nil, arith, length-append, eqb-true, ◌⊎◌, inl, inr}
 use Rattle.std.proofs.Math.Bool.{and-false}
-use Rattle.ud_model.specs.text.Bytes.{slash, star, space, line_feed, is_quote, is_white}
-use Rattle.ud_model.specs.aids.Places.{Place, in_text, at_slash, in_block, at_star, in_line, in_literal, at_backslash, next, opens, shows, whitens, blank_last}
-use Rattle.ud_model.proofs.text.PlaceLemmas.{length-blank_last}
+use Rattle.ud_model.specs.text.Bytes.{slash, star, space, newline, is_quote, is_white}
+use Rattle.ud_model.specs.aids.LexStates.{LexState, in_text, at_slash, in_block, at_star, in_line, in_literal, at_backslash, next_state, opens_comment, masked_byte, stays_white, blank_last}
+use Rattle.ud_model.proofs.text.LexStateLemmas.{length-blank_last}
 use Rattle.ud_model.proofs.text.ScanLaws.{place_after, white_after, masked_after}
 use Rattle.ud_model.proofs.output.SameShape.{parts}
 use Rattle.ud_model.proofs.output.Each.{Each}
@@ -14,16 +14,16 @@ length_by true m = length-blank_last m
 length_by false m = refl
 
 -- each byte is shown as one
-pub length-masked_after : (bytes : List ℕ) (w : Place) (m : List ℕ) → length (masked_after w m bytes) ≡ length m + length bytes
+pub length-masked_after : (bytes : List ℕ) (w : LexState) (m : List ℕ) → length (masked_after w m bytes) ≡ length m + length bytes
 length-masked_after [] w m = omega arith
 length-masked_after (b ∷ bytes) w m =
-    let n : List ℕ = if opens w b then blank_last m else m in
-    let a : length n ≡ length m = length_by (opens w b) m in
-    let c : length (n ++ shows w b ∷ []) ≡ length n + 1 = length-append n (shows w b ∷ []) in
-    length-masked_after bytes (next w b) (n ++ shows w b ∷ []) ∙ omega (arith, a, c)
+    let n : List ℕ = if opens_comment w b then blank_last m else m in
+    let a : length n ≡ length m = length_by (opens_comment w b) m in
+    let c : length (n ++ masked_byte w b ∷ []) ≡ length n + 1 = length-append n (masked_byte w b ∷ []) in
+    length-masked_after bytes (next_state w b) (n ++ masked_byte w b ∷ []) ∙ omega (arith, a, c)
 
 -- if the masked line goes on with this byte after these, the text before the byte is between pieces
-pub record Found (w : Place) (content front : List ℕ) (c : ℕ) (rest : List ℕ) : Type 0 where
+pub record Found (w : LexState) (content front : List ℕ) (c : ℕ) (rest : List ℕ) : Type 0 where
   pub before : List ℕ
   pub behind : List ℕ
   pub are : content ≡ before ++ behind
@@ -31,36 +31,36 @@ pub record Found (w : Place) (content front : List ℕ) (c : ℕ) (rest : List �
   pub masks : masked_after w [] before ≡ front
   pub goes_on : masked_after in_text [] behind ≡ c ∷ rest
 
-first_byte : (w : Place) (b c : ℕ) (bytes rest : List ℕ) → c ≢ space → masked_after w (b ∷ []) bytes ≡ c ∷ rest → b ≡ c
+first_byte : (w : LexState) (b c : ℕ) (bytes rest : List ℕ) → c ≢ space → masked_after w (b ∷ []) bytes ≡ c ∷ rest → b ≡ c
 first_byte w b c bytes rest n e = go (first_shown bytes w b)
   where
     go : (tail : List ℕ) × ((masked_after w (b ∷ []) bytes ≡ b ∷ tail) ⊎ (masked_after w (b ∷ []) bytes ≡ space ∷ tail)) → b ≡ c
     go (t, inl h) = let q : b ∷ t ≡ c ∷ rest = sym h ∙ e in cc
     go (t, inr h) = let q : space ∷ t ≡ c ∷ rest = sym h ∙ e in let r : c ≡ space = cc in absurd (n r)
 
-module _ (c : ℕ) (front : List ℕ) (unquoted : has_quote front ≡ false) (unslashed : ends_in_slash front ≡ false) (no_space : c ≢ space) (no_feed : c ≢ line_feed) where
+module _ (c : ℕ) (front : List ℕ) (unquoted : has_quote front ≡ false) (unslashed : ends_in_slash front ≡ false) (no_space : c ≢ space) (no_feed : c ≢ newline) where
   slash_by : (t s : Bool) (m : List ℕ) (x : ℕ) → ends_in_slash m ≡ true → (if t || s then blank_last m else m) ≡ front →
       (if t then space else if s then space else x) ≡ c → ⊥
   slash_by true s m x h e g = no_space (sym g)
   slash_by false true m x h e g = no_space (sym g)
   slash_by false false m x h e g = let q : true ≡ false = sym h ∙ ap ends_in_slash e ∙ unslashed in cc
 
-  line_by : (t : Bool) (x : ℕ) → (x == line_feed) ≡ t → (if t then x else space) ≡ c → ⊥
-  line_by true x e g = no_feed (sym g ∙ eqb-true x line_feed e)
+  line_by : (t : Bool) (x : ℕ) → (x == newline) ≡ t → (if t then x else space) ≡ c → ⊥
+  line_by true x e g = no_feed (sym g ∙ eqb-true x newline e)
   line_by false x e g = no_space (sym g)
 
   -- if it goes on so, the text is between pieces
-  is_text : (p : Place) (m : List ℕ) (x : ℕ) → Shown p m → (if opens p x then blank_last m else m) ≡ front → shows p x ≡ c → (p ≡ in_text) × (m ≡ front)
+  is_text : (p : LexState) (m : List ℕ) (x : ℕ) → Shown p m → (if opens_comment p x then blank_last m else m) ≡ front → masked_byte p x ≡ c → (p ≡ in_text) × (m ≡ front)
   is_text in_text m x h e g = (refl, e)
   is_text at_slash m x h e g = absurd (slash_by (x == star) (x == slash) m x h e g)
   is_text in_block m x h e g = absurd (no_space (sym g))
   is_text at_star m x h e g = absurd (no_space (sym g))
-  is_text in_line m x h e g = absurd (line_by (x == line_feed) x refl g)
+  is_text in_line m x h e g = absurd (line_by (x == newline) x refl g)
   is_text (in_literal q) m x h e g = let r : true ≡ false = sym h ∙ ap has_quote e ∙ unquoted in cc
   is_text (at_backslash q) m x h e g = let r : true ≡ false = sym h ∙ ap has_quote e ∙ unquoted in cc
 
   -- the place of that byte
-  pub found_by : (w : Place) (y : ℕ) (a : List ℕ) (b rest : List ℕ) → Quoted w [] → length (y ∷ a) ≡ length front →
+  pub found_by : (w : LexState) (y : ℕ) (a : List ℕ) (b rest : List ℕ) → Quoted w [] → length (y ∷ a) ≡ length front →
       masked_after w [] ((y ∷ a) ++ b) ≡ front ++ c ∷ rest → Found w ((y ∷ a) ++ b) front c rest
   found_by w y a [] rest q l e =
       let m = length-masked_after ((y ∷ a) ++ []) w [] in
@@ -69,15 +69,15 @@ module _ (c : ℕ) (front : List ℕ) (unquoted : has_quote front ≡ false) (un
       let g : length (front ++ c ∷ rest) ≡ length front + length (c ∷ rest) = length-append front (c ∷ rest) in
       absurd (omega arith)
   found_by w y a (x ∷ b) rest q l e =
-      let p : Place = place_after w (y ∷ a) in
+      let p : LexState = place_after w (y ∷ a) in
       let m : List ℕ = masked_after w [] (y ∷ a) in
-      let n : List ℕ = if opens p x then blank_last m else m in
-      let whole : masked_after w [] ((y ∷ a) ++ x ∷ b) ≡ n ++ masked_after (next p x) (shows p x ∷ []) b =
-      masked_after-append w [] (y ∷ a) (x ∷ b) ∙ masked_front b (next p x) n (shows p x) in
-      let long : length n ≡ length front = length_by (opens p x) m ∙ length-masked_after (y ∷ a) w [] ∙ omega (arith, l) in
-      let s : (n ≡ front) × (masked_after (next p x) (shows p x ∷ []) b ≡ c ∷ rest) =
-      parts n front (masked_after (next p x) (shows p x ∷ []) b) (c ∷ rest) long (sym whole ∙ e) in
-      let first : shows p x ≡ c = first_byte (next p x) (shows p x) c b rest no_space s.1 in
+      let n : List ℕ = if opens_comment p x then blank_last m else m in
+      let whole : masked_after w [] ((y ∷ a) ++ x ∷ b) ≡ n ++ masked_after (next_state p x) (masked_byte p x ∷ []) b =
+      masked_after-append w [] (y ∷ a) (x ∷ b) ∙ masked_front b (next_state p x) n (masked_byte p x) in
+      let long : length n ≡ length front = length_by (opens_comment p x) m ∙ length-masked_after (y ∷ a) w [] ∙ omega (arith, l) in
+      let s : (n ≡ front) × (masked_after (next_state p x) (masked_byte p x ∷ []) b ≡ c ∷ rest) =
+      parts n front (masked_after (next_state p x) (masked_byte p x ∷ []) b) (c ∷ rest) long (sym whole ∙ e) in
+      let first : masked_byte p x ≡ c = first_byte (next_state p x) (masked_byte p x) c b rest no_space s.1 in
       let t : (p ≡ in_text) × (m ≡ front) = is_text p m x (shown_all y a w [] q) s.0 first in
       record {
         before = y ∷ a;
@@ -85,28 +85,28 @@ module _ (c : ℕ) (front : List ℕ) (unquoted : has_quote front ≡ false) (un
         are = refl;
         place = t.0;
         masks = t.1;
-        goes_on = subst (λ (v : Place). masked_after (next v x) (shows v x ∷ []) b ≡ c ∷ rest) t.0 s.1;
+        goes_on = subst (λ (v : LexState). masked_after (next_state v x) (masked_byte v x ∷ []) b ≡ c ∷ rest) t.0 s.1;
       }
 
 -- a byte that begins no comment and no literal
 pub record IsInert (c : ℕ) : Type 0 where
   pub no_slash : (c == slash) ≡ false
   pub no_quote : is_quote c ≡ false
-  pub no_feed : (c == line_feed) ≡ false
+  pub no_feed : (c == newline) ≡ false
 
-next_inert : (c : ℕ) → IsInert c → next in_text c ≡ in_text
+next_inert : (c : ℕ) → IsInert c → next_state in_text c ≡ in_text
 next_inert c i = ap₂ (λ (s q : Bool). if s then at_slash else if q then in_literal c else in_text) i.no_slash i.no_quote
 
 -- after bytes that begin nothing the text is between pieces
 pub place_inert : (word : List ℕ) → Each IsInert word → place_after in_text word ≡ in_text
 place_inert [] h = refl
-place_inert (c ∷ word) h = ap (λ (v : Place). place_after v word) (next_inert c h.0) ∙ place_inert word h.1
+place_inert (c ∷ word) h = ap (λ (v : LexState). place_after v word) (next_inert c h.0) ∙ place_inert word h.1
 
 -- and they are shown as they are
 pub masked_inert : (word : List ℕ) → Each IsInert word → masked_after in_text [] word ≡ word
 masked_inert [] h = refl
 masked_inert (c ∷ word) h =
-    ap (λ (v : Place). masked_after v (c ∷ []) word) (next_inert c h.0) ∙ text_front word (c ∷ []) ∙ ap (λ (l : List ℕ). c ∷ l) (masked_inert word h.1)
+    ap (λ (v : LexState). masked_after v (c ∷ []) word) (next_inert c h.0) ∙ text_front word (c ∷ []) ∙ ap (λ (l : List ℕ). c ∷ l) (masked_inert word h.1)
 
 -- a word that is shown stands there
 pub word_stands : (word behind rest : List ℕ) → Each IsInert word → Each (λ c. c ≢ space) word → masked_after in_text [] behind ≡ word ++ rest →
@@ -114,42 +114,42 @@ pub word_stands : (word behind rest : List ℕ) → Each IsInert word → Each (
 word_stands [] behind rest h n e = (behind, refl, e)
 word_stands (c ∷ word) [] rest h n e = cc
 word_stands (c ∷ word) (x ∷ behind) rest h n e =
-    let q : x ≡ c = first_byte (next in_text x) x c behind (word ++ rest) n.0 e in
-    let f : masked_after (next in_text c) (c ∷ []) behind ≡ c ∷ (word ++ rest) = subst (λ (y : ℕ). masked_after (next in_text y) (y ∷ []) behind ≡ c ∷ (word ++ rest)) q e in
+    let q : x ≡ c = first_byte (next_state in_text x) x c behind (word ++ rest) n.0 e in
+    let f : masked_after (next_state in_text c) (c ∷ []) behind ≡ c ∷ (word ++ rest) = subst (λ (y : ℕ). masked_after (next_state in_text y) (y ∷ []) behind ≡ c ∷ (word ++ rest)) q e in
     let g : masked_after in_text (c ∷ []) behind ≡ c ∷ (word ++ rest) =
-    subst (λ (v : Place). masked_after v (c ∷ []) behind ≡ c ∷ (word ++ rest)) (next_inert c h.0) f in
+    subst (λ (v : LexState). masked_after v (c ∷ []) behind ≡ c ∷ (word ++ rest)) (next_inert c h.0) f in
     let k : c ∷ masked_after in_text [] behind ≡ c ∷ (word ++ rest) = sym (text_front behind (c ∷ [])) ∙ g in
     let t : masked_after in_text [] behind ≡ word ++ rest = cc in
     let r : (more : List ℕ) × (behind ≡ word ++ more) × (masked_after in_text [] more ≡ rest) = word_stands word behind rest h.1 n.1 t in
     (r.0, ap₂ (λ (y : ℕ) (l : List ℕ). y ∷ l) q r.1, r.2)
 
-module _ (w : Place) (before more front rest : List ℕ) (place : place_after w before ≡ in_text) (masks : masked_after w [] before ≡ front) (ends : masked_after in_text [] more ≡ rest) where
+module _ (w : LexState) (before more front rest : List ℕ) (place : place_after w before ≡ in_text) (masks : masked_after w [] before ≡ front) (ends : masked_after in_text [] more ≡ rest) where
   -- another word at this place: what follows is shown as before
   pub masked_other : (word : List ℕ) → Each IsInert word → masked_after w [] (before ++ (word ++ more)) ≡ front ++ (word ++ rest)
   masked_other word h =
       masked_after-append w [] before (word ++ more)
-      ∙ ap₂ (λ (v : Place) (m : List ℕ). masked_after v m (word ++ more)) place masks
+      ∙ ap₂ (λ (v : LexState) (m : List ℕ). masked_after v m (word ++ more)) place masks
       ∙ text_front (word ++ more) front
       ∙ ap (λ (l : List ℕ). front ++ l)
-      (masked_after-append in_text [] word more ∙ ap₂ (λ (v : Place) (m : List ℕ). masked_after v m more) (place_inert word h) (masked_inert word h)
+      (masked_after-append in_text [] word more ∙ ap₂ (λ (v : LexState) (m : List ℕ). masked_after v m more) (place_inert word h) (masked_inert word h)
       ∙ text_front more word ∙ ap (λ (l : List ℕ). word ++ l) ends)
 
   -- and the text leaves off where it did
   pub place_other : (word : List ℕ) → Each IsInert word → place_after w (before ++ (word ++ more)) ≡ place_after in_text more
   place_other word h =
       place_after-append w before (word ++ more)
-      ∙ ap (λ (v : Place). place_after v (word ++ more)) place
+      ∙ ap (λ (v : LexState). place_after v (word ++ more)) place
       ∙ place_after-append in_text word more
-      ∙ ap (λ (v : Place). place_after v more) (place_inert word h)
+      ∙ ap (λ (v : LexState). place_after v more) (place_inert word h)
 
-  dark_inert : (c : ℕ) → IsInert c → whitens in_text false c ≡ false
+  dark_inert : (c : ℕ) → IsInert c → stays_white in_text false c ≡ false
   dark_inert c i = ap₂ (λ (s f : Bool). if s then false else if f then true else false) i.no_slash i.no_feed
 
   dark_word : (word : List ℕ) → Each IsInert word → white_after in_text false word ≡ false
   dark_word [] h = refl
-  dark_word (c ∷ word) h = ap₂ (λ (v : Place) (b : Bool). white_after v b word) (next_inert c h.0) (dark_inert c h.0) ∙ dark_word word h.1
+  dark_word (c ∷ word) h = ap₂ (λ (v : LexState) (b : Bool). white_after v b word) (next_inert c h.0) (dark_inert c h.0) ∙ dark_word word h.1
 
-  dark_first : (c : ℕ) (white : Bool) → IsInert c → is_white c ≡ false → whitens in_text white c ≡ false
+  dark_first : (c : ℕ) (white : Bool) → IsInert c → is_white c ≡ false → stays_white in_text white c ≡ false
   dark_first c white i d =
       ap₂ (λ (s f : Bool). if s then white else if f then true else white && is_white c) i.no_slash i.no_feed ∙ ap (λ (t : Bool). white && t) d ∙ and-false white
 
@@ -158,7 +158,7 @@ module _ (w : Place) (before more front rest : List ℕ) (place : place_after w 
       white_after w white (before ++ ((c ∷ word) ++ more)) ≡ white_after in_text false more
   white_other white c word h d =
       white_after-append w white before ((c ∷ word) ++ more)
-      ∙ ap (λ (v : Place). white_after v (white_after w white before) ((c ∷ word) ++ more)) place
-      ∙ ap₂ (λ (v : Place) (b : Bool). white_after v b (word ++ more)) (next_inert c h.0) (dark_first c (white_after w white before) h.0 d)
+      ∙ ap (λ (v : LexState). white_after v (white_after w white before) ((c ∷ word) ++ more)) place
+      ∙ ap₂ (λ (v : LexState) (b : Bool). white_after v b (word ++ more)) (next_inert c h.0) (dark_first c (white_after w white before) h.0 d)
       ∙ white_after-append in_text false word more
-      ∙ ap₂ (λ (v : Place) (b : Bool). white_after v b more) (place_inert word h.1) (dark_word word h.1)
+      ∙ ap₂ (λ (v : LexState) (b : Bool). white_after v b more) (place_inert word h.1) (dark_word word h.1)

@@ -2,9 +2,9 @@
 use Rattle.std.proofs.Common.{◌≡◌, ℕ, ◌+◌, ◌≤◌, List, length, Bool, true, false, Option, Some, None, if◌then◌else◌, refl, sym, subst, arith}
 use Rattle.std.proofs.lemmas.Bool.{leb-true}
 use Rattle.std.proofs.Math.Dec.{leb}
-use Rattle.ud_model.specs.text.Bytes.{past_white, word_in_front}
+use Rattle.ud_model.specs.text.Bytes.{skip_white, leading_word}
 use Rattle.ud_model.specs.text.Scans.{Scan, Reading}
-use Rattle.ud_model.specs.sections.Directives.{Content, cut_keyword, directive, text, content_of, past_sign, has_cut_keyword, found_behind, directive_at, kind_of, role_of}
+use Rattle.ud_model.specs.sections.Directives.{Content, cut_keyword, directive, text, content_of, skip_hash_if_fresh, has_split_keyword, content_after_hash, directive_at, kind_of, role_of}
 use Rattle.ud_model.specs.conditions.Conditions.{Decision, decision_on}
 use Rattle.ud_model.specs.sections.Tree.{Item, text_line, if_line, elif_line, else_line, endif_line}
 use Rattle.ud_model.specs.sections.Items.{Options, directive_item, item_by, item_of, rules_of}
@@ -32,25 +32,25 @@ HasSize cut_keyword = Unit {0}
 HasSize (directive d) = least (role_of d.kind) ≤ d.keyword.len
 HasSize text = Unit {0}
 
-size_at : (scan : Scan) (rest : List ℕ) (k : Option Kind) → kind_of (word_in_front rest) ≡ k → HasSize (directive_at scan rest k)
+size_at : (scan : Scan) (rest : List ℕ) (k : Option Kind) → kind_of (leading_word rest) ≡ k → HasSize (directive_at scan rest k)
 size_at scan rest None e = tt
-size_at scan rest (Some k) e = kind_size (word_in_front rest) k e
+size_at scan rest (Some k) e = kind_size (leading_word rest) k e
 
-size_fresh : (scan : Scan) (fresh : Bool) (rest : List ℕ) → HasSize (if fresh then directive_at scan rest (kind_of (word_in_front rest)) else text)
-size_fresh scan true rest = size_at scan rest (kind_of (word_in_front rest)) refl
+size_fresh : (scan : Scan) (fresh : Bool) (rest : List ℕ) → HasSize (if fresh then directive_at scan rest (kind_of (leading_word rest)) else text)
+size_fresh scan true rest = size_at scan rest (kind_of (leading_word rest)) refl
 size_fresh scan false rest = tt
 
-size_behind : (scan : Scan) (sign : Option (List ℕ)) → HasSize (found_behind scan sign)
+size_behind : (scan : Scan) (sign : Option (List ℕ)) → HasSize (content_after_hash scan sign)
 size_behind scan None = tt
-size_behind scan (Some rest) = size_fresh scan scan.fresh (past_white rest)
+size_behind scan (Some rest) = size_fresh scan scan.fresh (skip_white rest)
 
-size_unless_cut : (scan : Scan) (cut : Bool) → HasSize (if cut then cut_keyword else found_behind scan (past_sign scan.masked))
+size_unless_cut : (scan : Scan) (cut : Bool) → HasSize (if cut then cut_keyword else content_after_hash scan (skip_hash_if_fresh scan.masked))
 size_unless_cut scan true = tt
-size_unless_cut scan false = size_behind scan (past_sign scan.masked)
+size_unless_cut scan false = size_behind scan (skip_hash_if_fresh scan.masked)
 
 -- a directive's keyword is at least as long as its kind says
 pub content_size : (scan : Scan) → HasSize (content_of scan)
-content_size scan = size_unless_cut scan (has_cut_keyword scan (past_sign scan.masked))
+content_size scan = size_unless_cut scan (has_split_keyword scan (skip_hash_if_fresh scan.masked))
 
 -- the keyword of this line has so many bytes at least, and lies in the body
 pub record HasWord (r : Reading) (n : ℕ) : Type 0 where

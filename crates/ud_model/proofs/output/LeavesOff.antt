@@ -2,42 +2,42 @@
 use Rattle.std.proofs.Common.{◌≡◌, ◌≢◌, ℕ, List, [], ◌∷◌, ◌++◌, map, Bool, true, false, refl, sym, ◌∙◌, ap, ap₂, subst, if◌then◌else◌, ◌==◌, ◌&&◌, ◌⊎◌, inl, inr, eqb-true}
 use Rattle.std.proofs.Math.Bool.{and-false}
 use Rattle.std.proofs.lemmas.List.{map-append}
-use Rattle.ud_model.specs.text.Bytes.{is_white, is_quote, slash, star, line_feed, backslash}
+use Rattle.ud_model.specs.text.Bytes.{is_white, is_quote, slash, star, newline, backslash}
 use Rattle.ud_model.specs.text.Lines.{Line}
 use Rattle.ud_model.specs.text.Scans.{Reading, plain_scan}
-use Rattle.ud_model.specs.text.Splicing.{content, stays_open, joined, run_of}
+use Rattle.ud_model.specs.text.Splicing.{content, stays_open, spliced_text, c_run_of}
 use Rattle.ud_model.specs.text.Scanning.{joins, is_block, scan_after}
-use Rattle.ud_model.specs.aids.Places.{Place, in_text, at_slash, in_block, at_star, in_line, in_literal, at_backslash, Reads, next, whitens, closed_place, closed_white}
+use Rattle.ud_model.specs.aids.LexStates.{LexState, in_text, at_slash, in_block, at_star, in_line, in_literal, at_backslash, LexesTo, next_state, stays_white, state_after_line, white_after_line}
 use Rattle.ud_model.specs.sections.Tree.{Item}
 use Rattle.ud_model.specs.sections.Items.{Options, reading_of, item_of, read_after}
 use Rattle.ud_model.specs.declared.kind.Mode.{Mode}
 use Rattle.ud_model.specs.declared.kind.Mode.TheVariants.{C, Plain}
 use Rattle.ud_model.proofs.sections.Soundness.{reading_of-item_of}
-use Rattle.ud_model.proofs.text.ScanLaws.{place_after, white_after, scan_from, scan_behind-from, Reads-append, joins_after-code, starts_anew}
+use Rattle.ud_model.proofs.text.ScanLaws.{place_after, white_after, scan_from, scan_after_run-from, LexesTo-append, joins_after-code, starts_anew}
 use Rattle.ud_model.proofs.output.ExchangedScan.{Sane}
 use Rattle.ud_model.proofs.output.DirectiveFront.{either}
-use Rattle.ud_model.proofs.text.ScanLemmas.{kind_at_place, joined_run_last, Reads-close, run_of_last}
-use Rattle.ud_model.proofs.text.PlaceLemmas.{Reads-nil}
+use Rattle.ud_model.proofs.text.ScanLemmas.{kind_at_place, joined_run_last, LexesTo-close, run_of_last}
+use Rattle.ud_model.proofs.text.LexStateLemmas.{LexesTo-nil}
 
-quote_dark : (b : ℕ) → is_quote b ≡ true → ((b == slash) ≡ false) × ((b == line_feed) ≡ false) × (is_white b ≡ false)
+quote_dark : (b : ℕ) → is_quote b ≡ true → ((b == slash) ≡ false) × ((b == newline) ≡ false) × (is_white b ≡ false)
 quote_dark b e = go (either (b == 34) (b == 39) e)
   where
-    at : (n : ℕ) → ((n == slash) ≡ false) × ((n == line_feed) ≡ false) × (is_white n ≡ false) → (b == n) ≡ true → ((b == slash) ≡ false) × ((b == line_feed) ≡ false) × (is_white b ≡ false)
-    at n h f = subst (λ (c : ℕ). ((c == slash) ≡ false) × ((c == line_feed) ≡ false) × (is_white c ≡ false)) (sym (eqb-true b n f)) h
+    at : (n : ℕ) → ((n == slash) ≡ false) × ((n == newline) ≡ false) × (is_white n ≡ false) → (b == n) ≡ true → ((b == slash) ≡ false) × ((b == newline) ≡ false) × (is_white b ≡ false)
+    at n h f = subst (λ (c : ℕ). ((c == slash) ≡ false) × ((c == newline) ≡ false) × (is_white c ≡ false)) (sym (eqb-true b n f)) h
 
-    go : (b == 34 ≡ true) ⊎ (b == 39 ≡ true) → ((b == slash) ≡ false) × ((b == line_feed) ≡ false) × (is_white b ≡ false)
+    go : (b == 34 ≡ true) ⊎ (b == 39 ≡ true) → ((b == slash) ≡ false) × ((b == newline) ≡ false) × (is_white b ≡ false)
     go (inl f) = at 34 (refl, refl, refl) f
     go (inr f) = at 39 (refl, refl, refl) f
 
-sane_text : (s q white : Bool) (b : ℕ) → (b == slash) ≡ s → is_quote b ≡ q → Sane (if s then at_slash else if q then in_literal b else in_text) (if b == slash then white else if b == line_feed then true else white && is_white b)
+sane_text : (s q white : Bool) (b : ℕ) → (b == slash) ≡ s → is_quote b ≡ q → Sane (if s then at_slash else if q then in_literal b else in_text) (if b == slash then white else if b == newline then true else white && is_white b)
 sane_text true q white b e f = tt
 sane_text false false white b e f = tt
 sane_text false true white b e f =
-    let d : ((b == slash) ≡ false) × ((b == line_feed) ≡ false) × (is_white b ≡ false) = quote_dark b f in
+    let d : ((b == slash) ≡ false) × ((b == newline) ≡ false) × (is_white b ≡ false) = quote_dark b f in
     ap₂ (λ (s t : Bool). if s then white else if t then true else white && is_white b) d.0 d.1 ∙ ap (λ (t : Bool). white && t) d.2 ∙ and-false white
 
 sane_slash : (t s q white : Bool) (b : ℕ) → is_quote b ≡ q →
-    Sane (if t then in_block else if s then in_line else if q then in_literal b else in_text) (if t then white else if s then white else if b == line_feed then true else false)
+    Sane (if t then in_block else if s then in_line else if q then in_literal b else in_text) (if t then white else if s then white else if b == newline then true else false)
 sane_slash true s q white b e = tt
 sane_slash false true q white b e = tt
 sane_slash false false false white b e = tt
@@ -67,28 +67,28 @@ sane_backslash q true w white e = tt
 sane_backslash q false w white e = ap (λ (b : Bool). b && w) e
 
 -- so it is after one byte more
-pub sane_step : (w : Place) (white : Bool) (b : ℕ) → Sane w white → Sane (next w b) (whitens w white b)
+pub sane_step : (w : LexState) (white : Bool) (b : ℕ) → Sane w white → Sane (next_state w b) (stays_white w white b)
 sane_step in_text white b s = sane_text (b == slash) (is_quote b) white b refl refl
 sane_step at_slash white b s = sane_slash (b == star) (b == slash) (is_quote b) white b refl
 sane_step in_block white b s = sane_block (b == star) white
 sane_step at_star white b s = sane_star (b == slash) (b == star) white
-sane_step in_line white b s = sane_line (b == line_feed) white
-sane_step (in_literal q) white b s = sane_literal q (b == line_feed) (b == q) (b == backslash) (is_white b) white s
-sane_step (at_backslash q) white b s = sane_backslash q (b == line_feed) (is_white b) white s
+sane_step in_line white b s = sane_line (b == newline) white
+sane_step (in_literal q) white b s = sane_literal q (b == newline) (b == q) (b == backslash) (is_white b) white s
+sane_step (at_backslash q) white b s = sane_backslash q (b == newline) (is_white b) white s
 
-sane_all : (bytes : List ℕ) (w : Place) (white : Bool) → Sane w white → Sane (place_after w bytes) (white_after w white bytes)
+sane_all : (bytes : List ℕ) (w : LexState) (white : Bool) → Sane w white → Sane (place_after w bytes) (white_after w white bytes)
 sane_all [] w white s = s
-sane_all (b ∷ bytes) w white s = sane_all bytes (next w b) (whitens w white b) (sane_step w white b s)
+sane_all (b ∷ bytes) w white s = sane_all bytes (next_state w b) (stays_white w white b) (sane_step w white b s)
 
-sane_close : (stays : Bool) (w : Place) (white : Bool) → Sane w white → Sane (closed_place stays w) (closed_white stays w white)
+sane_close : (stays : Bool) (w : LexState) (white : Bool) → Sane w white → Sane (state_after_line stays w) (white_after_line stays w white)
 sane_close true w white s = s
-sane_close false w white s = sane_step w white line_feed s
+sane_close false w white s = sane_step w white newline s
 
 -- the lines in C mode leave off there, and the last one joins the next one or not
-pub record LeavesOff (xs : List (Item Reading)) (w : Place) (white joined_on : Bool) : Type 0 where
-  pub reads : Reads (joined (run_of (map reading_of xs))) w white
+pub record LeavesOff (xs : List (Item Reading)) (w : LexState) (white joined_on : Bool) : Type 0 where
+  pub reads : LexesTo (spliced_text (c_run_of (map reading_of xs))) w white
   pub sane : Sane w white
-  pub joins_on : joined_on ≡ joins (run_of (map reading_of xs))
+  pub joins_on : joined_on ≡ joins (c_run_of (map reading_of xs))
 
 -- the line has an ending
 abbrev pub HasEnd : Line → Type 0
@@ -96,31 +96,31 @@ HasEnd l = l.ending ≢ []
 
 joins_none : joins [] ≡ false
 unfolding joins
-joins_none = ap is_block (kind_at_place Reads-nil)
+joins_none = ap is_block (kind_at_place LexesTo-nil)
 
 -- if no line in C mode stands before them, lines leave off between lines
-pub nowhere : (xs : List (Item Reading)) → run_of (map reading_of xs) ≡ [] → LeavesOff xs in_text true false
+pub nowhere : (xs : List (Item Reading)) → c_run_of (map reading_of xs) ≡ [] → LeavesOff xs in_text true false
 nowhere xs e = record {
-  reads = subst (λ (run : List Line). Reads (joined run) in_text true) (sym e) Reads-nil;
+  reads = subst (λ (run : List Line). LexesTo (spliced_text run) in_text true) (sym e) LexesTo-nil;
   sane = tt;
   joins_on = sym joins_none ∙ sym (ap joins e);
 }
 
 -- nothing joins the next line there
-pub joins_nothing : (xs : List (Item Reading)) → run_of (map reading_of xs) ≡ [] → joins (run_of (map reading_of xs)) ≡ true → ⊥
+pub joins_nothing : (xs : List (Item Reading)) → c_run_of (map reading_of xs) ≡ [] → joins (c_run_of (map reading_of xs)) ≡ true → ⊥
 joins_nothing xs e j = let f : true ≡ false = sym j ∙ ap joins e ∙ joins_none in cc
 
-same_line : (w : Place) (white on : Bool) (l k : Line) → k.body ≡ l.body → k.ending ≡ l.ending → scan_from w white on k ≡ scan_from w white on l
+same_line : (w : LexState) (white on : Bool) (l k : Line) → k.body ≡ l.body → k.ending ≡ l.ending → scan_from w white on k ≡ scan_from w white on l
 unfolding scan_from
 same_line w white on l k e f = ap₂ (λ (b c : List ℕ). scan_from w white on (record { body = b; ending = c; number = 0 })) e f
 
 -- 3. A line that stays is seen as before.
-pub kept_scan : (xs ys : List (Item Reading)) (m : Mode) (w : Place) (white on : Bool) (l k : Line) → LeavesOff xs w white on → LeavesOff ys w white on →
+pub kept_scan : (xs ys : List (Item Reading)) (m : Mode) (w : LexState) (white on : Bool) (l k : Line) → LeavesOff xs w white on → LeavesOff ys w white on →
     k.body ≡ l.body → k.ending ≡ l.ending → scan_after (map reading_of ys) m k ≡ scan_after (map reading_of xs) m l
 kept_scan xs ys Plain w white on l k a b e f = ap (λ (t : List ℕ). plain_scan (record { body = t; ending = []; number = 0 })) e
 kept_scan xs ys C w white on l k a b e f =
-    scan_behind-from (run_of (map reading_of ys)) k w white on b.reads b.joins_on ∙ same_line w white on l k e f
-    ∙ sym (scan_behind-from (run_of (map reading_of xs)) l w white on a.reads a.joins_on)
+    scan_after_run-from (c_run_of (map reading_of ys)) k w white on b.reads b.joins_on ∙ same_line w white on l k e f
+    ∙ sym (scan_after_run-from (c_run_of (map reading_of xs)) l w white on a.reads a.joins_on)
 
 -- the readings of items with one more
 pub readings_last : (o : Options) (xs ys : List (Item Reading)) (m : Mode) (l : Line) →
@@ -130,19 +130,19 @@ readings_last o xs ys m l =
 
 -- lines with one more join the next one if that line does
 pub joins_next : (o : Options) (xs : List (Item Reading)) (l : Line) →
-    (scan_after (map reading_of xs) C l).joins_after ≡ joins (run_of (map reading_of (xs ++ item_of o (read_after xs C l) ∷ [])))
+    (scan_after (map reading_of xs) C l).joins_after ≡ joins (c_run_of (map reading_of (xs ++ item_of o (read_after xs C l) ∷ [])))
 joins_next o xs l =
-    joins_after-code (run_of (map reading_of xs)) l ∙ ap joins (sym (ap run_of (readings_last o xs xs C l) ∙ run_of_last (map reading_of xs) (read_after xs C l)))
+    joins_after-code (c_run_of (map reading_of xs)) l ∙ ap joins (sym (ap c_run_of (readings_last o xs xs C l) ∙ run_of_last (map reading_of xs) (read_after xs C l)))
 
 -- where the lines leave off with a line in C mode
-pub leaves_next : (o : Options) (xs : List (Item Reading)) (w : Place) (white on : Bool) (l : Line) → LeavesOff xs w white on →
-    LeavesOff (xs ++ item_of o (read_after xs C l) ∷ []) (closed_place (stays_open l) (place_after w (content l)))
-    (closed_white (stays_open l) (place_after w (content l)) (white_after w white (content l))) (scan_after (map reading_of xs) C l).joins_after
+pub leaves_next : (o : Options) (xs : List (Item Reading)) (w : LexState) (white on : Bool) (l : Line) → LeavesOff xs w white on →
+    LeavesOff (xs ++ item_of o (read_after xs C l) ∷ []) (state_after_line (stays_open l) (place_after w (content l)))
+    (white_after_line (stays_open l) (place_after w (content l)) (white_after w white (content l))) (scan_after (map reading_of xs) C l).joins_after
 leaves_next o xs w white on l a = record {
-  reads = subst (λ (t : List ℕ). Reads t (closed_place (stays_open l) (place_after w (content l))) (closed_white (stays_open l) (place_after w (content l)) (white_after w white (content l))))
-      (sym (ap (λ (rs : List Reading). joined (run_of rs)) (readings_last o xs xs C l) ∙ joined_run_last (map reading_of xs) (read_after xs C l) refl))
-      (Reads-close (joined (run_of (map reading_of xs))) l (place_after w (content l)) (white_after w white (content l))
-      (Reads-append (joined (run_of (map reading_of xs))) w white (content l) a.reads));
+  reads = subst (λ (t : List ℕ). LexesTo t (state_after_line (stays_open l) (place_after w (content l))) (white_after_line (stays_open l) (place_after w (content l)) (white_after w white (content l))))
+      (sym (ap (λ (rs : List Reading). spliced_text (c_run_of rs)) (readings_last o xs xs C l) ∙ joined_run_last (map reading_of xs) (read_after xs C l) refl))
+      (LexesTo-close (spliced_text (c_run_of (map reading_of xs))) l (place_after w (content l)) (white_after w white (content l))
+      (LexesTo-append (spliced_text (c_run_of (map reading_of xs))) w white (content l) a.reads));
   sane = sane_close (stays_open l) (place_after w (content l)) (white_after w white (content l)) (sane_all (content l) w white a.sane);
   joins_on = joins_next o xs l;
 }
@@ -151,10 +151,10 @@ leaves_next o xs w white on l a = record {
 pub leaves_anew : (o : Options) (xs : List (Item Reading)) (l : Line) → (scan_after (map reading_of xs) C l).joins_after ≡ false → HasEnd l →
     LeavesOff (xs ++ item_of o (read_after xs C l) ∷ []) in_text true false
 leaves_anew o xs l j e =
-    let last : joins (run_of (map reading_of xs) ++ l ∷ []) ≡ false = sym (joins_after-code (run_of (map reading_of xs)) l) ∙ j in
-    let same : run_of (map reading_of (xs ++ item_of o (read_after xs C l) ∷ [])) ≡ run_of (map reading_of xs) ++ l ∷ [] =
-    ap run_of (readings_last o xs xs C l) ∙ run_of_last (map reading_of xs) (read_after xs C l) in record {
-      reads = subst (λ (run : List Line). Reads (joined run) in_text true) (sym same) (starts_anew (run_of (map reading_of xs)) l last e);
+    let last : joins (c_run_of (map reading_of xs) ++ l ∷ []) ≡ false = sym (joins_after-code (c_run_of (map reading_of xs)) l) ∙ j in
+    let same : c_run_of (map reading_of (xs ++ item_of o (read_after xs C l) ∷ [])) ≡ c_run_of (map reading_of xs) ++ l ∷ [] =
+    ap c_run_of (readings_last o xs xs C l) ∙ run_of_last (map reading_of xs) (read_after xs C l) in record {
+      reads = subst (λ (run : List Line). LexesTo (spliced_text run) in_text true) (sym same) (starts_anew (c_run_of (map reading_of xs)) l last e);
       sane = tt;
       joins_on = sym (ap joins same ∙ last);
     }

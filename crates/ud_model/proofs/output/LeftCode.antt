@@ -4,10 +4,10 @@ use Rattle.std.proofs.lemmas.Bool.{or_parts}
 use Rattle.ud_model.specs.text.Bytes.{backslash}
 use Rattle.ud_model.specs.text.Lines.{Line, text_of}
 use Rattle.ud_model.specs.text.Scans.{Scan, Reading, is_spanning}
-use Rattle.ud_model.specs.text.Splicing.{is_spliced, content, stays_open, share, joined, run_of}
-use Rattle.ud_model.specs.text.Pieces.{PieceKind, block_comment, line_comment, literal, single, kind_at_end}
-use Rattle.ud_model.specs.text.Scanning.{is_block, comment_at, scan_behind, scan_after}
-use Rattle.ud_model.specs.aids.Places.{Place, in_text, closed_place, closed_white}
+use Rattle.ud_model.specs.text.Splicing.{is_spliced, content, stays_open, spliced_part, spliced_text, c_run_of}
+use Rattle.ud_model.specs.text.Lexemes.{LexemeKind, block_comment, line_comment, literal, single, kind_at_end}
+use Rattle.ud_model.specs.text.Scanning.{is_block, comment_at, scan_after_run, scan_after}
+use Rattle.ud_model.specs.aids.LexStates.{LexState, in_text, state_after_line, white_after_line}
 use Rattle.ud_model.specs.sections.Directives.{Content, Directive, Span, directive, content_of}
 use Rattle.ud_model.specs.sections.Tree.{Item}
 use Rattle.ud_model.specs.sections.Items.{Options, reading_of, item_of, read_after}
@@ -28,11 +28,11 @@ use Rattle.ud_model.proofs.output.LeftScans.{SeenAsIf, SeenCut, NextAlike, IfSca
 use Rattle.ud_model.proofs.output.LeavesOff.{LeavesOff, HasEnd, kept_scan, leaves_next, leaves_anew}
 use Rattle.ud_model.proofs.output.Rereads.{Carry, alike, Rests}
 use Rattle.ud_model.proofs.output.RereadMore.{last_comment}
-use Rattle.ud_model.proofs.text.ScanLaws.{place_after, white_after, scan_from, scan_behind-from}
+use Rattle.ud_model.proofs.text.ScanLaws.{place_after, white_after, scan_from, scan_after_run-from}
 use Rattle.ud_model.proofs.text.ScanLemmas.{joins_last}
 use Rattle.ud_model.proofs.output.Suited.{Suits}
 
-calm_by : (s : Bool) (k : PieceKind) → (s || is_block k) ≡ false → is_in_block (comment_at s k) ≡ false
+calm_by : (s : Bool) (k : LexemeKind) → (s || is_block k) ≡ false → is_in_block (comment_at s k) ≡ false
 calm_by true k e = cc
 calm_by false block_comment e = cc
 calm_by false line_comment e = refl
@@ -40,14 +40,14 @@ calm_by false literal e = refl
 calm_by false single e = refl
 
 -- a line that joins nothing doesn't end in a comment
-calm_alone : (run : List Line) (l : Line) → (scan_behind run l).joins_after ≡ false → is_in_block (scan_behind run l).comment ≡ false
-unfolding scan_behind
-calm_alone run l e = calm_by (is_spliced l) (kind_at_end (joined run ++ share l)) (sym (joins_last run l) ∙ e)
+calm_alone : (run : List Line) (l : Line) → (scan_after_run run l).joins_after ≡ false → is_in_block (scan_after_run run l).comment ≡ false
+unfolding scan_after_run
+calm_alone run l e = calm_by (is_spliced l) (kind_at_end (spliced_text run ++ spliced_part l)) (sym (joins_last run l) ∙ e)
 
 -- the same place under another name
-leaves_as : {xs : List (Item Reading)} {w v : Place} {a b c d : Bool} → w ≡ v → a ≡ b → c ≡ d → LeavesOff xs w a c → LeavesOff xs v b d
+leaves_as : {xs : List (Item Reading)} {w v : LexState} {a b c d : Bool} → w ≡ v → a ≡ b → c ≡ d → LeavesOff xs w a c → LeavesOff xs v b d
 leaves_as {xs} {w} {v} {a} {b} {c} {d} e f g h =
-    subst (λ (q : Place). LeavesOff xs q b d) e (subst (λ (q : Bool). LeavesOff xs w q d) f (subst (λ (q : Bool). LeavesOff xs w a q) g h))
+    subst (λ (q : LexState). LeavesOff xs q b d) e (subst (λ (q : Bool). LeavesOff xs w q d) f (subst (λ (q : Bool). LeavesOff xs w a q) g h))
 
 -- the bytes of a new keyword
 abbrev NewWord : List ℕ → Type 0
@@ -68,10 +68,10 @@ module _ (o : Options) where
   anew_rests ys k e h = record {
     off = leaves_anew o ys k e h;
     calm = last_comment ys (item_of o (read_after ys C k)) ∙ ap (λ (r : Reading). is_in_block r.scan.comment) (reading_of-item_of o (read_after ys C k))
-        ∙ calm_alone (run_of (map reading_of ys)) k e;
+        ∙ calm_alone (c_run_of (map reading_of ys)) k e;
   }
 
-  module _ (xs ys : List (Item Reading)) (w : Place) (white on : Bool) (a : LeavesOff xs w white on) (c : LeavesOff ys w white on) (l k : Line) (ending : k.ending ≡ l.ending) where
+  module _ (xs ys : List (Item Reading)) (w : LexState) (white on : Bool) (a : LeavesOff xs w white on) (c : LeavesOff ys w white on) (l k : Line) (ending : k.ending ≡ l.ending) where
     has_end : HasEnd l → HasEnd k
     has_end h = subst (λ (e : List ℕ). e ≢ []) (sym ending) h
 
@@ -79,13 +79,13 @@ module _ (o : Options) where
     kept_carry : NextAlike w white l k → (scan_after (map reading_of ys) C k).joins_after ≡ (scan_after (map reading_of xs) C l).joins_after → HasEnd l →
         Carry false (with_line xs l) (with_line ys k)
     kept_carry n j h =
-        let p : closed_place (stays_open k) (place_after w (content k)) ≡ closed_place (stays_open l) (place_after w (content l)) =
-        ap₂ (λ (s : Bool) (v : Place). closed_place s v) n.stays_is n.place_is in
-        let q : closed_white (stays_open k) (place_after w (content k)) (white_after w white (content k))
-        ≡ closed_white (stays_open l) (place_after w (content l)) (white_after w white (content l)) =
-        ap₂ (λ (s : Bool) (v : Place). closed_white s v (white_after w white (content k))) n.stays_is n.place_is
-        ∙ ap (λ (v : Bool). closed_white (stays_open l) (place_after w (content l)) v) n.white_is in
-        alike (closed_place (stays_open l) (place_after w (content l))) (closed_white (stays_open l) (place_after w (content l)) (white_after w white (content l)))
+        let p : state_after_line (stays_open k) (place_after w (content k)) ≡ state_after_line (stays_open l) (place_after w (content l)) =
+        ap₂ (λ (s : Bool) (v : LexState). state_after_line s v) n.stays_is n.place_is in
+        let q : white_after_line (stays_open k) (place_after w (content k)) (white_after w white (content k))
+        ≡ white_after_line (stays_open l) (place_after w (content l)) (white_after w white (content l)) =
+        ap₂ (λ (s : Bool) (v : LexState). white_after_line s v (white_after w white (content k))) n.stays_is n.place_is
+        ∙ ap (λ (v : Bool). white_after_line (stays_open l) (place_after w (content l)) v) n.white_is in
+        alike (state_after_line (stays_open l) (place_after w (content l))) (white_after_line (stays_open l) (place_after w (content l)) (white_after w white (content l)))
         (scan_after (map reading_of xs) C l).joins_after (leaves_next o xs w white on l a) (leaves_as p q j (leaves_next o ys w white on k c)) (λ e. refl)
         (λ e. anew_rests ys k (j ∙ e) (has_end h))
 
@@ -96,10 +96,10 @@ module _ (o : Options) where
         let r : Rests (with_line ys k) = anew_rests ys k f (has_end h) in alike in_text true false (leaves_anew o xs l e h) r.off (λ g. refl) (λ g. r)
 
     seen_before : scan_after (map reading_of xs) C l ≡ scan_from w white on l
-    seen_before = scan_behind-from (run_of (map reading_of xs)) l w white on a.reads a.joins_on
+    seen_before = scan_after_run-from (c_run_of (map reading_of xs)) l w white on a.reads a.joins_on
 
     seen_now : scan_after (map reading_of ys) C k ≡ scan_from w white on k
-    seen_now = scan_behind-from (run_of (map reading_of ys)) k w white on c.reads c.joins_on
+    seen_now = scan_after_run-from (c_run_of (map reading_of ys)) k w white on c.reads c.joins_on
 
     -- a line that is left, and what is carried to the next one
     pub record LeftCode (v : Verdict) : Type 0 where

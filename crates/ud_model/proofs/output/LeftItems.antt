@@ -4,10 +4,10 @@ use Rattle.std.proofs.Math.Bool.{and-false}
 use Rattle.ud_model.specs.text.Scans.{Scan, Reading}
 use Rattle.ud_model.specs.sections.Directives.{Content, Directive, cut_keyword, directive, text, content_of, role_of, test_of}
 use Rattle.ud_model.specs.conditions.Table.{Argument}
-use Rattle.ud_model.specs.conditions.Conditions.{Decision, Rules, undecided, decided_by, begins_section, decision_on}
+use Rattle.ud_model.specs.conditions.Conditions.{Decision, Rules, undecided, decision_by_test, begins_section, decision_on}
 use Rattle.ud_model.specs.sections.Tree.{Item, text_line, if_line, elif_line, else_line, endif_line, item_with}
 use Rattle.ud_model.specs.sections.Items.{Options, rules_of, directive_item, item_by, item_of}
-use Rattle.ud_model.specs.output.Pruned.{edited, left_item}
+use Rattle.ud_model.specs.output.Pruned.{edited, kept_line}
 use Rattle.ud_model.specs.conditions.Expressions.{Expression}
 use Rattle.ud_model.specs.output.Rereading.{line_bytes, edited_bytes}
 use Rattle.ud_model.specs.output.CSelection.{condition_by_test, condition_after, condition_by, condition_in}
@@ -27,9 +27,9 @@ use Rattle.ud_model.proofs.output.SeenLines.{Seen, seen, left_seen}
 
 -- the second item is what is left of the first one with this verdict
 abbrev pub IsLeftOf : Verdict → Item Reading → Item Reading → Type 0
-IsLeftOf v x y = item_with seen y ∷ [] ≡ map (item_with left_seen) (left_item v x)
+IsLeftOf v x y = item_with seen y ∷ [] ≡ map (item_with left_seen) (kept_line v x)
 
-kept_seen : (x : Item Reading) → item_with seen x ∷ [] ≡ map (item_with left_seen) (left_item Keep x)
+kept_seen : (x : Item Reading) → item_with seen x ∷ [] ≡ map (item_with left_seen) (kept_line Keep x)
 kept_seen (text_line l) = refl
 kept_seen (if_line p) = refl
 kept_seen (elif_line p) = refl
@@ -56,18 +56,18 @@ spaced_decision : (s q : Scan) (d : Directive) (k : Kind) (n : ℕ) (table : Lis
     (decision_on s d table rules).cond ≡ Unknown → decision_on q (spaced d k n) table rules ≡ decision_on s d table rules
 spaced_decision s q d k n table rules e u = go d.broken u
   where
-    spaced_is : decided_by (test_of k) (32 ∷ 32 ∷ d.after) table rules ≡ decided_by (test_of d.kind) d.after table rules
+    spaced_is : decision_by_test (test_of k) (32 ∷ 32 ∷ d.after) table rules ≡ decision_by_test (test_of d.kind) d.after table rules
     spaced_is =
         decided_past (test_of k) 32 (32 ∷ d.after) table rules refl ∙ decided_past (test_of k) 32 d.after table rules refl
-        ∙ ap (λ (p : Test). decided_by p d.after table rules) e
+        ∙ ap (λ (p : Test). decision_by_test p d.after table rules) e
 
-    go : (b : Bool) → (if b then undecided else decided_so (begins_section (role_of d.kind)) (decided_by (test_of d.kind) d.after table rules) s.joins_after).cond ≡ Unknown →
-        (if b then undecided else decided_so (begins_section (role_of k)) (decided_by (test_of k) (32 ∷ 32 ∷ d.after) table rules) q.joins_after)
-        ≡ (if b then undecided else decided_so (begins_section (role_of d.kind)) (decided_by (test_of d.kind) d.after table rules) s.joins_after)
+    go : (b : Bool) → (if b then undecided else decided_so (begins_section (role_of d.kind)) (decision_by_test (test_of d.kind) d.after table rules) s.joins_after).cond ≡ Unknown →
+        (if b then undecided else decided_so (begins_section (role_of k)) (decision_by_test (test_of k) (32 ∷ 32 ∷ d.after) table rules) q.joins_after)
+        ≡ (if b then undecided else decided_so (begins_section (role_of d.kind)) (decision_by_test (test_of d.kind) d.after table rules) s.joins_after)
     go true v = refl
     go false v =
         ap (λ (c : Decision). decided_so (begins_section (role_of k)) c q.joins_after) spaced_is
-        ∙ unknown_alike (begins_section (role_of k)) (begins_section (role_of d.kind)) q.joins_after s.joins_after (decided_by (test_of d.kind) d.after table rules)
+        ∙ unknown_alike (begins_section (role_of k)) (begins_section (role_of d.kind)) q.joins_after s.joins_after (decision_by_test (test_of d.kind) d.after table rules)
         (unknown_heeds (test_of d.kind) d.after table rules v)
 
 module _ (o : Options) where
@@ -103,7 +103,7 @@ module _ (o : Options) where
       ap (λ (y : Item Reading). item_with seen y ∷ []) (item_as q (spaced d k n) IfGroup f g)
       ∙ ap₂ (λ (t : Seen) (c : Decision). if_line (record { line = t; cond = c.cond; ignoring = c.ignoring }) ∷ []) s
       (spaced_decision r.scan q.scan d k n o.table (rules_of o.settings) t u)
-      ∙ sym (ap (λ (x : Item Reading). map (item_with left_seen) (left_item ToIf x)) (item_as r d ElifGroup e h))
+      ∙ sym (ap (λ (x : Item Reading). map (item_with left_seen) (kept_line ToIf x)) (item_as r d ElifGroup e h))
 
   none_either : (b : Bool) → ◌≡◌ {A = Option Expression} (if b then None else None) None
   none_either true = refl
@@ -122,17 +122,17 @@ module _ (o : Options) where
       line_bytes q ≡ edited_bytes (edited ToElse r) → IsLeftOf ToElse (item_of o r) (item_of o q)
   else_item r q d f e h n g b =
       ap (λ (y : Item Reading). item_with seen y ∷ []) (item_as q f ElseGroup n (ap role_of g)) ∙ ap (λ (t : Seen). else_line t ∷ []) (seen_cut r q f Else (edited_bytes (edited ToElse r)) n g refl b)
-      ∙ sym (ap (λ (x : Item Reading). map (item_with left_seen) (left_item ToElse x)) (item_as r d ElifGroup e h))
+      ∙ sym (ap (λ (x : Item Reading). map (item_with left_seen) (kept_line ToElse x)) (item_as r d ElifGroup e h))
 
   -- a directive that opens a further group, or an `#else`, that becomes an `#endif`
   pub endif_item : (r q : Reading) (d f : Directive) → content_of r.scan ≡ directive d → (role_of d.kind ≡ ElifGroup) ⊎ (role_of d.kind ≡ ElseGroup) → content_of q.scan ≡ directive f → f.kind ≡ Endif →
       line_bytes q ≡ edited_bytes (edited ToEndif r) → IsLeftOf ToEndif (item_of o r) (item_of o q)
   endif_item r q d f e (inl h) n g b =
       ap (λ (y : Item Reading). item_with seen y ∷ []) (item_as q f EndifLine n (ap role_of g)) ∙ ap (λ (t : Seen). endif_line t ∷ []) (seen_cut r q f Endif (edited_bytes (edited ToEndif r)) n g refl b)
-      ∙ sym (ap (λ (x : Item Reading). map (item_with left_seen) (left_item ToEndif x)) (item_as r d ElifGroup e h))
+      ∙ sym (ap (λ (x : Item Reading). map (item_with left_seen) (kept_line ToEndif x)) (item_as r d ElifGroup e h))
   endif_item r q d f e (inr h) n g b =
       ap (λ (y : Item Reading). item_with seen y ∷ []) (item_as q f EndifLine n (ap role_of g)) ∙ ap (λ (t : Seen). endif_line t ∷ []) (seen_cut r q f Endif (edited_bytes (edited ToEndif r)) n g refl b)
-      ∙ sym (ap (λ (x : Item Reading). map (item_with left_seen) (left_item ToEndif x)) (item_as r d ElseGroup e h))
+      ∙ sym (ap (λ (x : Item Reading). map (item_with left_seen) (kept_line ToEndif x)) (item_as r d ElseGroup e h))
 
   if_role : (r : Reading) (p : Role) (d : Decision) → Suits ToIf (directive_item r p d) → (p ≡ ElifGroup) × (d.cond ≡ Unknown)
   if_role r IfGroup d s = absurd s

@@ -6,10 +6,10 @@ use Rattle.std.proofs.lemmas.Bool.Decides.{Decides-eqb}
 use Rattle.std.proofs.lemmas.Slice.Eq.{ends_is}
 use Rattle.std.proofs.lemmas.List.{take-append-le, drop-append-le, same_from_push}
 use Rattle.ud_model.specs.text.Bytes.{backslash}
-use Rattle.ud_model.specs.text.Lines.{Line, line_at, IsWhole, IsUnended}
+use Rattle.ud_model.specs.text.Lines.{Line, line_at, IsWhole, IsUnterminated}
 use Rattle.ud_model.specs.text.Splicing.{is_empty, is_spliced, content, stays_open}
 use Rattle.ud_model.specs.sections.Directives.{Span}
-use Rattle.ud_model.specs.answer.Printing.{if_word, piece_by}
+use Rattle.ud_model.specs.answer.Printing.{opener_keyword, piece_by}
 use Rattle.ud_model.specs.declared.verdict.Verdict.{Verdict}
 use Rattle.ud_model.specs.declared.verdict.Verdict.TheVariants.{Keep, ToIf, ToElse, ToEndif}
 use Rattle.ud_model.proofs.output.Formed.{EndsIn, edited_end, edited_body, IsLeft, left_line}
@@ -21,7 +21,7 @@ pub record LeftLine (v : Verdict) (keyword : Span) (l k : Line) : Type 0 where
   pub ending : k.ending ≡ l.ending
 
 -- the piece of a line, cut again
-pub piece_line : (v : Verdict) (keyword : Span) (n m : ℕ) (t : List ℕ) (l : Line) → l ≡ line_at n t → IsLeft v → IsWhole t ⊎ IsUnended t →
+pub piece_line : (v : Verdict) (keyword : Span) (n m : ℕ) (t : List ℕ) (l : Line) → l ≡ line_at n t → IsLeft v → IsWhole t ⊎ IsUnterminated t →
     LeftLine v keyword l (line_at m (piece_by v keyword l))
 piece_line v keyword n m t l e h w =
     let q = ap (λ (j : Line). line_at m (piece_by v keyword j)) e ∙ left_line v keyword n m t h w in
@@ -66,16 +66,16 @@ front_within l n h =
 
 module _ (keyword : Span) (l k : Line) (within : keyword.at + keyword.len ≤ length (content l)) where
   if_spliced : l.body ≡ content l ++ backslash ∷ [] → k.body ≡ edited_body ToIf keyword l.body →
-      k.body ≡ (take keyword.at (content l) ++ (if_word keyword.len ++ drop (keyword.at + keyword.len) (content l))) ++ backslash ∷ []
+      k.body ≡ (take keyword.at (content l) ++ (opener_keyword keyword.len ++ drop (keyword.at + keyword.len) (content l))) ++ backslash ∷ []
   unfolding edited_body
   if_spliced s b =
       let a : List ℕ = take keyword.at (content l) in
       let d : List ℕ = drop (keyword.at + keyword.len) (content l) in
       b
-      ∙ ap₂ (λ (x y : List ℕ). (x ++ if_word keyword.len) ++ y) (front_within l keyword.at (omega (arith, within)))
+      ∙ ap₂ (λ (x y : List ℕ). (x ++ opener_keyword keyword.len) ++ y) (front_within l keyword.at (omega (arith, within)))
       (ap (λ (t : List ℕ). drop (keyword.at + keyword.len) t) s ∙ drop-append-le (keyword.at + keyword.len) (content l) (backslash ∷ []) within)
-      ∙ append_assoc a (if_word keyword.len) (d ++ backslash ∷ []) ∙ ap (λ (t : List ℕ). a ++ t) (sym (append_assoc (if_word keyword.len) d (backslash ∷ [])))
-      ∙ sym (append_assoc a (if_word keyword.len ++ d) (backslash ∷ []))
+      ∙ append_assoc a (opener_keyword keyword.len) (d ++ backslash ∷ []) ∙ ap (λ (t : List ℕ). a ++ t) (sym (append_assoc (opener_keyword keyword.len) d (backslash ∷ [])))
+      ∙ sym (append_assoc a (opener_keyword keyword.len ++ d) (backslash ∷ []))
 
   -- a line that becomes an `#if` is spliced as it was
   pub if_splice : LeftLine ToIf keyword l k → is_spliced k ≡ is_spliced l
@@ -85,19 +85,19 @@ module _ (keyword : Span) (l k : Line) (within : keyword.at + keyword.len ≤ le
       ∙ same_and (ends_with nat_eq l.body (backslash ∷ [])) (ends_with nat_eq k.body (backslash ∷ [])) (not (is_empty l.ending))
       (λ e. does_end l.body (edited_end backslash (record { no_space = refl; no_else = refl; no_endif = refl }) ToIf keyword l.body
       (let f : EndsIn backslash k.body = ends_in k.body e in (f.0, sym h.body ∙ f.1))))
-      (λ e. does_end k.body (take keyword.at (content l) ++ (if_word keyword.len ++ drop (keyword.at + keyword.len) (content l)), if_spliced (spliced_body l e) h.body))
+      (λ e. does_end k.body (take keyword.at (content l) ++ (opener_keyword keyword.len ++ drop (keyword.at + keyword.len) (content l)), if_spliced (spliced_body l e) h.body))
 
-  if_by : (s : Bool) → is_spliced l ≡ s → LeftLine ToIf keyword l k → content k ≡ take keyword.at (content l) ++ (if_word keyword.len ++ drop (keyword.at + keyword.len) (content l))
+  if_by : (s : Bool) → is_spliced l ≡ s → LeftLine ToIf keyword l k → content k ≡ take keyword.at (content l) ++ (opener_keyword keyword.len ++ drop (keyword.at + keyword.len) (content l))
   unfolding edited_body
   if_by true s h =
-      (same_from_push (content k) (take keyword.at (content l) ++ (if_word keyword.len ++ drop (keyword.at + keyword.len) (content l))) backslash backslash
+      (same_from_push (content k) (take keyword.at (content l) ++ (opener_keyword keyword.len ++ drop (keyword.at + keyword.len) (content l))) backslash backslash
       (sym (spliced_body k (if_splice h ∙ s)) ∙ if_spliced (spliced_body l s) h.body)).0
   if_by false s h =
-      whole_body k (if_splice h ∙ s) ∙ h.body ∙ append_assoc (take keyword.at l.body) (if_word keyword.len) (drop (keyword.at + keyword.len) l.body)
-      ∙ ap (λ (t : List ℕ). take keyword.at t ++ (if_word keyword.len ++ drop (keyword.at + keyword.len) t)) (sym (whole_body l s))
+      whole_body k (if_splice h ∙ s) ∙ h.body ∙ append_assoc (take keyword.at l.body) (opener_keyword keyword.len) (drop (keyword.at + keyword.len) l.body)
+      ∙ ap (λ (t : List ℕ). take keyword.at t ++ (opener_keyword keyword.len ++ drop (keyword.at + keyword.len) t)) (sym (whole_body l s))
 
   -- and has its keyword exchanged
-  pub if_line_content : LeftLine ToIf keyword l k → content k ≡ take keyword.at (content l) ++ (if_word keyword.len ++ drop (keyword.at + keyword.len) (content l))
+  pub if_line_content : LeftLine ToIf keyword l k → content k ≡ take keyword.at (content l) ++ (opener_keyword keyword.len ++ drop (keyword.at + keyword.len) (content l))
   if_line_content h = if_by (is_spliced l) refl h
 
   module _ (word : List ℕ) (ends : EndsIn backslash (take keyword.at l.body ++ word) → ⊥) (b : k.body ≡ take keyword.at l.body ++ word) where

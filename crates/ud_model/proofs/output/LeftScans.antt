@@ -4,12 +4,12 @@ use Rattle.ud_model.specs.text.Bytes.{backslash}
 use Rattle.ud_model.specs.text.Lines.{Line}
 use Rattle.ud_model.specs.text.Scans.{Scan, plain_scan}
 use Rattle.ud_model.specs.text.Splicing.{is_spliced, content, stays_open}
-use Rattle.ud_model.specs.text.Pieces.{PieceKind, single}
+use Rattle.ud_model.specs.text.Lexemes.{LexemeKind, single}
 use Rattle.ud_model.specs.text.Scanning.{is_block, comment_at}
-use Rattle.ud_model.specs.aids.Places.{Place, in_text, place_kind, closed_place}
-use Rattle.ud_model.specs.sections.Directives.{Content, Directive, Span, directive, content_of, is_cut_off, is_outside}
+use Rattle.ud_model.specs.aids.LexStates.{LexState, in_text, kind_in_state, state_after_line}
+use Rattle.ud_model.specs.sections.Directives.{Content, Directive, Span, directive, content_of, is_continued_outside_comment, is_outside}
 use Rattle.ud_model.specs.sections.Faults.{is_in_block}
-use Rattle.ud_model.specs.answer.Printing.{if_word, keyword_in}
+use Rattle.ud_model.specs.answer.Printing.{opener_keyword, keyword_in}
 use Rattle.ud_model.specs.declared.kind.CommentAt.{CommentAt}
 use Rattle.ud_model.specs.declared.verdict.Verdict.TheVariants.{ToIf}
 use Rattle.ud_model.proofs.output.ByLength.{each_length}
@@ -24,9 +24,9 @@ use Rattle.ud_model.proofs.text.ScanLaws.{place_after, white_after, masked_after
 
 -- a line that becomes an `#if` is seen as before but for its keyword
 pub record SeenAsIf (s now : Scan) (d : Directive) : Type 0 where
-  pub masked_is : now.masked ≡ take d.keyword.at s.masked ++ (if_word d.keyword.len ++ d.after)
+  pub masked_is : now.masked ≡ take d.keyword.at s.masked ++ (opener_keyword d.keyword.len ++ d.after)
   pub fresh_is : now.fresh ≡ s.fresh
-  pub cut_is : is_cut_off now ≡ is_cut_off s
+  pub cut_is : is_continued_outside_comment now ≡ is_continued_outside_comment s
   pub joins_is : now.joins_after ≡ s.joins_after
   pub comment_is : now.comment ≡ s.comment
 
@@ -34,12 +34,12 @@ pub record SeenAsIf (s now : Scan) (d : Directive) : Type 0 where
 pub record SeenCut (s now : Scan) (d : Directive) (word : List ℕ) : Type 0 where
   pub masked_is : now.masked ≡ take d.keyword.at s.masked ++ word
   pub fresh_is : now.fresh ≡ s.fresh
-  pub cut_is : is_cut_off now ≡ false
+  pub cut_is : is_continued_outside_comment now ≡ false
   pub joins_is : now.joins_after ≡ false
   pub calm : is_in_block now.comment ≡ false
 
 -- two lines leave off alike after a text that leaves off there
-pub record NextAlike (w : Place) (white : Bool) (l k : Line) : Type 0 where
+pub record NextAlike (w : LexState) (white : Bool) (l k : Line) : Type 0 where
   pub stays_is : stays_open k ≡ stays_open l
   pub place_is : place_after w (content k) ≡ place_after w (content l)
   pub white_is : white_after w white (content k) ≡ white_after w white (content l)
@@ -56,8 +56,8 @@ plain_after l d e =
 pub plain_if : (l k : Line) (d : Directive) → content_of (plain_scan l) ≡ directive d → LeftLine ToIf d.keyword l k → SeenAsIf (plain_scan l) (plain_scan k) d
 unfolding edited_body
 plain_if l k d e h = record {
-  masked_is = h.body ∙ append_assoc (take d.keyword.at l.body) (if_word d.keyword.len) (drop (d.keyword.at + d.keyword.len) l.body)
-      ∙ ap (λ (t : List ℕ). take d.keyword.at l.body ++ (if_word d.keyword.len ++ t)) (plain_after l d e);
+  masked_is = h.body ∙ append_assoc (take d.keyword.at l.body) (opener_keyword d.keyword.len) (drop (d.keyword.at + d.keyword.len) l.body)
+      ∙ ap (λ (t : List ℕ). take d.keyword.at l.body ++ (opener_keyword d.keyword.len ++ t)) (plain_after l d e);
   fresh_is = refl;
   cut_is = refl;
   joins_is = refl;
@@ -71,14 +71,14 @@ plain_cut l k d word b = record { masked_is = b; fresh_is = refl; cut_is = refl;
 -- 2. In C mode, from the place at which the lines before leave off.
 
 -- lines with the same bytes leave off alike
-pub same_next : (w : Place) (white : Bool) (l k : Line) → k.body ≡ l.body → k.ending ≡ l.ending → NextAlike w white l k
+pub same_next : (w : LexState) (white : Bool) (l k : Line) → k.body ≡ l.body → k.ending ≡ l.ending → NextAlike w white l k
 same_next w white l k b e = record {
   stays_is = ap₂ (λ (x y : List ℕ). stays_open (record { body = x; ending = y; number = 0 })) b e;
   place_is = ap₂ (λ (x y : List ℕ). place_after w (content (record { body = x; ending = y; number = 0 }))) b e;
   white_is = ap₂ (λ (x y : List ℕ). white_after w white (content (record { body = x; ending = y; number = 0 }))) b e;
 }
 
-keyword_within : (w : Place) (white on : Bool) (l : Line) (d : Directive) → content_of (scan_from w white on l) ≡ directive d → d.keyword.at + d.keyword.len ≤ length (content l)
+keyword_within : (w : LexState) (white on : Bool) (l : Line) (d : Directive) → content_of (scan_from w white on l) ≡ directive d → d.keyword.at + d.keyword.len ≤ length (content l)
 unfolding scan_from
 keyword_within w white on l d e =
     let k : Span = keyword_in (content_of (scan_from w white on l)) in
@@ -88,43 +88,43 @@ keyword_within w white on l d e =
     omega (arith, a, b, c)
 
 -- a line that becomes an `#if`
-pub record IfScan (w : Place) (white on : Bool) (l k : Line) (d : Directive) : Type 0 where
+pub record IfScan (w : LexState) (white on : Bool) (l k : Line) (d : Directive) : Type 0 where
   pub seen : SeenAsIf (scan_from w white on l) (scan_from w white on k) d
   pub next : NextAlike w white l k
 
 -- it is seen so, and leaves off as before
-pub if_scan : (w : Place) (white on : Bool) (l k : Line) (d : Directive) → Sane w white → content_of (scan_from w white on l) ≡ directive d → LeftLine ToIf d.keyword l k →
+pub if_scan : (w : LexState) (white on : Bool) (l k : Line) (d : Directive) → Sane w white → content_of (scan_from w white on l) ≡ directive d → LeftLine ToIf d.keyword l k →
     IfScan w white on l k d
 unfolding scan_from
 if_scan w white on l k d s e h =
     let within : d.keyword.at + d.keyword.len ≤ length (content l) = keyword_within w white on l d e in
-    let x : Exchanged w white on l k d (if_word d.keyword.len) =
-    exchanged_scan w white on l k d (if_word d.keyword.len) s e (inert_word (if_word d.keyword.len) (each_length (λ v. are_inert v ≡ true) refl refl refl d.keyword.len))
+    let x : Exchanged w white on l k d (opener_keyword d.keyword.len) =
+    exchanged_scan w white on l k d (opener_keyword d.keyword.len) s e (inert_word (opener_keyword d.keyword.len) (each_length (λ v. are_inert v ≡ true) refl refl refl d.keyword.len))
     (each_length StartsDark refl refl refl d.keyword.len) (if_line_content d.keyword l k within h) in
     let p : is_spliced k ≡ is_spliced l = if_splice d.keyword l k within h in
     let t : stays_open k ≡ stays_open l = same_open l k p h.ending in
-    let v : closed_place (stays_open k) (place_after w (content k)) ≡ closed_place (stays_open l) (place_after w (content l)) =
-    ap₂ (λ (b : Bool) (q : Place). closed_place b q) t x.place_is in
-    let c : comment_at (is_spliced k) (place_kind (closed_place (stays_open k) (place_after w (content k))))
-    ≡ comment_at (is_spliced l) (place_kind (closed_place (stays_open l) (place_after w (content l)))) =
-    ap₂ (λ (b : Bool) (q : Place). comment_at b (place_kind q)) p v in
+    let v : state_after_line (stays_open k) (place_after w (content k)) ≡ state_after_line (stays_open l) (place_after w (content l)) =
+    ap₂ (λ (b : Bool) (q : LexState). state_after_line b q) t x.place_is in
+    let c : comment_at (is_spliced k) (kind_in_state (state_after_line (stays_open k) (place_after w (content k))))
+    ≡ comment_at (is_spliced l) (kind_in_state (state_after_line (stays_open l) (place_after w (content l)))) =
+    ap₂ (λ (b : Bool) (q : LexState). comment_at b (kind_in_state q)) p v in
     record {
       seen = record {
         masked_is = x.masked_is;
         fresh_is = x.fresh_is;
         cut_is = ap₂ (λ (b : Bool) (q : CommentAt). b && is_outside q) p c;
-        joins_is = ap₂ (λ (b : Bool) (q : Place). b || is_block (place_kind q)) p v;
+        joins_is = ap₂ (λ (b : Bool) (q : LexState). b || is_block (kind_in_state q)) p v;
         comment_is = c;
       };
       next = record { stays_is = t; place_is = x.place_is; white_is = x.white_is };
     }
 
-calm_in_text : (t : Bool) → place_kind (closed_place t in_text) ≡ single
+calm_in_text : (t : Bool) → kind_in_state (state_after_line t in_text) ≡ single
 calm_in_text true = refl
 calm_in_text false = refl
 
 -- a line that ends after its new keyword
-pub cut_seen : (w : Place) (white on : Bool) (l k : Line) (d : Directive) (word : List ℕ) → Sane w white → content_of (scan_from w white on l) ≡ directive d →
+pub cut_seen : (w : LexState) (white on : Bool) (l k : Line) (d : Directive) (word : List ℕ) → Sane w white → content_of (scan_from w white on l) ≡ directive d →
     Each IsInert word → (EndsIn backslash (take d.keyword.at l.body ++ word) → ⊥) → k.body ≡ take d.keyword.at l.body ++ word →
     SeenCut (scan_from w white on l) (scan_from w white on k) d word
 unfolding scan_from
@@ -132,12 +132,12 @@ cut_seen w white on l k d word s e i n b =
     let within : d.keyword.at + d.keyword.len ≤ length (content l) = keyword_within w white on l d e in
     let x : CutOff w white on l k d word = cut_scan w white on l k d word s e i (cut_line_content d.keyword l k within word n b) in
     let p : is_spliced k ≡ false = cut_splice d.keyword l k within word n b in
-    let v : place_kind (closed_place (stays_open k) (place_after w (content k))) ≡ single =
-    ap (λ (q : Place). place_kind (closed_place (stays_open k) q)) x.place_is ∙ calm_in_text (stays_open k) in
+    let v : kind_in_state (state_after_line (stays_open k) (place_after w (content k))) ≡ single =
+    ap (λ (q : LexState). kind_in_state (state_after_line (stays_open k) q)) x.place_is ∙ calm_in_text (stays_open k) in
     record {
       masked_is = x.masked_is;
       fresh_is = x.fresh_is;
-      cut_is = ap₂ (λ (t : Bool) (q : PieceKind). t && is_outside (comment_at t q)) p v;
-      joins_is = ap₂ (λ (t : Bool) (q : PieceKind). t || is_block q) p v;
-      calm = ap₂ (λ (t : Bool) (q : PieceKind). is_in_block (comment_at t q)) p v;
+      cut_is = ap₂ (λ (t : Bool) (q : LexemeKind). t && is_outside (comment_at t q)) p v;
+      joins_is = ap₂ (λ (t : Bool) (q : LexemeKind). t || is_block q) p v;
+      calm = ap₂ (λ (t : Bool) (q : LexemeKind). is_in_block (comment_at t q)) p v;
     }

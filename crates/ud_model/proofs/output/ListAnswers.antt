@@ -2,10 +2,10 @@
 use Rattle.std.proofs.Common.{◌≡◌, ◌≢◌, ℕ, List, Option, None, refl, sym, ◌∙◌, ap, subst}
 use Rattle.ud_model.specs.sections.Items.{Options}
 use Rattle.ud_model.specs.sections.Faults.{Fault}
-use Rattle.ud_model.specs.answer.CommandLine.{usage_fault, options_of, input_name}
+use Rattle.ud_model.specs.answer.CommandLine.{usage_fault, options_of, display_name}
 use Rattle.ud_model.specs.answer.Answer.{Answer, IsAnswer, refused, ran, message_or_none, status_of, run_answer}
-use Rattle.ud_model.specs.answer.Runs.{Outcome, Runs}
-use Rattle.ud_model.specs.output.Naming.{listing, SayAlike}
+use Rattle.ud_model.specs.answer.Outcomes.{Outcome, HasOutcome}
+use Rattle.ud_model.specs.output.ListedNames.{with_listing, AgreeOnListed}
 use Rattle.ud_model.specs.declared.settings.Settings.{Settings}
 use Rattle.ud_model.proofs.output.AnswerLaws.{faultless}
 use Rattle.ud_model.proofs.output.ListComplete.{list_complete}
@@ -19,14 +19,14 @@ same_answer s u n m r e f =
     with_fault w k g = record { output = r.output; message = message_or_none k g; status = status_of w r.differs g }
 
 -- words that say the same of what is listed have the same answer
-pub answered_by_list : {lister words more : List (List ℕ)} {input : List ℕ} {l a : Answer} → IsAnswer lister input l → l.status ≢ 2 →
-    options_of lister ≡ listing (options_of words) → IsAnswer words input a → a.status ≢ 2 → usage_fault more ≡ None →
-    (options_of more).settings ≡ (options_of words).settings → SayAlike l.output (options_of words).table (options_of more).table → IsAnswer more input a
+pub answered_by_list : {lister args more : List (List ℕ)} {input : List ℕ} {l a : Answer} → IsAnswer lister input l → l.status ≢ 2 →
+    options_of lister ≡ with_listing (options_of args) → IsAnswer args input a → a.status ≢ 2 → usage_fault more ≡ None →
+    (options_of more).settings ≡ (options_of args).settings → AgreeOnListed l.output (options_of args).table (options_of more).table → IsAnswer more input a
 answered_by_list (refused f e) n g b k u same alike = absurd (n refl)
 answered_by_list (ran r e d) n g (refused f h) k u same alike = absurd (k refl)
-answered_by_list {lister = lister} {words = words} {more = more} {input = input} (ran r e d) n g (ran s f b) k u same alike =
+answered_by_list {lister = lister} {args = args} {more = more} {input = input} (ran r e d) n g (ran s f b) k u same alike =
     let calm : r.fault ≡ None = faultless (options_of lister).settings r.differs r.fault n in
-    let quiet : s.fault ≡ None = faultless (options_of words).settings s.differs s.fault k in
-    let there : Runs (options_of more) input s =
-    list_complete (options_of words) (options_of more) input (subst (λ (o : Options). Runs o input r) g d) calm same alike b in
-    subst (IsAnswer more input) (same_answer (options_of more).settings (options_of words).settings (input_name more) (input_name words) s quiet same) (ran s u there)
+    let quiet : s.fault ≡ None = faultless (options_of args).settings s.differs s.fault k in
+    let there : HasOutcome (options_of more) input s =
+    list_complete (options_of args) (options_of more) input (subst (λ (o : Options). HasOutcome o input r) g d) calm same alike b in
+    subst (IsAnswer more input) (same_answer (options_of more).settings (options_of args).settings (display_name more) (display_name args) s quiet same) (ran s u there)

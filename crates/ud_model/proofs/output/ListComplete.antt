@@ -1,7 +1,7 @@
 -- The list of names is complete: of the symbols only those count that are listed, or to which a listed one leads.
 use Rattle.std.proofs.Common.{◌≡◌, ◌≢◌, ◌⊎◌, inl, inr, ℕ, List, [], ◌∷◌, ◌++◌, length, map, Bool, false, ◌||◌, Option, Some, None, refl, sym, ◌∙◌, ap, ap₂, subst, append_assoc, arith}
 use Rattle.std.proofs.lemmas.List.{map-append}
-use Rattle.ud_model.specs.text.Lines.{Line, parts_of, open_rest, lines_of}
+use Rattle.ud_model.specs.text.Lines.{Line, split_lines, partial_line, lines_of}
 use Rattle.ud_model.specs.text.Scans.{Reading}
 use Rattle.ud_model.specs.text.Scanning.{next_reading, readings_of}
 use Rattle.ud_model.specs.sections.Directives.{content_of}
@@ -9,15 +9,15 @@ use Rattle.ud_model.specs.conditions.Table.{Argument, entry_in}
 use Rattle.ud_model.specs.conditions.Symbols.{defined_text}
 use Rattle.ud_model.specs.sections.Tree.{Item, Tree, lines, is_ignoring}
 use Rattle.ud_model.specs.sections.Items.{Options, reading_of, line_of, item_of, mode_by, mode_after, read_after, next_item, rules_of}
-use Rattle.ud_model.specs.sections.Faults.{Fault, FaultOf, AreSound, no_lines, one_more, NoneHolds, cases}
+use Rattle.ud_model.specs.sections.Faults.{Fault, FaultOf, AreFaultless, no_lines, one_more, NoneHolds, cases}
 use Rattle.ud_model.specs.answer.Listing.{names_in_content, names_at, listed_names, listed, levels}
-use Rattle.ud_model.specs.answer.Runs.{Outcome, outcome_of, output_by, StopsAt, ReadsAs, Runs, ran_as}
-use Rattle.ud_model.specs.answer.Runs.ReadsAs.{stops, ends}
+use Rattle.ud_model.specs.answer.Outcomes.{Outcome, outcome_of, output_by, FirstFaultAt, ReadsAs, HasOutcome, ran_as}
+use Rattle.ud_model.specs.answer.Outcomes.ReadsAs.{stops, ends}
 use Rattle.ud_model.specs.output.Rereading.{NoneIgnores}
-use Rattle.ud_model.specs.output.Naming.{listing, listed_settings, IsListed, LeadsTo, itself, by_value, IsNoValue, SayAlike}
+use Rattle.ud_model.specs.output.ListedNames.{with_listing, listing_settings, IsListed, LeadsTo, itself, by_value, IsNoValue, AgreeOnListed}
 use Rattle.ud_model.specs.declared.settings.Settings.{Settings}
 use Rattle.ud_model.specs.declared.kind.Mode.{Mode}
-use Rattle.ud_model.proofs.text.LinesLemmas.{parts_of-append-line}
+use Rattle.ud_model.proofs.text.LinesLemmas.{split_lines-append-line}
 use Rattle.ud_model.proofs.text.ScanLaws.{readings_after-append, readings_after-front}
 use Rattle.ud_model.proofs.conditions.NamedAlike.{Alike, item_alike}
 use Rattle.ud_model.proofs.sections.Soundness.{reading_of-item_of, sound_lines, lines_with_next, one_run}
@@ -45,18 +45,18 @@ module _ (o p : Options) (plain : o.settings.plain ≡ p.settings.plain) (rules 
       ∙ ap (λ (b : Bool). item_of p (read_after xs (mode_by (b || is_ignoring t)) l)) plain
 
   -- lines that are sound under the one options are so under the others
-  pub sound_alike : {xs : List (Item Reading)} {t : Tree Reading} → AreSound o xs t → AllNames Known xs → AreSound p xs t
+  pub sound_alike : {xs : List (Item Reading)} {t : Tree Reading} → AreFaultless o xs t → AllNames Known xs → AreFaultless p xs t
   sound_alike no_lines h = no_lines
   sound_alike (one_more xs t s l u e n) h =
       let q : AllNames Known xs × AllNames Known (next_item o xs t l ∷ []) = each_parts (λ x. Each Known (names_at x)) xs (next_item o xs t l ∷ []) h in
       let x : next_item o xs t l ≡ next_item p xs t l =
       next_alike xs t l (subst (NamesRead Known) (reading_of-item_of o (read_after xs (mode_after o t) l)) q.1.0) in
-      subst (λ (y : Item Reading). AreSound p (xs ++ y ∷ []) u) (sym x)
+      subst (λ (y : Item Reading). AreFaultless p (xs ++ y ∷ []) u) (sym x)
       (one_more xs t (sound_alike s q.0) l u (subst (λ (y : Item Reading). lines u ≡ xs ++ y ∷ []) x e) (subst (λ (y : Item Reading). NoneHolds xs y cases) x n))
 
   -- and so they stop with the same fault
-  pub stop_alike : (ls : List Line) (xs : List (Item Reading)) (t : Tree Reading) (f : Fault) → (s : StopsAt o ls xs t f) → AllNames Known xs →
-      NamesRead Known (read_after xs (mode_after o t) s.faulty) → StopsAt p ls xs t f
+  pub stop_alike : (ls : List Line) (xs : List (Item Reading)) (t : Tree Reading) (f : Fault) → (s : FirstFaultAt o ls xs t f) → AllNames Known xs →
+      NamesRead Known (read_after xs (mode_after o t) s.faulty) → FirstFaultAt p ls xs t f
   stop_alike ls xs t f s h k = record {
     sound = sound_alike s.sound h;
     faulty = s.faulty;
@@ -67,15 +67,15 @@ module _ (o p : Options) (plain : o.settings.plain ≡ p.settings.plain) (rules 
 
 -- 2. What is listed.
 
-rest_none : (t : List ℕ) → open_rest (t ++ 10 ∷ []) ≡ []
-rest_none t = ap (λ q. q.rest) (parts_of-append-line t [] tt)
+rest_none : (t : List ℕ) → partial_line (t ++ 10 ∷ []) ≡ []
+rest_none t = ap (λ q. q.rest) (split_lines-append-line t [] tt)
 
 name_first : (n : List ℕ) (names : List (List ℕ)) → listed_names [] (n ∷ names) ≡ n ++ 10 ∷ listed_names [] names
 name_first n names = append_assoc n (10 ∷ []) (listed_names [] names)
 
-names_then : (P : List ℕ → Type 0) (names : List (List ℕ)) (rest before : List ℕ) → open_rest before ≡ [] →
+names_then : (P : List ℕ → Type 0) (names : List (List ℕ)) (rest before : List ℕ) → partial_line before ≡ [] →
     ((n : List ℕ) → IsListed n (before ++ (listed_names [] names ++ rest)) → P n) →
-    Each P names × ((b : List ℕ) × (open_rest b ≡ []) × (before ++ (listed_names [] names ++ rest) ≡ b ++ rest))
+    Each P names × ((b : List ℕ) × (partial_line b ≡ []) × (before ++ (listed_names [] names ++ rest) ≡ b ++ rest))
 names_then P [] rest before z h = (tt, (before, z, refl))
 names_then P (n ∷ names) rest before z h =
     let more : List ℕ = listed_names [] names in
@@ -87,7 +87,7 @@ names_then P (n ∷ names) rest before z h =
     ((h n (before, more ++ rest, z, flat), k.0), (k.1.0, k.1.1, flat ∙ moved ∙ k.1.2))
 
 -- a property of all that is listed is one of all names
-all_from : (P : List ℕ → Type 0) (xs : List (Item Reading)) (ns before : List ℕ) → length ns ≡ length xs → open_rest before ≡ [] →
+all_from : (P : List ℕ → Type 0) (xs : List (Item Reading)) (ns before : List ℕ) → length ns ≡ length xs → partial_line before ≡ [] →
     ((n : List ℕ) → IsListed n (before ++ listed false xs ns) → P n) → AllNames P xs
 all_from P [] ns before e z h = tt
 all_from P (x ∷ xs) [] before e z h = absurd (omega arith)
@@ -95,9 +95,9 @@ all_from P (x ∷ xs) (n ∷ ns) before e z h =
     let k = names_then P (names_at x) (listed false xs ns) before z h in
     (k.0, all_from P xs ns k.1.0 (omega arith) k.1.1 (λ m i. h m (subst (IsListed m) (sym k.1.2) i)))
 
-all_listed : (P : List ℕ → Type 0) {o : Options} {xs : List (Item Reading)} {t : Tree Reading} → AreSound o xs t →
+all_listed : (P : List ℕ → Type 0) {o : Options} {xs : List (Item Reading)} {t : Tree Reading} → AreFaultless o xs t →
     ((n : List ℕ) → IsListed n (listed false xs (levels t)) → P n) → AllNames P xs
-unfolding parts_of
+unfolding split_lines
 all_listed P {xs = xs} {t = t} s h =
     all_from P xs (levels t) [] (length_levels t ∙ ap (λ (ys : List (Item Reading)). length ys) (sound_lines s)) refl h
 
@@ -107,17 +107,17 @@ abbrev the_same : (t : List Argument) (n : List ℕ) → Alike t t n
 the_same t n m l = refl
 
 same_settings : {o p : Options} {input : List ℕ} {xs : List (Item Reading)} {t : Tree Reading} {f : Option Fault} {r : Outcome} → p.settings ≡ o.settings →
-    ReadsAs o input xs t f → ReadsAs p input xs t f → Runs o input r → Runs p input r
+    ReadsAs o input xs t f → ReadsAs p input xs t f → HasOutcome o input r → HasOutcome p input r
 same_settings {o = o} {p = p} {input = input} {xs = xs} {t = t} {f = f} {r = r} same a b run =
-    subst (Runs p input) (ap (λ (s : Settings). outcome_of s xs t f) same ∙ one_run (ran_as a) run) (ran_as b)
+    subst (HasOutcome p input) (ap (λ (s : Settings). outcome_of s xs t f) same ∙ one_run (ran_as a) run) (ran_as b)
 
-pub list_complete : (o p : Options) (input : List ℕ) {l r : Outcome} → Runs (listing o) input l → l.fault ≡ None → p.settings ≡ o.settings →
-    SayAlike l.output o.table p.table → Runs o input r → Runs p input r
+pub list_complete : (o p : Options) (input : List ℕ) {l r : Outcome} → HasOutcome (with_listing o) input l → l.fault ≡ None → p.settings ≡ o.settings →
+    AgreeOnListed l.output o.table p.table → HasOutcome o input r → HasOutcome p input r
 list_complete o p input (ran_as (stops xs t f s)) e same alike run = cc
 list_complete o p input (ran_as (ends xs t g)) e same alike run =
-    let here : AreSound o xs t = sound_alike (listing o) o refl refl g.sound (all_listed (Alike o.table o.table) g.sound (λ n i. the_same o.table n)) in
+    let here : AreFaultless o xs t = sound_alike (with_listing o) o refl refl g.sound (all_listed (Alike o.table o.table) g.sound (λ n i. the_same o.table n)) in
     let names : AllNames (Alike o.table p.table) xs = all_listed (Alike o.table p.table) g.sound (λ n i m l. alike n m i l) in
-    let there : AreSound p xs t =
+    let there : AreFaultless p xs t =
     sound_alike o p (ap (λ (s : Settings). s.plain) (sym same)) (ap (λ (s : Settings). rules_of s) (sym same)) here names in
     same_settings same (ends xs t (record { sound = here; are = g.are })) (ends xs t (record { sound = there; are = g.are })) run
 
@@ -152,11 +152,11 @@ read_front m ls l later =
     )
 
 module _ (o : Options) (n : NoneIgnores o.table) where
-  mode_is : {xs : List (Item Reading)} {t : Tree Reading} → AreSound o xs t → mode_after o t ≡ the_mode o
+  mode_is : {xs : List (Item Reading)} {t : Tree Reading} → AreFaultless o xs t → mode_after o t ≡ the_mode o
   mode_is {xs = xs} {t = t} s = one_mode o n xs t (sound_lines s) (sound_heed o n xs t s)
 
   -- sound lines are read in the one mode
-  read_so : {xs : List (Item Reading)} {t : Tree Reading} → AreSound o xs t → map reading_of xs ≡ read_in (the_mode o) (map line_of xs)
+  read_so : {xs : List (Item Reading)} {t : Tree Reading} → AreFaultless o xs t → map reading_of xs ≡ read_in (the_mode o) (map line_of xs)
   read_so no_lines = refl
   read_so (one_more xs t s l u e w) =
       map-append reading_of xs (next_item o xs t l ∷ [])
@@ -172,7 +172,7 @@ module _ (o p : Options) (input : List ℕ) (same : p.settings ≡ o.settings) (
   abbrev Told : Reading → Type 0
   Told r = NamesRead (Alike o.table p.table) r
 
-  reads_alike : Each Told (read_in (the_mode o) (lines_of input)) → {r : Outcome} → Runs o input r → Runs p input r
+  reads_alike : Each Told (read_in (the_mode o) (lines_of input)) → {r : Outcome} → HasOutcome o input r → HasOutcome p input r
   reads_alike h (ran_as (stops xs t f s)) =
       let w = read_front (the_mode o) (map line_of xs) s.faulty s.later in
       let q = each_parts Told (read_in (the_mode o) (map line_of xs) ++ next_reading (read_in (the_mode o) (map line_of xs)) (the_mode o) s.faulty ∷ []) w.0
@@ -194,8 +194,8 @@ module _ (o p : Options) (input : List ℕ) (same : p.settings ≡ o.settings) (
       }))
       (ran_as (ends xs t g))
 
-pub list_serves : (q o p : Options) (input : List ℕ) {l r : Outcome} → q.settings ≡ listed_settings o.settings → NoneIgnores q.table → NoneIgnores o.table →
-    Runs q input l → l.fault ≡ None → p.settings ≡ o.settings → SayAlike l.output o.table p.table → Runs o input r → Runs p input r
+pub list_serves : (q o p : Options) (input : List ℕ) {l r : Outcome} → q.settings ≡ listing_settings o.settings → NoneIgnores q.table → NoneIgnores o.table →
+    HasOutcome q input l → l.fault ≡ None → p.settings ≡ o.settings → AgreeOnListed l.output o.table p.table → HasOutcome o input r → HasOutcome p input r
 list_serves q o p input set calm n (ran_as (stops xs t f s)) e same alike run = cc
 list_serves q o p input set calm n (ran_as (ends xs t g)) e same alike run =
     let out : output_by q.settings.listing q.settings xs t ≡ listed false xs (levels t) = ap (λ (s : Settings). output_by s.listing s xs t) set in
@@ -213,7 +213,7 @@ led_to : (t : List Argument) (n m : List ℕ) → LeadsTo t n m → (m ≡ n) �
 led_to t _ _ (itself n) = inl refl
 led_to t _ _ (by_value n v m d i l) = elim (led_to t v m l) [ inl e ↦ inr (n, d ∙ ap (λ (w : List ℕ). Some w) (sym e)) | inr k ↦ inr k ]
 
-pub alike_but_one : (list name : List ℕ) (t u : List Argument) → (IsListed name list → ⊥) → IsNoValue t name → ((n : List ℕ) → n ≢ name → entry_in t n ≡ entry_in u n) → SayAlike list t u
+pub alike_but_one : (list name : List ℕ) (t u : List Argument) → (IsListed name list → ⊥) → IsNoValue t name → ((n : List ℕ) → n ≢ name → entry_in t n ≡ entry_in u n) → AgreeOnListed list t u
 alike_but_one list name t u out none same n m i l = same m (λ e. other e (led_to t n m l))
   where
     other : m ≡ name → (m ≡ n) ⊎ ((k : List ℕ) × (defined_text t k ≡ Some m)) → ⊥

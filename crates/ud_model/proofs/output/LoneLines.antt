@@ -5,29 +5,29 @@ use Rattle.std.proofs.lemmas.Bool.Decides.{Decides-eqb}
 use Rattle.std.proofs.lemmas.Slice.Eq.{ends_is}
 use Rattle.std.proofs.lemmas.List.{take_at}
 use Rattle.std.proofs.lemmas.Fmt.{decimal_by_steps}
-use Rattle.ud_model.specs.text.Bytes.{is_quote, slash, backslash, line_feed}
-use Rattle.ud_model.specs.text.Lines.{NoFeed, IsWhole, ending_of, Line, line_at}
+use Rattle.ud_model.specs.text.Bytes.{is_quote, slash, backslash, newline}
+use Rattle.ud_model.specs.text.Lines.{NoNewline, IsWhole, ending_of, Line, line_at}
 use Rattle.ud_model.specs.text.Scans.{Reading, plain_scan}
-use Rattle.ud_model.specs.text.Splicing.{is_empty, is_spliced, content, stays_open, run_of}
+use Rattle.ud_model.specs.text.Splicing.{is_empty, is_spliced, content, stays_open, c_run_of}
 use Rattle.ud_model.specs.text.Scanning.{scan_after}
-use Rattle.ud_model.specs.aids.Places.{Place, in_text, at_slash, in_literal, next, closed_place}
+use Rattle.ud_model.specs.aids.LexStates.{LexState, in_text, at_slash, in_literal, next_state, state_after_line}
 use Rattle.ud_model.specs.sections.Tree.{Item}
 use Rattle.ud_model.specs.sections.Items.{reading_of}
-use Rattle.ud_model.specs.answer.Printing.{number_line, ending_or_feed}
+use Rattle.ud_model.specs.answer.Printing.{number_line, ending_or_newline}
 use Rattle.ud_model.specs.declared.kind.Mode.{Mode}
 use Rattle.ud_model.specs.declared.kind.Mode.TheVariants.{C, Plain}
 use Rattle.ud_model.proofs.output.Each.{Each, each_both}
 use Rattle.ud_model.proofs.output.Formed.{IsEnd, EndsIn, ending_both, ending_feed}
 use Rattle.ud_model.proofs.output.LeavesOff.{LeavesOff}
 use Rattle.ud_model.proofs.text.LinesLemmas.{no_feed-append}
-use Rattle.ud_model.proofs.text.ScanLaws.{place_after, masked_after, scan_from, scan_behind-from}
+use Rattle.ud_model.proofs.text.ScanLaws.{place_after, masked_after, scan_from, scan_after_run-from}
 
 -- a byte that begins nothing and ends nothing
 pub record Quiet (b : ℕ) : Type 0 where
   pub no_slash : (b == slash) ≡ false
   pub no_quote : is_quote b ≡ false
   pub no_backslash : (b == backslash) ≡ false
-  pub no_feed : b ≢ line_feed
+  pub no_feed : b ≢ newline
   pub no_return : b ≢ 13
 
 digit_quiet : (n : ℕ) → n < 10 → Quiet (48 + n)
@@ -71,7 +71,7 @@ says_quiet n h = each_both Quiet (codes "#line ") (decimal n) word_quiet (decima
 
 -- 1. As lines.
 
-quiet_no_feed : (b : List ℕ) → Each Quiet b → NoFeed b
+quiet_no_feed : (b : List ℕ) → Each Quiet b → NoNewline b
 quiet_no_feed [] q = tt
 quiet_no_feed (x ∷ b) q = (q.0.no_feed, quiet_no_feed b q.1)
 
@@ -103,17 +103,17 @@ quiet_whole b e q (inr h) = (b, quiet_no_feed b q, ap (λ (t : List ℕ). b ++ t
 
 -- 2. As they are seen.
 
-next_quiet : (b : ℕ) → Quiet b → next in_text b ≡ in_text
+next_quiet : (b : ℕ) → Quiet b → next_state in_text b ≡ in_text
 next_quiet b q = ap₂ (λ (s t : Bool). if s then at_slash else if t then in_literal b else in_text) q.no_slash q.no_quote
 
 pub place_quiet : (b : List ℕ) → Each Quiet b → place_after in_text b ≡ in_text
 place_quiet [] q = refl
-place_quiet (x ∷ b) q = ap (λ (w : Place). place_after w b) (next_quiet x q.0) ∙ place_quiet b q.1
+place_quiet (x ∷ b) q = ap (λ (w : LexState). place_after w b) (next_quiet x q.0) ∙ place_quiet b q.1
 
 masked_quiet : (b seen : List ℕ) → Each Quiet b → masked_after in_text seen b ≡ seen ++ b
 masked_quiet [] seen q = sym (append-nil seen)
 masked_quiet (x ∷ b) seen q =
-    ap (λ (w : Place). masked_after w (seen ++ x ∷ []) b) (next_quiet x q.0) ∙ masked_quiet b (seen ++ x ∷ []) q.1 ∙ append_assoc seen (x ∷ []) b
+    ap (λ (w : LexState). masked_after w (seen ++ x ∷ []) b) (next_quiet x q.0) ∙ masked_quiet b (seen ++ x ∷ []) q.1 ∙ append_assoc seen (x ∷ []) b
 
 -- a line of quiet bytes with an ending
 pub record IsQuiet (l : Line) : Type 0 where
@@ -145,9 +145,9 @@ module _ (l : Line) (q : IsQuiet l) where
   closed : stays_open l ≡ false
   closed = ap₂ (λ (a b : Bool). a || b) (spliced_not l q) (end_some l.ending q.end)
 
-  lands : closed_place (stays_open l) (place_after in_text (content l)) ≡ in_text
+  lands : state_after_line (stays_open l) (place_after in_text (content l)) ≡ in_text
   lands =
-      ap₂ (λ (s : Bool) (w : Place). closed_place s w) closed (ap (λ (b : List ℕ). place_after in_text b) all_content ∙ place_quiet l.body q.quiet)
+      ap₂ (λ (s : Bool) (w : LexState). state_after_line s w) closed (ap (λ (b : List ℕ). place_after in_text b) all_content ∙ place_quiet l.body q.quiet)
 
   seen_quiet : scan_from in_text true false l ≡ plain_scan l
   unfolding scan_from
@@ -159,9 +159,9 @@ module _ (l : Line) (q : IsQuiet l) where
 -- between logical lines a quiet line is seen as it stands
 pub lone_scan : (zs : List (Item Reading)) (m : Mode) (l : Line) → LeavesOff zs in_text true false → IsQuiet l → scan_after (map reading_of zs) m l ≡ plain_scan l
 lone_scan zs Plain l a q = refl
-lone_scan zs C l a q = scan_behind-from (run_of (map reading_of zs)) l in_text true false a.reads a.joins_on ∙ seen_quiet l q
+lone_scan zs C l a q = scan_after_run-from (c_run_of (map reading_of zs)) l in_text true false a.reads a.joins_on ∙ seen_quiet l q
 
 -- the line of a number
-pub number_quiet : (m : ℕ) (l : Line) → IsEnd (ending_or_feed l.ending) → l.number < 2 ^ 64 →
-    line_at m (number_line l) ≡ record { body = says_number l.number; ending = ending_or_feed l.ending; number = m }
-number_quiet m l e h = quiet_line m (says_number l.number) (ending_or_feed l.ending) (says_quiet l.number h) e
+pub number_quiet : (m : ℕ) (l : Line) → IsEnd (ending_or_newline l.ending) → l.number < 2 ^ 64 →
+    line_at m (number_line l) ≡ record { body = says_number l.number; ending = ending_or_newline l.ending; number = m }
+number_quiet m l e h = quiet_line m (says_number l.number) (ending_or_newline l.ending) (says_quiet l.number h) e

@@ -1,15 +1,15 @@
 -- The pieces that are printed are lines: those of the items that are left.
 use Rattle.std.proofs.Common.{◌≡◌, ℕ, suc, ◌≤◌, List, [], ◌∷◌, ◌++◌, length, map, refl, sym, ◌∙◌, ap, subst, arith, ◌⊎◌, inl, inr}
 use Rattle.std.specs.List.{concat}
-use Rattle.ud_model.specs.text.Lines.{Line, texts_of, lines_of, line_at, numbered_from, IsWhole, IsUnended, AreFormed}
+use Rattle.ud_model.specs.text.Lines.{Line, texts_of, lines_of, line_at, numbered_from, IsWhole, IsUnterminated, AreFormed}
 use Rattle.ud_model.specs.text.Scans.{Reading}
 use Rattle.ud_model.specs.sections.Directives.{content_of}
 use Rattle.ud_model.specs.sections.Tree.{Item, Nodes, text_line, if_line, elif_line, else_line, endif_line, closed}
 use Rattle.ud_model.specs.sections.Pruning.{Mark, marks}
 use Rattle.ud_model.specs.sections.Items.{Options, reading_of, line_of}
 use Rattle.ud_model.specs.answer.Printing.{piece_by, keyword_in}
-use Rattle.ud_model.specs.answer.Runs.{GoesThrough}
-use Rattle.ud_model.specs.output.Pruned.{Edited, edited, edited_opener, left_item, printed}
+use Rattle.ud_model.specs.answer.Outcomes.{HasNoFault}
+use Rattle.ud_model.specs.output.Pruned.{Edited, edited, edited_opener, kept_line, printed}
 use Rattle.ud_model.specs.output.Rereading.{edited_bytes}
 use Rattle.ud_model.specs.declared.verdict.Verdict.{Verdict}
 use Rattle.ud_model.specs.declared.verdict.Verdict.TheVariants.{Keep, Remove, ToIf, ToElse, ToEndif}
@@ -26,7 +26,7 @@ line_in (endif_line l) = l
 
 -- what is left of a line: nothing, or one item, whose bytes are the line's piece
 unfoldable pub LeftOne : Verdict → Item Reading → Type 0
-LeftOne v x = (y : Item (Edited Reading)) × (left_item v x ≡ y ∷ []) × (edited_bytes (line_in y) ≡ piece_by v (keyword_in (content_of (reading_of x).scan)) (line_of x)) × IsLeft v
+LeftOne v x = (y : Item (Edited Reading)) × (kept_line v x ≡ y ∷ []) × (edited_bytes (line_in y) ≡ piece_by v (keyword_in (content_of (reading_of x).scan)) (line_of x)) × IsLeft v
 
 pub left_one : (v : Verdict) (x : Item Reading) → (v ≡ Remove) ⊎ LeftOne v x
 unfolding LeftOne
@@ -62,35 +62,35 @@ printed_most [] ms = omega arith
 printed_most (x ∷ xs) [] = omega arith
 printed_most (x ∷ xs) (m ∷ ms) = go (left_one m.verdict x) (printed_most xs ms)
   where
-    go : (m.verdict ≡ Remove) ⊎ LeftOne m.verdict x → length (printed xs ms) ≤ length xs → length (left_item m.verdict x ++ printed xs ms) ≤ suc (length xs)
-    go (inl r) h = subst (λ (v : Verdict). length (left_item v x ++ printed xs ms) ≤ suc (length xs)) (sym r) (omega (arith, h))
+    go : (m.verdict ≡ Remove) ⊎ LeftOne m.verdict x → length (printed xs ms) ≤ length xs → length (kept_line m.verdict x ++ printed xs ms) ≤ suc (length xs)
+    go (inl r) h = subst (λ (v : Verdict). length (kept_line v x ++ printed xs ms) ≤ suc (length xs)) (sym r) (omega (arith, h))
     go (inr (y, is, bytes, left)) h = subst (λ (ys : List (Item (Edited Reading))). length (ys ++ printed xs ms) ≤ suc (length xs)) (sym is) (omega (arith, h))
 
 formed_with : (v : Verdict) (x : Item Reading) (rest : List (Item (Edited Reading))) (n : ℕ) (t : List ℕ) → line_of x ≡ line_at n t → IsWhole t → AreFormed (all_pieces rest) →
-    AreFormed (all_pieces (left_item v x ++ rest))
+    AreFormed (all_pieces (kept_line v x ++ rest))
 unfolding LeftOne all_pieces
 formed_with v x rest n t e w f = go (left_one v x)
   where
-    go : (v ≡ Remove) ⊎ LeftOne v x → AreFormed (all_pieces (left_item v x ++ rest))
-    go (inl r) = subst (λ (u : Verdict). AreFormed (all_pieces (left_item u x ++ rest))) (sym r) f
+    go : (v ≡ Remove) ⊎ LeftOne v x → AreFormed (all_pieces (kept_line v x ++ rest))
+    go (inl r) = subst (λ (u : Verdict). AreFormed (all_pieces (kept_line u x ++ rest))) (sym r) f
     go (inr (y, is, bytes, left)) =
         subst (λ (ys : List (Item (Edited Reading))). AreFormed (all_pieces (ys ++ rest))) (sym is)
         (formed_more (edited_bytes (line_in y)) (all_pieces rest)
         (subst IsWhole (sym (bytes ∙ ap (λ (l : Line). piece_by v (keyword_in (content_of (reading_of x).scan)) l) e)) (whole_piece v (keyword_in (content_of (reading_of x).scan)) n t left w)) f)
 
-formed_last : (v : Verdict) (x : Item Reading) (n : ℕ) (t : List ℕ) → line_of x ≡ line_at n t → IsWhole t ⊎ IsUnended t → AreFormed (all_pieces (left_item v x ++ []))
+formed_last : (v : Verdict) (x : Item Reading) (n : ℕ) (t : List ℕ) → line_of x ≡ line_at n t → IsWhole t ⊎ IsUnterminated t → AreFormed (all_pieces (kept_line v x ++ []))
 unfolding LeftOne all_pieces
 formed_last v x n t e w = go (left_one v x)
   where
-    piece : IsWhole t ⊎ IsUnended t → IsLeft v → IsWhole (piece_by v (keyword_in (content_of (reading_of x).scan)) (line_at n t)) ⊎ IsUnended (piece_by v (keyword_in (content_of (reading_of x).scan)) (line_at n t))
+    piece : IsWhole t ⊎ IsUnterminated t → IsLeft v → IsWhole (piece_by v (keyword_in (content_of (reading_of x).scan)) (line_at n t)) ⊎ IsUnterminated (piece_by v (keyword_in (content_of (reading_of x).scan)) (line_at n t))
     piece (inl a) h = inl (whole_piece v (keyword_in (content_of (reading_of x).scan)) n t h a)
     piece (inr a) h = inr (unended_piece v (keyword_in (content_of (reading_of x).scan)) n t h a)
 
-    go : (v ≡ Remove) ⊎ LeftOne v x → AreFormed (all_pieces (left_item v x ++ []))
-    go (inl r) = subst (λ (u : Verdict). AreFormed (all_pieces (left_item u x ++ []))) (sym r) tt
+    go : (v ≡ Remove) ⊎ LeftOne v x → AreFormed (all_pieces (kept_line v x ++ []))
+    go (inl r) = subst (λ (u : Verdict). AreFormed (all_pieces (kept_line u x ++ []))) (sym r) tt
     go (inr (y, is, bytes, left)) =
         subst (λ (ys : List (Item (Edited Reading))). AreFormed (all_pieces (ys ++ []))) (sym is)
-        (subst (λ (q : List ℕ). IsWhole q ⊎ IsUnended q) (sym (bytes ∙ ap (λ (l : Line). piece_by v (keyword_in (content_of (reading_of x).scan)) l) e)) (piece w left))
+        (subst (λ (q : List ℕ). IsWhole q ⊎ IsUnterminated q) (sym (bytes ∙ ap (λ (l : Line). piece_by v (keyword_in (content_of (reading_of x).scan)) l) e)) (piece w left))
 
 pub all_formed : (xs : List (Item Reading)) (ms : List Mark) (n : ℕ) (ts : List (List ℕ)) → map line_of xs ≡ numbered_from n ts → AreFormed ts → AreFormed (all_pieces (printed xs ms))
 unfolding all_pieces
@@ -106,7 +106,7 @@ all_formed (x ∷ y ∷ xs) (m ∷ ms) n (t ∷ u ∷ ts) e f =
     formed_with m.verdict x (printed (y ∷ xs) ms) n t p f.0 (all_formed (y ∷ xs) ms (suc n) (u ∷ ts) q f.1)
 
 -- what is printed of the lines of a text that goes through is lines
-pub pieces_formed : (o : Options) (input : List ℕ) (xs : List (Item Reading)) (ns : Nodes Reading) → GoesThrough o (lines_of input) xs (closed ns) →
+pub pieces_formed : (o : Options) (input : List ℕ) (xs : List (Item Reading)) (ns : Nodes Reading) → HasNoFault o (lines_of input) xs (closed ns) →
     AreFormed (map (λ y. edited_bytes (line_in y)) (printed xs (marks (closed ns))))
 unfolding all_pieces
 pieces_formed o input xs ns g = all_formed xs (marks (closed ns)) 1 (texts_of input) (sym g.are) (lines_exist input).formed

@@ -7,7 +7,7 @@ use Rattle.ud_model.specs.declared.verdict.Verdict.TheVariants.{Keep, ToEndif}
 use Rattle.ud_model.specs.sections.Tree.{Item, Opener, Nodes, Groups, Elifs, text_line, if_line, elif_line, else_line, endif_line, nothing, text, section, conditional, otherwise, first, elif, closed, lines_of_nodes, lines_of_groups, lines_of_elifs}
 use Rattle.ud_model.specs.sections.Pruning.{Part, an_if, an_elif, an_else, Mark, marked, is_kept, conds_of_elifs, conds_of_groups, endif_verdict, marks}
 use Rattle.ud_model.specs.aids.SoFar.{verdict_so_far, nodes_so_far, groups_so_far, elifs_so_far}
-use Rattle.ud_model.specs.output.Pruned.{Edited, edited, Left, none_kept, replaced, kept_groups, ended, then_nodes, with_group, with_else, then_left, pruned, left_of_groups, left_of_elifs, left_item, printed}
+use Rattle.ud_model.specs.output.Pruned.{Edited, edited, KeptGroups, none_kept, replaced, kept_groups, ended, then_nodes, with_group, with_else, then_kept, pruned, kept_groups_of, kept_elifs_of, kept_line, printed}
 use Rattle.ud_model.proofs.output.Changed.{as_many_nodes, as_many_groups, as_many_elifs}
 use Rattle.ud_model.proofs.sections.Stays.{marks_so_far_same}
 use Rattle.ud_model.proofs.sections.Stages.{Stage, leading, given, going, at_true, past, stage, next_stage, verdict_at, kept_at, endif_at, verdict_by_stage, kept_by_stage, stage_next, endif_by_stage}
@@ -19,11 +19,11 @@ module _ {L : Type 0} where
   printed-append [] ys (m ∷ ms) ns e = absurd (omega arith)
   printed-append (x ∷ xs) ys [] ns e = absurd (omega arith)
   printed-append (x ∷ xs) ys (m ∷ ms) ns e =
-      ap (λ (zs : List (Item (Edited L))). left_item m.verdict x ++ zs) (printed-append xs ys ms ns (omega arith))
-      ∙ sym (append_assoc (left_item m.verdict x) (printed xs ms) (printed ys ns))
+      ap (λ (zs : List (Item (Edited L))). kept_line m.verdict x ++ zs) (printed-append xs ys ms ns (omega arith))
+      ∙ sym (append_assoc (kept_line m.verdict x) (printed xs ms) (printed ys ns))
 
   -- the lines of what is left of a section's groups
-  abbrev pub left_lines : Left L → List (Item (Edited L))
+  abbrev pub left_lines : KeptGroups L → List (Item (Edited L))
   left_lines none_kept = []
   left_lines (replaced ms) = lines_of_nodes ms
   left_lines (kept_groups es) = lines_of_elifs es
@@ -31,7 +31,7 @@ module _ {L : Type 0} where
   left_lines (ended es l ms (Some k)) = ((lines_of_elifs es ++ else_line l ∷ []) ++ lines_of_nodes ms) ++ endif_line k ∷ []
 
   -- the stage at which so much is left
-  abbrev pub stage_of : Left L → Stage
+  abbrev pub stage_of : KeptGroups L → Stage
   stage_of none_kept = leading
   stage_of (replaced ms) = given
   stage_of (kept_groups es) = going
@@ -39,7 +39,7 @@ module _ {L : Type 0} where
   stage_of (ended es l ms (Some k)) = past
 
   -- what is left of the groups, by their conditions
-  record Has (cs : List Cond) (left : Left L) (xs : List (Item (Edited L))) : Type 0 where
+  record Has (cs : List Cond) (left : KeptGroups L) (xs : List (Item (Edited L))) : Type 0 where
     pub stands : stage cs ≡ stage_of left
     pub are : xs ≡ left_lines left
 
@@ -50,7 +50,7 @@ module _ {L : Type 0} where
   if_lines true ps = lines_of_nodes ps
   if_lines false ps = []
 
-  stage_with : (left : Left L) (part : Part) (o : Opener L) (c : Cond) (ps : Nodes (Edited L)) → next_stage (stage_of left) c ≡ stage_of (with_group left part o c ps)
+  stage_with : (left : KeptGroups L) (part : Part) (o : Opener L) (c : Cond) (ps : Nodes (Edited L)) → next_stage (stage_of left) c ≡ stage_of (with_group left part o c ps)
   stage_with none_kept part o Yes ps = refl
   stage_with none_kept part o No ps = refl
   stage_with none_kept part o Unknown ps = refl
@@ -62,14 +62,14 @@ module _ {L : Type 0} where
   stage_with (ended es l ms (Some k)) part o c ps = refl
 
   first_lines : (o : Opener L) (c : Cond) (ps : Nodes (Edited L)) →
-      left_item (verdict_at leading an_if c) (if_line o) ++ if_lines (kept_at leading c) ps ≡ left_lines (with_group none_kept an_if o c ps)
+      kept_line (verdict_at leading an_if c) (if_line o) ++ if_lines (kept_at leading c) ps ≡ left_lines (with_group none_kept an_if o c ps)
   unfolding if_lines
   first_lines o Yes ps = refl
   first_lines o No ps = refl
   first_lines o Unknown ps = refl
 
-  elif_lines : (left : Left L) (o : Opener L) (c : Cond) (ps : Nodes (Edited L)) →
-      (left_lines left ++ left_item (verdict_at (stage_of left) an_elif c) (elif_line o)) ++ if_lines (kept_at (stage_of left) c) ps
+  elif_lines : (left : KeptGroups L) (o : Opener L) (c : Cond) (ps : Nodes (Edited L)) →
+      (left_lines left ++ kept_line (verdict_at (stage_of left) an_elif c) (elif_line o)) ++ if_lines (kept_at (stage_of left) c) ps
       ≡ left_lines (with_group left an_elif o c ps)
   unfolding if_lines
   elif_lines none_kept o Yes ps = refl
@@ -82,8 +82,8 @@ module _ {L : Type 0} where
   elif_lines (ended es l ms None) o c ps = append-nil (left_lines (ended es l ms None) ++ endif_line (edited ToEndif o.line) ∷ [])
   elif_lines (ended es l ms (Some k)) o c ps = two_nils (left_lines (ended es l ms (Some k)))
 
-  else_lines : (left : Left L) (l : L) (ps : Nodes (Edited L)) →
-      (left_lines left ++ left_item (verdict_at (stage_of left) an_else Yes) (else_line l)) ++ if_lines (kept_at (stage_of left) Yes) ps
+  else_lines : (left : KeptGroups L) (l : L) (ps : Nodes (Edited L)) →
+      (left_lines left ++ kept_line (verdict_at (stage_of left) an_else Yes) (else_line l)) ++ if_lines (kept_at (stage_of left) Yes) ps
       ≡ left_lines (with_else left l ps)
   unfolding if_lines
   else_lines none_kept l ps = refl
@@ -92,7 +92,7 @@ module _ {L : Type 0} where
   else_lines (ended es k ms None) l ps = append-nil (left_lines (ended es k ms None) ++ endif_line (edited ToEndif l) ∷ [])
   else_lines (ended es k ms (Some j)) l ps = two_nils (left_lines (ended es k ms (Some j)))
 
-  stage_else : (left : Left L) (l : L) (ps : Nodes (Edited L)) → next_stage (stage_of left) Yes ≡ stage_of (with_else left l ps)
+  stage_else : (left : KeptGroups L) (l : L) (ps : Nodes (Edited L)) → next_stage (stage_of left) Yes ≡ stage_of (with_else left l ps)
   stage_else none_kept l ps = refl
   stage_else (replaced ms) l ps = refl
   stage_else (kept_groups es) l ps = refl
@@ -106,8 +106,8 @@ module _ {L : Type 0} where
       ap (λ (xs : List (Item (Edited L))). xs ++ text_line l ∷ []) (lines_then ms ns) ∙ append_assoc (lines_of_nodes ms) (lines_of_nodes ns) (text_line l ∷ [])
   lines_then ms (section ns gs e) = rw (lines_then ms ns) simp append_assoc
 
-  endif_lines : (ps : Nodes (Edited L)) (left : Left L) (e : L) →
-      (lines_of_nodes ps ++ left_lines left) ++ left_item (endif_at (stage_of left)) (endif_line e) ≡ lines_of_nodes (then_left ps left e)
+  endif_lines : (ps : Nodes (Edited L)) (left : KeptGroups L) (e : L) →
+      (lines_of_nodes ps ++ left_lines left) ++ kept_line (endif_at (stage_of left)) (endif_line e) ≡ lines_of_nodes (then_kept ps left e)
   endif_lines ps none_kept e = two_nils (lines_of_nodes ps)
   endif_lines ps (replaced ms) e = append-nil (lines_of_nodes ps ++ lines_of_nodes ms) ∙ sym (lines_then ps ms)
   endif_lines ps (kept_groups es) e = refl
@@ -123,18 +123,18 @@ module _ {L : Type 0} where
 
   -- a list, a line and another list
   printed_between : (xs : List (Item L)) (x : Item L) (ys : List (Item L)) (ms : List Mark) (m : Mark) (ns : List Mark) → length xs ≡ length ms →
-      printed ((xs ++ x ∷ []) ++ ys) ((ms ++ m ∷ []) ++ ns) ≡ (printed xs ms ++ left_item m.verdict x) ++ printed ys ns
+      printed ((xs ++ x ∷ []) ++ ys) ((ms ++ m ∷ []) ++ ns) ≡ (printed xs ms ++ kept_line m.verdict x) ++ printed ys ns
   printed_between xs x ys ms m ns e =
       printed-append (xs ++ x ∷ []) ys (ms ++ m ∷ []) ns (more_long xs ms x m e)
       ∙ ap (λ (zs : List (Item (Edited L))). zs ++ printed ys ns)
-      (printed-append xs (x ∷ []) ms (m ∷ []) e ∙ ap (λ (zs : List (Item (Edited L))). printed xs ms ++ zs) (append-nil (left_item m.verdict x)))
+      (printed-append xs (x ∷ []) ms (m ∷ []) e ∙ ap (λ (zs : List (Item (Edited L))). printed xs ms ++ zs) (append-nil (kept_line m.verdict x)))
 
   -- two lists and a line
   printed_behind : (xs ys : List (Item L)) (x : Item L) (ms ns : List Mark) (m : Mark) → length xs ≡ length ms → length ys ≡ length ns →
-      printed ((xs ++ ys) ++ x ∷ []) ((ms ++ ns) ++ m ∷ []) ≡ (printed xs ms ++ printed ys ns) ++ left_item m.verdict x
+      printed ((xs ++ ys) ++ x ∷ []) ((ms ++ ns) ++ m ∷ []) ≡ (printed xs ms ++ printed ys ns) ++ kept_line m.verdict x
   printed_behind xs ys x ms ns m d e =
       printed-append (xs ++ ys) (x ∷ []) (ms ++ ns) (m ∷ []) (simp length-append (omega (arith, d, e)))
-      ∙ ap₂ (λ (zs ws : List (Item (Edited L))). zs ++ ws) (printed-append xs ys ms ns d) (append-nil (left_item m.verdict x))
+      ∙ ap₂ (λ (zs ws : List (Item (Edited L))). zs ++ ws) (printed-append xs ys ms ns d) (append-nil (kept_line m.verdict x))
 
   mutual
     -- outside kept places nothing is left
@@ -170,7 +170,7 @@ module _ {L : Type 0} where
   by_place false ns h = nodes_gone ns
 
   -- what is left of a group after others
-  elif_has : (cs : List Cond) (left : Left L) (o : Opener L) (ns : Nodes L) (xs : List (Item L)) (ms : List Mark) → length xs ≡ length ms → Has cs left (printed xs ms) →
+  elif_has : (cs : List Cond) (left : KeptGroups L) (o : Opener L) (ns : Nodes L) (xs : List (Item L)) (ms : List Mark) → length xs ≡ length ms → Has cs left (printed xs ms) →
       printed (lines_of_nodes ns) (nodes_so_far true ns) ≡ lines_of_nodes (pruned ns) →
       Has (cs ++ o.cond ∷ []) (with_group left an_elif o o.cond (pruned ns))
       (printed ((xs ++ elif_line o ∷ []) ++ lines_of_nodes ns) ((ms ++ marked true (verdict_so_far cs an_elif o.cond) ∷ []) ++ nodes_so_far (is_kept cs o.cond) ns))
@@ -178,14 +178,14 @@ module _ {L : Type 0} where
     stands = stage_next cs o.cond ∙ ap (λ (s : Stage). next_stage s o.cond) h.stands ∙ stage_with left an_elif o o.cond (pruned ns);
     are = printed_between xs (elif_line o) (lines_of_nodes ns) ms (marked true (verdict_so_far cs an_elif o.cond)) (nodes_so_far (is_kept cs o.cond) ns) e
         ∙ ap₂ (λ (zs ws : List (Item (Edited L))). zs ++ ws)
-        (ap₂ (λ (zs : List (Item (Edited L))) (v : Verdict). zs ++ left_item v (elif_line o)) h.are
+        (ap₂ (λ (zs : List (Item (Edited L))) (v : Verdict). zs ++ kept_line v (elif_line o)) h.are
         (verdict_by_stage cs an_elif o.cond ∙ ap (λ (s : Stage). verdict_at s an_elif o.cond) h.stands))
         (by_place (is_kept cs o.cond) ns n
         ∙ ap (λ (b : Bool). if_lines b (pruned ns)) (kept_by_stage cs o.cond ∙ ap (λ (s : Stage). kept_at s o.cond) h.stands))
         ∙ elif_lines left o o.cond (pruned ns);
   }
 
-  else_has : (cs : List Cond) (left : Left L) (l : L) (ns : Nodes L) (xs : List (Item L)) (ms : List Mark) → length xs ≡ length ms → Has cs left (printed xs ms) →
+  else_has : (cs : List Cond) (left : KeptGroups L) (l : L) (ns : Nodes L) (xs : List (Item L)) (ms : List Mark) → length xs ≡ length ms → Has cs left (printed xs ms) →
       printed (lines_of_nodes ns) (nodes_so_far true ns) ≡ lines_of_nodes (pruned ns) →
       Has (cs ++ Yes ∷ []) (with_else left l (pruned ns))
       (printed ((xs ++ else_line l ∷ []) ++ lines_of_nodes ns) ((ms ++ marked true (verdict_so_far cs an_else Yes) ∷ []) ++ nodes_so_far (is_kept cs Yes) ns))
@@ -193,7 +193,7 @@ module _ {L : Type 0} where
     stands = stage_next cs Yes ∙ ap (λ (s : Stage). next_stage s Yes) h.stands ∙ stage_else left l (pruned ns);
     are = printed_between xs (else_line l) (lines_of_nodes ns) ms (marked true (verdict_so_far cs an_else Yes)) (nodes_so_far (is_kept cs Yes) ns) e
         ∙ ap₂ (λ (zs ws : List (Item (Edited L))). zs ++ ws)
-        (ap₂ (λ (zs : List (Item (Edited L))) (v : Verdict). zs ++ left_item v (else_line l)) h.are
+        (ap₂ (λ (zs : List (Item (Edited L))) (v : Verdict). zs ++ kept_line v (else_line l)) h.are
         (verdict_by_stage cs an_else Yes ∙ ap (λ (s : Stage). verdict_at s an_else Yes) h.stands))
         (by_place (is_kept cs Yes) ns n
         ∙ ap (λ (b : Bool). if_lines b (pruned ns)) (kept_by_stage cs Yes ∙ ap (λ (s : Stage). kept_at s Yes) h.stands))
@@ -206,17 +206,17 @@ module _ {L : Type 0} where
   first_has o ns n = record {
     stands = stage_next [] o.cond ∙ stage_with none_kept an_if o o.cond (pruned ns);
     are = ap₂ (λ (zs ws : List (Item (Edited L))). zs ++ ws)
-        (ap (λ (v : Verdict). left_item v (if_line o)) (verdict_by_stage [] an_if o.cond))
+        (ap (λ (v : Verdict). kept_line v (if_line o)) (verdict_by_stage [] an_if o.cond))
         (by_place (is_kept [] o.cond) ns n ∙ ap (λ (b : Bool). if_lines b (pruned ns)) (kept_by_stage [] o.cond))
         ∙ first_lines o o.cond (pruned ns);
   }
 
-  section_printed : (cs : List Cond) (left : Left L) (ps : Nodes (Edited L)) (e : L) (xs ys : List (Item L)) (ms ns : List Mark) → length xs ≡ length ms → length ys ≡ length ns →
+  section_printed : (cs : List Cond) (left : KeptGroups L) (ps : Nodes (Edited L)) (e : L) (xs ys : List (Item L)) (ms ns : List Mark) → length xs ≡ length ms → length ys ≡ length ns →
       printed xs ms ≡ lines_of_nodes ps → Has cs left (printed ys ns) →
-      printed ((xs ++ ys) ++ endif_line e ∷ []) ((ms ++ ns) ++ marked true (endif_verdict cs) ∷ []) ≡ lines_of_nodes (then_left ps left e)
+      printed ((xs ++ ys) ++ endif_line e ∷ []) ((ms ++ ns) ++ marked true (endif_verdict cs) ∷ []) ≡ lines_of_nodes (then_kept ps left e)
   section_printed cs left ps e xs ys ms ns d f a h =
       printed_behind xs ys (endif_line e) ms ns (marked true (endif_verdict cs)) d f
-      ∙ ap₂ (λ (zs : List (Item (Edited L))) (v : Verdict). zs ++ left_item v (endif_line e))
+      ∙ ap₂ (λ (zs : List (Item (Edited L))) (v : Verdict). zs ++ kept_line v (endif_line e))
       (ap₂ (λ (zs ws : List (Item (Edited L))). zs ++ ws) a h.are)
       (endif_by_stage cs ∙ ap (λ (s : Stage). endif_at s) h.stands)
       ∙ endif_lines ps left e
@@ -228,18 +228,18 @@ module _ {L : Type 0} where
         printed-append (lines_of_nodes ns) (text_line l ∷ []) (nodes_so_far true ns) (marked true Keep ∷ []) (as_many_nodes true ns)
         ∙ ap (λ (zs : List (Item (Edited L))). zs ++ text_line (edited Keep l) ∷ []) (nodes_printed ns)
     nodes_printed (section ns gs e) =
-        section_printed (conds_of_groups gs) (left_of_groups gs) (pruned ns) e (lines_of_nodes ns) (lines_of_groups gs) (nodes_so_far true ns) (groups_so_far true gs)
+        section_printed (conds_of_groups gs) (kept_groups_of gs) (pruned ns) e (lines_of_nodes ns) (lines_of_groups gs) (nodes_so_far true ns) (groups_so_far true gs)
         (as_many_nodes true ns) (as_many_groups true gs) (nodes_printed ns) (groups_printed gs)
 
-    groups_printed : (gs : Groups L) → Has (conds_of_groups gs) (left_of_groups gs) (printed (lines_of_groups gs) (groups_so_far true gs))
+    groups_printed : (gs : Groups L) → Has (conds_of_groups gs) (kept_groups_of gs) (printed (lines_of_groups gs) (groups_so_far true gs))
     groups_printed (conditional es) = elifs_printed es
     groups_printed (otherwise es l ns) =
-        else_has (conds_of_elifs es) (left_of_elifs es) l ns (lines_of_elifs es) (elifs_so_far true es) (as_many_elifs true es) (elifs_printed es) (nodes_printed ns)
+        else_has (conds_of_elifs es) (kept_elifs_of es) l ns (lines_of_elifs es) (elifs_so_far true es) (as_many_elifs true es) (elifs_printed es) (nodes_printed ns)
 
-    elifs_printed : (es : Elifs L) → Has (conds_of_elifs es) (left_of_elifs es) (printed (lines_of_elifs es) (elifs_so_far true es))
+    elifs_printed : (es : Elifs L) → Has (conds_of_elifs es) (kept_elifs_of es) (printed (lines_of_elifs es) (elifs_so_far true es))
     elifs_printed (first o ns) = first_has o ns (nodes_printed ns)
     elifs_printed (elif es o ns) =
-        elif_has (conds_of_elifs es) (left_of_elifs es) o ns (lines_of_elifs es) (elifs_so_far true es) (as_many_elifs true es) (elifs_printed es) (nodes_printed ns)
+        elif_has (conds_of_elifs es) (kept_elifs_of es) o ns (lines_of_elifs es) (elifs_so_far true es) (as_many_elifs true es) (elifs_printed es) (nodes_printed ns)
 
   -- what is left of the lines of nodes are the lines of the pruned nodes
   pub printed-pruned : (ns : Nodes L) → printed (lines_of_nodes ns) (marks (closed ns)) ≡ lines_of_nodes (pruned ns)

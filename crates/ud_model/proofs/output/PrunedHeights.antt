@@ -5,7 +5,7 @@ use Rattle.ud_model.specs.declared.cond.Cond.TheVariants.{Yes, No, Unknown}
 use Rattle.ud_model.specs.sections.Tree.{Item, Opener, Nodes, Groups, Elifs, Head, Tree, nothing, text, section, conditional, otherwise, first, elif, if_head, elif_head, else_head, depth, with_lines, groups_with_lines, elifs_with_lines}
 use Rattle.ud_model.specs.sections.Pruning.{Part, an_if, an_elif}
 use Rattle.ud_model.specs.aids.Height.{height, height_of_nodes, height_of_groups, height_of_elifs, height_of_head}
-use Rattle.ud_model.specs.output.Pruned.{Edited, Left, none_kept, replaced, kept_groups, ended, then_nodes, with_group, with_else, then_left, pruned, left_of_groups, left_of_elifs}
+use Rattle.ud_model.specs.output.Pruned.{Edited, KeptGroups, none_kept, replaced, kept_groups, ended, then_nodes, with_group, with_else, then_kept, pruned, kept_groups_of, kept_elifs_of}
 use Rattle.ud_model.proofs.sections.Growth.{Adds, adds_text, adds_if, elif_after_if, elif_after_elif, else_after_if, else_after_elif, adds_endif, adds_under, complete}
 
 module _ {L : Type 0} where
@@ -26,13 +26,13 @@ module _ {L : Type 0} where
       let c : height_of_groups (complete h b) ≤ max (height_of_head h) (height_of_nodes b) = complete_most h b in omega arith
   grows_most (adds_under {t = t} {u = u} a) = let c : height u ≤ max (height t) (depth u) = grows_most a in omega arith
 
-  abbrev height_left : Left L → ℕ
+  abbrev height_left : KeptGroups L → ℕ
   height_left none_kept = 0
   height_left (replaced ms) = height_of_nodes ms
   height_left (kept_groups es) = suc (height_of_elifs es)
   height_left (ended es l ms k) = suc (max (height_of_elifs es) (height_of_nodes ms))
 
-  with_most : (left : Left L) (part : Part) (o : Opener L) (c : Cond) (ps : Nodes (Edited L)) → height_left (with_group left part o c ps) ≤ max (height_left left) (suc (height_of_nodes ps))
+  with_most : (left : KeptGroups L) (part : Part) (o : Opener L) (c : Cond) (ps : Nodes (Edited L)) → height_left (with_group left part o c ps) ≤ max (height_left left) (suc (height_of_nodes ps))
   with_most none_kept part o Yes ps = omega arith
   with_most none_kept part o No ps = omega arith
   with_most none_kept part o Unknown ps = omega arith
@@ -43,7 +43,7 @@ module _ {L : Type 0} where
   with_most (ended es l ms None) part o c ps = omega arith
   with_most (ended es l ms (Some k)) part o c ps = omega arith
 
-  else_most : (left : Left L) (l : L) (ps : Nodes (Edited L)) → height_left (with_else left l ps) ≤ max (height_left left) (suc (height_of_nodes ps))
+  else_most : (left : KeptGroups L) (l : L) (ps : Nodes (Edited L)) → height_left (with_else left l ps) ≤ max (height_left left) (suc (height_of_nodes ps))
   else_most none_kept l ps = omega arith
   else_most (replaced ms) l ps = omega arith
   else_most (kept_groups es) l ps = omega arith
@@ -55,7 +55,7 @@ module _ {L : Type 0} where
   then_most ms (text ns l) = let c : height_of_nodes (then_nodes ms ns) ≤ max (height_of_nodes ms) (height_of_nodes ns) = then_most ms ns in omega arith
   then_most ms (section ns gs e) = let c : height_of_nodes (then_nodes ms ns) ≤ max (height_of_nodes ms) (height_of_nodes ns) = then_most ms ns in omega arith
 
-  left_most : (ps : Nodes (Edited L)) (left : Left L) (e : L) → height_of_nodes (then_left ps left e) ≤ max (height_of_nodes ps) (height_left left)
+  left_most : (ps : Nodes (Edited L)) (left : KeptGroups L) (e : L) → height_of_nodes (then_kept ps left e) ≤ max (height_of_nodes ps) (height_left left)
   left_most ps none_kept e = omega arith
   left_most ps (replaced ms) e = then_most ps ms
   left_most ps (kept_groups es) e = omega arith
@@ -69,27 +69,27 @@ module _ {L : Type 0} where
     pruned_height (text ns l) = pruned_height ns
     pruned_height (section ns gs e) =
         let a : height_of_nodes (pruned ns) ≤ height_of_nodes ns = pruned_height ns in
-        let b : height_left (left_of_groups gs) ≤ suc (height_of_groups gs) = groups_height gs in
-        let c : height_of_nodes (then_left (pruned ns) (left_of_groups gs) e) ≤ max (height_of_nodes (pruned ns)) (height_left (left_of_groups gs)) = left_most (pruned ns) (left_of_groups gs) e in
+        let b : height_left (kept_groups_of gs) ≤ suc (height_of_groups gs) = groups_height gs in
+        let c : height_of_nodes (then_kept (pruned ns) (kept_groups_of gs) e) ≤ max (height_of_nodes (pruned ns)) (height_left (kept_groups_of gs)) = left_most (pruned ns) (kept_groups_of gs) e in
         omega arith
 
-    groups_height : (gs : Groups L) → height_left (left_of_groups gs) ≤ suc (height_of_groups gs)
+    groups_height : (gs : Groups L) → height_left (kept_groups_of gs) ≤ suc (height_of_groups gs)
     groups_height (conditional es) = elifs_height es
     groups_height (otherwise es l ns) =
         let a : height_of_nodes (pruned ns) ≤ height_of_nodes ns = pruned_height ns in
-        let b : height_left (left_of_elifs es) ≤ suc (height_of_elifs es) = elifs_height es in
-        let c : height_left (with_else (left_of_elifs es) l (pruned ns)) ≤ max (height_left (left_of_elifs es)) (suc (height_of_nodes (pruned ns))) = else_most (left_of_elifs es) l (pruned ns) in
+        let b : height_left (kept_elifs_of es) ≤ suc (height_of_elifs es) = elifs_height es in
+        let c : height_left (with_else (kept_elifs_of es) l (pruned ns)) ≤ max (height_left (kept_elifs_of es)) (suc (height_of_nodes (pruned ns))) = else_most (kept_elifs_of es) l (pruned ns) in
         omega arith
 
-    elifs_height : (es : Elifs L) → height_left (left_of_elifs es) ≤ suc (height_of_elifs es)
+    elifs_height : (es : Elifs L) → height_left (kept_elifs_of es) ≤ suc (height_of_elifs es)
     elifs_height (first o ns) =
         let a : height_of_nodes (pruned ns) ≤ height_of_nodes ns = pruned_height ns in
         let c : height_left (with_group none_kept an_if o o.cond (pruned ns)) ≤ max 0 (suc (height_of_nodes (pruned ns))) = with_most none_kept an_if o o.cond (pruned ns) in
         omega arith
     elifs_height (elif es o ns) =
         let a : height_of_nodes (pruned ns) ≤ height_of_nodes ns = pruned_height ns in
-        let b : height_left (left_of_elifs es) ≤ suc (height_of_elifs es) = elifs_height es in
-        let c : height_left (with_group (left_of_elifs es) an_elif o o.cond (pruned ns)) ≤ max (height_left (left_of_elifs es)) (suc (height_of_nodes (pruned ns))) = with_most (left_of_elifs es) an_elif o o.cond (pruned ns) in
+        let b : height_left (kept_elifs_of es) ≤ suc (height_of_elifs es) = elifs_height es in
+        let c : height_left (with_group (kept_elifs_of es) an_elif o o.cond (pruned ns)) ≤ max (height_left (kept_elifs_of es)) (suc (height_of_nodes (pruned ns))) = with_most (kept_elifs_of es) an_elif o o.cond (pruned ns) in
         omega arith
 
 module _ {L M : Type 0} (f : L → M) where

@@ -7,7 +7,7 @@ use Rattle.ud_model.specs.declared.verdict.Verdict.TheVariants.{Keep, Remove, To
 use Rattle.ud_model.specs.sections.Tree.{Opener, Nodes, Groups, Elifs, nothing, text, section, conditional, otherwise, first, elif}
 use Rattle.ud_model.specs.sections.Pruning.{Part, an_if, an_elif, an_else, first_kept_verdict}
 use Rattle.ud_model.specs.output.Worlds.{openers, openers_of_groups, openers_of_elifs}
-use Rattle.ud_model.specs.output.Pruned.{Edited, edited, Left, none_kept, replaced, kept_groups, ended, then_nodes, with_group, with_else, then_left, pruned, left_of_groups, left_of_elifs}
+use Rattle.ud_model.specs.output.Pruned.{Edited, edited, KeptGroups, none_kept, replaced, kept_groups, ended, then_nodes, with_group, with_else, then_kept, pruned, kept_groups_of, kept_elifs_of}
 use Rattle.ud_model.proofs.output.Each.{Each, each_parts, each_both}
 
 -- an opener with this verdict keeps its condition
@@ -27,13 +27,13 @@ module _ {L : Type 0} where
   abbrev pub Keeps : Edited L → Type 0
   Keeps e = KeepsCondition e.verdict
 
-  abbrev LeftKeep : Left L → Type 0
+  abbrev LeftKeep : KeptGroups L → Type 0
   LeftKeep none_kept = Unit {0}
   LeftKeep (replaced ms) = Each Keeps (openers ms)
   LeftKeep (kept_groups es) = Each Keeps (openers_of_elifs es)
   LeftKeep (ended es l ms k) = Each Keeps (openers_of_elifs es) × Each Keeps (openers ms)
 
-  group_keeps : (left : Left L) (part : Part) (o : Opener L) (c : Cond) (ps : Nodes (Edited L)) → LeftKeep left → Each Keeps (openers ps) → LeftKeep (with_group left part o c ps)
+  group_keeps : (left : KeptGroups L) (part : Part) (o : Opener L) (c : Cond) (ps : Nodes (Edited L)) → LeftKeep left → Each Keeps (openers ps) → LeftKeep (with_group left part o c ps)
   group_keeps none_kept part o Yes ps h n = n
   group_keeps none_kept part o No ps h n = tt
   group_keeps none_kept part o Unknown ps h n = (first_keeps part, n)
@@ -45,7 +45,7 @@ module _ {L : Type 0} where
   group_keeps (ended es l ms None) part o c ps h n = h
   group_keeps (ended es l ms (Some k)) part o c ps h n = h
 
-  else_keeps : (left : Left L) (l : L) (ps : Nodes (Edited L)) → LeftKeep left → Each Keeps (openers ps) → LeftKeep (with_else left l ps)
+  else_keeps : (left : KeptGroups L) (l : L) (ps : Nodes (Edited L)) → LeftKeep left → Each Keeps (openers ps) → LeftKeep (with_else left l ps)
   else_keeps none_kept l ps h n = n
   else_keeps (replaced ms) l ps h n = h
   else_keeps (kept_groups es) l ps h n = (h, n)
@@ -59,7 +59,7 @@ module _ {L : Type 0} where
       let r : Each Keeps (openers ns) × Each Keeps (openers_of_groups gs) = each_parts Keeps (openers ns) (openers_of_groups gs) b in
       each_both Keeps (openers (then_nodes ms ns)) (openers_of_groups gs) (then_keep ms ns a r.0) r.1
 
-  left_keeps : (ps : Nodes (Edited L)) (left : Left L) (e : L) → Each Keeps (openers ps) → LeftKeep left → Each Keeps (openers (then_left ps left e))
+  left_keeps : (ps : Nodes (Edited L)) (left : KeptGroups L) (e : L) → Each Keeps (openers ps) → LeftKeep left → Each Keeps (openers (then_kept ps left e))
   left_keeps ps none_kept e a h = a
   left_keeps ps (replaced ms) e a h = then_keep ps ms a h
   left_keeps ps (kept_groups es) e a h = each_both Keeps (openers ps) (openers_of_elifs es) a h
@@ -73,12 +73,12 @@ module _ {L : Type 0} where
     pub pruned_keeps : (ns : Nodes L) → Each Keeps (openers (pruned ns))
     pruned_keeps nothing = tt
     pruned_keeps (text ns l) = pruned_keeps ns
-    pruned_keeps (section ns gs e) = left_keeps (pruned ns) (left_of_groups gs) e (pruned_keeps ns) (groups_keep gs)
+    pruned_keeps (section ns gs e) = left_keeps (pruned ns) (kept_groups_of gs) e (pruned_keeps ns) (groups_keep gs)
 
-    groups_keep : (gs : Groups L) → LeftKeep (left_of_groups gs)
+    groups_keep : (gs : Groups L) → LeftKeep (kept_groups_of gs)
     groups_keep (conditional es) = elifs_keep es
-    groups_keep (otherwise es l ns) = else_keeps (left_of_elifs es) l (pruned ns) (elifs_keep es) (pruned_keeps ns)
+    groups_keep (otherwise es l ns) = else_keeps (kept_elifs_of es) l (pruned ns) (elifs_keep es) (pruned_keeps ns)
 
-    elifs_keep : (es : Elifs L) → LeftKeep (left_of_elifs es)
+    elifs_keep : (es : Elifs L) → LeftKeep (kept_elifs_of es)
     elifs_keep (first o ns) = group_keeps none_kept an_if o o.cond (pruned ns) tt (pruned_keeps ns)
-    elifs_keep (elif es o ns) = group_keeps (left_of_elifs es) an_elif o o.cond (pruned ns) (elifs_keep es) (pruned_keeps ns)
+    elifs_keep (elif es o ns) = group_keeps (kept_elifs_of es) an_elif o o.cond (pruned ns) (elifs_keep es) (pruned_keeps ns)

@@ -6,7 +6,7 @@ use Rattle.ud_model.specs.declared.verdict.Verdict.TheVariants.{Keep}
 use Rattle.ud_model.specs.sections.Tree.{Opener, Nodes, Groups, Elifs, nothing, text, section, conditional, otherwise, first, elif}
 use Rattle.ud_model.specs.sections.Pruning.{Part, an_if, an_elif, first_kept_verdict}
 use Rattle.ud_model.specs.output.Worlds.{World, selected_elifs, EachReached, GroupsReached, ElifsReached, AgreesWith}
-use Rattle.ud_model.specs.output.Pruned.{Edited, edited, Left, none_kept, replaced, kept_groups, ended, then_nodes, with_group, with_else, then_left, pruned, left_of_groups, left_of_elifs}
+use Rattle.ud_model.specs.output.Pruned.{Edited, edited, KeptGroups, none_kept, replaced, kept_groups, ended, then_nodes, with_group, with_else, then_kept, pruned, kept_groups_of, kept_elifs_of}
 use Rattle.ud_model.proofs.output.SelectedPruned.{out_world, Fits, Chosen, chosen}
 
 -- what is mapped to nothing is nothing
@@ -24,7 +24,7 @@ module _ {L : Type 0} (w : World L) (P : L → Type 0) (Q : Edited L → Type 0)
   abbrev Reached : Nodes (Edited L) → Type 0
   Reached ps = EachReached (out_world w) Still ps
 
-  abbrev LeftReached : Left L → Type 0
+  abbrev LeftReached : KeptGroups L → Type 0
   LeftReached none_kept = Unit {0}
   LeftReached (replaced ms) = Reached ms
   LeftReached (kept_groups es) = ElifsReached (out_world w) Still es
@@ -35,7 +35,7 @@ module _ {L : Type 0} (w : World L) (P : L → Type 0) (Q : Edited L → Type 0)
   none_before s es h e = map_none (map (edited Keep)) s (h ∙ e)
 
   -- one group more
-  group_reached : (s : Option (List L)) (left : Left L) (part : Part) (o : Opener L) (c : Cond) (ps : Nodes (Edited L)) → Chosen w s left → LeftReached left →
+  group_reached : (s : Option (List L)) (left : KeptGroups L) (part : Part) (o : Opener L) (c : Cond) (ps : Nodes (Edited L)) → Chosen w s left → LeftReached left →
       (s ≡ None → AgreesWith w c o.line) → (s ≡ None → Is o × (w o.line ≡ true → Reached ps)) → LeftReached (with_group left part o c ps)
   group_reached s none_kept part o Yes ps h r a n = (n h).1 (a h)
   group_reached s none_kept part o No ps h r a n = tt
@@ -47,7 +47,7 @@ module _ {L : Type 0} (w : World L) (P : L → Type 0) (Q : Edited L → Type 0)
   group_reached s (ended es l ms None) part o c ps h r a n = r
   group_reached s (ended es l ms (Some k)) part o c ps h r a n = r
 
-  else_reached : (s : Option (List L)) (left : Left L) (l : L) (ps : Nodes (Edited L)) → Chosen w s left → LeftReached left → (s ≡ None → Reached ps) → LeftReached (with_else left l ps)
+  else_reached : (s : Option (List L)) (left : KeptGroups L) (l : L) (ps : Nodes (Edited L)) → Chosen w s left → LeftReached left → (s ≡ None → Reached ps) → LeftReached (with_else left l ps)
   else_reached s none_kept l ps h r n = n h
   else_reached s (replaced ms) l ps h r n = r
   else_reached s (kept_groups es) l ps h r n = (r, λ e. n (none_before s es h e))
@@ -59,7 +59,7 @@ module _ {L : Type 0} (w : World L) (P : L → Type 0) (Q : Edited L → Type 0)
   then_reached ms (text ns l) a b = then_reached ms ns a b
   then_reached ms (section ns gs e) a b = (then_reached ms ns a b.0, b.1)
 
-  left_reached : (ps : Nodes (Edited L)) (left : Left L) (e : L) → Reached ps → LeftReached left → Reached (then_left ps left e)
+  left_reached : (ps : Nodes (Edited L)) (left : KeptGroups L) (e : L) → Reached ps → LeftReached left → Reached (then_kept ps left e)
   left_reached ps none_kept e a r = a
   left_reached ps (replaced ms) e a r = then_reached ps ms a r
   left_reached ps (kept_groups es) e a r = (a, r)
@@ -71,16 +71,16 @@ module _ {L : Type 0} (w : World L) (P : L → Type 0) (Q : Edited L → Type 0)
     pub pruned_reached : (ns : Nodes L) → EachReached w (Fits w) ns → EachReached w Is ns → EachReached (out_world w) Still (pruned ns)
     pruned_reached nothing a h = tt
     pruned_reached (text ns l) a h = pruned_reached ns a h
-    pruned_reached (section ns gs e) a h = left_reached (pruned ns) (left_of_groups gs) e (pruned_reached ns a.0 h.0) (groups_reached gs a.1 h.1)
+    pruned_reached (section ns gs e) a h = left_reached (pruned ns) (kept_groups_of gs) e (pruned_reached ns a.0 h.0) (groups_reached gs a.1 h.1)
 
-    groups_reached : (gs : Groups L) → GroupsReached w (Fits w) gs → GroupsReached w Is gs → LeftReached (left_of_groups gs)
+    groups_reached : (gs : Groups L) → GroupsReached w (Fits w) gs → GroupsReached w Is gs → LeftReached (kept_groups_of gs)
     groups_reached (conditional es) a h = elifs_reached es a h
     groups_reached (otherwise es l ns) a h =
-        else_reached (selected_elifs w es) (left_of_elifs es) l (pruned ns) (chosen w es a.0) (elifs_reached es a.0 h.0) (λ e. pruned_reached ns (a.1 e) (h.1 e))
+        else_reached (selected_elifs w es) (kept_elifs_of es) l (pruned ns) (chosen w es a.0) (elifs_reached es a.0 h.0) (λ e. pruned_reached ns (a.1 e) (h.1 e))
 
-    elifs_reached : (es : Elifs L) → ElifsReached w (Fits w) es → ElifsReached w Is es → LeftReached (left_of_elifs es)
+    elifs_reached : (es : Elifs L) → ElifsReached w (Fits w) es → ElifsReached w Is es → LeftReached (kept_elifs_of es)
     elifs_reached (first o ns) a h =
         group_reached None none_kept an_if o o.cond (pruned ns) refl tt (λ e. a.0) (λ e. (h.0, λ t. pruned_reached ns (a.1 t) (h.1 t)))
     elifs_reached (elif es o ns) a h =
-        group_reached (selected_elifs w es) (left_of_elifs es) an_elif o o.cond (pruned ns) (chosen w es a.0) (elifs_reached es a.0 h.0) (λ e. (a.1 e).0)
+        group_reached (selected_elifs w es) (kept_elifs_of es) an_elif o o.cond (pruned ns) (chosen w es a.0) (elifs_reached es a.0 h.0) (λ e. (a.1 e).0)
         (λ e. ((h.1 e).0, λ t. pruned_reached ns ((a.1 e).1 t) ((h.1 e).1 t)))

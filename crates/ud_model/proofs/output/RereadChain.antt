@@ -5,7 +5,7 @@ use Rattle.ud_model.specs.text.Lines.{Line, ending_of, numbered_from, AreFormed}
 use Rattle.ud_model.specs.text.Scans.{Reading}
 use Rattle.ud_model.specs.sections.Tree.{Item, Tree, lines}
 use Rattle.ud_model.specs.sections.Items.{Options, line_of, item_of, read_after, next_item}
-use Rattle.ud_model.specs.sections.Faults.{AreSound, no_lines, one_more, NoneHolds, cases}
+use Rattle.ud_model.specs.sections.Faults.{AreFaultless, no_lines, one_more, NoneHolds, cases}
 use Rattle.ud_model.specs.output.Rereading.{IsPlain}
 use Rattle.ud_model.specs.declared.kind.Mode.{Mode}
 use Rattle.ud_model.proofs.output.Each.{Each, each_parts}
@@ -42,11 +42,11 @@ lines_end n (t ∷ []) f = (n, t, refl, f)
 lines_end n (t ∷ u ∷ ts) f = ((some_end (ending_of t) (whole_ending t f.0), (n, t, refl, inl f.0)), lines_end (suc n) (u ∷ ts) f.1)
 
 module _ (o : Options) (p : IsPlain o) where
-  pub next_is : (xs : List (Item Reading)) (t : Tree Reading) (l : Line) → AreSound o xs t → next_item o xs t l ≡ item_of o (read_after xs (the_mode o) l)
+  pub next_is : (xs : List (Item Reading)) (t : Tree Reading) (l : Line) → AreFaultless o xs t → next_item o xs t l ≡ item_of o (read_after xs (the_mode o) l)
   next_is xs t l s = ap (λ (m : Mode). item_of o (read_after xs m l)) (one_mode o p.none_ignores xs t (sound_lines s) (sound_heed o p.none_ignores xs t s))
 
   -- the last line of longer ones
-  one_step : (xs : List (Item Reading)) (t : Tree Reading) (s : AreSound o xs t) (ys : List (Item Reading)) → Between o (the_mode o) xs t ys → (l : Line) (u : Tree Reading) → IsLine l →
+  one_step : (xs : List (Item Reading)) (t : Tree Reading) (s : AreFaultless o xs t) (ys : List (Item Reading)) → Between o (the_mode o) xs t ys → (l : Line) (u : Tree Reading) → IsLine l →
       lines u ≡ xs ++ next_item o xs t l ∷ [] → NoneHolds xs (next_item o xs t l) cases →
       (zs : List (Item Reading)) × Again o (the_mode o) (xs ++ next_item o xs t l ∷ []) u zs × (HasEnd l → Between o (the_mode o) (xs ++ next_item o xs t l ∷ []) u zs)
   one_step xs t s ys b l u i e n =
@@ -56,7 +56,7 @@ module _ (o : Options) (p : IsPlain o) where
   pub line_last : (xs : List (Item Reading)) (t : Tree Reading) (l : Line) → map line_of (xs ++ next_item o xs t l ∷ []) ≡ map line_of xs ++ l ∷ []
   line_last xs t l = map-append line_of xs (next_item o xs t l ∷ []) ∙ ap (λ k. map line_of xs ++ k ∷ []) (reading_of-next o xs t l)
 
-  between : (xs : List (Item Reading)) (t : Tree Reading) → AreSound o xs t → Each IsInner (map line_of xs) → (ys : List (Item Reading)) × Between o (the_mode o) xs t ys
+  between : (xs : List (Item Reading)) (t : Tree Reading) → AreFaultless o xs t → Each IsInner (map line_of xs) → (ys : List (Item Reading)) × Between o (the_mode o) xs t ys
   between _ _ no_lines h = ([], start o (the_mode o))
   between _ _ (one_more xs t s l u e n) h =
       let k : Each IsInner (map line_of xs) × Each IsInner (l ∷ []) = each_parts IsInner (map line_of xs) (l ∷ []) (subst (Each IsInner) (line_last xs t l) h) in
@@ -66,7 +66,7 @@ module _ (o : Options) (p : IsPlain o) where
       (z.0, z.2 k.1.0.0)
 
   -- the items of the output, read again
-  pub again : (xs : List (Item Reading)) (t : Tree Reading) → AreSound o xs t → AllButLast (map line_of xs) → (ys : List (Item Reading)) × Again o (the_mode o) xs t ys
+  pub again : (xs : List (Item Reading)) (t : Tree Reading) → AreFaultless o xs t → AllButLast (map line_of xs) → (ys : List (Item Reading)) × Again o (the_mode o) xs t ys
   again _ _ no_lines h = ([], (start o (the_mode o)).again)
   again _ _ (one_more xs t s l u e n) h =
       let k : Each IsInner (map line_of xs) × IsLine l = ends_before (map line_of xs) l (subst AllButLast (line_last xs t l) h) in

@@ -10,11 +10,11 @@ use Rattle.ud_model.specs.sections.Tree.{Item, Nodes, Groups, Elifs, Tree, text,
 use Rattle.ud_model.specs.sections.Pruning.{Mark, marks, Part, an_if, an_elif, an_else, first_kept_verdict}
 use Rattle.ud_model.specs.sections.Items.{Options, reading_of, line_of}
 use Rattle.ud_model.specs.sections.Faults.{Fault, end_fault, end_by, ends_in_comment, last_number}
-use Rattle.ud_model.specs.answer.Printing.{Judged, judged_lines, piece_by, piece_behind, pieces_by, style_of, some_other, keyword_in, printed_by}
-use Rattle.ud_model.specs.answer.Runs.{Outcome, Runs, ran_as, GoesThrough, output_by, differs_by}
-use Rattle.ud_model.specs.answer.Runs.ReadsAs.{stops, ends}
+use Rattle.ud_model.specs.answer.Printing.{Judged, judged_lines, piece_by, piece_after, pieces_by, style_of, some_other, keyword_in, printed_by}
+use Rattle.ud_model.specs.answer.Outcomes.{Outcome, HasOutcome, ran_as, HasNoFault, output_by, differs_by}
+use Rattle.ud_model.specs.answer.Outcomes.ReadsAs.{stops, ends}
 use Rattle.ud_model.specs.output.Worlds.{World, selected, Agrees, openers}
-use Rattle.ud_model.specs.output.Pruned.{Edited, edited, pruned, printed, left_item, IsUndecided, GroupsUndecided, ElifsUndecided}
+use Rattle.ud_model.specs.output.Pruned.{Edited, edited, pruned, printed, kept_line, IsUndecided, GroupsUndecided, ElifsUndecided}
 use Rattle.ud_model.specs.output.Rereading.{IsPlain, AreRead, IsTreeOf, CleanRun, KeepsTruths, LinesFit, line_bytes, edited_bytes}
 use Rattle.ud_model.specs.conditions.Expressions.{Expression}
 use Rattle.ud_model.specs.output.CSelection.{condition_in, MayBe, IsCWorld}
@@ -51,7 +51,7 @@ use Rattle.ud_model.proofs.output.CSelected.{Clear, sound_clear, c_agrees}
 
 -- what is printed of a line is what is left of it
 left_bytes : (v : Verdict) (x : Item Reading) →
-    concat (map (λ y. edited_bytes (line_in y)) (left_item v x)) ≡ piece_by v (keyword_in (content_of (reading_of x).scan)) (line_of x)
+    concat (map (λ y. edited_bytes (line_in y)) (kept_line v x)) ≡ piece_by v (keyword_in (content_of (reading_of x).scan)) (line_of x)
 left_bytes Remove x = refl
 left_bytes ToIf (elif_line p) = append-nil (edited_bytes (edited ToIf p.line))
 left_bytes ToElse (elif_line p) = append-nil (edited_bytes (edited ToElse p.line))
@@ -70,8 +70,8 @@ printed_bytes : (xs : List (Item Reading)) (ms : List Mark) → concat (map left
 printed_bytes [] ms = refl
 printed_bytes (x ∷ xs) [] = refl
 printed_bytes (x ∷ xs) (m ∷ ms) =
-    ap (λ (l : List (List ℕ)). concat l) (map-append left_piece (left_item m.verdict x) (printed xs ms))
-    ∙ concat-append (map left_piece (left_item m.verdict x)) (map left_piece (printed xs ms))
+    ap (λ (l : List (List ℕ)). concat l) (map-append left_piece (kept_line m.verdict x) (printed xs ms))
+    ∙ concat-append (map left_piece (kept_line m.verdict x)) (map left_piece (printed xs ms))
     ∙ ap₂ (λ (a b : List ℕ). a ++ b) (left_bytes m.verdict x) (printed_bytes xs ms)
 
 -- without options the pieces are what is left
@@ -137,7 +137,7 @@ module _ (o : Options) (p : IsPlain o) (input : List ℕ) where
     pub calm : ends_in_comment is_tree.items ≡ false
 
   -- an input without a fault has such an output
-  pub reread : {r : Outcome} → Runs o input r → r.fault ≡ None → (ns : Nodes Reading) → IsTreeOf o input (closed ns) → Result r ns
+  pub reread : {r : Outcome} → HasOutcome o input r → r.fault ≡ None → (ns : Nodes Reading) → IsTreeOf o input (closed ns) → Result r ns
   reread (ran_as (stops xs t f s)) e ns a = cc
   reread (ran_as (ends xs t g)) e ns a =
       let same : t ≡ closed ns = one_tree_of o input t (closed ns) (record { items = xs; read = sound_read g.sound; are = g.are }) a in
@@ -151,7 +151,7 @@ module _ (o : Options) (p : IsPlain o) (input : List ℕ) where
       ∙ with_lines-twice left_seen (λ (q : Seen). q.bytes) (pruned ns) in
       let formed : AreFormed (map left_piece (printed xs (marks t))) =
       subst (λ (u : Tree Reading). AreFormed (map left_piece (printed xs (marks u)))) (sym same)
-      (pieces_formed o input xs ns (subst (λ (u : Tree Reading). GoesThrough o (lines_of input) xs u) same g)) in
+      (pieces_formed o input xs ns (subst (λ (u : Tree Reading). HasNoFault o (lines_of input) xs u) same g)) in
       let out : output_by o.settings.listing o.settings xs t ≡ concat (map left_piece (printed xs (marks t))) =
       ap (λ (q : Listing). output_by q o.settings xs t) p.unlisted ∙ plain_output o p xs (marks t) in
       record {
@@ -219,7 +219,7 @@ module _ (k : CleanRun) where
       (length-map (openers (pruned k.before)) (λ (e : Edited Reading). w e.line) ∙ sym (length-map (openers (pruned k.before)) (λ (e : Edited Reading). condition_in e.line))
       ∙ ap (λ (l : List (Option Expression)). length l) (sym conditions_same) ∙ length-map (openers k.after) condition_in)
 
-clear_run : {o : Options} {input : List ℕ} {r : Outcome} → Runs o input r → r.fault ≡ None → (ns : Nodes Reading) → IsTreeOf o input (closed ns) →
+clear_run : {o : Options} {input : List ℕ} {r : Outcome} → HasOutcome o input r → r.fault ≡ None → (ns : Nodes Reading) → IsTreeOf o input (closed ns) →
     Pairwise (Clear o) (lines (closed ns)) (marks (closed ns))
 clear_run (ran_as (stops xs t f s)) e ns a = cc
 clear_run {o = o} {input = input} (ran_as (ends xs t g)) e ns a =
@@ -298,8 +298,8 @@ none_differ : (js : List Judged) → some_other (map whole js) js ≡ false
 none_differ [] = refl
 none_differ (j ∷ js) = ap₂ (λ (a b : Bool). not a || b) ((bytes_eq-Decides (whole j) (whole j)).1 refl) (none_differ js)
 
-module _ (o : Options) (p : IsPlain o) (text : List ℕ) (ys : List (Item Reading)) (us : Nodes Reading) (g : GoesThrough o (lines_of text) ys (closed us)) (h : IsUndecided us) where
-  the_pieces : pieces_by (piece_behind (style_of o.settings)) [] (judged_lines ys (marks (closed us))) ≡ map whole (judged_lines ys (marks (closed us)))
+module _ (o : Options) (p : IsPlain o) (text : List ℕ) (ys : List (Item Reading)) (us : Nodes Reading) (g : HasNoFault o (lines_of text) ys (closed us)) (h : IsUndecided us) where
+  the_pieces : pieces_by (piece_after (style_of o.settings)) [] (judged_lines ys (marks (closed us))) ≡ map whole (judged_lines ys (marks (closed us)))
   the_pieces =
       pieces_lone o.settings.blank o.settings.complement o.settings.renumber [] (judged_lines ys (marks (closed us))) p.unnumbered
       ∙ ap₂ (λ (b c : Bool). map (lone b c) (judged_lines ys (marks (closed us)))) p.unblanked p.uncomplemented
@@ -319,9 +319,9 @@ module _ (o : Options) (p : IsPlain o) (text : List ℕ) (ys : List (Item Readin
       ap (λ (q : Listing). differs_by q o.settings ys (closed us)) p.unlisted
       ∙ ap (λ (l : List (List ℕ)). some_other l (judged_lines ys (marks (closed us)))) the_pieces ∙ none_differ (judged_lines ys (marks (closed us)))
 
-  pub runs_again : end_fault ys (closed us) ≡ None → Runs o text (record { output = text; fault = None; differs = false })
+  pub runs_again : end_fault ys (closed us) ≡ None → HasOutcome o text (record { output = text; fault = None; differs = false })
   runs_again e =
-      subst (λ (r : Outcome). Runs o text r) (same_parts same_output e same_lines) (ran_as (ends ys (closed us) g))
+      subst (λ (r : Outcome). HasOutcome o text r) (same_parts same_output e same_lines) (ran_as (ends ys (closed us) g))
     where
       same_parts : {a b : List ℕ} {f f' : Option Fault} {d d' : Bool} → a ≡ b → f ≡ f' → d ≡ d' →
           ◌≡◌ {A = Outcome} (record { output = a; fault = f; differs = d }) (record { output = b; fault = f'; differs = d' })
@@ -329,7 +329,7 @@ module _ (o : Options) (p : IsPlain o) (text : List ℕ) (ys : List (Item Readin
 
 -- No line of the output is faulty, and neither is its end.
 output_sound : (o : Options) (p : IsPlain o) (input : List ℕ) {r : Outcome} (ns : Nodes Reading) (z : Result o p input r ns) → LinesFit (lines_of r.output) →
-    GoesThrough o (lines_of r.output) z.is_tree.items (closed z.tree) × (end_fault z.is_tree.items (closed z.tree) ≡ None)
+    HasNoFault o (lines_of r.output) z.is_tree.items (closed z.tree) × (end_fault z.is_tree.items (closed z.tree) ≡ None)
 output_sound o p input ns z f = (
   record {
     sound = sound_again o z.is_tree.items (closed z.tree) z.is_tree.read z.uncut z.few (fit_short z.is_tree.items (subst LinesFit z.is_tree.are f)) z.low
@@ -340,11 +340,11 @@ output_sound o p input ns z f = (
 )
 
 -- an output whose lines fit is printed as it is, if the input has this tree
-again_law : (o : Options) → IsPlain o → (input : List ℕ) → {r : Outcome} → Runs o input r → r.fault ≡ None → LinesFit (lines_of r.output) →
-    (ns : Nodes Reading) → IsTreeOf o input (closed ns) → Runs o r.output (record { output = r.output; fault = None; differs = false })
+again_law : (o : Options) → IsPlain o → (input : List ℕ) → {r : Outcome} → HasOutcome o input r → r.fault ≡ None → LinesFit (lines_of r.output) →
+    (ns : Nodes Reading) → IsTreeOf o input (closed ns) → HasOutcome o r.output (record { output = r.output; fault = None; differs = false })
 again_law o p input {r} d e f ns t =
     let z : Result o p input r ns = reread o p input d e ns t in
-    let s : GoesThrough o (lines_of r.output) z.is_tree.items (closed z.tree) × (end_fault z.is_tree.items (closed z.tree) ≡ None) = output_sound o p input ns z f in
+    let s : HasNoFault o (lines_of r.output) z.is_tree.items (closed z.tree) × (end_fault z.is_tree.items (closed z.tree) ≡ None) = output_sound o p input ns z f in
     runs_again o p r.output z.is_tree.items z.tree s.0 (output_undecided z.tree ns z.same) s.1
 
 input_nodes : (t : Tree Reading) → innermost t ≡ None → (ns : Nodes Reading) × (t ≡ closed ns)
@@ -352,14 +352,14 @@ input_nodes (closed ns) e = (ns, refl)
 input_nodes (open_section ns h t) e = absurd (no_innermost ns t h e)
 
 -- an input without a fault has a tree whose sections are closed
-pub input_tree : (o : Options) (input : List ℕ) → {r : Outcome} → Runs o input r → r.fault ≡ None → (ns : Nodes Reading) × IsTreeOf o input (closed ns)
+pub input_tree : (o : Options) (input : List ℕ) → {r : Outcome} → HasOutcome o input r → r.fault ≡ None → (ns : Nodes Reading) × IsTreeOf o input (closed ns)
 input_tree o input (ran_as (stops xs t f s)) e = cc
 input_tree o input (ran_as (ends xs t g)) e =
     let n : (ns : Nodes Reading) × (t ≡ closed ns) = input_nodes t (end_parts (ends_in_comment xs) (last_number xs) (innermost t) e).1 in
     (n.0, record { items = xs; read = subst (λ (u : Tree Reading). AreRead o xs u) n.1 (sound_read g.sound); are = g.are })
 
 -- an output whose lines fit is printed as it is
-pub runs_output : (o : Options) → IsPlain o → (input : List ℕ) → {r : Outcome} → Runs o input r → r.fault ≡ None → LinesFit (lines_of r.output) →
-    Runs o r.output (record { output = r.output; fault = None; differs = false })
+pub runs_output : (o : Options) → IsPlain o → (input : List ℕ) → {r : Outcome} → HasOutcome o input r → r.fault ≡ None → LinesFit (lines_of r.output) →
+    HasOutcome o r.output (record { output = r.output; fault = None; differs = false })
 runs_output o p input {r} d e f =
     let n : (ns : Nodes Reading) × IsTreeOf o input (closed ns) = input_tree o input d e in again_law o p input d e f n.0 n.1

@@ -8,7 +8,7 @@ use Rattle.ud_model.specs.sections.Tree.{Item, Tree, item_with}
 use Rattle.ud_model.specs.sections.Pruning.{Mark, marks, is_removed}
 use Rattle.ud_model.specs.sections.Items.{Options, reading_of, line_of, item_of, read_after}
 use Rattle.ud_model.specs.sections.Faults.{ends_removed, is_cut, is_in_block, ends_in_comment}
-use Rattle.ud_model.specs.output.Pruned.{Edited, left_item, printed}
+use Rattle.ud_model.specs.output.Pruned.{Edited, kept_line, printed}
 use Rattle.ud_model.specs.output.Rereading.{line_bytes}
 use Rattle.ud_model.specs.declared.kind.Mode.{Mode}
 use Rattle.ud_model.specs.declared.verdict.Verdict.{Verdict}
@@ -43,10 +43,10 @@ piece_behind_all ys piece = line_at (suc (length (map (λ (y : Item Reading). li
 
 module _ (o : Options) (m : Mode) (xs : List (Item Reading)) (t u : Tree Reading) (ys : List (Item Reading)) (x : Item Reading) (mark : Mark)
     (more : marks u ≡ marks t ++ mark ∷ []) (long : length xs ≡ length (marks t)) (a : Again o m xs t ys) where
-  printed_next : printed (xs ++ x ∷ []) (marks u) ≡ printed xs (marks t) ++ left_item mark.verdict x
+  printed_next : printed (xs ++ x ∷ []) (marks u) ≡ printed xs (marks t) ++ kept_line mark.verdict x
   printed_next =
       ap (λ (ms : List Mark). printed (xs ++ x ∷ []) ms) more ∙ printed-append xs (x ∷ []) (marks t) (mark ∷ []) long
-      ∙ ap (λ (zs : List (Item (Edited Reading))). printed xs (marks t) ++ zs) (append-nil (left_item mark.verdict x))
+      ∙ ap (λ (zs : List (Item (Edited Reading))). printed xs (marks t) ++ zs) (append-nil (kept_line mark.verdict x))
 
   -- a line that goes
   pub gone_again : mark.verdict ≡ Remove → ends_in_comment ys ≡ false → Again o m (xs ++ x ∷ []) u ys
@@ -54,7 +54,7 @@ module _ (o : Options) (m : Mode) (xs : List (Item Reading)) (t u : Tree Reading
     read = a.read;
     same = a.same
         ∙ sym (ap (λ (zs : List (Item (Edited Reading))). map (item_with left_seen) zs)
-        (printed_next ∙ ap (λ (v : Verdict). printed xs (marks t) ++ left_item v x) e ∙ append-nil (printed xs (marks t))));
+        (printed_next ∙ ap (λ (v : Verdict). printed xs (marks t) ++ kept_line v x) e ∙ append-nil (printed xs (marks t))));
     numbered = a.numbered;
     uncut = a.uncut;
     ends = λ h. c;
@@ -74,8 +74,8 @@ module _ (o : Options) (m : Mode) (xs : List (Item Reading)) (t u : Tree Reading
       record {
         read = one_read ys a.read (piece_behind_all ys piece);
         same = map-append (item_with seen) ys (y ∷ [])
-            ∙ ap₂ (λ (p s : List (Item Seen)). p ++ s) a.same (h.item ∙ ap (λ (z : Item Reading). map (item_with left_seen) (left_item mark.verdict z)) (sym is))
-            ∙ sym (map-append (item_with left_seen) (printed xs (marks t)) (left_item mark.verdict x))
+            ∙ ap₂ (λ (p s : List (Item Seen)). p ++ s) a.same (h.item ∙ ap (λ (z : Item Reading). map (item_with left_seen) (kept_line mark.verdict z)) (sym is))
+            ∙ sym (map-append (item_with left_seen) (printed xs (marks t)) (kept_line mark.verdict x))
             ∙ sym (ap (λ (zs : List (Item (Edited Reading))). map (item_with left_seen) zs) printed_next);
         numbered = map-append line_of ys (y ∷ [])
             ∙ ap₂ (λ (p s : List Line). p ++ s) a.numbered (ap (λ (z : Reading). z.line ∷ []) q_is)

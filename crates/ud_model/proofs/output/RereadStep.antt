@@ -3,14 +3,14 @@ use Rattle.std.proofs.Common.{◌≡◌, ℕ, suc, List, [], ◌∷◌, ◌++◌
 use Rattle.std.proofs.lemmas.Bool.{false_from_ne_true}
 use Rattle.ud_model.specs.text.Lines.{Line, text_of}
 use Rattle.ud_model.specs.text.Scans.{Reading, is_spanning}
-use Rattle.ud_model.specs.text.Splicing.{content, stays_open, run_of}
+use Rattle.ud_model.specs.text.Splicing.{content, stays_open, c_run_of}
 use Rattle.ud_model.specs.text.Scanning.{joins, scan_after}
-use Rattle.ud_model.specs.aids.Places.{Place, in_text, closed_place, closed_white}
+use Rattle.ud_model.specs.aids.LexStates.{LexState, in_text, state_after_line, white_after_line}
 use Rattle.ud_model.specs.sections.Directives.{content_of}
 use Rattle.ud_model.specs.sections.Tree.{Item, Tree, lines}
 use Rattle.ud_model.specs.sections.Pruning.{Mark, marks, is_removed}
 use Rattle.ud_model.specs.sections.Items.{Options, reading_of, item_of, read_after}
-use Rattle.ud_model.specs.sections.Faults.{NoneHolds, cases, ends_removed, is_spoiled_behind, is_cut, ends_in_comment, is_in_block, keeps_rest}
+use Rattle.ud_model.specs.sections.Faults.{NoneHolds, cases, ends_removed, is_obfuscated_after, is_cut, ends_in_comment, is_in_block, keeps_rest}
 use Rattle.ud_model.specs.answer.Printing.{piece_by, keyword_in}
 use Rattle.ud_model.specs.output.Rereading.{line_bytes}
 use Rattle.ud_model.specs.declared.kind.Mode.{Mode}
@@ -53,9 +53,9 @@ left_stays ToElse h = refl
 left_stays ToEndif h = refl
 
 -- in plain mode no lines join
-pub plain_run : (o : Options) (ys : List (Item Reading)) → ReadIn o Plain ys → run_of (map reading_of ys) ≡ []
+pub plain_run : (o : Options) (ys : List (Item Reading)) → ReadIn o Plain ys → c_run_of (map reading_of ys) ≡ []
 plain_run o _ none_read = refl
-plain_run o _ (one_read ys r l) = ap run_of (readings_last o ys ys Plain l) ∙ run_of_last (map reading_of ys) (read_after ys Plain l)
+plain_run o _ (one_read ys r l) = ap c_run_of (readings_last o ys ys Plain l) ∙ run_of_last (map reading_of ys) (read_after ys Plain l)
 
 plain_calm : (o : Options) (ys : List (Item Reading)) → ReadIn o Plain ys → ends_in_comment ys ≡ false
 plain_calm o _ none_read = refl
@@ -67,7 +67,7 @@ pub record More (o : Options) (m : Mode) (xs : List (Item Reading)) (t : Tree Re
   pub grown : Grows true t u (item_of o (read_after xs m l))
   pub more : marks u ≡ marks t ++ grown.mark ∷ []
   pub long : length xs ≡ length (marks t)
-  pub unspoiled : is_spoiled_behind (ends_removed (marks t)) (item_of o (read_after xs m l)) grown.mark ≡ false
+  pub unspoiled : is_obfuscated_after (ends_removed (marks t)) (item_of o (read_after xs m l)) grown.mark ≡ false
   pub uncut : is_cut (content_of (scan_after (map reading_of xs) m l)) ≡ false
 
 pub the_more : (o : Options) (m : Mode) (xs : List (Item Reading)) (t : Tree Reading) (l : Line) (u : Tree Reading) → lines t ≡ xs → lines u ≡ xs ++ item_of o (read_after xs m l) ∷ [] →
@@ -81,7 +81,7 @@ the_more o m xs t l u q e n =
       grown = g;
       more = more;
       long = ap (λ (zs : List (Item Reading)). length zs) (sym q) ∙ sym (length_marks true t);
-      unspoiled = false_from_ne_true (is_spoiled_behind (ends_removed (marks t)) x g.mark) (λ h. n.1.1.1.1.1.0 (marks t, g.mark, (u, e, more), h));
+      unspoiled = false_from_ne_true (is_obfuscated_after (ends_removed (marks t)) x g.mark) (λ h. n.1.1.1.1.1.0 (marks t, g.mark, (u, e, more), h));
       uncut = ap (λ (r : Reading). is_cut (content_of r.scan)) (sym (reading_of-item_of o (read_after xs m l)))
           ∙ false_from_ne_true (is_cut (content_of (reading_of x).scan)) (λ h. n.1.1.0 h);
     }
@@ -118,7 +118,7 @@ plain_between : (o : Options) (xs : List (Item Reading)) (u : Tree Reading) (l :
     Stepped o Plain xs u l zs
 plain_between o xs u l zs a =
     let x : List (Item Reading) = xs ++ item_of o (read_after xs Plain l) ∷ [] in
-    let none : run_of (map reading_of x) ≡ [] = ap run_of (readings_last o xs xs Plain l) ∙ run_of_last (map reading_of xs) (read_after xs Plain l) in
+    let none : c_run_of (map reading_of x) ≡ [] = ap c_run_of (readings_last o xs xs Plain l) ∙ run_of_last (map reading_of xs) (read_after xs Plain l) in
     let empty : LeavesOff zs in_text true false = nowhere zs (plain_run o zs a.read) in (
       a,
       λ h. record {
@@ -144,12 +144,12 @@ plain_step o xs t ys b l u i k = go (goes_or_left k.grown.mark.verdict)
 
 -- 2. In C mode.
 
-gone_on : (o : Options) (xs ys : List (Item Reading)) (w : Place) (white on : Bool) (l : Line) → LeavesOff xs w white on → Rests ys → HasEnd l →
+gone_on : (o : Options) (xs ys : List (Item Reading)) (w : LexState) (white on : Bool) (l : Line) → LeavesOff xs w white on → Rests ys → HasEnd l →
     (j : Bool) → (scan_after (map reading_of xs) C l).joins_after ≡ j → Carry true (xs ++ item_of o (read_after xs C l) ∷ []) ys
 gone_on o xs ys w white on l a r h true e =
-    gone (closed_place (stays_open l) (place_after w (content l))) (closed_white (stays_open l) (place_after w (content l)) (white_after w white (content l)))
-    (subst (λ (j : Bool). LeavesOff (xs ++ item_of o (read_after xs C l) ∷ []) (closed_place (stays_open l) (place_after w (content l)))
-    (closed_white (stays_open l) (place_after w (content l)) (white_after w white (content l))) j) e (leaves_next o xs w white on l a)) r refl
+    gone (state_after_line (stays_open l) (place_after w (content l))) (white_after_line (stays_open l) (place_after w (content l)) (white_after w white (content l)))
+    (subst (λ (j : Bool). LeavesOff (xs ++ item_of o (read_after xs C l) ∷ []) (state_after_line (stays_open l) (place_after w (content l)))
+    (white_after_line (stays_open l) (place_after w (content l)) (white_after w white (content l))) j) e (leaves_next o xs w white on l a)) r refl
 gone_on o xs ys w white on l a r h false e = alike in_text true false (leaves_anew o xs l e h) r.off (λ f. cc) (λ f. r)
 
 module _ (o : Options) (xs : List (Item Reading)) (t : Tree Reading) (ys : List (Item Reading)) (b : Between o C xs t ys) (l : Line) (u : Tree Reading) (i : IsLine l) (k : More o C xs t l u) where
@@ -160,10 +160,10 @@ module _ (o : Options) (xs : List (Item Reading)) (t : Tree Reading) (ys : List 
   line_reading = reading_of-item_of o (read_after xs C l)
 
   -- if the line before joins this one, both go or both stay
-  both_alike : joins (run_of (map reading_of xs)) ≡ true → is_removed k.grown.mark.verdict ≡ ends_removed (marks t)
+  both_alike : joins (c_run_of (map reading_of xs)) ≡ true → is_removed k.grown.mark.verdict ≡ ends_removed (marks t)
   both_alike j =
       joined_alike (ends_removed (marks t)) k.grown.does k.unspoiled
-      (ap (λ (r : Reading). r.scan.joins_before) line_reading ∙ joins_before-code (run_of (map reading_of xs)) l ∙ j) (b.carried j)
+      (ap (λ (r : Reading). r.scan.joins_before) line_reading ∙ joins_before-code (c_run_of (map reading_of xs)) l ∙ j) (b.carried j)
 
   -- an edited line, but for one to an `#if`, is alone
   is_alone : IsLeft k.grown.mark.verdict → keeps_rest k.grown.mark.verdict ≡ false → is_spanning (scan_after (map reading_of xs) C l) ≡ false
@@ -171,13 +171,13 @@ module _ (o : Options) (xs : List (Item Reading)) (t : Tree Reading) (ys : List 
       ap (λ (r : Reading). is_spanning r.scan) (sym line_reading)
       ∙ edited_alone (ends_removed (marks t)) k.grown.does k.unspoiled e (left_stays k.grown.mark.verdict h)
 
-  carried_on : joins (run_of (map reading_of (xs ++ line_new ∷ []))) ≡ true → ends_removed (marks u) ≡ not (ends_kept true u)
+  carried_on : joins (c_run_of (map reading_of (xs ++ line_new ∷ []))) ≡ true → ends_removed (marks u) ≡ not (ends_kept true u)
   carried_on j =
       removed_is o C xs t ys b l u i k
       ∙ carried_step (ends_removed (marks t)) k.grown.does k.unspoiled (ap (λ (r : Reading). r.scan.joins_after) line_reading ∙ joins_next o xs l ∙ j)
 
   -- the line goes
-  code_gone : (w : Place) (white on : Bool) → LeavesOff xs w white on → Rests ys → k.grown.mark.verdict ≡ Remove → (zs : List (Item Reading)) × Stepped o C xs u l zs
+  code_gone : (w : LexState) (white on : Bool) → LeavesOff xs w white on → Rests ys → k.grown.mark.verdict ≡ Remove → (zs : List (Item Reading)) × Stepped o C xs u l zs
   code_gone w white on a r e =
       let again : Again o C (xs ++ line_new ∷ []) u ys = goes o C xs t ys b l u i k e r.calm in (
         ys,
@@ -193,7 +193,7 @@ module _ (o : Options) (xs : List (Item Reading)) (t : Tree Reading) (ys : List 
       )
 
   -- it is left
-  code_left : (w : Place) (white on : Bool) → LeavesOff xs w white on → LeavesOff ys w white on → IsLeft k.grown.mark.verdict → (zs : List (Item Reading)) × Stepped o C xs u l zs
+  code_left : (w : LexState) (white on : Bool) → LeavesOff xs w white on → LeavesOff ys w white on → IsLeft k.grown.mark.verdict → (zs : List (Item Reading)) × Stepped o C xs u l zs
   code_left w white on a c h =
       let n : Line = now o C xs t ys b l u i k in
       let line : LeftLine k.grown.mark.verdict (keyword_in (content_of (scan_after (map reading_of xs) C l))) l n = now_line o C xs t ys b l u i k h in
@@ -213,7 +213,7 @@ module _ (o : Options) (xs : List (Item Reading)) (t : Tree Reading) (ys : List 
       )
 
   -- if this line goes, the one before joins nothing or has gone
-  pub stayed_alone : (w : Place) (white on : Bool) → LeavesOff xs w white on → (on ≡ true → ends_removed (marks t) ≡ false) → k.grown.mark.verdict ≡ Remove → on ≡ false
+  pub stayed_alone : (w : LexState) (white on : Bool) → LeavesOff xs w white on → (on ≡ true → ends_removed (marks t) ≡ false) → k.grown.mark.verdict ≡ Remove → on ≡ false
   stayed_alone w white false a f e = refl
   stayed_alone w white true a f e =
       let p : true ≡ false = sym (ap is_removed e) ∙ both_alike (sym a.joins_on) ∙ f refl in cc

@@ -1,10 +1,10 @@
 -- Reading an output again: what is known of what is left of lines, and between it and the next line.
 use Rattle.std.proofs.Common.{◌≡◌, ℕ, List, [], map, Bool, true, false, not, refl, ◌⊎◌}
-use Rattle.ud_model.specs.text.Lines.{Line, line_at, numbered_from, IsWhole, IsUnended}
+use Rattle.ud_model.specs.text.Lines.{Line, line_at, numbered_from, IsWhole, IsUnterminated}
 use Rattle.ud_model.specs.text.Scans.{Reading}
-use Rattle.ud_model.specs.text.Splicing.{run_of}
+use Rattle.ud_model.specs.text.Splicing.{c_run_of}
 use Rattle.ud_model.specs.text.Scanning.{joins}
-use Rattle.ud_model.specs.aids.Places.{Place, in_text}
+use Rattle.ud_model.specs.aids.LexStates.{LexState, in_text}
 use Rattle.ud_model.specs.sections.Directives.{content_of}
 use Rattle.ud_model.specs.sections.Tree.{Item, Tree, nothing, closed, item_with}
 use Rattle.ud_model.specs.sections.Pruning.{marks}
@@ -28,9 +28,9 @@ pub record Rests (ys : List (Item Reading)) : Type 0 where
 -- the same, and then a last line that joins the next one has stayed; or the last line has gone and joins the next one. If
 -- the last line joins nothing or has gone, what is left leaves off between lines.
 pub data Carry (removed : Bool) (xs ys : List (Item Reading)) : Type 0 where
-  alike : (w : Place) (white on : Bool) → LeavesOff xs w white on → LeavesOff ys w white on → (on ≡ true → removed ≡ false) →
+  alike : (w : LexState) (white on : Bool) → LeavesOff xs w white on → LeavesOff ys w white on → (on ≡ true → removed ≡ false) →
       (on ≡ false → Rests ys) → Carry removed xs ys
-  gone : (w : Place) (white : Bool) → LeavesOff xs w white true → Rests ys → removed ≡ true → Carry removed xs ys
+  gone : (w : LexState) (white : Bool) → LeavesOff xs w white true → Rests ys → removed ≡ true → Carry removed xs ys
 
 -- it has no cut keyword
 abbrev pub IsUncut : Item Reading → Type 0
@@ -50,11 +50,11 @@ pub record Again (o : Options) (m : Mode) (xs : List (Item Reading)) (t : Tree R
 pub record Between (o : Options) (m : Mode) (xs : List (Item Reading)) (t : Tree Reading) (ys : List (Item Reading)) : Type 0 where
   pub again : Again o m xs t ys
   pub carry : Carry (ends_removed (marks t)) xs ys
-  pub carried : joins (run_of (map reading_of xs)) ≡ true → ends_removed (marks t) ≡ not (ends_kept true t)
+  pub carried : joins (c_run_of (map reading_of xs)) ≡ true → ends_removed (marks t) ≡ not (ends_kept true t)
 
 -- a line that was cut from a text
 abbrev pub IsLine : Line → Type 0
-IsLine l = (n : ℕ) × (t : List ℕ) × (l ≡ line_at n t) × (IsWhole t ⊎ IsUnended t)
+IsLine l = (n : ℕ) × (t : List ℕ) × (l ≡ line_at n t) × (IsWhole t ⊎ IsUnterminated t)
 
 -- before the first line
 pub start : (o : Options) (m : Mode) → Between o m [] (closed nothing) []

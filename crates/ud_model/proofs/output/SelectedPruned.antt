@@ -7,7 +7,7 @@ use Rattle.ud_model.specs.declared.verdict.Verdict.TheVariants.{Keep}
 use Rattle.ud_model.specs.sections.Tree.{Opener, Nodes, Groups, Elifs, nothing, text, section, conditional, otherwise, first, elif}
 use Rattle.ud_model.specs.sections.Pruning.{Part, an_if, an_elif}
 use Rattle.ud_model.specs.output.Worlds.{World, or_else, lines_or, where_true, selected, selected_groups, selected_elifs, EachReached, GroupsReached, ElifsReached, AgreesWith}
-use Rattle.ud_model.specs.output.Pruned.{Edited, edited, Left, none_kept, replaced, kept_groups, ended, then_nodes, with_group, with_else, then_left, pruned, left_of_groups, left_of_elifs}
+use Rattle.ud_model.specs.output.Pruned.{Edited, edited, KeptGroups, none_kept, replaced, kept_groups, ended, then_nodes, with_group, with_else, then_kept, pruned, kept_groups_of, kept_elifs_of}
 
 module _ {L : Type 0} (w : World L) where
   -- a line of the output has the truth of the line that it comes from
@@ -18,7 +18,7 @@ module _ {L : Type 0} (w : World L) where
   kept l = edited Keep l
 
   -- what is selected of the groups so far, by what is left of them
-  abbrev pub Chosen : Option (List L) → Left L → Type 0
+  abbrev pub Chosen : Option (List L) → KeptGroups L → Type 0
   Chosen s none_kept = s ≡ None
   Chosen s (replaced ms) = (ls : List L) × (s ≡ Some ls) × (map kept ls ≡ selected out_world ms)
   Chosen s (kept_groups es) = option_map (map kept) s ≡ selected_elifs out_world es
@@ -55,7 +55,7 @@ module _ {L : Type 0} (w : World L) where
   false_group (Some x) b ls h = refl
 
   -- one group more
-  group_step : (s : Option (List L)) (left : Left L) (part : Part) (o : Opener L) (c : Cond) (ns : Nodes L) (ps : Nodes (Edited L)) →
+  group_step : (s : Option (List L)) (left : KeptGroups L) (part : Part) (o : Opener L) (c : Cond) (ns : Nodes L) (ps : Nodes (Edited L)) →
       Chosen s left → (s ≡ None → AgreesWith w c o.line) → (s ≡ None → w o.line ≡ true → map kept (selected w ns) ≡ selected out_world ps) →
       Chosen (or_else s (where_true (w o.line) (selected w ns))) (with_group left part o c ps)
   group_step s none_kept part o Yes ns ps h a n = (
@@ -78,19 +78,19 @@ module _ {L : Type 0} (w : World L) where
   group_step s (ended es l ms (Some k)) part o c ns ps h a n = (h.0, later_group s (w o.line) h.0 (selected w ns) h.1, h.2)
 
   -- what is selected of a whole section, by what is left of it
-  abbrev Final : List L → Left L → Type 0
+  abbrev Final : List L → KeptGroups L → Type 0
   Final ls none_kept = ls ≡ []
   Final ls (replaced ms) = map kept ls ≡ selected out_world ms
   Final ls (kept_groups es) = map kept ls ≡ lines_or (selected_elifs out_world es) []
   Final ls (ended es l ms k) = map kept ls ≡ lines_or (selected_elifs out_world es) (selected out_world ms)
 
-  without_else : (s : Option (List L)) (left : Left L) → Chosen s left → Final (lines_or s []) left
+  without_else : (s : Option (List L)) (left : KeptGroups L) → Chosen s left → Final (lines_or s []) left
   without_else s none_kept h = ap (λ (q : Option (List L)). lines_or q []) h
   without_else s (replaced ms) h = ap (λ (q : Option (List L)). map kept (lines_or q [])) h.1 ∙ h.2
   without_else s (kept_groups es) h = last_group s (selected_elifs out_world es) [] [] h (λ e. refl)
   without_else s (ended es l ms k) h = ap (λ (q : Option (List L)). map kept (lines_or q [])) h.1 ∙ h.2
 
-  else_step : (s : Option (List L)) (left : Left L) (l : L) (ns : Nodes L) (ps : Nodes (Edited L)) →
+  else_step : (s : Option (List L)) (left : KeptGroups L) (l : L) (ns : Nodes L) (ps : Nodes (Edited L)) →
       Chosen s left → (s ≡ None → map kept (selected w ns) ≡ selected out_world ps) → Final (lines_or s (selected w ns)) (with_else left l ps)
   else_step s none_kept l ns ps h n = ap (λ (q : Option (List L)). map kept (lines_or q (selected w ns))) h ∙ n h
   else_step s (replaced ms) l ns ps h n = ap (λ (q : Option (List L)). map kept (lines_or q (selected w ns))) h.1 ∙ h.2
@@ -106,8 +106,8 @@ module _ {L : Type 0} (w : World L) where
       ap (λ (ls : List (Edited L)). ls ++ selected_groups out_world gs) (selected_then ms ns)
       ∙ append_assoc (selected out_world ms) (selected out_world ns) (selected_groups out_world gs)
 
-  section_step : (before ls : List L) (ps : Nodes (Edited L)) (left : Left L) (e : L) → map kept before ≡ selected out_world ps → Final ls left →
-      map kept (before ++ ls) ≡ selected out_world (then_left ps left e)
+  section_step : (before ls : List L) (ps : Nodes (Edited L)) (left : KeptGroups L) (e : L) → map kept before ≡ selected out_world ps → Final ls left →
+      map kept (before ++ ls) ≡ selected out_world (then_kept ps left e)
   section_step before ls ps none_kept e a h = ap (λ (q : List L). map kept (before ++ q)) h ∙ ap (map kept) (append-nil before) ∙ a
   section_step before ls ps (replaced ms) e a h =
       map-append kept before ls ∙ ap₂ (λ (p q : List (Edited L)). p ++ q) a h ∙ sym (selected_then ps ms)
@@ -125,13 +125,13 @@ module _ {L : Type 0} (w : World L) where
     selected-pruned nothing a = refl
     selected-pruned (text ns l) a = map-append kept (selected w ns) (l ∷ []) ∙ ap (λ (ls : List (Edited L)). ls ++ kept l ∷ []) (selected-pruned ns a)
     selected-pruned (section ns gs e) a =
-        section_step (selected w ns) (selected_groups w gs) (pruned ns) (left_of_groups gs) e (selected-pruned ns a.0) (final gs a.1)
+        section_step (selected w ns) (selected_groups w gs) (pruned ns) (kept_groups_of gs) e (selected-pruned ns a.0) (final gs a.1)
 
-    final : (gs : Groups L) → GroupsReached w Fits gs → Final (selected_groups w gs) (left_of_groups gs)
-    final (conditional es) a = without_else (selected_elifs w es) (left_of_elifs es) (chosen es a)
-    final (otherwise es l ns) a = else_step (selected_elifs w es) (left_of_elifs es) l ns (pruned ns) (chosen es a.0) (λ e. selected-pruned ns (a.1 e))
+    final : (gs : Groups L) → GroupsReached w Fits gs → Final (selected_groups w gs) (kept_groups_of gs)
+    final (conditional es) a = without_else (selected_elifs w es) (kept_elifs_of es) (chosen es a)
+    final (otherwise es l ns) a = else_step (selected_elifs w es) (kept_elifs_of es) l ns (pruned ns) (chosen es a.0) (λ e. selected-pruned ns (a.1 e))
 
-    pub chosen : (es : Elifs L) → ElifsReached w Fits es → Chosen (selected_elifs w es) (left_of_elifs es)
+    pub chosen : (es : Elifs L) → ElifsReached w Fits es → Chosen (selected_elifs w es) (kept_elifs_of es)
     chosen (first o ns) a = group_step None none_kept an_if o o.cond ns (pruned ns) refl (λ e. a.0) (λ e t. selected-pruned ns (a.1 t))
     chosen (elif es o ns) a =
-        group_step (selected_elifs w es) (left_of_elifs es) an_elif o o.cond ns (pruned ns) (chosen es a.0) (λ e. (a.1 e).0) (λ e t. selected-pruned ns ((a.1 e).1 t))
+        group_step (selected_elifs w es) (kept_elifs_of es) an_elif o o.cond ns (pruned ns) (chosen es a.0) (λ e. (a.1 e).0) (λ e t. selected-pruned ns ((a.1 e).1 t))

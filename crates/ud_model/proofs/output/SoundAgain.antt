@@ -7,7 +7,7 @@ use Rattle.ud_model.specs.sections.Tree.{Item, Tree, lines, depth}
 use Rattle.ud_model.specs.sections.Pruning.{Mark, marked, marks, is_removed}
 use Rattle.ud_model.specs.aids.Height.{height}
 use Rattle.ud_model.specs.sections.Items.{Options, reading_of, line_of, next_item}
-use Rattle.ud_model.specs.sections.Faults.{AreSound, no_lines, one_more, NoneHolds, cases, ends_removed, is_spoiled_behind, is_directive}
+use Rattle.ud_model.specs.sections.Faults.{AreFaultless, no_lines, one_more, NoneHolds, cases, ends_removed, is_obfuscated_after, is_directive}
 use Rattle.ud_model.specs.output.Rereading.{AreRead, no_items, one_item}
 use Rattle.ud_model.specs.declared.limits.TheConstants.{LINE_BYTES, TEXT_LINES, OPEN_SECTIONS}
 use Rattle.ud_model.specs.declared.verdict.Verdict.TheVariants.{Keep}
@@ -26,17 +26,17 @@ none_removed [] h = refl
 none_removed (m ∷ []) h = ap (λ (k : Mark). is_removed k.verdict) h.0
 none_removed (m ∷ n ∷ ms) h = none_removed (n ∷ ms) h.1
 
-kept_unspoiled : (x : Item Reading) → is_spoiled_behind false x (marked true Keep) ≡ false
+kept_unspoiled : (x : Item Reading) → is_obfuscated_after false x (marked true Keep) ≡ false
 kept_unspoiled x =
     ap (λ (b : Bool). is_directive x && is_spanning (reading_of x).scan && true && b) (and-false (reading_of x).scan.joins_before)
     ∙ and-false (is_directive x && is_spanning (reading_of x).scan && true)
 
 module _ (xs : List (Item Reading)) (x : Item Reading) (u : Tree Reading) (are : lines u ≡ xs ++ x ∷ []) (stay : Each Stays (marks u)) where
-  unspoiled : (before : List Mark) (m : Mark) (v : Tree Reading) → lines v ≡ xs ++ x ∷ [] → marks v ≡ before ++ m ∷ [] → is_spoiled_behind (ends_removed before) x m ≡ false
+  unspoiled : (before : List Mark) (m : Mark) (v : Tree Reading) → lines v ≡ xs ++ x ∷ [] → marks v ≡ before ++ m ∷ [] → is_obfuscated_after (ends_removed before) x m ≡ false
   unspoiled before m v e f =
       let h : Each Stays before × Each Stays (m ∷ []) =
       each_parts Stays before (m ∷ []) (subst (Each Stays) (ap (λ (t : Tree Reading). marks t) (Trees.unique u v (are ∙ sym e)) ∙ f) stay) in
-      ap₂ (λ (r : Bool) (k : Mark). is_spoiled_behind r x k) (none_removed before h.0) h.1.0 ∙ kept_unspoiled x
+      ap₂ (λ (r : Bool) (k : Mark). is_obfuscated_after r x k) (none_removed before h.0) h.1.0 ∙ kept_unspoiled x
 
   -- a line that is the last of such lines has no fault
   none_holds : IsUncut x → IsFew x → IsShort x → height u ≤ OPEN_SECTIONS → NoneHolds xs x cases
@@ -61,7 +61,7 @@ module _ (xs : List (Item Reading)) (x : Item Reading) (u : Tree Reading) (are :
 
 -- such lines are sound
 pub sound_again : (o : Options) (ys : List (Item Reading)) (t : Tree Reading) → AreRead o ys t → Each IsUncut ys → Each IsFew ys → Each IsShort ys → height t ≤ OPEN_SECTIONS →
-    Each Stays (marks t) → AreSound o ys t
+    Each Stays (marks t) → AreFaultless o ys t
 sound_again o _ _ no_items c f s h k = no_lines
 sound_again o _ _ (one_item ys t r l u e) c f s h k =
     let x : Item Reading = next_item o ys t l in

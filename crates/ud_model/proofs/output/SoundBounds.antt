@@ -7,7 +7,7 @@ use Rattle.ud_model.specs.sections.Tree.{Item, Tree, depth, item_with}
 use Rattle.ud_model.specs.sections.Pruning.{marks}
 use Rattle.ud_model.specs.aids.Height.{height}
 use Rattle.ud_model.specs.sections.Items.{Options, reading_of, line_of, next_item}
-use Rattle.ud_model.specs.sections.Faults.{AreSound, no_lines, one_more}
+use Rattle.ud_model.specs.sections.Faults.{AreFaultless, no_lines, one_more}
 use Rattle.ud_model.specs.output.Pruned.{printed}
 use Rattle.ud_model.specs.output.Rereading.{LinesFit, line_bytes}
 use Rattle.ud_model.proofs.output.SeenLines.{Seen, seen, left_seen}
@@ -33,7 +33,7 @@ not_more : (m n : ℕ) → (n < m → ⊥) → m ≤ n
 not_more m n h = omega (arith, h)
 
 -- a text without a fault is no higher than sections may be open
-pub sound_low : (o : Options) (xs : List (Item Reading)) (t : Tree Reading) → AreSound o xs t → height t ≤ OPEN_SECTIONS
+pub sound_low : (o : Options) (xs : List (Item Reading)) (t : Tree Reading) → AreFaultless o xs t → height t ≤ OPEN_SECTIONS
 sound_low o _ _ no_lines = omega arith
 sound_low o _ _ (one_more xs t s l u e n) =
     let x : Item Reading = next_item o xs t l in
@@ -51,7 +51,7 @@ last_numbered n (k ∷ ls) l [] e = cc
 last_numbered n (k ∷ ls) l (t ∷ ts) e = let p : ls ++ l ∷ [] ≡ numbered_from (suc n) ts = cc in last_numbered (suc n) ls l ts p ∙ omega arith
 
 -- it has no more lines than it may have
-pub sound_few : (o : Options) (xs : List (Item Reading)) (t : Tree Reading) (ts : List (List ℕ)) → AreSound o xs t → map line_of xs ≡ numbered_from 1 ts → length xs ≤ TEXT_LINES
+pub sound_few : (o : Options) (xs : List (Item Reading)) (t : Tree Reading) (ts : List (List ℕ)) → AreFaultless o xs t → map line_of xs ≡ numbered_from 1 ts → length xs ≤ TEXT_LINES
 sound_few o _ _ ts no_lines e = omega arith
 sound_few o _ _ ts (one_more xs t s l u d n) e =
     let x : Item Reading = next_item o xs t l in

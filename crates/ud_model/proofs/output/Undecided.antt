@@ -7,7 +7,7 @@ use Rattle.ud_model.specs.declared.verdict.Verdict.TheVariants.{Keep}
 use Rattle.ud_model.specs.sections.Tree.{Opener, Nodes, Groups, Elifs, nothing, text, section, conditional, otherwise, first, elif, closed}
 use Rattle.ud_model.specs.sections.Pruning.{Part, an_if, an_elif, an_else, Mark, marked, is_kept, conds_of_elifs, conds_of_groups, endif_verdict, marks}
 use Rattle.ud_model.specs.aids.SoFar.{verdict_so_far, nodes_so_far, groups_so_far, elifs_so_far}
-use Rattle.ud_model.specs.output.Pruned.{Edited, Left, none_kept, replaced, kept_groups, ended, then_nodes, with_group, with_else, then_left, pruned, left_of_groups, left_of_elifs, IsUndecided, GroupsUndecided, ElifsUndecided}
+use Rattle.ud_model.specs.output.Pruned.{Edited, KeptGroups, none_kept, replaced, kept_groups, ended, then_nodes, with_group, with_else, then_kept, pruned, kept_groups_of, kept_elifs_of, IsUndecided, GroupsUndecided, ElifsUndecided}
 use Rattle.ud_model.proofs.output.Each.{Each, each_both}
 use Rattle.ud_model.proofs.sections.Stays.{marks_so_far_same}
 use Rattle.ud_model.proofs.sections.Stages.{Stage, going, at_true, stage, next_stage, verdict_at, kept_at, endif_at, verdict_by_stage, kept_by_stage, stage_next, endif_by_stage}
@@ -23,13 +23,13 @@ else_conds : (cs : List Cond) → stage cs ≡ going → (stage (cs ++ Yes ∷ [
 else_conds cs e = stage_next cs Yes ∙ ap (λ (s : Stage). next_stage s Yes) e
 
 module _ {L : Type 0} where
-  abbrev LeftUndecided : Left L → Type 0
+  abbrev LeftUndecided : KeptGroups L → Type 0
   LeftUndecided none_kept = Unit {0}
   LeftUndecided (replaced ms) = IsUndecided ms
   LeftUndecided (kept_groups es) = ElifsUndecided es
   LeftUndecided (ended es l ms k) = ElifsUndecided es × IsUndecided ms
 
-  with_undecided : (left : Left L) (part : Part) (o : Opener L) (c : Cond) (ps : Nodes (Edited L)) → o.cond ≡ c → LeftUndecided left → IsUndecided ps → LeftUndecided (with_group left part o c ps)
+  with_undecided : (left : KeptGroups L) (part : Part) (o : Opener L) (c : Cond) (ps : Nodes (Edited L)) → o.cond ≡ c → LeftUndecided left → IsUndecided ps → LeftUndecided (with_group left part o c ps)
   with_undecided none_kept part o Yes ps e h n = n
   with_undecided none_kept part o No ps e h n = tt
   with_undecided none_kept part o Unknown ps e h n = (e, n)
@@ -40,7 +40,7 @@ module _ {L : Type 0} where
   with_undecided (ended es l ms None) part o c ps e h n = h
   with_undecided (ended es l ms (Some k)) part o c ps e h n = h
 
-  else_undecided : (left : Left L) (l : L) (ps : Nodes (Edited L)) → LeftUndecided left → IsUndecided ps → LeftUndecided (with_else left l ps)
+  else_undecided : (left : KeptGroups L) (l : L) (ps : Nodes (Edited L)) → LeftUndecided left → IsUndecided ps → LeftUndecided (with_else left l ps)
   else_undecided none_kept l ps h n = n
   else_undecided (replaced ms) l ps h n = h
   else_undecided (kept_groups es) l ps h n = (h, n)
@@ -52,7 +52,7 @@ module _ {L : Type 0} where
   then_undecided ms (text ns l) a b = then_undecided ms ns a b
   then_undecided ms (section ns gs e) a b = (then_undecided ms ns a b.0, b.1)
 
-  left_undecided : (ps : Nodes (Edited L)) (left : Left L) (e : L) → IsUndecided ps → LeftUndecided left → IsUndecided (then_left ps left e)
+  left_undecided : (ps : Nodes (Edited L)) (left : KeptGroups L) (e : L) → IsUndecided ps → LeftUndecided left → IsUndecided (then_kept ps left e)
   left_undecided ps none_kept e a h = a
   left_undecided ps (replaced ms) e a h = then_undecided ps ms a h
   left_undecided ps (kept_groups es) e a h = (a, h)
@@ -64,15 +64,15 @@ module _ {L : Type 0} where
     pub pruned_undecided : (ns : Nodes L) → IsUndecided (pruned ns)
     pruned_undecided nothing = tt
     pruned_undecided (text ns l) = pruned_undecided ns
-    pruned_undecided (section ns gs e) = left_undecided (pruned ns) (left_of_groups gs) e (pruned_undecided ns) (groups_undecided gs)
+    pruned_undecided (section ns gs e) = left_undecided (pruned ns) (kept_groups_of gs) e (pruned_undecided ns) (groups_undecided gs)
 
-    groups_undecided : (gs : Groups L) → LeftUndecided (left_of_groups gs)
+    groups_undecided : (gs : Groups L) → LeftUndecided (kept_groups_of gs)
     groups_undecided (conditional es) = elifs_undecided es
-    groups_undecided (otherwise es l ns) = else_undecided (left_of_elifs es) l (pruned ns) (elifs_undecided es) (pruned_undecided ns)
+    groups_undecided (otherwise es l ns) = else_undecided (kept_elifs_of es) l (pruned ns) (elifs_undecided es) (pruned_undecided ns)
 
-    elifs_undecided : (es : Elifs L) → LeftUndecided (left_of_elifs es)
+    elifs_undecided : (es : Elifs L) → LeftUndecided (kept_elifs_of es)
     elifs_undecided (first o ns) = with_undecided none_kept an_if o o.cond (pruned ns) refl tt (pruned_undecided ns)
-    elifs_undecided (elif es o ns) = with_undecided (left_of_elifs es) an_elif o o.cond (pruned ns) refl (elifs_undecided es) (pruned_undecided ns)
+    elifs_undecided (elif es o ns) = with_undecided (kept_elifs_of es) an_elif o o.cond (pruned ns) refl (elifs_undecided es) (pruned_undecided ns)
 
   -- the stage of groups none of which is decided
   going_on : (es : Elifs L) → ElifsUndecided es → stage (conds_of_elifs es) ≡ going

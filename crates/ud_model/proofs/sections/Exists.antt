@@ -2,17 +2,17 @@
 use Rattle.std.proofs.Common.{◌≡◌, ◌≢◌, ℕ, ◌<◌, ◌≤◌, List, [], ◌∷◌, ◌++◌, length, map, Bool, true, false, IsTrue, Option, Some, None, refl, sym, ◌∙◌, ap, append_assoc, append-nil, subst, ◌⊎◌, inl, inr, arith}
 use Rattle.std.proofs.lemmas.List.{same_from_push}
 use Rattle.std.proofs.lemmas.Bool.{cases_lt}
-use Rattle.ud_model.specs.text.Lines.{Line, text_of, lines_of, open_rest}
+use Rattle.ud_model.specs.text.Lines.{Line, text_of, lines_of, partial_line}
 use Rattle.ud_model.specs.text.Scans.{Reading}
 use Rattle.ud_model.specs.sections.Directives.{content_of}
 use Rattle.ud_model.specs.sections.Tree.{Item, Opener, Nodes, Elifs, Head, Tree, text_line, if_line, elif_line, else_line, endif_line, nothing, if_head, elif_head, else_head, closed, open_section, lines, depth}
 use Rattle.ud_model.specs.sections.Pruning.{Mark, marks}
 use Rattle.ud_model.specs.sections.Items.{Options, reading_of, line_of, next_item}
-use Rattle.ud_model.specs.sections.Faults.{Fault, Case, past_last, too_long, cut, out_of_place, too_deep, spoiled, cases, Holds, NoneHolds, is_cut, is_spoiled, misplaced, FaultOf, AreSound, no_lines, one_more, end_fault, too_many_lines, line_too_long, obfuscated, inappropriate_elif, inappropriate_else, inappropriate_endif, too_many_levels}
-use Rattle.ud_model.specs.answer.CommandLine.{UsageFault, usage_fault, options_of, input_name}
-use Rattle.ud_model.specs.answer.Runs.{Outcome, outcome_of, StopsAt, GoesThrough, ReadsAs, Runs, ran_as, lines_so_far, line_so_far, IsLimit, by_lines, by_bytes, RestBreaks, ReadsSoFar, RunsSoFar, came_as, breaks, goes_on}
-use Rattle.ud_model.specs.answer.Runs.ReadsAs.{stops, ends}
-use Rattle.ud_model.specs.answer.Runs.ReadsSoFar.{stops as stops_so_far}
+use Rattle.ud_model.specs.sections.Faults.{Fault, Case, past_last, too_long, cut, out_of_place, too_deep, obfuscated_case, cases, Holds, NoneHolds, is_cut, is_obfuscated, misplaced_fault, FaultOf, AreFaultless, no_lines, one_more, end_fault, too_many_lines, line_too_long, obfuscated, inappropriate_elif, inappropriate_else, inappropriate_endif, too_many_levels}
+use Rattle.ud_model.specs.answer.CommandLine.{UsageFault, usage_fault, options_of, display_name}
+use Rattle.ud_model.specs.answer.Outcomes.{Outcome, outcome_of, FirstFaultAt, HasNoFault, ReadsAs, HasOutcome, ran_as, lines_so_far, line_so_far, IsLimit, by_lines, by_bytes, RestBreaks, ReadsSoFar, HasOutcomeSoFar, came_as, breaks, goes_on}
+use Rattle.ud_model.specs.answer.Outcomes.ReadsAs.{stops, ends}
+use Rattle.ud_model.specs.answer.Outcomes.ReadsSoFar.{stops as stops_so_far}
 use Rattle.ud_model.specs.answer.Answer.{Answer, IsAnswer, refused, ran, usage_answer, run_answer}
 use Rattle.ud_model.specs.declared.limits.TheConstants.{LINE_BYTES, TEXT_LINES, OPEN_SECTIONS}
 use Rattle.ud_model.proofs.sections.Growth.{Adds, adds_text, adds_if, elif_after_if, elif_after_elif, else_after_if, else_after_elif, adds_endif, adds_under, lines-add}
@@ -23,7 +23,7 @@ use Rattle.ud_model.proofs.sections.Soundness.{sound_lines, lines_with_next}
 -- a text grows by a line, or the line is a directive out of its place
 pub data Grows (t : Tree Reading) (x : Item Reading) : Type 0 where
   by_line : (u : Tree Reading) → Adds t x u → Grows t x
-  out_of : (f : Fault) → misplaced x ≡ Some f → ((u : Tree Reading) → Adds t x u → ⊥) → Grows t x
+  out_of : (f : Fault) → misplaced_fault x ≡ Some f → ((u : Tree Reading) → Adds t x u → ⊥) → Grows t x
 
 -- within an open section a text grows as its end does, if the end has open sections too
 only_under : (ns ms : Nodes Reading) (h k : Head Reading) (t : Tree Reading) (x : Item Reading) (u : Tree Reading) →
@@ -100,18 +100,18 @@ module _ (xs : List (Item Reading)) (t : Tree Reading) (are : lines t ≡ xs) (x
       go (inl h) = inl (u, e, h)
       go (inr h) = inr (λ k. h (subst (λ v. OPEN_SECTIONS < depth v) (unique k.0 u (k.1 ∙ sym e)) k.2))
 
-  spoiled_or_not : (u : Tree Reading) → Adds t x u → lines u ≡ xs ++ x ∷ [] → Either (Holds xs x spoiled)
+  spoiled_or_not : (u : Tree Reading) → Adds t x u → lines u ≡ xs ++ x ∷ [] → Either (Holds xs x obfuscated_case)
   unfolding Either
-  spoiled_or_not u a e = go (marks_more a).0 (marks_more a).1 (either_true (is_spoiled (marks t) x (marks_more a).0))
+  spoiled_or_not u a e = go (marks_more a).0 (marks_more a).1 (either_true (is_obfuscated (marks t) x (marks_more a).0))
     where
-      go : (m : Mark) → marks u ≡ marks t ++ m ∷ [] → IsTrue (is_spoiled (marks t) x m) ⊎ (IsTrue (is_spoiled (marks t) x m) → ⊥) →
-          Holds xs x spoiled ⊎ (Holds xs x spoiled → ⊥)
+      go : (m : Mark) → marks u ≡ marks t ++ m ∷ [] → IsTrue (is_obfuscated (marks t) x m) ⊎ (IsTrue (is_obfuscated (marks t) x m) → ⊥) →
+          Holds xs x obfuscated_case ⊎ (Holds xs x obfuscated_case → ⊥)
       go m is (inl h) = inl (marks t, m, (u, e, is), h)
       go m is (inr h) =
           inr (λ k.
           let s : (k.0 ≡ marks t) × (k.1 ≡ m) =
           same_from_push k.0 (marks t) k.1 m (sym k.2.2 ∙ ap marks (unique k.2.0 u (k.2.1 ∙ sym e)) ∙ is) in
-          h (subst (λ ms. IsTrue (is_spoiled ms x m)) s.0 (subst (λ n. IsTrue (is_spoiled k.0 x n)) s.1 k.3)))
+          h (subst (λ ms. IsTrue (is_obfuscated ms x m)) s.0 (subst (λ n. IsTrue (is_obfuscated k.0 x n)) s.1 k.3)))
 
   module _ (past : Holds xs x past_last → ⊥) (long : Holds xs x too_long → ⊥) (known : Holds xs x cut → ⊥) where
     with_tree : (u : Tree Reading) → Adds t x u → Stands xs x
@@ -124,12 +124,12 @@ module _ (xs : List (Item Reading)) (t : Tree Reading) (are : lines t ≡ xs) (x
         placed : Holds xs x out_of_place → ⊥
         placed k = k.1 (u, e)
 
-        go : Holds xs x too_deep ⊎ (Holds xs x too_deep → ⊥) → Holds xs x spoiled ⊎ (Holds xs x spoiled → ⊥) → Stands xs x
+        go : Holds xs x too_deep ⊎ (Holds xs x too_deep → ⊥) → Holds xs x obfuscated_case ⊎ (Holds xs x obfuscated_case → ⊥) → Stands xs x
         go (inl h) s = faulty (too_many_levels (line_of x).number) (record { which = too_deep; holds = h; first = (past, (long, (known, (placed, tt)))); named = refl })
-        go (inr d) (inl h) = faulty (obfuscated (line_of x).number) (record { which = spoiled; holds = h; first = (past, (long, (known, (placed, (d, tt))))); named = refl })
+        go (inr d) (inl h) = faulty (obfuscated (line_of x).number) (record { which = obfuscated_case; holds = h; first = (past, (long, (known, (placed, (d, tt))))); named = refl })
         go (inr d) (inr s) = clear u e (past, (long, (known, (placed, (d, (s, tt))))))
 
-    without_tree : (f : Fault) → misplaced x ≡ Some f → ((u : Tree Reading) → Adds t x u → ⊥) → Stands xs x
+    without_tree : (f : Fault) → misplaced_fault x ≡ Some f → ((u : Tree Reading) → Adds t x u → ⊥) → Stands xs x
     without_tree f named none =
         faulty f
         (record {
@@ -156,11 +156,11 @@ module _ (xs : List (Item Reading)) (t : Tree Reading) (are : lines t ≡ xs) (x
 
 -- lines are gone through, or up to the first faulty one
 pub data Gone (o : Options) (ls : List Line) : Type 0 where
-  stopped : (xs : List (Item Reading)) (t : Tree Reading) (f : Fault) → StopsAt o ls xs t f → Gone o ls
-  through : (xs : List (Item Reading)) (t : Tree Reading) → GoesThrough o ls xs t → Gone o ls
+  stopped : (xs : List (Item Reading)) (t : Tree Reading) (f : Fault) → FirstFaultAt o ls xs t f → Gone o ls
+  through : (xs : List (Item Reading)) (t : Tree Reading) → HasNoFault o ls xs t → Gone o ls
 
 module _ (o : Options) (ls : List Line) where
-  gone_from : (rest : List Line) (xs : List (Item Reading)) (t : Tree Reading) → AreSound o xs t → ls ≡ map line_of xs ++ rest → Gone o ls
+  gone_from : (rest : List Line) (xs : List (Item Reading)) (t : Tree Reading) → AreFaultless o xs t → ls ≡ map line_of xs ++ rest → Gone o ls
   gone_from [] xs t s e = through xs t (record { sound = s; are = e ∙ append-nil (map line_of xs) })
   gone_from (l ∷ rest) xs t s e = go (stands xs t (sound_lines s) (next_item o xs t l)) (λ ys u r d. gone_from rest ys u r d)
     where
@@ -168,7 +168,7 @@ module _ (o : Options) (ls : List Line) where
       further =
           e ∙ sym (append_assoc (map line_of xs) (l ∷ []) rest) ∙ ap (λ (ks : List Line). ks ++ rest) (sym (lines_with_next o xs t l))
 
-      go : Stands xs (next_item o xs t l) → ((ys : List (Item Reading)) (u : Tree Reading) → AreSound o ys u → ls ≡ map line_of ys ++ rest → Gone o ls) → Gone o ls
+      go : Stands xs (next_item o xs t l) → ((ys : List (Item Reading)) (u : Tree Reading) → AreFaultless o ys u → ls ≡ map line_of ys ++ rest → Gone o ls) → Gone o ls
       go (faulty f g) on = stopped xs t f (record { sound = s; faulty = l; later = rest; are = e; fault = g })
       go (clear u is none) on = on (xs ++ next_item o xs t l ∷ []) u (one_more xs t s l u is none) further
 
@@ -185,7 +185,7 @@ reading_exists o input = go (gone o (lines_of input))
     go (through xs t h) = (xs, t, end_fault xs t, ends xs t h)
 
 -- so each text has an outcome
-pub run_exists : (o : Options) (input : List ℕ) → (r : Outcome) × Runs o input r
+pub run_exists : (o : Options) (input : List ℕ) → (r : Outcome) × HasOutcome o input r
 run_exists o input =
     let r : (xs : List (Item Reading)) × (t : Tree Reading) × (f : Option Fault) × ReadsAs o input xs t f = reading_exists o input in
     (outcome_of o.settings r.0 r.1 r.2, ran_as r.3)
@@ -203,7 +203,7 @@ module _ (o : Options) (given : List ℕ) (xs : List (Item Reading)) (t : Tree R
   within_limits p l _ by_lines h = p h
   within_limits p l _ by_bytes h = l h
 
-  breaks_by : (open_rest given ≡ []) ⊎ (open_rest given ≢ []) → Holds xs rest_item past_last ⊎ (Holds xs rest_item past_last → ⊥) → Holds xs rest_item too_long ⊎ (Holds xs rest_item too_long → ⊥) → Breaks o given xs t
+  breaks_by : (partial_line given ≡ []) ⊎ (partial_line given ≢ []) → Holds xs rest_item past_last ⊎ (Holds xs rest_item past_last → ⊥) → Holds xs rest_item too_long ⊎ (Holds xs rest_item too_long → ⊥) → Breaks o given xs t
   unfolding rest_item
   breaks_by (inl none) b c = unbroken (λ f h. h.some none)
   breaks_by (inr some) (inl h) c =
@@ -222,13 +222,13 @@ module _ (o : Options) (given : List ℕ) (xs : List (Item Reading)) (t : Tree R
   pub breaks_or_not : Breaks o given xs t
   unfolding rest_item Either
   breaks_or_not =
-      breaks_by (none_or_some (open_rest given)) (either_less TEXT_LINES (line_of rest_item).number) (either_less LINE_BYTES (length (text_of (line_of rest_item))))
+      breaks_by (none_or_some (partial_line given)) (either_less TEXT_LINES (line_of rest_item).number) (either_less LINE_BYTES (length (text_of (line_of rest_item))))
 
 -- each text that goes on is read in some way so far
 pub reading_so_far_exists : (o : Options) (given : List ℕ) → (xs : List (Item Reading)) × (t : Tree Reading) × (f : Option Fault) × ReadsSoFar o given xs t f
 reading_so_far_exists o given = go (gone o (lines_so_far given))
   where
-    further : (xs : List (Item Reading)) (t : Tree Reading) → GoesThrough o (lines_so_far given) xs t → Breaks o given xs t →
+    further : (xs : List (Item Reading)) (t : Tree Reading) → HasNoFault o (lines_so_far given) xs t → Breaks o given xs t →
         (xs : List (Item Reading)) × (t : Tree Reading) × (f : Option Fault) × ReadsSoFar o given xs t f
     further xs t h (broken f b) = (xs, t, Some f, breaks xs t f h b)
     further xs t h (unbroken n) = (xs, t, None, goes_on xs t h n)
@@ -238,17 +238,17 @@ reading_so_far_exists o given = go (gone o (lines_so_far given))
     go (through xs t h) = further xs t h (breaks_or_not o given xs t)
 
 -- so it has an outcome so far
-pub run_so_far_exists : (o : Options) (given : List ℕ) → (r : Outcome) × RunsSoFar o given r
+pub run_so_far_exists : (o : Options) (given : List ℕ) → (r : Outcome) × HasOutcomeSoFar o given r
 run_so_far_exists o given =
     let r : (xs : List (Item Reading)) × (t : Tree Reading) × (f : Option Fault) × ReadsSoFar o given xs t f = reading_so_far_exists o given in
     (outcome_of o.settings r.0 r.1 r.2, came_as r.3)
 
 -- words and an input have an answer
-pub answer_exists : (words : List (List ℕ)) (input : List ℕ) → (a : Answer) × IsAnswer words input a
-answer_exists words input = go (usage_fault words) refl
+pub answer_exists : (args : List (List ℕ)) (input : List ℕ) → (a : Answer) × IsAnswer args input a
+answer_exists args input = go (usage_fault args) refl
   where
-    go : (f : Option UsageFault) → usage_fault words ≡ f → (a : Answer) × IsAnswer words input a
+    go : (f : Option UsageFault) → usage_fault args ≡ f → (a : Answer) × IsAnswer args input a
     go (Some f) e = (usage_answer f, refused f e)
     go None e =
-        let r : (r : Outcome) × Runs (options_of words) input r = run_exists (options_of words) input in
-        (run_answer (options_of words).settings (input_name words) r.0, ran r.0 e r.1)
+        let r : (r : Outcome) × HasOutcome (options_of args) input r = run_exists (options_of args) input in
+        (run_answer (options_of args).settings (display_name args) r.0, ran r.0 e r.1)

@@ -1,15 +1,15 @@
 -- Fault stays: a fault of the text so far is the fault of every longer text, and the text before it is the same.
 use Rattle.std.proofs.Common.{◌≡◌, ◌≢◌, ℕ, suc, ◌≤◌, List, [], ◌∷◌, ◌++◌, length, map, Some, None, refl, sym, ◌∙◌, ap, ap₂, subst, append_assoc, length-append, arith}
-use Rattle.ud_model.specs.text.Lines.{Line, text_of, line_at, lines_of, whole_lines, open_rest, texts_of, numbered_from}
+use Rattle.ud_model.specs.text.Lines.{Line, text_of, line_at, lines_of, whole_lines, partial_line, texts_of, numbered_from}
 use Rattle.ud_model.specs.text.Scans.{Reading}
 use Rattle.ud_model.specs.sections.Directives.{Content, cut_keyword, directive, text, content_of, role_of}
 use Rattle.ud_model.specs.conditions.Conditions.{Decision, decision_on}
 use Rattle.ud_model.specs.sections.Tree.{Item, Tree}
 use Rattle.ud_model.specs.sections.Items.{Options, rules_of, directive_item, item_by, reading_of, line_of, mode_after, read_after, next_item}
 use Rattle.ud_model.specs.sections.Faults.{Fault, Case, FaultOf, Holds, NoneHolds, earlier, fault_in, past_last, too_long, too_many_lines, line_too_long}
-use Rattle.ud_model.specs.answer.Runs.{Outcome, StopsAt, GoesThrough, ReadsAs, ReadsSoFar, Runs, ran_as, RunsSoFar, came_as, RestBreaks, IsLimit, by_lines, by_bytes, lines_so_far, line_so_far, breaks}
-use Rattle.ud_model.specs.answer.Runs.ReadsSoFar.{stops as stops_so_far}
-use Rattle.ud_model.specs.answer.Runs.ReadsAs.{stops}
+use Rattle.ud_model.specs.answer.Outcomes.{Outcome, FirstFaultAt, HasNoFault, ReadsAs, ReadsSoFar, HasOutcome, ran_as, HasOutcomeSoFar, came_as, RestBreaks, IsLimit, by_lines, by_bytes, lines_so_far, line_so_far, breaks}
+use Rattle.ud_model.specs.answer.Outcomes.ReadsSoFar.{stops as stops_so_far}
+use Rattle.ud_model.specs.answer.Outcomes.ReadsAs.{stops}
 use Rattle.ud_model.specs.declared.kind.Role.{Role}
 use Rattle.ud_model.specs.declared.kind.Role.TheVariants.{IfGroup, ElifGroup, ElseGroup, EndifLine}
 use Rattle.ud_model.proofs.text.LinesLemmas.{Growth, stays_open, ends_line, grows, text_of-line_at, numbered_from-next, lines_so_far-append, lines_of-append, texts_of_grows, some_front}
@@ -73,7 +73,7 @@ limit_grows o xs t n r x f h =
 
 -- further lines after the faulty one leave the fault
 pub stops_at-append : (o : Options) (ls ms : List Line) (xs : List (Item Reading)) (t : Tree Reading) (f : Fault) →
-    StopsAt o ls xs t f → StopsAt o (ls ++ ms) xs t f
+    FirstFaultAt o ls xs t f → FirstFaultAt o (ls ++ ms) xs t f
 stops_at-append o ls ms xs t f h = record {
   sound = h.sound;
   faulty = h.faulty;
@@ -84,7 +84,7 @@ stops_at-append o ls ms xs t f h = record {
 
 -- a line after those that are gone through is the faulty one
 pub stops_behind : (o : Options) (ls ms : List Line) (l : Line) (xs : List (Item Reading)) (t : Tree Reading) (f : Fault) →
-    GoesThrough o ls xs t → FaultOf xs (next_item o xs t l) f → StopsAt o (ls ++ l ∷ ms) xs t f
+    HasNoFault o ls xs t → FaultOf xs (next_item o xs t l) f → FirstFaultAt o (ls ++ l ∷ ms) xs t f
 stops_behind o ls ms l xs t f through fault = record {
   sound = through.sound;
   faulty = l;
@@ -95,57 +95,57 @@ stops_behind o ls ms l xs t f through fault = record {
 
 -- the line that the rest of the text so far begins, with more bytes after the rest
 abbrev pub line_from : List ℕ → List ℕ → Line
-line_from given x = line_at (suc (length (whole_lines given))) (open_rest given ++ x)
+line_from given x = line_at (suc (length (whole_lines given))) (partial_line given ++ x)
 
 -- these lines begin with those so far, and with a line that the rest begins
 abbrev pub FindsLine : List ℕ → List Line → Type 0
 FindsLine given ls = (x : List ℕ) × (later : List Line) × (ls ≡ lines_so_far given ++ line_from given x ∷ later)
 
 -- the lines of a text that has ended, where the rest of the text so far begins one
-pub lines_of-rest : (given more : List ℕ) → open_rest given ≢ [] → FindsLine given (lines_of (given ++ more))
+pub lines_of-rest : (given more : List ℕ) → partial_line given ≢ [] → FindsLine given (lines_of (given ++ more))
 lines_of-rest given more some = by_texts (texts_of_grows given more some)
   where
-    by_texts : (x : List ℕ) × (later : List (List ℕ)) × (texts_of (given ++ more) ≡ whole_lines given ++ (open_rest given ++ x) ∷ later) →
+    by_texts : (x : List ℕ) × (later : List (List ℕ)) × (texts_of (given ++ more) ≡ whole_lines given ++ (partial_line given ++ x) ∷ later) →
         FindsLine given (lines_of (given ++ more))
     by_texts (x, later, e) = (
       x,
       numbered_from (suc (suc (length (whole_lines given)))) later,
-      ap (numbered_from 1) e ∙ numbered_from-next (whole_lines given) (open_rest given ++ x) later,
+      ap (numbered_from 1) e ∙ numbered_from-next (whole_lines given) (partial_line given ++ x) later,
     )
 
 -- the fault of a limit that the rest breaks is that of each line that the rest begins
 pub rest_stays : (o : Options) (given x : List ℕ) (xs : List (Item Reading)) (t : Tree Reading) (f : Fault) →
     RestBreaks o given xs t f → LimitFault xs (next_item o xs t (line_from given x)) f
 rest_stays o given x xs t f h =
-    limit_grows o xs t (suc (length (whole_lines given))) (open_rest given) x f (record { fault = h.fault; limit = h.limit })
+    limit_grows o xs t (suc (length (whole_lines given))) (partial_line given) x f (record { fault = h.fault; limit = h.limit })
 
 -- a broken limit stays one when the text ends
 pub limit_ends : (o : Options) (given more : List ℕ) (xs : List (Item Reading)) (t : Tree Reading) (f : Fault) →
-    GoesThrough o (lines_so_far given) xs t → RestBreaks o given xs t f → StopsAt o (lines_of (given ++ more)) xs t f
+    HasNoFault o (lines_so_far given) xs t → RestBreaks o given xs t f → FirstFaultAt o (lines_of (given ++ more)) xs t f
 limit_ends o given more xs t f through h = by_lines_of (lines_of-rest given more h.some)
   where
-    by_lines_of : FindsLine given (lines_of (given ++ more)) → StopsAt o (lines_of (given ++ more)) xs t f
+    by_lines_of : FindsLine given (lines_of (given ++ more)) → FirstFaultAt o (lines_of (given ++ more)) xs t f
     by_lines_of (x, later, e) =
-        subst (λ (ls : List Line). StopsAt o ls xs t f) (sym e)
+        subst (λ (ls : List Line). FirstFaultAt o ls xs t f) (sym e)
         (stops_behind o (lines_so_far given) later (line_from given x) xs t f through (rest_stays o given x xs t f h).fault)
 
 -- a broken limit stays one when the text goes on
 pub limit_goes_on : (o : Options) (given more : List ℕ) (xs : List (Item Reading)) (t : Tree Reading) (f : Fault) →
-    GoesThrough o (lines_so_far given) xs t → RestBreaks o given xs t f → ReadsSoFar o (given ++ more) xs t (Some f)
+    HasNoFault o (lines_so_far given) xs t → RestBreaks o given xs t f → ReadsSoFar o (given ++ more) xs t (Some f)
 limit_goes_on o given more xs t f through h = by_growth (grows given more)
   where
     by_growth : Growth given more → ReadsSoFar o (given ++ more) xs t (Some f)
     by_growth (ends_line x later e) =
         stops_so_far xs t f
-        (subst (λ (ls : List Line). StopsAt o ls xs t f)
-        (sym (ap (numbered_from 1) e ∙ numbered_from-next (whole_lines given) (open_rest given ++ x) later))
+        (subst (λ (ls : List Line). FirstFaultAt o ls xs t f)
+        (sym (ap (numbered_from 1) e ∙ numbered_from-next (whole_lines given) (partial_line given ++ x) later))
         (stops_behind o (lines_so_far given) (numbered_from (suc (suc (length (whole_lines given)))) later) (line_from given x) xs t f through
         (rest_stays o given x xs t f h).fault))
     by_growth (stays_open e r) =
         breaks xs t f
         (record { sound = through.sound; are = ap (numbered_from 1) e ∙ through.are })
         (record {
-          some = λ none. some_front (open_rest given) more h.some (sym r ∙ none);
+          some = λ none. some_front (partial_line given) more h.some (sym r ∙ none);
           fault = still.fault;
           limit = still.limit;
         })
@@ -160,17 +160,17 @@ pub reads_stay : {o : Options} {given : List ℕ} (more : List ℕ) {xs : List (
     ReadsSoFar o (given ++ more) xs t (Some f) × ReadsAs o (given ++ more) xs t (Some f)
 reads_stay {o = o} {given = given} more (stops_so_far xs t g h) = (
   stops_so_far xs t g
-      (subst (λ (ls : List Line). StopsAt o ls xs t g) (sym (lines_so_far-append given more).1)
+      (subst (λ (ls : List Line). FirstFaultAt o ls xs t g) (sym (lines_so_far-append given more).1)
       (stops_at-append o (lines_so_far given) (lines_so_far-append given more).0 xs t g h)),
   stops xs t g
-      (subst (λ (ls : List Line). StopsAt o ls xs t g) (sym (lines_of-append given more).1)
+      (subst (λ (ls : List Line). FirstFaultAt o ls xs t g) (sym (lines_of-append given more).1)
       (stops_at-append o (lines_so_far given) (lines_of-append given more).0 xs t g h)),
 )
 reads_stay {o = o} {given = given} more (breaks xs t g through h) =
     (limit_goes_on o given more xs t g through h, stops xs t g (limit_ends o given more xs t g through h))
 
 -- so the text before it stays, too
-pub fault_stays : (o : Options) (given more : List ℕ) (r : Outcome) → RunsSoFar o given r → (f : Fault) → r.fault ≡ Some f →
-    RunsSoFar o (given ++ more) r × Runs o (given ++ more) r
+pub fault_stays : (o : Options) (given more : List ℕ) (r : Outcome) → HasOutcomeSoFar o given r → (f : Fault) → r.fault ≡ Some f →
+    HasOutcomeSoFar o (given ++ more) r × HasOutcome o (given ++ more) r
 fault_stays o given more _ (came_as {f = None} a) f is = cc
 fault_stays o given more _ (came_as {f = Some g} a) f is = (came_as (reads_stay more a).0, ran_as (reads_stay more a).1)

@@ -1,8 +1,8 @@
 -- Where a keyword lies: within the masked line, and so within the line's body.
 use Rattle.std.proofs.Common.{◌≡◌, ℕ, suc, ◌+◌, ◌≤◌, ◌==◌, List, [], ◌∷◌, length, Bool, true, false, Option, Some, None, if◌then◌else◌, refl, subst, arith}
-use Rattle.ud_model.specs.text.Bytes.{past_white, word_in_front, past_word, is_white, is_word_byte}
+use Rattle.ud_model.specs.text.Bytes.{skip_white, leading_word, skip_word, is_white, is_word_byte}
 use Rattle.ud_model.specs.text.Scans.{Scan}
-use Rattle.ud_model.specs.sections.Directives.{Content, cut_keyword, directive, text, content_of, past_sign, past_sign_of, has_cut_keyword, found_behind, directive_at, kind_of}
+use Rattle.ud_model.specs.sections.Directives.{Content, cut_keyword, directive, text, content_of, skip_hash_if_fresh, skip_hash, has_split_keyword, content_after_hash, directive_at, kind_of}
 use Rattle.ud_model.specs.answer.Printing.{keyword_in}
 use Rattle.ud_model.specs.declared.kind.Kind.{Kind}
 
@@ -11,9 +11,9 @@ white_one true b bs rest h = omega (arith, h)
 white_one false b bs rest h = omega arith
 
 -- what is left after white space is no longer than all
-pub past_white_le : (t : List ℕ) → length (past_white t) ≤ length t
+pub past_white_le : (t : List ℕ) → length (skip_white t) ≤ length t
 past_white_le [] = omega arith
-past_white_le (b ∷ bs) = white_one (is_white b) b bs (past_white bs) (past_white_le bs)
+past_white_le (b ∷ bs) = white_one (is_white b) b bs (skip_white bs) (past_white_le bs)
 
 word_one : (w : Bool) (b : ℕ) (bs word rest : List ℕ) → length word + length rest ≡ length bs →
     length (if w then b ∷ word else []) + length (if w then rest else b ∷ bs) ≡ suc (length bs)
@@ -21,15 +21,15 @@ word_one true b bs word rest h = omega (arith, h)
 word_one false b bs word rest h = omega arith
 
 -- a word and what follows it are all
-pub word_and_rest : (t : List ℕ) → length (word_in_front t) + length (past_word t) ≡ length t
+pub word_and_rest : (t : List ℕ) → length (leading_word t) + length (skip_word t) ≡ length t
 word_and_rest [] = refl
-word_and_rest (b ∷ bs) = word_one (is_word_byte b) b bs (word_in_front bs) (past_word bs) (word_and_rest bs)
+word_and_rest (b ∷ bs) = word_one (is_word_byte b) b bs (leading_word bs) (skip_word bs) (word_and_rest bs)
 
 sign_one : (is : Bool) (b : ℕ) (bs rest : List ℕ) → (if is then Some bs else None) ≡ Some rest → length rest ≤ suc (length bs)
 sign_one true b bs rest e = let q : bs ≡ rest = cc in subst (λ (r : List ℕ). length r ≤ suc (length bs)) q (omega arith)
 sign_one false b bs rest e = cc
 
-sign_le : (t rest : List ℕ) → past_sign_of t ≡ Some rest → length rest ≤ length t
+sign_le : (t rest : List ℕ) → skip_hash t ≡ Some rest → length rest ≤ length t
 sign_le [] rest e = cc
 sign_le (b ∷ bs) rest e = sign_one (b == 35) b bs rest e
 
@@ -48,21 +48,21 @@ lies_fresh : (scan : Scan) (fresh : Bool) (rest : List ℕ) (k : Option Kind) �
 lies_fresh scan true rest k h = lies_at scan rest k h
 lies_fresh scan false rest k h = tt
 
-lies_behind : (scan : Scan) (sign : Option (List ℕ)) → past_sign scan.masked ≡ sign → Lies (length scan.masked) (found_behind scan sign)
+lies_behind : (scan : Scan) (sign : Option (List ℕ)) → skip_hash_if_fresh scan.masked ≡ sign → Lies (length scan.masked) (content_after_hash scan sign)
 lies_behind scan None e = tt
 lies_behind scan (Some rest) e =
     let a = past_white_le rest in
     let b = past_white_le scan.masked in
-    let c = sign_le (past_white scan.masked) rest e in
-    lies_fresh scan scan.fresh (past_white rest) (kind_of (word_in_front (past_white rest))) (omega (arith, a, b, c))
+    let c = sign_le (skip_white scan.masked) rest e in
+    lies_fresh scan scan.fresh (skip_white rest) (kind_of (leading_word (skip_white rest))) (omega (arith, a, b, c))
 
-lies_unless_cut : (scan : Scan) (cut : Bool) → Lies (length scan.masked) (if cut then cut_keyword else found_behind scan (past_sign scan.masked))
+lies_unless_cut : (scan : Scan) (cut : Bool) → Lies (length scan.masked) (if cut then cut_keyword else content_after_hash scan (skip_hash_if_fresh scan.masked))
 lies_unless_cut scan true = tt
-lies_unless_cut scan false = lies_behind scan (past_sign scan.masked) refl
+lies_unless_cut scan false = lies_behind scan (skip_hash_if_fresh scan.masked) refl
 
 -- a directive's keyword lies within the masked line, and so does what follows it
 pub content_lies : (scan : Scan) → Lies (length scan.masked) (content_of scan)
-content_lies scan = lies_unless_cut scan (has_cut_keyword scan (past_sign scan.masked))
+content_lies scan = lies_unless_cut scan (has_split_keyword scan (skip_hash_if_fresh scan.masked))
 
 keyword_by : (n : ℕ) (c : Content) → Lies n c → (keyword_in c).at + (keyword_in c).len ≤ n
 keyword_by n cut_keyword h = omega arith

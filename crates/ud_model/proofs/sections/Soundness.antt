@@ -6,11 +6,11 @@ use Rattle.ud_model.specs.text.Scans.{Reading}
 use Rattle.ud_model.specs.sections.Directives.{content_of}
 use Rattle.ud_model.specs.sections.Tree.{Item, Tree, lines}
 use Rattle.ud_model.specs.sections.Items.{Options, reading_of, line_of, item_of, mode_after, read_after, next_item}
-use Rattle.ud_model.specs.sections.Faults.{Fault, Case, past_last, too_long, cut, out_of_place, too_deep, spoiled, earlier, cases, Holds, NoneHolds, fault_in, FaultOf, AreSound, no_lines, one_more, end_fault}
+use Rattle.ud_model.specs.sections.Faults.{Fault, Case, past_last, too_long, cut, out_of_place, too_deep, obfuscated_case, earlier, cases, Holds, NoneHolds, fault_in, FaultOf, AreFaultless, no_lines, one_more, end_fault}
 use Rattle.ud_model.specs.output.Rereading.{AreRead, no_items, one_item, IsTreeOf}
-use Rattle.ud_model.specs.answer.Runs.{Outcome, outcome_of, StopsAt, GoesThrough, ReadsAs, Runs, ran_as, lines_so_far, line_so_far, RestBreaks, ReadsSoFar, RunsSoFar, came_as}
-use Rattle.ud_model.specs.answer.Runs.ReadsAs.{stops, ends}
-use Rattle.ud_model.specs.answer.Runs.ReadsSoFar.{stops as stops_so_far, breaks, goes_on}
+use Rattle.ud_model.specs.answer.Outcomes.{Outcome, outcome_of, FirstFaultAt, HasNoFault, ReadsAs, HasOutcome, ran_as, lines_so_far, line_so_far, RestBreaks, ReadsSoFar, HasOutcomeSoFar, came_as}
+use Rattle.ud_model.specs.answer.Outcomes.ReadsAs.{stops, ends}
+use Rattle.ud_model.specs.answer.Outcomes.ReadsSoFar.{stops as stops_so_far, breaks, goes_on}
 use Rattle.ud_model.specs.answer.Answer.{Answer, IsAnswer, refused, ran}
 use Rattle.ud_model.specs.declared.settings.Settings.{Settings}
 use Rattle.ud_model.proofs.text.Pushes.{ByPush, none, push, by_push, push_not_nil}
@@ -26,7 +26,7 @@ pub reading_of-next : (o : Options) (xs : List (Item Reading)) (t : Tree Reading
 reading_of-next o xs t l = ap (λ r. r.line) (reading_of-item_of o (read_after xs (mode_after o t) l))
 
 -- sound lines were read so
-pub sound_read : {o : Options} {xs : List (Item Reading)} {t : Tree Reading} → AreSound o xs t → AreRead o xs t
+pub sound_read : {o : Options} {xs : List (Item Reading)} {t : Tree Reading} → AreFaultless o xs t → AreRead o xs t
 sound_read no_lines = no_items
 sound_read (one_more xs t s l u e n) = one_item xs t (sound_read s) l u e
 
@@ -59,22 +59,22 @@ module _ (o : Options) where
   one_tree_of input t u a b = read_once a.read b.read (read_same a.items b.items t u a.read b.read (sym a.are ∙ b.are))
 
 -- sound lines are the lines of their tree
-pub sound_lines : {o : Options} {xs : List (Item Reading)} {t : Tree Reading} → AreSound o xs t → lines t ≡ xs
+pub sound_lines : {o : Options} {xs : List (Item Reading)} {t : Tree Reading} → AreFaultless o xs t → lines t ≡ xs
 sound_lines no_lines = refl
 sound_lines (one_more xs t s l u e n) = e
 
 -- sound lines have one tree
-pub sound_once : {o : Options} {xs : List (Item Reading)} {t u : Tree Reading} → AreSound o xs t → AreSound o xs u → t ≡ u
+pub sound_once : {o : Options} {xs : List (Item Reading)} {t u : Tree Reading} → AreFaultless o xs t → AreFaultless o xs u → t ≡ u
 sound_once {t = t} {u = u} a b = unique t u (sound_lines a ∙ sym (sound_lines b))
 
 -- the cases from this one on
 case_in_order : (c : Case) → (later : List Case) × (earlier c ++ c ∷ later ≡ cases)
-case_in_order past_last = (too_long ∷ cut ∷ out_of_place ∷ too_deep ∷ spoiled ∷ [], refl)
-case_in_order too_long = (cut ∷ out_of_place ∷ too_deep ∷ spoiled ∷ [], refl)
-case_in_order cut = (out_of_place ∷ too_deep ∷ spoiled ∷ [], refl)
-case_in_order out_of_place = (too_deep ∷ spoiled ∷ [], refl)
-case_in_order too_deep = (spoiled ∷ [], refl)
-case_in_order spoiled = ([], refl)
+case_in_order past_last = (too_long ∷ cut ∷ out_of_place ∷ too_deep ∷ obfuscated_case ∷ [], refl)
+case_in_order too_long = (cut ∷ out_of_place ∷ too_deep ∷ obfuscated_case ∷ [], refl)
+case_in_order cut = (out_of_place ∷ too_deep ∷ obfuscated_case ∷ [], refl)
+case_in_order out_of_place = (too_deep ∷ obfuscated_case ∷ [], refl)
+case_in_order too_deep = (obfuscated_case ∷ [], refl)
+case_in_order obfuscated_case = ([], refl)
 
 module _ (xs : List (Item Reading)) (x : Item Reading) where
   none_at : (cs : List Case) (c : Case) (later : List Case) → NoneHolds xs x (cs ++ c ∷ later) → Holds xs x c → ⊥
@@ -105,17 +105,17 @@ sound_or_faulty xs x f n a =
     none_at xs x (earlier a.which) a.which c.0 (subst (NoneHolds xs x) (sym c.1) n) a.holds
 
 module _ (o : Options) where
-  same_next : (xs ys : List (Item Reading)) (t u : Tree Reading) (l k : Line) → AreSound o xs t → AreSound o ys u → xs ≡ ys → l ≡ k →
+  same_next : (xs ys : List (Item Reading)) (t u : Tree Reading) (l k : Line) → AreFaultless o xs t → AreFaultless o ys u → xs ≡ ys → l ≡ k →
       next_item o xs t l ≡ next_item o ys u k
-  same_next xs ys t u l k a b e f = let q : t ≡ u = sound_once (subst (λ zs. AreSound o zs t) e a) b in rw (e, q, f)
+  same_next xs ys t u l k a b e f = let q : t ≡ u = sound_once (subst (λ zs. AreFaultless o zs t) e a) b in rw (e, q, f)
 
   -- sound items of the same lines are the same
-  pub sound_same : (xs ys : List (Item Reading)) (t u : Tree Reading) → AreSound o xs t → AreSound o ys u → map line_of xs ≡ map line_of ys → xs ≡ ys
+  pub sound_same : (xs ys : List (Item Reading)) (t u : Tree Reading) → AreFaultless o xs t → AreFaultless o ys u → map line_of xs ≡ map line_of ys → xs ≡ ys
   sound_same xs ys t u a b e = read_same o xs ys t u (sound_read a) (sound_read b) e
 
   -- of sound items with these lines in front, the first ones are sound
-  pub sound_front : (ls : List Line) {more : List Line} → ByPush more → (ys : List (Item Reading)) (u : Tree Reading) → AreSound o ys u →
-      map line_of ys ≡ ls ++ more → (xs : List (Item Reading)) × (t : Tree Reading) × AreSound o xs t × (map line_of xs ≡ ls)
+  pub sound_front : (ls : List Line) {more : List Line} → ByPush more → (ys : List (Item Reading)) (u : Tree Reading) → AreFaultless o ys u →
+      map line_of ys ≡ ls ++ more → (xs : List (Item Reading)) × (t : Tree Reading) × AreFaultless o xs t × (map line_of xs ≡ ls)
   sound_front ls none ys u b e = (ys, u, b, e ∙ append-nil ls)
   sound_front ls (push {xs = ms} l p) _ _ no_lines e = absurd (push_not_nil (ls ++ ms) l (append_assoc ls ms (l ∷ []) ∙ sym e))
   sound_front ls (push {xs = ms} l p) _ _ (one_more ys u b k v d m) e =
@@ -124,7 +124,7 @@ module _ (o : Options) where
       sound_front ls p ys u b s.0
 
   -- the line after sound items isn't faulty where more sound items have it too
-  clear_next : (xs ys : List (Item Reading)) (t u : Tree Reading) (l : Line) → AreSound o xs t → AreSound o ys u →
+  clear_next : (xs ys : List (Item Reading)) (t u : Tree Reading) (l : Line) → AreFaultless o xs t → AreFaultless o ys u →
       map line_of ys ≡ map line_of xs ++ l ∷ [] → NoneHolds xs (next_item o xs t l) cases
   clear_next xs _ t _ l a no_lines e = absurd (push_not_nil (map line_of xs) l (sym e))
   clear_next xs _ t _ l a (one_more ys u b k v d m) e =
@@ -133,10 +133,10 @@ module _ (o : Options) where
       subst (λ zs. NoneHolds zs (next_item o xs t l) cases) q
       (subst (λ y. NoneHolds ys y cases) (same_next ys xs u t k l b a q s.1) m)
 
-  pub faulty_inside : (xs ys : List (Item Reading)) (t u : Tree Reading) (l : Line) (later : List Line) (f : Fault) → AreSound o xs t →
-      FaultOf xs (next_item o xs t l) f → AreSound o ys u → map line_of ys ≡ map line_of xs ++ l ∷ later → ⊥
+  pub faulty_inside : (xs ys : List (Item Reading)) (t u : Tree Reading) (l : Line) (later : List Line) (f : Fault) → AreFaultless o xs t →
+      FaultOf xs (next_item o xs t l) f → AreFaultless o ys u → map line_of ys ≡ map line_of xs ++ l ∷ later → ⊥
   faulty_inside xs ys t u l later f a g b e =
-      let s : (zs : List (Item Reading)) × (v : Tree Reading) × AreSound o zs v × (map line_of zs ≡ map line_of xs ++ l ∷ []) =
+      let s : (zs : List (Item Reading)) × (v : Tree Reading) × AreFaultless o zs v × (map line_of zs ≡ map line_of xs ++ l ∷ []) =
       sound_front (map line_of xs ++ l ∷ []) (by_push later) ys u b (e ∙ sym (append_assoc (map line_of xs) (l ∷ []) later)) in
       sound_or_faulty xs (next_item o xs t l) f (clear_next xs s.0 t s.1 l a s.2 s.3) g
 
@@ -159,7 +159,7 @@ compare_fronts (c ∷ ks) (d ∷ ms) a b ws vs e = go (compare_fronts ks ms a b 
 
 module _ (o : Options) (ls : List Line) where
   -- a text stops at one place, with one fault
-  pub one_stop : (xs ys : List (Item Reading)) (t u : Tree Reading) (f g : Fault) → StopsAt o ls xs t f → StopsAt o ls ys u g →
+  pub one_stop : (xs ys : List (Item Reading)) (t u : Tree Reading) (f g : Fault) → FirstFaultAt o ls xs t f → FirstFaultAt o ls ys u g →
       (xs ≡ ys) × (t ≡ u) × (f ≡ g)
   one_stop xs ys t u f g a b = go (compare_fronts (map line_of xs) (map line_of ys) a.faulty b.faulty a.later b.later (sym a.are ∙ b.are))
     where
@@ -170,7 +170,7 @@ module _ (o : Options) (ls : List Line) where
           let q : xs ≡ ys = sound_same o xs ys t u a.sound b.sound s.0 in
           let r : next_item o xs t a.faulty ≡ next_item o ys u b.faulty = same_next o xs ys t u a.faulty b.faulty a.sound b.sound q s.1 in (
             q,
-            sound_once (subst (λ zs. AreSound o zs t) q a.sound) b.sound,
+            sound_once (subst (λ zs. AreFaultless o zs t) q a.sound) b.sound,
             one_fault ys (next_item o ys u b.faulty) f g
                 (subst (λ zs. FaultOf zs (next_item o ys u b.faulty) f) q (subst (λ y. FaultOf xs y f) r a.fault)) b.fault,
           )
@@ -178,13 +178,13 @@ module _ (o : Options) (ls : List Line) where
       go (inr (inr s)) = absurd (faulty_inside o ys xs u t b.faulty s.0 g b.sound b.fault a.sound s.1)
 
   -- a text that goes through has one list of items with one tree
-  pub one_way_through : (xs ys : List (Item Reading)) (t u : Tree Reading) → GoesThrough o ls xs t → GoesThrough o ls ys u → (xs ≡ ys) × (t ≡ u)
+  pub one_way_through : (xs ys : List (Item Reading)) (t u : Tree Reading) → HasNoFault o ls xs t → HasNoFault o ls ys u → (xs ≡ ys) × (t ≡ u)
   one_way_through xs ys t u a b =
       let q : xs ≡ ys = sound_same o xs ys t u a.sound b.sound (sym a.are ∙ b.are) in
-      (q, sound_once (subst (λ zs. AreSound o zs t) q a.sound) b.sound)
+      (q, sound_once (subst (λ zs. AreFaultless o zs t) q a.sound) b.sound)
 
   -- a text that stops doesn't go through
-  pub stops_or_goes : (xs ys : List (Item Reading)) (t u : Tree Reading) (f : Fault) → StopsAt o ls xs t f → GoesThrough o ls ys u → ⊥
+  pub stops_or_goes : (xs ys : List (Item Reading)) (t u : Tree Reading) (f : Fault) → FirstFaultAt o ls xs t f → HasNoFault o ls ys u → ⊥
   stops_or_goes xs ys t u f a b = faulty_inside o xs ys t u a.faulty a.later f a.sound a.fault b.sound (sym b.are ∙ a.are)
 
 same_outcome : (s : Settings) (xs ys : List (Item Reading)) (t u : Tree Reading) (f g : Option Fault) → xs ≡ ys → t ≡ u → f ≡ g →
@@ -202,7 +202,7 @@ reads_once {o = o} {input = input} (ends xs t a) (ends ys u b) =
     let w : (xs ≡ ys) × (t ≡ u) = one_way_through o (lines_of input) xs ys t u a b in (w.0, w.1, ap₂ end_fault w.0 w.1)
 
 -- a text has one outcome at most
-pub one_run : {o : Options} {input : List ℕ} {r s : Outcome} → Runs o input r → Runs o input s → r ≡ s
+pub one_run : {o : Options} {input : List ℕ} {r s : Outcome} → HasOutcome o input r → HasOutcome o input s → r ≡ s
 one_run {o = o} (ran_as {xs = xs} {t = t} {f = f} a) (ran_as {xs = ys} {t = u} {f = g} b) =
     let w : (xs ≡ ys) × (t ≡ u) × (f ≡ g) = reads_once a b in same_outcome o.settings xs ys t u f g w.0 w.1 w.2
 
@@ -233,12 +233,12 @@ reads_so_far_once {o = o} {given = given} (goes_on xs t a c) (goes_on ys u b d) 
     let w : (xs ≡ ys) × (t ≡ u) = one_way_through o (lines_so_far given) xs ys t u a b in (w.0, w.1, refl)
 
 -- and has one outcome so far at most
-pub one_run_so_far : {o : Options} {given : List ℕ} {r s : Outcome} → RunsSoFar o given r → RunsSoFar o given s → r ≡ s
+pub one_run_so_far : {o : Options} {given : List ℕ} {r s : Outcome} → HasOutcomeSoFar o given r → HasOutcomeSoFar o given s → r ≡ s
 one_run_so_far {o = o} (came_as {xs = xs} {t = t} {f = f} a) (came_as {xs = ys} {t = u} {f = g} b) =
     let w : (xs ≡ ys) × (t ≡ u) × (f ≡ g) = reads_so_far_once a b in same_outcome o.settings xs ys t u f g w.0 w.1 w.2
 
 -- words and an input have one answer at most
-pub one_answer : {words : List (List ℕ)} {input : List ℕ} {a b : Answer} → IsAnswer words input a → IsAnswer words input b → a ≡ b
+pub one_answer : {args : List (List ℕ)} {input : List ℕ} {a b : Answer} → IsAnswer args input a → IsAnswer args input b → a ≡ b
 one_answer (refused f d) (refused g e) = let q : Some f ≡ Some g = sym d ∙ e in let p : f ≡ g = cc in rw p
 one_answer (refused f d) (ran s e b) = let q : Some f ≡ None = sym d ∙ e in cc
 one_answer (ran r d a) (refused g e) = let q : Some g ≡ None = sym e ∙ d in cc

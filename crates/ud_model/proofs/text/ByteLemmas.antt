@@ -3,7 +3,7 @@ use Rattle.std.proofs.Common.{◌≡◌, ◌∙◌, ◌≤◌, nat_lt, Some, Non
 use Rattle.std.specs.List.{list_all, position, position_or_len}
 use Rattle.std.proofs.lemmas.List.Sums.{prefix_len-le-length}
 use Rattle.std.proofs.lemmas.Bool.Decides.{nat_tests}
-use Rattle.ud_model.specs.text.Bytes.{is_white, is_word_byte, are_white, are_word_bytes, is_digit, is_identifier, word_in_front, past_word, past_white}
+use Rattle.ud_model.specs.text.Bytes.{is_white, is_word_byte, are_white, are_word_bytes, is_digit, is_identifier, leading_word, skip_word, skip_white}
 use Rattle.std.proofs.Common.{◌&&◌, one-add}
 
 -- `all` at `is_white` tests each byte for white space
@@ -32,14 +32,14 @@ or_len : (n len : ℕ) → n ≤ len → unwrap_or (cond (nat_lt n len) (Some n)
 or_len n len h = grind (arith, nat_tests)
 
 -- the bytes before the first that is no word byte are the word in front
-pub take-front_len : (bytes : List ℕ) → take (front_len bytes) bytes ≡ word_in_front bytes
+pub take-front_len : (bytes : List ℕ) → take (front_len bytes) bytes ≡ leading_word bytes
 take-front_len [] = refl
-take-front_len (b ∷ bs) = take_one (is_word_byte b) (front_len bs) b bs (word_in_front bs) (take-front_len bs)
+take-front_len (b ∷ bs) = take_one (is_word_byte b) (front_len bs) b bs (leading_word bs) (take-front_len bs)
 
 -- the bytes from the first that is no word byte on are those after the word
-pub drop-front_len : (bytes : List ℕ) → drop (front_len bytes) bytes ≡ past_word bytes
+pub drop-front_len : (bytes : List ℕ) → drop (front_len bytes) bytes ≡ skip_word bytes
 drop-front_len [] = refl
-drop-front_len (b ∷ bs) = drop_one (is_word_byte b) (front_len bs) b bs (past_word bs) (drop-front_len bs)
+drop-front_len (b ∷ bs) = drop_one (is_word_byte b) (front_len bs) b bs (skip_word bs) (drop-front_len bs)
 
 -- the position of the first byte that passes, or the length if none does
 pub unwrap_or-position : (p : ℕ → Bool) (bytes : List ℕ) → unwrap_or (position p bytes) (length bytes) ≡ position_or_len p bytes
@@ -58,15 +58,15 @@ one_off true b bs rest h = let s : length (b ∷ bs) ≡ length bs + 1 = omega a
 one_off false b bs rest h = omega arith
 
 -- white space in front is no more than there is
-pub length-past_white : (bytes : List ℕ) → length (past_white bytes) ≤ length bytes
-length-past_white [] = omega arith
-length-past_white (b ∷ bs) = one_off (is_white b) b bs (past_white bs) (length-past_white bs)
+pub length-skip_white : (bytes : List ℕ) → length (skip_white bytes) ≤ length bytes
+length-skip_white [] = omega arith
+length-skip_white (b ∷ bs) = one_off (is_white b) b bs (skip_white bs) (length-skip_white bs)
 
 one_word : (w : Bool) (b : ℕ) (front : List ℕ) → is_word_byte b ≡ w → are_word_bytes front ≡ true → are_word_bytes (if w then b ∷ front else []) ≡ true
 one_word true b front e h = rw e h
 one_word false b front e h = refl
 
 -- the word in front has word bytes alone
-pub word_in_front-word : (bytes : List ℕ) → are_word_bytes (word_in_front bytes) ≡ true
-word_in_front-word [] = refl
-word_in_front-word (b ∷ bs) = one_word (is_word_byte b) b (word_in_front bs) refl (word_in_front-word bs)
+pub leading_word-word : (bytes : List ℕ) → are_word_bytes (leading_word bytes) ≡ true
+leading_word-word [] = refl
+leading_word-word (b ∷ bs) = one_word (is_word_byte b) b (leading_word bs) refl (leading_word-word bs)

@@ -6,11 +6,11 @@ use Rattle.std.proofs.lemmas.Bool.{cases_eq}
 use Rattle.std.proofs.lemmas.Bool.Decides.{Decides-eqb}
 use Rattle.std.proofs.lemmas.Slice.Eq.{ends_is}
 pub use Rattle.ud_model.specs.text.Lines.{AreWhole}
-use Rattle.ud_model.specs.text.Lines.{NoFeed, IsWhole, AreFormed, AreLines, Parts, AreParts, put, put_on, parts_of, whole_lines, open_rest, last_line, texts_of, ending_of, is_ending, Line, text_of, line_at, numbered_from, lines_of}
+use Rattle.ud_model.specs.text.Lines.{NoNewline, IsWhole, AreFormed, AreLines, SplitLines, AreSplitLines, prepend_byte, prepend_to_first, split_lines, whole_lines, partial_line, last_line, texts_of, ending_of, is_ending, Line, text_of, line_at, numbered_from, lines_of}
 
 -- a byte that isn't a line feed goes in front of the first part
-pub put-other : (b : ℕ) (p : Parts) → b ≢ 10 → put b p ≡ put_on b p.whole p.rest
-put-other b p other = rw (ne_eqb b 10 other) refl
+pub prepend_byte-other : (b : ℕ) (p : SplitLines) → b ≢ 10 → prepend_byte b p ≡ prepend_to_first b p.whole p.rest
+prepend_byte-other b p other = rw (ne_eqb b 10 other) refl
 
 -- a rest that isn't empty is a line of its own
 pub last_line-some : (r : List ℕ) → r ≢ [] → last_line r ≡ r ∷ []
@@ -28,175 +28,175 @@ concat-last_line [] = refl
 concat-last_line (b ∷ bs) = append-nil (b ∷ bs)
 
 -- no line feed stands in two texts, so none stands in both joined
-pub no_feed-append : (p q : List ℕ) → NoFeed p → NoFeed q → NoFeed (p ++ q)
+pub no_feed-append : (p q : List ℕ) → NoNewline p → NoNewline q → NoNewline (p ++ q)
 no_feed-append [] q hp hq = hq
 no_feed-append (b ∷ bs) q hp hq = (hp.0, no_feed-append bs q hp.1 hq)
 
 -- the parts of a text without a line feed: it is all rest
-pub parts_of-open : (p : List ℕ) → NoFeed p → parts_of p ≡ record { whole = []; rest = p }
-unfolding parts_of
-parts_of-open [] h = refl
-parts_of-open (b ∷ bs) h =
-    put-other b (parts_of bs) h.0 ∙ ap (λ (q : Parts). put_on b q.whole q.rest) (parts_of-open bs h.1)
+pub split_lines-open : (p : List ℕ) → NoNewline p → split_lines p ≡ record { whole = []; rest = p }
+unfolding split_lines
+split_lines-open [] h = refl
+split_lines-open (b ∷ bs) h =
+    prepend_byte-other b (split_lines bs) h.0 ∙ ap (λ (q : SplitLines). prepend_to_first b q.whole q.rest) (split_lines-open bs h.1)
 
 -- up to the first line feed a text is its first line
-pub parts_of-front : (p t : List ℕ) → NoFeed p →
-    parts_of (p ++ 10 ∷ t) ≡ record { whole = (p ++ 10 ∷ []) ∷ whole_lines t; rest = open_rest t }
-unfolding parts_of
-parts_of-front [] t h = refl
-parts_of-front (b ∷ bs) t h =
-    put-other b (parts_of (bs ++ 10 ∷ t)) h.0 ∙ ap (λ (q : Parts). put_on b q.whole q.rest) (parts_of-front bs t h.1)
+pub split_lines-front : (p t : List ℕ) → NoNewline p →
+    split_lines (p ++ 10 ∷ t) ≡ record { whole = (p ++ 10 ∷ []) ∷ whole_lines t; rest = partial_line t }
+unfolding split_lines
+split_lines-front [] t h = refl
+split_lines-front (b ∷ bs) t h =
+    prepend_byte-other b (split_lines (bs ++ 10 ∷ t)) h.0 ∙ ap (λ (q : SplitLines). prepend_to_first b q.whole q.rest) (split_lines-front bs t h.1)
 
 -- a whole line in front of a text is its first line
-pub parts_of-line-front : (l t : List ℕ) → IsWhole l → parts_of (l ++ t) ≡ record { whole = l ∷ whole_lines t; rest = open_rest t }
-parts_of-line-front l t (front, none, is) =
-    subst (λ (m : List ℕ). parts_of (m ++ t) ≡ record { whole = m ∷ whole_lines t; rest = open_rest t }) (sym is)
-    (ap parts_of (append_assoc front (10 ∷ []) t) ∙ parts_of-front front t none)
+pub split_lines-line-front : (l t : List ℕ) → IsWhole l → split_lines (l ++ t) ≡ record { whole = l ∷ whole_lines t; rest = partial_line t }
+split_lines-line-front l t (front, none, is) =
+    subst (λ (m : List ℕ). split_lines (m ++ t) ≡ record { whole = m ∷ whole_lines t; rest = partial_line t }) (sym is)
+    (ap split_lines (append_assoc front (10 ∷ []) t) ∙ split_lines-front front t none)
 
 -- the parts of a text that goes on from these parts
-abbrev pub going_on : Parts → List ℕ → Parts
-going_on q s = record { whole = q.whole ++ whole_lines (q.rest ++ s); rest = open_rest (q.rest ++ s) }
+abbrev pub going_on : SplitLines → List ℕ → SplitLines
+going_on q s = record { whole = q.whole ++ whole_lines (q.rest ++ s); rest = partial_line (q.rest ++ s) }
 
 -- a byte in front of a text goes in front of the text that goes on
-pub put-going_on : (b : ℕ) (q : Parts) (s : List ℕ) → (b ≡ 10) ⊎ (b ≢ 10) → put b (going_on q s) ≡ going_on (put b q) s
-unfolding parts_of
-put-going_on b q s (inl e) = subst (λ (n : ℕ). put n (going_on q s) ≡ going_on (put n q) s) (sym e) refl
-put-going_on b q s (inr other) =
-    put-other b (going_on q s) other ∙ by_whole q.whole q.rest ∙ ap (λ (x : Parts). going_on x s) (sym (put-other b q other))
+pub prepend_byte-going_on : (b : ℕ) (q : SplitLines) (s : List ℕ) → (b ≡ 10) ⊎ (b ≢ 10) → prepend_byte b (going_on q s) ≡ going_on (prepend_byte b q) s
+unfolding split_lines
+prepend_byte-going_on b q s (inl e) = subst (λ (n : ℕ). prepend_byte n (going_on q s) ≡ going_on (prepend_byte n q) s) (sym e) refl
+prepend_byte-going_on b q s (inr other) =
+    prepend_byte-other b (going_on q s) other ∙ by_whole q.whole q.rest ∙ ap (λ (x : SplitLines). going_on x s) (sym (prepend_byte-other b q other))
   where
     by_whole : (ls : List (List ℕ)) (r : List ℕ) →
-        put_on b (ls ++ whole_lines (r ++ s)) (open_rest (r ++ s)) ≡ going_on (put_on b ls r) s
-    by_whole [] r = sym (put-other b (parts_of (r ++ s)) other)
+        prepend_to_first b (ls ++ whole_lines (r ++ s)) (partial_line (r ++ s)) ≡ going_on (prepend_to_first b ls r) s
+    by_whole [] r = sym (prepend_byte-other b (split_lines (r ++ s)) other)
     by_whole (l ∷ ls) r = refl
 
 -- the parts of two texts joined: the second goes on from the rest of the first
-pub parts_of-append : (t s : List ℕ) → parts_of (t ++ s) ≡ going_on (parts_of t) s
-unfolding parts_of
-parts_of-append [] s = refl
-parts_of-append (b ∷ bs) s = ap (put b) (parts_of-append bs s) ∙ put-going_on b (parts_of bs) s (cases_eq b 10)
+pub split_lines-append : (t s : List ℕ) → split_lines (t ++ s) ≡ going_on (split_lines t) s
+unfolding split_lines
+split_lines-append [] s = refl
+split_lines-append (b ∷ bs) s = ap (prepend_byte b) (split_lines-append bs s) ∙ prepend_byte-going_on b (split_lines bs) s (cases_eq b 10)
 
 -- put in front of parts of a text, a byte gives parts of the text with the byte in front
-pub put_parts : (b : ℕ) (bs : List ℕ) (q : Parts) → (b ≡ 10) ⊎ (b ≢ 10) → AreParts bs q → AreParts (b ∷ bs) (put b q)
+pub put_parts : (b : ℕ) (bs : List ℕ) (q : SplitLines) → (b ≡ 10) ⊎ (b ≢ 10) → AreSplitLines bs q → AreSplitLines (b ∷ bs) (prepend_byte b q)
 put_parts b bs q (inl e) h =
-    subst (λ (n : ℕ). AreParts (n ∷ bs) (put n q)) (sym e)
-    (record { joined = ap (λ (x : List ℕ). 10 ∷ x) h.joined; whole = (([], tt, refl), h.whole); feedless = h.feedless })
+    subst (λ (n : ℕ). AreSplitLines (n ∷ bs) (prepend_byte n q)) (sym e)
+    (record { joined = ap (λ (x : List ℕ). 10 ∷ x) h.joined; whole = (([], tt, refl), h.whole); no_newline = h.no_newline })
 put_parts b bs q (inr other) h =
-    subst (AreParts (b ∷ bs)) (sym (put-other b q other)) (by_whole q.whole q.rest h.joined h.whole h.feedless)
+    subst (AreSplitLines (b ∷ bs)) (sym (prepend_byte-other b q other)) (by_whole q.whole q.rest h.joined h.whole h.no_newline)
   where
-    by_whole : (ls : List (List ℕ)) (r : List ℕ) → bs ≡ concat ls ++ r → AreWhole ls → NoFeed r → AreParts (b ∷ bs) (put_on b ls r)
-    by_whole [] r joined whole feedless = record { joined = ap (λ (x : List ℕ). b ∷ x) joined; whole = tt; feedless = (other, feedless) }
-    by_whole (l ∷ ls) r joined whole feedless = record {
+    by_whole : (ls : List (List ℕ)) (r : List ℕ) → bs ≡ concat ls ++ r → AreWhole ls → NoNewline r → AreSplitLines (b ∷ bs) (prepend_to_first b ls r)
+    by_whole [] r joined whole no_newline = record { joined = ap (λ (x : List ℕ). b ∷ x) joined; whole = tt; no_newline = (other, no_newline) }
+    by_whole (l ∷ ls) r joined whole no_newline = record {
       joined = ap (λ (x : List ℕ). b ∷ x) joined;
       whole = ((b ∷ whole.0.0, (other, whole.0.1), ap (λ (x : List ℕ). b ∷ x) whole.0.2), whole.1);
-      feedless = feedless;
+      no_newline = no_newline;
     }
 
 -- the parts of a text are parts of it
-pub parts_of-are : (t : List ℕ) → AreParts t (parts_of t)
-unfolding parts_of
-parts_of-are [] = record { joined = refl; whole = tt; feedless = tt }
-parts_of-are (b ∷ bs) = put_parts b bs (parts_of bs) (cases_eq b 10) (parts_of-are bs)
+pub split_lines-are : (t : List ℕ) → AreSplitLines t (split_lines t)
+unfolding split_lines
+split_lines-are [] = record { joined = refl; whole = tt; no_newline = tt }
+split_lines-are (b ∷ bs) = put_parts b bs (split_lines bs) (cases_eq b 10) (split_lines-are bs)
 
 -- a text is its whole lines and its rest
-pub parts_joined : (t : List ℕ) → t ≡ concat (whole_lines t) ++ open_rest t
-parts_joined t = (parts_of-are t).joined
+pub parts_joined : (t : List ℕ) → t ≡ concat (whole_lines t) ++ partial_line t
+parts_joined t = (split_lines-are t).joined
 
 -- each of the whole lines is whole
 pub are_whole : (t : List ℕ) → AreWhole (whole_lines t)
-are_whole t = (parts_of-are t).whole
+are_whole t = (split_lines-are t).whole
 
 -- no line feed stands after the last one
-pub open_rest-open : (t : List ℕ) → NoFeed (open_rest t)
-open_rest-open t = (parts_of-are t).feedless
+pub partial_line-open : (t : List ℕ) → NoNewline (partial_line t)
+partial_line-open t = (split_lines-are t).no_newline
 
 -- bytes without a line feed go to the rest
-pub parts_of-append-open : (t p : List ℕ) → NoFeed p → parts_of (t ++ p) ≡ record { whole = whole_lines t; rest = open_rest t ++ p }
-parts_of-append-open t p h =
-    parts_of-append t p ∙ ap (λ (q : Parts). record { whole = whole_lines t ++ q.whole; rest = q.rest })
-    (parts_of-open (open_rest t ++ p) (no_feed-append (open_rest t) p (open_rest-open t) h))
-    ∙ ap (λ (ls : List (List ℕ)). record { whole = ls; rest = open_rest t ++ p }) (append-nil (whole_lines t))
+pub split_lines-append-open : (t p : List ℕ) → NoNewline p → split_lines (t ++ p) ≡ record { whole = whole_lines t; rest = partial_line t ++ p }
+split_lines-append-open t p h =
+    split_lines-append t p ∙ ap (λ (q : SplitLines). record { whole = whole_lines t ++ q.whole; rest = q.rest })
+    (split_lines-open (partial_line t ++ p) (no_feed-append (partial_line t) p (partial_line-open t) h))
+    ∙ ap (λ (ls : List (List ℕ)). record { whole = ls; rest = partial_line t ++ p }) (append-nil (whole_lines t))
 
 -- a line feed ends the line that the rest begins
-pub parts_of-append-line : (t p : List ℕ) → NoFeed p →
-    parts_of (t ++ (p ++ 10 ∷ [])) ≡ record { whole = whole_lines t ++ (open_rest t ++ (p ++ 10 ∷ [])) ∷ []; rest = [] }
-unfolding parts_of
-parts_of-append-line t p h =
-    parts_of-append t (p ++ 10 ∷ []) ∙ ap (λ (q : Parts). record { whole = whole_lines t ++ q.whole; rest = q.rest }) line
+pub split_lines-append-line : (t p : List ℕ) → NoNewline p →
+    split_lines (t ++ (p ++ 10 ∷ [])) ≡ record { whole = whole_lines t ++ (partial_line t ++ (p ++ 10 ∷ [])) ∷ []; rest = [] }
+unfolding split_lines
+split_lines-append-line t p h =
+    split_lines-append t (p ++ 10 ∷ []) ∙ ap (λ (q : SplitLines). record { whole = whole_lines t ++ q.whole; rest = q.rest }) line
   where
-    line : parts_of (open_rest t ++ (p ++ 10 ∷ [])) ≡ record { whole = (open_rest t ++ (p ++ 10 ∷ [])) ∷ []; rest = [] }
+    line : split_lines (partial_line t ++ (p ++ 10 ∷ [])) ≡ record { whole = (partial_line t ++ (p ++ 10 ∷ [])) ∷ []; rest = [] }
     line =
-        subst (λ (x : List ℕ). parts_of x ≡ record { whole = x ∷ []; rest = [] }) (append_assoc (open_rest t) p (10 ∷ []))
-        (parts_of-front (open_rest t ++ p) [] (no_feed-append (open_rest t) p (open_rest-open t) h))
+        subst (λ (x : List ℕ). split_lines x ≡ record { whole = x ∷ []; rest = [] }) (append_assoc (partial_line t) p (10 ∷ []))
+        (split_lines-front (partial_line t ++ p) [] (no_feed-append (partial_line t) p (partial_line-open t) h))
 
 -- the whole lines of a longer text begin with those of the text, and their rest is that of the text's rest
 pub whole_grows : (t more : List ℕ) → (later : List (List ℕ)) × (whole_lines (t ++ more) ≡ whole_lines t ++ later)
-whole_grows t more = (whole_lines (open_rest t ++ more), ap (λ (q : Parts). q.whole) (parts_of-append t more))
+whole_grows t more = (whole_lines (partial_line t ++ more), ap (λ (q : SplitLines). q.whole) (split_lines-append t more))
 
 -- these are the parts of a text that goes on from this rest: the rest still stands, or a whole line begins with it
-pub data GoesOn (r more : List ℕ) : Parts → Type 0 where
+pub data GoesOn (r more : List ℕ) : SplitLines → Type 0 where
   still_open : GoesOn r more (record { whole = []; rest = r ++ more })
   made_whole : (x : List ℕ) (ls : List (List ℕ)) (rest : List ℕ) → GoesOn r more (record { whole = (r ++ x) ∷ ls; rest = rest })
 
 -- the parts of a rest that goes on
-pub rest_goes_on : (r more : List ℕ) → NoFeed r → GoesOn r more (parts_of (r ++ more))
-unfolding parts_of
-rest_goes_on [] more h = by_whole (whole_lines more) (open_rest more) (parts_joined more)
+pub rest_goes_on : (r more : List ℕ) → NoNewline r → GoesOn r more (split_lines (r ++ more))
+unfolding split_lines
+rest_goes_on [] more h = by_whole (whole_lines more) (partial_line more) (parts_joined more)
   where
     by_whole : (ls : List (List ℕ)) (r : List ℕ) → more ≡ concat ls ++ r → GoesOn [] more (record { whole = ls; rest = r })
     by_whole [] r e = subst (λ (x : List ℕ). GoesOn [] more (record { whole = []; rest = x })) e still_open
     by_whole (l ∷ ls) r e = made_whole l ls r
 rest_goes_on (b ∷ r) more h =
-    subst (GoesOn (b ∷ r) more) (sym (put-other b (parts_of (r ++ more)) h.0)) (put_in (parts_of (r ++ more)) (rest_goes_on r more h.1))
+    subst (GoesOn (b ∷ r) more) (sym (prepend_byte-other b (split_lines (r ++ more)) h.0)) (put_in (split_lines (r ++ more)) (rest_goes_on r more h.1))
   where
-    put_in : (q : Parts) → GoesOn r more q → GoesOn (b ∷ r) more (put_on b q.whole q.rest)
+    put_in : (q : SplitLines) → GoesOn r more q → GoesOn (b ∷ r) more (prepend_to_first b q.whole q.rest)
     put_in _ still_open = still_open
     put_in _ (made_whole x ls rest) = made_whole x ls rest
 
 -- a text that goes on: its rest still stands, longer, or a whole line begins with it
 pub data Growth (t more : List ℕ) : Type 0 where
-  stays_open : whole_lines (t ++ more) ≡ whole_lines t → open_rest (t ++ more) ≡ open_rest t ++ more → Growth t more
-  ends_line : (x : List ℕ) (later : List (List ℕ)) → whole_lines (t ++ more) ≡ whole_lines t ++ (open_rest t ++ x) ∷ later → Growth t more
+  stays_open : whole_lines (t ++ more) ≡ whole_lines t → partial_line (t ++ more) ≡ partial_line t ++ more → Growth t more
+  ends_line : (x : List ℕ) (later : List (List ℕ)) → whole_lines (t ++ more) ≡ whole_lines t ++ (partial_line t ++ x) ∷ later → Growth t more
 
 -- what becomes of the rest of a text that goes on
 pub grows : (t more : List ℕ) → Growth t more
-grows t more = by_parts (parts_of (open_rest t ++ more)) (parts_of-append t more) (rest_goes_on (open_rest t) more (open_rest-open t))
+grows t more = by_parts (split_lines (partial_line t ++ more)) (split_lines-append t more) (rest_goes_on (partial_line t) more (partial_line-open t))
   where
-    by_parts : (q : Parts) → parts_of (t ++ more) ≡ record { whole = whole_lines t ++ q.whole; rest = q.rest } →
-        GoesOn (open_rest t) more q → Growth t more
+    by_parts : (q : SplitLines) → split_lines (t ++ more) ≡ record { whole = whole_lines t ++ q.whole; rest = q.rest } →
+        GoesOn (partial_line t) more q → Growth t more
     by_parts _ e still_open =
-        stays_open (ap (λ (p : Parts). p.whole) e ∙ append-nil (whole_lines t)) (ap (λ (p : Parts). p.rest) e)
-    by_parts _ e (made_whole x ls rest) = ends_line x ls (ap (λ (p : Parts). p.whole) e)
+        stays_open (ap (λ (p : SplitLines). p.whole) e ∙ append-nil (whole_lines t)) (ap (λ (p : SplitLines). p.rest) e)
+    by_parts _ e (made_whole x ls rest) = ends_line x ls (ap (λ (p : SplitLines). p.whole) e)
 
 -- where a text has a rest, one of the lines of a longer text begins with it
-pub texts_of_grows : (t more : List ℕ) → open_rest t ≢ [] →
-    (x : List ℕ) × (later : List (List ℕ)) × (texts_of (t ++ more) ≡ whole_lines t ++ (open_rest t ++ x) ∷ later)
+pub texts_of_grows : (t more : List ℕ) → partial_line t ≢ [] →
+    (x : List ℕ) × (later : List (List ℕ)) × (texts_of (t ++ more) ≡ whole_lines t ++ (partial_line t ++ x) ∷ later)
 texts_of_grows t more some = by_growth (grows t more)
   where
     by_growth : Growth t more →
-        (x : List ℕ) × (later : List (List ℕ)) × (texts_of (t ++ more) ≡ whole_lines t ++ (open_rest t ++ x) ∷ later)
+        (x : List ℕ) × (later : List (List ℕ)) × (texts_of (t ++ more) ≡ whole_lines t ++ (partial_line t ++ x) ∷ later)
     by_growth (stays_open e r) = (
       more,
       [],
       ap₂ (λ (ls : List (List ℕ)) (x : List ℕ). ls ++ last_line x) e r
-          ∙ ap (λ (ls : List (List ℕ)). whole_lines t ++ ls) (last_line-some (open_rest t ++ more) (some_front (open_rest t) more some)),
+          ∙ ap (λ (ls : List (List ℕ)). whole_lines t ++ ls) (last_line-some (partial_line t ++ more) (some_front (partial_line t) more some)),
     )
     by_growth (ends_line x later e) = (
       x,
-      later ++ last_line (open_rest (t ++ more)),
-      ap (λ (ls : List (List ℕ)). ls ++ last_line (open_rest (t ++ more))) e
-          ∙ append_assoc (whole_lines t) ((open_rest t ++ x) ∷ later) (last_line (open_rest (t ++ more))),
+      later ++ last_line (partial_line (t ++ more)),
+      ap (λ (ls : List (List ℕ)). ls ++ last_line (partial_line (t ++ more))) e
+          ∙ append_assoc (whole_lines t) ((partial_line t ++ x) ∷ later) (last_line (partial_line (t ++ more))),
     )
 
 -- whole lines stay lines when the text goes on or ends
 pub texts_of-whole : (t more : List ℕ) → (later : List (List ℕ)) × (texts_of (t ++ more) ≡ whole_lines t ++ later)
 texts_of-whole t more = (
-  whole_lines (open_rest t ++ more) ++ last_line (open_rest (t ++ more)),
-  ap (λ (ls : List (List ℕ)). ls ++ last_line (open_rest (t ++ more))) (ap (λ (q : Parts). q.whole) (parts_of-append t more))
-      ∙ append_assoc (whole_lines t) (whole_lines (open_rest t ++ more)) (last_line (open_rest (t ++ more))),
+  whole_lines (partial_line t ++ more) ++ last_line (partial_line (t ++ more)),
+  ap (λ (ls : List (List ℕ)). ls ++ last_line (partial_line (t ++ more))) (ap (λ (q : SplitLines). q.whole) (split_lines-append t more))
+      ∙ append_assoc (whole_lines t) (whole_lines (partial_line t ++ more)) (last_line (partial_line (t ++ more))),
 )
 
 -- whole lines and a last one without a line feed are formed
-pub formed : (ls : List (List ℕ)) (r : List ℕ) → AreWhole ls → NoFeed r → AreFormed (ls ++ last_line r)
+pub formed : (ls : List (List ℕ)) (r : List ℕ) → AreWhole ls → NoNewline r → AreFormed (ls ++ last_line r)
 formed [] [] whole h = tt
 formed [] (b ∷ bs) whole h = inr ((λ e. cc), h)
 formed (l ∷ []) [] whole h = inl whole.0
@@ -206,22 +206,22 @@ formed (l ∷ m ∷ ls) r whole h = (whole.0, formed (m ∷ ls) r whole.1 h)
 -- a text has lines
 pub lines_exist : (t : List ℕ) → AreLines t (texts_of t)
 lines_exist t = record {
-  joined = parts_joined t ∙ ap (λ (r : List ℕ). concat (whole_lines t) ++ r) (sym (concat-last_line (open_rest t)))
-      ∙ sym (concat-append (whole_lines t) (last_line (open_rest t)));
-  formed = formed (whole_lines t) (open_rest t) (are_whole t) (open_rest-open t);
+  joined = parts_joined t ∙ ap (λ (r : List ℕ). concat (whole_lines t) ++ r) (sym (concat-last_line (partial_line t)))
+      ∙ sym (concat-append (whole_lines t) (last_line (partial_line t)));
+  formed = formed (whole_lines t) (partial_line t) (are_whole t) (partial_line-open t);
 }
 
 -- formed lines are the lines of the text that they are joined
 pub texts_of-formed : (ls : List (List ℕ)) → AreFormed ls → ls ≡ texts_of (concat ls)
-unfolding parts_of
+unfolding split_lines
 texts_of-formed [] h = refl
 texts_of-formed (l ∷ []) (inl whole) =
-    sym (ap (λ (q : Parts). q.whole ++ last_line q.rest) (parts_of-line-front l [] whole))
+    sym (ap (λ (q : SplitLines). q.whole ++ last_line q.rest) (split_lines-line-front l [] whole))
 texts_of-formed (l ∷ []) (inr (some, none)) =
-    sym (ap texts_of (append-nil l) ∙ ap (λ (q : Parts). q.whole ++ last_line q.rest) (parts_of-open l none) ∙ last_line-some l some)
+    sym (ap texts_of (append-nil l) ∙ ap (λ (q : SplitLines). q.whole ++ last_line q.rest) (split_lines-open l none) ∙ last_line-some l some)
 texts_of-formed (l ∷ m ∷ ls) (whole, rest) =
     ap (λ (ms : List (List ℕ)). l ∷ ms) (texts_of-formed (m ∷ ls) rest)
-    ∙ sym (ap (λ (q : Parts). q.whole ++ last_line q.rest) (parts_of-line-front l (concat (m ∷ ls)) whole))
+    ∙ sym (ap (λ (q : SplitLines). q.whole ++ last_line q.rest) (split_lines-line-front l (concat (m ∷ ls)) whole))
 
 -- the lines of a text are these and no others
 pub lines_are : (t : List ℕ) (ls : List (List ℕ)) → AreLines t ls → ls ≡ texts_of t
@@ -289,15 +289,15 @@ lines_of-append t more = (
 )
 
 -- whole lines and what comes after them are the parts of the text that they are joined
-parts_of-whole : (ls : List (List ℕ)) (r : List ℕ) → AreWhole ls → NoFeed r → parts_of (concat ls ++ r) ≡ record { whole = ls; rest = r }
-parts_of-whole [] r whole none = parts_of-open r none
-parts_of-whole (l ∷ ls) r whole none =
-    ap parts_of (append_assoc l (concat ls) r) ∙ parts_of-line-front l (concat ls ++ r) whole.0
-    ∙ ap (λ (q : Parts). record { whole = l ∷ q.whole; rest = q.rest }) (parts_of-whole ls r whole.1 none)
+split_lines-whole : (ls : List (List ℕ)) (r : List ℕ) → AreWhole ls → NoNewline r → split_lines (concat ls ++ r) ≡ record { whole = ls; rest = r }
+split_lines-whole [] r whole none = split_lines-open r none
+split_lines-whole (l ∷ ls) r whole none =
+    ap split_lines (append_assoc l (concat ls) r) ∙ split_lines-line-front l (concat ls ++ r) whole.0
+    ∙ ap (λ (q : SplitLines). record { whole = l ∷ q.whole; rest = q.rest }) (split_lines-whole ls r whole.1 none)
 
 -- the parts of a text are these and no others
-pub parts_are : (t : List ℕ) (p : Parts) → AreParts t p → p ≡ parts_of t
-parts_are t p h = sym (ap parts_of h.joined ∙ parts_of-whole p.whole p.rest h.whole h.feedless)
+pub parts_are : (t : List ℕ) (p : SplitLines) → AreSplitLines t p → p ≡ split_lines t
+parts_are t p h = sym (ap split_lines h.joined ∙ split_lines-whole p.whole p.rest h.whole h.no_newline)
 
 -- the lines that come after so many are numbered on from them
 pub number_at : (n : ℕ) (ls : List (List ℕ)) (front : List Line) (l : Line) (later : List Line) →

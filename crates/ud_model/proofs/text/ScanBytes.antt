@@ -3,45 +3,45 @@ use Rattle.std.proofs.Common.{◌≡◌, ℕ, zero, suc, ◌-◌, List, [], ◌�
 use Rattle.std.proofs.lemmas.List.{take_at, drop_at, length-map, take-map, drop-map, map-append, take-append-drop}
 use Rattle.ud_model.specs.text.Lines.{Line}
 use Rattle.ud_model.specs.text.Scans.{Reading, plain_scan}
-use Rattle.ud_model.specs.text.Splicing.{is_spliced, content, closing, share, joined, extended, run_from, run_of, last_is_spliced}
-use Rattle.ud_model.specs.text.Pieces.{PieceKind, single, Cell, piece_at, cut_from, cut, shown, kind_at_end}
-use Rattle.ud_model.specs.text.Scanning.{is_block, joins, own_cells, scan_behind, scan_after}
+use Rattle.ud_model.specs.text.Splicing.{is_spliced, content, newline_of, spliced_part, spliced_text, extended_run, c_run_from, c_run_of, last_is_spliced}
+use Rattle.ud_model.specs.text.Lexemes.{LexemeKind, single, Cell, lexeme_at, lex_from, lex, shown, kind_at_end}
+use Rattle.ud_model.specs.text.Scanning.{is_block, joins, content_cells, scan_after_run, scan_after}
 use Rattle.ud_model.specs.declared.kind.Mode.{Mode}
 use Rattle.ud_model.specs.declared.kind.Mode.TheVariants.{C, Plain}
 
 -- the cells of a text have its bytes, from any place on
-bytes-cut_from : (k : PieceKind) (n : ℕ) (u : List ℕ) → map (λ (c : Cell). c.byte) (cut_from k n u) ≡ u
-unfolding cut_from
-bytes-cut_from k n [] = refl
-bytes-cut_from k zero (a ∷ u) = ap (λ (l : List ℕ). a ∷ l) (bytes-cut_from (piece_at a u).kind (piece_at a u).more u)
-bytes-cut_from k (suc n) (a ∷ u) = ap (λ (l : List ℕ). a ∷ l) (bytes-cut_from k n u)
+bytes-lex_from : (k : LexemeKind) (n : ℕ) (u : List ℕ) → map (λ (c : Cell). c.byte) (lex_from k n u) ≡ u
+unfolding lex_from
+bytes-lex_from k n [] = refl
+bytes-lex_from k zero (a ∷ u) = ap (λ (l : List ℕ). a ∷ l) (bytes-lex_from (lexeme_at a u).kind (lexeme_at a u).more u)
+bytes-lex_from k (suc n) (a ∷ u) = ap (λ (l : List ℕ). a ∷ l) (bytes-lex_from k n u)
 
 -- the cells of a text have its bytes
-pub bytes-cut : (u : List ℕ) → map (λ (c : Cell). c.byte) (cut u) ≡ u
-unfolding cut
-bytes-cut u = bytes-cut_from single 0 u
+pub bytes-lex : (u : List ℕ) → map (λ (c : Cell). c.byte) (lex u) ≡ u
+unfolding lex
+bytes-lex u = bytes-lex_from single 0 u
 
 -- the cells of a line have the bytes of its content
-pub bytes-own_cells : (run : List Line) (line : Line) → map (λ (c : Cell). c.byte) (own_cells run line) ≡ content line
-bytes-own_cells run line =
-    sym (take-map (λ (c : Cell). c.byte) (length (content line)) (drop (length (joined run)) (cut (joined run ++ share line))))
+pub bytes-content_cells : (run : List Line) (line : Line) → map (λ (c : Cell). c.byte) (content_cells run line) ≡ content line
+bytes-content_cells run line =
+    sym (take-map (λ (c : Cell). c.byte) (length (content line)) (drop (length (spliced_text run)) (lex (spliced_text run ++ spliced_part line))))
     ∙ ap (λ (l : List ℕ). take (length (content line)) l)
-    (sym (drop-map (λ (c : Cell). c.byte) (length (joined run)) (cut (joined run ++ share line)))
-    ∙ ap (λ (l : List ℕ). drop (length (joined run)) l) (bytes-cut (joined run ++ share line))
-    ∙ drop_at (joined run) (share line) (length (joined run)) refl)
-    ∙ take_at (content line) (closing line) (length (content line)) refl
+    (sym (drop-map (λ (c : Cell). c.byte) (length (spliced_text run)) (lex (spliced_text run ++ spliced_part line)))
+    ∙ ap (λ (l : List ℕ). drop (length (spliced_text run)) l) (bytes-lex (spliced_text run ++ spliced_part line))
+    ∙ drop_at (spliced_text run) (spliced_part line) (length (spliced_text run)) refl)
+    ∙ take_at (content line) (newline_of line) (length (content line)) refl
 
 -- the masked line shows the cells of the line's content
-pub masked-own_cells : (before : List Reading) (line : Line) → (scan_after before C line).masked ≡ map shown (own_cells (run_of before) line)
-unfolding scan_behind
-masked-own_cells before line = refl
+pub masked-content_cells : (before : List Reading) (line : Line) → (scan_after before C line).masked ≡ map shown (content_cells (c_run_of before) line)
+unfolding scan_after_run
+masked-content_cells before line = refl
 
 -- the masked line has as many bytes as the line's content
 pub length-masked : (before : List Reading) (line : Line) → length (scan_after before C line).masked ≡ length (content line)
 length-masked before line =
-    ap (λ (l : List ℕ). length l) (masked-own_cells before line) ∙ length-map (own_cells (run_of before) line) shown
-    ∙ sym (length-map (own_cells (run_of before) line) (λ (c : Cell). c.byte))
-    ∙ ap (λ (l : List ℕ). length l) (bytes-own_cells (run_of before) line)
+    ap (λ (l : List ℕ). length l) (masked-content_cells before line) ∙ length-map (content_cells (c_run_of before) line) shown
+    ∙ sym (length-map (content_cells (c_run_of before) line) (λ (c : Cell). c.byte))
+    ∙ ap (λ (l : List ℕ). length l) (bytes-content_cells (c_run_of before) line)
 
 -- the body begins with the line's content
 pub content-front : (line : Line) → (rest : List ℕ) × (line.body ≡ content line ++ rest)
@@ -59,18 +59,18 @@ unnumbered line = record { body = line.body; ending = line.ending; number = 0 }
 abbrev pub bare : Reading → Reading
 bare r = record { line = unnumbered r.line; mode = r.mode; scan = plain_scan (unnumbered r.line) }
 
-extended-unnumbered : (run : List Line) (m : Mode) (line : Line) → extended (map unnumbered run) m (unnumbered line) ≡ map unnumbered (extended run m line)
-extended-unnumbered run C line = sym (map-append unnumbered run (line ∷ []))
-extended-unnumbered run Plain line = refl
+extended_run-unnumbered : (run : List Line) (m : Mode) (line : Line) → extended_run (map unnumbered run) m (unnumbered line) ≡ map unnumbered (extended_run run m line)
+extended_run-unnumbered run C line = sym (map-append unnumbered run (line ∷ []))
+extended_run-unnumbered run Plain line = refl
 
-run_from-bare : (run : List Line) (before : List Reading) → run_from (map unnumbered run) (map bare before) ≡ map unnumbered (run_from run before)
-run_from-bare run [] = refl
-run_from-bare run (r ∷ before) =
-    ap (λ (ls : List Line). run_from ls (map bare before)) (extended-unnumbered run r.mode r.line) ∙ run_from-bare (extended run r.mode r.line) before
+c_run_from-bare : (run : List Line) (before : List Reading) → c_run_from (map unnumbered run) (map bare before) ≡ map unnumbered (c_run_from run before)
+c_run_from-bare run [] = refl
+c_run_from-bare run (r ∷ before) =
+    ap (λ (ls : List Line). c_run_from ls (map bare before)) (extended_run-unnumbered run r.mode r.line) ∙ c_run_from-bare (extended_run run r.mode r.line) before
 
-joined-unnumbered : (run : List Line) → joined (map unnumbered run) ≡ joined run
-joined-unnumbered [] = refl
-joined-unnumbered (line ∷ run) = ap (λ (l : List ℕ). share line ++ l) (joined-unnumbered run)
+spliced_text-unnumbered : (run : List Line) → spliced_text (map unnumbered run) ≡ spliced_text run
+spliced_text-unnumbered [] = refl
+spliced_text-unnumbered (line ∷ run) = ap (λ (l : List ℕ). spliced_part line ++ l) (spliced_text-unnumbered run)
 
 last_is_spliced-unnumbered : (run : List Line) → last_is_spliced (map unnumbered run) ≡ last_is_spliced run
 last_is_spliced-unnumbered [] = refl
@@ -80,12 +80,12 @@ last_is_spliced-unnumbered (line ∷ next ∷ run) = last_is_spliced-unnumbered 
 joins-unnumbered : (run : List Line) → joins (map unnumbered run) ≡ joins run
 unfolding joins
 joins-unnumbered run =
-    ap₂ (λ (s : Bool) (t : List ℕ). s || is_block (kind_at_end t)) (last_is_spliced-unnumbered run) (joined-unnumbered run)
+    ap₂ (λ (s : Bool) (t : List ℕ). s || is_block (kind_at_end t)) (last_is_spliced-unnumbered run) (spliced_text-unnumbered run)
 
-scan_behind-unnumbered : (run : List Line) (line : Line) → scan_behind (map unnumbered run) (unnumbered line) ≡ scan_behind run line
-unfolding scan_behind
-scan_behind-unnumbered run line =
-    let text : joined (map unnumbered run) ≡ joined run = joined-unnumbered run in
+scan_after_run-unnumbered : (run : List Line) (line : Line) → scan_after_run (map unnumbered run) (unnumbered line) ≡ scan_after_run run line
+unfolding scan_after_run
+scan_after_run-unnumbered run line =
+    let text : spliced_text (map unnumbered run) ≡ spliced_text run = spliced_text-unnumbered run in
     let here : joins (map unnumbered run) ≡ joins run = joins-unnumbered run in
     let later : joins (map unnumbered run ++ unnumbered line ∷ []) ≡ joins (run ++ line ∷ []) =
     ap joins (sym (map-append unnumbered run (line ∷ []))) ∙ joins-unnumbered (run ++ line ∷ []) in
@@ -93,7 +93,7 @@ scan_behind-unnumbered run line =
 
 scan_after-bare : (before : List Reading) (m : Mode) (line : Line) → scan_after (map bare before) m (unnumbered line) ≡ scan_after before m line
 scan_after-bare before C line =
-    ap (λ (run : List Line). scan_behind run (unnumbered line)) (run_from-bare [] before) ∙ scan_behind-unnumbered (run_of before) line
+    ap (λ (run : List Line). scan_after_run run (unnumbered line)) (c_run_from-bare [] before) ∙ scan_after_run-unnumbered (c_run_of before) line
 scan_after-bare before Plain line = refl
 
 -- a scan depends on the bodies, endings and modes of the lines alone

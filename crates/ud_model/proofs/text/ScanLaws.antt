@@ -1,76 +1,76 @@
 -- Scans: a scan depends on its logical line alone, and its masked bytes are those of the line.
 use Rattle.std.proofs.Common.{◌≡◌, ◌≢◌, ℕ, List, [], ◌∷◌, ◌++◌, length, Bool, true, false, ◌||◌, if◌then◌else◌, refl, sym, ◌∙◌, ap, ap₂, subst, append_assoc, append-nil, arith, ne_eqb}
 use Rattle.std.proofs.lemmas.Bool.{or_parts}
-use Rattle.ud_model.specs.text.Bytes.{line_feed}
+use Rattle.ud_model.specs.text.Bytes.{newline}
 use Rattle.ud_model.specs.text.Lines.{Line}
 use Rattle.ud_model.specs.text.Scans.{Scan, Reading}
-use Rattle.ud_model.specs.text.Splicing.{is_spliced, is_empty, content, stays_open, share, joined, extended, run_from, run_of, last_is_spliced}
-use Rattle.ud_model.specs.text.Pieces.{PieceKind, kind_at_end}
-use Rattle.ud_model.specs.text.Scanning.{is_block, joins, comment_at, scan_behind, scan_after, next_reading, readings_after, readings_of}
-use Rattle.ud_model.specs.aids.Places.{Place, in_text, at_slash, in_block, at_star, in_line, in_literal, at_backslash, Reads, next, opens, shows, whitens, place_kind, fresh_at, closed_place, closed_white, blank_last, Masks}
+use Rattle.ud_model.specs.text.Splicing.{is_spliced, is_empty, content, stays_open, spliced_part, spliced_text, extended_run, c_run_from, c_run_of, last_is_spliced}
+use Rattle.ud_model.specs.text.Lexemes.{LexemeKind, kind_at_end}
+use Rattle.ud_model.specs.text.Scanning.{is_block, joins, comment_at, scan_after_run, scan_after, next_reading, readings_after, readings_of}
+use Rattle.ud_model.specs.aids.LexStates.{LexState, in_text, at_slash, in_block, at_star, in_line, in_literal, at_backslash, LexesTo, next_state, opens_comment, masked_byte, stays_white, kind_in_state, fresh_at, state_after_line, white_after_line, blank_last, Masks}
 use Rattle.ud_model.specs.declared.kind.Mode.{Mode}
 use Rattle.ud_model.specs.declared.kind.Mode.TheVariants.{C, Plain}
-use Rattle.ud_model.proofs.text.PlaceLemmas.{Reads-nil, Masks-step}
-use Rattle.ud_model.proofs.text.ScanLemmas.{Reads-same, Reads-close, Masks-start, kind_at_place, joined-append, joined_last, joins_last, scan_behind_is, run_of_last}
+use Rattle.ud_model.proofs.text.LexStateLemmas.{LexesTo-nil, Masks-step}
+use Rattle.ud_model.proofs.text.ScanLemmas.{LexesTo-same, LexesTo-close, Masks-start, kind_at_place, spliced_text-append, joined_last, joins_last, scan_behind_is, run_of_last}
 
 -- where a text leaves off with further bytes
-abbrev pub place_after : Place → List ℕ → Place
+abbrev pub place_after : LexState → List ℕ → LexState
 place_after w [] = w
-place_after w (b ∷ bytes) = place_after (next w b) bytes
+place_after w (b ∷ bytes) = place_after (next_state w b) bytes
 
 -- whether its last logical line is white with them
-abbrev pub white_after : Place → Bool → List ℕ → Bool
+abbrev pub white_after : LexState → Bool → List ℕ → Bool
 white_after w white [] = white
-white_after w white (b ∷ bytes) = white_after (next w b) (whitens w white b) bytes
+white_after w white (b ∷ bytes) = white_after (next_state w b) (stays_white w white b) bytes
 
 -- how it is shown with them
-abbrev pub masked_after : Place → List ℕ → List ℕ → List ℕ
+abbrev pub masked_after : LexState → List ℕ → List ℕ → List ℕ
 masked_after w masked [] = masked
-masked_after w masked (b ∷ bytes) = masked_after (next w b) ((if opens w b then blank_last masked else masked) ++ shows w b ∷ []) bytes
+masked_after w masked (b ∷ bytes) = masked_after (next_state w b) ((if opens_comment w b then blank_last masked else masked) ++ masked_byte w b ∷ []) bytes
 
 -- a text as it is shown with further bytes
-pub Masks-append : {n : ℕ} (bytes text : List ℕ) (w : Place) (white : Bool) (masked : List ℕ) → Masks n text w white masked →
+pub Masks-append : {n : ℕ} (bytes text : List ℕ) (w : LexState) (white : Bool) (masked : List ℕ) → Masks n text w white masked →
     Masks n (text ++ bytes) (place_after w bytes) (white_after w white bytes) (masked_after w masked bytes)
 Masks-append {n} [] text w white masked m = subst (λ (t : List ℕ). Masks n t w white masked) (sym (append-nil text)) m
 Masks-append {n} (b ∷ bytes) text w white masked m =
-    let v : Bool = whitens w white b in
-    let now : List ℕ = (if opens w b then blank_last masked else masked) ++ shows w b ∷ [] in
-    subst (λ (t : List ℕ). Masks n t (place_after (next w b) bytes) (white_after (next w b) v bytes) (masked_after (next w b) now bytes))
+    let v : Bool = stays_white w white b in
+    let now : List ℕ = (if opens_comment w b then blank_last masked else masked) ++ masked_byte w b ∷ [] in
+    subst (λ (t : List ℕ). Masks n t (place_after (next_state w b) bytes) (white_after (next_state w b) v bytes) (masked_after (next_state w b) now bytes))
     (append_assoc text (b ∷ []) bytes)
-    (Masks-append bytes (text ++ b ∷ []) (next w b) v now (Masks-step b m))
+    (Masks-append bytes (text ++ b ∷ []) (next_state w b) v now (Masks-step b m))
 
 -- a text leaves off somewhere with further bytes
-pub Reads-append : (text : List ℕ) (w : Place) (white : Bool) (bytes : List ℕ) → Reads text w white →
-    Reads (text ++ bytes) (place_after w bytes) (white_after w white bytes)
-Reads-append text w white bytes r = (Masks-append bytes text w white [] (Masks-start r)).reads
+pub LexesTo-append : (text : List ℕ) (w : LexState) (white : Bool) (bytes : List ℕ) → LexesTo text w white →
+    LexesTo (text ++ bytes) (place_after w bytes) (white_after w white bytes)
+LexesTo-append text w white bytes r = (Masks-append bytes text w white [] (Masks-start r)).reads
 
 -- each text leaves off somewhere
-pub Reads-all : (text : List ℕ) → Reads text (place_after in_text text) (white_after in_text true text)
-Reads-all text = Reads-append [] in_text true text Reads-nil
+pub LexesTo-all : (text : List ℕ) → LexesTo text (place_after in_text text) (white_after in_text true text)
+LexesTo-all text = LexesTo-append [] in_text true text LexesTo-nil
 
 -- what is seen of a line, by where the text before it leaves off and whether the line before joins it
-unfoldable pub scan_from : Place → Bool → Bool → Line → Scan
+unfoldable pub scan_from : LexState → Bool → Bool → Line → Scan
 scan_from w white before line =
     let v = place_after w (content line) in
     record {
       masked = masked_after w [] (content line);
       fresh = fresh_at w white (content line);
       joins_before = before;
-      joins_after = is_spliced line || is_block (place_kind (closed_place (stays_open line) v));
+      joins_after = is_spliced line || is_block (kind_in_state (state_after_line (stays_open line) v));
       spliced = is_spliced line;
-      comment = comment_at (is_spliced line) (place_kind (closed_place (stays_open line) v));
+      comment = comment_at (is_spliced line) (kind_in_state (state_after_line (stays_open line) v));
     }
 
 -- a scan after a run is seen from the place at which the run's joined text leaves off
-pub scan_behind-from : (run : List Line) (line : Line) (w : Place) (white before : Bool) → Reads (joined run) w white → before ≡ joins run →
-    scan_behind run line ≡ scan_from w white before line
+pub scan_after_run-from : (run : List Line) (line : Line) (w : LexState) (white before : Bool) → LexesTo (spliced_text run) w white → before ≡ joins run →
+    scan_after_run run line ≡ scan_from w white before line
 unfolding scan_from
-scan_behind-from run line w white before r j =
+scan_after_run-from run line w white before r j =
     scan_behind_is run line (masked_after w [] (content line)) w (place_after w (content line)) white
-    (white_after w white (content line)) before r j (Masks-append (content line) (joined run) w white [] (Masks-start r))
+    (white_after w white (content line)) before r j (Masks-append (content line) (spliced_text run) w white [] (Masks-start r))
 
 -- after a new-line at which no block comment is open, a text leaves off between pieces
-ended : (w : Place) → is_block (place_kind (next w line_feed)) ≡ false → (next w line_feed ≡ in_text) × ((white : Bool) → whitens w white line_feed ≡ true)
+ended : (w : LexState) → is_block (kind_in_state (next_state w newline)) ≡ false → (next_state w newline ≡ in_text) × ((white : Bool) → stays_white w white newline ≡ true)
 ended in_text e = (refl, λ white. refl)
 ended at_slash e = (refl, λ white. refl)
 ended in_block e = cc
@@ -84,90 +84,90 @@ not_empty [] some = absurd (some refl)
 not_empty (b ∷ bytes) some = ne_eqb (length (b ∷ bytes)) 0 (λ e. omega arith)
 
 -- after lines of which the last has an ending and joins nothing, the joined text leaves off between pieces
-pub starts_anew : (run : List Line) (last : Line) → joins (run ++ last ∷ []) ≡ false → last.ending ≢ [] → Reads (joined (run ++ last ∷ [])) in_text true
+pub starts_anew : (run : List Line) (last : Line) → joins (run ++ last ∷ []) ≡ false → last.ending ≢ [] → LexesTo (spliced_text (run ++ last ∷ [])) in_text true
 starts_anew run last alone some =
-    let parts : (is_spliced last ≡ false) × (is_block (kind_at_end (joined run ++ share last)) ≡ false) =
-    or_parts (is_spliced last) (is_block (kind_at_end (joined run ++ share last))) (sym (joins_last run last) ∙ alone) in
+    let parts : (is_spliced last ≡ false) × (is_block (kind_at_end (spliced_text run ++ spliced_part last)) ≡ false) =
+    or_parts (is_spliced last) (is_block (kind_at_end (spliced_text run ++ spliced_part last))) (sym (joins_last run last) ∙ alone) in
     let closed : stays_open last ≡ false = ap₂ (λ (s t : Bool). s || t) parts.0 (not_empty last.ending some) in
-    let v : Place = place_after (place_after in_text (joined run)) (content last) in
-    let white : Bool = white_after (place_after in_text (joined run)) (white_after in_text true (joined run)) (content last) in
-    let inside : Reads (joined run ++ content last) v white =
-    Reads-append (joined run) (place_after in_text (joined run)) (white_after in_text true (joined run)) (content last) (Reads-all (joined run)) in
-    let read : Reads (joined run ++ share last) (next v line_feed) (whitens v white line_feed) =
-    Reads-same refl (ap (λ (o : Bool). closed_place o v) closed) (ap (λ (o : Bool). closed_white o v white) closed) (Reads-close (joined run) last v white inside) in
-    let end : (next v line_feed ≡ in_text) × ((u : Bool) → whitens v u line_feed ≡ true) =
+    let v : LexState = place_after (place_after in_text (spliced_text run)) (content last) in
+    let white : Bool = white_after (place_after in_text (spliced_text run)) (white_after in_text true (spliced_text run)) (content last) in
+    let inside : LexesTo (spliced_text run ++ content last) v white =
+    LexesTo-append (spliced_text run) (place_after in_text (spliced_text run)) (white_after in_text true (spliced_text run)) (content last) (LexesTo-all (spliced_text run)) in
+    let read : LexesTo (spliced_text run ++ spliced_part last) (next_state v newline) (stays_white v white newline) =
+    LexesTo-same refl (ap (λ (o : Bool). state_after_line o v) closed) (ap (λ (o : Bool). white_after_line o v white) closed) (LexesTo-close (spliced_text run) last v white inside) in
+    let end : (next_state v newline ≡ in_text) × ((u : Bool) → stays_white v u newline ≡ true) =
     ended v (ap is_block (sym (kind_at_place read)) ∙ parts.1) in
-    Reads-same (sym (joined_last run last)) end.0 (end.1 white) read
+    LexesTo-same (sym (joined_last run last)) end.0 (end.1 white) read
 
 last_is_spliced-append : (run : List Line) (l : Line) (more : List Line) → last_is_spliced (run ++ l ∷ more) ≡ last_is_spliced (l ∷ more)
 last_is_spliced-append [] l more = refl
 last_is_spliced-append (k ∷ []) l more = refl
 last_is_spliced-append (k ∷ m ∷ run) l more = last_is_spliced-append (m ∷ run) l more
 
-kind_from : (run group : List Line) → Reads (joined run) in_text true → kind_at_end (joined (run ++ group)) ≡ kind_at_end (joined group)
+kind_from : (run group : List Line) → LexesTo (spliced_text run) in_text true → kind_at_end (spliced_text (run ++ group)) ≡ kind_at_end (spliced_text group)
 kind_from run group r =
-    ap kind_at_end (joined-append run group) ∙ kind_at_place (Reads-append (joined run) in_text true (joined group) r)
-    ∙ sym (kind_at_place (Reads-all (joined group)))
+    ap kind_at_end (spliced_text-append run group) ∙ kind_at_place (LexesTo-append (spliced_text run) in_text true (spliced_text group) r)
+    ∙ sym (kind_at_place (LexesTo-all (spliced_text group)))
 
 -- whether a group of lines joins the next one doesn't depend on lines before it that don't join it
-pub group_joins : (run group : List Line) → Reads (joined run) in_text true → joins run ≡ false → joins (run ++ group) ≡ joins group
+pub group_joins : (run group : List Line) → LexesTo (spliced_text run) in_text true → joins run ≡ false → joins (run ++ group) ≡ joins group
 unfolding joins
 group_joins run [] r j =
-    ap (λ (ls : List Line). last_is_spliced ls || is_block (kind_at_end (joined ls))) (append-nil run) ∙ j ∙ sym (ap is_block (kind_at_place Reads-nil))
+    ap (λ (ls : List Line). last_is_spliced ls || is_block (kind_at_end (spliced_text ls))) (append-nil run) ∙ j ∙ sym (ap is_block (kind_at_place LexesTo-nil))
 group_joins run (l ∷ group) r j =
-    ap₂ (λ (s : Bool) (k : PieceKind). s || is_block k) (last_is_spliced-append run l group) (kind_from run (l ∷ group) r)
+    ap₂ (λ (s : Bool) (k : LexemeKind). s || is_block k) (last_is_spliced-append run l group) (kind_from run (l ∷ group) r)
 
 -- a scan doesn't depend on lines before its logical line
-pub own_logical_line : (run group : List Line) (line : Line) → Reads (joined run) in_text true → joins run ≡ false →
-    scan_behind (run ++ group) line ≡ scan_behind group line
+pub own_logical_line : (run group : List Line) (line : Line) → LexesTo (spliced_text run) in_text true → joins run ≡ false →
+    scan_after_run (run ++ group) line ≡ scan_after_run group line
 own_logical_line run group line r j =
-    let w : Place = place_after in_text (joined group) in
-    let white : Bool = white_after in_text true (joined group) in
-    scan_behind-from (run ++ group) line w white (joins group)
-    (Reads-same (sym (joined-append run group)) refl refl (Reads-append (joined run) in_text true (joined group) r))
+    let w : LexState = place_after in_text (spliced_text group) in
+    let white : Bool = white_after in_text true (spliced_text group) in
+    scan_after_run-from (run ++ group) line w white (joins group)
+    (LexesTo-same (sym (spliced_text-append run group)) refl refl (LexesTo-append (spliced_text run) in_text true (spliced_text group) r))
     (sym (group_joins run group r j))
-    ∙ sym (scan_behind-from group line w white (joins group) (Reads-all (joined group)) refl)
+    ∙ sym (scan_after_run-from group line w white (joins group) (LexesTo-all (spliced_text group)) refl)
 
-run_from-append : (run : List Line) (before more : List Reading) → run_from run (before ++ more) ≡ run_from (run_from run before) more
-run_from-append run [] more = refl
-run_from-append run (r ∷ before) more = run_from-append (extended run r.mode r.line) before more
+c_run_from-append : (run : List Line) (before more : List Reading) → c_run_from run (before ++ more) ≡ c_run_from (c_run_from run before) more
+c_run_from-append run [] more = refl
+c_run_from-append run (r ∷ before) more = c_run_from-append (extended_run run r.mode r.line) before more
 
 -- a run that starts anew goes on like an empty one
-scan_from_run : (run rest : List Line) (group : List Reading) (line : Line) → Reads (joined run) in_text true → joins run ≡ false →
-    scan_behind (run_from (run ++ rest) group) line ≡ scan_behind (run_from rest group) line
+scan_from_run : (run rest : List Line) (group : List Reading) (line : Line) → LexesTo (spliced_text run) in_text true → joins run ≡ false →
+    scan_after_run (c_run_from (run ++ rest) group) line ≡ scan_after_run (c_run_from rest group) line
 scan_from_run run rest [] line r j = own_logical_line run rest line r j
 scan_from_run run rest (q ∷ group) line r j = by_mode q.mode (λ ls. scan_from_run run ls group line r j)
   where
-    by_mode : (m : Mode) → ((ls : List Line) → scan_behind (run_from (run ++ ls) group) line ≡ scan_behind (run_from ls group) line) →
-        scan_behind (run_from (extended (run ++ rest) m q.line) group) line ≡ scan_behind (run_from (extended rest m q.line) group) line
+    by_mode : (m : Mode) → ((ls : List Line) → scan_after_run (c_run_from (run ++ ls) group) line ≡ scan_after_run (c_run_from ls group) line) →
+        scan_after_run (c_run_from (extended_run (run ++ rest) m q.line) group) line ≡ scan_after_run (c_run_from (extended_run rest m q.line) group) line
     by_mode C more =
-        ap (λ (ls : List Line). scan_behind (run_from ls group) line) (append_assoc run rest (q.line ∷ [])) ∙ more (rest ++ q.line ∷ [])
+        ap (λ (ls : List Line). scan_after_run (c_run_from ls group) line) (append_assoc run rest (q.line ∷ [])) ∙ more (rest ++ q.line ∷ [])
     by_mode Plain more = refl
 
-pub joins_before-code : (run : List Line) (line : Line) → (scan_behind run line).joins_before ≡ joins run
-unfolding scan_behind
+pub joins_before-code : (run : List Line) (line : Line) → (scan_after_run run line).joins_before ≡ joins run
+unfolding scan_after_run
 joins_before-code run line = refl
 
-pub joins_after-code : (run : List Line) (line : Line) → (scan_behind run line).joins_after ≡ joins (run ++ line ∷ [])
-unfolding scan_behind
+pub joins_after-code : (run : List Line) (line : Line) → (scan_after_run run line).joins_after ≡ joins (run ++ line ∷ [])
+unfolding scan_after_run
 joins_after-code run line = refl
 
-anew_code : (front group : List Reading) (last line : Line) → (scan_behind (run_of front) last).joins_after ≡ false → last.ending ≢ [] →
-    scan_behind (run_of ((front ++ next_reading front C last ∷ []) ++ group)) line ≡ scan_behind (run_of group) line
+anew_code : (front group : List Reading) (last line : Line) → (scan_after_run (c_run_of front) last).joins_after ≡ false → last.ending ≢ [] →
+    scan_after_run (c_run_of ((front ++ next_reading front C last ∷ []) ++ group)) line ≡ scan_after_run (c_run_of group) line
 anew_code front group last line alone some =
-    let run : List Line = run_of front ++ last ∷ [] in
-    let j : joins run ≡ false = sym (joins_after-code (run_of front) last) ∙ alone in
-    ap (λ (ls : List Line). scan_behind ls line)
-    (run_from-append [] (front ++ next_reading front C last ∷ []) group
-    ∙ ap (λ (ls : List Line). run_from ls group) (run_of_last front (next_reading front C last) ∙ sym (append-nil run)))
-    ∙ scan_from_run run [] group line (starts_anew (run_of front) last j some) j
+    let run : List Line = c_run_of front ++ last ∷ [] in
+    let j : joins run ≡ false = sym (joins_after-code (c_run_of front) last) ∙ alone in
+    ap (λ (ls : List Line). scan_after_run ls line)
+    (c_run_from-append [] (front ++ next_reading front C last ∷ []) group
+    ∙ ap (λ (ls : List Line). c_run_from ls group) (run_of_last front (next_reading front C last) ∙ sym (append-nil run)))
+    ∙ scan_from_run run [] group line (starts_anew (c_run_of front) last j some) j
 
 anew_plain : (front group : List Reading) (last line : Line) →
-    scan_behind (run_of ((front ++ next_reading front Plain last ∷ []) ++ group)) line ≡ scan_behind (run_of group) line
+    scan_after_run (c_run_of ((front ++ next_reading front Plain last ∷ []) ++ group)) line ≡ scan_after_run (c_run_of group) line
 anew_plain front group last line =
-    ap (λ (ls : List Line). scan_behind ls line)
-    (run_from-append [] (front ++ next_reading front Plain last ∷ []) group
-    ∙ ap (λ (ls : List Line). run_from ls group) (run_of_last front (next_reading front Plain last)))
+    ap (λ (ls : List Line). scan_after_run ls line)
+    (c_run_from-append [] (front ++ next_reading front Plain last ∷ []) group
+    ∙ ap (λ (ls : List Line). c_run_from ls group) (run_of_last front (next_reading front Plain last)))
 
 -- after a line that has an ending and doesn't join the next one, lines are seen as if no line stood before them
 pub scan_alone : (front group : List Reading) (m n : Mode) (last line : Line) → (scan_after front m last).joins_after ≡ false → last.ending ≢ [] →

@@ -2,31 +2,31 @@
 use Rattle.std.proofs.Common.{◌≡◌, ℕ, suc, ◌+◌, ◌==◌, List, [], ◌∷◌, ◌++◌, length, take, drop, map, Bool, true, false, ◌&&◌, ◌||◌, if◌then◌else◌, refl, sym, ◌∙◌, ap, ap₂, subst, append_assoc, append-nil, arith, length-append, length-drop}
 use Rattle.std.proofs.lemmas.List.{take_at, take_all, take-map, drop-map, drop-append-le, drop_all}
 use Rattle.std.proofs.lemmas.Grind.{flat_map-append}
-use Rattle.ud_model.specs.text.Bytes.{line_feed, slash, star, space}
+use Rattle.ud_model.specs.text.Bytes.{newline, slash, star, space}
 use Rattle.ud_model.specs.text.Lines.{Line}
 use Rattle.ud_model.specs.text.Scans.{Scan, Reading}
-use Rattle.ud_model.specs.text.Splicing.{is_spliced, content, stays_open, closing, share, joined, extended, run_from, run_of, last_is_spliced}
-use Rattle.ud_model.specs.text.Pieces.{PieceKind, block_comment, line_comment, literal, single, Cell, Extent, begins, comment_size, line_size, piece_at, cut_from, cut, shown, open_line, last_kind, kind_at_end}
-use Rattle.ud_model.specs.text.Scanning.{is_block, joins, comment_at, is_blank, scan_behind}
-use Rattle.ud_model.specs.aids.Places.{Place, in_text, at_slash, in_block, at_star, in_line, in_literal, at_backslash, after, Reads, opens, shows, place_kind, fresh_at, closed_place, closed_white, blank_last, mask, Masks}
+use Rattle.ud_model.specs.text.Splicing.{is_spliced, content, stays_open, newline_of, spliced_part, spliced_text, extended_run, c_run_from, c_run_of, last_is_spliced}
+use Rattle.ud_model.specs.text.Lexemes.{LexemeKind, block_comment, line_comment, literal, single, Cell, Extent, starts_with_byte, comment_size, line_comment_size, lexeme_at, lex_from, lex, shown, open_line, last_kind, kind_at_end}
+use Rattle.ud_model.specs.text.Scanning.{is_block, joins, comment_at, is_blank, scan_after_run}
+use Rattle.ud_model.specs.aids.LexStates.{LexState, in_text, at_slash, in_block, at_star, in_line, in_literal, at_backslash, cells_after, LexesTo, opens_comment, masked_byte, kind_in_state, fresh_at, state_after_line, white_after_line, blank_last, mask, Masks}
 use Rattle.ud_model.specs.declared.kind.Mode.{Mode}
 use Rattle.ud_model.specs.declared.kind.Mode.TheVariants.{C}
 use Rattle.ud_model.specs.declared.kind.CommentAt.{CommentAt}
 use Rattle.ud_model.proofs.text.Steps.{cell}
-use Rattle.ud_model.proofs.text.PlaceLemmas.{length-cut, length-mask, open_line-append, is_blank_last, Reads-step, mask_step}
+use Rattle.ud_model.proofs.text.LexStateLemmas.{length-lex, length-mask, open_line-append, is_blank_last, LexesTo-step, mask_step}
 
 -- facts of a text that leaves off at a place, under other names of the same things
-pub Reads-same : {t u : List ℕ} {w x : Place} {b c : Bool} → t ≡ u → w ≡ x → b ≡ c → Reads t w b → Reads u x c
-Reads-same {t} {u} {w} {x} {b} {c} e f g r =
-    subst (λ (s : List ℕ). Reads s x c) e (subst (λ (v : Place). Reads t v c) f (subst (λ (v : Bool). Reads t w v) g r))
+pub LexesTo-same : {t u : List ℕ} {w x : LexState} {b c : Bool} → t ≡ u → w ≡ x → b ≡ c → LexesTo t w b → LexesTo u x c
+LexesTo-same {t} {u} {w} {x} {b} {c} e f g r =
+    subst (λ (s : List ℕ). LexesTo s x c) e (subst (λ (v : LexState). LexesTo t v c) f (subst (λ (v : Bool). LexesTo t w v) g r))
 
 -- the kind of the last of cells, and of further ones
-pub last_kind-append : (k : PieceKind) (xs ys : List Cell) → last_kind k (xs ++ ys) ≡ last_kind (last_kind k xs) ys
+pub last_kind-append : (k : LexemeKind) (xs ys : List Cell) → last_kind k (xs ++ ys) ≡ last_kind (last_kind k xs) ys
 last_kind-append k [] ys = refl
 last_kind-append k (c ∷ xs) ys = last_kind-append c.kind xs ys
 
-last_space : (k : PieceKind) (w : Place) → last_kind k (after w (space ∷ [])) ≡ place_kind w
-unfolding after cut_from piece_at
+last_space : (k : LexemeKind) (w : LexState) → last_kind k (cells_after w (space ∷ [])) ≡ kind_in_state w
+unfolding cells_after lex_from lexeme_at
 last_space k in_text = refl
 last_space k at_slash = refl
 last_space k in_block = refl
@@ -34,30 +34,30 @@ last_space k at_star = refl
 last_space k in_line = refl
 last_space k (in_literal q) = by_quote (32 == q)
   where
-    by_quote : (t : Bool) → last_kind k (cut_from literal (if t then 1 else suc 0) (space ∷ [])) ≡ literal
+    by_quote : (t : Bool) → last_kind k (lex_from literal (if t then 1 else suc 0) (space ∷ [])) ≡ literal
     by_quote true = refl
     by_quote false = refl
 last_space k (at_backslash q) = refl
 
 -- what the end of a text lies in, from the place at which it leaves off
-pub kind_at_place : {text : List ℕ} {w : Place} {white : Bool} → Reads text w white → kind_at_end text ≡ place_kind w
+pub kind_at_place : {text : List ℕ} {w : LexState} {white : Bool} → LexesTo text w white → kind_at_end text ≡ kind_in_state w
 unfolding kind_at_end
 kind_at_place {text} {w} r =
     ap (λ (cells : List Cell). last_kind single cells) (r.splits (space ∷ []))
-    ∙ last_kind-append single r.settled (after w (space ∷ [])) ∙ last_space (last_kind single r.settled) w
+    ∙ last_kind-append single r.settled (cells_after w (space ∷ [])) ∙ last_space (last_kind single r.settled) w
 
 -- the cells that are settled, and a slash that isn't, are as many as the text has bytes
-pub settled_all : {text : List ℕ} {w : Place} {white : Bool} (r : Reads text w white) → length r.settled + length (after w []) ≡ length text
+pub settled_all : {text : List ℕ} {w : LexState} {white : Bool} (r : LexesTo text w white) → length r.settled + length (cells_after w []) ≡ length text
 settled_all {text} {w} r =
-    sym (length-append r.settled (after w [])) ∙ sym (ap (λ (cells : List Cell). length cells) (r.splits []))
-    ∙ length-cut (text ++ []) ∙ ap (λ (l : List ℕ). length l) (append-nil text)
+    sym (length-append r.settled (cells_after w [])) ∙ sym (ap (λ (cells : List Cell). length cells) (r.splits []))
+    ∙ length-lex (text ++ []) ∙ ap (λ (l : List ℕ). length l) (append-nil text)
 
-fresh_clean : (text : List ℕ) (w : Place) (white : Bool) (s : List ℕ) (r : Reads text w white) → after w [] ≡ [] →
-    is_blank (open_line [] (take (length text) (cut (text ++ s)))) ≡ white
+fresh_clean : (text : List ℕ) (w : LexState) (white : Bool) (s : List ℕ) (r : LexesTo text w white) → cells_after w [] ≡ [] →
+    is_blank (open_line [] (take (length text) (lex (text ++ s)))) ≡ white
 fresh_clean text w white s r none =
     let size : length r.settled ≡ length text = omega (arith, settled_all r, ap (λ (cells : List Cell). length cells) none) in
     ap (λ (cells : List Cell). is_blank (open_line [] (take (length text) cells))) (r.splits s)
-    ∙ ap (λ (cells : List Cell). is_blank (open_line [] cells)) (take_at r.settled (after w s) (length text) size)
+    ∙ ap (λ (cells : List Cell). is_blank (open_line [] cells)) (take_at r.settled (cells_after w s) (length text) size)
     ∙ sym r.white_is
 
 slash_first : (t c : Bool) (s : List ℕ) (x : List Cell) (m n : ℕ) →
@@ -70,23 +70,23 @@ slash_first true c s x m n = is_blank_last x (cell block_comment slash)
 slash_first false true s x m n = is_blank_last x (cell line_comment slash)
 slash_first false false s x m n = is_blank_last x (cell single slash)
 
-fresh_slash : (text : List ℕ) (white : Bool) (s : List ℕ) (r : Reads text at_slash white) →
-    is_blank (open_line [] (take (length text) (cut (text ++ s)))) ≡ (white && (begins star s || begins slash s))
-unfolding after cut_from piece_at
+fresh_slash : (text : List ℕ) (white : Bool) (s : List ℕ) (r : LexesTo text at_slash white) →
+    is_blank (open_line [] (take (length text) (lex (text ++ s)))) ≡ (white && (starts_with_byte star s || starts_with_byte slash s))
+unfolding cells_after lex_from lexeme_at
 fresh_slash text white s r =
-    let first : List Cell = cell (piece_at slash s).kind slash ∷ [] in
-    let rest : List Cell = cut_from (piece_at slash s).kind (piece_at slash s).more s in
+    let first : List Cell = cell (lexeme_at slash s).kind slash ∷ [] in
+    let rest : List Cell = lex_from (lexeme_at slash s).kind (lexeme_at slash s).more s in
     let size : length (r.settled ++ first) ≡ length text = length-append r.settled first ∙ settled_all r in
     ap (λ (cells : List Cell). is_blank (open_line [] (take (length text) cells))) (r.splits s ∙ sym (append_assoc r.settled first rest))
     ∙ ap (λ (cells : List Cell). is_blank (open_line [] cells)) (take_at (r.settled ++ first) rest (length text) size)
     ∙ ap is_blank (open_line-append [] r.settled first)
-    ∙ slash_first (begins star s) (begins slash s) s (open_line [] r.settled) (suc (comment_size (drop 1 s))) (suc (line_size (drop 1 s)))
-    ∙ ap (λ (v : Bool). v && (begins star s || begins slash s)) (sym r.white_is)
+    ∙ slash_first (starts_with_byte star s) (starts_with_byte slash s) s (open_line [] r.settled) (suc (comment_size (drop 1 s))) (suc (line_comment_size (drop 1 s)))
+    ∙ ap (λ (v : Bool). v && (starts_with_byte star s || starts_with_byte slash s)) (sym r.white_is)
 
 -- whether the line is fresh that follows a text, from the place at which that leaves off
-pub fresh_at_place : (text : List ℕ) (w : Place) (white : Bool) (s : List ℕ) → Reads text w white →
-    is_blank (open_line [] (take (length text) (cut (text ++ s)))) ≡ fresh_at w white s
-unfolding after cut_from piece_at
+pub fresh_at_place : (text : List ℕ) (w : LexState) (white : Bool) (s : List ℕ) → LexesTo text w white →
+    is_blank (open_line [] (take (length text) (lex (text ++ s)))) ≡ fresh_at w white s
+unfolding cells_after lex_from lexeme_at
 fresh_at_place text in_text white s r = fresh_clean text in_text white s r refl
 fresh_at_place text at_slash white s r = fresh_slash text white s r
 fresh_at_place text in_block white s r = fresh_clean text in_block white s r refl
@@ -95,76 +95,76 @@ fresh_at_place text in_line white s r = fresh_clean text in_line white s r refl
 fresh_at_place text (in_literal q) white s r = fresh_clean text (in_literal q) white s r refl
 fresh_at_place text (at_backslash q) white s r = fresh_clean text (at_backslash q) white s r refl
 
-opens-feed : (w : Place) → opens w line_feed ≡ false
-opens-feed in_text = refl
-opens-feed at_slash = refl
-opens-feed in_block = refl
-opens-feed at_star = refl
-opens-feed in_line = refl
-opens-feed (in_literal q) = refl
-opens-feed (at_backslash q) = refl
+opens_comment-feed : (w : LexState) → opens_comment w newline ≡ false
+opens_comment-feed in_text = refl
+opens_comment-feed at_slash = refl
+opens_comment-feed in_block = refl
+opens_comment-feed at_star = refl
+opens_comment-feed in_line = refl
+opens_comment-feed (in_literal q) = refl
+opens_comment-feed (at_backslash q) = refl
 
-begins-close : (b : ℕ) (c : List ℕ) (o : Bool) → (line_feed == b) ≡ false → begins b (c ++ (if o then [] else line_feed ∷ [])) ≡ begins b c
-begins-close b [] true e = refl
-begins-close b [] false e = e
-begins-close b (x ∷ c) o e = refl
+starts_with_byte-close : (b : ℕ) (c : List ℕ) (o : Bool) → (newline == b) ≡ false → starts_with_byte b (c ++ (if o then [] else newline ∷ [])) ≡ starts_with_byte b c
+starts_with_byte-close b [] true e = refl
+starts_with_byte-close b [] false e = e
+starts_with_byte-close b (x ∷ c) o e = refl
 
 -- the new-line after a line decides nothing of whether that is fresh
-pub fresh-close : (w : Place) (white : Bool) (line : Line) → fresh_at w white (share line) ≡ fresh_at w white (content line)
+pub fresh-close : (w : LexState) (white : Bool) (line : Line) → fresh_at w white (spliced_part line) ≡ fresh_at w white (content line)
 fresh-close in_text white line = refl
 fresh-close at_slash white line =
-    ap₂ (λ (s t : Bool). white && (s || t)) (begins-close star (content line) (stays_open line) refl)
-    (begins-close slash (content line) (stays_open line) refl)
+    ap₂ (λ (s t : Bool). white && (s || t)) (starts_with_byte-close star (content line) (stays_open line) refl)
+    (starts_with_byte-close slash (content line) (stays_open line) refl)
 fresh-close in_block white line = refl
 fresh-close at_star white line = refl
 fresh-close in_line white line = refl
 fresh-close (in_literal q) white line = refl
 fresh-close (at_backslash q) white line = refl
 
-close_by : (o : Bool) (text : List ℕ) (w : Place) (white : Bool) → Reads text w white →
-    Reads (text ++ (if o then [] else line_feed ∷ [])) (closed_place o w) (closed_white o w white)
-close_by true text w white r = subst (λ (t : List ℕ). Reads t w white) (sym (append-nil text)) r
-close_by false text w white r = Reads-step line_feed r
+close_by : (o : Bool) (text : List ℕ) (w : LexState) (white : Bool) → LexesTo text w white →
+    LexesTo (text ++ (if o then [] else newline ∷ [])) (state_after_line o w) (white_after_line o w white)
+close_by true text w white r = subst (λ (t : List ℕ). LexesTo t w white) (sym (append-nil text)) r
+close_by false text w white r = LexesTo-step newline r
 
 -- a text with a line's content leaves off with the line's new-line too
-pub Reads-close : (text : List ℕ) (line : Line) (w : Place) (white : Bool) → Reads (text ++ content line) w white →
-    Reads (text ++ share line) (closed_place (stays_open line) w) (closed_white (stays_open line) w white)
-Reads-close text line w white r =
-    subst (λ (t : List ℕ). Reads t (closed_place (stays_open line) w) (closed_white (stays_open line) w white))
-    (append_assoc text (content line) (closing line)) (close_by (stays_open line) (text ++ content line) w white r)
+pub LexesTo-close : (text : List ℕ) (line : Line) (w : LexState) (white : Bool) → LexesTo (text ++ content line) w white →
+    LexesTo (text ++ spliced_part line) (state_after_line (stays_open line) w) (white_after_line (stays_open line) w white)
+LexesTo-close text line w white r =
+    subst (λ (t : List ℕ). LexesTo t (state_after_line (stays_open line) w) (white_after_line (stays_open line) w white))
+    (append_assoc text (content line) (newline_of line)) (close_by (stays_open line) (text ++ content line) w white r)
 
-shown_at_end : (o : Bool) (text c : List ℕ) (w : Place) (white : Bool) → Reads (text ++ c) w white →
-    take (length c) (drop (length text) (mask ((text ++ c) ++ (if o then [] else line_feed ∷ [])))) ≡ drop (length text) (mask (text ++ c))
+shown_at_end : (o : Bool) (text c : List ℕ) (w : LexState) (white : Bool) → LexesTo (text ++ c) w white →
+    take (length c) (drop (length text) (mask ((text ++ c) ++ (if o then [] else newline ∷ [])))) ≡ drop (length text) (mask (text ++ c))
 shown_at_end true text c w white r =
     ap (λ (t : List ℕ). take (length c) (drop (length text) (mask t))) (append-nil (text ++ c))
     ∙ take_all (length c) (drop (length text) (mask (text ++ c)))
     (omega (arith, length-drop (length text) (mask (text ++ c)), length-mask (text ++ c), length-append text c))
 shown_at_end false text c w white r =
     ap (λ (l : List ℕ). take (length c) (drop (length text) l))
-    (mask_step (text ++ c) w white line_feed r
-    ∙ ap (λ (t : Bool). (if t then blank_last (mask (text ++ c)) else mask (text ++ c)) ++ shows w line_feed ∷ []) (opens-feed w))
+    (mask_step (text ++ c) w white newline r
+    ∙ ap (λ (t : Bool). (if t then blank_last (mask (text ++ c)) else mask (text ++ c)) ++ masked_byte w newline ∷ []) (opens_comment-feed w))
     ∙ ap (λ (l : List ℕ). take (length c) l)
-    (drop-append-le (length text) (mask (text ++ c)) (shows w line_feed ∷ []) (omega (arith, length-mask (text ++ c), length-append text c)))
-    ∙ take_at (drop (length text) (mask (text ++ c))) (shows w line_feed ∷ []) (length c)
+    (drop-append-le (length text) (mask (text ++ c)) (masked_byte w newline ∷ []) (omega (arith, length-mask (text ++ c), length-append text c)))
+    ∙ take_at (drop (length text) (mask (text ++ c))) (masked_byte w newline ∷ []) (length c)
     (omega (arith, length-drop (length text) (mask (text ++ c)), length-mask (text ++ c), length-append text c))
 
 -- the masked line: the text as it is shown, up to the end of the line's content
-pub masked_is : (text : List ℕ) (line : Line) {w : Place} {white : Bool} {masked : List ℕ} → Masks (length text) (text ++ content line) w white masked →
-    map shown (take (length (content line)) (drop (length text) (cut (text ++ share line)))) ≡ masked
+pub masked_is : (text : List ℕ) (line : Line) {w : LexState} {white : Bool} {masked : List ℕ} → Masks (length text) (text ++ content line) w white masked →
+    map shown (take (length (content line)) (drop (length text) (lex (text ++ spliced_part line)))) ≡ masked
 unfolding mask
 masked_is text line {w} {white} {masked} m =
-    sym (take-map shown (length (content line)) (drop (length text) (cut (text ++ share line))))
-    ∙ ap (λ (l : List ℕ). take (length (content line)) l) (sym (drop-map shown (length text) (cut (text ++ share line))))
-    ∙ ap (λ (t : List ℕ). take (length (content line)) (drop (length text) (mask t))) (sym (append_assoc text (content line) (closing line)))
+    sym (take-map shown (length (content line)) (drop (length text) (lex (text ++ spliced_part line))))
+    ∙ ap (λ (l : List ℕ). take (length (content line)) l) (sym (drop-map shown (length text) (lex (text ++ spliced_part line))))
+    ∙ ap (λ (t : List ℕ). take (length (content line)) (drop (length text) (mask t))) (sym (append_assoc text (content line) (newline_of line)))
     ∙ shown_at_end (stays_open line) text (content line) w white m.reads ∙ sym m.masked_is
 
 -- the joined text of lines, and of further ones
-pub joined-append : (lines more : List Line) → joined (lines ++ more) ≡ joined lines ++ joined more
-joined-append lines more = flat_map-append share lines more
+pub spliced_text-append : (lines more : List Line) → spliced_text (lines ++ more) ≡ spliced_text lines ++ spliced_text more
+spliced_text-append lines more = flat_map-append spliced_part lines more
 
 -- the joined text of lines with one more
-pub joined_last : (lines : List Line) (line : Line) → joined (lines ++ line ∷ []) ≡ joined lines ++ share line
-joined_last lines line = joined-append lines (line ∷ []) ∙ ap (λ (l : List ℕ). joined lines ++ l) (append-nil (share line))
+pub joined_last : (lines : List Line) (line : Line) → spliced_text (lines ++ line ∷ []) ≡ spliced_text lines ++ spliced_part line
+joined_last lines line = spliced_text-append lines (line ∷ []) ∙ ap (λ (l : List ℕ). spliced_text lines ++ l) (append-nil (spliced_part line))
 
 -- whether the last of lines with one more is spliced
 pub last_is_spliced_last : (lines : List Line) (line : Line) → last_is_spliced (lines ++ line ∷ []) ≡ is_spliced line
@@ -172,21 +172,21 @@ last_is_spliced_last [] line = refl
 last_is_spliced_last (l ∷ []) line = refl
 last_is_spliced_last (l ∷ m ∷ lines) line = last_is_spliced_last (m ∷ lines) line
 
-run_from_last : (run : List Line) (readings : List Reading) (r : Reading) → run_from run (readings ++ r ∷ []) ≡ extended (run_from run readings) r.mode r.line
+run_from_last : (run : List Line) (readings : List Reading) (r : Reading) → c_run_from run (readings ++ r ∷ []) ≡ extended_run (c_run_from run readings) r.mode r.line
 run_from_last run [] r = refl
-run_from_last run (q ∷ readings) r = run_from_last (extended run q.mode q.line) readings r
+run_from_last run (q ∷ readings) r = run_from_last (extended_run run q.mode q.line) readings r
 
 -- the run after readings with one more
-pub run_of_last : (readings : List Reading) (r : Reading) → run_of (readings ++ r ∷ []) ≡ extended (run_of readings) r.mode r.line
+pub run_of_last : (readings : List Reading) (r : Reading) → c_run_of (readings ++ r ∷ []) ≡ extended_run (c_run_of readings) r.mode r.line
 run_of_last readings r = run_from_last [] readings r
 
 -- the joined text after a further line in C mode
-pub joined_run_last : (readings : List Reading) (r : Reading) → r.mode ≡ C → joined (run_of (readings ++ r ∷ [])) ≡ joined (run_of readings) ++ share r.line
+pub joined_run_last : (readings : List Reading) (r : Reading) → r.mode ≡ C → spliced_text (c_run_of (readings ++ r ∷ [])) ≡ spliced_text (c_run_of readings) ++ spliced_part r.line
 joined_run_last readings r e =
-    ap joined (run_of_last readings r) ∙ ap (λ (m : Mode). joined (extended (run_of readings) m r.line)) e ∙ joined_last (run_of readings) r.line
+    ap spliced_text (run_of_last readings r) ∙ ap (λ (m : Mode). spliced_text (extended_run (c_run_of readings) m r.line)) e ∙ joined_last (c_run_of readings) r.line
 
 -- whether lines with one more join the next one
-pub joins_last : (lines : List Line) (line : Line) → joins (lines ++ line ∷ []) ≡ (is_spliced line || is_block (kind_at_end (joined lines ++ share line)))
+pub joins_last : (lines : List Line) (line : Line) → joins (lines ++ line ∷ []) ≡ (is_spliced line || is_block (kind_at_end (spliced_text lines ++ spliced_part line)))
 unfolding joins
 joins_last lines line =
     ap₂ (λ (s : Bool) (t : List ℕ). s || is_block (kind_at_end t)) (last_is_spliced_last lines line) (joined_last lines line)
@@ -199,28 +199,28 @@ same_scan e f g h i = cc
 
 -- What is seen of a line: by the place at which the text before it leaves off, by how the line's content is shown, and
 -- by the place at which the text with it leaves off.
-pub scan_behind_is : (run : List Line) (line : Line) (masked : List ℕ) (w v : Place) (white now_white : Bool) (before : Bool) →
-    Reads (joined run) w white → before ≡ joins run → Masks (length (joined run)) (joined run ++ content line) v now_white masked →
-    scan_behind run line ≡ record {
+pub scan_behind_is : (run : List Line) (line : Line) (masked : List ℕ) (w v : LexState) (white now_white : Bool) (before : Bool) →
+    LexesTo (spliced_text run) w white → before ≡ joins run → Masks (length (spliced_text run)) (spliced_text run ++ content line) v now_white masked →
+    scan_after_run run line ≡ record {
       masked = masked;
       fresh = fresh_at w white (content line);
       joins_before = before;
-      joins_after = is_spliced line || is_block (place_kind (closed_place (stays_open line) v));
+      joins_after = is_spliced line || is_block (kind_in_state (state_after_line (stays_open line) v));
       spliced = is_spliced line;
-      comment = comment_at (is_spliced line) (place_kind (closed_place (stays_open line) v));
+      comment = comment_at (is_spliced line) (kind_in_state (state_after_line (stays_open line) v));
     }
-unfolding scan_behind
+unfolding scan_after_run
 scan_behind_is run line masked w v white now_white before r j m =
-    let at_end : kind_at_end (joined run ++ share line) ≡ place_kind (closed_place (stays_open line) v) =
-    kind_at_place (Reads-close (joined run) line v now_white m.reads) in
-    same_scan (masked_is (joined run) line m)
-    (fresh_at_place (joined run) w white (share line) r ∙ fresh-close w white line)
+    let at_end : kind_at_end (spliced_text run ++ spliced_part line) ≡ kind_in_state (state_after_line (stays_open line) v) =
+    kind_at_place (LexesTo-close (spliced_text run) line v now_white m.reads) in
+    same_scan (masked_is (spliced_text run) line m)
+    (fresh_at_place (spliced_text run) w white (spliced_part line) r ∙ fresh-close w white line)
     (sym j)
-    (joins_last run line ∙ ap (λ (k : PieceKind). is_spliced line || is_block k) at_end)
-    (ap (λ (k : PieceKind). comment_at (is_spliced line) k) at_end)
+    (joins_last run line ∙ ap (λ (k : LexemeKind). is_spliced line || is_block k) at_end)
+    (ap (λ (k : LexemeKind). comment_at (is_spliced line) k) at_end)
 
 -- nothing is shown yet after the text itself
-pub Masks-start : {text : List ℕ} {w : Place} {white : Bool} → Reads text w white → Masks (length text) text w white []
+pub Masks-start : {text : List ℕ} {w : LexState} {white : Bool} → LexesTo text w white → Masks (length text) text w white []
 Masks-start {text} r = record {
   reads = r;
   within = omega arith;

@@ -1,15 +1,15 @@
 -- Steps: the pieces of a text, a byte at a time.
 use Rattle.std.proofs.Common.{◌≡◌, ℕ, suc, ◌==◌, List, [], ◌∷◌, ◌++◌, Bool, true, false, ◌&&◌, if◌then◌else◌, refl, sym, ◌∙◌, ap, subst}
 use Rattle.std.proofs.lemmas.Bool.{eqb-true}
-use Rattle.ud_model.specs.text.Bytes.{line_feed, slash, star, backslash, is_quote}
-use Rattle.ud_model.specs.text.Pieces.{PieceKind, block_comment, line_comment, literal, single, Cell, Extent, begins, comment_size, line_size, literal_size, piece_at, cut_from}
-use Rattle.ud_model.specs.aids.Places.{Place, in_text, at_slash, in_block, at_star, in_line, in_literal, at_backslash, after, next}
+use Rattle.ud_model.specs.text.Bytes.{newline, slash, star, backslash, is_quote}
+use Rattle.ud_model.specs.text.Lexemes.{LexemeKind, block_comment, line_comment, literal, single, Cell, Extent, starts_with_byte, comment_size, line_comment_size, literal_size, lexeme_at, lex_from}
+use Rattle.ud_model.specs.aids.LexStates.{LexState, in_text, at_slash, in_block, at_star, in_line, in_literal, at_backslash, cells_after, next_state}
 
-abbrev pub cell : PieceKind → ℕ → Cell
+abbrev pub cell : LexemeKind → ℕ → Cell
 cell kind b = record { byte = b; kind = kind }
 
 -- the cells that a byte settles after a text that leaves off there
-abbrev pub settles : Place → ℕ → List Cell
+abbrev pub settles : LexState → ℕ → List Cell
 settles in_text b = if b == slash then [] else if is_quote b then cell literal b ∷ [] else cell single b ∷ []
 settles at_slash b =
     if b == star then cell block_comment slash ∷ cell block_comment b ∷ []
@@ -18,142 +18,142 @@ settles at_slash b =
     else cell single slash ∷ cell single b ∷ []
 settles in_block b = cell block_comment b ∷ []
 settles at_star b = cell block_comment b ∷ []
-settles in_line b = if b == line_feed then cell single b ∷ [] else cell line_comment b ∷ []
-settles (in_literal quote) b = if b == line_feed then cell single b ∷ [] else cell literal b ∷ []
-settles (at_backslash quote) b = if b == line_feed then cell single b ∷ [] else cell literal b ∷ []
+settles in_line b = if b == newline then cell single b ∷ [] else cell line_comment b ∷ []
+settles (in_literal quote) b = if b == newline then cell single b ∷ [] else cell literal b ∷ []
+settles (at_backslash quote) b = if b == newline then cell single b ∷ [] else cell literal b ∷ []
 
 -- where a piece begins, it counts for nothing which one has ended
-pub cut_from-zero : (k l : PieceKind) (u : List ℕ) → cut_from k 0 u ≡ cut_from l 0 u
-unfolding cut_from
-cut_from-zero k l [] = refl
-cut_from-zero k l (a ∷ u) = refl
+pub lex_from-zero : (k l : LexemeKind) (u : List ℕ) → lex_from k 0 u ≡ lex_from l 0 u
+unfolding lex_from
+lex_from-zero k l [] = refl
+lex_from-zero k l (a ∷ u) = refl
 
 -- a new-line at which a piece begins is a piece of its own
-at_feed : (k : PieceKind) (b : ℕ) (u : List ℕ) → (b == line_feed) ≡ true → cut_from k 0 (b ∷ u) ≡ cell single b ∷ cut_from single 0 u
-unfolding cut_from piece_at
-at_feed k b u e = subst (λ (n : ℕ). cut_from k 0 (n ∷ u) ≡ cell single n ∷ cut_from single 0 u) (sym (eqb-true b line_feed e)) refl
+at_feed : (k : LexemeKind) (b : ℕ) (u : List ℕ) → (b == newline) ≡ true → lex_from k 0 (b ∷ u) ≡ cell single b ∷ lex_from single 0 u
+unfolding lex_from lexeme_at
+at_feed k b u e = subst (λ (n : ℕ). lex_from k 0 (n ∷ u) ≡ cell single n ∷ lex_from single 0 u) (sym (eqb-true b newline e)) refl
 
 star_cell : (s : Bool) (m b : ℕ) (u : List ℕ) →
-    cut_from block_comment (if s then 2 else suc m) (b ∷ u) ≡ cell block_comment b ∷ cut_from block_comment (if s then 1 else m) u
-unfolding cut_from
+    lex_from block_comment (if s then 2 else suc m) (b ∷ u) ≡ cell block_comment b ∷ lex_from block_comment (if s then 1 else m) u
+unfolding lex_from
 star_cell true m b u = refl
 star_cell false m b u = refl
 
 block_by : (t : Bool) (b : ℕ) (u : List ℕ) →
-    cut_from block_comment (if t && begins slash u then 2 else suc (comment_size u)) (b ∷ u)
-    ≡ cell block_comment b ∷ after (if t then at_star else in_block) u
-unfolding cut_from after
-block_by true b u = star_cell (begins slash u) (comment_size u) b u
+    lex_from block_comment (if t && starts_with_byte slash u then 2 else suc (comment_size u)) (b ∷ u)
+    ≡ cell block_comment b ∷ cells_after (if t then at_star else in_block) u
+unfolding lex_from cells_after
+block_by true b u = star_cell (starts_with_byte slash u) (comment_size u) b u
 block_by false b u = refl
 
-step-in_block : (b : ℕ) (u : List ℕ) → after in_block (b ∷ u) ≡ settles in_block b ++ after (next in_block b) u
-unfolding after
+step-in_block : (b : ℕ) (u : List ℕ) → cells_after in_block (b ∷ u) ≡ settles in_block b ++ cells_after (next_state in_block b) u
+unfolding cells_after
 step-in_block b u = block_by (b == star) b u
 
 star_by : (s t : Bool) (b : ℕ) (u : List ℕ) →
-    cut_from block_comment (if s then 1 else if t && begins slash u then 2 else suc (comment_size u)) (b ∷ u)
-    ≡ cell block_comment b ∷ after (if s then in_text else if t then at_star else in_block) u
-unfolding cut_from after
-star_by true t b u = ap (λ (cells : List Cell). cell block_comment b ∷ cells) (cut_from-zero block_comment single u)
+    lex_from block_comment (if s then 1 else if t && starts_with_byte slash u then 2 else suc (comment_size u)) (b ∷ u)
+    ≡ cell block_comment b ∷ cells_after (if s then in_text else if t then at_star else in_block) u
+unfolding lex_from cells_after
+star_by true t b u = ap (λ (cells : List Cell). cell block_comment b ∷ cells) (lex_from-zero block_comment single u)
 star_by false t b u = block_by t b u
 
-step-at_star : (b : ℕ) (u : List ℕ) → after at_star (b ∷ u) ≡ settles at_star b ++ after (next at_star b) u
-unfolding after
+step-at_star : (b : ℕ) (u : List ℕ) → cells_after at_star (b ∷ u) ≡ settles at_star b ++ cells_after (next_state at_star b) u
+unfolding cells_after
 step-at_star b u = star_by (b == slash) (b == star) b u
 
-line_by : (t : Bool) (b : ℕ) (u : List ℕ) → (b == line_feed) ≡ t →
-    cut_from line_comment (if t then 0 else suc (line_size u)) (b ∷ u)
-    ≡ (if t then cell single b ∷ [] else cell line_comment b ∷ []) ++ after (if t then in_text else in_line) u
-unfolding cut_from after
+line_by : (t : Bool) (b : ℕ) (u : List ℕ) → (b == newline) ≡ t →
+    lex_from line_comment (if t then 0 else suc (line_comment_size u)) (b ∷ u)
+    ≡ (if t then cell single b ∷ [] else cell line_comment b ∷ []) ++ cells_after (if t then in_text else in_line) u
+unfolding lex_from cells_after
 line_by true b u e = at_feed line_comment b u e
 line_by false b u e = refl
 
-step-in_line : (b : ℕ) (u : List ℕ) → after in_line (b ∷ u) ≡ settles in_line b ++ after (next in_line b) u
-unfolding after
-step-in_line b u = line_by (b == line_feed) b u refl
+step-in_line : (b : ℕ) (u : List ℕ) → cells_after in_line (b ∷ u) ≡ settles in_line b ++ cells_after (next_state in_line b) u
+unfolding cells_after
+step-in_line b u = line_by (b == newline) b u refl
 
-passed_by : (q : ℕ) (t : Bool) (b : ℕ) (u : List ℕ) → (b == line_feed) ≡ t →
-    cut_from literal (if t then 0 else suc (literal_size q false u)) (b ∷ u)
-    ≡ (if t then cell single b ∷ [] else cell literal b ∷ []) ++ after (if t then in_text else in_literal q) u
-unfolding cut_from after
+passed_by : (q : ℕ) (t : Bool) (b : ℕ) (u : List ℕ) → (b == newline) ≡ t →
+    lex_from literal (if t then 0 else suc (literal_size q false u)) (b ∷ u)
+    ≡ (if t then cell single b ∷ [] else cell literal b ∷ []) ++ cells_after (if t then in_text else in_literal q) u
+unfolding lex_from cells_after
 passed_by q true b u e = at_feed literal b u e
 passed_by q false b u e = refl
 
-step-at_backslash : (q b : ℕ) (u : List ℕ) → after (at_backslash q) (b ∷ u) ≡ settles (at_backslash q) b ++ after (next (at_backslash q) b) u
-unfolding after
-step-at_backslash q b u = passed_by q (b == line_feed) b u refl
+step-at_backslash : (q b : ℕ) (u : List ℕ) → cells_after (at_backslash q) (b ∷ u) ≡ settles (at_backslash q) b ++ cells_after (next_state (at_backslash q) b) u
+unfolding cells_after
+step-at_backslash q b u = passed_by q (b == newline) b u refl
 
-literal_by : (q : ℕ) (t c s : Bool) (b : ℕ) (u : List ℕ) → (b == line_feed) ≡ t →
-    cut_from literal (if t then 0 else if c then 1 else suc (literal_size q s u)) (b ∷ u)
+literal_by : (q : ℕ) (t c s : Bool) (b : ℕ) (u : List ℕ) → (b == newline) ≡ t →
+    lex_from literal (if t then 0 else if c then 1 else suc (literal_size q s u)) (b ∷ u)
     ≡ (if t then cell single b ∷ [] else cell literal b ∷ [])
-    ++ after (if t then in_text else if c then in_text else if s then at_backslash q else in_literal q) u
-unfolding cut_from after
+    ++ cells_after (if t then in_text else if c then in_text else if s then at_backslash q else in_literal q) u
+unfolding lex_from cells_after
 literal_by q true c s b u e = at_feed literal b u e
-literal_by q false true s b u e = ap (λ (cells : List Cell). cell literal b ∷ cells) (cut_from-zero literal single u)
+literal_by q false true s b u e = ap (λ (cells : List Cell). cell literal b ∷ cells) (lex_from-zero literal single u)
 literal_by q false false true b u e = refl
 literal_by q false false false b u e = refl
 
-step-in_literal : (q b : ℕ) (u : List ℕ) → after (in_literal q) (b ∷ u) ≡ settles (in_literal q) b ++ after (next (in_literal q) b) u
-unfolding after
-step-in_literal q b u = literal_by q (b == line_feed) (b == q) (b == backslash) b u refl
+step-in_literal : (q b : ℕ) (u : List ℕ) → cells_after (in_literal q) (b ∷ u) ≡ settles (in_literal q) b ++ cells_after (next_state (in_literal q) b) u
+unfolding cells_after
+step-in_literal q b u = literal_by q (b == newline) (b == q) (b == backslash) b u refl
 
 -- the cells from a piece on
 cells_from : ℕ → Extent → List ℕ → List Cell
-cells_from b e u = cell e.kind b ∷ cut_from e.kind e.more u
+cells_from b e u = cell e.kind b ∷ lex_from e.kind e.more u
 
 text_by : (s q : Bool) (b : ℕ) (u : List ℕ) (x y : Extent) → s ≡ false →
     cells_from b
-    (if s && begins star u then x
-    else if s && begins slash u then y
+    (if s && starts_with_byte star u then x
+    else if s && starts_with_byte slash u then y
     else if q then record { kind = literal; more = literal_size b false u }
     else record { kind = single; more = 0 }) u
-    ≡ (if q then cell literal b ∷ [] else cell single b ∷ []) ++ after (if q then in_literal b else in_text) u
-unfolding cells_from after
+    ≡ (if q then cell literal b ∷ [] else cell single b ∷ []) ++ cells_after (if q then in_literal b else in_text) u
+unfolding cells_from cells_after
 text_by true q b u x y e = cc
 text_by false true b u x y e = refl
 text_by false false b u x y e = refl
 
 -- a byte other than a slash where a piece begins
 text_other : (b : ℕ) (u : List ℕ) → (b == slash) ≡ false →
-    cut_from single 0 (b ∷ u) ≡ (if is_quote b then cell literal b ∷ [] else cell single b ∷ []) ++ after (if is_quote b then in_literal b else in_text) u
-unfolding cut_from piece_at cells_from
+    lex_from single 0 (b ∷ u) ≡ (if is_quote b then cell literal b ∷ [] else cell single b ∷ []) ++ cells_after (if is_quote b then in_literal b else in_text) u
+unfolding lex_from lexeme_at cells_from
 text_other b u e = text_by (b == slash) (is_quote b) b u _ _ e
 
-step-in_text : (b : ℕ) (u : List ℕ) → after in_text (b ∷ u) ≡ settles in_text b ++ after (next in_text b) u
-unfolding after
+step-in_text : (b : ℕ) (u : List ℕ) → cells_after in_text (b ∷ u) ≡ settles in_text b ++ cells_after (next_state in_text b) u
+unfolding cells_after
 step-in_text b u = by_slash (b == slash) refl
   where
-    by_slash : (s : Bool) → (b == slash) ≡ s → cut_from single 0 (b ∷ u)
+    by_slash : (s : Bool) → (b == slash) ≡ s → lex_from single 0 (b ∷ u)
         ≡ (if s then [] else if is_quote b then cell literal b ∷ [] else cell single b ∷ [])
-        ++ after (if s then at_slash else if is_quote b then in_literal b else in_text) u
-    by_slash true e = ap (λ (n : ℕ). cut_from single 0 (n ∷ u)) (eqb-true b slash e)
+        ++ cells_after (if s then at_slash else if is_quote b then in_literal b else in_text) u
+    by_slash true e = ap (λ (n : ℕ). lex_from single 0 (n ∷ u)) (eqb-true b slash e)
     by_slash false e = text_other b u e
 
 slash_by : (t s : Bool) (b : ℕ) (u : List ℕ) → (b == slash) ≡ s →
     cells_from slash
     (if t then record { kind = block_comment; more = suc (comment_size u) }
-    else if s then record { kind = line_comment; more = suc (line_size u) }
+    else if s then record { kind = line_comment; more = suc (line_comment_size u) }
     else record { kind = single; more = 0 }) (b ∷ u)
     ≡ (if t then cell block_comment slash ∷ cell block_comment b ∷ []
     else if s then cell line_comment slash ∷ cell line_comment b ∷ []
     else if is_quote b then cell single slash ∷ cell literal b ∷ []
     else cell single slash ∷ cell single b ∷ [])
-    ++ after (if t then in_block else if s then in_line else if is_quote b then in_literal b else in_text) u
-unfolding cells_from cut_from after
+    ++ cells_after (if t then in_block else if s then in_line else if is_quote b then in_literal b else in_text) u
+unfolding cells_from lex_from cells_after
 slash_by true s b u e = refl
 slash_by false true b u e = refl
 slash_by false false b u e =
     ap (λ (cells : List Cell). cell single slash ∷ cells) (text_other b u e)
-    ∙ (elim (is_quote b) as (λ (q : Bool). cell single slash ∷ ((if q then cell literal b ∷ [] else cell single b ∷ []) ++ after (if q then in_literal b else in_text) u)
-    ≡ (if q then cell single slash ∷ cell literal b ∷ [] else cell single slash ∷ cell single b ∷ []) ++ after (if q then in_literal b else in_text) u)
+    ∙ (elim (is_quote b) as (λ (q : Bool). cell single slash ∷ ((if q then cell literal b ∷ [] else cell single b ∷ []) ++ cells_after (if q then in_literal b else in_text) u)
+    ≡ (if q then cell single slash ∷ cell literal b ∷ [] else cell single slash ∷ cell single b ∷ []) ++ cells_after (if q then in_literal b else in_text) u)
     [ true ↦ refl | false ↦ refl ])
 
-step-at_slash : (b : ℕ) (u : List ℕ) → after at_slash (b ∷ u) ≡ settles at_slash b ++ after (next at_slash b) u
-unfolding after cut_from piece_at cells_from
+step-at_slash : (b : ℕ) (u : List ℕ) → cells_after at_slash (b ∷ u) ≡ settles at_slash b ++ cells_after (next_state at_slash b) u
+unfolding cells_after lex_from lexeme_at cells_from
 step-at_slash b u = slash_by (b == star) (b == slash) b u refl
 
 -- a byte settles these cells, and the text goes on from the next place
-pub after_step : (w : Place) (b : ℕ) (u : List ℕ) → after w (b ∷ u) ≡ settles w b ++ after (next w b) u
+pub after_step : (w : LexState) (b : ℕ) (u : List ℕ) → cells_after w (b ∷ u) ≡ settles w b ++ cells_after (next_state w b) u
 after_step in_text b u = step-in_text b u
 after_step at_slash b u = step-at_slash b u
 after_step in_block b u = step-in_block b u

@@ -11,8 +11,8 @@
 -- Tokens are read one at a time, with the operators that wait for their operands. Since the meaning is a parameter, a
 -- program that keeps no tree reads by the same steps.
 use Rattle.std.specs.Prelude.{ℕ, zero, suc, ◌<◌, ◌≤◌, leb, Bool, true, false, if◌then◌else◌, List, [], ◌∷◌, length, Option, Some, None, option_map}
-use Rattle.ud_model.specs.conditions.Tokens.{Token, number, name, defined, operator, opening, closing, Next, at_end, unreadable, found, next_token}
-use Rattle.ud_model.specs.conditions.Expressions.{Expression, constant, named, is_defined, unary, binary, parens, level, is_prefix}
+use Rattle.ud_model.specs.conditions.Tokens.{Token, number, name, defined, operator, opening, closing, NextToken, at_end, unreadable, found, next_token}
+use Rattle.ud_model.specs.conditions.Expressions.{Expression, constant, named, is_defined, unary, binary, parens, precedence, is_prefix}
 use Rattle.ud_model.specs.declared.operator.Operator.{Operator}
 
 -- what each node of a tree means
@@ -46,49 +46,49 @@ pub data Frame (A : Type 0) : Type 0 where
 -- operator. A parenthesis holds back what waits outside.
 abbrev pub Below : {A : Type 0} → ℕ → List (Frame A) → Type 0
 Below k [] = Unit {0}
-Below k (left o a ∷ s) = level o < k
+Below k (left o a ∷ s) = precedence o < k
 Below k (before o ∷ s) = 10 ≤ k
 Below k (paren ∷ s) = Unit {0}
 
 -- where the reading stands
-pub data State (A : Type 0) : Type 0 where
+pub data ParseState (A : Type 0) : Type 0 where
   -- an operand has to come, for what waits
-  needs : List (Frame A) → State A
+  needs : List (Frame A) → ParseState A
   -- an operand has come
-  has : A → List (Frame A) → State A
+  has : A → List (Frame A) → ParseState A
   -- after `defined`, after `defined (`, and after `defined ( NAME`
-  asks : List (Frame A) → State A
-  asks_inside : List (Frame A) → State A
-  asks_end : List ℕ → List (Frame A) → State A
+  asks : List (Frame A) → ParseState A
+  asks_inside : List (Frame A) → ParseState A
+  asks_end : List ℕ → List (Frame A) → ParseState A
   -- no expression begins with these tokens
-  stuck : State A
+  stuck : ParseState A
 
 module _ {A : Type 0} (m : Meaning A) where
   -- the operators of level j or tighter take their operands
   abbrev pub reduce : ℕ → A → List (Frame A) → A × List (Frame A)
   reduce j x [] = (x, [])
-  reduce j x (left o a ∷ s) = if leb j (level o) then reduce j (m.binary o a x) s else (x, left o a ∷ s)
+  reduce j x (left o a ∷ s) = if leb j (precedence o) then reduce j (m.binary o a x) s else (x, left o a ∷ s)
   reduce j x (before o ∷ s) = reduce j (m.unary o x) s
   reduce j x (paren ∷ s) = (x, paren ∷ s)
 
   -- a closing parenthesis takes the one that waits
-  abbrev pub close : A × List (Frame A) → State A
+  abbrev pub close : A × List (Frame A) → ParseState A
   close (x, paren ∷ s) = has (m.parens x) s
   close (x, _) = stuck
 
   -- an operator with its left operand waits for the right one
-  abbrev pub wait : Operator → A × List (Frame A) → State A
+  abbrev pub wait : Operator → A × List (Frame A) → ParseState A
   wait o (x, s) = needs (left o x ∷ s)
 
   -- the state after one token more
-  abbrev pub step : State A → Token → State A
+  abbrev pub step : ParseState A → Token → ParseState A
   step (needs s) (number w) = has (m.constant w) s
   step (needs s) (name n a) = has (m.named n a) s
   step (needs s) defined = asks s
   step (needs s) (operator o) = if is_prefix o then needs (before o ∷ s) else stuck
   step (needs s) opening = needs (paren ∷ s)
   step (needs s) closing = stuck
-  step (has x s) (operator o) = if leb 1 (level o) then wait o (reduce (level o) x s) else stuck
+  step (has x s) (operator o) = if leb 1 (precedence o) then wait o (reduce (precedence o) x s) else stuck
   step (has x s) closing = close (reduce 0 x s)
   step (has x s) _ = stuck
   step (asks s) (name n false) = has (m.is_defined n false) s
@@ -106,38 +106,38 @@ module _ {A : Type 0} (m : Meaning A) where
   alone (x, _ ∷ _) = None
 
   -- what the tokens mean, where they end here
-  abbrev pub finish : State A → Option A
+  abbrev pub finish : ParseState A → Option A
   finish (has x s) = alone (reduce 0 x s)
   finish _ = None
 
   -- what further tokens mean
-  abbrev pub run : State A → List Token → Option A
-  run s [] = finish s
-  run s (t ∷ ts) = run (step s t) ts
+  abbrev pub parse_tokens : ParseState A → List Token → Option A
+  parse_tokens s [] = finish s
+  parse_tokens s (t ∷ ts) = parse_tokens (step s t) ts
 
 -- a token and those after it
-abbrev pub cut : (List ℕ → Option (List Token)) → Next → Option (List Token)
-cut f at_end = Some []
-cut f unreadable = None
-cut f (found t rest) = option_map (λ ts. t ∷ ts) (f rest)
+abbrev pub prepend_token : (List ℕ → Option (List Token)) → NextToken → Option (List Token)
+prepend_token f at_end = Some []
+prepend_token f unreadable = None
+prepend_token f (found t rest) = option_map (λ ts. t ∷ ts) (f rest)
 
 -- the tokens of a text that has fewer than so many
 abbrev pub tokens_in : ℕ → List ℕ → Option (List Token)
 tokens_in zero text = None
-tokens_in (suc n) text = cut (λ rest. tokens_in n rest) (next_token text)
+tokens_in (suc n) text = prepend_token (λ rest. tokens_in n rest) (next_token text)
 
 -- the tokens of a text, where it is tokens to its end; each has a byte at least
 unfoldable pub tokens_of : List ℕ → Option (List Token)
 tokens_of text = tokens_in (suc (length text)) text
 
 -- what tokens mean, if there are such
-abbrev pub run_all : {A : Type 0} → Meaning A → State A → Option (List Token) → Option A
-run_all m s None = None
-run_all m s (Some ts) = run m s ts
+abbrev pub parse_all_tokens : {A : Type 0} → Meaning A → ParseState A → Option (List Token) → Option A
+parse_all_tokens m s None = None
+parse_all_tokens m s (Some ts) = parse_tokens m s ts
 
 -- what a text means in a state
-unfoldable pub reads : {A : Type 0} → Meaning A → State A → List ℕ → Option A
-reads m s text = run_all m s (tokens_of text)
+unfoldable pub reads : {A : Type 0} → Meaning A → ParseState A → List ℕ → Option A
+reads m s text = parse_all_tokens m s (tokens_of text)
 
 -- each node means itself
 abbrev pub itself : Meaning Expression

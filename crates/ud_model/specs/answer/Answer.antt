@@ -8,10 +8,10 @@
 -- directive (Directives) with its condition (Conditions), and so they have a tree (Tree). The tree is pruned (Pruning)
 -- and printed (Printing), or its names are listed (Listing), up to the first fault (Faults, Runs).
 use Rattle.std.specs.Prelude.{◌≡◌, ℕ, List, [], Bool, true, false, Option, Some, None}
-use Rattle.ud_model.specs.answer.CommandLine.{UsageFault, usage_fault, options_of, input_name, usage_message}
+use Rattle.ud_model.specs.answer.CommandLine.{UsageFault, usage_fault, options_of, display_name, usage_message}
 use Rattle.ud_model.specs.sections.Faults.{Fault}
 use Rattle.ud_model.specs.answer.Messages.{message_of, out_of_memory}
-use Rattle.ud_model.specs.answer.Runs.{Outcome, Runs}
+use Rattle.ud_model.specs.answer.Outcomes.{Outcome, HasOutcome}
 use Rattle.ud_model.specs.declared.settings.Settings.{Settings}
 use Rattle.ud_model.specs.declared.settings.Listing.{Listing}
 use Rattle.ud_model.specs.declared.settings.Listing.TheVariants.{Off, Names, Depths}
@@ -56,14 +56,14 @@ run_answer s name r = record { output = r.output; message = message_or_none name
 
 -- the answer of a run whose output is a copy of its input
 abbrev pub copy_answer : List (List ℕ) → List ℕ → Answer
-copy_answer words text =
-    run_answer (options_of words).settings (input_name words) (record { output = text; fault = None; differs = false })
+copy_answer args text =
+    run_answer (options_of args).settings (display_name args) (record { output = text; fault = None; differs = false })
 
 -- the answer to these words and this input: a message on the first fault of the words, or what the run leaves
-pub data IsAnswer (words : List (List ℕ)) (input : List ℕ) : Answer → Type 0 where
-  refused : (f : UsageFault) → usage_fault words ≡ Some f → IsAnswer words input (usage_answer f)
-  ran : (r : Outcome) → usage_fault words ≡ None → Runs (options_of words) input r →
-      IsAnswer words input (run_answer (options_of words).settings (input_name words) r)
+pub data IsAnswer (args : List (List ℕ)) (input : List ℕ) : Answer → Type 0 where
+  refused : (f : UsageFault) → usage_fault args ≡ Some f → IsAnswer args input (usage_answer f)
+  ran : (r : Outcome) → usage_fault args ≡ None → HasOutcome (options_of args) input r →
+      IsAnswer args input (run_answer (options_of args).settings (display_name args) r)
 
 -- what is answered if memory is refused
 abbrev pub memory_answer : Answer

@@ -1,15 +1,15 @@
 -- The command line: what the words after the program's name say.
 -- POSIX XBD 12.2, and the options of unifdef(1).
 --
---   Given                  what is given in the words: an option, an operand, or a letter that is no option or lacks its argument
---   given_in words         all that is given in these words, in reading order
---   symbol_in c argument   what the argument of `-D`, `-U` or `-i` says of a symbol, if it is right
---   mode_in argument       the exit mode that the argument of `-x` names, if it is right
---   usage_fault words      the first fault of the words in reading order, if there is one
---   options_of words       the settings and the arguments that name symbols
---   operand_of words       the operand's place, counted from 0; input_name is how messages call the input
---   input_of words         the place of the operand that names a file, where the words have no fault
---   usage_message fault    the message of a fault
+--   ParsedArg                  what is given in the words: an option, an operand, or a letter that is no option or lacks its argument
+--   parsed_args words          all that is given in these words, in reading order
+--   parse_symbol c argument    what the argument of `-D`, `-U` or `-i` says of a symbol, if it is right
+--   parse_exit_mode argument   the exit mode that the argument of `-x` names, if it is right
+--   usage_fault words          the first fault of the words in reading order, if there is one
+--   options_of words           the settings and the arguments that name symbols
+--   operand_of words           the operand's place, counted from 0; display_name is how messages call the input
+--   input_of words             the place of the operand that names a file, where the words have no fault
+--   usage_message fault        the message of a fault
 --
 -- A word is the bytes of a text in UTF-8, and its letters are the characters of that text. A word that starts with `-`
 -- and is longer is letters of options. A letter's argument is what follows it in its word, or the whole next word where
@@ -17,7 +17,7 @@
 use Rattle.std.specs.Prelude.{ℕ, suc, List, [], ◌∷◌, ◌++◌, Bool, true, false, ◌||◌, ◌==◌, Option, Some, None, bytes_eq, codes, chars, encode_utf8, encode_utf8_all, decimal, if◌then◌else◌}
 use Rattle.std.specs.List.{filter_map}
 use Rattle.ud_model.specs.text.Bytes.{hyphen}
-use Rattle.ud_model.specs.answer.Arguments.{name_in, value_in, value_or_one, is_name}
+use Rattle.ud_model.specs.answer.SymbolArguments.{name_before_equals, value_after_equals, value_or_one, is_name}
 use Rattle.ud_model.specs.conditions.Table.{Argument}
 use Rattle.ud_model.specs.sections.Items.{Options}
 use Rattle.ud_model.specs.declared.settings.Settings.{Settings}
@@ -27,105 +27,105 @@ use Rattle.ud_model.specs.declared.settings.ExitMode.{ExitMode}
 use Rattle.ud_model.specs.declared.settings.ExitMode.TheVariants.{Zero, One, Two}
 
 -- what is given in the words
-pub data Given : Type 0 where
+pub data ParsedArg : Type 0 where
   -- an option without an argument: its letter
-  flag : ℕ → Given
+  flag : ℕ → ParsedArg
   -- an option with its argument: the letter, the number of the word that holds the argument, counted from 1, and the argument
-  option : ℕ → ℕ → List ℕ → Given
+  option : ℕ → ℕ → List ℕ → ParsedArg
   -- an operand: its place, counted from 0, and its bytes
-  operand : ℕ → List ℕ → Given
+  operand : ℕ → List ℕ → ParsedArg
   -- a letter that is no option
-  unknown : ℕ → Given
+  unknown : ℕ → ParsedArg
   -- the letter of an option whose argument isn't there
-  lacking : ℕ → Given
+  lacking : ℕ → ParsedArg
 
 -- the letter is one of these
-abbrev pub is_among : List ℕ → ℕ → Bool
-is_among [] c = false
-is_among (l ∷ ls) c = (c == l) || is_among ls c
+abbrev pub has_letter : List ℕ → ℕ → Bool
+has_letter [] c = false
+has_letter (l ∷ ls) c = (c == l) || has_letter ls c
 
 abbrev pub is_flag : ℕ → Bool
-is_flag c = is_among (codes "bcklnsKSt") c
+is_flag c = has_letter (codes "bcklnsKSt") c
 
 abbrev pub takes_argument : ℕ → Bool
-takes_argument c = is_among (codes "DUix") c
+takes_argument c = has_letter (codes "DUix") c
 
 -- the letters of a word of options; there are none in an operand
-abbrev pub letters_in : List ℕ → List ℕ
-letters_in [] = []
-letters_in (b ∷ bs) = if b == hyphen then chars bs else []
+abbrev pub option_letters : List ℕ → List ℕ
+option_letters [] = []
+option_letters (b ∷ bs) = if b == hyphen then chars bs else []
 
 -- words that are operands each, from this place on
-abbrev pub operands_from : ℕ → List (List ℕ) → List Given
+abbrev pub operands_from : ℕ → List (List ℕ) → List ParsedArg
 operands_from n [] = []
 operands_from n (w ∷ ws) = operand n w ∷ operands_from (suc n) ws
 
 -- An option with its argument: the letters after its letter in the word with this number, if there are any. `next`
 -- is what is given where its argument is the next word, and `rest` what is given after the letter's own word.
-abbrev pub option_given : ℕ → ℕ → List ℕ → List Given → List Given → List Given
-option_given c number [] next rest = next
-option_given c number (l ∷ ls) next rest = option c number (encode_utf8_all (l ∷ ls)) ∷ rest
+abbrev pub parsed_option : ℕ → ℕ → List ℕ → List ParsedArg → List ParsedArg → List ParsedArg
+parsed_option c number [] next rest = next
+parsed_option c number (l ∷ ls) next rest = option c number (encode_utf8_all (l ∷ ls)) ∷ rest
 
 -- What these letters of the word with this number give, and what comes after: `next c` where the argument of the
 -- option c is the next word, and `rest` otherwise.
-abbrev pub letters_given : ℕ → List ℕ → (ℕ → List Given) → List Given → List Given
-letters_given number [] next rest = rest
-letters_given number (c ∷ cs) next rest =
-    if is_flag c then flag c ∷ letters_given number cs next rest
-    else if takes_argument c then option_given c number cs (next c) rest
-    else unknown c ∷ letters_given number cs next rest
+abbrev pub parsed_letters : ℕ → List ℕ → (ℕ → List ParsedArg) → List ParsedArg → List ParsedArg
+parsed_letters number [] next rest = rest
+parsed_letters number (c ∷ cs) next rest =
+    if is_flag c then flag c ∷ parsed_letters number cs next rest
+    else if takes_argument c then parsed_option c number cs (next c) rest
+    else unknown c ∷ parsed_letters number cs next rest
 
 -- what a word gives that has these letters, if any; `operands` is given where it has none
-abbrev pub word_given : ℕ → List ℕ → (ℕ → List Given) → List Given → List Given → List Given
-word_given number [] next rest operands = operands
-word_given number (c ∷ cs) next rest operands = letters_given number (c ∷ cs) next rest
+abbrev pub parsed_word : ℕ → List ℕ → (ℕ → List ParsedArg) → List ParsedArg → List ParsedArg → List ParsedArg
+parsed_word number [] next rest operands = operands
+parsed_word number (c ∷ cs) next rest operands = parsed_letters number (c ∷ cs) next rest
 
 abbrev mutual
   -- what words give from the place n on, if no operand and no `--` came yet
-  pub given_from : ℕ → List (List ℕ) → List Given
-  given_from n [] = []
-  given_from n (w ∷ ws) =
+  pub parsed_from : ℕ → List (List ℕ) → List ParsedArg
+  parsed_from n [] = []
+  parsed_from n (w ∷ ws) =
       if bytes_eq w (codes "--") then operands_from (suc n) ws
-      else word_given (suc n) (letters_in w) (λ c. given_behind c (suc n) ws) (given_from (suc n) ws) (operands_from n (w ∷ ws))
+      else parsed_word (suc n) (option_letters w) (λ c. parsed_after_option c (suc n) ws) (parsed_from (suc n) ws) (operands_from n (w ∷ ws))
 
   -- what words give from the place n on, where the first of them is the argument of the option c
-  pub given_behind : ℕ → ℕ → List (List ℕ) → List Given
-  given_behind c n [] = lacking c ∷ []
-  given_behind c n (w ∷ ws) = option c (suc n) w ∷ given_from (suc n) ws
+  pub parsed_after_option : ℕ → ℕ → List (List ℕ) → List ParsedArg
+  parsed_after_option c n [] = lacking c ∷ []
+  parsed_after_option c n (w ∷ ws) = option c (suc n) w ∷ parsed_from (suc n) ws
 
 -- all that is given in the words of a command line
-abbrev pub given_in : List (List ℕ) → List Given
-given_in words = given_from 0 words
+abbrev pub parsed_args : List (List ℕ) → List ParsedArg
+parsed_args args = parsed_from 0 args
 
 -- what is said of a symbol of this name; a name is an identifier other than `defined`
-abbrev pub named : List ℕ → Option (List ℕ) → Bool → Option Argument
-named name value ignoring = if is_name name then Some (record { name = name; entry = record { value = value; ignoring = ignoring } }) else None
+abbrev pub symbol_named : List ℕ → Option (List ℕ) → Bool → Option Argument
+symbol_named name value ignoring = if is_name name then Some (record { name = name; entry = record { value = value; ignoring = ignoring } }) else None
 
 -- `NAME` or `NAME=VALUE`, split at the first `=`
-abbrev pub defining : Bool → List ℕ → Option Argument
-defining ignoring argument = named (name_in argument) (Some (value_or_one (value_in argument))) ignoring
+abbrev pub parse_define : Bool → List ℕ → Option Argument
+parse_define ignoring argument = symbol_named (name_before_equals argument) (Some (value_or_one (value_after_equals argument))) ignoring
 
-abbrev pub undefining : Bool → List ℕ → Option Argument
-undefining ignoring argument = named argument None ignoring
+abbrev pub parse_undefine : Bool → List ℕ → Option Argument
+parse_undefine ignoring argument = symbol_named argument None ignoring
 
 -- after `-i`: `D` or `U`, and then what stands after such an option
-abbrev pub ignoring_symbol : List ℕ → Option Argument
-ignoring_symbol [] = None
-ignoring_symbol (b ∷ bs) =
-    if is_among (codes "D") b then defining true bs
-    else if is_among (codes "U") b then undefining true bs
+abbrev pub parse_ignoring_symbol : List ℕ → Option Argument
+parse_ignoring_symbol [] = None
+parse_ignoring_symbol (b ∷ bs) =
+    if has_letter (codes "D") b then parse_define true bs
+    else if has_letter (codes "U") b then parse_undefine true bs
     else None
 
 -- what the argument of the option c says of a symbol, if it is right
-abbrev pub symbol_in : ℕ → List ℕ → Option Argument
-symbol_in c argument =
-    if is_among (codes "D") c then defining false argument
-    else if is_among (codes "U") c then undefining false argument
-    else if is_among (codes "i") c then ignoring_symbol argument
+abbrev pub parse_symbol : ℕ → List ℕ → Option Argument
+parse_symbol c argument =
+    if has_letter (codes "D") c then parse_define false argument
+    else if has_letter (codes "U") c then parse_undefine false argument
+    else if has_letter (codes "i") c then parse_ignoring_symbol argument
     else None
 
-abbrev pub mode_in : List ℕ → Option ExitMode
-mode_in argument =
+abbrev pub parse_exit_mode : List ℕ → Option ExitMode
+parse_exit_mode argument =
     if bytes_eq argument (codes "0") then Some Zero
     else if bytes_eq argument (codes "1") then Some One
     else if bytes_eq argument (codes "2") then Some Two
@@ -149,34 +149,34 @@ unless_right (Some a) fault = None
 
 abbrev pub argument_fault : ℕ → ℕ → List ℕ → Option UsageFault
 argument_fault c number argument =
-    if is_among (codes "x") c then unless_right (mode_in argument) (bad_mode_in number)
-    else unless_right (symbol_in c argument) (bad_symbol_in number)
+    if has_letter (codes "x") c then unless_right (parse_exit_mode argument) (bad_mode_in number)
+    else unless_right (parse_symbol c argument) (bad_symbol_in number)
 
 -- after an operand stand only operands, and one is too many
-abbrev pub fault_behind_operand : List Given → Option UsageFault
-fault_behind_operand [] = None
-fault_behind_operand (g ∷ gs) = Some too_many_files
+abbrev pub fault_after_operand : List ParsedArg → Option UsageFault
+fault_after_operand [] = None
+fault_after_operand (g ∷ gs) = Some too_many_files
 
 abbrev pub fault_or : Option UsageFault → Option UsageFault → Option UsageFault
 fault_or None later = later
 fault_or (Some f) later = Some f
 
 -- the first fault of what is given
-abbrev pub first_fault : List Given → Option UsageFault
+abbrev pub first_fault : List ParsedArg → Option UsageFault
 first_fault [] = None
 first_fault (flag c ∷ gs) = first_fault gs
 first_fault (option c number argument ∷ gs) = fault_or (argument_fault c number argument) (first_fault gs)
-first_fault (operand n w ∷ gs) = fault_behind_operand gs
+first_fault (operand n w ∷ gs) = fault_after_operand gs
 first_fault (unknown c ∷ gs) = Some (unknown_option c)
 first_fault (lacking c ∷ gs) = Some (missing_argument c)
 
 abbrev pub usage_fault : List (List ℕ) → Option UsageFault
-usage_fault words = first_fault (given_in words)
+usage_fault args = first_fault (parsed_args args)
 
 -- one of these flags is given
-abbrev pub has_flag : List ℕ → List Given → Bool
+abbrev pub has_flag : List ℕ → List ParsedArg → Bool
 has_flag letters [] = false
-has_flag letters (flag c ∷ gs) = is_among letters c || has_flag letters gs
+has_flag letters (flag c ∷ gs) = has_letter letters c || has_flag letters gs
 has_flag letters (option c number argument ∷ gs) = has_flag letters gs
 has_flag letters (operand n w ∷ gs) = has_flag letters gs
 has_flag letters (unknown c ∷ gs) = has_flag letters gs
@@ -193,16 +193,16 @@ mode_or earlier None = earlier
 mode_or earlier (Some mode) = mode
 
 -- the exit mode after this one: the last option `-x` counts
-abbrev pub mode_from : ExitMode → List Given → ExitMode
+abbrev pub mode_from : ExitMode → List ParsedArg → ExitMode
 mode_from mode [] = mode
 mode_from mode (flag c ∷ gs) = mode_from mode gs
-mode_from mode (option c number argument ∷ gs) = mode_from (if is_among (codes "x") c then mode_or mode (mode_in argument) else mode) gs
+mode_from mode (option c number argument ∷ gs) = mode_from (if has_letter (codes "x") c then mode_or mode (parse_exit_mode argument) else mode) gs
 mode_from mode (operand n w ∷ gs) = mode_from mode gs
 mode_from mode (unknown c ∷ gs) = mode_from mode gs
 mode_from mode (lacking c ∷ gs) = mode_from mode gs
 
 -- the settings, as they are given
-abbrev pub settings_in : List Given → Settings
+abbrev pub settings_in : List ParsedArg → Settings
 settings_in gs = record {
   plain = has_flag (codes "t") gs;
   constants = has_flag (codes "k") gs;
@@ -215,60 +215,60 @@ settings_in gs = record {
 }
 
 -- what an option says of a symbol, if it does
-abbrev pub argument_in : Given → Option Argument
+abbrev pub argument_in : ParsedArg → Option Argument
 argument_in (flag c) = None
-argument_in (option c number argument) = symbol_in c argument
+argument_in (option c number argument) = parse_symbol c argument
 argument_in (operand n w) = None
 argument_in (unknown c) = None
 argument_in (lacking c) = None
 
 abbrev pub options_of : List (List ℕ) → Options
-options_of words = record { settings = settings_in (given_in words); table = filter_map argument_in (given_in words) }
+options_of args = record { settings = settings_in (parsed_args args); table = filter_map argument_in (parsed_args args) }
 
 -- an operand: its place, counted from 0, and its bytes
 pub record Operand : Type 0 where
-  pub place : ℕ
+  pub index : ℕ
   pub name : List ℕ
 
 -- the first operand
-abbrev pub operand_in : List Given → Option Operand
+abbrev pub operand_in : List ParsedArg → Option Operand
 operand_in [] = None
 operand_in (flag c ∷ gs) = operand_in gs
 operand_in (option c number argument ∷ gs) = operand_in gs
-operand_in (operand n w ∷ gs) = Some (record { place = n; name = w })
+operand_in (operand n w ∷ gs) = Some (record { index = n; name = w })
 operand_in (unknown c ∷ gs) = operand_in gs
 operand_in (lacking c ∷ gs) = operand_in gs
 
-abbrev pub place_of : Option Operand → Option ℕ
-place_of None = None
-place_of (Some o) = Some o.place
+abbrev pub operand_index : Option Operand → Option ℕ
+operand_index None = None
+operand_index (Some o) = Some o.index
 
 abbrev pub operand_of : List (List ℕ) → Option ℕ
-operand_of words = place_of (operand_in (given_in words))
+operand_of args = operand_index (operand_in (parsed_args args))
 
 -- `-` is the standard input
-abbrev pub is_standard : List ℕ → Bool
-is_standard name = bytes_eq name (codes "-")
+abbrev pub is_stdin : List ℕ → Bool
+is_stdin name = bytes_eq name (codes "-")
 
 abbrev pub name_or_stdin : Option Operand → List ℕ
 name_or_stdin None = codes "stdin"
-name_or_stdin (Some o) = if is_standard o.name then codes "stdin" else o.name
+name_or_stdin (Some o) = if is_stdin o.name then codes "stdin" else o.name
 
 -- how messages call the input
-abbrev pub input_name : List (List ℕ) → List ℕ
-input_name words = name_or_stdin (operand_in (given_in words))
+abbrev pub display_name : List (List ℕ) → List ℕ
+display_name args = name_or_stdin (operand_in (parsed_args args))
 
-abbrev pub file_place : Option Operand → Option ℕ
-file_place None = None
-file_place (Some o) = if is_standard o.name then None else Some o.place
+abbrev pub file_index : Option Operand → Option ℕ
+file_index None = None
+file_index (Some o) = if is_stdin o.name then None else Some o.index
 
 abbrev pub unless_fault : Option UsageFault → Option ℕ → Option ℕ
-unless_fault None place = place
-unless_fault (Some f) place = None
+unless_fault None index = index
+unless_fault (Some f) index = None
 
 -- the place of the operand that names a file, where the words have no fault
 abbrev pub input_of : List (List ℕ) → Option ℕ
-input_of words = unless_fault (usage_fault words) (file_place (operand_in (given_in words)))
+input_of args = unless_fault (usage_fault args) (file_index (operand_in (parsed_args args)))
 
 abbrev pub usage_message : UsageFault → List ℕ
 usage_message (unknown_option letter) = codes "unifdef: Unknown option -" ++ encode_utf8 letter ++ codes "\n"

@@ -1,16 +1,16 @@
 -- Printing: what is printed of a line.
 -- unifdef(1): the lines that are left, with edited directives where a neighbour went; `-b`, `-c`, `-n`.
 --
---   piece_by verdict keyword l    what is printed of a line by its verdict alone, without options
---   piece_behind style before j   what is printed of a judged line that follows others, in a style
---   pieces_by piece before js     the pieces of judged lines that follow others, each by all lines before it
---   printed_by settings xs ms     the pieces of these lines under these settings, joined in order
---   some_differ_by settings ..    some line's piece isn't the line itself
+--   piece_by verdict keyword l   what is printed of a line by its verdict alone, without options
+--   piece_after style before j   what is printed of a judged line that follows others, in a style
+--   pieces_by piece before js    the pieces of judged lines that follow others, each by all lines before it
+--   printed_by settings xs ms    the pieces of these lines under these settings, joined in order
+--   some_differ_by settings ..   some line's piece isn't the line itself
 --
 -- Example: of a line `x` that follows a removed one, `#line 5` and the line are printed under `-n`, 5 being its number.
 use Rattle.std.specs.Prelude.{ℕ, ◌+◌, ◌==◌, List, [], ◌∷◌, ◌++◌, take, drop, map, Bool, false, not, ◌&&◌, ◌||◌, bytes_eq, codes, decimal, if◌then◌else◌}
 use Rattle.std.specs.List.{concat}
-use Rattle.ud_model.specs.text.Bytes.{line_feed}
+use Rattle.ud_model.specs.text.Bytes.{newline}
 use Rattle.ud_model.specs.text.Lines.{Line, text_of}
 use Rattle.ud_model.specs.text.Scans.{Reading}
 use Rattle.ud_model.specs.sections.Directives.{Span, Content, cut_keyword, directive, text, content_of}
@@ -33,14 +33,14 @@ by_length len a b c = if len == 7 then a else if len == 8 then b else c
 
 -- What stands in place of a keyword of this length in a directive that becomes the first one of its section: `ifdef` in
 -- place of `elifdef`, `ifndef` in place of `elifndef`, else `if`, each with two spaces for the bytes that are lost.
-abbrev pub if_word : ℕ → List ℕ
-if_word len = by_length len (codes "ifdef  ") (codes "ifndef  ") (codes "if  ")
+abbrev pub opener_keyword : ℕ → List ℕ
+opener_keyword len = by_length len (codes "ifdef  ") (codes "ifndef  ") (codes "if  ")
 
 -- An edited directive keeps what stands before its keyword. One that becomes the first of its section keeps what follows, too.
 abbrev pub piece_by : Verdict → Span → Line → List ℕ
 piece_by Keep keyword l = text_of l
 piece_by Remove keyword l = []
-piece_by ToIf keyword l = take keyword.at l.body ++ if_word keyword.len ++ drop (keyword.at + keyword.len) l.body ++ l.ending
+piece_by ToIf keyword l = take keyword.at l.body ++ opener_keyword keyword.len ++ drop (keyword.at + keyword.len) l.body ++ l.ending
 piece_by ToElse keyword l = take keyword.at l.body ++ codes "else" ++ l.ending
 piece_by ToEndif keyword l = take keyword.at l.body ++ codes "endif" ++ l.ending
 
@@ -64,11 +64,11 @@ abbrev pub style_of : Settings → Style
 style_of s = record { blank = s.blank; complement = s.complement; renumber = s.renumber }
 
 -- a line that would be removed is kept, and each other one is removed
-abbrev pub turned : Verdict → Verdict
-turned v = if is_removed v then Keep else Remove
+abbrev pub complement_verdict : Verdict → Verdict
+complement_verdict v = if is_removed v then Keep else Remove
 
 abbrev pub complemented : Judged → Judged
-complemented j = record j { verdict = turned j.verdict }
+complemented j = record j { verdict = complement_verdict j.verdict }
 
 -- the last one of these lines is removed
 abbrev pub last_removed : List Judged → Bool
@@ -77,13 +77,13 @@ last_removed (j ∷ []) = is_removed j.verdict
 last_removed (j ∷ k ∷ js) = last_removed (k ∷ js)
 
 -- an ending, or a line feed if there is none
-abbrev pub ending_or_feed : List ℕ → List ℕ
-ending_or_feed [] = line_feed ∷ []
-ending_or_feed (b ∷ bs) = b ∷ bs
+abbrev pub ending_or_newline : List ℕ → List ℕ
+ending_or_newline [] = newline ∷ []
+ending_or_newline (b ∷ bs) = b ∷ bs
 
 -- a directive that gives the next line the number that it has in the input (C11 6.10.4)
 abbrev pub number_line : Line → List ℕ
-number_line l = codes "#line " ++ decimal l.number ++ ending_or_feed l.ending
+number_line l = codes "#line " ++ decimal l.number ++ ending_or_newline l.ending
 
 -- what is printed of a line by itself: of a removed one nothing, or under `-b` its ending
 abbrev pub piece_alone : Bool → Judged → List ℕ
@@ -97,8 +97,8 @@ abbrev pub uncomplemented_piece : Style → List Judged → Judged → List ℕ
 uncomplemented_piece style before j = (if is_numbered style before j then number_line j.line else []) ++ piece_alone style.blank j
 
 -- what is printed of a line that follows these; `-c` counts before all else
-abbrev pub piece_behind : Style → List Judged → Judged → List ℕ
-piece_behind style before j =
+abbrev pub piece_after : Style → List Judged → Judged → List ℕ
+piece_after style before j =
     if style.complement then uncomplemented_piece style (map complemented before) (complemented j) else uncomplemented_piece style before j
 
 -- the pieces of the second lines, which follow the first ones, where this is the piece of a line after others
@@ -112,17 +112,17 @@ some_other [] js = false
 some_other (p ∷ ps) [] = false
 some_other (p ∷ ps) (j ∷ js) = not (bytes_eq p (text_of j.line)) || some_other ps js
 
-abbrev pub judged : Item Reading → Mark → Judged
-judged x m = record { line = line_of x; verdict = m.verdict; keyword = keyword_in (content_of (reading_of x).scan) }
+abbrev pub judged_line : Item Reading → Mark → Judged
+judged_line x m = record { line = line_of x; verdict = m.verdict; keyword = keyword_in (content_of (reading_of x).scan) }
 
 -- these lines with these marks
 abbrev pub judged_lines : List (Item Reading) → List Mark → List Judged
 judged_lines [] ms = []
 judged_lines (x ∷ xs) [] = []
-judged_lines (x ∷ xs) (m ∷ ms) = judged x m ∷ judged_lines xs ms
+judged_lines (x ∷ xs) (m ∷ ms) = judged_line x m ∷ judged_lines xs ms
 
 abbrev pub pieces_under : Settings → List (Item Reading) → List Mark → List (List ℕ)
-pieces_under settings xs ms = pieces_by (piece_behind (style_of settings)) [] (judged_lines xs ms)
+pieces_under settings xs ms = pieces_by (piece_after (style_of settings)) [] (judged_lines xs ms)
 
 abbrev pub printed_by : Settings → List (Item Reading) → List Mark → List ℕ
 printed_by settings xs ms = concat (pieces_under settings xs ms)

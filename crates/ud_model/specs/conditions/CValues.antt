@@ -2,12 +2,12 @@
 -- C11 6.10.1p4: all signed integers are those of intmax_t and all unsigned ones those of uintmax_t, here of 64 bits in two's
 -- complement. 6.5 and 6.3.1.8 for the operators.
 --
---   Number               a number of one of the two types; `number` is the number alone
---   IsConstantValue w    what a constant is (6.4.4.1p5)
---   Changes o x          what an operator before an operand gives
---   Gives o x y          what an operator between two operands gives, `&&` and `||` aside
---   CValue table u e     what the tree may be, u saying whether a `u` stands in the whole expression
---   IsCValue table e     what an expression may be
+--   Number              a number of one of the two types; `number` is the number alone
+--   IsConstantValue w   what a constant is (6.4.4.1p5)
+--   GivesUnary o x      what an operator before an operand gives
+--   Gives o x y         what an operator between two operands gives, `&&` and `||` aside
+--   CValue table u e    what the tree may be, u saying whether a `u` stands in the whole expression
+--   IsCValue table e    what an expression may be
 --
 -- A name whose value the table tells has this value, in the type of the constant at which it ends. Each other one stands for
 -- any number of either type, at each place where it stands; `defined` and an unlisted name is 0 or 1. Where C gives no
@@ -106,13 +106,13 @@ Gives o (unsigned a) (signed b) c = GivesUnsigned o a (as_unsigned (signed b)) c
 Gives o (unsigned a) (unsigned b) c = GivesUnsigned o a b c
 
 -- an operator before one operand (6.5.3.3)
-abbrev pub Changes : Operator → Number → Number → Type 0
-Changes Not x c = IsTruth (IsZero x) c
-Changes Minus (signed a) c = IsResult (neg_ℤ a) c
-Changes Minus (unsigned a) c = c ≡ unsigned ((2 ^ 64 - a) % 2 ^ 64)
-Changes Complement (signed a) c = c ≡ signed (cast_signed w64 (2 ^ 64 - 1 - cast_unsigned w64 a))
-Changes Complement (unsigned a) c = c ≡ unsigned (2 ^ 64 - 1 - a)
-Changes _ x c = ⊥
+abbrev pub GivesUnary : Operator → Number → Number → Type 0
+GivesUnary Not x c = IsTruth (IsZero x) c
+GivesUnary Minus (signed a) c = IsResult (neg_ℤ a) c
+GivesUnary Minus (unsigned a) c = c ≡ unsigned ((2 ^ 64 - a) % 2 ^ 64)
+GivesUnary Complement (signed a) c = c ≡ signed (cast_signed w64 (2 ^ 64 - 1 - cast_unsigned w64 a))
+GivesUnary Complement (unsigned a) c = c ≡ unsigned (2 ^ 64 - 1 - a)
+GivesUnary _ x c = ⊥
 
 -- of uintmax_t with a `u`, or where only that type holds it and it isn't decimal
 pub data IsConstantValue (w : List ℕ) : Number → Type 0 where
@@ -136,7 +136,7 @@ pub data CValue (table : List Argument) (u : Bool) : Expression → Number → T
   of_known_defined : {n : List ℕ} {p : Bool} {z : ℤ} → defined_value table n ≡ Some z → CValue table u (is_defined n p) (signed z)
   of_open_defined : {n : List ℕ} {p : Bool} {c : Number} → defined_value table n ≡ None → (c ≡ signed (pos 0)) ⊎ (c ≡ signed (pos 1)) →
       CValue table u (is_defined n p) c
-  of_unary : {o : Operator} {a : Expression} {x c : Number} → CValue table u a x → Changes o x c → CValue table u (unary o a) c
+  of_unary : {o : Operator} {a : Expression} {x c : Number} → CValue table u a x → GivesUnary o x c → CValue table u (unary o a) c
   of_binary : {o : Operator} {a b : Expression} {x y c : Number} → CValue table u a x → CValue table u b y → Gives o x y c →
       CValue table u (binary o a b) c
   of_and_left : {a b : Expression} {x : Number} → CValue table u a x → IsZero x → CValue table u (binary And a b) (signed (pos 0))

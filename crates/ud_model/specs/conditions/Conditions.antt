@@ -1,16 +1,16 @@
 -- Conditions: what the table decides of a directive.
 -- C11 6.10.1; unifdef(1): where a condition isn't decided or not understood, it is unknown.
 --
---   Decision                               a condition, and whether its section is plain text
---   tree_cond e table rules                what is decided of the tree of an `#if` or `#elif`
---   expression_cond after table rules      the same of its text; a text without a tree is unknown
---   decided_by test after table rules      the decision on a text by what makes its condition true
---   condition_of kind after table rules    the decision on the text after a keyword
---   decision_on scan d table rules         the decision on a directive in its line
+--   Decision                                  a condition, and whether its section is plain text
+--   tree_cond e table rules                   what is decided of the tree of an `#if` or `#elif`
+--   expression_cond after table rules         the same of its text; a text without a tree is unknown
+--   decision_by_test test after table rules   the decision on a text by what makes its condition true
+--   condition_of kind after table rules       the decision on the text after a keyword
+--   decision_on scan d table rules            the decision on a directive in its line
 --
 -- Example: with A undefined, `A && X` is no, and unknown under `strict`; `X || 1` is unknown unless `constants`.
 use Rattle.std.specs.Prelude.{ℕ, List, Bool, true, false, not, ◌&&◌, ◌||◌, Option, Some, None, is_some, if◌then◌else◌, ℤ}
-use Rattle.ud_model.specs.text.Bytes.{past_white, word_in_front, past_word, are_white, is_identifier}
+use Rattle.ud_model.specs.text.Bytes.{skip_white, leading_word, skip_word, are_white, is_identifier}
 use Rattle.ud_model.specs.text.Scans.{Scan}
 use Rattle.ud_model.specs.sections.Directives.{Directive, role_of, test_of}
 use Rattle.ud_model.specs.conditions.Table.{Argument, Entry, entry_in}
@@ -42,8 +42,8 @@ undecided = record { cond = Unknown; ignoring = false }
 -- the one identifier that a text is but for white space around it, if it is so
 abbrev pub sole_name : List ℕ → Option (List ℕ)
 sole_name after =
-    if is_identifier (word_in_front (past_white after)) && are_white (past_word (past_white after))
-    then Some (word_in_front (past_white after)) else None
+    if is_identifier (leading_word (skip_white after)) && are_white (skip_word (skip_white after))
+    then Some (leading_word (skip_white after)) else None
 
 -- `#ifdef` by the entry of its name
 abbrev pub ifdef_by : Option Entry → Decision
@@ -60,10 +60,10 @@ ifdef_decision None table = undecided
 ifdef_decision (Some name) table = ifdef_by (entry_in table name)
 
 -- the other way round
-abbrev pub negated : Cond → Cond
-negated Yes = No
-negated No = Yes
-negated Unknown = Unknown
+abbrev pub negate : Cond → Cond
+negate Yes = No
+negate No = Yes
+negate Unknown = Unknown
 
 -- an entry undefines its name
 abbrev pub undefined_by : Option Entry → Bool
@@ -76,13 +76,13 @@ module _ (table : List Argument) where
   is_listed n = is_some (entry_in table n)
 
   -- a name that the table lists stands in the expression, as an operand or after `defined`
-  abbrev pub names_listed : Expression → Bool
-  names_listed (constant w) = false
-  names_listed (named n arguments) = is_listed n
-  names_listed (is_defined n parentheses) = is_listed n
-  names_listed (unary o a) = names_listed a
-  names_listed (binary o a b) = names_listed a || names_listed b
-  names_listed (parens a) = names_listed a
+  abbrev pub mentions_listed : Expression → Bool
+  mentions_listed (constant w) = false
+  mentions_listed (named n arguments) = is_listed n
+  mentions_listed (is_defined n parentheses) = is_listed n
+  mentions_listed (unary o a) = mentions_listed a
+  mentions_listed (binary o a b) = mentions_listed a || mentions_listed b
+  mentions_listed (parens a) = mentions_listed a
 
   -- a name that the table undefines stands there with arguments
   abbrev pub calls_undefined : Expression → Bool
@@ -101,7 +101,7 @@ truth_of (Some z) = if is_zero z then No else Yes
 -- unknown where an undefined name has arguments; and, unless `constants`, if no name is listed
 abbrev pub tree_cond : Expression → List Argument → Rules → Cond
 tree_cond e table rules =
-    if calls_undefined table e || not (rules.constants || names_listed table e) then Unknown else truth_of (value_of table rules.strict e)
+    if calls_undefined table e || not (rules.constants || mentions_listed table e) then Unknown else truth_of (value_of table rules.strict e)
 
 -- the condition of a tree, if there is one
 abbrev pub tree_cond_if : Option Expression → List Argument → Rules → Cond
@@ -114,11 +114,11 @@ unfoldable pub expression_cond : List ℕ → List Argument → Rules → Cond
 expression_cond after table rules = tree_cond_if (expression_of after) table rules
 
 -- the decision on a text by what makes its condition true
-abbrev pub decided_by : Test → List ℕ → List Argument → Rules → Decision
-decided_by Nonzero after table rules = record { cond = expression_cond after table rules; ignoring = false }
-decided_by Defined after table rules = ifdef_decision (sole_name after) table
-decided_by Undefined after table rules = record (ifdef_decision (sole_name after) table) { cond = negated (ifdef_decision (sole_name after) table).cond }
-decided_by Nothing after table rules = undecided
+abbrev pub decision_by_test : Test → List ℕ → List Argument → Rules → Decision
+decision_by_test Nonzero after table rules = record { cond = expression_cond after table rules; ignoring = false }
+decision_by_test Defined after table rules = ifdef_decision (sole_name after) table
+decision_by_test Undefined after table rules = record (ifdef_decision (sole_name after) table) { cond = negate (ifdef_decision (sole_name after) table).cond }
+decision_by_test Nothing after table rules = undecided
 
 -- a directive with this role begins a section
 abbrev pub begins_section : Role → Bool
@@ -130,7 +130,7 @@ begins_section EndifLine = false
 -- the decision on the text after a keyword; only a directive that begins a section makes it plain text
 abbrev pub condition_of : Kind → List ℕ → List Argument → Rules → Decision
 condition_of kind after table rules =
-    record (decided_by (test_of kind) after table rules) { ignoring = begins_section (role_of kind) && (decided_by (test_of kind) after table rules).ignoring }
+    record (decision_by_test (test_of kind) after table rules) { ignoring = begins_section (role_of kind) && (decision_by_test (test_of kind) after table rules).ignoring }
 
 -- a broken directive is undecided; one that joins the next line isn't ignoring
 abbrev pub decision_on : Scan → Directive → List Argument → Rules → Decision

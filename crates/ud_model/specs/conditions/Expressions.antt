@@ -2,10 +2,10 @@
 -- C11 6.5 and 6.10.1p1. Each operator has a level, 1 being the loosest; operators of one level take their operands from
 -- the left.
 --
---   Expression              a tree of operands and operators; parentheses are a node of their own
---   spelling e              the tokens that a tree is written with
---   IsOfLevel k e           its outermost operator is of level k or tighter, and so on inside
---   IsWritten text e        the text is written for this tree; a text is so for one tree at most
+--   Expression          a tree of operands and operators; parentheses are a node of their own
+--   spelling e          the tokens that a tree is written with
+--   HasPrecedence k e   its outermost operator is of level k or tighter, and so on inside
+--   IsWritten text e    the text is written for this tree; a text is so for one tree at most
 --
 -- Example: `1 - 2 - 3` is written for (1 - 2) - 3 and for no other tree.
 use Rattle.std.specs.Prelude.{ℕ, ◌+◌, ◌≤◌, Bool, true, false, IsTrue, List, [], ◌∷◌, ◌++◌}
@@ -14,25 +14,25 @@ use Rattle.ud_model.specs.declared.operator.Operator.{Operator}
 use Rattle.ud_model.specs.declared.operator.Operator.TheVariants.{Or, And, BitOr, BitXor, BitAnd, Equal, NotEqual, Less, LessEqual, Greater, GreaterEqual, Plus, Minus, Times, Over, Remainder, Not, Complement}
 
 -- the level of an operator between two operands; 0 where it stands between none
-abbrev pub level : Operator → ℕ
-level Or = 1
-level And = 2
-level BitOr = 3
-level BitXor = 4
-level BitAnd = 5
-level Equal = 6
-level NotEqual = 6
-level Less = 7
-level LessEqual = 7
-level Greater = 7
-level GreaterEqual = 7
-level Plus = 8
-level Minus = 8
-level Times = 9
-level Over = 9
-level Remainder = 9
-level Not = 0
-level Complement = 0
+abbrev pub precedence : Operator → ℕ
+precedence Or = 1
+precedence And = 2
+precedence BitOr = 3
+precedence BitXor = 4
+precedence BitAnd = 5
+precedence Equal = 6
+precedence NotEqual = 6
+precedence Less = 7
+precedence LessEqual = 7
+precedence Greater = 7
+precedence GreaterEqual = 7
+precedence Plus = 8
+precedence Minus = 8
+precedence Times = 9
+precedence Over = 9
+precedence Remainder = 9
+precedence Not = 0
+precedence Complement = 0
 
 -- the operator may stand before its one operand
 abbrev pub is_prefix : Operator → Bool
@@ -65,14 +65,14 @@ spelling (parens a) = opening ∷ spelling a ++ closing ∷ []
 
 -- The tree is of level k or tighter: the left operand of an operator is of the operator's level or tighter, the right one
 -- is tighter; what stands after a prefix operator is tighter than each operator between two operands.
-abbrev pub IsOfLevel : ℕ → Expression → Type 0
-IsOfLevel k (constant w) = Unit {0}
-IsOfLevel k (named n arguments) = Unit {0}
-IsOfLevel k (is_defined n parentheses) = Unit {0}
-IsOfLevel k (unary o a) = IsTrue (is_prefix o) × IsOfLevel 10 a
-IsOfLevel k (binary o a b) = (k ≤ level o) × IsOfLevel (level o) a × IsOfLevel (level o + 1) b
-IsOfLevel k (parens a) = IsOfLevel 1 a
+abbrev pub HasPrecedence : ℕ → Expression → Type 0
+HasPrecedence k (constant w) = Unit {0}
+HasPrecedence k (named n arguments) = Unit {0}
+HasPrecedence k (is_defined n parentheses) = Unit {0}
+HasPrecedence k (unary o a) = IsTrue (is_prefix o) × HasPrecedence 10 a
+HasPrecedence k (binary o a b) = (k ≤ precedence o) × HasPrecedence (precedence o) a × HasPrecedence (precedence o + 1) b
+HasPrecedence k (parens a) = HasPrecedence 1 a
 
 -- The text is written for this tree.
 abbrev pub IsWritten : List ℕ → Expression → Type 0
-IsWritten text e = IsOfLevel 1 e × AreTokens text (spelling e)
+IsWritten text e = HasPrecedence 1 e × AreTokens text (spelling e)

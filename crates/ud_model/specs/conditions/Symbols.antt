@@ -1,9 +1,9 @@
 -- Symbols: where the value of a defined name ends.
 -- unifdef(1); C11 6.10.3.4: a name in a macro's replacement is replaced again.
 --
---   defined_text table n    the text as which the table defines a name, if it does
---   EndsAt table n v        the value of the name ends at the text v: the first that is no identifier, from name to name
---   end_of table n          the text at which it ends, if it does, computed
+--   defined_text table n   the text as which the table defines a name, if it does
+--   ResolvesTo table n v   the value of the name ends at the text v: the first that is no identifier, from name to name
+--   resolve table n        the text at which it ends, if it does, computed
 --
 -- A way from name to name that ends nowhere is a cycle; it has more steps than the table has arguments. A cycle has no
 -- end, and neither has a way to a name that isn't defined.
@@ -23,9 +23,9 @@ abbrev pub defined_text : List Argument → List ℕ → Option (List ℕ)
 defined_text table n = text_in (entry_in table n)
 
 -- the value of a name ends at the text that defines it, if that is no identifier, and else if the value of that name ends
-pub data EndsAt (table : List Argument) : List ℕ → List ℕ → Type 0 where
-  at_text : (n v : List ℕ) → defined_text table n ≡ Some v → is_identifier v ≡ false → EndsAt table n v
-  by_name : (n m v : List ℕ) → defined_text table n ≡ Some m → is_identifier m ≡ true → EndsAt table m v → EndsAt table n v
+pub data ResolvesTo (table : List Argument) : List ℕ → List ℕ → Type 0 where
+  at_text : (n v : List ℕ) → defined_text table n ≡ Some v → is_identifier v ≡ false → ResolvesTo table n v
+  by_name : (n m v : List ℕ) → defined_text table n ≡ Some m → is_identifier m ≡ true → ResolvesTo table m v → ResolvesTo table n v
 
 -- a text that is no identifier is an end; from another the way goes on
 abbrev pub on_text : (List ℕ → Option (List ℕ)) → Option (List ℕ) → Option (List ℕ)
@@ -33,10 +33,10 @@ on_text further None = None
 on_text further (Some v) = if is_identifier v then further v else Some v
 
 -- the end that is reached in at most so many steps
-abbrev pub ends_in : ℕ → List Argument → List ℕ → Option (List ℕ)
-ends_in zero table n = None
-ends_in (suc k) table n = on_text (λ v. ends_in k table v) (defined_text table n)
+abbrev pub resolve_within : ℕ → List Argument → List ℕ → Option (List ℕ)
+resolve_within zero table n = None
+resolve_within (suc k) table n = on_text (λ v. resolve_within k table v) (defined_text table n)
 
 -- the text at which the value of a name ends: no way that ends has more steps than the table has arguments
-unfoldable pub end_of : List Argument → List ℕ → Option (List ℕ)
-end_of table n = ends_in (length table) table n
+unfoldable pub resolve : List Argument → List ℕ → Option (List ℕ)
+resolve table n = resolve_within (length table) table n

@@ -10,8 +10,8 @@
 --
 -- Example: ` F(X)>0` is the name F with arguments, the operator `>` and the constant 0.
 use Rattle.std.specs.Prelude.{◌≡◌, ℕ, zero, suc, ◌-◌, ◌==◌, List, [], ◌∷◌, length, drop, slice_index, Bool, true, false, not, ◌&&◌, ◌||◌, if◌then◌else◌, Option, Some, None, bytes_eq, codes}
-use Rattle.ud_model.specs.text.Bytes.{is_digit, is_word_byte, past_white, word_in_front, past_word}
-use Rattle.ud_model.specs.conditions.Constants.{begins, is_constant}
+use Rattle.ud_model.specs.text.Bytes.{is_digit, is_word_byte, skip_white, leading_word, skip_word}
+use Rattle.ud_model.specs.conditions.Constants.{starts_with_byte, is_constant}
 use Rattle.ud_model.specs.declared.operator.Operator.{Operator}
 use Rattle.ud_model.specs.declared.operator.Operator.TheVariants.{Or, And, BitOr, BitXor, BitAnd, Equal, NotEqual, Less, LessEqual, Greater, GreaterEqual, Plus, Minus, Times, Over, Remainder, Not, Complement}
 
@@ -27,58 +27,58 @@ pub data Token : Type 0 where
   closing : Token
 
 -- what stands at the front of a text
-pub data Next : Type 0 where
+pub data NextToken : Type 0 where
   -- white space alone
-  at_end : Next
+  at_end : NextToken
   -- no token
-  unreadable : Next
+  unreadable : NextToken
   -- a token, and the text after it
-  found : Token → List ℕ → Next
+  found : Token → List ℕ → NextToken
 
 -- what stands after the `)` that closes a parenthesis, in which so many more are open
-abbrev pub behind_closing : ℕ → List ℕ → Option (List ℕ)
-behind_closing n [] = None
-behind_closing zero (b ∷ text) = if b == 40 then behind_closing 1 text else if b == 41 then Some text else behind_closing 0 text
-behind_closing (suc n) (b ∷ text) =
-    if b == 40 then behind_closing (suc (suc n)) text else if b == 41 then behind_closing n text else behind_closing (suc n) text
+abbrev pub after_matching_paren : ℕ → List ℕ → Option (List ℕ)
+after_matching_paren n [] = None
+after_matching_paren zero (b ∷ text) = if b == 40 then after_matching_paren 1 text else if b == 41 then Some text else after_matching_paren 0 text
+after_matching_paren (suc n) (b ∷ text) =
+    if b == 40 then after_matching_paren (suc (suc n)) text else if b == 41 then after_matching_paren n text else after_matching_paren (suc n) text
 
 -- the name with its arguments, where they end
-abbrev pub with_arguments : List ℕ → Option (List ℕ) → Next
+abbrev pub with_arguments : List ℕ → Option (List ℕ) → NextToken
 with_arguments w None = unreadable
 with_arguments w (Some rest) = found (name w true) rest
 
 -- a name and the arguments after it, if a `(` comes next
-abbrev pub name_token : List ℕ → List ℕ → Next
+abbrev pub name_token : List ℕ → List ℕ → NextToken
 name_token w rest =
-    if begins 40 (past_white rest) then with_arguments w (behind_closing 0 (drop 1 (past_white rest))) else found (name w false) rest
+    if starts_with_byte 40 (skip_white rest) then with_arguments w (after_matching_paren 0 (drop 1 (skip_white rest))) else found (name w false) rest
 
 -- the constant ends in `e` or `E`, and a sign follows: C reads both as one token
-abbrev pub takes_sign : List ℕ → List ℕ → Bool
-takes_sign w rest = (slice_index w (length w - 1) == 101 || slice_index w (length w - 1) == 69) && (begins 43 rest || begins 45 rest)
+abbrev pub has_exponent_sign : List ℕ → List ℕ → Bool
+has_exponent_sign w rest = (slice_index w (length w - 1) == 101 || slice_index w (length w - 1) == 69) && (starts_with_byte 43 rest || starts_with_byte 45 rest)
 
 -- a word that begins with a digit is a constant as a whole
-abbrev pub word_token : List ℕ → List ℕ → Next
+abbrev pub word_token : List ℕ → List ℕ → NextToken
 word_token w rest =
-    if is_digit (slice_index w 0) then (if is_constant w && not (takes_sign w rest) then found (number w) rest else unreadable)
+    if is_digit (slice_index w 0) then (if is_constant w && not (has_exponent_sign w rest) then found (number w) rest else unreadable)
     else if bytes_eq w (codes "defined") then found defined rest
     else name_token w rest
 
 -- the operator of two bytes where the second one follows, else the one of one byte
-abbrev pub longer_of : ℕ → Operator → Operator → List ℕ → Next
-longer_of c long short rest = if begins c rest then found (operator long) (drop 1 rest) else found (operator short) rest
+abbrev pub one_or_two_bytes : ℕ → Operator → Operator → List ℕ → NextToken
+one_or_two_bytes c long short rest = if starts_with_byte c rest then found (operator long) (drop 1 rest) else found (operator short) rest
 
 -- the token that begins with this byte, which is in no word
-abbrev pub sign_token : ℕ → List ℕ → Next
-sign_token b rest =
+abbrev pub punctuator : ℕ → List ℕ → NextToken
+punctuator b rest =
     if b == 40 then found opening rest
     else if b == 41 then found closing rest
-    else if b == 33 then longer_of 61 NotEqual Not rest
-    else if b == 60 then longer_of 61 LessEqual Less rest
-    else if b == 62 then longer_of 61 GreaterEqual Greater rest
-    else if b == 38 then longer_of 38 And BitAnd rest
-    else if b == 124 then longer_of 124 Or BitOr rest
-    else if b == 61 then (if begins 61 rest then found (operator Equal) (drop 1 rest) else unreadable)
-    else if b == 45 then (if begins 45 rest then unreadable else found (operator Minus) rest)
+    else if b == 33 then one_or_two_bytes 61 NotEqual Not rest
+    else if b == 60 then one_or_two_bytes 61 LessEqual Less rest
+    else if b == 62 then one_or_two_bytes 61 GreaterEqual Greater rest
+    else if b == 38 then one_or_two_bytes 38 And BitAnd rest
+    else if b == 124 then one_or_two_bytes 124 Or BitOr rest
+    else if b == 61 then (if starts_with_byte 61 rest then found (operator Equal) (drop 1 rest) else unreadable)
+    else if b == 45 then (if starts_with_byte 45 rest then unreadable else found (operator Minus) rest)
     else if b == 43 then found (operator Plus) rest
     else if b == 42 then found (operator Times) rest
     else if b == 47 then found (operator Over) rest
@@ -88,14 +88,14 @@ sign_token b rest =
     else unreadable
 
 -- the token in front of a text without white space in front
-abbrev pub token_in_front : List ℕ → Next
-token_in_front [] = at_end
-token_in_front (b ∷ text) =
-    if is_word_byte b then word_token (word_in_front (b ∷ text)) (past_word (b ∷ text)) else sign_token b text
+abbrev pub leading_token : List ℕ → NextToken
+leading_token [] = at_end
+leading_token (b ∷ text) =
+    if is_word_byte b then word_token (leading_word (b ∷ text)) (skip_word (b ∷ text)) else punctuator b text
 
 -- the token at the front of a text, white space left out
-unfoldable pub next_token : List ℕ → Next
-next_token text = token_in_front (past_white text)
+unfoldable pub next_token : List ℕ → NextToken
+next_token text = leading_token (skip_white text)
 
 -- The tokens of a text: the one at its front, and then those of the text after it.
 abbrev pub AreTokens : List ℕ → List Token → Type 0

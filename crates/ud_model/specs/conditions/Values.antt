@@ -1,12 +1,12 @@
 -- Values: the number that an expression is, as far as the table tells it.
 -- C11 6.10.1p4 and 6.5. A value is a whole number, or unknown (None).
 --
---   fits u z                   z lies between the least number and 2^63-1; u says that a `u` stands in the expression
---   operate u o a b            two known operands and an operator
---   combine strict u o a b     two operands, of which one or both may be unknown
---   alter u o a                an operator before one operand
---   name_value table u n       a name as an operand
---   defined_value table n      `defined` and a name
+--   fits u z                      z lies between the least number and 2^63-1; u says that a `u` stands in the expression
+--   apply_binary_known u o a b    two known operands and an operator
+--   apply_binary strict u o a b   two operands, of which one or both may be unknown
+--   apply_unary u o a             an operator before one operand
+--   name_value table u n          a name as an operand
+--   defined_value table n         `defined` and a name
 --   number_of table strict u e the value of a tree, with that least number
 --   has_unsigned table e       a constant of the tree, or one at which an operand's symbol value ends, has a `u`
 --   value_of table strict e    the value of a tree
@@ -20,7 +20,7 @@ use mir.Val.{to_z, of_z}
 use mir.Syntax.{w64}
 use Rattle.ud_model.specs.conditions.Table.{Argument, Entry, entry_in}
 use Rattle.ud_model.specs.conditions.Constants.{is_constant, has_u, constant_number}
-use Rattle.ud_model.specs.conditions.Symbols.{end_of}
+use Rattle.ud_model.specs.conditions.Symbols.{resolve}
 use Rattle.ud_model.specs.conditions.Expressions.{Expression, constant, named, is_defined, unary, binary, parens}
 use Rattle.ud_model.specs.declared.operator.Operator.{Operator}
 use Rattle.ud_model.specs.declared.operator.Operator.TheVariants.{Or, And, BitOr, BitXor, BitAnd, Equal, NotEqual, Less, LessEqual, Greater, GreaterEqual, Plus, Minus, Times, Over, Remainder, Not, Complement}
@@ -44,8 +44,8 @@ is_zero (pos n) = nat_eq n 0
 is_zero (negsuc n) = false
 
 -- the numbers are the same
-abbrev pub same : ℤ → ℤ → Bool
-same a b = int_le a b && int_le b a
+abbrev pub equal_numbers : ℤ → ℤ → Bool
+equal_numbers a b = int_le a b && int_le b a
 
 -- on 64-bit two's complement
 abbrev pub by_bits : (ℕ → ℕ → ℕ) → ℤ → ℤ → ℤ
@@ -53,54 +53,54 @@ by_bits f a b = to_z w64 (f (of_z w64 a) (of_z w64 b))
 
 -- Two known operands: `/` truncates toward zero and `%` is the remainder that goes with it; both are unknown where the
 -- divisor is 0 or the quotient is outside. Comparisons, `&&` and `||` give 0 or 1.
-unfoldable pub operate : Bool → Operator → ℤ → ℤ → Option ℤ
-operate u Or a b = Some (truth (not (is_zero a) || not (is_zero b)))
-operate u And a b = Some (truth (not (is_zero a) && not (is_zero b)))
-operate u BitOr a b = fit u (by_bits bit_or a b)
-operate u BitXor a b = fit u (by_bits bit_xor a b)
-operate u BitAnd a b = fit u (by_bits bit_and a b)
-operate u Equal a b = Some (truth (same a b))
-operate u NotEqual a b = Some (truth (not (same a b)))
-operate u Less a b = Some (truth (int_lt a b))
-operate u LessEqual a b = Some (truth (int_le a b))
-operate u Greater a b = Some (truth (int_lt b a))
-operate u GreaterEqual a b = Some (truth (int_le b a))
-operate u Plus a b = fit u (a +ℤ b)
-operate u Minus a b = fit u (a -ℤ b)
-operate u Times a b = fit u (a *ℤ b)
-operate u Over a b = if is_zero b then None else fit u (int_div a b)
-operate u Remainder a b = if is_zero b then None else if fits u (int_div a b) then fit u (int_rem a b) else None
-operate u _ a b = None
+unfoldable pub apply_binary_known : Bool → Operator → ℤ → ℤ → Option ℤ
+apply_binary_known u Or a b = Some (truth (not (is_zero a) || not (is_zero b)))
+apply_binary_known u And a b = Some (truth (not (is_zero a) && not (is_zero b)))
+apply_binary_known u BitOr a b = fit u (by_bits bit_or a b)
+apply_binary_known u BitXor a b = fit u (by_bits bit_xor a b)
+apply_binary_known u BitAnd a b = fit u (by_bits bit_and a b)
+apply_binary_known u Equal a b = Some (truth (equal_numbers a b))
+apply_binary_known u NotEqual a b = Some (truth (not (equal_numbers a b)))
+apply_binary_known u Less a b = Some (truth (int_lt a b))
+apply_binary_known u LessEqual a b = Some (truth (int_le a b))
+apply_binary_known u Greater a b = Some (truth (int_lt b a))
+apply_binary_known u GreaterEqual a b = Some (truth (int_le b a))
+apply_binary_known u Plus a b = fit u (a +ℤ b)
+apply_binary_known u Minus a b = fit u (a -ℤ b)
+apply_binary_known u Times a b = fit u (a *ℤ b)
+apply_binary_known u Over a b = if is_zero b then None else fit u (int_div a b)
+apply_binary_known u Remainder a b = if is_zero b then None else if fits u (int_div a b) then fit u (int_rem a b) else None
+apply_binary_known u _ a b = None
 
 -- one known operand decides `&&` where it is 0, and `||` where it isn't
-abbrev pub decided : Operator → ℤ → Option ℤ
-decided And a = if is_zero a then Some (pos 0) else None
-decided Or a = if is_zero a then None else Some (pos 1)
-decided _ a = None
+abbrev pub short_circuit : Operator → ℤ → Option ℤ
+short_circuit And a = if is_zero a then Some (pos 0) else None
+short_circuit Or a = if is_zero a then None else Some (pos 1)
+short_circuit _ a = None
 
 -- but not under `strict`
-abbrev pub decides : Bool → Operator → ℤ → Option ℤ
-decides true o a = None
-decides false o a = decided o a
+abbrev pub short_circuits : Bool → Operator → ℤ → Option ℤ
+short_circuits true o a = None
+short_circuits false o a = short_circuit o a
 
 -- two operands, known or not
-abbrev pub combine : Bool → Bool → Operator → Option ℤ → Option ℤ → Option ℤ
-combine strict u o (Some a) (Some b) = operate u o a b
-combine strict u o (Some a) None = decides strict o a
-combine strict u o None (Some b) = decides strict o b
-combine strict u o None None = None
+abbrev pub apply_binary : Bool → Bool → Operator → Option ℤ → Option ℤ → Option ℤ
+apply_binary strict u o (Some a) (Some b) = apply_binary_known u o a b
+apply_binary strict u o (Some a) None = short_circuits strict o a
+apply_binary strict u o None (Some b) = short_circuits strict o b
+apply_binary strict u o None None = None
 
 -- an operator before a known operand
-unfoldable pub change : Bool → Operator → ℤ → Option ℤ
-change u Not a = Some (truth (is_zero a))
-change u Minus a = fit u (neg_ℤ a)
-change u Complement a = fit u (neg_ℤ a -ℤ pos 1)
-change u _ a = None
+unfoldable pub apply_unary_known : Bool → Operator → ℤ → Option ℤ
+apply_unary_known u Not a = Some (truth (is_zero a))
+apply_unary_known u Minus a = fit u (neg_ℤ a)
+apply_unary_known u Complement a = fit u (neg_ℤ a -ℤ pos 1)
+apply_unary_known u _ a = None
 
 -- an operator before an operand, known or not
-abbrev pub alter : Bool → Operator → Option ℤ → Option ℤ
-alter u o (Some a) = change u o a
-alter u o None = None
+abbrev pub apply_unary : Bool → Operator → Option ℤ → Option ℤ
+apply_unary u o (Some a) = apply_unary_known u o a
+apply_unary u o None = None
 
 -- a constant above 2^63-1 is unknown
 abbrev pub limited : ℕ → Option ℤ
@@ -144,7 +144,7 @@ name_value_by u end (Some e) = defined_name_value u end e.value
 
 -- the value of a name as an operand
 unfoldable pub name_value : List Argument → Bool → List ℕ → Option ℤ
-name_value table u n = name_value_by u (end_of table n) (entry_in table n)
+name_value table u n = name_value_by u (resolve table n) (entry_in table n)
 
 -- there is an end, and its constant has a `u`
 abbrev pub end_has_u : Option (List ℕ) → Bool
@@ -153,7 +153,7 @@ end_has_u (Some text) = text_has_u text
 
 -- the constant at which the name's value ends has a `u`
 unfoldable pub name_has_u : List Argument → List ℕ → Bool
-name_has_u table n = end_has_u (end_of table n)
+name_has_u table n = end_has_u (resolve table n)
 
 -- 1 where the entry defines its name, and 0 where it undefines it
 abbrev pub defined_value_by : Option Entry → Option ℤ
@@ -170,8 +170,8 @@ module _ (table : List Argument) where
   number_of strict u (constant w) = constant_value w
   number_of strict u (named n arguments) = name_value table u n
   number_of strict u (is_defined n parentheses) = defined_value table n
-  number_of strict u (unary o a) = alter u o (number_of strict u a)
-  number_of strict u (binary o a b) = combine strict u o (number_of strict u a) (number_of strict u b)
+  number_of strict u (unary o a) = apply_unary u o (number_of strict u a)
+  number_of strict u (binary o a b) = apply_binary strict u o (number_of strict u a) (number_of strict u b)
   number_of strict u (parens a) = number_of strict u a
 
   -- a `u` stands in the expression

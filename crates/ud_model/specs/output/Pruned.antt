@@ -2,11 +2,11 @@
 -- unifdef(1): a section whose directives all go gives way to the nodes of its kept group, if there is one; each other one
 -- keeps its kept groups in order, with edited directives; and so it is inside.
 --
---   Edited L        a line of the output: the line that it comes from, and what became of that
---   Left L          what is left of a section's groups
---   pruned ns       the pruned nodes
---   printed xs ms   the lines that are left of these with these marks: removed ones go, an edited one is another directive
---   IsUndecided ns  each condition but that of an `#else` is unknown
+--   Edited L         a line of the output: the line that it comes from, and what became of that
+--   KeptGroups L     what is left of a section's groups
+--   pruned ns        the pruned nodes
+--   printed xs ms    the lines that are left of these with these marks: removed ones go, an edited one is another directive
+--   IsUndecided ns   each condition but that of an `#else` is unknown
 --
 -- The first true group is the last one that is kept, and the kept groups are those that aren't false. So the directives
 -- all go if no group is kept, or the first kept one is true.
@@ -27,15 +27,15 @@ pub record Edited (L : Type 0) : Type 0 where
   pub verdict : Verdict
 
 -- what is left of a section's groups
-pub data Left (L : Type 0) : Type 0 where
+pub data KeptGroups (L : Type 0) : Type 0 where
   -- no group is kept
-  none_kept : Left L
+  none_kept : KeptGroups L
   -- the first kept group is true: its nodes
-  replaced : Nodes (Edited L) → Left L
+  replaced : Nodes (Edited L) → KeptGroups L
   -- the kept groups, of which none is true
-  kept_groups : Elifs (Edited L) → Left L
+  kept_groups : Elifs (Edited L) → KeptGroups L
   -- the kept groups, of which the last one is true and stands under an `#else`; and the opener after it, if there is one
-  ended : Elifs (Edited L) → Edited L → Nodes (Edited L) → Option (Edited L) → Left L
+  ended : Elifs (Edited L) → Edited L → Nodes (Edited L) → Option (Edited L) → KeptGroups L
 
 -- these nodes, and then those
 abbrev pub then_nodes : {L : Type 0} → Nodes L → Nodes L → Nodes L
@@ -53,7 +53,7 @@ module _ {L : Type 0} where
   edited_opener v o = record { line = edited v o.line; cond = o.cond; ignoring = o.ignoring }
 
   -- one group more after what is left: its opener, the opener's condition, and its pruned nodes
-  abbrev pub with_group : Left L → Part → Opener L → Cond → Nodes (Edited L) → Left L
+  abbrev pub with_group : KeptGroups L → Part → Opener L → Cond → Nodes (Edited L) → KeptGroups L
   with_group none_kept part o Yes ns = replaced ns
   with_group none_kept part o No ns = none_kept
   with_group none_kept part o Unknown ns = kept_groups (first (edited_opener (first_kept_verdict part) o) ns)
@@ -65,7 +65,7 @@ module _ {L : Type 0} where
   with_group (ended es l ms (Some k)) part o c ns = ended es l ms (Some k)
 
   -- the group of an `#else` more
-  abbrev pub with_else : Left L → L → Nodes (Edited L) → Left L
+  abbrev pub with_else : KeptGroups L → L → Nodes (Edited L) → KeptGroups L
   with_else none_kept l ns = replaced ns
   with_else (replaced ms) l ns = replaced ms
   with_else (kept_groups es) l ns = ended es (edited Keep l) ns None
@@ -73,44 +73,44 @@ module _ {L : Type 0} where
   with_else (ended es k ms (Some j)) l ns = ended es k ms (Some j)
 
   -- nodes, and then what is left of a section with this `#endif`
-  abbrev pub then_left : Nodes (Edited L) → Left L → L → Nodes (Edited L)
-  then_left ns none_kept e = ns
-  then_left ns (replaced ms) e = then_nodes ns ms
-  then_left ns (kept_groups es) e = section ns (conditional es) (edited Keep e)
-  then_left ns (ended es l ms None) e = section ns (otherwise es l ms) (edited Keep e)
-  then_left ns (ended es l ms (Some k)) e = section ns (otherwise es l ms) k
+  abbrev pub then_kept : Nodes (Edited L) → KeptGroups L → L → Nodes (Edited L)
+  then_kept ns none_kept e = ns
+  then_kept ns (replaced ms) e = then_nodes ns ms
+  then_kept ns (kept_groups es) e = section ns (conditional es) (edited Keep e)
+  then_kept ns (ended es l ms None) e = section ns (otherwise es l ms) (edited Keep e)
+  then_kept ns (ended es l ms (Some k)) e = section ns (otherwise es l ms) k
 
   abbrev mutual
     -- the pruned nodes
     pub pruned : Nodes L → Nodes (Edited L)
     pruned nothing = nothing
     pruned (text ns l) = text (pruned ns) (edited Keep l)
-    pruned (section ns gs e) = then_left (pruned ns) (left_of_groups gs) e
+    pruned (section ns gs e) = then_kept (pruned ns) (kept_groups_of gs) e
 
     -- what is left of a section's groups
-    pub left_of_groups : Groups L → Left L
-    left_of_groups (conditional es) = left_of_elifs es
-    left_of_groups (otherwise es l ns) = with_else (left_of_elifs es) l (pruned ns)
+    pub kept_groups_of : Groups L → KeptGroups L
+    kept_groups_of (conditional es) = kept_elifs_of es
+    kept_groups_of (otherwise es l ns) = with_else (kept_elifs_of es) l (pruned ns)
 
     -- what is left of the groups with a condition
-    pub left_of_elifs : Elifs L → Left L
-    left_of_elifs (first o ns) = with_group none_kept an_if o o.cond (pruned ns)
-    left_of_elifs (elif es o ns) = with_group (left_of_elifs es) an_elif o o.cond (pruned ns)
+    pub kept_elifs_of : Elifs L → KeptGroups L
+    kept_elifs_of (first o ns) = with_group none_kept an_if o o.cond (pruned ns)
+    kept_elifs_of (elif es o ns) = with_group (kept_elifs_of es) an_elif o o.cond (pruned ns)
 
   -- a line as an item of the output, if it is left: an edited directive is another one
-  abbrev pub left_item : Verdict → Item L → List (Item (Edited L))
-  left_item Remove x = []
-  left_item ToIf (elif_line o) = if_line (edited_opener ToIf o) ∷ []
-  left_item ToElse (elif_line o) = else_line (edited ToElse o.line) ∷ []
-  left_item ToEndif (elif_line o) = endif_line (edited ToEndif o.line) ∷ []
-  left_item ToEndif (else_line l) = endif_line (edited ToEndif l) ∷ []
-  left_item v x = item_with (edited v) x ∷ []
+  abbrev pub kept_line : Verdict → Item L → List (Item (Edited L))
+  kept_line Remove x = []
+  kept_line ToIf (elif_line o) = if_line (edited_opener ToIf o) ∷ []
+  kept_line ToElse (elif_line o) = else_line (edited ToElse o.line) ∷ []
+  kept_line ToEndif (elif_line o) = endif_line (edited ToEndif o.line) ∷ []
+  kept_line ToEndif (else_line l) = endif_line (edited ToEndif l) ∷ []
+  kept_line v x = item_with (edited v) x ∷ []
 
   -- the lines that are left of these with these marks
   abbrev pub printed : List (Item L) → List Mark → List (Item (Edited L))
   printed [] ms = []
   printed (x ∷ xs) [] = []
-  printed (x ∷ xs) (m ∷ ms) = left_item m.verdict x ++ printed xs ms
+  printed (x ∷ xs) (m ∷ ms) = kept_line m.verdict x ++ printed xs ms
 
   abbrev mutual
     -- each condition but that of an `#else` is unknown

@@ -19,7 +19,7 @@ use Rattle.ud_model.specs.conditions.Table.{Argument}
 use Rattle.ud_model.specs.sections.Tree.{Item, Nodes, Tree, closed, nothing, lines}
 use Rattle.ud_model.specs.sections.Items.{Options, line_of, next_item}
 use Rattle.ud_model.specs.answer.Printing.{piece_by, keyword_in}
-use Rattle.ud_model.specs.answer.Runs.{Outcome, Runs}
+use Rattle.ud_model.specs.answer.Outcomes.{Outcome, HasOutcome}
 use Rattle.ud_model.specs.output.Worlds.{World, openers}
 use Rattle.ud_model.specs.output.Pruned.{Edited, pruned}
 use Rattle.ud_model.specs.declared.settings.Listing.TheVariants.{Off}
@@ -53,7 +53,7 @@ pub record IsTreeOf (o : Options) (text : List ℕ) (t : Tree Reading) : Type 0 
 -- a run without a fault, under plain options
 pub record IsClean (o : Options) (input : List ℕ) (r : Outcome) : Type 0 where
   pub plain : IsPlain o
-  pub runs : Runs o input r
+  pub runs : HasOutcome o input r
   pub faultless : r.fault ≡ None
 
 -- such a run: the nodes of its input before it, and those of its output after it

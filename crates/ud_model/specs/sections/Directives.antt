@@ -10,7 +10,7 @@
 use Rattle.std.specs.Prelude.{ℕ, ◌-◌, ◌==◌, List, [], ◌∷◌, length, Bool, true, false, not, ◌&&◌, ◌||◌, if◌then◌else◌, Option, Some, None, bytes_eq, codes}
 use Rattle.std.specs.List.{list_any, starts_with}
 use Rattle.std.specs.Prelude.{nat_eq}
-use Rattle.ud_model.specs.text.Bytes.{past_white, word_in_front, past_word, are_word_bytes}
+use Rattle.ud_model.specs.text.Bytes.{skip_white, leading_word, skip_word, are_word_bytes}
 use Rattle.ud_model.specs.text.Scans.{Scan}
 use Rattle.ud_model.specs.declared.kind.Kind.{Kind}
 use Rattle.ud_model.specs.declared.kind.Kind.TheVariants.{If, Ifdef, Ifndef, Elif, Elifdef, Elifndef, Else, Endif}
@@ -82,12 +82,12 @@ abbrev pub kind_of : List ℕ → Option Kind
 kind_of word = kind_among keywords word
 
 -- what follows the `#` that comes first but for white space, if one does
-abbrev pub past_sign_of : List ℕ → Option (List ℕ)
-past_sign_of [] = None
-past_sign_of (b ∷ bs) = if b == 35 then Some bs else None
+abbrev pub skip_hash : List ℕ → Option (List ℕ)
+skip_hash [] = None
+skip_hash (b ∷ bs) = if b == 35 then Some bs else None
 
-abbrev pub past_sign : List ℕ → Option (List ℕ)
-past_sign masked = past_sign_of (past_white masked)
+abbrev pub skip_hash_if_fresh : List ℕ → Option (List ℕ)
+skip_hash_if_fresh masked = skip_hash (skip_white masked)
 
 abbrev pub is_outside : CommentAt → Bool
 is_outside Outside = true
@@ -100,46 +100,46 @@ is_in_line InLine = true
 is_in_line InBlock = false
 
 -- a continuation cuts the line outside comments
-abbrev pub is_cut_off : Scan → Bool
-is_cut_off scan = scan.spliced && is_outside scan.comment
+abbrev pub is_continued_outside_comment : Scan → Bool
+is_continued_outside_comment scan = scan.spliced && is_outside scan.comment
 
 -- this word is a front of a keyword, or a whole one
-abbrev pub begins_keyword : List ℕ → Bool
-begins_keyword word = list_any (λ (row : List ℕ × Kind). starts_with nat_eq row.0 word) keywords
+abbrev pub is_prefix_of_keyword : List ℕ → Bool
+is_prefix_of_keyword word = list_any (λ (row : List ℕ × Kind). starts_with nat_eq row.0 word) keywords
 
 -- a nonempty run of word bytes, up to the end, that begins a keyword
-abbrev pub is_keyword_front : List ℕ → Bool
-is_keyword_front [] = false
-is_keyword_front (b ∷ bs) = are_word_bytes (b ∷ bs) && begins_keyword (b ∷ bs)
+abbrev pub is_keyword_prefix : List ℕ → Bool
+is_keyword_prefix [] = false
+is_keyword_prefix (b ∷ bs) = are_word_bytes (b ∷ bs) && is_prefix_of_keyword (b ∷ bs)
 
 -- after the `#`, the white space left out, the keyword can't be known: nothing follows; or the line is cut off and
 -- a single `/` follows, which may begin a comment; or it is cut off within a word that may become a keyword
-abbrev pub leaves_keyword : Scan → List ℕ → Bool
-leaves_keyword scan [] = true
-leaves_keyword scan (b ∷ bs) = is_cut_off scan && (bytes_eq (b ∷ bs) (47 ∷ []) || is_keyword_front (b ∷ bs))
+abbrev pub may_split_keyword : Scan → List ℕ → Bool
+may_split_keyword scan [] = true
+may_split_keyword scan (b ∷ bs) = is_continued_outside_comment scan && (bytes_eq (b ∷ bs) (47 ∷ []) || is_keyword_prefix (b ∷ bs))
 
-abbrev pub has_cut_keyword : Scan → Option (List ℕ) → Bool
-has_cut_keyword scan None = false
-has_cut_keyword scan (Some rest) =
-    scan.fresh && scan.joins_after && not (is_in_line scan.comment) && leaves_keyword scan (past_white rest)
+abbrev pub has_split_keyword : Scan → Option (List ℕ) → Bool
+has_split_keyword scan None = false
+has_split_keyword scan (Some rest) =
+    scan.fresh && scan.joins_after && not (is_in_line scan.comment) && may_split_keyword scan (skip_white rest)
 
 -- the directive whose keyword stands in front of these bytes, which end the masked line
 abbrev pub directive_at : Scan → List ℕ → Option Kind → Content
 directive_at scan rest None = text
 directive_at scan rest (Some kind) = directive (record {
   kind = kind;
-  keyword = record { at = length scan.masked - length rest; len = length (word_in_front rest) };
-  after = past_word rest;
-  broken = is_cut_off scan;
+  keyword = record { at = length scan.masked - length rest; len = length (leading_word rest) };
+  after = skip_word rest;
+  broken = is_continued_outside_comment scan;
 })
 
-abbrev pub found_behind : Scan → Option (List ℕ) → Content
-found_behind scan None = text
-found_behind scan (Some rest) =
-    if scan.fresh then directive_at scan (past_white rest) (kind_of (word_in_front (past_white rest))) else text
+abbrev pub content_after_hash : Scan → Option (List ℕ) → Content
+content_after_hash scan None = text
+content_after_hash scan (Some rest) =
+    if scan.fresh then directive_at scan (skip_white rest) (kind_of (leading_word (skip_white rest))) else text
 
 -- what a scan carries: a directive where the line is fresh and its masked text is white space, `#`, white space, and a
 -- longest run of word bytes that is a keyword
 abbrev pub content_of : Scan → Content
 content_of scan =
-    if has_cut_keyword scan (past_sign scan.masked) then cut_keyword else found_behind scan (past_sign scan.masked)
+    if has_split_keyword scan (skip_hash_if_fresh scan.masked) then cut_keyword else content_after_hash scan (skip_hash_if_fresh scan.masked)

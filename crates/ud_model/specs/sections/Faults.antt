@@ -1,12 +1,12 @@
 -- Faults: which line of a text is faulty, and why.
 -- C11 6.10 (a directive out of its place), C11 5.2.4.1 (limits); unifdef(1), "Obfuscated preprocessor control line".
 --
---   Fault            a fault with its line
---   Case             the ways in which a line is faulty, in the order in which they are looked at
---   Holds xs x c     the line x, after the lines xs, is faulty in this way
---   FaultOf xs x f   f is the line's fault: that of the first case that holds
---   AreSound o xs t  none of these lines is faulty; t is their tree, and each line was read in the mode that the lines before give
---   end_fault xs t   the fault of a text that ends after these lines
+--   Fault                 a fault with its line
+--   Case                  the ways in which a line is faulty, in the order in which they are looked at
+--   Holds xs x c          the line x, after the lines xs, is faulty in this way
+--   FaultOf xs x f        f is the line's fault: that of the first case that holds
+--   AreFaultless o xs t   none of these lines is faulty; t is their tree, and each line was read in the mode that the lines before give
+--   end_fault xs t        the fault of a text that ends after these lines
 --
 -- The verdicts are those of the text up to the line; no later line changes them.
 use Rattle.std.specs.Prelude.{◌≡◌, ℕ, ◌<◌, List, [], ◌∷◌, ◌++◌, length, Bool, true, false, not, ◌&&◌, ◌||◌, IsTrue, Option, Some, None}
@@ -47,7 +47,7 @@ pub data Case : Type 0 where
   -- it opens one section too many
   too_deep : Case
   -- a directive that spans lines would have to be edited or removed
-  spoiled : Case
+  obfuscated_case : Case
 
 -- what comes before a case in their order
 abbrev pub earlier : Case → List Case
@@ -56,10 +56,10 @@ earlier too_long = past_last ∷ []
 earlier cut = past_last ∷ too_long ∷ []
 earlier out_of_place = past_last ∷ too_long ∷ cut ∷ []
 earlier too_deep = past_last ∷ too_long ∷ cut ∷ out_of_place ∷ []
-earlier spoiled = past_last ∷ too_long ∷ cut ∷ out_of_place ∷ too_deep ∷ []
+earlier obfuscated_case = past_last ∷ too_long ∷ cut ∷ out_of_place ∷ too_deep ∷ []
 
 abbrev pub cases : List Case
-cases = past_last ∷ too_long ∷ cut ∷ out_of_place ∷ too_deep ∷ spoiled ∷ []
+cases = past_last ∷ too_long ∷ cut ∷ out_of_place ∷ too_deep ∷ obfuscated_case ∷ []
 
 abbrev pub is_cut : Content → Bool
 is_cut cut_keyword = true
@@ -89,14 +89,14 @@ ends_removed (m ∷ n ∷ ms) = ends_removed (n ∷ ms)
 
 -- a spanning directive whose section lies in a kept place, unless its verdict is Keep or ToIf and, where it joins the
 -- line before, that line isn't removed; `removed` tells that the line before is
-abbrev pub is_spoiled_behind : Bool → Item Reading → Mark → Bool
-is_spoiled_behind removed x m =
+abbrev pub is_obfuscated_after : Bool → Item Reading → Mark → Bool
+is_obfuscated_after removed x m =
     is_directive x && is_spanning (reading_of x).scan && m.kept
     && (not (keeps_rest m.verdict) || ((reading_of x).scan.joins_before && removed))
 
 -- the same, `before` being the marks of the lines before
-abbrev pub is_spoiled : List Mark → Item Reading → Mark → Bool
-is_spoiled before x m = is_spoiled_behind (ends_removed before) x m
+abbrev pub is_obfuscated : List Mark → Item Reading → Mark → Bool
+is_obfuscated before x m = is_obfuscated_after (ends_removed before) x m
 
 -- the line x has these marks before it, and this one
 abbrev pub MarksWith : List (Item Reading) → Item Reading → List Mark → Mark → Type 0
@@ -108,7 +108,7 @@ Holds xs x too_long = LINE_BYTES < length (text_of (line_of x))
 Holds xs x cut = IsTrue (is_cut (content_of (reading_of x).scan))
 Holds xs x out_of_place = HasTree xs × ¬ (HasTree (xs ++ x ∷ []))
 Holds xs x too_deep = (t : Tree Reading) × (lines t ≡ xs ++ x ∷ []) × (OPEN_SECTIONS < depth t)
-Holds xs x spoiled = (before : List Mark) × (m : Mark) × MarksWith xs x before m × IsTrue (is_spoiled before x m)
+Holds xs x obfuscated_case = (before : List Mark) × (m : Mark) × MarksWith xs x before m × IsTrue (is_obfuscated before x m)
 
 -- none of these cases holds
 abbrev pub NoneHolds : List (Item Reading) → Item Reading → List Case → Type 0
@@ -116,21 +116,21 @@ NoneHolds xs x [] = Unit {0}
 NoneHolds xs x (c ∷ cs) = (¬ Holds xs x c) × NoneHolds xs x cs
 
 -- a directive out of its place has a fault of its own name; text and `#if` are nowhere out of place
-abbrev pub misplaced : Item Reading → Option Fault
-misplaced (text_line r) = None
-misplaced (if_line o) = None
-misplaced (elif_line o) = Some (inappropriate_elif o.line.line.number)
-misplaced (else_line r) = Some (inappropriate_else r.line.number)
-misplaced (endif_line r) = Some (inappropriate_endif r.line.number)
+abbrev pub misplaced_fault : Item Reading → Option Fault
+misplaced_fault (text_line r) = None
+misplaced_fault (if_line o) = None
+misplaced_fault (elif_line o) = Some (inappropriate_elif o.line.line.number)
+misplaced_fault (else_line r) = Some (inappropriate_else r.line.number)
+misplaced_fault (endif_line r) = Some (inappropriate_endif r.line.number)
 
 -- the fault that a case gives to a line
 abbrev pub fault_in : Item Reading → Case → Option Fault
 fault_in x past_last = Some (too_many_lines (line_of x).number)
 fault_in x too_long = Some (line_too_long (line_of x).number)
 fault_in x cut = Some (obfuscated (line_of x).number)
-fault_in x out_of_place = misplaced x
+fault_in x out_of_place = misplaced_fault x
 fault_in x too_deep = Some (too_many_levels (line_of x).number)
-fault_in x spoiled = Some (obfuscated (line_of x).number)
+fault_in x obfuscated_case = Some (obfuscated (line_of x).number)
 
 -- the first case that holds gives the line its fault
 pub record FaultOf (xs : List (Item Reading)) (x : Item Reading) (f : Fault) : Type 0 where
@@ -140,11 +140,11 @@ pub record FaultOf (xs : List (Item Reading)) (x : Item Reading) (f : Fault) : T
   pub named : fault_in x which ≡ Some f
 
 -- lines that were taken one by one without a fault, and their tree
-pub data AreSound (o : Options) : List (Item Reading) → Tree Reading → Type 0 where
-  no_lines : AreSound o [] (closed nothing)
-  one_more : (xs : List (Item Reading)) (t : Tree Reading) → AreSound o xs t → (l : Line) (u : Tree Reading) →
+pub data AreFaultless (o : Options) : List (Item Reading) → Tree Reading → Type 0 where
+  no_lines : AreFaultless o [] (closed nothing)
+  one_more : (xs : List (Item Reading)) (t : Tree Reading) → AreFaultless o xs t → (l : Line) (u : Tree Reading) →
       lines u ≡ xs ++ next_item o xs t l ∷ [] → NoneHolds xs (next_item o xs t l) cases →
-      AreSound o (xs ++ next_item o xs t l ∷ []) u
+      AreFaultless o (xs ++ next_item o xs t l ∷ []) u
 
 -- the number of the last line, 0 if there is none
 abbrev pub last_number : List (Item Reading) → ℕ

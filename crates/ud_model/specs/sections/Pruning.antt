@@ -1,13 +1,13 @@
 -- Pruning: which lines of a tree are kept, and how the directives are edited.
 -- unifdef(1), with edits that keep the output well nested.
 --
---   Mark                       a line's verdict, and whether the line, or of a directive its section, lies in a kept place
---   Stand                      where an opener stands in its section
---   stand_of all before c      the stand of an opener
---   verdict_at stand part c    the table of verdicts, for an opener in a section of a kept place
---   opener_verdict all before part c    the opener's verdict by this table
---   endif_verdict all          the verdict of the section's `#endif`
---   marks t                    the marks of a text's lines, in order
+--   Mark                               a line's verdict, and whether the line, or of a directive its section, lies in a kept place
+--   OpenerPosition                     where an opener stands in its section
+--   opener_position all before c       the stand of an opener
+--   verdict_in_position stand part c   the table of verdicts, for an opener in a section of a kept place
+--   opener_verdict all before part c   the opener's verdict by this table
+--   endif_verdict all                  the verdict of the section's `#endif`
+--   marks t                            the marks of a text's lines, in order
 --
 -- `all` are the conditions of the section's groups, `before` those of the groups before the opener's own, and `c` is its own.
 -- An `#else` counts as true. The first true group is the last one that is kept; the kept groups are those that aren't
@@ -66,28 +66,28 @@ abbrev pub is_kept : List Cond → Cond → Bool
 is_kept before c = not (is_false c) && not (any_true before)
 
 -- where an opener stands in its section
-pub data Stand : Type 0 where
+pub data OpenerPosition : Type 0 where
   -- the section gives way
-  given_way : Stand
+  given_way : OpenerPosition
   -- its group is the first one that is kept
-  first_kept : Stand
+  first_kept : OpenerPosition
   -- another opener before that of the first true group
-  before_true : Stand
+  before_true : OpenerPosition
   -- its group is the first true one
-  the_true : Stand
+  the_true : OpenerPosition
   -- the next opener after that of the first true group, which is then an `#elif`
-  next_after : Stand
+  next_after : OpenerPosition
   -- an opener after that
-  further_on : Stand
+  further_on : OpenerPosition
 
 -- the stand of an opener after the first kept one, if no group before it is true
-abbrev pub up_to_true : Cond → Stand
+abbrev pub up_to_true : Cond → OpenerPosition
 up_to_true Yes = the_true
 up_to_true No = before_true
 up_to_true Unknown = before_true
 
-abbrev pub stand_of : List Cond → List Cond → Cond → Stand
-stand_of all before c =
+abbrev pub opener_position : List Cond → List Cond → Cond → OpenerPosition
+opener_position all before c =
     if gives_way all then given_way
     else if all_false before && not (is_false c) then first_kept
     else if not (any_true before) then up_to_true c
@@ -96,34 +96,34 @@ stand_of all before c =
 
 -- The table of verdicts, for an opener. Three rows are there so that it is total, and never count: a first true group of an
 -- `#if`, a true group before the first true one, and a first kept `#else`.
-abbrev pub verdict_at : Stand → Part → Cond → Verdict
-verdict_at given_way part c = Remove
-verdict_at first_kept an_if c = Keep
-verdict_at first_kept an_elif c = ToIf
-verdict_at first_kept an_else c = Keep
-verdict_at before_true part Unknown = Keep
-verdict_at before_true part No = Remove
-verdict_at before_true part Yes = Keep
-verdict_at the_true an_else c = Keep
-verdict_at the_true an_elif c = ToElse
-verdict_at the_true an_if c = Keep
-verdict_at next_after part c = ToEndif
-verdict_at further_on part c = Remove
+abbrev pub verdict_in_position : OpenerPosition → Part → Cond → Verdict
+verdict_in_position given_way part c = Remove
+verdict_in_position first_kept an_if c = Keep
+verdict_in_position first_kept an_elif c = ToIf
+verdict_in_position first_kept an_else c = Keep
+verdict_in_position before_true part Unknown = Keep
+verdict_in_position before_true part No = Remove
+verdict_in_position before_true part Yes = Keep
+verdict_in_position the_true an_else c = Keep
+verdict_in_position the_true an_elif c = ToElse
+verdict_in_position the_true an_if c = Keep
+verdict_in_position next_after part c = ToEndif
+verdict_in_position further_on part c = Remove
 
 abbrev pub opener_verdict : List Cond → List Cond → Part → Cond → Verdict
-opener_verdict all before part c = verdict_at (stand_of all before c) part c
+opener_verdict all before part c = verdict_in_position (opener_position all before c) part c
 
 -- the verdict of the first kept opener, which goes by how its group is opened alone
 abbrev pub first_kept_verdict : Part → Verdict
-first_kept_verdict part = verdict_at first_kept part Unknown
+first_kept_verdict part = verdict_in_position first_kept part Unknown
 
 -- the verdict of the opener of the first true group, if a group before it is kept
 abbrev pub first_true_verdict : Part → Verdict
-first_true_verdict part = verdict_at the_true part Yes
+first_true_verdict part = verdict_in_position the_true part Yes
 
 -- the verdict of an opener after the first kept one, if no group before it is true
 abbrev pub later_verdict : Part → Cond → Verdict
-later_verdict part c = verdict_at (up_to_true c) part c
+later_verdict part c = verdict_in_position (up_to_true c) part c
 
 -- the verdict of the `#endif`: it goes if the section gives way, and if an opener after the first true group became the
 -- `#endif`; else it stays

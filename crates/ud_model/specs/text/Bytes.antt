@@ -1,19 +1,19 @@
 -- Bytes with a meaning. A byte is a number below 256, a text a list of bytes.
 -- C11 5.2.1 and 6.4.2.1, in ASCII.
 --
---   is_white b          b is white space within a line: space, tab, vertical tab, form feed, carriage return
---   is_quote b          b is `"` or `'`
---   is_mark b           b is a byte at which a comment, a literal or a splice may begin or end
---   is_word_byte b      b is an ASCII letter, a digit or an underscore
---   is_identifier t     t is a nonempty run of word bytes that doesn't start with a digit
---   past_white t        t without the white space in front
---   word_in_front t     the longest run of word bytes in front of t; past_word t is what follows it
+--   is_white b        b is white space within a line: space, tab, vertical tab, form feed, carriage return
+--   is_quote b        b is `"` or `'`
+--   is_mark b         b is a byte at which a comment, a literal or a splice may begin or end
+--   is_word_byte b    b is an ASCII letter, a digit or an underscore
+--   is_identifier t   t is a nonempty run of word bytes that doesn't start with a digit
+--   skip_white t      t without the white space in front
+--   leading_word t    the longest run of word bytes in front of t; skip_word t is what follows it
 --
 -- Bytes from 128 on and NUL are ordinary bytes that belong to no word.
 use Rattle.std.specs.Prelude.{ℕ, List, [], ◌∷◌, ◌==◌, nat_le, Bool, true, false, not, ◌&&◌, ◌||◌, if◌then◌else◌}
 
-abbrev pub line_feed : ℕ
-line_feed = 10
+abbrev pub newline : ℕ
+newline = 10
 
 abbrev pub carriage_return : ℕ
 carriage_return = 13
@@ -75,15 +75,15 @@ is_identifier [] = false
 is_identifier (b ∷ bs) = not (is_digit b) && are_word_bytes (b ∷ bs)
 
 -- a text without the white space that it starts with
-abbrev pub past_white : List ℕ → List ℕ
-past_white [] = []
-past_white (b ∷ bs) = if is_white b then past_white bs else b ∷ bs
+abbrev pub skip_white : List ℕ → List ℕ
+skip_white [] = []
+skip_white (b ∷ bs) = if is_white b then skip_white bs else b ∷ bs
 
 -- the word bytes that a text starts with, and what follows them
-abbrev pub word_in_front : List ℕ → List ℕ
-word_in_front [] = []
-word_in_front (b ∷ bs) = if is_word_byte b then b ∷ word_in_front bs else []
+abbrev pub leading_word : List ℕ → List ℕ
+leading_word [] = []
+leading_word (b ∷ bs) = if is_word_byte b then b ∷ leading_word bs else []
 
-abbrev pub past_word : List ℕ → List ℕ
-past_word [] = []
-past_word (b ∷ bs) = if is_word_byte b then past_word bs else b ∷ bs
+abbrev pub skip_word : List ℕ → List ℕ
+skip_word [] = []
+skip_word (b ∷ bs) = if is_word_byte b then skip_word bs else b ∷ bs

@@ -1,13 +1,13 @@
 -- Scanning: the scan of a line after the lines before it.
 -- C11 5.1.1.2, phases 2 and 3, and 6.4.9; unifdef(1), `-t`.
 --
---   joins lines                 the last of the lines joins the one after it, by a splice or a comment
---   comment_at spliced kind     what is unclosed at the end of a line that ends in such a piece
---   scan_behind run line        the scan of a line in C mode after a run of lines in C mode
+--   joins lines               the last of the lines joins the one after it, by a splice or a comment
+--   comment_at spliced kind   what is unclosed at the end of a line that ends in such a piece
+--   scan_after_run run line   the scan of a line in C mode after a run of lines in C mode
 --   scan_after before mode line the scan of a line that is read in this mode after these readings
---   next_reading before mode l  that line with its mode and its scan
---   readings_of lines           the readings of these lines, each in its mode
---   own_cells run line          the cells of a line's content after a run of lines in C mode
+--   next_reading before mode l   that line with its mode and its scan
+--   readings_of lines            the readings of these lines, each in its mode
+--   content_cells run line       the cells of a line's content after a run of lines in C mode
 --
 -- Lines after the line never count. A `/` before a splice is a single byte as long as the next line isn't read, and
 -- may turn out to begin a comment when it is.
@@ -19,15 +19,15 @@ use Rattle.std.specs.List.{list_all}
 use Rattle.ud_model.specs.text.Bytes.{is_white}
 use Rattle.ud_model.specs.text.Lines.{Line}
 use Rattle.ud_model.specs.text.Scans.{Scan, Reading, plain_scan}
-use Rattle.ud_model.specs.text.Splicing.{is_spliced, content, share, joined, run_of, last_is_spliced}
-use Rattle.ud_model.specs.text.Pieces.{PieceKind, block_comment, line_comment, literal, single, Cell, cut, shown, open_line, kind_at_end}
+use Rattle.ud_model.specs.text.Splicing.{is_spliced, content, spliced_part, spliced_text, c_run_of, last_is_spliced}
+use Rattle.ud_model.specs.text.Lexemes.{LexemeKind, block_comment, line_comment, literal, single, Cell, lex, shown, open_line, kind_at_end}
 use Rattle.ud_model.specs.declared.kind.Mode.{Mode}
 use Rattle.ud_model.specs.declared.kind.Mode.TheVariants.{C, Plain}
 use Rattle.ud_model.specs.declared.kind.CommentAt.{CommentAt}
 use Rattle.ud_model.specs.declared.kind.CommentAt.TheVariants.{Outside, InLine, InBlock}
 
 -- the piece is a block comment
-abbrev pub is_block : PieceKind → Bool
+abbrev pub is_block : LexemeKind → Bool
 is_block block_comment = true
 is_block line_comment = false
 is_block literal = false
@@ -35,10 +35,10 @@ is_block single = false
 
 -- the last of the lines joins the one after it, by a splice or a comment
 unfoldable pub joins : List Line → Bool
-joins lines = last_is_spliced lines || is_block (kind_at_end (joined lines))
+joins lines = last_is_spliced lines || is_block (kind_at_end (spliced_text lines))
 
 -- what is unclosed: a line comment goes on only if a splice carries it
-abbrev pub comment_at : Bool → PieceKind → CommentAt
+abbrev pub comment_at : Bool → LexemeKind → CommentAt
 comment_at spliced block_comment = InBlock
 comment_at spliced line_comment = if spliced then InLine else Outside
 comment_at spliced literal = Outside
@@ -49,24 +49,24 @@ abbrev pub is_blank : List Cell → Bool
 is_blank cells = list_all (λ c. is_white (shown c)) cells
 
 -- the cells of a line's content after a run of lines in C mode
-abbrev pub own_cells : List Line → Line → List Cell
-own_cells run line = take (length (content line)) (drop (length (joined run)) (cut (joined run ++ share line)))
+abbrev pub content_cells : List Line → Line → List Cell
+content_cells run line = take (length (content line)) (drop (length (spliced_text run)) (lex (spliced_text run ++ spliced_part line)))
 
 -- the scan of a line in C mode after a run of lines in C mode
-unfoldable pub scan_behind : List Line → Line → Scan
-scan_behind run line =
+unfoldable pub scan_after_run : List Line → Line → Scan
+scan_after_run run line =
     record {
-      masked = map shown (own_cells run line);
-      fresh = is_blank (open_line [] (take (length (joined run)) (cut (joined run ++ share line))));
+      masked = map shown (content_cells run line);
+      fresh = is_blank (open_line [] (take (length (spliced_text run)) (lex (spliced_text run ++ spliced_part line))));
       joins_before = joins run;
       joins_after = joins (run ++ line ∷ []);
       spliced = is_spliced line;
-      comment = comment_at (is_spliced line) (kind_at_end (joined run ++ share line));
+      comment = comment_at (is_spliced line) (kind_at_end (spliced_text run ++ spliced_part line));
     }
 
 -- the scan of a line that is read in this mode after these readings
 abbrev pub scan_after : List Reading → Mode → Line → Scan
-scan_after before C line = scan_behind (run_of before) line
+scan_after before C line = scan_after_run (c_run_of before) line
 scan_after before Plain line = plain_scan line
 
 -- a line as it is read in this mode after these readings

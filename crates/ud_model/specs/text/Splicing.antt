@@ -1,19 +1,19 @@
 -- Splicing: the text that lines read in C mode make when they are joined.
 -- C11 5.1.1.2, phase 2.
 --
---   is_spliced line          the line ends in a backslash that deletes its ending
---   content line             its body without a splice's backslash
---   share line               what the line puts into the joined text
---   joined lines             the joined text
---   run_of readings          the lines in C mode after the last one in plain mode
---   last_is_spliced lines    the last of the lines is spliced
+--   is_spliced line         the line ends in a backslash that deletes its ending
+--   content line            its body without a splice's backslash
+--   spliced_part line       what the line puts into the joined text
+--   spliced_text lines      the joined text
+--   c_run_of readings       the lines in C mode after the last one in plain mode
+--   last_is_spliced lines   the last of the lines is spliced
 --
 -- A line counts by its body and its ending alone, never by its number.
 --
 -- Example: the lines `a\` and `b`, each with a line feed, make the text `ab` and one line feed.
 use Rattle.std.specs.Prelude.{ℕ, ◌-◌, ◌==◌, nat_eq, List, [], ◌∷◌, ◌++◌, length, take, Bool, false, not, ◌&&◌, ◌||◌, if◌then◌else◌}
 use Rattle.std.specs.List.{flat_map, ends_with}
-use Rattle.ud_model.specs.text.Bytes.{backslash, line_feed}
+use Rattle.ud_model.specs.text.Bytes.{backslash, newline}
 use Rattle.ud_model.specs.text.Lines.{Line}
 use Rattle.ud_model.specs.text.Scans.{Reading}
 use Rattle.ud_model.specs.declared.kind.Mode.{Mode}
@@ -36,30 +36,30 @@ abbrev pub stays_open : Line → Bool
 stays_open line = is_spliced line || is_empty line.ending
 
 -- the new-line that it puts there
-abbrev pub closing : Line → List ℕ
-closing line = if stays_open line then [] else line_feed ∷ []
+abbrev pub newline_of : Line → List ℕ
+newline_of line = if stays_open line then [] else newline ∷ []
 
 -- what the line puts into the joined text
-abbrev pub share : Line → List ℕ
-share line = content line ++ closing line
+abbrev pub spliced_part : Line → List ℕ
+spliced_part line = content line ++ newline_of line
 
 -- the joined text of lines
-abbrev pub joined : List Line → List ℕ
-joined lines = flat_map share lines
+abbrev pub spliced_text : List Line → List ℕ
+spliced_text lines = flat_map spliced_part lines
 
 -- the run after a line of this mode, where run stands before it
-abbrev pub extended : List Line → Mode → Line → List Line
-extended run C line = run ++ line ∷ []
-extended run Plain line = []
+abbrev pub extended_run : List Line → Mode → Line → List Line
+extended_run run C line = run ++ line ∷ []
+extended_run run Plain line = []
 
 -- the run after these readings, where run stands before them
-abbrev pub run_from : List Line → List Reading → List Line
-run_from run [] = run
-run_from run (r ∷ readings) = run_from (extended run r.mode r.line) readings
+abbrev pub c_run_from : List Line → List Reading → List Line
+c_run_from run [] = run
+c_run_from run (r ∷ readings) = c_run_from (extended_run run r.mode r.line) readings
 
 -- the lines in C mode after the last one in plain mode
-abbrev pub run_of : List Reading → List Line
-run_of readings = run_from [] readings
+abbrev pub c_run_of : List Reading → List Line
+c_run_of readings = c_run_from [] readings
 
 -- the last of the lines is spliced
 abbrev pub last_is_spliced : List Line → Bool

@@ -1,5 +1,5 @@
 use Rattle.std.proofs.Common.{◌∙◌, Some, option_map, sym, ap}
-use Rattle.ud_cond.specs.Worth.{table_in}
+use Rattle.ud_cond.specs.Evaluation.{table_in}
 use Rattle.ud_cond.proofs.NamedLemmas.{worth-unlisted, worth-undefined, worth-defined}
 use Rattle.ud_cond.proofs.values.named.Goals as goal
 

@@ -1,18 +1,18 @@
 -- All are white space if none is left after the white space in front.
 use Rattle.std.proofs.Common.{◌≡◌, ◌==◌, ℕ, Bool, true, false, List, [], ◌∷◌, if◌then◌else◌, ◌&&◌, length, refl, ap, ◌∙◌, ◌≢◌, arith}
 use Rattle.std.proofs.lemmas.Bool.Decides.{nat_tests}
-use Rattle.ud_model.specs.text.Bytes.{is_white, are_white, past_white}
+use Rattle.ud_model.specs.text.Bytes.{is_white, are_white, skip_white}
 use Rattle.ud_model.proofs.bytes.are_white.Goals as goal
 
 -- by the first byte
-none_left : (t : Bool) (b : ℕ) (bs : List ℕ) → (length (past_white bs) == 0) ≡ are_white bs →
-    (length (if t then past_white bs else b ∷ bs) == 0) ≡ (t && are_white bs)
+none_left : (t : Bool) (b : ℕ) (bs : List ℕ) → (length (skip_white bs) == 0) ≡ are_white bs →
+    (length (if t then skip_white bs else b ∷ bs) == 0) ≡ (t && are_white bs)
 none_left true b bs e = e
 none_left false b bs e = let some : length (b ∷ bs) ≢ 0 = omega arith in grind (arith, nat_tests, some)
 
-white_past : (bs : List ℕ) → (length (past_white bs) == 0) ≡ are_white bs
+white_past : (bs : List ℕ) → (length (skip_white bs) == 0) ≡ are_white bs
 white_past [] = refl
 white_past (b ∷ bs) = none_left (is_white b) b bs (white_past bs)
 
 pub returns : goal.returns
-returns c = c.is_empty.ensures ∙ (ap (λ (l : List ℕ). length l == 0) c.past_white.ensures ∙ white_past c.args.bytes.now)
+returns c = c.is_empty.ensures ∙ (ap (λ (l : List ℕ). length l == 0) c.skip_white.ensures ∙ white_past c.args.bytes.now)

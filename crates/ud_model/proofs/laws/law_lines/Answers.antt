@@ -1,7 +1,7 @@
 -- From the parts of a text, byte by byte.
 use Rattle.std.proofs.Common.{ap}
-use Rattle.ud_model.specs.text.Lines.{Parts}
-use Rattle.ud_model.proofs.text.LinesLemmas.{lines_exist, lines_are, map-lines_of, number_is, parts_of-are, parts_are}
+use Rattle.ud_model.specs.text.Lines.{SplitLines}
+use Rattle.ud_model.proofs.text.LinesLemmas.{lines_exist, lines_are, map-lines_of, number_is, split_lines-are, parts_are}
 use Rattle.ud_model.proofs.laws.law_lines.Goals as goal
 
 pub returns-clause-exists : goal.returns-clause-exists
@@ -17,7 +17,7 @@ pub returns-clause-number : goal.returns-clause-number
 returns-clause-number c = number_is
 
 pub returns-clause-whole : goal.returns-clause-whole
-returns-clause-whole c = parts_of-are
+returns-clause-whole c = split_lines-are
 
 pub returns-clause-only_whole : goal.returns-clause-only_whole
-returns-clause-only_whole c = λ text ls rest h. (ap (λ (p : Parts). p.whole) (parts_are text (record { whole = ls; rest = rest }) h), ap (λ (p : Parts). p.rest) (parts_are text (record { whole = ls; rest = rest }) h))
+returns-clause-only_whole c = λ text ls rest h. (ap (λ (p : SplitLines). p.whole) (parts_are text (record { whole = ls; rest = rest }) h), ap (λ (p : SplitLines). p.rest) (parts_are text (record { whole = ls; rest = rest }) h))

@@ -7,4 +7,4 @@ pub returns-clause-exists : goal.returns-clause-exists
 returns-clause-exists c = answer_exists
 
 pub returns-clause-only : goal.returns-clause-only
-returns-clause-only c = λ words input a b p q. one_answer p q
+returns-clause-only c = λ args input a b p q. one_answer p q

@@ -4,7 +4,7 @@ use Rattle.ud_model.proofs.output.ListWords.{listing_words}
 use Rattle.ud_model.proofs.option_laws.law_answer_by_list.Goals as goal
 
 pub returns-clause-lists : goal.returns-clause-lists
-returns-clause-lists c = λ words off. listing_words words off
+returns-clause-lists c = λ args off. listing_words args off
 
 pub returns-clause-same : goal.returns-clause-same
-returns-clause-same c = λ words more input l a off k n b m u same alike. answered_by_list k n (listing_words words off) b m u same alike
+returns-clause-same c = λ args more input l a off k n b m u same alike. answered_by_list k n (listing_words args off) b m u same alike

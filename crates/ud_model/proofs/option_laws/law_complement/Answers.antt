@@ -1,5 +1,5 @@
 -- Both runs read the text alike, and a line's piece is empty in one of them.
-use Rattle.ud_model.proofs.output.SharedLines.{shared}
+use Rattle.ud_model.proofs.output.SharedLineLemmas.{shared}
 use Rattle.ud_model.proofs.option_laws.law_complement.Goals as goal
 
 pub returns-clause-fault : goal.returns-clause-fault

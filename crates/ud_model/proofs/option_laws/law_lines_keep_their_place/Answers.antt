@@ -1,5 +1,5 @@
 -- Each piece is a line again, with the ending of the line of which it is printed.
-use Rattle.ud_model.proofs.output.BlankedLines.{as_many, blanked_places}
+use Rattle.ud_model.proofs.output.BlankedLineLemmas.{as_many, blanked_places}
 use Rattle.ud_model.proofs.option_laws.law_lines_keep_their_place.Goals as goal
 
 pub returns-clause-as_many : goal.returns-clause-as_many

@@ -1,6 +1,6 @@
 -- What is put in is read as text lines, each of which goes into the nodes where it stands.
-use Rattle.ud_model.proofs.output.WovenText.{woven_text}
-use Rattle.ud_model.proofs.output.WovenSelected.{woven_selected}
+use Rattle.ud_model.proofs.output.InsertedText.{woven_text}
+use Rattle.ud_model.proofs.output.InsertedSelected.{woven_selected}
 use Rattle.ud_model.proofs.option_laws.law_put_in_changes_no_section.Goals as goal
 
 pub returns-clause-tree : goal.returns-clause-tree

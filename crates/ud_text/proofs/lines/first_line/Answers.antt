@@ -6,7 +6,7 @@ use Rattle.ud_text.proofs.lines.first_line.Goals as goal
 use Rattle.ud_text.proofs.lines.first_line.Goals.{else-taken-via-then-taken+else-taken-le-LINE_BYTES, else-taken-via-else-taken}
 
 pub returns-else-taken-clause-none : goal.returns-else-taken-clause-none
-returns-else-taken-clause-none c = λ used to. none_fits c.args.piece.now c.front-taken.result.used used c.front-taken.result.whole c.front-taken.ensures long to
+returns-else-taken-clause-none c = λ used to. none_fits c.args.chunk.now c.up_to_newline-taken.result.used used c.up_to_newline-taken.result.whole c.up_to_newline-taken.ensures long to
   where
-    long : c.front-taken.result.whole ≡ true → LINE_BYTES < c.front-taken.result.used
+    long : c.up_to_newline-taken.result.whole ≡ true → LINE_BYTES < c.up_to_newline-taken.result.used
     long whole = elim c.else-taken.branch [ else-taken-via-then-taken+else-taken-le-LINE_BYTES w ↦ w.if-taken-le-LINE_BYTES.false | else-taken-via-else-taken w ↦ cc ]

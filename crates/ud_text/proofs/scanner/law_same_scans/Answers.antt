@@ -1,5 +1,5 @@
 -- Both scans are seen from the place that is carried.
-use Rattle.ud_text.proofs.CarryLemmas.{same_scans}
+use Rattle.ud_text.proofs.ScannerLemmas.{same_scans}
 use Rattle.ud_text.proofs.scanner.law_same_scans.Goals as goal
 
 pub returns : goal.returns

@@ -1,11 +1,11 @@
 use Rattle.std.proofs.Common.{◌≡◌, ◌≤◌}
 use Rattle.ud_model.specs.aids.Parsing.{reduce}
 use Rattle.ud_cond.specs.Stacks.{weight}
-use Rattle.ud_cond.specs.Worth.{worth_in}
+use Rattle.ud_cond.specs.Evaluation.{value_meaning_in}
 use Rattle.ud_cond.proofs.stacks.Stacks.reduce.Given as goal
 
 abbrev pub invariant-waiting : goal.invariant-waiting
-invariant-waiting g l = (reduce (worth_in l.scope) l.least l.fn.last l.fn.self ≡ reduce (worth_in l.scope) l.least l.value l.self) × (weight l.self ≤ weight l.fn.self)
+invariant-waiting g l = (reduce (value_meaning_in l.scope) l.least l.fn.last l.fn.self ≡ reduce (value_meaning_in l.scope) l.least l.value l.self) × (weight l.self ≤ weight l.fn.self)
 
 abbrev pub decreases-waiting : goal.decreases-waiting
 decreases-waiting g l = weight l.self

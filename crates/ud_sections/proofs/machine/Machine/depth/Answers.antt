@@ -1,5 +1,5 @@
 use Rattle.std.proofs.Common.{◌∙◌, ap, length}
-use Rattle.ud_sections.proofs.Moves.{depth_levels}
+use Rattle.ud_sections.proofs.ActionLemmas.{depth_levels}
 use Rattle.ud_sections.proofs.machine.Machine.depth.Goals as goal
 
 pub returns-clause-value : goal.returns-clause-value

@@ -1,29 +1,29 @@
 use Rattle.std.proofs.Common.{◌≡◌, true, suc, ◌+◌, ◌<◌, length, inl, inr, sym, subst, ap, add-one}
-use Rattle.ud_model.specs.text.Lines.{Parts, line_at}
-use Rattle.ud_text.specs.Holding.{Holding, IsLineOf, IsComplete}
+use Rattle.ud_model.specs.text.Lines.{SplitLines, line_at}
+use Rattle.ud_text.specs.LinesState.{LinesState, IsLineOf, IsComplete}
 use Rattle.ud_text.specs.contracts.lines.Lines.{the_view}
-use Rattle.ud_text.proofs.HoldingLemmas.{took_last, took_whole, took_rest}
+use Rattle.ud_text.proofs.LinesLemmas.{represent_last, represent_whole, represent_rest}
 use Rattle.ud_text.proofs.lines.Lines.line.Goals as goal
 
 -- a line that can be read has bytes
-some_held : (lines : Holding) → (lines.whole ≡ true → 0 < length lines.held) → IsComplete lines → 0 < length lines.held
+some_held : (lines : LinesState) → (lines.whole ≡ true → 0 < length lines.held) → IsComplete lines → 0 < length lines.held
 some_held lines some (inl whole) = some whole
 some_held lines some (inr ended) = ended.1
 
 pub returns-clause-value : goal.returns-clause-value
 returns-clause-value g c =
-    subst (λ (l : Holding). IsLineOf c.cut_ending.result.0.now c.cut_ending.result.1.now (c.self.inside.given_up + 1) (line_at (suc l.before) l.held)) c.self.view_is
-    (rw (add-one, ← c.bytes.ensures.value) (c.cut_ending.ensures.value (suc c.self.inside.given_up)))
+    subst (λ (l : LinesState). IsLineOf c.split_ending.result.0.now c.split_ending.result.1.now (c.self.inside.consumed + 1) (line_at (suc l.before) l.held)) c.self.view_is
+    (rw (add-one, ← c.as_slice.ensures.value) (c.split_ending.ensures.value (suc c.self.inside.consumed)))
 
-pub returns-clause-stands : goal.returns-clause-stands
-returns-clause-stands g c = λ text took.
-    took_last c.args.self.now text
-    (subst (λ (l : Holding). 0 < length l.held) c.self.view_is
-    (some_held (the_view g.row.H g.H.Room c.self.inside) c.self.invariant.3 (subst IsComplete (sym c.self.view_is) c.requires.complete)))
+pub returns-clause-represents : goal.returns-clause-represents
+returns-clause-represents g c = λ text took.
+    represent_last c.args.self.now text
+    (subst (λ (l : LinesState). 0 < length l.held) c.self.view_is
+    (some_held (the_view g.row.H g.H.LineBuffer c.self.inside) c.self.invariant.3 (subst IsComplete (sym c.self.view_is) c.requires.complete)))
     took
 
 pub returns-clause-whole : goal.returns-clause-whole
-returns-clause-whole g c = λ whole text took. (took.given, ap (λ (q : Parts). q.whole) (took_whole c.args.self.now text whole took))
+returns-clause-whole g c = λ whole text took. (took.consumed, ap (λ (q : SplitLines). q.whole) (represent_whole c.args.self.now text whole took))
 
 pub returns-clause-rest : goal.returns-clause-rest
-returns-clause-rest g c = λ part text took. took_rest c.args.self.now text part took
+returns-clause-rest g c = λ part text took. represent_rest c.args.self.now text part took

@@ -1,0 +1,40 @@
+//! The tool held against the reference.
+
+use crate::case::Case;
+use crate::pieces::Pieces;
+use ref_unifdef::{Answer, answer_to};
+use std::alloc::{AllocError, Global};
+use unifdef::{Watched, tool};
+
+/// Whether the tool, which reads the case's text in pieces, has the answer of the reference.
+///
+/// # Errors
+/// Memory is refused.
+pub fn agree(alloc: Global, case: &Case) -> Result<bool, AllocError> {
+    let expected = answer_to(alloc, case.words.as_slice(), case.text.as_slice())?;
+    let given = run(alloc, case)?;
+    Ok(
+        given.status == expected.status
+            && given.message.as_slice() == expected.message.as_slice()
+            && given.output.as_slice() == expected.output.as_slice(),
+    )
+}
+
+/// The answer of the tool.
+fn run(alloc: Global, case: &Case) -> Result<Answer, AllocError> {
+    let mut reader = Watched::new(Pieces::new(case.text.as_slice(), case.seed));
+    let mut out = Watched::new(Vec::<u8>::new(alloc));
+    let mut err = Watched::new(Vec::<u8>::new(alloc));
+    let status = tool(
+        alloc,
+        case.words.as_slice(),
+        &mut reader,
+        &mut out,
+        &mut err,
+    );
+    Ok(Answer {
+        output: Vec::from_slice(alloc, out.inner().as_slice())?,
+        message: Vec::from_slice(alloc, err.inner().as_slice())?,
+        status,
+    })
+}

@@ -1,0 +1,85 @@
+//! The answer to words and a text.
+
+use crate::messages::{Fault, FaultyLine, message, refusal};
+use crate::printing::print;
+use crate::pruning::prune;
+use crate::reading::Reader;
+use crate::spoiled::first_spoiled;
+use std::alloc::{AllocError, Global};
+use ud_args::{Plan, display_name, plan};
+use ud_model::{ExitMode, Listing, Settings};
+use ud_text::Scanner;
+
+/// The status of a fault.
+const TROUBLE: u8 = 2;
+
+/// What is written, what is said, and the status.
+#[derive(Drop)]
+pub struct Answer {
+    /// What is left of the text, or the names in it.
+    pub output: Vec<u8>,
+    /// What is wrong with the words or the text, with its line feed; empty if nothing is.
+    pub message: Vec<u8>,
+    /// The exit status.
+    pub status: u8,
+}
+
+/// Answers these words, without the program's name, and this text, as unifdef(1) does.
+///
+/// # Errors
+/// Memory is refused.
+pub fn answer_to(alloc: Global, words: &[String], text: &[u8]) -> Result<Answer, AllocError> {
+    match plan(alloc, words) {
+        Ok(plan) => run(alloc, &plan, display_name(words), text),
+        Err(usage) => Ok(Answer {
+            output: Vec::new(alloc),
+            message: refusal(alloc, usage)?,
+            status: TROUBLE,
+        }),
+    }
+}
+
+/// Answers what was planned, and a text of this name.
+fn run(alloc: Global, plan: &Plan, name: &[u8], text: &[u8]) -> Result<Answer, AllocError> {
+    let settings = plan.settings();
+    let mut reader = Reader {
+        alloc,
+        settings,
+        symbols: plan.symbols(),
+        rest: text,
+        scanner: Scanner::new(),
+        rows: Vec::new(alloc),
+        fault: None,
+        last: 0,
+        open: None,
+    };
+    let tree = reader.read()?;
+    let mut marks = Vec::new(alloc);
+    prune(tree.as_slice(), true, &mut marks)?;
+    if let Some(line) = first_spoiled(reader.rows.as_slice(), marks.as_slice()) {
+        reader.rows.truncate(line.saturating_sub(1) as usize);
+        reader.fault = Some(FaultyLine {
+            line,
+            fault: Fault::Obfuscated,
+        });
+    }
+    let printed = print(alloc, reader.rows.as_slice(), marks.as_slice(), settings)?;
+    let (message, status) = match reader.fault {
+        Some(faulty) => (message(alloc, name, faulty)?, TROUBLE),
+        None => (Vec::new(alloc), status_by(settings, printed.differs)),
+    };
+    Ok(Answer {
+        output: printed.output,
+        message,
+        status,
+    })
+}
+
+/// The status of a text without a fault.
+fn status_by(settings: Settings, differs: bool) -> u8 {
+    match (settings.listing, settings.exit_mode) {
+        (Listing::Off, ExitMode::Zero) => u8::from(differs),
+        (Listing::Off, ExitMode::One) => u8::from(!differs),
+        _ => 0,
+    }
+}

@@ -1,0 +1,194 @@
+//! Reading a text: a recursion over its places and sections, which reads each line in the mode of its place.
+
+ghost use Rattle.std.specs.Prelude.{◌≡◌, ◌<◌, ◌≤◌, length, IfOk, IfSome, OnOk};
+ghost use Rattle.ud_model.specs.text.Lines.{NoNewline};
+ghost use Rattle.ud_model.specs.declared.limits.TheConstants.{LINE_BYTES, OPEN_SECTIONS};
+
+use crate::cutting::cut_line;
+use crate::messages::{Fault, FaultyLine};
+use crate::seeing::{Row, list, see};
+use crate::tree::{Group, Node, Section};
+use std::alloc::{AllocError, Global};
+use ud_cond::Symbols;
+use ud_model::{LINE_BYTES, Mode, OPEN_SECTIONS, Role, Settings, TEXT_LINES};
+use ud_text::{Line, Scanner};
+
+/// What reads a text.
+#[derive(Drop)]
+pub(crate) struct Reader<'a> {
+    pub alloc: Global,
+    pub settings: Settings,
+    pub symbols: &'a Symbols,
+    /// What is left of the text.
+    pub rest: &'a [u8],
+    pub scanner: Scanner,
+    /// The lines that were read and aren't faulty, in order.
+    pub rows: Vec<Row<'a>>,
+    /// The first fault. Nothing is read after it.
+    pub fault: Option<FaultyLine>,
+    /// The number of the last line; 0 if none is read.
+    pub last: u32,
+    /// The line of the first directive of the innermost section that has no `#endif`.
+    pub open: Option<u32>,
+}
+
+/// What stands in a place, and the directive that ends it, if one does.
+#[derive(Drop)]
+struct Place<'a> {
+    nodes: Vec<Node>,
+    closer: Option<Row<'a>>,
+}
+
+impl<'a> Reader<'a> {
+    /// Reads the text, up to its end or its first fault, and nests the lines before that. At the end an open comment comes
+    /// before an open section.
+    pub(crate) fn read(&mut self) -> Result<Vec<Node>, AllocError> {
+        let mode = if self.settings.plain {
+            Mode::Plain
+        } else {
+            Mode::C
+        };
+        let Place { nodes, closer } = self.place(mode, 0)?;
+        if let Some(row) = closer {
+            self.refuse(row.line.number, misplaced(row.role));
+        }
+        if self.scanner.in_comment() {
+            self.refuse(self.last, Fault::EofInComment);
+        }
+        if let Some(if_line) = self.open {
+            self.refuse(self.last, Fault::PrematureEof { if_line });
+        }
+        Ok(nodes)
+    }
+
+    /// A line is faulty. The first fault counts.
+    fn refuse(&mut self, line: u32, fault: Fault)
+        ensures { self.new.rest ≡ self.old.rest }
+    {
+        self.fault = self.fault.or(Some(FaultyLine { line, fault }));
+    }
+
+    /// The next line of the text; `None` at its end, after a fault, and if the line breaks a limit.
+    fn next_line(&mut self) -> Option<Line<'a>>
+        ensures one_line { IfSome result (λ line. NoNewline line.body.now) }
+        ensures fits { IfSome result (λ line. length line.body.now ≤ LINE_BYTES) }
+        ensures left { length self.new.rest.now ≤ length self.old.rest.now }
+        ensures shorter { IfSome result (λ line. length self.new.rest.now < length self.old.rest.now) }
+    {
+        if self.fault.is_some() || self.rest.is_empty() {
+            return None;
+        }
+        if self.last >= TEXT_LINES {
+            self.refuse(TEXT_LINES + 1, Fault::TooManyLines);
+            return None;
+        }
+        let (line, rest) = cut_line(self.rest, self.last + 1);
+        if line.body.len() + line.ending.len() > LINE_BYTES {
+            self.refuse(line.number, Fault::LineTooLong);
+            return None;
+        }
+        self.rest = rest;
+        self.last = line.number;
+        Some(line)
+    }
+
+    /// Reads the next line in this mode, in so many open sections; `None` at the end of the text and at a fault.
+    fn next(&mut self, mode: Mode, level: usize) -> Result<Option<Row<'a>>, AllocError>
+        ensures left { length self.new.rest.now ≤ length self.old.rest.now }
+        ensures shorter { IfOk result (λ row. IfSome row (λ r. length self.new.rest.now < length self.old.rest.now)) }
+    {
+        let Some(line) = self.next_line() else {
+            return Ok(None);
+        };
+        let scan = self.scanner.read(mode, &line);
+        let names = list(self.alloc, &scan, self.settings.listing, level)?;
+        let Ok(row) = see(line, &scan, self.symbols, self.settings, names) else {
+            self.refuse(line.number, Fault::Obfuscated);
+            return Ok(None);
+        };
+        Ok(Some(row))
+    }
+
+    /// Reads a place in so many open sections, up to a directive that ends its group, to the end of the text or to a fault.
+    #[cycle(reading)]
+    fn place(&mut self, mode: Mode, level: usize) -> Result<Place<'a>, AllocError>
+        requires { level ≤ OPEN_SECTIONS }
+        ensures left { OnOk result (length self.new.rest.now ≤ length self.old.rest.now) }
+        ensures shorter { IfOk result (λ place. IfSome place.closer (λ r. length self.new.rest.now < length self.old.rest.now)) }
+    {
+        let mut nodes = Vec::new(self.alloc);
+        'lines: while let Some(row) = self.next(mode, level)? {
+            match row.role {
+                None => {
+                    self.rows.push(row)?;
+                    nodes.push(Node::Text)?;
+                }
+                Some(Role::IfGroup) if level == OPEN_SECTIONS => {
+                    self.refuse(row.line.number, Fault::TooManyLevels);
+                }
+                Some(Role::IfGroup) => {
+                    nodes.push(Node::Section(self.section(row, mode, level)?))?;
+                }
+                Some(Role::ElifGroup | Role::ElseGroup | Role::EndifLine) => {
+                    return Ok(Place {
+                        nodes,
+                        closer: Some(row),
+                    });
+                }
+            }
+        }
+        Ok(Place {
+            nodes,
+            closer: None,
+        })
+    }
+
+    /// Reads a section after its first directive.
+    #[cycle(reading)]
+    fn section(&mut self, first: Row<'a>, mode: Mode, level: usize) -> Result<Section, AllocError>
+        requires { level < OPEN_SECTIONS }
+        ensures left { OnOk result (length self.new.rest.now ≤ length self.old.rest.now) }
+    {
+        let if_line = first.line.number;
+        let mode = if first.ignoring { Mode::Plain } else { mode };
+        let mut groups = Vec::new(self.alloc);
+        let mut row = first;
+        'groups: loop {
+            let (role, cond) = (row.role, row.cond);
+            self.rows.push(row)?;
+            let Place { nodes, closer } = self.place(mode, level + 1)?;
+            groups.push(Group { role, cond, nodes })?;
+            let Some(next) = closer else {
+                self.open = self.open.or(Some(if_line));
+                return Ok(Section {
+                    groups,
+                    is_closed: false,
+                });
+            };
+            if next.role == Some(Role::EndifLine) {
+                self.rows.push(next)?;
+                return Ok(Section {
+                    groups,
+                    is_closed: true,
+                });
+            }
+            if role == Some(Role::ElseGroup) {
+                self.refuse(next.line.number, misplaced(next.role));
+                return Ok(Section {
+                    groups,
+                    is_closed: false,
+                });
+            }
+            row = next;
+        }
+    }
+}
+
+/// The fault of a directive out of its place.
+fn misplaced(role: Option<Role>) -> Fault {
+    match role {
+        Some(Role::ElifGroup) => Fault::InappropriateElif,
+        Some(Role::ElseGroup) => Fault::InappropriateElse,
+        _ => Fault::InappropriateEndif,
+    }
+}

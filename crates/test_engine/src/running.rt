@@ -1,0 +1,84 @@
+//! A run over a reader: what it writes, whether that is other bytes, and what a failed call leaves.
+
+use crate::feeding::planned;
+use std::process::Abort;
+use std::test::Fail;
+use test_cases::{CountedSink, CountedSource};
+use unifdef::{RunFault, Watched, run};
+
+/// Runs over this source, and compares the answer and what is written; nothing is flushed. The write of this number fails;
+/// at 0 none does.
+fn check_run(
+    rt: &(impl Abort + AllocGlobal),
+    words: &str,
+    source: CountedSource<'_>,
+    failing_write: usize,
+    answer: Result<bool, RunFault>,
+    written: &[u8],
+) -> Result<(), Fail> {
+    let plan = planned(rt, rt.alloc(), words)?;
+    let mut reader = Watched::new(source);
+    let mut sink = CountedSink::of(rt.alloc(), usize::MAX);
+    sink.interrupted = failing_write;
+    let mut out = Watched::new(sink);
+    assert!(rt;
+        run(&plan, &mut reader, &mut out) == answer,
+        "under {words}"
+    );
+    assert_eq!(rt; out.inner().sink.taken.as_slice(), written, "under {words}");
+    assert_eq!(rt; out.inner().flushes, 0);
+    Ok(())
+}
+
+/// Words, a text, and what is left of it.
+#[rattlefmt::skip]
+const LEFT: &[(&str, &[u8], &[u8])] = &[
+    ("-DA", b"", b""),
+    ("-DA", b"x\ny", b"x\ny"),
+    ("-DA", b"#ifdef A\nx\n#else\ny\n#endif\n", b"x\n"),
+    ("-x1 -DA", b"#ifdef X\nx\n#endif", b"#ifdef X\nx\n#endif"),
+    ("-x2 -UA", b"#if A\n1\n#elif X\n2\n#endif\n", b"#if   X\n2\n#endif\n"),
+    ("-DA", b"#if X\n#elif A\n#else\n#endif\n", b"#if X\n#else\n#endif\n"),
+    ("-b -UA", b"#ifdef A\n#endif\n", b"\n\n"),
+    ("-b -UX", b"\n\n", b"\n\n"),
+    ("-c -UA", b"", b""),
+    ("-c -UA", b"x\n", b""),
+    ("-c -UA", b"#ifdef A\nx\n#endif\n", b"#ifdef A\nx\n#endif\n"),
+    ("-k", b"#if 1\nx\n#endif\n", b"x\n"),
+    ("-iDA", b"#ifdef A\n/*\n#endif\nx\n", b"/*\nx\n"),
+    ("-t -DA", b"/*\n#ifdef X\n#endif", b"/*\n#ifdef X\n#endif"),
+];
+
+#[test]
+fn a_run_tells_whether_the_output_is_other_bytes(rt: HostRuntime) -> Result<(), Fail> {
+    for &(words, text, output) in LEFT {
+        let answer = Ok(output != text);
+        check_run(
+            &rt,
+            words,
+            CountedSource::of(text, usize::MAX),
+            0,
+            answer,
+            output,
+        )?;
+        check_run(&rt, words, CountedSource::of(text, 1), 0, answer, output)?;
+    }
+    Ok(())
+}
+
+#[test]
+fn a_run_under_a_listing_differs_from_nothing(rt: HostRuntime) -> Result<(), Fail> {
+    let input = b"#ifdef A\nx\n#else\ny\n#endif\n";
+    let source = CountedSource::of(input, usize::MAX);
+    check_run(&rt, "-s -DA", source, 0, Ok(false), b"A\n")
+}
+
+#[test]
+fn a_run_flushes_nothing_and_tells_what_failed(rt: HostRuntime) -> Result<(), Fail> {
+    let input = b"#ifdef A\nx\n#else\ny\n#endif\n";
+    let mut source = CountedSource::of(input, 12);
+    source.interrupted = 2;
+    check_run(&rt, "-DA", source, 0, Err(RunFault::Read), b"x\n")?;
+    let source = CountedSource::of(input, usize::MAX);
+    check_run(&rt, "-DA", source, 1, Err(RunFault::Write), b"")
+}

@@ -1,0 +1,48 @@
+//! An engine that is fed after a failed write.
+
+use std::alloc::{AllocError, Global};
+use test_cases::Sink;
+use ud_sections::Printer;
+use unifdef::{Engine, Plan, RunFault, Watched, plan};
+
+/// The first room of the output at which an engine whose write has failed doesn't answer so again, or writes more.
+///
+/// # Errors
+/// Memory is refused.
+pub(crate) fn first_wrong_engine(
+    alloc: Global,
+    words: &[String],
+    text: &[u8],
+    last: usize,
+) -> Result<Option<usize>, AllocError> {
+    let Ok(plan) = plan(alloc, words) else {
+        return Ok(None);
+    };
+    for room in 0..=last.min(text.len()) {
+        if !refuses_for_good(alloc, &plan, text, room) {
+            return Ok(Some(room));
+        }
+    }
+    Ok(None)
+}
+
+/// Whether an engine whose write has failed answers so to all that follows, also over an output that works, and writes nothing.
+fn refuses_for_good(alloc: Global, plan: &Plan, text: &[u8], room: usize) -> bool {
+    let mut engine = Engine::new(plan, Printer::of(&plan.settings()));
+    let mut out = Watched::new(Sink {
+        room,
+        ..Sink::wide(alloc)
+    });
+    if engine.feed(text, &mut out) != Err(RunFault::Write) {
+        return true;
+    }
+    let mut other = Watched::new(Vec::<u8>::new(alloc));
+    if engine.feed(b"y\n", &mut out) != Err(RunFault::Write) {
+        return false;
+    }
+    if engine.feed(b"#endif\n", &mut other) != Err(RunFault::Write) {
+        return false;
+    }
+    let ended = engine.finish(&mut other);
+    ended == Err(RunFault::Write) && other.inner().is_empty() && out.inner().taken.len() == room
+}

@@ -1,0 +1,108 @@
+//! What the tool answers if a read or a write fails, made from the reference's answers to whole texts.
+
+use memchr::memrchr;
+use ref_unifdef::{Answer, answer_to};
+use std::alloc::{AllocError, Global};
+use ud_args::display_name;
+
+/// The status of a fault.
+const TROUBLE: u8 = 2;
+
+/// The answer if the read after these bytes fails: a fault that they have as a text that goes on, or the whole lines' text and
+/// a read error.
+///
+/// # Errors
+/// Memory is refused.
+pub(crate) fn after_bytes(
+    alloc: Global,
+    words: &[String],
+    given: &[u8],
+) -> Result<Answer, AllocError> {
+    let lines = answer_to(alloc, words, whole_lines(given))?;
+    if has_faulty_line(&lines) {
+        return Ok(lines);
+    }
+    let ended = answer_to(alloc, words, given)?;
+    if ended.message.as_slice().ends_with(b"Line too long\n") {
+        return Ok(ended);
+    }
+    failed(alloc, words, lines.output.as_slice(), b"Read error")
+}
+
+/// The answer if the output takes so many bytes, and then fails.
+///
+/// # Errors
+/// Memory is refused.
+pub(crate) fn within_room(
+    alloc: Global,
+    words: &[String],
+    whole: &Answer,
+    room: usize,
+) -> Result<Answer, AllocError> {
+    match whole.output.as_slice().get(..room) {
+        Some(front) if room < whole.output.len() => failed(alloc, words, front, b"Write error"),
+        _ => same(alloc, whole),
+    }
+}
+
+/// The answer if the flush fails at the end.
+///
+/// # Errors
+/// Memory is refused.
+pub(crate) fn unflushed(
+    alloc: Global,
+    words: &[String],
+    whole: &Answer,
+) -> Result<Answer, AllocError> {
+    if whole.message.is_empty() {
+        return failed(alloc, words, whole.output.as_slice(), b"Write error");
+    }
+    same(alloc, whole)
+}
+
+/// The whole lines of a text: its bytes up to the last line feed.
+fn whole_lines(text: &[u8]) -> &[u8] {
+    match memrchr(b'\n', text) {
+        Some(at) => text.get(..=at).unwrap_or(text),
+        None => &[],
+    }
+}
+
+/// Whether a line of the text is faulty, and not its end alone.
+fn has_faulty_line(answer: &Answer) -> bool {
+    let message = answer.message.as_slice();
+    !message.is_empty() && !message.windows(3).any(|part| part == b"EOF".as_slice())
+}
+
+/// The answer of a run that ends with this output, and tells that a call failed.
+fn failed(
+    alloc: Global,
+    words: &[String],
+    output: &[u8],
+    error: &[u8],
+) -> Result<Answer, AllocError> {
+    let mut message = Vec::new(alloc);
+    for part in [
+        b"unifdef: ".as_slice(),
+        display_name(words),
+        b": ",
+        error,
+        b"\n",
+    ] {
+        message.extend_from_slice(part)?;
+    }
+    Ok(Answer {
+        output: Vec::from_slice(alloc, output)?,
+        message,
+        status: TROUBLE,
+    })
+}
+
+/// The same answer.
+fn same(alloc: Global, answer: &Answer) -> Result<Answer, AllocError> {
+    Ok(Answer {
+        output: Vec::from_slice(alloc, answer.output.as_slice())?,
+        message: Vec::from_slice(alloc, answer.message.as_slice())?,
+        status: answer.status,
+    })
+}

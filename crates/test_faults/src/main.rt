@@ -1,0 +1,121 @@
+//! Runs the tool over the worked inputs with streams of which each call fails in turn, and holds it against the reference.
+//!
+//! What is expected is made of the reference's answers: after a failed read the text of the whole lines that came before, after
+//! a failed write a front of the text, and the message of the failed call; or the fault that comes before it. At the first run
+//! that is answered otherwise, its words, its input and the place are printed, and the status is 1.
+#![tactic(auto)]
+
+mod engines;
+mod expected;
+mod reads;
+mod running;
+mod writes;
+
+use crate::engines::first_wrong_engine;
+use crate::reads::first_wrong_read;
+use crate::writes::{first_wrong_write, tells_failed_flush};
+use ref_unifdef::answer_to;
+use std::alloc::{AllocError, Global};
+use std::io;
+use test_cases::{ROWS, nested, parted, repeated};
+
+/// Of inputs at a limit only so many last places are looked at.
+const LAST: usize = 8;
+
+/// At how many places reads and writes failed.
+#[derive(Clone, Copy)]
+struct Places {
+    reads: usize,
+    writes: usize,
+}
+
+impl Places {
+    /// These, and the last ones of a text and of its output.
+    fn and(
+        self,
+        alloc: Global,
+        words: &[String],
+        text: &[u8],
+        last: usize,
+    ) -> Result<Places, AllocError> {
+        let output = answer_to(alloc, words, text)?.output.len();
+        Ok(Places {
+            reads: self
+                .reads
+                .saturating_add(text.len().min(last))
+                .saturating_add(1),
+            writes: self
+                .writes
+                .saturating_add(output.min(last))
+                .saturating_add(1),
+        })
+    }
+}
+
+fn main(rt: HostRuntime) -> io::Result<()> {
+    let alloc = rt.alloc();
+    let mut places = Places {
+        reads: 0,
+        writes: 0,
+    };
+    for (words, text) in ROWS {
+        let words = parted(alloc, words)?;
+        check(&rt, alloc, words.as_slice(), text, usize::MAX)?;
+        places = places.and(alloc, words.as_slice(), text, usize::MAX)?;
+    }
+    let words = parted(alloc, "-DA")?;
+    for count in [65_535, 65_536] {
+        let mut line = repeated(alloc, b"a", count)?;
+        line.push(b'\n')?;
+        check(&rt, alloc, words.as_slice(), line.as_slice(), LAST)?;
+        places = places.and(alloc, words.as_slice(), line.as_slice(), LAST)?;
+    }
+    for (depth, last) in [(64, usize::MAX), (256, LAST), (257, LAST)] {
+        let text = nested(alloc, depth)?;
+        check(&rt, alloc, words.as_slice(), text.as_slice(), last)?;
+        places = places.and(alloc, words.as_slice(), text.as_slice(), last)?;
+    }
+    println!(rt;
+        "a read failed at {} places, a write at {}: no mismatch",
+        places.reads, places.writes
+    )
+}
+
+/// Lets each read and each write fail in turn, at the last places, and the flush.
+fn check(
+    rt: &impl Print,
+    alloc: Global,
+    words: &[String],
+    text: &[u8],
+    last: usize,
+) -> io::Result<()> {
+    if let Some(place) = first_wrong_read(alloc, words, text, last)? {
+        return report(rt, "read", words, text, place);
+    }
+    if let Some(place) = first_wrong_write(alloc, words, text, last)? {
+        return report(rt, "write", words, text, place);
+    }
+    if let Some(place) = first_wrong_engine(alloc, words, text, last)? {
+        return report(rt, "write of an engine", words, text, place);
+    }
+    if !tells_failed_flush(alloc, words, text)? {
+        return report(rt, "flush", words, text, text.len());
+    }
+    Ok(())
+}
+
+/// Prints which call was answered otherwise than it is to be.
+fn report(
+    rt: &impl Print,
+    call: &str,
+    words: &[String],
+    text: &[u8],
+    place: usize,
+) -> io::Result<()> {
+    println!(rt; "a {call} that fails after {place} bytes isn't answered as it is to be")?;
+    for word in words {
+        println!(rt; "word {word}")?;
+    }
+    println!(rt; "text {}", text.escape_ascii())?;
+    Err(io::Error::from(io::ErrorKind::Other))
+}

@@ -1,0 +1,63 @@
+//! Each read of a text fails in turn.
+
+use crate::expected::after_bytes;
+use crate::running::{Ran, alike, run};
+use ref_unifdef::Answer;
+use std::alloc::{AllocError, Global};
+use test_cases::{CountedSink, CountedSource, Source};
+
+/// The first place of the last ones at which a failing read isn't answered as it is to be: the text is read byte by byte up to
+/// there, and the next read fails or is interrupted; if no line is faulty before, no read is made after it.
+///
+/// # Errors
+/// Memory is refused.
+pub(crate) fn first_wrong_read(
+    alloc: Global,
+    words: &[String],
+    text: &[u8],
+    last: usize,
+) -> Result<Option<usize>, AllocError> {
+    for place in text.len().saturating_sub(last)..=text.len() {
+        let (given, _) = text.split_at(place);
+        let expected = after_bytes(alloc, words, given)?;
+        for source in [failing(given), interrupted(text, place)] {
+            let sink = CountedSink::of(alloc, usize::MAX);
+            let run = run(alloc, words, source, sink)?;
+            if !is_right(&expected, place, &run) {
+                return Ok(Some(place));
+            }
+        }
+    }
+    Ok(None)
+}
+
+/// Gives these bytes, one a call, and then fails.
+fn failing(given: &[u8]) -> CountedSource<'_> {
+    CountedSource {
+        source: Source {
+            bytes: given,
+            step: 1,
+            fails: true,
+        },
+        reads: 0,
+        interrupted: 0,
+    }
+}
+
+/// Gives so many bytes of a text, one a call, and is interrupted once; it would give the others then.
+fn interrupted(text: &[u8], given: usize) -> CountedSource<'_> {
+    CountedSource {
+        interrupted: given.saturating_add(1),
+        ..CountedSource::of(text, 1)
+    }
+}
+
+/// Whether a run over so many bytes has the answer of a failing read, or of a fault before it, and has flushed once.
+fn is_right(expected: &Answer, given: usize, run: &Ran) -> bool {
+    let reads = given.saturating_add(1);
+    let read_failed = expected.message.as_slice().ends_with(b": Read error\n");
+    alike(&run.answer, expected)
+        && run.flushes == 1
+        && run.reads <= reads
+        && (run.reads == reads) == read_failed
+}

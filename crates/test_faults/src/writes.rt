@@ -1,0 +1,100 @@
+//! Each write of a text's output fails in turn, and the flush.
+
+use crate::expected::{unflushed, within_room};
+use crate::running::{alike, run};
+use ref_unifdef::{Answer, answer_to};
+use std::alloc::{AllocError, Global};
+use test_cases::{CountedSink, CountedSource, Sink};
+
+/// The first place of the last ones at which a failing write isn't answered as it is to be: the output takes the bytes up to
+/// there, and then fails, or takes none.
+///
+/// # Errors
+/// Memory is refused.
+pub(crate) fn first_wrong_write(
+    alloc: Global,
+    words: &[String],
+    text: &[u8],
+    last: usize,
+) -> Result<Option<usize>, AllocError> {
+    let whole = answer_to(alloc, words, text)?;
+    let size = whole.output.len();
+    for room in size.saturating_sub(last)..=size {
+        if !is_right_at(alloc, words, text, &whole, room)? {
+            return Ok(Some(room));
+        }
+    }
+    Ok(None)
+}
+
+/// Whether the flush, which fails, is told as it is to be.
+///
+/// # Errors
+/// Memory is refused.
+pub(crate) fn tells_failed_flush(
+    alloc: Global,
+    words: &[String],
+    text: &[u8],
+) -> Result<bool, AllocError> {
+    let whole = answer_to(alloc, words, text)?;
+    let expected = unflushed(alloc, words, &whole)?;
+    let sink = CountedSink {
+        first_flush_fails: true,
+        ..CountedSink::of(alloc, usize::MAX)
+    };
+    let run = run(alloc, words, CountedSource::of(text, usize::MAX), sink)?;
+    Ok(alike(&run.answer, &expected) && run.flushes == 1)
+}
+
+/// Whether an output with this room is answered as it is to be: whether it takes all bytes at once or one a call, whether it
+/// then fails or takes none, and whether the text comes at once or byte by byte.
+fn is_right_at(
+    alloc: Global,
+    words: &[String],
+    text: &[u8],
+    whole: &Answer,
+    room: usize,
+) -> Result<bool, AllocError> {
+    let expected = within_room(alloc, words, whole, room)?;
+    for (read_step, write_step, refuses) in [
+        (usize::MAX, usize::MAX, true),
+        (usize::MAX, usize::MAX, false),
+        (usize::MAX, 1, true),
+        (1, 3, false),
+    ] {
+        let sink = Sink {
+            room,
+            step: write_step,
+            refuses,
+            ..Sink::wide(alloc)
+        };
+        let sink = CountedSink {
+            sink,
+            ..CountedSink::of(alloc, write_step)
+        };
+        let run = run(alloc, words, CountedSource::of(text, read_step), sink)?;
+        if !alike(&run.answer, &expected) || run.flushes != 1 {
+            return Ok(false);
+        }
+    }
+    is_right_interrupted(alloc, words, text, &expected, room)
+}
+
+/// Whether an output that takes one byte a call, and whose call after these many is interrupted, is answered so, and isn't
+/// called again.
+fn is_right_interrupted(
+    alloc: Global,
+    words: &[String],
+    text: &[u8],
+    expected: &Answer,
+    taken: usize,
+) -> Result<bool, AllocError> {
+    let write = taken.saturating_add(1);
+    let sink = CountedSink {
+        interrupted: write,
+        ..CountedSink::of(alloc, 1)
+    };
+    let run = run(alloc, words, CountedSource::of(text, usize::MAX), sink)?;
+    let write_failed = expected.message.as_slice().ends_with(b": Write error\n");
+    Ok(alike(&run.answer, expected) && run.writes <= write && (run.writes == write) == write_failed)
+}

@@ -1,0 +1,116 @@
+//! Lines read by a scanner and a machine, held against what becomes of them.
+
+ghost use Rattle.std.specs.Prelude.{IsTrue};
+ghost use Rattle.ud_model.specs.text.Lines.{NoNewline};
+
+use memchr::memchr;
+use std::alloc::Global;
+use std::process::Abort;
+use std::test::Fail;
+use ud_args::{Plan, plan};
+use ud_model::{LINE_BYTES, Mode, Verdict};
+use ud_sections::{Machine, SectionFault, Step};
+use ud_text::{Line, Scanner};
+
+/// The plan of these words, parted by spaces, which have no fault.
+pub(crate) fn planned(rt: &impl Abort, alloc: Global, words: &str) -> Result<Plan, Fail> {
+    let mut owned = Vec::new(alloc);
+    for word in words.split_whitespace() {
+        owned.push(String::from_str(alloc, word)?)?;
+    }
+    Ok(plan(alloc, owned.as_slice()).expect(rt, "the words have no fault"))
+}
+
+/// A machine with the scanner whose scans it is given, and the words' settings and symbols.
+#[derive(Drop)]
+pub(crate) struct Stepper {
+    plan: Plan,
+    scanner: Scanner,
+    machine: Machine,
+    /// The number of the last line.
+    last: u32,
+}
+
+impl Stepper {
+    /// Under these words, parted by spaces; no line is read.
+    pub(crate) fn new(rt: &impl Abort, alloc: Global, words: &str) -> Result<Stepper, Fail> {
+        let plan = planned(rt, alloc, words)?;
+        let machine = Machine::new(plan.settings());
+        Ok(Stepper {
+            plan,
+            scanner: Scanner::new(),
+            machine,
+            last: 0,
+        })
+    }
+
+    /// Reads the next line, which has this body and ends in a line feed.
+    pub(crate) fn step(&mut self, rt: &impl Abort, body: &[u8]) -> Result<Step, SectionFault> {
+        assert!(rt; body.len() < LINE_BYTES);
+        assert!(rt; is_one_line(body));
+        assert!(rt; self.last < 1_000_000);
+        self.last += 1;
+        let line = Line {
+            body,
+            ending: b"\n",
+            number: self.last,
+        };
+        let scan = self.scanner.read(self.machine.mode(), &line);
+        self.machine.step(&scan, &line, self.plan.symbols())
+    }
+
+    /// Reads these lines, none of which is faulty: the letters of their verdicts.
+    pub(crate) fn steps(
+        &mut self,
+        rt: &impl Abort,
+        alloc: Global,
+        bodies: &[&[u8]],
+    ) -> Result<String, Fail> {
+        let mut letters = String::new(alloc);
+        for body in bodies {
+            let step = self.step(rt, body).expect(rt, "the line is sound");
+            letters.push(letter(step.verdict))?;
+        }
+        Ok(letters)
+    }
+
+    /// What the end of the text says.
+    pub(crate) fn finish(&self) -> Result<(), SectionFault> {
+        self.machine.finish(self.scanner.in_comment())
+    }
+
+    pub(crate) fn depth(&self) -> usize {
+        self.machine.depth()
+    }
+
+    pub(crate) fn mode(&self) -> Mode {
+        self.machine.mode()
+    }
+
+    /// Reads text lines up to this number at once.
+    pub(crate) fn text(&mut self, last: u32) -> char {
+        self.last = last;
+        letter(self.machine.step_text(last))
+    }
+}
+
+/// Whether no line feed stands among these bytes.
+pub(crate) fn is_one_line(body: &[u8]) -> bool
+    ensures { IsTrue result → NoNewline body.now }
+{
+    match memchr(b'\n', body) {
+        Some(_) => false,
+        None => true,
+    }
+}
+
+/// A verdict in one letter.
+pub(crate) fn letter(verdict: Verdict) -> char {
+    match verdict {
+        Verdict::Keep => 'k',
+        Verdict::Remove => '-',
+        Verdict::ToIf => 'i',
+        Verdict::ToElse => 'e',
+        Verdict::ToEndif => 'n',
+    }
+}

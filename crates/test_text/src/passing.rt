@@ -1,0 +1,286 @@
+//! Many lines at once: against the same lines read one by one, and how far it goes, of which no clause speaks.
+
+ghost use Rattle.std.specs.Prelude.{◌≡◌, ◌<◌, ◌≤◌, length, take, IfOk};
+ghost use Rattle.ud_model.specs.text.Lines.{NoNewline};
+
+use std::alloc::{AllocError, Global};
+use std::process::Abort;
+use std::test::Fail;
+use ud_model::{LINE_BYTES, Mode};
+use ud_sections::directive;
+use ud_text::{Line, Scanner};
+
+/// What the random texts are made of: all that may matter to a scanner, and some that doesn't.
+#[rattlefmt::skip]
+const PIECES: [&[u8]; 32] = [
+    b"/*", b"*/", b"//", b"/", b"*", b"\"", b"\"s\"", b"'",
+    b"'c'", b"\\", b"\\n", b"#", b"#if", b"# elif", b"#include", b"if",
+    b"e", b"i", b"a", b"x ", b" ", b"\t", b"\r", b"\0",
+    b"\\\n", b"\\\r\n", b"*\\\n/", b"\n", b"\n", b"\n", b"\r\n", b"/* c */",
+];
+
+/// Numbers that look random, always the same ones.
+#[derive(Drop)]
+struct Numbers {
+    state: u64,
+}
+
+impl Numbers {
+    /// The next number, below this one.
+    fn below(&mut self, count: usize) -> usize
+        requires { 0 < count }
+        ensures { result < count }
+    {
+        self.state = self
+            .state
+            .wrapping_mul(6364136223846793005)
+            .wrapping_add(1442695040888963407);
+        (self.state >> 33) as usize % count
+    }
+}
+
+/// A text of so many pieces.
+fn random_text(alloc: Global, numbers: &mut Numbers, count: usize) -> Result<Vec<u8>, AllocError> {
+    let mut text = Vec::new(alloc);
+    for _ in 0..count {
+        text.extend_from_slice(PIECES[numbers.below(PIECES.len())])?;
+    }
+    Ok(text)
+}
+
+/// How many bytes stand before the ending of the first line.
+fn body_len(bytes: &[u8]) -> usize
+    ensures bound { result ≤ length bytes.now }
+    ensures one_line { NoNewline (take result bytes.now) }
+{
+    let mut at = 0;
+    while at < bytes.len() {
+        if bytes[at] == b'\n' {
+            return at;
+        }
+        if bytes[at..].starts_with(b"\r\n") {
+            return at;
+        }
+        at += 1;
+    }
+    at
+}
+
+/// The ending in front.
+fn ending_len(bytes: &[u8]) -> usize
+    ensures { result ≤ length bytes.now }
+{
+    if bytes.starts_with(b"\r\n") {
+        2
+    } else if bytes.starts_with(b"\n") {
+        1
+    } else {
+        0
+    }
+}
+
+/// A line with an ending of so many bytes.
+fn line_with(body: &[u8], ending: usize) -> Line<'_>
+    ensures { result.body.now ≡ body.now }
+{
+    let number = 1;
+    match ending {
+        0 => Line {
+            body,
+            ending: b"",
+            number,
+        },
+        1 => Line {
+            body,
+            ending: b"\n",
+            number,
+        },
+        _ => Line {
+            body,
+            ending: b"\r\n",
+            number,
+        },
+    }
+}
+
+/// Reads the first line by both scanners, and compares what is seen of it. Answers how many bytes it has.
+fn read_alike(
+    rt: &impl Abort,
+    first: &mut Scanner,
+    second: &mut Scanner,
+    bytes: &[u8],
+) -> Result<usize, Fail>
+    ensures { IfOk result (λ n. n ≤ length bytes.now) }
+{
+    let end = body_len(bytes);
+    if end > LINE_BYTES {
+        return Err(Fail::new("a line is short"));
+    }
+    let ending = ending_len(&bytes[end..]);
+    let line = line_with(&bytes[..end], ending);
+    let one = first.read(Mode::C, &line);
+    let other = second.read(Mode::C, &line);
+    assert_eq!(rt; one.masked, other.masked);
+    assert_eq!(rt; one.fresh, other.fresh);
+    assert_eq!(rt; one.joins_before, other.joins_before);
+    assert_eq!(rt; one.joins_after, other.joins_after);
+    assert_eq!(rt; one.spliced, other.spliced);
+    assert!(rt; one.comment == other.comment);
+    Ok(end + ending)
+}
+
+/// Reads these whole lines one by one, and sees that they are text. Answers how many they are.
+fn read_text(rt: &impl Abort, scanner: &mut Scanner, lines: &[u8]) -> Result<usize, Fail> {
+    let mut rest = lines;
+    let mut count: usize = 0;
+    for _ in 0..lines.len() {
+        if rest.is_empty() {
+            break;
+        }
+        let end = body_len(rest);
+        if end > LINE_BYTES {
+            return Err(Fail::new("a line is short"));
+        }
+        let tail = &rest[end..];
+        let ending = ending_len(tail);
+        if ending == 0 {
+            return Err(Fail::new("each line that is passed has its line feed"));
+        }
+        let scan = scanner.read(Mode::C, &line_with(&rest[..end], ending));
+        assert!(rt; matches!(directive(&scan), Ok(None)));
+        rest = &tail[ending..];
+        count = count.saturating_add(1);
+    }
+    Ok(count)
+}
+
+/// Reads a text in two ways, and compares what is seen: line by line, and by a pass wherever one goes on. Before each
+/// pass up to two lines are read that might be passed, so that passes begin anywhere. Answers how many lines are passed.
+fn walk(rt: &impl Abort, numbers: &mut Numbers, text: &[u8]) -> Result<usize, Fail> {
+    let mut passing = Scanner::new();
+    let mut reading = Scanner::new();
+    let mut rest = text;
+    let mut passed: usize = 0;
+    for _ in 0..text.len() {
+        if rest.is_empty() {
+            break;
+        }
+        for _ in 0..numbers.below(3) {
+            let line = read_alike(rt, &mut passing, &mut reading, rest)?;
+            rest = &rest[line..];
+        }
+        let count = passing.skip_text(Mode::C, rest);
+        passed = passed.saturating_add(read_text(rt, &mut reading, &rest[..count])?);
+        assert_eq!(rt; passing.in_comment(), reading.in_comment());
+        rest = &rest[count..];
+        let line = read_alike(rt, &mut passing, &mut reading, rest)?;
+        rest = &rest[line..];
+    }
+    Ok(passed)
+}
+
+#[test]
+fn a_pass_sees_what_reading_sees(rt: HostRuntime) -> Result<(), Fail> {
+    let mut numbers = Numbers { state: 1 };
+    let mut passed: usize = 0;
+    for _ in 0..400 {
+        let text = random_text(rt.alloc(), &mut numbers, 300)?;
+        passed = passed.saturating_add(walk(&rt, &mut numbers, text.as_slice())?);
+    }
+    assert!(rt; passed > 1000);
+    Ok(())
+}
+
+/// Passes these lines from the start of a text.
+fn goes(rt: &impl Abort, lines: &[u8], count: usize) {
+    assert_eq!(rt; Scanner::new().skip_text(Mode::C, lines), count);
+}
+
+/// Lines, and how many bytes of them are passed from the start of a text.
+const PASSES: &[(&[u8], usize)] = &[
+    // A pass goes through text.
+    (b"", 0),
+    (b"a\nb\r\nc", 5),
+    (b"a /* b\n * c\n */ d\ne\n", 20),
+    (b"a // b\nc\n", 9),
+    (b"char *s = \"/*\\\"\\\\\"; int c = '\\'';\nx\n", 36),
+    (b"#include <a/b.h>\n#define X\n#error e\nx\n", 38),
+    (b"a # if\nb / c\n", 13),
+    (b"a\nx /* b */ + /* c */\n", 22),
+    (b"a\n/* b */ /* c */ d\n", 20),
+    (b"/* b */ /* c\n */ #\\\n", 13),
+    (b"// a \\b\n// \\ \r\nc\n", 17),
+    // A pass goes through splices.
+    (b"a\nb\\\nc\n", 7),
+    (b"#define X \\\n  #x /* y */ \\\r\n  # z\nb\n", 36),
+    (b"a \\\n", 4),
+    (b"a \\\n#if X\n\\\n#if X\nb\n#if X\n", 10),
+    (b"a /* b */\\\n# if X\n", 18),
+    (b"#xy\\\n#else\n", 11),
+    (b"a /* b\n*/ \\\n", 12),
+    // A pass stops at a splice that may matter.
+    (b"a\n\\\n#if X\n", 2),
+    (b"a\n \t\\\r\nb\n", 2),
+    (b"a\n/* b */\\\n#if X\n", 2),
+    (b"a\nb /\\\n* c\n", 2),
+    (b"a\nb // c\\\nd\n", 2),
+    (b"a\nb // c\\\r\nd\n", 2),
+    (b"a\n//\\\nd\n", 2),
+    (b"a\nb \"c\\\nd\"\n", 2),
+    (b"a\nb \\\\\nc\n", 2),
+    (b"a\nb \\\r\r\nc\n", 2),
+    (b"a\n#\\\nif\n", 2),
+    (b"a\n#el\\\nse\n", 2),
+    // A pass stops at the line that may be none.
+    (b"a\n#if X\nb\n", 2),
+    (b"/* a\nb\n*/ #if\n", 7),
+    (b"/* a\nb\nc", 7),
+    (b"/* a *\\\n/\nb\n", 0),
+    (b"/* a \\\n b */\nc\n", 15),
+    (b"a\n/* b */ /* c */ #if\n", 2),
+    (b"don't\n", 0),
+];
+
+#[test]
+fn a_pass_goes_up_to_the_line_that_may_be_none(rt: HostRuntime) -> Result<(), Fail> {
+    for &(lines, count) in PASSES {
+        goes(&rt, lines, count);
+    }
+    Ok(())
+}
+
+/// A line with so many bytes between its beginning and its end.
+fn spanning(alloc: Global, begin: &[u8], count: usize, end: &[u8]) -> Result<Vec<u8>, AllocError> {
+    let mut line = Vec::new(alloc);
+    line.extend_from_slice(begin)?;
+    for _ in 0..count {
+        line.push(b'x')?;
+    }
+    line.extend_from_slice(end)?;
+    Ok(line)
+}
+
+#[test]
+fn a_pass_goes_through_spans_of_each_length(rt: HostRuntime) -> Result<(), Fail> {
+    let spans: [(&[u8], &[u8]); 9] = [
+        (b"", b"\n"),
+        (b"a # ", b"\n"),
+        (b"//", b"\n"),
+        (b"/*", b"*/\n"),
+        (b"/**", b"* ** /*/\n"),
+        (b"\"\\\"", b"\"\n"),
+        (b"'", b"\\''\n"),
+        (b"#define X", b"\\\n#if X\n"),
+        (b"a \\\r\n", b"\\\r\n\\\n\n"),
+    ];
+    for count in 0..200 {
+        for (begin, end) in spans {
+            let mut lines = spanning(rt.alloc(), begin, count, end)?;
+            let passed = lines.len();
+            goes(&rt, lines.as_slice(), passed);
+            lines.extend_from_slice(b"#if X\n")?;
+            goes(&rt, lines.as_slice(), passed);
+        }
+    }
+    Ok(())
+}

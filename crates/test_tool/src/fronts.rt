@@ -1,0 +1,112 @@
+//! Fronts of the worked inputs: on each the tool, fed whole and in two pieces cut at each place, is held against the
+//! reference.
+
+use crate::worked::{Answer, check_tool};
+use ref_unifdef::answer_to;
+use std::io::Read;
+use std::process::Abort;
+use std::test::Fail;
+use test_cases::{ROWS, nested, parted, repeated};
+
+/// Of inputs at a limit only so many last fronts are looked at, and of each only so many last cuts.
+const LAST: usize = 8;
+
+/// Compares the tool's answers to a text, fed in two pieces that are cut at each of the last places, with the reference's.
+fn check_cuts(
+    rt: &(impl Abort + AllocGlobal),
+    words: &[String],
+    text: &[u8],
+    last: usize,
+    label: &str,
+) -> Result<(), Fail> {
+    let expected = answer_to(rt.alloc(), words, text)?;
+    for cut in text.len().saturating_sub(last)..=text.len() {
+        let (front, back) = text.split_at(cut);
+        let reader = front.chain(back);
+        check_tool(rt, words, reader, usize::MAX, Answer::of(&expected), label);
+    }
+    Ok(())
+}
+
+/// Compares the answers to the last fronts of an input, the whole one among them.
+fn check_fronts(
+    rt: &(impl Abort + AllocGlobal),
+    words: &str,
+    input: &[u8],
+    last: usize,
+) -> Result<(), Fail> {
+    let owned = parted(rt.alloc(), words)?;
+    for len in input.len().saturating_sub(last)..=input.len() {
+        check_cuts(rt, owned.as_slice(), &input[..len], last, words)?;
+    }
+    Ok(())
+}
+
+/// Words with an input whose sections have conditions by name.
+const NAMED: [(&str, &[u8]); 4] = [
+    ("-DA", b"#ifdef X\n1\n#elifdef A\n2\n#else\n3\n#endif\n"),
+    ("-UA -n", b"#ifdef A\n1\n#elifndef X\n2\n#endif"),
+    ("-S", b"#ifdef A\n#elifndef B\n#elifdef C D\n#endif\n"),
+    ("-iUN", b"#if X\n#elifdef N\n/* a\n#endif\nz\n"),
+];
+
+#[test]
+fn each_front_of_a_row_is_answered_as_by_the_reference(rt: HostRuntime) -> Result<(), Fail> {
+    for (words, input) in &ROWS {
+        check_fronts(&rt, words, input, input.len())?;
+    }
+    Ok(())
+}
+
+#[test]
+fn each_front_of_named_conditions_is_answered_as_by_the_reference(
+    rt: HostRuntime,
+) -> Result<(), Fail> {
+    for (words, input) in &NAMED {
+        check_fronts(&rt, words, input, input.len())?;
+    }
+    Ok(())
+}
+
+#[test]
+fn fronts_of_the_longest_lines_are_answered_as_by_the_reference(
+    rt: HostRuntime,
+) -> Result<(), Fail> {
+    for bytes in [65_535_usize, 65_536, 65_537] {
+        for ending in [b"\n".as_slice(), b"\r\n"] {
+            let count = bytes.saturating_sub(ending.len());
+            let mut line = repeated(rt.alloc(), b"a", count)?;
+            line.extend_from_slice(ending)?;
+            check_fronts(&rt, "-DA", line.as_slice(), LAST)?;
+        }
+    }
+    Ok(())
+}
+
+#[test]
+fn fronts_of_the_deepest_sections_are_answered_as_by_the_reference(
+    rt: HostRuntime,
+) -> Result<(), Fail> {
+    for depth in [256, 257] {
+        let text = nested(rt.alloc(), depth)?;
+        check_fronts(&rt, "-DA", text.as_slice(), LAST)?;
+    }
+    Ok(())
+}
+
+/// Of each line that comes more is held when the next bytes are read.
+#[test]
+fn lines_as_long_as_a_piece_are_answered_as_by_the_reference(rt: HostRuntime) -> Result<(), Fail> {
+    let owned = parted(rt.alloc(), "-DA")?;
+    let mut text = Vec::new(rt.alloc());
+    for count in 8_180..8_200 {
+        let line = repeated(rt.alloc(), b"a", count)?;
+        text.extend_from_slice(line.as_slice())?;
+        text.extend_from_slice(b"\n#ifdef A\n")?;
+    }
+    check_cuts(&rt, owned.as_slice(), text.as_slice(), LAST, "long lines")?;
+    for _ in 0..20 {
+        text.extend_from_slice(b"x\n#endif\n")?;
+    }
+    check_cuts(&rt, owned.as_slice(), text.as_slice(), LAST, "long lines")
+}

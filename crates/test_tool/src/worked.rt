@@ -1,0 +1,165 @@
+//! Runs of the tool over memory, held against what they have to answer.
+
+use ref_unifdef::answer_to;
+use std::alloc::{AllocError, Global};
+use std::io::Read;
+use std::process::Abort;
+use std::test::Fail;
+use test_cases::{Sink, Source, parted};
+use unifdef::{Watched, tool};
+
+/// Words, parted by spaces, and an input that is copied.
+pub(crate) type Copied<'a> = (&'a str, &'a [u8]);
+
+/// Words, parted by spaces, an input without a fault, what is left of it, and the status.
+pub(crate) type Row<'a> = (&'a str, &'a [u8], &'a [u8], u8);
+
+/// Words, parted by spaces, an input with a fault, what is left of the lines before the fault, and what the message says
+/// after the name of standard input.
+pub(crate) type Fault<'a> = (&'a str, &'a [u8], &'a [u8], &'a str);
+
+/// What a run writes, says and answers.
+#[derive(Clone, Copy, Debug, PartialEq, Eq)]
+pub(crate) struct Answer<'a> {
+    pub output: &'a [u8],
+    pub message: &'a [u8],
+    pub status: u8,
+}
+
+impl Answer<'_> {
+    /// That of the reference.
+    pub(crate) fn of(answer: &ref_unifdef::Answer) -> Answer<'_> {
+        Answer {
+            output: answer.output.as_slice(),
+            message: answer.message.as_slice(),
+            status: answer.status,
+        }
+    }
+}
+
+/// Compares the answer to each of these words and its input.
+pub(crate) fn check_copies(
+    rt: &(impl Abort + AllocGlobal),
+    rows: &[Copied<'_>],
+) -> Result<(), Fail> {
+    for &(words, input) in rows {
+        check_copy(rt, words, input)?;
+    }
+    Ok(())
+}
+
+/// Compares the answer of each row, which has no message.
+pub(crate) fn check_rows(rt: &(impl Abort + AllocGlobal), rows: &[Row<'_>]) -> Result<(), Fail> {
+    for &(words, input, output, status) in rows {
+        check(rt, words, input, output, "", status)?;
+    }
+    Ok(())
+}
+
+/// Compares the answer of each row, whose status is 2.
+pub(crate) fn check_faults(
+    rt: &(impl Abort + AllocGlobal),
+    rows: &[Fault<'_>],
+) -> Result<(), Fail> {
+    for &(words, input, output, fault) in rows {
+        let message = format!(in rt.alloc(); "unifdef: stdin: {fault}")?;
+        check(rt, words, input, output, message.as_str(), 2)?;
+    }
+    Ok(())
+}
+
+/// Compares an answer that has the input for its output, and nothing to say.
+pub(crate) fn check_copy(
+    rt: &(impl Abort + AllocGlobal),
+    words: &str,
+    input: &[u8],
+) -> Result<(), Fail> {
+    check(rt, words, input, input, "", 0)
+}
+
+/// Compares the answer to these words, parted by spaces, and this input: that of the reference, and the tool's where it
+/// reads the input in one piece, in pieces of two sizes, and byte by byte. The message lacks its line feed, and is empty
+/// where there is none.
+pub(crate) fn check(
+    rt: &(impl Abort + AllocGlobal),
+    words: &str,
+    input: &[u8],
+    output: &[u8],
+    message: &str,
+    status: u8,
+) -> Result<(), Fail> {
+    let alloc = rt.alloc();
+    let owned = parted(alloc, words)?;
+    let message = with_feed(alloc, message)?;
+    let answer = Answer {
+        output,
+        message: message.as_slice(),
+        status,
+    };
+    check_reference(rt, owned.as_slice(), input, answer, words)?;
+    for step in [usize::MAX, 64, 7, 1] {
+        let source = Source {
+            step,
+            ..Source::whole(input)
+        };
+        check_tool(rt, owned.as_slice(), source, step, answer, words);
+    }
+    Ok(())
+}
+
+/// Compares the tool's answer to what this reader gives, where each write takes at most so many bytes.
+pub(crate) fn check_tool<R: Read + Drop>(
+    rt: &(impl Abort + AllocGlobal),
+    words: &[String],
+    reader: R,
+    step: usize,
+    answer: Answer<'_>,
+    label: &str,
+) {
+    let alloc = rt.alloc();
+    let mut reader = Watched::new(reader);
+    let mut out = Watched::new(Sink {
+        step,
+        ..Sink::wide(alloc)
+    });
+    let mut err = Watched::new(Vec::<u8>::new(alloc));
+    let status = tool(alloc, words, &mut reader, &mut out, &mut err);
+    let found = Answer {
+        output: out.inner().taken.as_slice(),
+        message: err.inner().as_slice(),
+        status,
+    };
+    assert_eq!(rt; found, answer, "under {label}");
+}
+
+/// Compares the reference's answer.
+fn check_reference(
+    rt: &(impl Abort + AllocGlobal),
+    words: &[String],
+    input: &[u8],
+    answer: Answer<'_>,
+    label: &str,
+) -> Result<(), Fail> {
+    let found = answer_to(rt.alloc(), words, input)?;
+    assert_eq!(rt; Answer::of(&found), answer, "the reference under {label}");
+    Ok(())
+}
+
+/// A message with its line feed; nothing where there is none.
+fn with_feed(alloc: Global, message: &str) -> Result<Vec<u8>, AllocError> {
+    let mut bytes = Vec::new(alloc);
+    if !message.is_empty() {
+        bytes.extend_from_slice(message.as_bytes())?;
+        bytes.push(b'\n')?;
+    }
+    Ok(bytes)
+}
+
+/// These texts one after another.
+pub(crate) fn joined(alloc: Global, parts: &[&[u8]]) -> Result<Vec<u8>, AllocError> {
+    let mut text = Vec::new(alloc);
+    for part in parts {
+        text.extend_from_slice(part)?;
+    }
+    Ok(text)
+}

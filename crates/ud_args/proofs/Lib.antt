@@ -1,0 +1,4 @@
+pub mod LetterLemmas
+pub mod ParsedArgLemmas
+pub mod OptionLemmas
+pub mod PlanLemmas

@@ -1,0 +1,133 @@
+-- What is given, with more after it: faults, settings, symbols and the operand.
+use Rattle.std.proofs.Common.{◌≡◌, ◌∙◌, ap, refl, ℕ, List, [], ◌∷◌, ◌++◌, Bool, true, false, ◌||◌, Option, Some, None, is_some, codes, if◌then◌else◌}
+use Rattle.ud_model.specs.declared.settings.Listing.TheVariants.{Depths}
+use Rattle.ud_model.specs.declared.settings.ExitMode.{ExitMode}
+use Rattle.ud_model.specs.declared.settings.ExitMode.TheVariants.{Zero}
+use Rattle.ud_model.specs.answer.CommandLine.{ParsedArg, flag, option, operand, unknown, lacking, UsageFault, too_many_files, has_letter, first_fault, argument_fault, fault_or, has_flag, listing_by, mode_from, mode_or, parse_exit_mode, settings_in, operand_in, Operand}
+use Rattle.ud_args.specs.ParsedSettings.{with_flag, with_names}
+
+or_none : (a b : Option UsageFault) → fault_or a b ≡ None → (a ≡ None) × (b ≡ None)
+or_none None b h = (refl, h)
+or_none (Some f) b h = cc
+
+-- after what has no fault and no operand, the first fault is that of what comes
+pub first_fault-append : (gs more : List ParsedArg) → first_fault gs ≡ None → operand_in gs ≡ None → first_fault (gs ++ more) ≡ first_fault more
+first_fault-append [] more h k = refl
+first_fault-append (flag c ∷ gs) more h k = first_fault-append gs more h k
+first_fault-append (option c n a ∷ gs) more h k =
+    let both = or_none (argument_fault c n a) (first_fault gs) h in
+    rw (both.0) (first_fault-append gs more both.1 k)
+first_fault-append (operand n w ∷ gs) more h k = cc
+first_fault-append (unknown c ∷ gs) more h k = cc
+first_fault-append (lacking c ∷ gs) more h k = cc
+
+-- after an operand anything is too many
+pub first_fault-behind_operand : (gs more : List ParsedArg) (g : ParsedArg) → first_fault gs ≡ None → is_some (operand_in gs) ≡ true
+    → first_fault (gs ++ g ∷ more) ≡ Some too_many_files
+first_fault-behind_operand [] more g h k = cc
+first_fault-behind_operand (flag c ∷ gs) more g h k = first_fault-behind_operand gs more g h k
+first_fault-behind_operand (option c n a ∷ gs) more g h k =
+    let both = or_none (argument_fault c n a) (first_fault gs) h in
+    rw (both.0) (first_fault-behind_operand gs more g both.1 k)
+first_fault-behind_operand (operand n w ∷ []) more g h k = refl
+first_fault-behind_operand (operand n w ∷ (f ∷ gs)) more g h k = cc
+first_fault-behind_operand (unknown c ∷ gs) more g h k = cc
+first_fault-behind_operand (lacking c ∷ gs) more g h k = cc
+
+-- what has no operand
+pub operand_in-none : (o : Option Operand) → is_some o ≡ false → o ≡ None
+operand_in-none None h = refl
+operand_in-none (Some o) h = cc
+
+-- the operand of what has none, with more after it
+pub operand_in-append : (gs more : List ParsedArg) → operand_in gs ≡ None → operand_in (gs ++ more) ≡ operand_in more
+operand_in-append [] more h = refl
+operand_in-append (flag c ∷ gs) more h = operand_in-append gs more h
+operand_in-append (option c n a ∷ gs) more h = operand_in-append gs more h
+operand_in-append (operand n w ∷ gs) more h = cc
+operand_in-append (unknown c ∷ gs) more h = operand_in-append gs more h
+operand_in-append (lacking c ∷ gs) more h = operand_in-append gs more h
+
+swap_or : (a b c : Bool) → (a || (b || c)) ≡ (b || (a || c))
+swap_or true true c = refl
+swap_or true false c = refl
+swap_or false b c = refl
+
+-- a flag at the end
+pub has_flag-flag_last : (ls : List ℕ) (gs : List ParsedArg) (c : ℕ) → has_flag ls (gs ++ flag c ∷ []) ≡ (has_letter ls c || has_flag ls gs)
+has_flag-flag_last ls [] c = refl
+has_flag-flag_last ls (flag d ∷ gs) c =
+    ap (λ (b : Bool). has_letter ls d || b) (has_flag-flag_last ls gs c) ∙ swap_or (has_letter ls d) (has_letter ls c) (has_flag ls gs)
+has_flag-flag_last ls (option d n a ∷ gs) c = has_flag-flag_last ls gs c
+has_flag-flag_last ls (operand n w ∷ gs) c = has_flag-flag_last ls gs c
+has_flag-flag_last ls (unknown d ∷ gs) c = has_flag-flag_last ls gs c
+has_flag-flag_last ls (lacking d ∷ gs) c = has_flag-flag_last ls gs c
+
+-- what is no flag
+abbrev pub IsNoFlag : ParsedArg → Type 0
+IsNoFlag g = (ls : List ℕ) → has_flag ls (g ∷ []) ≡ false
+
+-- at its end it changes no flag
+pub has_flag-last : (ls : List ℕ) (gs : List ParsedArg) (g : ParsedArg) → IsNoFlag g → has_flag ls (gs ++ g ∷ []) ≡ has_flag ls gs
+has_flag-last ls [] g h = h ls
+has_flag-last ls (flag d ∷ gs) g h = ap (λ (b : Bool). has_letter ls d || b) (has_flag-last ls gs g h)
+has_flag-last ls (option d n a ∷ gs) g h = has_flag-last ls gs g h
+has_flag-last ls (operand n w ∷ gs) g h = has_flag-last ls gs g h
+has_flag-last ls (unknown d ∷ gs) g h = has_flag-last ls gs g h
+has_flag-last ls (lacking d ∷ gs) g h = has_flag-last ls gs g h
+
+-- the exit mode of more is that after the exit mode of what comes first
+pub mode_from-append : (mode : ExitMode) (gs more : List ParsedArg) → mode_from mode (gs ++ more) ≡ mode_from (mode_from mode gs) more
+mode_from-append mode [] more = refl
+mode_from-append mode (flag c ∷ gs) more = mode_from-append mode gs more
+mode_from-append mode (option c n a ∷ gs) more = mode_from-append (if has_letter (codes "x") c then mode_or mode (parse_exit_mode a) else mode) gs more
+mode_from-append mode (operand n w ∷ gs) more = mode_from-append mode gs more
+mode_from-append mode (unknown c ∷ gs) more = mode_from-append mode gs more
+mode_from-append mode (lacking c ∷ gs) more = mode_from-append mode gs more
+
+listing_last : (depths names d s : Bool) → listing_by (d || depths) (s || names) ≡ (if d then Depths else if s then with_names (listing_by depths names) else listing_by depths names)
+listing_last depths names true s = refl
+listing_last true names false true = refl
+listing_last false true false true = refl
+listing_last false false false true = refl
+listing_last depths names false false = refl
+
+-- a flag at the end, in the settings
+pub settings_in-flag_last : (gs : List ParsedArg) (c : ℕ) → settings_in (gs ++ flag c ∷ []) ≡ with_flag (settings_in gs) c
+settings_in-flag_last gs c =
+    let plain = has_flag-flag_last (codes "t") gs c in
+    let constants = has_flag-flag_last (codes "k") gs c in
+    let strict = has_flag-flag_last (codes "K") gs c in
+    let blank = has_flag-flag_last (codes "bl") gs c in
+    let complement = has_flag-flag_last (codes "c") gs c in
+    let renumber = has_flag-flag_last (codes "n") gs c in
+    let depths = has_flag-flag_last (codes "S") gs c in
+    let names = has_flag-flag_last (codes "s") gs c in
+    let listing = listing_last (has_flag (codes "S") gs) (has_flag (codes "s") gs) (has_letter (codes "S") c) (has_letter (codes "s") c) in
+    let mode = mode_from-append Zero gs (flag c ∷ []) in
+    λ i. record {
+      plain = plain i;
+      constants = constants i;
+      strict = strict i;
+      blank = blank i;
+      complement = complement i;
+      renumber = renumber i;
+      listing = (ap (λ (d : Bool). listing_by d (has_flag (codes "s") (gs ++ flag c ∷ []))) depths
+          ∙ ap (λ (n : Bool). listing_by (has_letter (codes "S") c || has_flag (codes "S") gs) n) names
+          ∙ listing) i;
+      exit_mode = mode i;
+    }
+
+-- at the end of what is given, what is no flag changes the exit mode alone
+pub settings_in-last : (gs : List ParsedArg) (g : ParsedArg) (m : ExitMode) → IsNoFlag g → mode_from (mode_from Zero gs) (g ∷ []) ≡ m
+    → settings_in (gs ++ g ∷ []) ≡ record (settings_in gs) { exit_mode = m }
+settings_in-last gs g m h e = λ i. record {
+  plain = has_flag-last (codes "t") gs g h i;
+  constants = has_flag-last (codes "k") gs g h i;
+  strict = has_flag-last (codes "K") gs g h i;
+  blank = has_flag-last (codes "bl") gs g h i;
+  complement = has_flag-last (codes "c") gs g h i;
+  renumber = has_flag-last (codes "n") gs g h i;
+  listing = listing_by (has_flag-last (codes "S") gs g h i) (has_flag-last (codes "s") gs g h i);
+  exit_mode = (mode_from-append Zero gs (g ∷ []) ∙ e) i;
+}

@@ -1,0 +1,129 @@
+-- Plans, with what is given after it.
+use Rattle.std.proofs.Common.{◌≡◌, ◌∙◌, ap, sym, refl, ℕ, List, [], ◌∷◌, ◌++◌, Bool, Option, Some, None, is_some, append-nil, option_map, IsSome}
+use Rattle.std.proofs.lemmas.List.Elements.{filter_map-append}
+use Rattle.std.specs.List.{filter_map}
+use Rattle.ud_cond.specs.SymbolTable.{TableRepresents}
+use Rattle.ud_model.specs.conditions.Table.{Argument}
+use Rattle.ud_model.specs.declared.settings.Settings.{Settings}
+use Rattle.ud_model.specs.declared.settings.ExitMode.{ExitMode}
+use Rattle.ud_model.specs.declared.settings.ExitMode.TheVariants.{Zero}
+use Rattle.ud_model.specs.answer.CommandLine.{ParsedArg, flag, option, operand, first_fault, settings_in, argument_in, operand_in, operand_index, Operand, parse_exit_mode, mode_from}
+use Rattle.ud_args.specs.SymbolStorage.{StoresSymbol}
+use Rattle.ud_args.specs.ParsedSettings.{with_flag, SetsSymbol, IsSetting, IsFaultOf, IsUsageOf}
+use Rattle.ud_args.specs.declared.options.Setting.{Setting}
+use Rattle.ud_args.specs.declared.options.Setting.TheVariants as said
+use Rattle.ud_args.specs.declared.usage.Usage.{Usage}
+use Rattle.ud_args.specs.declared.usage.Usage.TheVariants.{UnknownOption, MissingArgument, BadSymbol, BadMode, TooManyFiles, OutOfMemory}
+use Rattle.ud_args.specs.Plans.{PlanState, PlanRepresents}
+use Rattle.ud_args.proofs.ParsedArgLemmas.{first_fault-append, operand_in-append, settings_in-flag_last, settings_in-last}
+
+place_none : (o : Option Operand) → operand_index o ≡ None → o ≡ None
+place_none None h = refl
+place_none (Some o) h = cc
+
+-- an operand has a place
+is_some-operand_index : (o : Option Operand) → is_some (operand_index o) ≡ is_some o
+is_some-operand_index None = refl
+is_some-operand_index (Some o) = refl
+
+-- a plan has an operand as far as one was given
+pub is_some-operand_in : (plan : PlanState) (gs : List ParsedArg) (o : Option ℕ) (found : Bool) → PlanRepresents plan gs → o ≡ plan.operand → found ≡ is_some o
+    → is_some (operand_in gs) ≡ found
+is_some-operand_in plan gs o found p e f = sym (is_some-operand_index (operand_in gs)) ∙ ap is_some (sym p.index) ∙ ap is_some (sym e) ∙ sym f
+
+exit_mode_of : (s t : Settings) (mode : ExitMode) → s ≡ t → record s { exit_mode = mode } ≡ record t { exit_mode = mode }
+exit_mode_of s t mode e = rw e refl
+
+-- a plan with what is given after it, if no operand came before
+represents_last : (old new : PlanState) (gs : List ParsedArg) (g : ParsedArg) → PlanRepresents old gs → old.operand ≡ None → first_fault (g ∷ []) ≡ None
+    → new.settings ≡ settings_in (gs ++ g ∷ []) → TableRepresents new.symbols (filter_map argument_in gs ++ filter_map argument_in (g ∷ []))
+    → new.operand ≡ operand_index (operand_in (g ∷ [])) → PlanRepresents new (gs ++ g ∷ [])
+represents_last old new gs g p free right said stands index =
+    let none : operand_in gs ≡ None = place_none (operand_in gs) (sym p.index ∙ free) in
+    record {
+      right = first_fault-append gs (g ∷ []) p.right none ∙ right;
+      said = said;
+      stands = rw (filter_map-append argument_in gs (g ∷ [])) stands;
+      index = index ∙ ap operand_index (sym (operand_in-append gs (g ∷ []) none));
+    }
+
+-- what is no symbol leaves the table
+represents_same : (old new : PlanState) (gs : List ParsedArg) (g : ParsedArg) → PlanRepresents old gs → old.operand ≡ None → first_fault (g ∷ []) ≡ None
+    → filter_map argument_in (g ∷ []) ≡ [] → new.settings ≡ settings_in (gs ++ g ∷ []) → new.symbols ≡ old.symbols
+    → new.operand ≡ operand_index (operand_in (g ∷ [])) → PlanRepresents new (gs ++ g ∷ [])
+represents_same old new gs g p free right none said same index =
+    let stands : TableRepresents new.symbols (filter_map argument_in gs ++ filter_map argument_in (g ∷ [])) = rw (none, append-nil, same) p.stands in
+    represents_last old new gs g p free right said stands index
+
+-- a flag changes the settings
+pub represents_flag : (old new : PlanState) (gs : List ParsedArg) (c : ℕ) → PlanRepresents old gs → old.operand ≡ None
+    → new.settings ≡ with_flag old.settings c → new.symbols ≡ old.symbols → new.operand ≡ old.operand → PlanRepresents new (gs ++ flag c ∷ [])
+represents_flag old new gs c p free said same index =
+    let settings : new.settings ≡ settings_in (gs ++ flag c ∷ []) = said ∙ ap (λ (s : Settings). with_flag s c) p.said ∙ sym (settings_in-flag_last gs c) in
+    represents_same old new gs (flag c) p free refl refl settings same (index ∙ free)
+
+-- an exit mode replaces the one before
+pub represents_mode : (old new : PlanState) (gs : List ParsedArg) (word : ℕ) (argument : List ℕ) (mode : ExitMode) → PlanRepresents old gs → old.operand ≡ None → parse_exit_mode argument ≡ Some mode
+    → new.settings ≡ record (old.settings) { exit_mode = mode } → new.symbols ≡ old.symbols → new.operand ≡ old.operand
+    → PlanRepresents new (gs ++ option 120 word argument ∷ [])
+represents_mode old new gs word argument mode p free e said same index =
+    let right : first_fault (option 120 word argument ∷ []) ≡ None = rw e refl in
+    let last : mode_from (mode_from Zero gs) (option 120 word argument ∷ []) ≡ mode = rw e refl in
+    let settings : new.settings ≡ settings_in (gs ++ option 120 word argument ∷ []) =
+    said ∙ exit_mode_of old.settings (settings_in gs) mode p.said ∙ sym (settings_in-last gs (option 120 word argument) mode (λ ls. refl) last) in
+    represents_same old new gs (option 120 word argument) p free right refl settings same (index ∙ free)
+
+-- a symbol goes to the end of the table
+pub represents_symbol : (old new : PlanState) (gs : List ParsedArg) (g : ParsedArg) (a : Argument) → PlanRepresents old gs → old.operand ≡ None → SetsSymbol g a
+    → new.settings ≡ old.settings → TableRepresents new.symbols (filter_map argument_in gs ++ a ∷ []) → new.operand ≡ old.operand
+    → PlanRepresents new (gs ++ g ∷ [])
+represents_symbol old new gs g a p free s said stands index =
+    let right : first_fault (option s.letter s.word s.argument ∷ []) ≡ None = rw (s.other, s.says) refl in
+    let last : mode_from (mode_from Zero gs) (option s.letter s.word s.argument ∷ []) ≡ mode_from Zero gs = rw s.other refl in
+    let settings : new.settings ≡ settings_in (gs ++ option s.letter s.word s.argument ∷ []) =
+    said ∙ p.said ∙ sym (settings_in-last gs (option s.letter s.word s.argument) (mode_from Zero gs) (λ ls. refl) last) in
+    let table : TableRepresents new.symbols (filter_map argument_in gs ++ filter_map argument_in (option s.letter s.word s.argument ∷ [])) = rw s.says stands in
+    rw s.is (represents_last old new gs (option s.letter s.word s.argument) p free right settings table (index ∙ free))
+
+-- an operand has its place
+pub represents_operand : (old new : PlanState) (gs : List ParsedArg) (n : ℕ) (name : List ℕ) → PlanRepresents old gs → old.operand ≡ None
+    → new.settings ≡ old.settings → new.symbols ≡ old.symbols → new.operand ≡ Some n → PlanRepresents new (gs ++ operand n name ∷ [])
+represents_operand old new gs n name p free said same index =
+    let settings : new.settings ≡ settings_in (gs ++ operand n name ∷ []) =
+    said ∙ p.said ∙ sym (settings_in-last gs (operand n name) (mode_from Zero gs) (λ ls. refl) refl) in
+    represents_same old new gs (operand n name) p free refl refl settings same index
+
+-- what is said rightly has no fault
+pub first_fault-said : (g : ParsedArg) (s : Setting) → IsSetting g s → first_fault (g ∷ []) ≡ None
+first_fault-said g (said.Flag letter) h = rw h refl
+first_fault-said g (said.Mode mode) h = rw (h.2, h.3) refl
+first_fault-said g (said.Symbol a) h = rw (h.is, h.other, h.says) refl
+first_fault-said g (said.Operand index name) h = rw h refl
+
+-- a fault of the words is what a plan may answer
+pub IsUsageOf-fault : (gs : List ParsedArg) (u : Usage) → IsFaultOf (first_fault gs) u → IsUsageOf gs u
+IsUsageOf-fault gs (UnknownOption letter) h = h
+IsUsageOf-fault gs (MissingArgument letter) h = h
+IsUsageOf-fault gs (BadSymbol word) h = h
+IsUsageOf-fault gs (BadMode word) h = h
+IsUsageOf-fault gs TooManyFiles h = h
+IsUsageOf-fault gs OutOfMemory h = absurd h
+
+-- so is want of memory at a symbol that stands after what is right
+pub IsUsageOf-memory : (gs more : List ParsedArg) (g : ParsedArg) (s : Setting) (u : Usage) → first_fault gs ≡ None → operand_in gs ≡ None → IsSetting g s
+    → (u ≡ OutOfMemory) × IsSome (argument_in g) → IsUsageOf (gs ++ g ∷ more) u
+IsUsageOf-memory gs more g s u right none is h =
+    let puts : StoresSymbol (gs ++ g ∷ more) = record {
+      before = gs;
+      symbol = g;
+      more = more;
+      is = refl;
+      right = first_fault-append gs (g ∷ []) right none ∙ first_fault-said g s is;
+      says = h.1;
+    } in
+    rw h.0 puts
+
+-- a thing is there as far as what it is turned into is
+pub is_some-turned : {A B : Type 0} (f : A → B) (o : Option A) → is_some (option_map f o) ≡ is_some o
+is_some-turned f None = refl
+is_some-turned f (Some a) = refl

@@ -1,0 +1,32 @@
+-- What is given in a command line, as the code reads it.
+--
+--   parsed_arg given      what the code gives, as the definitions have it
+--   remaining_args line   all that a command line of the code still gives
+--   parsed_then next      what its next call gives, and all that is given after it
+use Rattle.std.specs.Prelude.{ℕ, List, [], ◌∷◌, map, chars, string_bytes, Option, Some, None, if◌then◌else◌}
+use Rattle.ud_model.specs.answer.CommandLine.{flag, option, operand, unknown, lacking, operands_from, parsed_letters, parsed_from, parsed_after_option}
+use Rattle.ud_model.specs.answer.CommandLine.{ParsedArg as GivenInWords}
+use Rattle.ud_args.specs.declared.command_line.CommandLine.{CommandLine}
+use Rattle.ud_args.specs.declared.command_line.ParsedArg.{ParsedArg}
+use Rattle.ud_args.specs.declared.command_line.ParsedArg.TheVariants.{Flag, WithArgument, Operand, Unknown, MissingArgument}
+
+abbrev pub parsed_arg : ParsedArg → GivenInWords
+parsed_arg (Flag letter) = flag letter
+parsed_arg (WithArgument letter word argument) = option letter word argument.now
+parsed_arg (Operand index name) = operand index name.now
+parsed_arg (Unknown letter) = unknown letter
+parsed_arg (MissingArgument letter) = lacking letter
+
+-- what these letters give in front of these words, of which so many were read before
+abbrev pub parsed_after_letters : ℕ → List ℕ → List (List ℕ) → List GivenInWords
+parsed_after_letters read letters args = parsed_letters read letters (λ c. parsed_after_option c read args) (parsed_from read args)
+
+-- all that is still to be given
+abbrev pub remaining_args : CommandLine → List GivenInWords
+remaining_args line =
+    if line.only_operands then operands_from line.read (map string_bytes line.args.now)
+    else parsed_after_letters line.read (chars line.letters.now) (map string_bytes line.args.now)
+
+abbrev pub parsed_then : Option (ParsedArg × CommandLine) → List GivenInWords
+parsed_then None = []
+parsed_then (Some next) = parsed_arg next.0 ∷ remaining_args next.1

@@ -1,0 +1,130 @@
+//! The plan of a run: what the words of a command line say.
+
+ghost use Rattle.std.specs.Prelude.{◌≡◌, ◌++◌, ◌∷◌, [], List, None, IsSome, OnOk, IfErr};
+ghost use Rattle.ud_model.specs.conditions.Table.{Argument};
+ghost use Rattle.ud_cond.specs.SymbolTable.{TableRepresents};
+ghost use Rattle.ud_model.specs.answer.CommandLine.{ParsedArg as GivenInWords};
+ghost use Rattle.ud_model.specs.answer.CommandLine.{argument_in};
+ghost use Rattle.ud_args.specs.ParsedArgs.{parsed_arg};
+ghost use Rattle.ud_args.specs.ParsedSettings.{IsSetting, IsUsageOf, as_argument};
+ghost use Rattle.ud_args.specs.Plans.{PlanRepresents};
+
+use crate::command_line::ParsedArg;
+use crate::options::{Setting, Symbol, parse_arg, with_flag};
+use crate::usage::Usage;
+use std::alloc::Global;
+use std::marker::Model;
+use ud_cond::Symbols;
+use ud_model::Settings;
+
+/// What the words of a command line say: the settings, the symbols and the operand.
+#[derive(Drop)]
+pub struct Plan {
+    /// The settings, as they were given.
+    settings: Settings,
+    /// What is said of symbols.
+    symbols: Symbols,
+    /// The operand's place among the words, counted from 0.
+    operand: Option<usize>,
+}
+
+impl Model for Plan {
+    ghost use Rattle.ud_args.specs.Plans.{PlanState};
+
+    ghost Value = { PlanState };
+
+    ghost view = { λ p. record { settings = p.settings; symbols = p.symbols; operand = p.operand } };
+}
+
+impl Plan {
+    /// The plan of no words. Its symbols take memory from `alloc`.
+    pub(crate) fn new(alloc: Global) -> Plan
+        ensures { PlanRepresents result [] }
+    {
+        Plan {
+            settings: Settings::default(),
+            symbols: Symbols::new(alloc),
+            operand: None,
+        }
+    }
+
+    /// The settings, as they were given: `renumber` stays true beside `blank`, and both beside a listing.
+    pub fn settings(&self) -> Settings
+        ensures { result ≡ self.now.settings }
+    {
+        self.settings
+    }
+
+    /// What is said of symbols.
+    pub fn symbols(&self) -> &Symbols
+        ensures { result.now ≡ self.now.symbols }
+    {
+        &self.symbols
+    }
+
+    /// The operand's place among the words, counted from 0; `None` if there is no operand.
+    pub fn operand(&self) -> Option<usize>
+        ensures { result ≡ self.now.operand }
+    {
+        self.operand
+    }
+
+    /// Takes what is given next into the plan.
+    ///
+    /// # Errors
+    /// What is wrong with it, or, where it is right and says something of a symbol, that memory for that was refused. The
+    /// plan is then of no use.
+    pub(crate) fn apply(&mut self, given: ParsedArg<'_>) -> Result<(), Usage>
+        ensures ok { (gs : List GivenInWords) → PlanRepresents self.old gs → OnOk result (PlanRepresents self.new (gs ++ parsed_arg given.entry ∷ [])) }
+        ensures err { (gs : List GivenInWords) → PlanRepresents self.old gs → (more : List GivenInWords)
+            → IfErr result (IsUsageOf (gs ++ parsed_arg given.entry ∷ more)) }
+    {
+        match parse_arg(given, self.operand.is_some()) {
+            Err(fault) => Err(fault),
+            Ok(said) => self.set(said),
+        }
+    }
+
+    /// Adds what is said to the plan, after no operand.
+    ///
+    /// # Errors
+    /// `OutOfMemory` if memory for a symbol is refused.
+    fn set(&mut self, said: Setting<'_>) -> Result<(), Usage>
+        ensures ok { (gs : List GivenInWords) → (g : GivenInWords) → PlanRepresents self.old gs → self.old.operand ≡ None → IsSetting g said.entry
+            → OnOk result (PlanRepresents self.new (gs ++ g ∷ [])) }
+        ensures err { (g : GivenInWords) → IsSetting g said.entry → IfErr result (λ u. (u ≡ Usage.OutOfMemory) × IsSome (argument_in g)) }
+    {
+        match said {
+            Setting::Flag { letter } => {
+                self.settings = with_flag(self.settings, letter);
+                Ok(())
+            }
+            Setting::Mode { mode } => {
+                self.settings.exit_mode = mode;
+                Ok(())
+            }
+            Setting::Symbol { symbol } => self.set_symbol(symbol),
+            Setting::Operand { index, .. } => {
+                self.operand = Some(index);
+                Ok(())
+            }
+        }
+    }
+
+    /// Puts what is said of a symbol into the table.
+    ///
+    /// # Errors
+    /// `OutOfMemory` if memory is refused; the name is right, so the table refuses for no other reason.
+    fn set_symbol(&mut self, symbol: Symbol<'_>) -> Result<(), Usage>
+        ensures ok { OnOk result ((calls : List Argument) → TableRepresents self.old.symbols calls
+            → TableRepresents self.new.symbols (calls ++ as_argument symbol.entry ∷ [])) }
+        ensures same { (self.new.settings ≡ self.old.settings) × (self.new.operand ≡ self.old.operand) }
+        ensures err { IfErr result (λ u. u ≡ Usage.OutOfMemory) }
+    {
+        let said = match symbol.value {
+            Some(value) => self.symbols.define(symbol.name, value, symbol.ignoring),
+            None => self.symbols.undefine(symbol.name, symbol.ignoring),
+        };
+        said.map_err(|_| Usage::OutOfMemory)
+    }
+}

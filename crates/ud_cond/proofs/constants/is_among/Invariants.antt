@@ -1,9 +1,0 @@
-use Rattle.std.proofs.Common.{◌≡◌, length, map}
-use Rattle.ud_model.specs.conditions.Constants.{is_among}
-use Rattle.ud_cond.proofs.constants.is_among.Given as goal
-
-abbrev pub invariant-words : goal.invariant-words
-invariant-words l = is_among (map (λ w. w.now) l.fn.words) l.text ≡ is_among (map (λ w. w.now) l.words) l.text
-
-abbrev pub decreases-words : goal.decreases-words
-decreases-words l = length l.words

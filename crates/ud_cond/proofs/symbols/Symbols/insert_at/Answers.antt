@@ -1,0 +1,17 @@
+use Rattle.std.proofs.Common.{◌≡◌, ◌∙◌, true, is_ok, sym, ap, subst}
+use Rattle.ud_cond.specs.Keys.{key_of}
+use Rattle.ud_cond.specs.SymbolTable.{IsGapFor}
+use Rattle.ud_cond.specs.NameFilters.{slot_is_set}
+use Rattle.ud_cond.proofs.SortedLemmas.{sorted-added}
+use Rattle.ud_cond.proofs.FilterLemmas.{noted-kept, noted-added}
+use Rattle.ud_cond.proofs.symbols.Symbols.insert_at.Goals as goal
+
+pub invariant_of-self : goal.invariant_of-self
+invariant_of-self c =
+    let gap : IsGapFor c.self.inside.rows.items c.args.i c.args.row.name = subst (λ rows. IsGapFor rows c.args.i c.args.row.name) (sym c.self.view_is) c.requires.gap in
+    let new : slot_is_set c.insert.new.self.slots (key_of c.args.row.name) ≡ true = ap (slot_is_set c.insert.new.self.slots) (sym c.requires.keyed) ∙ c.insert.ensures.inserted in
+    rw c.insert-added.ensures.items (
+      sorted-added c.self.inside.rows.items c.args.i c.args.row (is_ok c.insert-added.result) c.self.invariant.0 gap,
+      noted-added c.insert.new.self.slots c.self.inside.rows.items c.args.i c.args.row (is_ok c.insert-added.result)
+          (noted-kept c.self.inside.filter.slots c.insert.new.self.slots c.self.inside.rows.items c.insert.ensures.others_kept c.self.invariant.1) gap.within new,
+    )

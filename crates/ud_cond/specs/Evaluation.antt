@@ -1,0 +1,82 @@
+-- Evaluation: what is kept of an expression while it is read.
+-- Its number and three facts of it, as ud_model defines them (specs/Values.antt, specs/Conditions.antt), each from those of
+-- its parts. So no tree is needed.
+--
+--   value_meaning table strict u     what each part of an expression is worth, u saying whether the whole has a `u`
+--   value_of_tree table strict u e   what a tree is worth
+--   cond_of_value rules v            what a value decides
+use Rattle.std.specs.Prelude.{ℕ, List, [], Option, Some, None, Bool, true, false, ◌||◌, ◌&&◌, not, if◌then◌else◌}
+use Rattle.std.specs.Borrow.{Bor}
+use Rattle.ud_model.specs.conditions.Table.{Argument, entry_in}
+use Rattle.ud_model.specs.conditions.Constants.{has_u}
+use Rattle.ud_model.specs.conditions.Symbols.{resolve}
+use Rattle.ud_model.specs.conditions.Expressions.{Expression}
+use Rattle.ud_model.specs.aids.Parsing.{Meaning}
+use Rattle.ud_model.specs.conditions.Values.{constant_value, end_value, name_value, name_has_u, defined_value, apply_unary, apply_binary, number_of, has_unsigned}
+use Rattle.ud_model.specs.conditions.Conditions.{Rules, is_listed, undefined_by, mentions_listed, calls_undefined, truth_of}
+use Rattle.ud_model.specs.declared.operator.Operator.{Operator}
+use Rattle.ud_model.specs.declared.cond.Cond.{Cond}
+use Rattle.ud_model.specs.declared.cond.Cond.TheVariants.{Unknown}
+use Rattle.ud_cond.specs.declared.values.Value.{Value}
+use Rattle.ud_cond.specs.declared.values.Scope.{Scope}
+
+abbrev pub constant_value_of : List ℕ → Value
+constant_value_of w = record { number = constant_value w; unsigned = has_u w; listed = false; calls_undefined = false }
+
+module _ (table : List Argument) where
+  abbrev pub name_value_of : Bool → List ℕ → Bool → Value
+  name_value_of u n arguments =
+      record { number = name_value table u n; unsigned = name_has_u table n; listed = is_listed table n; calls_undefined = arguments && undefined_by (entry_in table n) }
+
+  -- of a name that the table defines
+  abbrev pub defined_name_value_of : Bool → List ℕ → Value
+  defined_name_value_of u n = record { number = end_value u (resolve table n); unsigned = name_has_u table n; listed = true; calls_undefined = false }
+
+  abbrev pub defined_value_of : List ℕ → Value
+  defined_value_of n = record { number = defined_value table n; unsigned = false; listed = is_listed table n; calls_undefined = false }
+
+abbrev pub unary_value_of : Bool → Operator → Value → Value
+unary_value_of u o a = record a { number = apply_unary u o a.number }
+
+abbrev pub binary_value_of : Bool → Bool → Operator → Value → Value → Value
+binary_value_of strict u o a b = record {
+  number = apply_binary strict u o a.number b.number;
+  unsigned = a.unsigned || b.unsigned;
+  listed = a.listed || b.listed;
+  calls_undefined = a.calls_undefined || b.calls_undefined;
+}
+
+abbrev pub value_meaning : List Argument → Bool → Bool → Meaning Value
+value_meaning table strict u = record {
+  constant = constant_value_of;
+  named = name_value_of table u;
+  is_defined = λ n parentheses. defined_value_of table n;
+  unary = unary_value_of u;
+  binary = binary_value_of strict u;
+  parens = λ a. a;
+}
+
+abbrev pub rows_in : Option (Bor (List Argument)) → List Argument
+rows_in None = []
+rows_in (Some symbols) = symbols.now
+
+-- the table of a scope, which says nothing if there is none
+abbrev pub table_in : Scope → List Argument
+table_in s = rows_in s.symbols
+
+-- what each part of an expression is worth in a scope
+abbrev pub value_meaning_in : Scope → Meaning Value
+value_meaning_in s = value_meaning (table_in s) s.strict s.unsigned
+
+-- what a tree is worth
+abbrev pub value_of_tree : List Argument → Bool → Bool → Expression → Value
+value_of_tree table strict u e = record {
+  number = number_of table strict u e;
+  unsigned = has_unsigned table e;
+  listed = mentions_listed table e;
+  calls_undefined = calls_undefined table e;
+}
+
+-- what a value decides
+abbrev pub cond_of_value : Rules → Value → Cond
+cond_of_value rules v = if v.calls_undefined || not (rules.constants || v.listed) then Unknown else truth_of v.number

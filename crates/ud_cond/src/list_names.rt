@@ -1,0 +1,67 @@
+//! The names of a directive's text.
+
+ghost use Rattle.std.specs.Prelude.{◌≡◌, ◌≤◌, length, is_some, option_map, None};
+ghost use Rattle.ud_model.specs.aids.Parsing.{expression_of};
+ghost use Rattle.ud_model.specs.conditions.Names.{names_of, names_in_tree, name_alone};
+ghost use Rattle.ud_model.specs.conditions.Conditions.{sole_name};
+ghost use Rattle.ud_model.specs.declared.limits.TheConstants.{LINE_BYTES};
+
+use crate::conditions::sole_name;
+use crate::names_iter::Names;
+use crate::parsing::evaluate;
+use crate::values::Scope;
+use ud_model::{Kind, Test};
+
+/// Whether a text is one expression.
+fn is_expression(text: &[u8]) -> bool
+    requires fits { length text.now ≤ LINE_BYTES }
+    ensures { result ≡ is_some (expression_of text.now) }
+{
+    let scope = Scope {
+        symbols: None,
+        strict: false,
+        unsigned: false,
+    };
+    evaluate(&scope, text).is_some()
+}
+
+/// The names of an expression; none where the text isn't one.
+fn expression_names(text: &[u8]) -> Names<'_>
+    requires fits { length text.now ≤ LINE_BYTES }
+    ensures { result ≡ names_in_tree (expression_of text.now) }
+{
+    if is_expression(text) {
+        Names::of_text(text)
+    } else {
+        Names::none()
+    }
+}
+
+/// The one name that a text is but for white space around it.
+fn single_name(text: &[u8]) -> Names<'_>
+    ensures { result ≡ name_alone (sole_name text.now) }
+{
+    match sole_name(text) {
+        Some(name) => Names::one(name),
+        None => Names::none(),
+    }
+}
+
+/// The names of a directive that no continuation cuts, in order and with repeats: of an `#if` or `#elif` those of its
+/// operands and of each `defined`, but none inside of arguments; of an `#ifdef`, `#ifndef`, `#elifdef` or `#elifndef` its
+/// one name.
+///
+/// `text` is what follows the keyword on its masked line, at most `LINE_BYTES`. Text that isn't understood has no names,
+/// and neither have `#else` and `#endif`. Takes no memory.
+///
+/// unifdef(1), `-s` and `-S`.
+pub fn names(kind: Kind, text: &[u8]) -> Names<'_>
+    requires fits { length text.now ≤ LINE_BYTES }
+    ensures { result ≡ names_of kind text.now }
+{
+    match kind.test() {
+        Test::Nonzero => expression_names(text),
+        Test::Defined | Test::Undefined => single_name(text),
+        Test::Nothing => Names::none(),
+    }
+}

@@ -1,0 +1,116 @@
+//! Names, one at a time.
+
+ghost use Rattle.std.specs.Prelude.{◌≡◌, List, ℕ, is_some, option_map, true, IfNone, IfSome, [], ◌∷◌, Some, None};
+ghost use Rattle.std.specs.Iterator.{YieldsFirstRef, item_count};
+ghost use Rattle.ud_model.specs.aids.Parsing.{tokens_of};
+ghost use Rattle.ud_cond.specs.NameLists.{name_in_token, names_in_text, names_remaining};
+ghost use Rattle.ud_cond.specs.CondViews.{as_token};
+
+use crate::tokens::{NextToken, Token, next_token};
+use std::marker::Model;
+
+/// The names of a condition, in order and with repeats.
+#[derive(Drop)]
+pub struct Names<'a> {
+    /// A name that comes before the others.
+    alone: Option<&'a [u8]>,
+    /// A text that is tokens to its end, whose names come then.
+    rest: &'a [u8],
+}
+
+impl<'a> Model for Names<'a> {
+    ghost use Rattle.std.specs.Prelude.{◌≡◌, List, ℕ, is_some, option_map, true};
+    ghost use Rattle.ud_model.specs.aids.Parsing.{tokens_of};
+    ghost use Rattle.ud_cond.specs.NameLists.{names_remaining};
+
+    ghost Value = { List (List ℕ) };
+
+    ghost view = { λ s. names_remaining (option_map (λ n. n.now) s.alone) s.rest.now };
+
+    ghost invariant = { λ s. is_some (tokens_of s.rest.now) ≡ true };
+}
+
+impl<'a> Names<'a> {
+    /// No names.
+    #[tactic(auto, unfolding(ud_model::specs::aids::Parsing::tokens_of, ud_model::specs::conditions::Tokens::next_token))]
+    pub(crate) fn none() -> Names<'a>
+        ensures { result ≡ [] }
+    {
+        Names {
+            alone: None,
+            rest: &[],
+        }
+    }
+
+    /// One name.
+    #[tactic(auto, unfolding(ud_model::specs::aids::Parsing::tokens_of, ud_model::specs::conditions::Tokens::next_token))]
+    pub(crate) fn one(name: &'a [u8]) -> Names<'a>
+        ensures { result ≡ name.now ∷ [] }
+    {
+        Names {
+            alone: Some(name),
+            rest: &[],
+        }
+    }
+
+    /// The names of a text that is tokens to its end.
+    pub(crate) fn of_text(text: &'a [u8]) -> Names<'a>
+        requires { is_some (tokens_of text.now) ≡ true }
+        ensures { result ≡ names_in_text text.now }
+    {
+        Names {
+            alone: None,
+            rest: text,
+        }
+    }
+}
+
+impl<'a> Iterator for Names<'a> {
+    type Item = &'a [u8];
+
+    ghost next_gives = { YieldsFirstRef (λ left. left) };
+
+    ghost remaining = { item_count (λ left. left) };
+
+    fn next(&mut self) -> Option<&'a [u8]> {
+        if let Some(name) = self.alone {
+            self.alone = None;
+            return Some(name);
+        }
+        let (name, behind) = next_name(self.rest)?;
+        self.rest = behind;
+        Some(name)
+    }
+}
+
+/// The name that a token is, if it is one.
+fn name_in(token: Token<'_>) -> Option<&[u8]>
+    ensures { option_map (λ n. n.now) result ≡ name_in_token (as_token token.entry) }
+{
+    match token {
+        Token::Name(name, _) => Some(name),
+        _ => None,
+    }
+}
+
+/// The first name of a text that is tokens to its end, and the text after it.
+fn next_name(text: &[u8]) -> Option<(&[u8], &[u8])>
+    requires { is_some (tokens_of text.now) ≡ true }
+    ensures none { IfNone result (names_in_text text.now ≡ []) }
+    ensures some { IfSome result (λ r. names_in_text text.now ≡ r.0.now ∷ names_in_text r.1.now) }
+    ensures whole { IfSome result (λ r. is_some (tokens_of r.1.now) ≡ true) }
+{
+    let mut rest = text;
+    'tokens: loop {
+        match next_token(rest) {
+            NextToken::AtEnd => return None,
+            NextToken::Unreadable => return None,
+            NextToken::Found(token, behind) => {
+                if let Some(name) = name_in(token) {
+                    return Some((name, behind));
+                }
+                rest = behind;
+            }
+        }
+    }
+}

@@ -1,0 +1,2 @@
+pub mod RunMessages
+pub mod UsageMessages

@@ -1,0 +1,24 @@
+-- The messages of what the code tells of the words of a command line.
+--
+--   usage_text u                                  the message of this fault of the words, or of want of memory
+--   ReportsUsage gs fault failed old new status   of what is given, at fault so, this was said, and this status given back
+use Rattle.std.specs.Prelude.{◌≡◌, ◌⊎◌, ℕ, List, Bool, Option}
+use Rattle.ud_model.specs.answer.CommandLine.{ParsedArg, UsageFault, unknown_option, missing_argument, bad_symbol_in, bad_mode_in, too_many_files, usage_message}
+use Rattle.ud_model.specs.answer.Messages.{out_of_memory}
+use Rattle.ud_args.specs.SymbolStorage.{StoresSymbol}
+use Rattle.ud_args.specs.declared.usage.Usage.{Usage}
+use Rattle.ud_args.specs.declared.usage.Usage.TheVariants.{UnknownOption, MissingArgument, BadSymbol, BadMode, TooManyFiles, OutOfMemory}
+use Rattle.ud_io.specs.Watched.{AppendsAllOrPrefix}
+
+abbrev pub usage_text : Usage → List ℕ
+usage_text (UnknownOption letter) = usage_message (unknown_option letter)
+usage_text (MissingArgument letter) = usage_message (missing_argument letter)
+usage_text (BadSymbol word) = usage_message (bad_symbol_in word)
+usage_text (BadMode word) = usage_message (bad_mode_in word)
+usage_text TooManyFiles = usage_message too_many_files
+usage_text OutOfMemory = out_of_memory
+
+-- the status is 2, and the fault's message was said; or a symbol stands before the fault, and memory for it was refused
+pub record ReportsUsage (gs : List ParsedArg) (fault : UsageFault) (failed : Bool) (old new : Option (List ℕ)) (status : ℕ) : Type 0 where
+  pub message : AppendsAllOrPrefix failed old new (usage_message fault) ⊎ (StoresSymbol gs × AppendsAllOrPrefix failed old new out_of_memory)
+  pub answered : status ≡ 2

@@ -1,0 +1,67 @@
+//! How it all ends: the status, and the message that goes with it.
+
+ghost use Rattle.std.specs.Prelude.{◌≡◌, false};
+ghost use Rattle.ud_model.specs.answer.Answer.{status_by, status_under};
+ghost use Rattle.ud_io.specs.Watched.{AppendsAllOrPrefix};
+ghost use Rattle.ud_diagnostics.specs.RunMessages.{final_result, result_message, result_status};
+
+use crate::fault_messages::report_fault;
+use std::io::Write;
+use ud_engine::RunFault;
+use ud_io::Watched;
+use ud_model::{ExitMode, Listing, Settings};
+
+/// The status of a fault, of any kind.
+pub const EXIT_TROUBLE: u8 = 2;
+
+/// How a run ended that answered this, after its output was flushed or couldn't be: a failed flush is a failed write,
+/// and changes no fault.
+pub fn final_result(ran: Result<bool, RunFault>, flushed: bool) -> Result<bool, RunFault>
+    ensures { result ≡ final_result ran flushed }
+{
+    match ran {
+        Ok(_) if !flushed => Err(RunFault::Write),
+        ended => ended,
+    }
+}
+
+/// Writes the message of how a run ended, if it has one, and answers the status.
+pub fn report_result<E: Write>(
+    err: &mut Watched<E>,
+    name: &[u8],
+    settings: Settings,
+    ended: Result<bool, RunFault>,
+) -> u8
+    requires not_failed { err.old.failed ≡ false }
+    ensures message { AppendsAllOrPrefix err.new.failed (E.contents err.old.inner) (E.contents err.new.inner) (result_message name.now ended) }
+    ensures status { result ≡ result_status settings ended }
+{
+    match ended {
+        Ok(differs) => status_under(settings, differs),
+        Err(fault) => {
+            report_fault(err, name, fault);
+            EXIT_TROUBLE
+        }
+    }
+}
+
+/// The status of a text without a fault: where names are listed it is 0 in every mode.
+fn status_under(settings: Settings, differs: bool) -> u8
+    ensures { result ≡ status_under settings.listing settings.exit_mode differs }
+{
+    match settings.listing {
+        Listing::Off => status_by(settings.exit_mode, differs),
+        Listing::Names | Listing::Depths => 0,
+    }
+}
+
+/// The status of a text that is printed.
+fn status_by(mode: ExitMode, differs: bool) -> u8
+    ensures { result ≡ status_by mode differs }
+{
+    match mode {
+        ExitMode::Zero => u8::from(differs),
+        ExitMode::One => u8::from(!differs),
+        ExitMode::Two => 0,
+    }
+}

@@ -1,0 +1,116 @@
+//! The text of each fault, which ends in a line feed, and goes to the error stream alone.
+
+ghost use Rattle.std.specs.Prelude.{◌≡◌, false};
+ghost use Rattle.ud_model.specs.answer.Messages.{about, about_line, message_of};
+ghost use Rattle.ud_model.specs.sections.Faults.{premature_eof};
+ghost use Rattle.ud_sections.specs.MachineState.{fault_of};
+ghost use Rattle.ud_engine.specs.Feeding.{limit_of};
+ghost use Rattle.ud_io.specs.Watched.{AppendsAllOrPrefix};
+ghost use Rattle.ud_diagnostics.specs.RunMessages.{fault_message};
+
+use crate::write_parts_all::write_parts;
+use itoa::Buffer;
+use std::io::Write;
+use ud_engine::RunFault;
+use ud_io::Watched;
+use ud_sections::SectionFault;
+use ud_text::TextFault;
+
+/// Says why a run ended. If a write fails, a front of the message is written.
+pub(crate) fn report_fault<E: Write>(err: &mut Watched<E>, name: &[u8], fault: RunFault)
+    requires not_failed { err.old.failed ≡ false }
+    ensures { AppendsAllOrPrefix err.new.failed (E.contents err.old.inner) (E.contents err.new.inner) (fault_message name.now fault) }
+{
+    match fault {
+        RunFault::Text(fault) => report_limit(err, name, fault),
+        RunFault::Section(fault) => report_section(err, name, fault),
+        RunFault::Read => report_on(err, name, b"Read error"),
+        RunFault::Write => report_on(err, name, b"Write error"),
+    }
+}
+
+/// Says which limit the text passes, and in which line.
+fn report_limit<E: Write>(err: &mut Watched<E>, name: &[u8], fault: TextFault)
+    requires not_failed { err.old.failed ≡ false }
+    ensures { AppendsAllOrPrefix err.new.failed (E.contents err.old.inner) (E.contents err.new.inner) (message_of name.now (limit_of fault)) }
+{
+    match fault {
+        TextFault::TooManyLines { line } => report_at(err, name, line, b"Too many lines"),
+        TextFault::LineTooLong { line } => report_at(err, name, line, b"Line too long"),
+    }
+}
+
+/// Says which line is faulty among the sections, and why, or what the text ends in.
+fn report_section<E: Write>(err: &mut Watched<E>, name: &[u8], fault: SectionFault)
+    requires not_failed { err.old.failed ≡ false }
+    ensures { AppendsAllOrPrefix err.new.failed (E.contents err.old.inner) (E.contents err.new.inner) (message_of name.now (fault_of fault)) }
+{
+    match fault {
+        SectionFault::InappropriateElif { line } => {
+            report_at(err, name, line, b"Inappropriate #elif");
+        }
+        SectionFault::InappropriateElse { line } => {
+            report_at(err, name, line, b"Inappropriate #else");
+        }
+        SectionFault::InappropriateEndif { line } => {
+            report_at(err, name, line, b"Inappropriate #endif");
+        }
+        SectionFault::TooManyLevels { line } => {
+            report_at(err, name, line, b"Too many levels of nesting");
+        }
+        SectionFault::Obfuscated { line } => {
+            report_at(err, name, line, b"Obfuscated preprocessor control line");
+        }
+        SectionFault::PrematureEof { line, if_line } => {
+            report_premature_eof(err, name, line, if_line);
+        }
+        SectionFault::EofInComment { line } => report_at(err, name, line, b"EOF in comment"),
+    }
+}
+
+/// Says something of a line of the text.
+fn report_at<E: Write>(err: &mut Watched<E>, name: &[u8], line: u32, text: &[u8])
+    requires not_failed { err.old.failed ≡ false }
+    ensures { AppendsAllOrPrefix err.new.failed (E.contents err.old.inner) (E.contents err.new.inner)
+        (about_line name.now line text.now) }
+{
+    let mut digits = Buffer::new();
+    let number = digits.format(line).as_bytes();
+    write_parts(
+        err,
+        &[b"unifdef: ", name, b": ", number, b": ", text, b"\n"],
+    );
+}
+
+/// Says that the text ends in a section whose first directive stands in the line `if_line`.
+fn report_premature_eof<E: Write>(err: &mut Watched<E>, name: &[u8], line: u32, if_line: u32)
+    requires not_failed { err.old.failed ≡ false }
+    ensures { AppendsAllOrPrefix err.new.failed (E.contents err.old.inner) (E.contents err.new.inner)
+        (message_of name.now (premature_eof line if_line)) }
+{
+    let mut digits = Buffer::new();
+    let number = digits.format(line).as_bytes();
+    let mut if_digits = Buffer::new();
+    let if_number = if_digits.format(if_line).as_bytes();
+    write_parts(
+        err,
+        &[
+            b"unifdef: ",
+            name,
+            b": ",
+            number,
+            b": Premature EOF (#if line ",
+            if_number,
+            b")\n",
+        ],
+    );
+}
+
+/// Says something of the input.
+fn report_on<E: Write>(err: &mut Watched<E>, name: &[u8], text: &[u8])
+    requires not_failed { err.old.failed ≡ false }
+    ensures { AppendsAllOrPrefix err.new.failed (E.contents err.old.inner) (E.contents err.new.inner)
+        (about name.now text.now) }
+{
+    write_parts(err, &[b"unifdef: ", name, b": ", text, b"\n"]);
+}

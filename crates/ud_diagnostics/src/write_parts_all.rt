@@ -1,0 +1,26 @@
+//! Writing a message's parts.
+
+ghost use Rattle.std.specs.Prelude.{◌≡◌, false, not};
+ghost use Rattle.std.specs.List.{flat_map};
+ghost use Rattle.ud_io.specs.Watched.{AppendsAllOrPrefix};
+
+use std::io::Write;
+use ud_io::{Watched, write_all};
+
+/// Writes these parts in turn, each whole; an empty one takes no call.
+///
+/// # Errors
+/// `false` if a write fails: a front of the parts' bytes is written, and `out` has failed.
+pub(crate) fn write_parts<W: Write>(out: &mut Watched<W>, parts: &[&[u8]]) -> bool
+    requires not_failed { out.old.failed ≡ false }
+    ensures written { AppendsAllOrPrefix out.new.failed (W.contents out.old.inner) (W.contents out.new.inner)
+        (flat_map (λ p. p.now) parts.now) }
+    ensures failed { out.new.failed ≡ not result }
+{
+    for part in parts {
+        if !write_all(out, part) {
+            return false;
+        }
+    }
+    true
+}

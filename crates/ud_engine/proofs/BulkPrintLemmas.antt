@@ -1,0 +1,156 @@
+-- What a printer of lines stands for once it has printed many text lines at once.
+use Rattle.std.proofs.Common.{◌≡◌, ℕ, suc, ◌<◌, List, [], ◌∷◌, ◌++◌, length, map, Bool, true, false, not, bytes_eq, ◌||◌, None, refl, sym, ◌∙◌, ap, ap₂, subst, append_assoc, append-nil, arith}
+use Rattle.std.specs.List.{concat}
+use Rattle.std.proofs.lemmas.List.Folds.{concat-append}
+use Rattle.std.proofs.lemmas.Slice.Eq.{bytes_eq-Decides}
+use Rattle.ud_model.specs.text.Lines.{Line, text_of, AreWhole, numbered_from, whole_lines, split_lines}
+use Rattle.ud_model.specs.text.Scans.{Reading}
+use Rattle.ud_model.specs.sections.Tree.{Item, Tree}
+use Rattle.ud_model.specs.sections.Pruning.{Mark, marks}
+use Rattle.ud_model.specs.sections.Items.{Options}
+use Rattle.ud_model.specs.answer.Printing.{Judged, judged_line, judged_lines, pieces_by, some_other}
+use Rattle.ud_model.specs.declared.settings.Listing.{Listing}
+use Rattle.ud_model.specs.declared.settings.Listing.TheVariants.{Off}
+use Rattle.ud_model.specs.declared.verdict.Verdict.{Verdict}
+use Rattle.ud_model.proofs.sections.Soundness.{sound_lines}
+use Rattle.ud_model.proofs.sections.Stays.{length_marks}
+use Rattle.ud_model.proofs.text.LinesLemmas.{map-numbered_from, text_of-line_at, are_whole}
+use Rattle.ud_text.specs.BulkScanning.{AreWholeLines}
+use Rattle.ud_text.proofs.QuietLineLemmas.{ended_lines}
+use Rattle.ud_sections.specs.PrinterOutputs.{judged_text, PrintsEach}
+use Rattle.ud_engine.specs.declared.line_processor.LineProcessor.{LineProcessor}
+use Rattle.ud_engine.specs.DecidedLines.{DecidesBulk}
+use Rattle.ud_engine.specs.ProcessedLines.{text_by, differs_in, ProcessorRepresents, PrintsBulk}
+use Rattle.ud_engine.proofs.ProcessorLemmas.{is_off}
+
+judged_line-append : (xs ys : List (Item Reading)) (ms ns : List Mark) → length ms ≡ length xs →
+    judged_lines (xs ++ ys) (ms ++ ns) ≡ judged_lines xs ms ++ judged_lines ys ns
+judged_line-append [] ys [] ns e = refl
+judged_line-append [] ys (m ∷ ms) ns e = cc
+judged_line-append (x ∷ xs) ys [] ns e = cc
+judged_line-append (x ∷ xs) ys (m ∷ ms) ns e =
+    ap (λ js. judged_line x m ∷ js) (judged_line-append xs ys ms ns (let h : suc (length ms) ≡ suc (length xs) = e in omega (arith, h)))
+
+-- the pieces of lines after others follow theirs
+pieces_by-append : (piece : List Judged → Judged → List ℕ) (before js ks : List Judged) →
+    pieces_by piece before (js ++ ks) ≡ pieces_by piece before js ++ pieces_by piece (before ++ js) ks
+pieces_by-append piece before [] ks = ap (λ bs. pieces_by piece bs ks) (sym (append-nil before))
+pieces_by-append piece before (j ∷ js) ks =
+    ap (λ ps. piece before j ∷ ps)
+    (pieces_by-append piece (before ++ j ∷ []) js ks
+    ∙ ap (λ bs. pieces_by piece (before ++ j ∷ []) js ++ pieces_by piece bs ks) (append_assoc before (j ∷ []) js))
+
+-- one of them differs, or one of the others does
+differ-append : (piece : List Judged → Judged → List ℕ) (before js ks : List Judged) (ps : List (List ℕ)) →
+    some_other (pieces_by piece before js ++ ps) (js ++ ks) ≡ (some_other (pieces_by piece before js) js || some_other ps ks)
+differ-append piece before [] ks ps = refl
+differ-append piece before (j ∷ js) ks ps =
+    ap (λ d. not (bytes_eq (piece before j) (text_of j.line)) || d) (differ-append piece (before ++ j ∷ []) js ks ps)
+    ∙ or_or (not (bytes_eq (piece before j) (text_of j.line))) (some_other (pieces_by piece (before ++ j ∷ []) js) js) (some_other ps ks)
+  where
+    or_or : (a b c : Bool) → (a || (b || c)) ≡ ((a || b) || c)
+    or_or true b c = refl
+    or_or false b c = refl
+
+pieces_by-same : (f g : List Judged → Judged → List ℕ) → ((before : List Judged) (j : Judged) → f before j ≡ g before j) → (before js : List Judged) →
+    pieces_by f before js ≡ pieces_by g before js
+pieces_by-same f g e before [] = refl
+pieces_by-same f g e before (j ∷ js) = ap₂ (λ p ps. p ∷ ps) (e before j) (pieces_by-same f g e (before ++ j ∷ []) js)
+
+-- lines that are printed as they are don't differ
+pub kept_same : (verdict : Verdict) (ls : List Line) → some_other (map text_of ls) (map (judged_text verdict) ls) ≡ false
+kept_same verdict [] = refl
+kept_same verdict (l ∷ ls) = ap₂ (λ b d. not b || d) ((bytes_eq-Decides (text_of l) (text_of l)).1 refl) (kept_same verdict ls)
+
+-- whole lines of which nothing is printed do
+pub dropped_differ : (verdict : Verdict) (n : ℕ) (bytes : List ℕ) → AreWholeLines bytes → 0 < length bytes →
+    some_other (map (λ (l : Line). []) (numbered_from n (whole_lines bytes))) (map (judged_text verdict) (numbered_from n (whole_lines bytes))) ≡ true
+dropped_differ verdict n bytes ends some = by_lines (whole_lines bytes) (ended_lines bytes ends) (are_whole bytes)
+  where
+    some_text : (front : List ℕ) (d : Bool) → (not (bytes_eq [] (front ++ 10 ∷ [])) || d) ≡ true
+    some_text [] d = refl
+    some_text (b ∷ front) d = refl
+
+    by_lines : (ls : List (List ℕ)) → bytes ≡ concat ls → AreWhole ls →
+        some_other (map (λ (l : Line). []) (numbered_from n ls)) (map (judged_text verdict) (numbered_from n ls)) ≡ true
+    by_lines [] e whole = absurd (let z = ap length e in omega (arith, z, some))
+    by_lines (l ∷ ls) e whole =
+        ap (λ (x : List ℕ). not (bytes_eq [] x) || some_other (map (λ (k : Line). []) (numbered_from (suc n) ls)) (map (judged_text verdict) (numbered_from (suc n) ls)))
+        (text_of-line_at n l ∙ whole.0.2)
+        ∙ some_text whole.0.0 (some_other (map (λ (k : Line). []) (numbered_from (suc n) ls)) (map (judged_text verdict) (numbered_from (suc n) ls)))
+
+-- what is printed of whole lines as they are
+pub kept_text : (n : ℕ) (bytes : List ℕ) → AreWholeLines bytes → concat (map text_of (numbered_from n (whole_lines bytes))) ≡ bytes
+kept_text n bytes ends = ap concat (map-numbered_from n (whole_lines bytes)) ∙ sym (ended_lines bytes ends)
+
+-- or if nothing is printed of them
+pub dropped_text : (ls : List Line) → concat (map (λ (l : Line). []) ls) ≡ []
+dropped_text [] = refl
+dropped_text (l ∷ ls) = dropped_text ls
+
+pub or_none : (b : Bool) → b ≡ (b || false)
+or_none true = refl
+or_none false = refl
+
+pub or_some : (b : Bool) → true ≡ (b || true)
+or_some true = refl
+or_some false = refl
+
+module _ {S : Type 0} (stands : S → List Judged → Type 0) (piece_of : S → List Judged → Judged → List ℕ) (o : Options)
+    (piece : List Judged → Judged → List ℕ) (xs : List (Item Reading)) (t : Tree Reading) (p : LineProcessor S) (h : ProcessorRepresents stands piece_of p o piece xs t) where
+  -- no line is printed
+  pub prints_none : (n : ℕ) → PrintsBulk stands piece_of p o piece xs t (numbered_from n (whole_lines [])) []
+  unfolding split_lines
+  prints_none n = record {
+    items = [];
+    tree = t;
+    has = subst (λ ys. ProcessorRepresents stands piece_of p o piece ys t) (sym (append-nil xs)) h;
+    lines_are = refl;
+    is_more = ap (λ ys. text_by o.settings.listing piece ys t) (append-nil xs) ∙ sym (append-nil (text_by o.settings.listing piece xs t));
+  }
+
+  -- of each of these lines this is printed
+  pub prints_run : (q : LineProcessor S) (ls : List Line) (verdict : Verdict) (own : Line → List ℕ) (other : Bool) (more : List ℕ) → p.lister ≡ None → q.lister ≡ p.lister →
+      q.printer ≡ p.printer → q.differs ≡ (p.differs || other) → DecidesBulk o q.decider xs t ls verdict → PrintsEach (stands p.printer) (piece_of p.printer) verdict own →
+      some_other (map own ls) (map (judged_text verdict) ls) ≡ other → concat (map own ls) ≡ more → PrintsBulk stands piece_of q o piece xs t ls more
+  prints_run q ls verdict own other more e same_lister same_printer differs one each others joined =
+      let off : o.settings.listing ≡ Off = is_off o.settings.listing (sym h.lister ∙ e) in
+      let before : List Judged = judged_lines xs (marks t) in
+      let next : List Judged = map (judged_text verdict) ls in
+      let all : judged_lines (xs ++ one.items) (marks one.tree) ≡ before ++ next =
+      ap (judged_lines (xs ++ one.items)) one.marks_are
+      ∙ judged_line-append xs one.items (marks t) one.own (length_marks true t ∙ ap length (sound_lines h.has.read.sound))
+      ∙ ap (λ js. before ++ js) one.judged_so in
+      let shown : (pieces_by (piece_of p.printer) before next ≡ map own ls) × stands p.printer (before ++ next) = each before ls (h.shown off) in
+      let pieces : pieces_by piece [] (before ++ next) ≡ pieces_by piece [] before ++ map own ls =
+      pieces_by-append piece [] before next
+      ∙ ap (λ ps. pieces_by piece [] before ++ ps) (sym (pieces_by-same (piece_of p.printer) piece h.stays before next) ∙ shown.0) in
+      record {
+        items = one.items;
+        tree = one.tree;
+        has = record {
+          has = one.has;
+          lister = same_lister ∙ h.lister;
+          shown = λ f. subst (λ s. stands s (judged_lines (xs ++ one.items) (marks one.tree))) (sym same_printer) (subst (stands p.printer) (sym all) shown.1);
+          stays = λ bs j. ap (λ s. piece_of s bs j) same_printer ∙ h.stays bs j;
+          differs =
+              differs ∙ ap (λ d. d || other) h.differs
+              ∙ subst (λ (l : Listing). (differs_in l piece xs t || other) ≡ differs_in l piece (xs ++ one.items) one.tree) (sym off)
+              (sym (ap (λ js. some_other (pieces_by piece [] js) js) all ∙ ap (λ ps. some_other ps (before ++ next)) pieces
+              ∙ differ-append piece [] before next (map own ls) ∙ ap (λ d. some_other (pieces_by piece [] before) before || d) others));
+        };
+        lines_are = one.lines_are;
+        is_more =
+            subst (λ (l : Listing). text_by l piece (xs ++ one.items) one.tree ≡ text_by l piece xs t ++ more) (sym off)
+            (ap (λ js. concat (pieces_by piece [] js)) all ∙ ap concat pieces ∙ concat-append (pieces_by piece [] before) (map own ls)
+            ∙ ap (λ x. concat (pieces_by piece [] before) ++ x) joined);
+      }
+
+-- no bytes have no lines
+pub no_lines : (n : ℕ) → numbered_from n (whole_lines []) ≡ []
+unfolding split_lines
+no_lines n = refl
+
+-- of which nothing is printed, and none differs
+pub none_other : (verdict : Verdict) (own : Line → List ℕ) (ls : List Line) → ls ≡ [] → some_other (map own ls) (map (judged_text verdict) ls) ≡ false
+none_other verdict own ls e = ap (λ ks. some_other (map own ks) (map (judged_text verdict) ks)) e

@@ -1,0 +1,204 @@
+-- Steps over many lines: what they leave of an engine.
+use Rattle.std.proofs.Common.{◌≡◌, ℕ, suc, ◌+◌, ◌-◌, ◌<◌, ◌≤◌, Bool, true, false, if◌then◌else◌, List, [], ◌++◌, length, take, drop, Option, refl, sym, ◌∙◌, ap, ap₂, subst, append_assoc, append-nil, arith}
+use Rattle.std.proofs.lemmas.List.{map-append, take-take}
+use Rattle.std.proofs.Math.ListN.{length-take, length-drop}
+use Rattle.ud_model.specs.text.Lines.{Line, NoNewline, SplitLines, text_of, whole_lines, numbered_from, split_lines}
+use Rattle.ud_model.specs.sections.Items.{Options, line_of}
+use Rattle.ud_model.specs.answer.Printing.{Judged}
+use Rattle.ud_model.specs.answer.Outcomes.{lines_so_far}
+use Rattle.ud_model.proofs.text.LinesLemmas.{numbered_from-append}
+use Rattle.ud_cond.specs.SymbolTable.{TableRepresents}
+use Rattle.ud_text.specs.LinesState.{LinesState, LinesRepresent, UpToNewline}
+use Rattle.ud_text.specs.Borrowing.{CanBorrow}
+use Rattle.ud_text.specs.BulkScanning.{AreWholeLines}
+use Rattle.ud_text.specs.Consuming.{CanConsume}
+use Rattle.ud_text.proofs.ConsumeLemmas.{lines_joined, can_consume_rest}
+use Rattle.ud_engine.specs.declared.engine.Cursor.{Cursor}
+use Rattle.ud_engine.specs.declared.line_processor.SkippedText.{SkippedText}
+use Rattle.ud_engine.specs.Advancing.{Advances, IsCursor, slice_between, measure}
+use Rattle.ud_engine.specs.Feeding.{EngineState, IsOpen, EngineRepresentsBuffered}
+use Rattle.ud_engine.specs.ProcessedLines.{PrintsBulk, printed_of}
+use Rattle.ud_engine.specs.DecidedLines.{consumed}
+use Rattle.ud_io.specs.Buffering.{AppendsAllBut}
+use Rattle.ud_engine.proofs.SkipLemmas.{can_skip_take}
+use Rattle.ud_io.proofs.BufferingLemmas.{appends_all_but_none}
+use Rattle.ud_engine.proofs.StepLemmas.{between_none, between_more}
+use Rattle.ud_engine.proofs.LinePartLemmas.{before_is, rest_is, split_lines-front_of}
+
+-- lines that are skipped leave nothing that is held
+pub open_skipped : (lines new : LinesState) (bytes : List ℕ) → new ≡ consumed lines bytes → IsOpen lines → IsOpen new
+open_skipped lines new bytes is h = record {
+  part = ap (λ (k : LinesState). k.whole) is ∙ h.part;
+  goes_on = ap (λ (k : LinesState). k.closed) is ∙ h.goes_on;
+  limit = ap (λ (k : LinesState). k.last_line) is ∙ h.limit;
+  short = let z = ap (λ (k : LinesState). length k.held) is in let s = h.short in omega (arith, z, s);
+  no_newline = subst (λ (x : List ℕ). NoNewline x) (sym (ap (λ (k : LinesState). k.held) is)) h.no_newline;
+}
+
+-- of the lines up to a place, those after the first ones can be skipped after these
+pub ready_after : (lines new : LinesState) (bytes : List ℕ) (at end whole : ℕ) → at ≤ end → end < whole → CanConsume lines (slice_between bytes at whole) →
+    AreWholeLines (slice_between bytes at end) → new ≡ consumed lines (slice_between bytes at end) → CanConsume new (slice_between bytes end whole)
+ready_after lines new bytes at end whole ordered later can ends is =
+    subst (λ k. CanConsume k (slice_between bytes end whole)) (sym is)
+    (can_consume_rest lines (slice_between bytes at end) (slice_between bytes end whole) ends
+    (subst (CanConsume lines) (between_more bytes at end whole ordered (omega (arith, later))) can))
+
+-- the front of a piece up to its first line feed is one line
+pub one_line_front : (rest : List ℕ) (used : ℕ) → UpToNewline rest used true → (AreWholeLines (take used rest)) × (length (whole_lines (take used rest)) ≡ 1)
+unfolding split_lines
+one_line_front rest used to =
+    let parts = split_lines-front_of [] [] rest used true refl to in (
+      ap (λ (q : SplitLines). q.rest) parts,
+      ap (λ (q : SplitLines). length q.whole) parts,
+    )
+
+flag_small : (b : Bool) → (if b then 0 else 1) ≤ 1
+flag_small true = omega arith
+flag_small false = omega arith
+
+-- after a line less is left to do
+pub line_done : (bytes : List ℕ) (r next : Cursor) → r.pos < next.pos → next.pos ≤ length bytes → measure bytes next < measure bytes r
+line_done bytes r next forth within = let f = flag_small next.bulk_tried in omega (arith, forth, within, f)
+
+-- or after lines were tried
+pub tried_done : (bytes : List ℕ) (r next : Cursor) → r.bulk_tried ≡ false → next.bulk_tried ≡ true → r.pos ≤ next.pos → measure bytes next < measure bytes r
+tried_done bytes r next untried tried forth =
+    let flag : Bool → ℕ = λ b. if b then 0 else 1 in
+    let a : flag r.bulk_tried ≡ 1 = ap flag untried in
+    let b : flag next.bulk_tried ≡ 0 = ap flag tried in
+    omega (arith, forth, a, b)
+
+module _ {S : Type 0} (stands : S → List Judged → Type 0) (piece_of : S → List Judged → Judged → List ℕ) (o : Options) (piece : List Judged → Judged → List ℕ)
+    (e : EngineState S) (text printed : List ℕ) (h : EngineRepresentsBuffered stands piece_of e o piece text printed) (f : EngineState S) (bytes more : List ℕ)
+    (can : CanConsume e.lines bytes) (symbols : f.symbols ≡ e.symbols) (given_up : f.lines ≡ consumed e.lines bytes) (took : LinesRepresent f.lines (text ++ bytes))
+    (prints : PrintsBulk stands piece_of f.printer o piece h.items h.tree (numbered_from (suc e.lines.before) (whole_lines bytes)) more) where
+  all_lines : lines_so_far (text ++ bytes) ≡ lines_so_far text ++ numbered_from (suc e.lines.before) (whole_lines bytes)
+  all_lines =
+      ap (numbered_from 1) (lines_joined text bytes (rest_is stands piece_of o piece e text printed h ∙ can.unheld))
+      ∙ numbered_from-append 1 (whole_lines text) (whole_lines bytes)
+      ∙ ap (λ n. lines_so_far text ++ numbered_from n (whole_lines bytes)) (let b = before_is stands piece_of o piece e text printed h in omega (arith, b))
+
+  -- so many lines more were taken
+  pub run_taken : EngineRepresentsBuffered stands piece_of f o piece (text ++ bytes) (printed ++ more)
+  run_taken = record {
+    items = h.items ++ prints.items;
+    tree = prints.tree;
+    goes = record {
+      sound = prints.has.has.read.sound;
+      are = all_lines ∙ ap₂ (λ x y. x ++ y) h.goes.are (sym prints.lines_are) ∙ sym (map-append line_of h.items prints.items);
+    };
+    has = prints.has;
+    printed_is = ap (λ p. p ++ more) h.printed_is ∙ sym prints.is_more;
+    symbols = subst (λ s. TableRepresents s o.table) (sym symbols) h.symbols;
+    opened = open_skipped e.lines f.lines bytes given_up h.opened;
+    took = took;
+    unrefused = ap (λ (k : LinesState). k.fault) given_up ∙ h.unrefused;
+    begun = λ some. let z = ap (λ (k : LinesState). length k.held) given_up in let n = ap length can.unheld in omega (arith, z, n, some);
+    count =
+        let z = ap (λ (k : LinesState). k.before) given_up in let n = can.numbered in let m = h.opened.limit in omega (arith, z, n, m);
+  }
+
+-- lines that were passed in a piece
+module _ {S : Type 0} (stands : S → List Judged → Type 0) (piece_of : S → List Judged → Judged → List ℕ) (o : Options) (piece : List Judged → Judged → List ℕ)
+    (text printed : List ℕ) (a b : Option (List ℕ)) (f : EngineState S) (g : List ℕ) (bytes : List ℕ) (from at end : ℕ) (ordered : from ≤ at) (later : at ≤ end) where
+  -- lines that stay as they are lengthen the run
+  pub run_kept : EngineRepresentsBuffered stands piece_of f o piece (text ++ slice_between bytes at end) (printed ++ slice_between bytes at end) → f.buffered ≡ g →
+      Advances stands piece_of f o piece text printed (slice_between bytes at end) a a (g ++ slice_between bytes from at) (f.buffered ++ slice_between bytes from end)
+  run_kept taken same =
+      let joined : f.buffered ++ slice_between bytes from end ≡ (g ++ slice_between bytes from at) ++ slice_between bytes at end =
+      ap₂ (λ x y. x ++ y) same (between_more bytes from at end ordered later) ∙ sym (append_assoc g (slice_between bytes from at) (slice_between bytes at end)) in
+      record {
+        more = slice_between bytes at end;
+        taken = taken;
+        sent = subst (λ x. AppendsAllBut a a ((g ++ slice_between bytes from at) ++ slice_between bytes at end) x) (sym joined) (appends_all_but_none a ((g ++ slice_between bytes from at) ++ slice_between bytes at end));
+      }
+
+  -- before lines that are removed the run is put
+  pub run_dropped : EngineRepresentsBuffered stands piece_of f o piece (text ++ slice_between bytes at end) (printed ++ []) → AppendsAllBut a b (g ++ slice_between bytes from at) f.buffered →
+      Advances stands piece_of f o piece text printed (slice_between bytes at end) a b (g ++ slice_between bytes from at) (f.buffered ++ slice_between bytes end end)
+  run_dropped taken sent = record {
+    more = [];
+    taken = taken;
+    sent =
+        subst (λ x. AppendsAllBut a b ((g ++ slice_between bytes from at) ++ []) x) (sym (ap (λ x. f.buffered ++ x) (between_none bytes end) ∙ append-nil f.buffered))
+        (subst (λ x. AppendsAllBut a b x f.buffered) (sym (append-nil (g ++ slice_between bytes from at))) sent);
+  }
+
+-- the first bytes of those up to a place
+pub first_between : (bytes : List ℕ) (at whole n : ℕ) → n ≤ length (slice_between bytes at whole) → take n (slice_between bytes at whole) ≡ slice_between bytes at (at + n)
+first_between bytes at whole n h =
+    let k = length-take (whole - at) (drop at bytes) in
+    take-take n (whole - at) (drop at bytes) (omega (arith, h, k)) ∙ ap (λ i. take i (drop at bytes)) (let e : n ≡ (at + n) - at = omega arith in e)
+
+-- a place after lines that were passed, up to which the bytes from here are to be written as they are
+module _ (room : ℕ) (lines new : LinesState) (bytes : List ℕ) (r : Cursor) (place : IsCursor room lines bytes r) (some : r.pos < r.whole_end) (n : ℕ)
+    (within : n ≤ length (slice_between bytes r.pos r.whole_end)) (ends : AreWholeLines (take n (slice_between bytes r.pos r.whole_end)))
+    (given_up : new ≡ consumed lines (take n (slice_between bytes r.pos r.whole_end))) where
+  cut : take n (slice_between bytes r.pos r.whole_end) ≡ slice_between bytes r.pos (r.pos + n)
+  cut = first_between bytes r.pos r.whole_end n within
+
+  pub place_after : (from : ℕ) → from ≤ r.pos + n → IsCursor room new bytes (record { pending_start = from; pos = r.pos + n; whole_end = r.whole_end; bulk_tried = true })
+  place_after from ordered = record {
+    from = ordered;
+    at =
+        let w = within in let k = length-take (r.whole_end - r.pos) (drop r.pos bytes) in let l = length-drop r.pos bytes in let m = place.whole in
+        omega (arith, w, k, l, m, some);
+    whole = place.whole;
+    ready = λ later.
+        ready_after lines new bytes r.pos (r.pos + n) r.whole_end (omega arith) later (place.ready some) (subst AreWholeLines cut ends)
+        (given_up ∙ ap (consumed lines) cut);
+    fits = λ small. let f = place.fits small in let z = ap (λ (k : LinesState). length k.held) given_up in omega (arith, f, z);
+  }
+
+-- a place after a line
+pub place_after_line : (room : ℕ) (lines new : LinesState) (bytes rest : List ℕ) (r : Cursor) → rest ≡ drop r.pos bytes → IsCursor room lines bytes r → (l : Line) →
+    CanBorrow lines rest (length (text_of l)) → (end : ℕ) → end ≡ r.pos + length (text_of l) → new ≡ record lines { before = lines.before + 1 } →
+    (from : ℕ) → from ≤ end → IsCursor room new bytes (record { pending_start = from; pos = end; whole_end = r.whole_end; bulk_tried = false })
+place_after_line room lines new bytes rest r rest_from place l lends end ends counted from ordered =
+    let front : take (length (text_of l)) rest ≡ slice_between bytes r.pos end = ap₂ (λ n x. take n x) (let e : length (text_of l) ≡ end - r.pos = omega (arith, ends) in e) rest_from in
+    let one = one_line_front rest (length (text_of l)) lends.front in
+    record {
+      from = ordered;
+      at = let w = lends.front.within in let k = ap length rest_from in let m = length-drop r.pos bytes in let p = place.at in omega (arith, w, k, m, p, ends);
+      whole = place.whole;
+      ready = λ later.
+          ready_after lines new bytes r.pos end r.whole_end (omega (arith, ends)) later (place.ready (omega (arith, ends, later))) (subst AreWholeLines front one.0)
+          (counted ∙ ap (λ n. record lines { before = lines.before + n }) (sym one.1 ∙ ap (λ x. length (whole_lines x)) front));
+      fits = λ small. let f = place.fits small in let z = ap (λ (k : LinesState). length k.held) counted in omega (arith, f, z, ends);
+    }
+
+-- so many lines more were taken
+module _ {S : Type 0} (stands : S → List Judged → Type 0) (piece_of : S → List Judged → Judged → List ℕ) (o : Options) (piece : List Judged → Judged → List ℕ)
+    (e f : EngineState S) (text printed : List ℕ) (h : EngineRepresentsBuffered stands piece_of e o piece text printed) (bytes : List ℕ) (at whole : ℕ) (passed : SkippedText)
+    (can : CanConsume e.lines (slice_between bytes at whole)) (within : passed.count ≤ length (slice_between bytes at whole))
+    (ends : AreWholeLines (take passed.count (slice_between bytes at whole))) (symbols : f.symbols ≡ e.symbols)
+    (given_up : f.lines ≡ consumed e.lines (take passed.count (slice_between bytes at whole)))
+    (took : LinesRepresent f.lines (text ++ take passed.count (slice_between bytes at whole)))
+    (prints : PrintsBulk stands piece_of f.printer o piece h.items h.tree (numbered_from (suc e.lines.before) (whole_lines (take passed.count (slice_between bytes at whole))))
+    (printed_of passed (slice_between bytes at whole))) where
+  lines_taken : EngineRepresentsBuffered stands piece_of f o piece (text ++ take passed.count (slice_between bytes at whole)) (printed ++ printed_of passed (slice_between bytes at whole))
+  lines_taken =
+      run_taken stands piece_of o piece e text printed h f (take passed.count (slice_between bytes at whole)) (printed_of passed (slice_between bytes at whole))
+      (can_skip_take e.lines (slice_between bytes at whole) passed.count ends can) symbols given_up took prints
+
+  taken_as : (kept : Bool) → passed.kept ≡ kept →
+      EngineRepresentsBuffered stands piece_of f o piece (text ++ slice_between bytes at (at + passed.count)) (printed ++ (if kept then slice_between bytes at (at + passed.count) else []))
+  taken_as kept is =
+      let cut : take passed.count (slice_between bytes at whole) ≡ slice_between bytes at (at + passed.count) = first_between bytes at whole passed.count within in
+      subst (λ x. EngineRepresentsBuffered stands piece_of f o piece (text ++ x) (printed ++ (if kept then x else []))) cut
+      (subst (λ k. EngineRepresentsBuffered stands piece_of f o piece (text ++ take passed.count (slice_between bytes at whole)) (printed ++ (if k then take passed.count (slice_between bytes at whole) else [])))
+      is lines_taken)
+
+  module _ (a b : Option (List ℕ)) (from : ℕ) (ordered : from ≤ at) where
+    -- lines that stay as they are lengthen the run
+    pub passed_kept : passed.kept ≡ true → f.buffered ≡ e.buffered →
+        Advances stands piece_of f o piece text printed (slice_between bytes at (at + passed.count)) a a (e.buffered ++ slice_between bytes from at) (f.buffered ++ slice_between bytes from (at + passed.count))
+    passed_kept kept same =
+        run_kept stands piece_of o piece text printed a a f e.buffered bytes from at (at + passed.count) ordered (omega arith) (taken_as true kept) same
+
+    -- before lines that are removed the run is put
+    pub passed_dropped : passed.kept ≡ false → AppendsAllBut a b (e.buffered ++ slice_between bytes from at) f.buffered →
+        Advances stands piece_of f o piece text printed (slice_between bytes at (at + passed.count)) a b (e.buffered ++ slice_between bytes from at)
+        (f.buffered ++ slice_between bytes (at + passed.count) (at + passed.count))
+    passed_dropped kept sent =
+        run_dropped stands piece_of o piece text printed a b f e.buffered bytes from at (at + passed.count) ordered (omega arith) (taken_as false kept) sent

@@ -1,0 +1,42 @@
+-- What a reader stands for once it has read a line.
+use Rattle.std.proofs.Common.{◌≡◌, List, [], ◌∷◌, ◌++◌, map, Result, Ok, Err, None, IfOk, OnOk, sym, ◌∙◌, ap, subst}
+use Rattle.ud_model.specs.text.Lines.{Line}
+use Rattle.ud_model.specs.text.Scans.{Reading}
+use Rattle.ud_model.specs.text.Scanning.{next_reading}
+use Rattle.ud_model.specs.sections.Tree.{Item, Tree}
+use Rattle.ud_model.specs.sections.Items.{Options, reading_of, mode_after, next_item}
+use Rattle.ud_model.specs.declared.kind.Mode.{Mode}
+use Rattle.ud_text.specs.ScannerState.{ScannerRepresents}
+use Rattle.ud_sections.specs.declared.fault.SectionFault.{SectionFault}
+use Rattle.ud_sections.specs.declared.step.Step.{Step}
+use Rattle.ud_sections.specs.MachineState.{MachineRepresents, StepsLine, machine_fault}
+use Rattle.ud_sections.proofs.NextLemmas.{readings_more}
+use Rattle.ud_engine.specs.declared.line_decider.LineDecider.{LineDecider as TheReader}
+use Rattle.ud_engine.specs.DecidedLines.{DeciderRepresents, DecidesLine}
+
+module _ (o : Options) (new : TheReader) (xs : List (Item Reading)) (t : Tree Reading) (l : Line) (mode : Mode) (m : mode ≡ mode_after o t) where
+  -- the scanner and the machine have read the line
+  pub has_next : (u : Tree Reading) → MachineRepresents new.machine o (xs ++ next_item o xs t l ∷ []) u → machine_fault new.machine ≡ None →
+      ScannerRepresents new.scanner (map reading_of xs ++ next_reading (map reading_of xs) mode l ∷ []) → DeciderRepresents o new (xs ++ next_item o xs t l ∷ []) u
+  has_next u read unrefused carries = record {
+    read = read;
+    unrefused = unrefused;
+    carries =
+        subst (ScannerRepresents new.scanner)
+        (ap (λ k. map reading_of xs ++ next_reading (map reading_of xs) k l ∷ []) m ∙ sym (readings_more o xs t l)) carries;
+  }
+
+  pub reads_one : (answer : Result Step SectionFault) → IfOk answer (StepsLine new.machine o xs t l) → OnOk answer (machine_fault new.machine ≡ None) →
+      ScannerRepresents new.scanner (map reading_of xs ++ next_reading (map reading_of xs) mode l ∷ []) → IfOk answer (DecidesLine o new xs t l)
+  reads_one (Err f) a b c = tt
+  reads_one (Ok s) a b c = record {
+    tree = a.tree;
+    has = has_next a.tree a.read b c;
+    mark = a.mark;
+    marks_are = a.marks_are;
+    judged_so = a.judged_so;
+  }
+
+pub second : (P Q : Type 0) (answer : Result Step SectionFault) → OnOk answer (P × Q) → OnOk answer Q
+second P Q (Ok s) h = h.1
+second P Q (Err f) h = tt

@@ -1,0 +1,34 @@
+-- What is put of a line of which nothing is left, or its ending.
+use Rattle.std.proofs.Common.{◌≡◌, inl, inr, ℕ, ◌+◌, ◌==◌, List, [], ◌∷◌, ◌++◌, length, Bool, true, false, not, bytes_eq, Option, refl, sym, ◌∙◌, ap, subst, length-append, arith}
+use Rattle.std.proofs.lemmas.Bool.Decides.{same_from_decides, Decides-eqb, Decides-like}
+use Rattle.std.proofs.lemmas.Slice.Eq.{bytes_eq-Decides}
+use Rattle.ud_engine.specs.ProcessedLines.{IsLeftOf, ShowsLine}
+
+-- a text is the same as itself
+pub same_text : (x : List ℕ) → bytes_eq x x ≡ true
+same_text x = (bytes_eq-Decides x x).1 refl
+
+-- if as many bytes are left as a line has, all are
+all_left : (left body ending : List ℕ) → IsLeftOf left ending → length left ≡ length body + length ending → left ≡ body ++ ending
+all_left left [] [] (inl e) h = e
+all_left left [] (b ∷ bs) (inl e) h = absurd (let z = ap length e in omega (arith, z, h))
+all_left left (b ∷ bs) ending (inl e) h = absurd (let z = ap length e in omega (arith, z, h))
+all_left left [] ending (inr e) h = e
+all_left left (b ∷ bs) ending (inr e) h = absurd (let z = ap length e in omega (arith, z, h))
+
+-- what is left is as long as the line where it is the line
+pub left_is_line : (left body ending : List ℕ) → IsLeftOf left ending → (length left == (length body + length ending)) ≡ bytes_eq left (body ++ ending)
+left_is_line left body ending some =
+    same_from_decides (length left == (length body + length ending)) (bytes_eq left (body ++ ending))
+    (Decides-like (length left == (length body + length ending)) (all_left left body ending some) (λ e. ap length e ∙ length-append body ending)
+    (Decides-eqb (length left) (length body + length ending)))
+    (bytes_eq-Decides left (body ++ ending))
+
+-- nothing is put of a line that stays as it is
+pub shows_whole : (a : Option (List ℕ)) (buffered pending piece own : List ℕ) → piece ≡ own → ShowsLine false a a buffered buffered pending piece own
+shows_whole a buffered pending piece own e = (sym (ap (λ x. not (bytes_eq x own)) e ∙ ap not (same_text own)), (refl, refl, e))
+
+-- a printer's piece is put where it is what is left
+pub shows_left : (put : Bool) (a b : Option (List ℕ)) (buffered rest pending left piece own : List ℕ) → piece ≡ left →
+    ShowsLine put a b buffered rest pending left own → ShowsLine put a b buffered rest pending piece own
+shows_left put a b buffered rest pending left piece own e h = subst (λ x. ShowsLine put a b buffered rest pending x own) (sym e) h

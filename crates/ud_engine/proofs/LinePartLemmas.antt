@@ -1,0 +1,284 @@
+-- Taking: what an engine stands for once it has taken more bytes.
+use Rattle.std.proofs.Common.{◌≡◌, ℕ, suc, ◌+◌, ◌<◌, ◌≤◌, Bool, true, false, List, [], ◌∷◌, ◌++◌, length, take, drop, Option, Some, None, refl, sym, ◌∙◌, ap, subst, append_assoc, append-nil, take-append-drop, take_all, arith, length-append}
+use Rattle.std.proofs.Math.ListN.{length-take}
+use Rattle.ud_model.proofs.output.SoundBounds.{sound_low}
+use Rattle.ud_model.proofs.sections.Heights.{depth_height}
+use Rattle.ud_model.specs.text.Lines.{Line, NoNewline, SplitLines, split_lines, whole_lines, partial_line, line_at, numbered_from, text_of}
+use Rattle.ud_model.specs.text.Scans.{Reading}
+use Rattle.ud_model.specs.sections.Tree.{Item, Tree, depth}
+use Rattle.ud_model.specs.sections.Items.{Options, line_of, next_item}
+use Rattle.ud_model.specs.sections.Faults.{Fault, FaultOf, past_last, too_long, too_many_lines, line_too_long, Case, Holds}
+use Rattle.ud_model.specs.answer.Printing.{Judged}
+use Rattle.ud_model.specs.answer.Outcomes.{IsLimit, by_lines, by_bytes, lines_so_far, line_so_far, stops, breaks, ReadsSoFar, goes_on}
+use Rattle.ud_model.specs.declared.limits.TheConstants.{LINE_BYTES, TEXT_LINES, OPEN_SECTIONS}
+use Rattle.ud_model.proofs.sections.Soundness.{reading_of-next}
+use Rattle.ud_model.proofs.text.LinesLemmas.{split_lines-append-open, split_lines-append-line, text_of-line_at, numbered_from-next, lines_so_far-append}
+use Rattle.ud_cond.specs.SymbolTable.{TableRepresents}
+use Rattle.ud_text.specs.LinesState.{LinesRepresent, UpToNewline, BreaksLimit}
+use Rattle.ud_text.specs.declared.fault.TextFault.{TextFault}
+use Rattle.ud_text.specs.declared.fault.TextFault.TheVariants.{TooManyLines, LineTooLong}
+use Rattle.ud_text.proofs.LinesLemmas.{represent_before, represent_rest}
+use Rattle.ud_sections.proofs.NextLemmas.{lines_more}
+use Rattle.ud_engine.specs.Advancing.{WriteStops as StopsShort}
+use Rattle.ud_engine.specs.Feeding.{EngineState, IsOpen, EngineRepresentsBuffered, FaultsAfter, limit_of}
+use Rattle.ud_engine.specs.ProcessedLines.{ProcessorRepresents, PrintsMore, WriteFails}
+use Rattle.ud_io.specs.Watched.{AppendsPrefix}
+
+-- the parts of a text after the front of a piece up to its first line feed, if this is its rest
+abbrev pub parts_behind : List ℕ → List ℕ → List ℕ → Bool → SplitLines
+parts_behind text held front true = record { whole = whole_lines text ++ (held ++ front) ∷ []; rest = [] }
+parts_behind text held front false = record { whole = whole_lines text; rest = held ++ front }
+
+-- the front of a piece up to its first line feed ends the rest of the text, or lengthens it
+pub split_lines-front_of : (text held piece : List ℕ) (used : ℕ) (whole : Bool) → partial_line text ≡ held → UpToNewline piece used whole →
+    split_lines (text ++ take used piece) ≡ parts_behind text held (take used piece) whole
+split_lines-front_of text held piece used true rest to =
+    let line : (front : List ℕ) × NoNewline front × (take used piece ≡ front ++ 10 ∷ []) = to.line refl in
+    subst (λ (h : List ℕ). split_lines (text ++ take used piece) ≡ parts_behind text h (take used piece) true) rest
+    (subst (λ (p : List ℕ). split_lines (text ++ p) ≡ parts_behind text (partial_line text) p true) (sym line.2)
+    (split_lines-append-line text line.0 line.1))
+split_lines-front_of text held piece used false rest to =
+    let all : (used ≡ length piece) × NoNewline piece = to.all refl in
+    let whole_piece : take used piece ≡ piece = take_all used piece (omega arith) in
+    subst (λ (h : List ℕ). split_lines (text ++ take used piece) ≡ parts_behind text h (take used piece) false) rest
+    (subst (λ (p : List ℕ). split_lines (text ++ p) ≡ parts_behind text (partial_line text) p false) (sym whole_piece)
+    (split_lines-append-open text piece all.1))
+
+-- a text and a piece after it, cut within the piece
+pub rejoined : (text piece : List ℕ) (used : ℕ) → text ++ piece ≡ (text ++ take used piece) ++ drop used piece
+rejoined text piece used = ap (λ (p : List ℕ). text ++ p) (sym (take-append-drop used piece)) ∙ sym (append_assoc text (take used piece) (drop used piece))
+
+-- a line that breaks a limit has its fault
+record LimitFault (xs : List (Item Reading)) (x : Item Reading) (f : Fault) : Type 0 where
+  fault : FaultOf xs x f
+  limit : IsLimit fault.which
+
+past_fault : (xs : List (Item Reading)) (x : Item Reading) (l : Line) (n : ℕ) → line_of x ≡ l → l.number ≡ n → TEXT_LINES < n → LimitFault xs x (too_many_lines n)
+past_fault xs x l n is number past = record {
+  fault = record {
+    which = past_last;
+    holds = subst (λ (m : ℕ). TEXT_LINES < m) (sym (ap (λ (k : Line). k.number) is ∙ number)) past;
+    first = tt;
+    named = ap (λ (m : ℕ). Some (too_many_lines m)) (ap (λ (k : Line). k.number) is ∙ number);
+  };
+  limit = by_lines;
+}
+
+long_fault : (xs : List (Item Reading)) (x : Item Reading) (l : Line) (n : ℕ) → line_of x ≡ l → l.number ≡ n → n ≤ TEXT_LINES → LINE_BYTES < length (text_of l) →
+    LimitFault xs x (line_too_long n)
+long_fault xs x l n is number fits long = record {
+  fault = record {
+    which = too_long;
+    holds = subst (λ (k : Line). LINE_BYTES < length (text_of k)) (sym is) long;
+    first = (λ past. let e = ap (λ (k : Line). k.number) is ∙ number in omega (arith, e, fits, past), tt);
+    named = ap (λ (m : ℕ). Some (line_too_long m)) (ap (λ (k : Line). k.number) is ∙ number);
+  };
+  limit = by_bytes;
+}
+
+module _ {S : Type 0} (stands : S → List Judged → Type 0) (piece_of : S → List Judged → Judged → List ℕ) (o : Options) (piece : List Judged → Judged → List ℕ)
+    (e : EngineState S) (text printed : List ℕ) (h : EngineRepresentsBuffered stands piece_of e o piece text printed) where
+  pub before_is : e.lines.before ≡ length (whole_lines text)
+  before_is = represent_before e.lines text h.opened.part h.took
+
+  pub rest_is : partial_line text ≡ e.lines.held
+  rest_is = represent_rest e.lines text h.opened.part h.took
+
+  -- a line more
+  pub line_taken : (f : EngineState S) (bytes line : List ℕ) (l : Line) (tree : Tree Reading) (more : List ℕ) →
+      whole_lines (text ++ bytes) ≡ whole_lines text ++ line ∷ [] → l ≡ line_at (suc (length (whole_lines text))) line →
+      f.symbols ≡ e.symbols → IsOpen f.lines → LinesRepresent f.lines (text ++ bytes) → f.lines.fault ≡ None → f.lines.held ≡ [] → f.lines.before ≤ TEXT_LINES →
+      ProcessorRepresents stands piece_of f.printer o piece (h.items ++ next_item o h.items h.tree l ∷ []) tree → PrintsMore o piece h.items h.tree l tree more →
+      EngineRepresentsBuffered stands piece_of f o piece (text ++ bytes) (printed ++ more)
+  line_taken f bytes line l tree more lines is symbols opened took unrefused none count has is_more = record {
+    items = h.items ++ next_item o h.items h.tree l ∷ [];
+    tree = tree;
+    goes = record {
+      sound = has.has.read.sound;
+      are =
+          ap (numbered_from 1) lines ∙ numbered_from-next (whole_lines text) line []
+          ∙ ap (λ k. lines_so_far text ++ k ∷ []) (sym is) ∙ ap (λ ls. ls ++ l ∷ []) h.goes.are ∙ sym (lines_more o h.items h.tree l);
+    };
+    has = has;
+    printed_is = ap (λ p. p ++ more) h.printed_is ∙ sym is_more;
+    symbols = subst (λ s. TableRepresents s o.table) (sym symbols) h.symbols;
+    opened = opened;
+    took = took;
+    unrefused = unrefused;
+    begun = λ some. let z = ap length none in omega (arith, z, some);
+    count = count;
+  }
+
+  -- bytes without a line feed
+  pub open_taken : (f : EngineState S) (bytes : List ℕ) → whole_lines (text ++ bytes) ≡ whole_lines text → f.symbols ≡ e.symbols → f.printer ≡ e.printer →
+      IsOpen f.lines → LinesRepresent f.lines (text ++ bytes) → f.lines.fault ≡ None → (0 < length f.lines.held → f.lines.before < TEXT_LINES) → f.lines.before ≤ TEXT_LINES →
+      EngineRepresentsBuffered stands piece_of f o piece (text ++ bytes) (printed ++ [])
+  open_taken f bytes lines symbols printer opened took unrefused begun count = record {
+    items = h.items;
+    tree = h.tree;
+    goes = record { sound = h.goes.sound; are = ap (numbered_from 1) lines ∙ h.goes.are };
+    has = subst (λ p. ProcessorRepresents stands piece_of p o piece h.items h.tree) (sym printer) h.has;
+    printed_is = append-nil printed ∙ h.printed_is;
+    symbols = subst (λ s. TableRepresents s o.table) (sym symbols) h.symbols;
+    opened = opened;
+    took = took;
+    unrefused = unrefused;
+    begun = begun;
+    count = count;
+  }
+
+  -- the next line is faulty
+  pub line_stops : (longer : List ℕ) (l : Line) (later : List Line) (f : Fault) → lines_so_far longer ≡ lines_so_far text ++ l ∷ later →
+      FaultOf h.items (next_item o h.items h.tree l) f → FaultsAfter o piece longer printed f
+  line_stops longer l later f are fault = record {
+    items = h.items;
+    tree = h.tree;
+    reads = stops h.items h.tree f (record { sound = h.goes.sound; faulty = l; later = later; are = are ∙ ap (λ ks. ks ++ l ∷ later) h.goes.are; fault = fault });
+    printed_is = h.printed_is;
+  }
+
+  -- a write fails within what is printed of the next line
+  pub line_falls_short : (longer : List ℕ) (l : Line) (later : List Line) (a b : Option (List ℕ)) (buffered pending : List ℕ) →
+      lines_so_far longer ≡ lines_so_far text ++ l ∷ later → WriteFails o piece h.items h.tree l a b buffered pending →
+      StopsShort o piece longer printed a b (buffered ++ pending)
+  line_falls_short longer l later a b buffered pending are k = record {
+    more = k.more;
+    reaches = record {
+      items = h.items ++ next_item o h.items h.tree l ∷ [];
+      tree = k.tree;
+      lines = lines_so_far text ++ l ∷ [];
+      later = later;
+      are = are ∙ sym (append_assoc (lines_so_far text) (l ∷ []) later);
+      goes = record { sound = k.sound; are = ap (λ ls. ls ++ l ∷ []) h.goes.are ∙ sym (lines_more o h.items h.tree l) };
+      printed_is = ap (λ p. p ++ k.more) h.printed_is ∙ sym k.is_more;
+    };
+    front = subst (λ x. AppendsPrefix a b x) (sym (append_assoc buffered pending k.more)) k.front;
+  }
+
+  -- or within what was to be written before it
+  pub run_falls_short : (rest : List ℕ) (a b : Option (List ℕ)) (pending : List ℕ) → AppendsPrefix a b pending → StopsShort o piece (text ++ rest) printed a b pending
+  run_falls_short rest a b pending front = record {
+    more = [];
+    reaches = record {
+      items = h.items;
+      tree = h.tree;
+      lines = lines_so_far text;
+      later = (lines_so_far-append text rest).0;
+      are = (lines_so_far-append text rest).1;
+      goes = h.goes;
+      printed_is = append-nil printed ∙ h.printed_is;
+    };
+    front = subst (λ x. AppendsPrefix a b x) (sym (append-nil pending)) front;
+  }
+
+  -- the line that the front of a piece ends is the next one of every longer text
+  pub line_next : (rest : List ℕ) (used : ℕ) (line : List ℕ) → whole_lines (text ++ take used rest) ≡ whole_lines text ++ line ∷ [] →
+      (later : List Line) × (lines_so_far (text ++ rest) ≡ lines_so_far text ++ line_at (suc (length (whole_lines text))) line ∷ later)
+  line_next rest used line lines =
+      let grown : (later : List Line) × (lines_so_far ((text ++ take used rest) ++ drop used rest) ≡ lines_so_far (text ++ take used rest) ++ later) =
+      lines_so_far-append (text ++ take used rest) (drop used rest) in (
+        grown.0,
+        ap lines_so_far (rejoined text rest used) ∙ grown.1
+            ∙ ap (λ ls. ls ++ grown.0) (ap (numbered_from 1) lines ∙ numbered_from-next (whole_lines text) line [])
+            ∙ append_assoc (lines_so_far text) (line_at (suc (length (whole_lines text))) line ∷ []) grown.0,
+      )
+
+  limit_at : (rest : List ℕ) (used : ℕ) (whole : Bool) (f : Fault) → UpToNewline rest used whole → 0 < used →
+      LimitFault h.items (next_item o h.items h.tree (line_at (suc (length (whole_lines text))) (e.lines.held ++ take used rest))) f → FaultsAfter o piece (text ++ rest) printed f
+  limit_at rest used true f to some k =
+      let parts = split_lines-front_of text e.lines.held rest used true rest_is to in
+      let next = line_next rest used (e.lines.held ++ take used rest) (ap (λ (q : SplitLines). q.whole) parts) in
+      line_stops (text ++ rest) (line_at (suc (length (whole_lines text))) (e.lines.held ++ take used rest)) next.0 f next.1 k.fault
+  limit_at rest used false f to some k =
+      let all : (used ≡ length rest) × NoNewline rest = to.all refl in
+      let whole_piece : take used rest ≡ rest = take_all used rest (let u = all.0 in omega (arith, u)) in
+      let parts = split_lines-front_of text e.lines.held rest used false rest_is to in
+      let longer : split_lines (text ++ rest) ≡ record { whole = whole_lines text; rest = e.lines.held ++ take used rest } =
+      subst (λ (p : List ℕ). split_lines (text ++ p) ≡ record { whole = whole_lines text; rest = e.lines.held ++ take used rest }) whole_piece parts in
+      let same : line_so_far (text ++ rest) ≡ line_at (suc (length (whole_lines text))) (e.lines.held ++ take used rest) =
+      ap (λ (q : SplitLines). line_at (suc (length q.whole)) q.rest) longer in
+      record {
+        items = h.items;
+        tree = h.tree;
+        reads = breaks h.items h.tree f
+            (record { sound = h.goes.sound; are = ap (λ (q : SplitLines). numbered_from 1 q.whole) longer ∙ h.goes.are })
+            (record {
+              some = λ none.
+                  let n = ap length (sym (ap (λ (q : SplitLines). q.rest) longer) ∙ none) in
+                  let m = length-append e.lines.held (take used rest) in
+                  let q = length-take used rest in
+                  let w = to.within in
+                  omega (arith, n, m, q, w, some);
+              fault = (subst (λ (l : Line). LimitFault h.items (next_item o h.items h.tree l) f) (sym same) k).fault;
+              limit = (subst (λ (l : Line). LimitFault h.items (next_item o h.items h.tree l) f) (sym same) k).limit;
+            });
+        printed_is = h.printed_is;
+      }
+
+  -- the next bytes pass a limit
+  pub limit_stops : (rest : List ℕ) (f : TextFault) → BreaksLimit e.lines rest f → FaultsAfter o piece (text ++ rest) printed (limit_of f)
+  limit_stops rest (TooManyLines line) r =
+      let b = before_is in
+      let k = h.opened.limit in
+      let past = r.1 in
+      let is = r.0 in
+      let to : UpToNewline rest r.2.0 r.2.1 = r.2.2 in
+      limit_at rest r.2.0 r.2.1 (too_many_lines line) to r.2.3
+      (past_fault h.items (next_item o h.items h.tree (line_at (suc (length (whole_lines text))) (e.lines.held ++ take r.2.0 rest)))
+      (line_at (suc (length (whole_lines text))) (e.lines.held ++ take r.2.0 rest)) line (reading_of-next o h.items h.tree _)
+      (omega (arith, b, is)) (omega (arith, b, k, past, is)))
+  limit_stops rest (LineTooLong line) r =
+      let b = before_is in
+      let k = h.opened.limit in
+      let fits = r.1 in
+      let is = r.0 in
+      let to : UpToNewline rest r.2.0 r.2.1 = r.2.2 in
+      let long : LINE_BYTES < length e.lines.held + r.2.0 = r.2.3 in
+      let short = h.opened.short in
+      let m = length-append e.lines.held (take r.2.0 rest) in
+      let q = length-take r.2.0 rest in
+      let w = to.within in
+      let bytes : LINE_BYTES < length (e.lines.held ++ take r.2.0 rest) = omega (arith, m, q, w, long) in
+      limit_at rest r.2.0 r.2.1 (line_too_long line) to (omega (arith, long, short))
+      (long_fault h.items (next_item o h.items h.tree (line_at (suc (length (whole_lines text))) (e.lines.held ++ take r.2.0 rest)))
+      (line_at (suc (length (whole_lines text))) (e.lines.held ++ take r.2.0 rest)) line (reading_of-next o h.items h.tree _)
+      (omega (arith, b, is)) (omega (arith, b, k, fits, is))
+      (subst (λ (t : List ℕ). LINE_BYTES < length t) (sym (text_of-line_at (suc (length (whole_lines text))) (e.lines.held ++ take r.2.0 rest))) bytes))
+
+  -- no limit is passed by what is held
+  no_limit : (w : Case) → IsLimit w → 0 < length e.lines.held → Holds h.items (next_item o h.items h.tree (line_so_far text)) w → ⊥
+  no_limit _ by_lines some k =
+      let b = before_is in
+      let n = h.begun some in
+      let past : TEXT_LINES < suc (length (whole_lines text)) =
+      subst (λ (l : Line). TEXT_LINES < l.number) (reading_of-next o h.items h.tree (line_so_far text)) k in
+      omega (arith, b, n, past)
+  no_limit _ by_bytes some k =
+      let r = ap length (rest_is) in
+      let s = h.opened.short in
+      let long : LINE_BYTES < length (partial_line text) =
+      subst (λ (x : List ℕ). LINE_BYTES < length x) (text_of-line_at (suc (length (whole_lines text))) (partial_line text))
+      (subst (λ (l : Line). LINE_BYTES < length (text_of l)) (reading_of-next o h.items h.tree (line_so_far text)) k) in
+      omega (arith, r, s, long)
+
+  some_held : (r : List ℕ) → (r ≡ [] → ⊥) → 0 < length r
+  some_held [] n = absurd (n refl)
+  some_held (x ∷ xs) n = omega arith
+
+  -- nothing in the text is faulty
+  pub reads_so_far : ReadsSoFar o text h.items h.tree None
+  reads_so_far =
+      goes_on h.items h.tree h.goes
+      (λ f k. no_limit k.fault.which k.limit
+      (subst (λ (r : List ℕ). 0 < length r) (rest_is) (some_held (partial_line text) k.some)) k.fault.holds)
+
+  -- what it begins of a line is no longer than a line
+  pub one_line : length (partial_line text) ≤ LINE_BYTES
+  one_line = subst (λ (r : List ℕ). length r ≤ LINE_BYTES) (sym rest_is) h.opened.short
+
+  -- and no more sections are open than may be
+  pub few_sections : depth h.tree ≤ OPEN_SECTIONS
+  few_sections =
+      let low = sound_low o h.items h.tree h.goes.sound in
+      let d = depth_height h.tree in
+      omega (arith, low, d)

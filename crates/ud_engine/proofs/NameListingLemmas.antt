@@ -1,0 +1,176 @@
+-- Names that are put one after another, and which lines have names.
+use Rattle.std.proofs.Common.{◌≡◌, ℕ, suc, ◌-◌, List, [], ◌∷◌, ◌++◌, length, Bool, true, false, if◌then◌else◌, refl, sym, ap, ap₂, subst, ◌∙◌, append_assoc, append-nil, Option, arith}
+use Rattle.ud_model.specs.text.Lines.{Line}
+use Rattle.ud_model.specs.text.Scans.{Reading}
+use Rattle.ud_model.specs.sections.Directives.{Content, cut_keyword, directive, text, content_of, role_of, test_of}
+use Rattle.ud_model.specs.sections.Tree.{Item, Tree, depth}
+use Rattle.ud_model.specs.sections.Items.{Options, item_of, item_by, directive_item, read_after, mode_after, next_item}
+use Rattle.ud_model.specs.sections.Faults.{AreFaultless}
+use Rattle.ud_model.specs.conditions.Conditions.{Decision}
+use Rattle.ud_model.specs.conditions.Names.{names_by}
+use Rattle.ud_model.specs.answer.Listing.{levels, listed, listed_names, depth_prefix, names_at, names_in_content}
+use Rattle.ud_model.specs.declared.kind.Kind.{Kind}
+use Rattle.ud_model.specs.declared.kind.Kind.TheVariants.{If, Ifdef, Ifndef, Elif, Elifdef, Elifndef, Else, Endif}
+use Rattle.ud_model.specs.declared.kind.Test.{Test}
+use Rattle.ud_model.specs.declared.kind.Test.TheVariants.{Nothing}
+use Rattle.ud_model.proofs.answer.LevelLemmas.{length_levels}
+use Rattle.ud_model.proofs.sections.Growth.{Adds}
+use Rattle.ud_model.proofs.sections.Soundness.{sound_lines, reading_of-item_of}
+use Rattle.ud_model.proofs.sections.Unique.{grows}
+use Rattle.ud_sections.proofs.ListingLemmas.{has_condition, LevelsGrow, levels_grow}
+use Rattle.ud_engine.specs.NameLines.{name_line}
+use Rattle.ud_io.specs.Buffering.{AppendsAllBut}
+use Rattle.ud_engine.specs.DecidedLines.{DeciderRepresents}
+use Rattle.ud_engine.specs.NameListing.{ListsLine, ListingFails}
+use Rattle.ud_engine.specs.declared.line_decider.LineDecider.{LineDecider}
+use Rattle.ud_io.specs.Watched.{AppendsPrefix}
+use Rattle.ud_io.proofs.BufferingLemmas.{appends_all_but_then, appends_all_but_then_front, appends_all_but_none, prefix_of_first, pending_failed, parts_failed_after, parts_after}
+
+-- of these names those before the ones that are left were put
+pub record NamesPut (a b : Option (List ℕ)) (prefix : List ℕ) (names left : List (List ℕ)) (old new : List ℕ) : Type 0 where
+  pub done : List ℕ
+  pub are : listed_names prefix names ≡ done ++ listed_names prefix left
+  pub sent : AppendsAllBut a b (old ++ done) new
+
+-- before the first name
+pub none_put : (a : Option (List ℕ)) (prefix : List ℕ) (names left : List (List ℕ)) (old : List ℕ) → left ≡ names → NamesPut a a prefix names left old old
+none_put a prefix names left old e = record {
+  done = [];
+  are = ap (listed_names prefix) (sym e);
+  sent = subst (λ x. AppendsAllBut a a x old) (sym (append-nil old)) (appends_all_but_none a old);
+}
+
+-- a name more is put
+pub name_put : (a b c : Option (List ℕ)) (prefix : List ℕ) (names left rest : List (List ℕ)) (name old mid new : List ℕ) → left ≡ name ∷ rest →
+    NamesPut a b prefix names left old mid → AppendsAllBut b c (mid ++ name_line prefix name) new → NamesPut a c prefix names rest old new
+name_put a b c prefix names left rest name old mid new e p s = record {
+  done = p.done ++ name_line prefix name;
+  are =
+      p.are ∙ ap (λ ns. p.done ++ listed_names prefix ns) e
+      ∙ sym (append_assoc p.done (name_line prefix name) (listed_names prefix rest));
+  sent =
+      subst (λ x. AppendsAllBut a c x new) (append_assoc old p.done (name_line prefix name))
+      (appends_all_but_then a b c (old ++ p.done) mid (name_line prefix name) new p.sent s);
+}
+
+-- a write fails within it
+pub name_refused : (a b c : Option (List ℕ)) (prefix : List ℕ) (names left rest : List (List ℕ)) (name old mid : List ℕ) → left ≡ name ∷ rest →
+    NamesPut a b prefix names left old mid → AppendsPrefix b c (mid ++ name_line prefix name) → AppendsPrefix a c (old ++ listed_names prefix names)
+name_refused a b c prefix names left rest name old mid e p s =
+    subst (λ x. AppendsPrefix a c (old ++ x)) (sym (p.are ∙ ap (λ ns. p.done ++ listed_names prefix ns) e ∙ joined))
+    (subst (λ x. AppendsPrefix a c x) (append_assoc old (p.done ++ name_line prefix name) (listed_names prefix rest))
+    (prefix_of_first a c (old ++ (p.done ++ name_line prefix name)) (listed_names prefix rest)
+    (subst (λ x. AppendsPrefix a c x) (append_assoc old p.done (name_line prefix name))
+    (appends_all_but_then_front a b c (old ++ p.done) mid (name_line prefix name) p.sent s))))
+  where
+    joined : p.done ++ listed_names prefix (name ∷ rest) ≡ (p.done ++ name_line prefix name) ++ listed_names prefix rest
+    joined = sym (append_assoc p.done (name_line prefix name) (listed_names prefix rest))
+
+-- if no name is left, all are put
+pub all_put : (a b : Option (List ℕ)) (prefix : List ℕ) (names left : List (List ℕ)) (old new : List ℕ) → left ≡ [] →
+    NamesPut a b prefix names left old new → AppendsAllBut a b (old ++ listed_names prefix names) new
+all_put a b prefix names left old new e p =
+    subst (λ x. AppendsAllBut a b (old ++ x) new) (sym (p.are ∙ ap (λ ns. p.done ++ listed_names prefix ns) e ∙ append-nil p.done)) p.sent
+
+untested : (r : Reading) (k : Kind) (d : Decision) → has_condition (directive_item r (role_of k) d) ≡ false → test_of k ≡ Nothing
+untested r If d e = cc
+untested r Ifdef d e = cc
+untested r Ifndef d e = cc
+untested r Elif d e = cc
+untested r Elifdef d e = cc
+untested r Elifndef d e = cc
+untested r Else d e = refl
+untested r Endif d e = refl
+
+nameless : (broken : Bool) (after : List ℕ) → (if broken then [] else names_by Nothing after) ≡ []
+nameless true after = refl
+nameless false after = refl
+
+by_content : (o : Options) (r : Reading) (c : Content) → has_condition (item_by o r c) ≡ false → names_in_content c ≡ []
+by_content o r cut_keyword e = refl
+by_content o r text e = refl
+by_content o r (directive d) e = ap (λ (p : Test). if d.broken then [] else names_by p d.after) (untested r d.kind _ e) ∙ nameless d.broken d.after
+
+-- a line without a condition has no names
+no_names : (o : Options) (r : Reading) → has_condition (item_of o r) ≡ false → names_in_content (content_of r.scan) ≡ []
+no_names o r e = by_content o r (content_of r.scan) e
+
+-- names are listed after their depth, which the sections that are open after the line tell
+listed_at : (depths : Bool) (names : List (List ℕ)) (level opened : ℕ) (b : Bool) → (b ≡ true → suc level ≡ opened) → (b ≡ false → names ≡ []) →
+    listed_names (depth_prefix depths (opened - 1)) names ≡ listed_names (depth_prefix depths level) names
+listed_at depths names level opened true deep none =
+    let e : suc level ≡ opened = deep refl in
+    let f : opened - 1 ≡ level = omega (arith, e) in
+    ap (λ n. listed_names (depth_prefix depths n) names) f
+listed_at depths names level opened false deep none =
+    ap (listed_names (depth_prefix depths (opened - 1))) (none refl) ∙ ap (listed_names (depth_prefix depths level)) (sym (none refl))
+
+listed-append : (depths : Bool) (xs : List (Item Reading)) (x : Item Reading) (ns : List ℕ) (n : ℕ) → length ns ≡ length xs →
+    listed depths (xs ++ x ∷ []) (ns ++ n ∷ []) ≡ listed depths xs ns ++ listed_names (depth_prefix depths n) (names_at x)
+listed-append depths [] x [] n e = append-nil (listed_names (depth_prefix depths n) (names_at x))
+listed-append depths [] x (m ∷ ns) n e = cc
+listed-append depths (y ∷ ys) x [] n e = cc
+listed-append depths (y ∷ ys) x (m ∷ ns) n e =
+    ap (λ t. listed_names (depth_prefix depths m) (names_at y) ++ t) (listed-append depths ys x ns n (let h : suc (length ns) ≡ suc (length ys) = e in omega (arith, h)))
+    ∙ sym (append_assoc (listed_names (depth_prefix depths m) (names_at y)) (listed depths ys ns) (listed_names (depth_prefix depths n) (names_at x)))
+
+-- with a line more its names are listed too, after the depth that the sections open after it give
+pub lists_more : (o : Options) (depths : Bool) (xs : List (Item Reading)) (t u : Tree Reading) (l : Line) →
+    AreFaultless o xs t → AreFaultless o (xs ++ next_item o xs t l ∷ []) u → (names : List (List ℕ)) →
+    names ≡ names_in_content (content_of (read_after xs (mode_after o t) l).scan) →
+    listed depths (xs ++ next_item o xs t l ∷ []) (levels u) ≡ listed depths xs (levels t) ++ listed_names (depth_prefix depths (depth u - 1)) names
+lists_more o depths xs t u l s v names e =
+    let r : Reading = read_after xs (mode_after o t) l in
+    let x : Item Reading = next_item o xs t l in
+    let a : Adds t x u = grows t u x (sound_lines v ∙ ap (λ ys. ys ++ x ∷ []) (sym (sound_lines s))) in
+    let g : LevelsGrow 0 t u x = levels_grow 0 a in
+    let own : names_at x ≡ names = ap (λ (q : Reading). names_in_content (content_of q.scan)) (reading_of-item_of o r) ∙ sym e in
+    ap (listed depths (xs ++ x ∷ [])) g.levels_are
+    ∙ listed-append depths xs x (levels t) g.level (length_levels t ∙ ap length (sound_lines s))
+    ∙ ap (λ y. listed depths xs (levels t) ++ y)
+    (ap (listed_names (depth_prefix depths g.level)) own
+    ∙ sym (listed_at depths names g.level (depth u) (has_condition x) (λ b. let h = g.within b in omega (arith, h)) (λ b. e ∙ no_names o r b)))
+
+module _ (o : Options) (depths : Bool) (xs : List (Item Reading)) (t u : Tree Reading) (l : Line) (s : AreFaultless o xs t) (v : AreFaultless o (xs ++ next_item o xs t l ∷ []) u) where
+  -- the names that are listed with the line
+  abbrev own_names : List (List ℕ)
+  own_names = names_in_content (content_of (read_after xs (mode_after o t) l).scan)
+
+  abbrev own_text : List ℕ
+  own_text = listed_names (depth_prefix depths (depth u - 1)) own_names
+
+  -- a write fails within the run before a line
+  pub run_fails : (a b : Option (List ℕ)) (old pending : List ℕ) → AppendsPrefix a b (old ++ pending) → ListingFails o xs t l depths a b old pending
+  run_fails a b old pending h = record {
+    tree = u;
+    sound = v;
+    more = own_text;
+    is_more = lists_more o depths xs t u l s v own_names refl;
+    front = pending_failed a b old pending own_text h;
+  }
+
+  module _ (names : List (List ℕ)) (are : names ≡ own_names) (prefix : List ℕ) (p : prefix ≡ depth_prefix depths (depth u - 1)) where
+    named : listed_names prefix names ≡ own_text
+    named = ap₂ listed_names p are
+
+    -- or within its names
+    pub listing_fails : (a b c : Option (List ℕ)) (old mid pending : List ℕ) → AppendsAllBut a b (old ++ pending) mid → AppendsPrefix b c (mid ++ listed_names prefix names) →
+        ListingFails o xs t l depths a c old pending
+    listing_fails a b c old mid pending sent h = record {
+      tree = u;
+      sound = v;
+      more = own_text;
+      is_more = lists_more o depths xs t u l s v own_names refl;
+      front = parts_failed_after a b c old pending mid (listed_names prefix names) own_text named sent h;
+    }
+
+    -- the line is read, and its names are put
+    pub lists_one : (r : LineDecider) → DeciderRepresents o r (xs ++ next_item o xs t l ∷ []) u → (a b c : Option (List ℕ)) (old mid new pending : List ℕ) →
+        AppendsAllBut a b (old ++ pending) mid → AppendsAllBut b c (mid ++ listed_names prefix names) new → ListsLine o r xs t l depths a c old new pending
+    lists_one r has a b c old mid new pending sent more = record {
+      tree = u;
+      has = has;
+      more = own_text;
+      is_more = lists_more o depths xs t u l s v own_names refl;
+      sent = parts_after a b c old pending mid new (listed_names prefix names) own_text named sent more;
+    }

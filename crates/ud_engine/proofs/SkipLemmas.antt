@@ -1,0 +1,170 @@
+-- What a reader stands for once it has read many text lines at once.
+use Rattle.std.proofs.Common.{◌≡◌, ℕ, suc, ◌+◌, ◌<◌, ◌≤◌, List, [], ◌∷◌, ◌++◌, length, take, drop, take-append-drop, map, refl, sym, ◌∙◌, ap, ap₂, subst, append_assoc, append-nil, arith}
+use Rattle.std.specs.List.{concat}
+use Rattle.std.proofs.lemmas.List.{map-append}
+use Rattle.ud_model.specs.text.Lines.{Line, line_at, numbered_from, whole_lines, split_lines}
+use Rattle.ud_model.specs.text.Scans.{Reading}
+use Rattle.ud_model.specs.text.Scanning.{readings_after}
+use Rattle.ud_model.specs.sections.Tree.{Item, Tree, text_line}
+use Rattle.ud_model.specs.sections.Pruning.{Mark, marks}
+use Rattle.ud_model.specs.sections.Items.{Options, reading_of, line_of, mode_after, read_after}
+use Rattle.ud_model.specs.sections.Faults.{last_number}
+use Rattle.ud_model.specs.answer.Printing.{judged_lines, keyword_in}
+use Rattle.ud_model.specs.declared.kind.Mode.{Mode}
+use Rattle.ud_model.specs.declared.limits.TheConstants.{LINE_BYTES, TEXT_LINES}
+use Rattle.ud_model.specs.declared.verdict.Verdict.{Verdict}
+use Rattle.ud_model.proofs.text.LinesLemmas.{text_of-line_at}
+use Rattle.ud_text.specs.ScannerState.{ScannerRepresents}
+use Rattle.ud_text.specs.BulkScanning as passing
+use Rattle.ud_text.specs.BulkScanning.{SkipsText, line_in_mode, lines_in_mode}
+use Rattle.ud_text.specs.LinesState.{LinesState}
+use Rattle.ud_text.specs.Consuming.{EachFits, CanConsume}
+use Rattle.ud_text.proofs.QuietLineLemmas.{ended_lines}
+use Rattle.ud_text.proofs.ConsumeLemmas.{can_consume_front}
+use Rattle.ud_sections.specs.Limits.{IsWithinLimits}
+use Rattle.ud_sections.specs.PrinterOutputs.{judged_text}
+use Rattle.ud_sections.specs.MachineState.{AreTextLines, StepsText, MachineRepresents, machine_fault}
+use Rattle.ud_sections.proofs.TransitionLemmas.{last_number_last}
+use Rattle.ud_engine.specs.declared.line_decider.LineDecider.{LineDecider}
+use Rattle.ud_engine.specs.DecidedLines.{DeciderRepresents, DecidesBulk, consumed}
+
+-- of lines that can be skipped, the first ones can
+pub can_skip_take : (lines : LinesState) (bytes : List ℕ) (n : ℕ) → passing.AreWholeLines (take n bytes) → CanConsume lines bytes → CanConsume lines (take n bytes)
+can_skip_take lines bytes n ends can =
+    can_consume_front lines (take n bytes) (drop n bytes) ends (subst (CanConsume lines) (sym (take-append-drop n bytes)) can)
+
+-- each of these lines is within the limits
+abbrev AreWithin : List Line → Type 0
+AreWithin [] = Unit {0}
+AreWithin (l ∷ ls) = IsWithinLimits l × AreWithin ls
+
+-- lines that fit, with numbers that do
+are_within : (n : ℕ) (ls : List (List ℕ)) → EachFits ls → n + length ls ≤ TEXT_LINES → AreWithin (numbered_from (suc n) ls)
+are_within n [] fits few = tt
+are_within n (l ∷ ls) fits few = (
+  record {
+    number_fits = omega (arith, few);
+    bytes_fit = subst (λ (x : List ℕ). length x ≤ LINE_BYTES) (sym (text_of-line_at (suc n) l)) fits.0;
+  },
+  are_within (suc n) ls fits.1 (omega (arith, few)),
+)
+
+module _ (mode : Mode) where
+  -- the readings of these lines in this mode, each after those before it
+  abbrev read_all : List (Item Reading) → List Line → List Reading
+  read_all xs [] = []
+  read_all xs (l ∷ ls) = read_after xs mode l ∷ read_all (xs ++ text_line (read_after xs mode l) ∷ []) ls
+
+  one_reading : (xs : List (Item Reading)) (r : Reading) → map reading_of (xs ++ text_line r ∷ []) ≡ map reading_of xs ++ r ∷ []
+  one_reading xs r = map-append reading_of xs (text_line r ∷ [])
+
+  are_text : (o : Options) (xs : List (Item Reading)) (ls : List Line) → passing.HaveNoDirective mode (map reading_of xs) ls → AreWithin ls →
+      AreTextLines o mode xs (read_all xs ls)
+  are_text o xs [] a w = tt
+  are_text o xs (l ∷ ls) a w = (
+    refl,
+    a.0,
+    w.0,
+    are_text o (xs ++ text_line (read_after xs mode l) ∷ []) ls
+        (subst (λ before. passing.HaveNoDirective mode before ls) (sym (one_reading xs (read_after xs mode l))) a.1) w.1,
+  )
+
+  readings_are : (xs : List (Item Reading)) (ls : List Line) →
+      map reading_of (xs ++ map text_line (read_all xs ls)) ≡ readings_after (map reading_of xs) (map (line_in_mode mode) ls)
+  readings_are xs [] = ap (map reading_of) (append-nil xs)
+  readings_are xs (l ∷ ls) =
+      ap (map reading_of) (sym (append_assoc xs (text_line (read_after xs mode l) ∷ []) (map text_line (read_all (xs ++ text_line (read_after xs mode l) ∷ []) ls))))
+      ∙ readings_are (xs ++ text_line (read_after xs mode l) ∷ []) ls
+      ∙ ap (λ before. readings_after before (map (line_in_mode mode) ls)) (one_reading xs (read_after xs mode l))
+
+  lines_are : (xs : List (Item Reading)) (ls : List Line) → map line_of (map text_line (read_all xs ls)) ≡ ls
+  lines_are xs [] = refl
+  lines_are xs (l ∷ ls) = ap (λ ks. l ∷ ks) (lines_are (xs ++ text_line (read_after xs mode l) ∷ []) ls)
+
+  -- text lines with one mark are judged as such
+  judged_are : (xs : List (Item Reading)) (ls : List Line) (mark : Mark) (verdict : Verdict) → verdict ≡ mark.verdict → passing.HaveNoDirective mode (map reading_of xs) ls →
+      judged_lines (map text_line (read_all xs ls)) (map (λ r. mark) (read_all xs ls)) ≡ map (judged_text verdict) ls
+  judged_are xs [] mark verdict e a = refl
+  judged_are xs (l ∷ ls) mark verdict e a =
+      ap₂ (λ j js. j ∷ js)
+      (ap₂ (λ v c. record { line = l; verdict = v; keyword = keyword_in c }) (sym e) a.0)
+      (judged_are (xs ++ text_line (read_after xs mode l) ∷ []) ls mark verdict e
+      (subst (λ before. passing.HaveNoDirective mode before ls) (sym (one_reading xs (read_after xs mode l))) a.1))
+
+  last_is : (xs : List (Item Reading)) (n : ℕ) (l : List ℕ) (ls : List (List ℕ)) →
+      last_number (xs ++ map text_line (read_all xs (numbered_from n (l ∷ ls)))) ≡ n + length ls
+  last_is xs n l [] = last_number_last xs (text_line (read_after xs mode (line_at n l))) ∙ omega arith
+  last_is xs n l (k ∷ ls) =
+      let first : Reading = read_after xs mode (line_at n l) in
+      ap last_number (sym (append_assoc xs (text_line first ∷ []) (map text_line (read_all (xs ++ text_line first ∷ []) (numbered_from (suc n) (k ∷ ls))))))
+      ∙ last_is (xs ++ text_line first ∷ []) (suc n) k ls ∙ omega arith
+
+module _ (o : Options) (old new : LineDecider) (xs : List (Item Reading)) (t : Tree Reading) (h : DeciderRepresents o old xs t) (n : ℕ) (verdict : Verdict) where
+  -- no line was read
+  pub reads_none : (mode : Mode) → new.machine ≡ old.machine → SkipsText mode old.scanner new.scanner [] → DecidesBulk o new xs t (numbered_from (suc n) (whole_lines [])) verdict
+  unfolding split_lines
+  reads_none mode same passes = record {
+    items = [];
+    tree = t;
+    has = record {
+      read = subst (λ ys. MachineRepresents new.machine o ys t) (sym (append-nil xs)) (subst (λ m. MachineRepresents m o xs t) (sym same) h.read);
+      unrefused = ap machine_fault same ∙ h.unrefused;
+      carries = subst (λ ys. ScannerRepresents new.scanner (map reading_of ys)) (sym (append-nil xs)) (passes.stands 0 (map reading_of xs) h.carries);
+    };
+    lines_are = refl;
+    own = [];
+    marks_are = sym (append-nil (marks t));
+    judged_so = refl;
+  }
+
+  module _ (mode : Mode) (m : mode ≡ mode_after o t) (bytes : List ℕ) (fits : EachFits (whole_lines bytes)) (few : n + length (whole_lines bytes) ≤ TEXT_LINES)
+      (passes : SkipsText mode old.scanner new.scanner bytes) (last : ℕ) (counted : last ≡ n + length (whole_lines bytes)) (unrefused : machine_fault new.machine ≡ machine_fault old.machine)
+      (reads : (r : Reading) (rs : List Reading) → AreTextLines o (mode_after o t) xs (r ∷ rs) → last ≡ last_number (xs ++ map text_line (r ∷ rs)) →
+      StepsText new.machine o xs t (r ∷ rs) verdict) where
+    by_lines : (l : List ℕ) (ls : List (List ℕ)) → EachFits (l ∷ ls) → n + length (l ∷ ls) ≤ TEXT_LINES → last ≡ n + length (l ∷ ls) →
+        ScannerRepresents new.scanner (readings_after (map reading_of xs) (lines_in_mode mode (suc n) (l ∷ ls))) → passing.HaveNoDirective mode (map reading_of xs) (numbered_from (suc n) (l ∷ ls)) →
+        DecidesBulk o new xs t (numbered_from (suc n) (l ∷ ls)) verdict
+    by_lines l ls fit less is carries texts =
+        let all : List Line = numbered_from (suc n) (l ∷ ls) in
+        let first : Reading = read_after xs mode (line_at (suc n) l) in
+        let rest : List Reading = read_all mode (xs ++ text_line first ∷ []) (numbered_from (suc (suc n)) ls) in
+        let done : StepsText new.machine o xs t (first ∷ rest) verdict =
+        reads first rest (subst (λ k. AreTextLines o k xs (first ∷ rest)) m (are_text mode o xs all texts (are_within n (l ∷ ls) fit less)))
+        (is ∙ omega arith ∙ sym (last_is mode xs (suc n) l ls)) in
+        record {
+          items = map text_line (first ∷ rest);
+          tree = done.tree;
+          has = record {
+            read = done.read;
+            unrefused = unrefused ∙ h.unrefused;
+            carries = subst (ScannerRepresents new.scanner) (sym (readings_are mode xs all)) carries;
+          };
+          lines_are = lines_are mode xs all;
+          own = map (λ r. done.mark) (first ∷ rest);
+          marks_are = done.marks_are;
+          judged_so = judged_are mode xs all done.mark verdict done.verdict_is texts;
+        }
+
+    -- the lines of these bytes were read, one at least
+    pub reads_all : 0 < length (whole_lines bytes) → DecidesBulk o new xs t (numbered_from (suc n) (whole_lines bytes)) verdict
+    reads_all some =
+        by_case (whole_lines bytes) fits few counted some (passes.stands (suc n) (map reading_of xs) h.carries) (passes.texts (suc n) (map reading_of xs) h.carries)
+      where
+        by_case : (ls : List (List ℕ)) → EachFits ls → n + length ls ≤ TEXT_LINES → last ≡ n + length ls → 0 < length ls →
+            ScannerRepresents new.scanner (readings_after (map reading_of xs) (lines_in_mode mode (suc n) ls)) → passing.HaveNoDirective mode (map reading_of xs) (numbered_from (suc n) ls) →
+            DecidesBulk o new xs t (numbered_from (suc n) ls) verdict
+        by_case [] fit less is one carries texts = absurd (omega (arith, one))
+        by_case (l ∷ ls) fit less is one carries texts = by_lines l ls fit less is carries texts
+
+-- bytes that end a line have one
+pub some_line : (bytes : List ℕ) → passing.AreWholeLines bytes → 0 < length bytes → 0 < length (whole_lines bytes)
+some_line bytes ends some = by_lines (whole_lines bytes) (ended_lines bytes ends)
+  where
+    by_lines : (ls : List (List ℕ)) → bytes ≡ concat ls → 0 < length ls
+    by_lines [] e = absurd (let z = ap length e in omega (arith, z, some))
+    by_lines (l ∷ ls) e = omega arith
+
+-- no lines are skipped
+pub skips_none : (lines : LinesState) → lines ≡ consumed lines []
+unfolding split_lines
+skips_none lines = ap (λ n. record lines { before = n }) (omega arith)

@@ -1,0 +1,74 @@
+use Rattle.std.proofs.Common.{rules, refl, sym, ap, subst, suc, Option, IfNone, arith}
+use Rattle.ud_cond.specs.SymbolTable.{TableRepresents}
+use Rattle.ud_model.specs.text.Lines.{Line, NoNewline, IsWhole}
+use Rattle.ud_text.specs.LinesState.{LinesState, BreaksLimit}
+use Rattle.ud_text.specs.LineViews.{as_line}
+use Rattle.ud_text.specs.declared.fault.TextFault.{TextFault}
+use Rattle.ud_text.proofs.NewlineLemmas.{up_to_newline-some, whole_newlineless}
+use Rattle.ud_engine.specs.Feeding.{EngineState, EngineRepresentsBuffered}
+use Rattle.ud_engine.proofs.LinePartLemmas.{limit_stops}
+use Rattle.ud_engine.proofs.StepLemmas.{held_whole, is_within, still_open, open_step, line_step, line_refused, run_refused_by}
+use Rattle.ud_engine.proofs.engine.Engine.push_line_part.Goals as goal
+
+pub returns-in-Err-clause-stops : goal.returns-in-Err-clause-stops
+returns-in-Err-clause-stops g c = λ o pieces text printed old.
+    let h = subst (λ (e : EngineState g.row.S.Denot). EngineRepresentsBuffered g.S.Show.represents g.S.Show.piece e o pieces text printed) (sym c.self.view_is) old in
+    limit_stops g.S.Show.represents g.S.Show.piece o pieces _ text printed h c.args.rest.now c.in-Err.fault
+    (subst (λ (r : Option TextFault). IfNone r (BreaksLimit c.self.inside.lines c.args.rest.now c.in-Err.fault)) h.unrefused c.in-Err.ensures.breaks_limit)
+
+pub invariant_of-self-then-not-taken : goal.invariant_of-self-then-not-taken
+invariant_of-self-then-not-taken g c =
+    still_open c.self.inside.lines c.take.new.self c.args.rest.now c.in-Ok.taken.used c.in-Ok.taken.whole (search rules) c.self.invariant c.in-Ok.ensures.used c.in-Ok.ensures.value
+    (c.in-Ok.ensures.limits (up_to_newline-some c.args.rest.now c.in-Ok.taken.used c.in-Ok.taken.whole c.in-Ok.ensures.used c.requires.some)).0
+
+pub invariant_of-self-then-not-append : goal.invariant_of-self-then-not-append
+invariant_of-self-then-not-append g c =
+    still_open c.self.inside.lines c.take.new.self c.args.rest.now c.in-Ok.taken.used c.in-Ok.taken.whole (search rules) c.self.invariant c.in-Ok.ensures.used c.in-Ok.ensures.value
+    (c.in-Ok.ensures.limits (up_to_newline-some c.args.rest.now c.in-Ok.taken.used c.in-Ok.taken.whole c.in-Ok.ensures.used c.requires.some)).0
+
+pub returns-then-not-append-clause-stops : goal.returns-then-not-append-clause-stops
+returns-then-not-append-clause-stops g c = λ o pieces text printed old.
+    let h = subst (λ (e : EngineState g.row.S.Denot). EngineRepresentsBuffered g.S.Show.represents g.S.Show.piece e o pieces text printed) (sym c.self.view_is) old in
+    run_refused_by g.S.Show.represents g.S.Show.piece o pieces _ text printed h (g.W.Write.contents c.args.out.now.inner) (g.W.Write.contents c.append.new.out.inner)
+    c.args.self.now.buffered c.args.pending.now c.args.rest.now (ap (λ (e : EngineState g.row.S.Denot). e.buffered) c.self.view_is) c.if-not-append.ensures.appends
+
+pub returns-then-not-taken-clause-taken : goal.returns-then-not-taken-clause-taken
+returns-then-not-taken-clause-taken g c = λ o pieces text printed old.
+    let h = subst (λ (e : EngineState g.row.S.Denot). EngineRepresentsBuffered g.S.Show.represents g.S.Show.piece e o pieces text printed) (sym c.self.view_is) old in
+    open_step g.S.Show.represents g.S.Show.piece o pieces _ text printed h (g.W.Write.contents c.args.out.now.inner) (g.W.Write.contents c.append.new.out.inner)
+    c.args.self.now.buffered c.args.pending.now c.args.rest.now (ap (λ (e : EngineState g.row.S.Denot). e.buffered) c.self.view_is)
+    _ c.in-Ok.taken.used c.in-Ok.taken.whole (search rules) c.in-Ok.ensures.used refl refl c.in-Ok.ensures.value (c.in-Ok.ensures.represents text h.took) c.in-Ok.ensures.no_fault
+    (c.in-Ok.ensures.limits (up_to_newline-some c.args.rest.now c.in-Ok.taken.used c.in-Ok.taken.whole c.in-Ok.ensures.used c.requires.some)) c.if-not-append.ensures.appends
+
+pub put_line-printed-requires-clause-within : goal.put_line-printed-requires-clause-within
+put_line-printed-requires-clause-within g c =
+    let limits = c.in-Ok.ensures.limits (up_to_newline-some c.args.rest.now c.in-Ok.taken.used c.in-Ok.taken.whole c.in-Ok.ensures.used c.requires.some) in
+    let before = ap (λ (l : LinesState). l.before) c.in-Ok.ensures.value in
+    let last = c.self.invariant.limit in
+    let few = limits.1 in
+    is_within (as_line c.line.result) (suc c.take.new.self.before) c.take.new.self.held c.line.ensures.value (omega (arith, before, last, few)) limits.0
+
+pub put_line-printed-requires-clause-one_line : goal.put_line-printed-requires-clause-one_line
+put_line-printed-requires-clause-one_line g c =
+    subst (λ (l : Line). NoNewline l.body) (sym c.line.ensures.value)
+    (whole_newlineless (suc c.take.new.self.before) c.take.new.self.held
+    (subst IsWhole (sym (ap (λ (l : LinesState). l.held) c.in-Ok.ensures.value))
+    (held_whole c.self.inside.lines.held c.args.rest.now c.in-Ok.taken.used c.in-Ok.taken.whole (search rules) c.self.invariant.no_newline c.in-Ok.ensures.used)))
+
+pub returns-in-Err-printed-clause-stops : goal.returns-in-Err-printed-clause-stops
+returns-in-Err-printed-clause-stops g c = λ o pieces text printed old.
+    let h = subst (λ (e : EngineState g.row.S.Denot). EngineRepresentsBuffered g.S.Show.represents g.S.Show.piece e o pieces text printed) (sym c.self.view_is) old in
+    line_refused g.S.Show.represents g.S.Show.piece o pieces _ text printed h (g.W.Write.contents c.args.out.now.inner) (g.W.Write.contents c.put_line-printed.new.out.inner)
+    c.args.self.now.buffered c.args.pending.now c.args.rest.now (ap (λ (e : EngineState g.row.S.Denot). e.buffered) c.self.view_is)
+    c.take.new.self c.in-Ok.taken.used c.in-Ok.taken.whole (as_line c.line.result) c.in-Err-printed.fault (search rules) c.in-Ok.ensures.used c.in-Ok.ensures.value c.line.ensures.value
+    (c.in-Err-printed.ensures.err o pieces h.items h.tree (subst (λ s. TableRepresents s o.table) (sym c.symbols.ensures) h.symbols) h.has)
+
+pub returns-clause-taken : goal.returns-clause-taken
+returns-clause-taken g c = λ o pieces text printed old.
+    let h = subst (λ (e : EngineState g.row.S.Denot). EngineRepresentsBuffered g.S.Show.represents g.S.Show.piece e o pieces text printed) (sym c.self.view_is) old in
+    line_step g.S.Show.represents g.S.Show.piece o pieces _ text printed h (g.W.Write.contents c.args.out.now.inner) (g.W.Write.contents c.put_line-printed.new.out.inner)
+    c.args.self.now.buffered c.args.pending.now c.args.rest.now (ap (λ (e : EngineState g.row.S.Denot). e.buffered) c.self.view_is)
+    _ c.take.new.self c.in-Ok.taken.used c.in-Ok.taken.whole (as_line c.line.result) (search rules) c.in-Ok.ensures.used refl c.in-Ok.ensures.value c.clear.ensures.value
+    (c.clear.ensures.represents _ (c.in-Ok.ensures.represents text h.took)) c.in-Ok.ensures.no_fault
+    (c.in-Ok.ensures.limits (up_to_newline-some c.args.rest.now c.in-Ok.taken.used c.in-Ok.taken.whole c.in-Ok.ensures.used c.requires.some)).1 c.line.ensures.value
+    (c.in_default.ensures.ok o pieces h.items h.tree (subst (λ s. TableRepresents s o.table) (sym c.symbols.ensures) h.symbols) h.has)

@@ -1,0 +1,14 @@
+use Rattle.std.proofs.Common.{ap, sym, ◌∙◌}
+use Rattle.ud_model.specs.declared.settings.Settings.{Settings}
+use Rattle.ud_engine.specs.ProcessedLines.{lister_of}
+use Rattle.ud_engine.proofs.ProcessorLemmas.{none_differ}
+use Rattle.ud_engine.proofs.line_processor.LineProcessor.new.Goals as goal
+
+pub returns : goal.returns
+returns g c = λ o piece e stands stays. record {
+  has = c.new.ensures o e;
+  lister = c.lister_of.ensures ∙ ap (λ (s : Settings). lister_of s.listing) (sym e);
+  shown = λ off. stands;
+  stays = stays;
+  differs = none_differ o.settings.listing piece;
+}

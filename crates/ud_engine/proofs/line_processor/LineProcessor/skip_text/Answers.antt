@@ -1,0 +1,68 @@
+use Rattle.std.proofs.Common.{◌≡◌, rules, [], suc, take, true, false, refl, subst, arith}
+use Rattle.std.proofs.Math.ListN.{length-take}
+use Rattle.ud_model.specs.text.Lines.{text_of, numbered_from, whole_lines}
+use Rattle.ud_sections.specs.Transitions.{text_verdict}
+use Rattle.ud_sections.specs.PrinterOutputs.{PrintsEach}
+use Rattle.ud_text.specs.BulkLexemes.{at_start}
+use Rattle.ud_text.proofs.BulkPlainLemmas.{begins_ends}
+use Rattle.ud_engine.specs.DecidedLines.{DecidesBulk}
+use Rattle.ud_engine.proofs.SkipLemmas.{skips_none}
+use Rattle.ud_engine.proofs.BulkPrintLemmas.{prints_none, prints_run, kept_same, kept_text, dropped_differ, dropped_text, no_lines, none_other, or_none, or_some}
+use Rattle.ud_engine.proofs.line_processor.LineProcessor.skip_text.Goals as goal
+
+pub returns-then-is_some-clause-ends : goal.returns-then-is_some-clause-ends
+returns-then-is_some-clause-ends g c = begins_ends _ at_start
+
+pub returns-then-is_some-clause-consumed : goal.returns-then-is_some-clause-consumed
+returns-then-is_some-clause-consumed g c = skips_none c.args.lines.now
+
+pub returns-then-is_some-clause-printed : goal.returns-then-is_some-clause-printed
+returns-then-is_some-clause-printed g c = λ o piece xs t h.
+    prints_none g.S.Show.represents g.S.Show.piece o piece xs t c.args.self.now h (suc c.args.lines.now.before)
+
+pub returns-in-OneByOne-clause-ends : goal.returns-in-OneByOne-clause-ends
+returns-in-OneByOne-clause-ends g c = begins_ends _ at_start
+
+pub returns-in-OneByOne-clause-consumed : goal.returns-in-OneByOne-clause-consumed
+returns-in-OneByOne-clause-consumed g c = skips_none c.args.lines.now
+
+pub returns-in-OneByOne-clause-printed : goal.returns-in-OneByOne-clause-printed
+returns-in-OneByOne-clause-printed g c = λ o piece xs t h.
+    prints_none g.S.Show.represents g.S.Show.piece o piece xs t c.args.self.now h (suc c.args.lines.now.before)
+
+pub returns-in-Copied-clause-printed : goal.returns-in-Copied-clause-printed
+returns-in-Copied-clause-printed g c = λ o piece xs t h.
+    let bytes = take c.skip_text.result c.args.bytes.now in
+    let verdict = text_verdict c.args.self.now.decider.machine in
+    prints_run g.S.Show.represents g.S.Show.piece o piece xs t c.args.self.now h _ (numbered_from (suc c.args.lines.now.before) (whole_lines bytes)) verdict text_of false bytes
+    (search rules) refl refl (or_none c.args.self.now.differs) (c.skip_text.ensures.read o xs t h.has)
+    (subst (λ v. PrintsEach (g.S.Show.represents c.args.self.now.printer) (g.S.Show.piece c.args.self.now.printer) v text_of) c.text_verdict.ensures c.in-Copied.ensures.bulk_output)
+    (kept_same verdict (numbered_from (suc c.args.lines.now.before) (whole_lines bytes)))
+    (kept_text (suc c.args.lines.now.before) bytes c.skip_text.ensures.ends)
+
+pub returns-then-count-eq0-clause-printed : goal.returns-then-count-eq0-clause-printed
+returns-then-count-eq0-clause-printed g c = λ o piece xs t h.
+    let verdict = text_verdict c.args.self.now.decider.machine in
+    let lines = numbered_from (suc c.args.lines.now.before) (whole_lines []) in
+    let none = no_lines (suc c.args.lines.now.before) in
+    prints_run g.S.Show.represents g.S.Show.piece o piece xs t c.args.self.now h _ lines verdict (λ l. []) false []
+    (search rules) refl refl (or_none c.args.self.now.differs)
+    (subst (λ n. DecidesBulk o c.skip_text-count.new.self xs t (numbered_from (suc c.args.lines.now.before) (whole_lines (take n c.args.bytes.now))) verdict)
+    c.if-count-eq0.true (c.skip_text-count.ensures.read o xs t h.has))
+    (subst (λ v. PrintsEach (g.S.Show.represents c.args.self.now.printer) (g.S.Show.piece c.args.self.now.printer) v (λ l. [])) c.text_verdict.ensures c.in-Dropped.ensures.bulk_output)
+    (none_other verdict (λ l. []) lines none)
+    (dropped_text lines)
+
+pub returns-else-count-eq0-clause-printed : goal.returns-else-count-eq0-clause-printed
+returns-else-count-eq0-clause-printed g c = λ o piece xs t h.
+    let bytes = take c.skip_text-count.result c.args.bytes.now in
+    let verdict = text_verdict c.args.self.now.decider.machine in
+    let lines = numbered_from (suc c.args.lines.now.before) (whole_lines bytes) in
+    let some : c.skip_text-count.result ≡ 0 → ⊥ = c.if-count-eq0.false in
+    let bound = c.skip_text-count.ensures.bound in
+    let cut = length-take c.skip_text-count.result c.args.bytes.now in
+    prints_run g.S.Show.represents g.S.Show.piece o piece xs t c.args.self.now h _ lines verdict (λ l. []) true []
+    (search rules) refl refl (or_some c.args.self.now.differs) (c.skip_text-count.ensures.read o xs t h.has)
+    (subst (λ v. PrintsEach (g.S.Show.represents c.args.self.now.printer) (g.S.Show.piece c.args.self.now.printer) v (λ l. [])) c.text_verdict.ensures c.in-Dropped.ensures.bulk_output)
+    (dropped_differ verdict (suc c.args.lines.now.before) bytes c.skip_text-count.ensures.ends (omega (arith, some, bound, cut)))
+    (dropped_text lines)

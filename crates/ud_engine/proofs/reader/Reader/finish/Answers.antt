@@ -1,8 +1,0 @@
-use Rattle.std.proofs.Common.{map, ◌∙◌}
-use Rattle.ud_model.specs.sections.Items.{reading_of}
-use Rattle.ud_sections.proofs.NextLemmas.{block_is_comment}
-use Rattle.ud_engine.proofs.reader.Reader.finish.Goals as goal
-
-pub returns : goal.returns
-returns c = λ o xs t h.
-    c.finish.ensures.value o xs t h.read h.unrefused (c.in_comment.ensures (map reading_of xs) h.carries ∙ block_is_comment xs)

@@ -1,0 +1,49 @@
+-- DecidedLines: what a reader of lines stands for.
+--
+--   DeciderRepresents o r xs t        the reader has read these items, under these options; t is their tree
+--   DecidesLine o r xs t l step       it has read the line l too, and this step is its own
+--   consumed lines bytes              the lines of these bytes are given up too
+--   DecidesBulk o r xs t ls verdict   it has read the lines ls too, all of which are text with this verdict
+use Rattle.std.specs.Prelude.{◌≡◌, ℕ, ◌+◌, List, [], ◌∷◌, ◌++◌, length, map, None}
+use Rattle.ud_model.specs.text.Lines.{Line, whole_lines}
+use Rattle.ud_model.specs.text.Scans.{Reading}
+use Rattle.ud_model.specs.sections.Tree.{Item, Tree}
+use Rattle.ud_model.specs.sections.Pruning.{Mark, marks}
+use Rattle.ud_model.specs.sections.Items.{Options, reading_of, line_of, next_item}
+use Rattle.ud_model.specs.answer.Printing.{judged_line, judged_lines}
+use Rattle.ud_model.specs.declared.verdict.Verdict.{Verdict}
+use Rattle.ud_text.specs.ScannerState.{ScannerRepresents}
+use Rattle.ud_text.specs.LinesState.{LinesState}
+use Rattle.ud_sections.specs.MachineState.{MachineRepresents, machine_fault}
+use Rattle.ud_sections.specs.PrinterOutputs.{judged_text}
+use Rattle.ud_sections.specs.StepViews.{as_span}
+use Rattle.ud_sections.specs.declared.step.Step.{Step}
+use Rattle.ud_engine.specs.declared.line_decider.LineDecider.{LineDecider}
+
+-- the reader has read these items, none of which is faulty
+pub record DeciderRepresents (o : Options) (r : LineDecider) (xs : List (Item Reading)) (t : Tree Reading) : Type 0 where
+  pub read : MachineRepresents r.machine o xs t
+  pub unrefused : machine_fault r.machine ≡ None
+  pub carries : ScannerRepresents r.scanner (map reading_of xs)
+
+-- the items are one more, whose mark is the last one; the step has its verdict, and the place of its keyword
+pub record DecidesLine (o : Options) (r : LineDecider) (xs : List (Item Reading)) (t : Tree Reading) (l : Line) (step : Step) : Type 0 where
+  pub tree : Tree Reading
+  pub has : DeciderRepresents o r (xs ++ next_item o xs t l ∷ []) tree
+  pub mark : Mark
+  pub marks_are : marks tree ≡ marks t ++ mark ∷ []
+  pub judged_so : record { line = l; verdict = step.verdict; keyword = as_span step.keyword } ≡ judged_line (next_item o xs t l) mark
+
+-- the whole lines of these bytes are given up too
+abbrev pub consumed : LinesState → List ℕ → LinesState
+consumed lines bytes = record lines { before = lines.before + length (whole_lines bytes) }
+
+-- the items are those of these lines more, if there are any, each a text line with this verdict
+pub record DecidesBulk (o : Options) (r : LineDecider) (xs : List (Item Reading)) (t : Tree Reading) (ls : List Line) (verdict : Verdict) : Type 0 where
+  pub items : List (Item Reading)
+  pub tree : Tree Reading
+  pub has : DeciderRepresents o r (xs ++ items) tree
+  pub lines_are : map line_of items ≡ ls
+  pub own : List Mark
+  pub marks_are : marks tree ≡ marks t ++ own
+  pub judged_so : judged_lines items own ≡ map (judged_text verdict) ls

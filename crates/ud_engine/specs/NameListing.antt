@@ -1,0 +1,46 @@
+-- NameListing: what a reader of lines stands for that lists their names.
+--
+--   ListsLine o r xs t l depths ..   it has read the line l too, whose names were put after the run
+--   ListErr o xs t l depths .. f     the line is faulty, or a write failed within the bytes up to its names
+use Rattle.std.specs.Prelude.{◌≡◌, ℕ, List, [], ◌∷◌, ◌++◌, Bool, Option}
+use Rattle.ud_model.specs.text.Lines.{Line}
+use Rattle.ud_model.specs.text.Scans.{Reading}
+use Rattle.ud_model.specs.sections.Tree.{Item, Tree}
+use Rattle.ud_model.specs.sections.Items.{Options, next_item}
+use Rattle.ud_model.specs.sections.Faults.{AreFaultless, FaultOf}
+use Rattle.ud_model.specs.answer.Listing.{levels, listed}
+use Rattle.ud_sections.specs.MachineState.{fault_of}
+use Rattle.ud_engine.specs.declared.fault.RunFault.{RunFault}
+use Rattle.ud_engine.specs.declared.fault.RunFault.TheVariants.{Text, Section, Read, Write}
+use Rattle.ud_engine.specs.declared.line_decider.LineDecider.{LineDecider}
+use Rattle.ud_engine.specs.DecidedLines.{DeciderRepresents}
+use Rattle.ud_io.specs.Buffering.{AppendsAllBut}
+use Rattle.ud_io.specs.Watched.{AppendsPrefix}
+
+-- with the line l after these, these names are listed too
+abbrev pub ListsMore : Options → List (Item Reading) → Tree Reading → Line → Bool → Tree Reading → List ℕ → Type 0
+ListsMore o xs t l depths tree more = listed depths (xs ++ next_item o xs t l ∷ []) (levels tree) ≡ listed depths xs (levels t) ++ more
+
+-- the lister takes one line more: what was gathered, the run and the line's names are sent, but for what is left
+pub record ListsLine (o : Options) (r : LineDecider) (xs : List (Item Reading)) (t : Tree Reading) (l : Line) (depths : Bool)
+    (old new : Option (List ℕ)) (buffered left pending : List ℕ) : Type 0 where
+  pub tree : Tree Reading
+  pub has : DeciderRepresents o r (xs ++ next_item o xs t l ∷ []) tree
+  pub more : List ℕ
+  pub is_more : ListsMore o xs t l depths tree more
+  pub sent : AppendsAllBut old new (buffered ++ (pending ++ more)) left
+
+-- a write failed as one line more was listed: a front of what was gathered, the run and the line's names went out
+pub record ListingFails (o : Options) (xs : List (Item Reading)) (t : Tree Reading) (l : Line) (depths : Bool)
+    (old new : Option (List ℕ)) (buffered pending : List ℕ) : Type 0 where
+  pub tree : Tree Reading
+  pub sound : AreFaultless o (xs ++ next_item o xs t l ∷ []) tree
+  pub more : List ℕ
+  pub is_more : ListsMore o xs t l depths tree more
+  pub front : AppendsPrefix old new (buffered ++ (pending ++ more))
+
+abbrev pub ListErr : Options → List (Item Reading) → Tree Reading → Line → Bool → Option (List ℕ) → Option (List ℕ) → List ℕ → List ℕ → RunFault → Type 0
+ListErr o xs t l depths old new buffered pending (Section f) = FaultOf xs (next_item o xs t l) (fault_of f)
+ListErr o xs t l depths old new buffered pending Write = ListingFails o xs t l depths old new buffered pending
+ListErr o xs t l depths old new buffered pending (Text f) = ⊥
+ListErr o xs t l depths old new buffered pending Read = ⊥

@@ -1,0 +1,227 @@
+//! Lines read one after another, by a scanner and a machine.
+
+ghost use Rattle.std.specs.Prelude.{◌≡◌, ◌≤◌, ◌+◌, ◌∷◌, [], ◌++◌, ℕ, suc, List, length, take, IfOk, IfErr, OnOk, false};
+ghost use Rattle.ud_model.specs.text.Lines.{NoNewline, whole_lines, numbered_from};
+ghost use Rattle.ud_model.specs.text.Scans.{Reading};
+ghost use Rattle.ud_model.specs.sections.Tree.{Item, Tree, closed, nothing};
+ghost use Rattle.ud_model.specs.sections.Items.{Options, next_item};
+ghost use Rattle.ud_model.specs.sections.Faults.{FaultOf, end_fault};
+ghost use Rattle.ud_cond.specs.SymbolTable.{TableRepresents};
+ghost use Rattle.ud_model.specs.declared.limits.TheConstants.{TEXT_LINES};
+ghost use Rattle.ud_text.specs.LinesState.{LinesRepresent};
+ghost use Rattle.ud_text.specs.LineViews.{as_line};
+ghost use Rattle.ud_text.specs.BulkScanning.{AreWholeLines};
+ghost use Rattle.ud_text.specs.Consuming.{CanConsume};
+ghost use Rattle.ud_sections.specs.Limits.{IsWithinLimits};
+ghost use Rattle.ud_sections.specs.StepViews.{HoldsKeyword};
+ghost use Rattle.ud_sections.specs.MachineState.{fault_of, end_fault_of};
+ghost use Rattle.ud_sections.specs.Transitions.{text_verdict};
+
+use crate::fault::RunFault;
+use crate::listing::append_names;
+use crate::output::Output;
+use std::io::Write;
+use ud_cond::Symbols;
+use ud_io::Watched;
+use ud_model::{Settings, Verdict};
+use ud_sections::{Lister, Machine, SectionFault, Step};
+use ud_text::{Line, LineBuffer, Lines, SHORT_LINE_BYTES, ShortScanner};
+
+/// Reads lines, and decides them.
+#[derive(Drop)]
+pub(crate) struct LineDecider {
+    scanner: ShortScanner,
+    machine: Machine,
+}
+
+impl LineDecider {
+    ghost use Rattle.ud_engine.specs.DecidedLines.{DeciderRepresents, DecidesLine, DecidesBulk, consumed};
+    ghost use Rattle.ud_engine.specs.NameListing.{ListsLine, ListErr};
+    ghost use Rattle.ud_engine.specs.FaultEffects.{OutputUnchanged};
+
+    /// Has read no line.
+    pub(crate) fn new(settings: Settings) -> LineDecider
+        ensures { (o : Options) → o.settings ≡ settings → DeciderRepresents o result [] (closed nothing) }
+    {
+        LineDecider {
+            scanner: ShortScanner::new(),
+            machine: Machine::new(settings),
+        }
+    }
+
+    /// Reads the next line, and tells what becomes of it.
+    ///
+    /// # Errors
+    /// The line is faulty.
+    #[inline(always)]
+    pub(crate) fn decide(
+        &mut self,
+        line: &Line<'_>,
+        symbols: &Symbols,
+    ) -> Result<Step, SectionFault>
+        requires within { IsWithinLimits (as_line line.now) }
+        requires one_line { NoNewline line.now.body.now }
+        ensures ok { (o : Options) → (xs : List (Item Reading)) → (t : Tree Reading) → TableRepresents symbols.now o.table → DeciderRepresents o self.old xs t →
+            IfOk result (DecidesLine o self.new xs t (as_line line.now)) }
+        ensures err { (o : Options) → (xs : List (Item Reading)) → (t : Tree Reading) → TableRepresents symbols.now o.table → DeciderRepresents o self.old xs t →
+            IfErr result (λ f. FaultOf xs (next_item o xs t (as_line line.now)) (fault_of f)) }
+        ensures cursor { IfOk result (λ s. HoldsKeyword s line.now) }
+    {
+        if line.body.len() > SHORT_LINE_BYTES {
+            return self.decide_long(line, symbols);
+        }
+        let mode = self.machine.mode();
+        let scan = self.scanner.read(mode, line);
+        self.machine.step(&scan, line, symbols)
+    }
+
+    /// Reads the next line if it is long. The room that this takes is cleared here alone.
+    ///
+    /// # Errors
+    /// As `decide`.
+    #[inline(never)]
+    fn decide_long(&mut self, line: &Line<'_>, symbols: &Symbols) -> Result<Step, SectionFault>
+        requires within { IsWithinLimits (as_line line.now) }
+        requires one_line { NoNewline line.now.body.now }
+        ensures ok { (o : Options) → (xs : List (Item Reading)) → (t : Tree Reading) → TableRepresents symbols.now o.table → DeciderRepresents o self.old xs t →
+            IfOk result (DecidesLine o self.new xs t (as_line line.now)) }
+        ensures err { (o : Options) → (xs : List (Item Reading)) → (t : Tree Reading) → TableRepresents symbols.now o.table → DeciderRepresents o self.old xs t →
+            IfErr result (λ f. FaultOf xs (next_item o xs t (as_line line.now)) (fault_of f)) }
+        ensures cursor { IfOk result (λ s. HoldsKeyword s line.now) }
+    {
+        let mode = self.machine.mode();
+        let mut scanner = self.scanner.to_scanner();
+        let scan = scanner.read(mode, line);
+        let answer = self.machine.step(&scan, line, symbols);
+        self.scanner.copy_state_of(&scanner);
+        answer
+    }
+
+    /// Reads the next line, and puts its names after the run of bytes before it.
+    ///
+    /// # Errors
+    /// `Section` if the line is faulty: nothing is put. `Write` if a write fails: a front of all bytes to be written up to
+    /// the line's is written.
+    #[inline(never)]
+    pub(crate) fn list_names<W: Write>(
+        &mut self,
+        line: &Line<'_>,
+        symbols: &Symbols,
+        lister: &mut Lister,
+        pending: &[u8],
+        output: &mut Output,
+        out: &mut Watched<W>,
+    ) -> Result<(), RunFault>
+        requires within { IsWithinLimits (as_line line.now) }
+        requires one_line { NoNewline line.now.body.now }
+        requires not_failed { out.old.failed ≡ false }
+        ensures ok { (o : Options) → (xs : List (Item Reading)) → (t : Tree Reading) → TableRepresents symbols.now o.table → DeciderRepresents o self.old xs t →
+            OnOk result (ListsLine o self.new xs t (as_line line.now) lister.old (W.contents out.old.inner) (W.contents out.new.inner) output.old output.new pending.now) }
+        ensures err { (o : Options) → (xs : List (Item Reading)) → (t : Tree Reading) → TableRepresents symbols.now o.table → DeciderRepresents o self.old xs t →
+            IfErr result (ListErr o xs t (as_line line.now) lister.old (W.contents out.old.inner) (W.contents out.new.inner) output.old pending.now) }
+        ensures not_failed { OnOk result (out.new.failed ≡ false) }
+        ensures output_unchanged { IfErr result (OutputUnchanged out.old out.new output.old output.new) }
+        ensures stays { lister.new ≡ lister.old }
+    {
+        if line.body.len() > SHORT_LINE_BYTES {
+            return self.list_names_long(line, symbols, lister, pending, output, out);
+        }
+        let mode = self.machine.mode();
+        let scan = self.scanner.read(mode, line);
+        if let Err(fault) = self.machine.step(&scan, line, symbols) {
+            return Err(RunFault::Section(fault));
+        }
+        if !output.append(pending, out) {
+            return Err(RunFault::Write);
+        }
+        let around = self.machine.depth().saturating_sub(1);
+        let prefix = lister.prefix(around);
+        if !append_names(output, prefix, Lister::names(&scan), out) {
+            return Err(RunFault::Write);
+        }
+        Ok(())
+    }
+
+    /// Reads the next line if it is long, and puts its names. The room that this takes is cleared here alone.
+    ///
+    /// # Errors
+    /// As `list_names`.
+    #[inline(never)]
+    fn list_names_long<W: Write>(
+        &mut self,
+        line: &Line<'_>,
+        symbols: &Symbols,
+        lister: &mut Lister,
+        pending: &[u8],
+        output: &mut Output,
+        out: &mut Watched<W>,
+    ) -> Result<(), RunFault>
+        requires within { IsWithinLimits (as_line line.now) }
+        requires one_line { NoNewline line.now.body.now }
+        requires not_failed { out.old.failed ≡ false }
+        ensures ok { (o : Options) → (xs : List (Item Reading)) → (t : Tree Reading) → TableRepresents symbols.now o.table → DeciderRepresents o self.old xs t →
+            OnOk result (ListsLine o self.new xs t (as_line line.now) lister.old (W.contents out.old.inner) (W.contents out.new.inner) output.old output.new pending.now) }
+        ensures err { (o : Options) → (xs : List (Item Reading)) → (t : Tree Reading) → TableRepresents symbols.now o.table → DeciderRepresents o self.old xs t →
+            IfErr result (ListErr o xs t (as_line line.now) lister.old (W.contents out.old.inner) (W.contents out.new.inner) output.old pending.now) }
+        ensures not_failed { OnOk result (out.new.failed ≡ false) }
+        ensures output_unchanged { IfErr result (OutputUnchanged out.old out.new output.old output.new) }
+        ensures stays { lister.new ≡ lister.old }
+    {
+        let mode = self.machine.mode();
+        let mut long = self.scanner.to_scanner();
+        let scan = long.read(mode, line);
+        if let Err(found) = self.machine.step(&scan, line, symbols) {
+            return Err(RunFault::Section(found));
+        }
+        if !output.append(pending, out) {
+            return Err(RunFault::Write);
+        }
+        let level = self.machine.depth().saturating_sub(1);
+        let prefix = lister.prefix(level);
+        if !append_names(output, prefix, Lister::names(&scan), out) {
+            return Err(RunFault::Write);
+        }
+        self.scanner.copy_state_of(&long);
+        Ok(())
+    }
+
+    /// The verdict of the next line, if it is text.
+    pub(crate) fn text_verdict(&self) -> Verdict
+        ensures { result ≡ text_verdict self.now.machine }
+    {
+        self.machine.text_verdict()
+    }
+
+    /// Reads as many of these whole lines, which come next, as are seen to be text, and gives them up. Answers how many
+    /// bytes they have: 0, or up to the end of a line.
+    pub(crate) fn skip_text<H: LineBuffer>(&mut self, bytes: &[u8], lines: &mut Lines<H>) -> usize
+        requires run { CanConsume lines.old bytes.now }
+        requires goes_on { lines.old.closed ≡ false }
+        requires limit { lines.old.last_line ≤ TEXT_LINES }
+        ensures bound { result ≤ length bytes.now }
+        ensures ends { AreWholeLines (take result bytes.now) }
+        ensures consumed { lines.new ≡ consumed lines.old (take result bytes.now) }
+        ensures represents { (text : List ℕ) → LinesRepresent lines.old text → LinesRepresent lines.new (text ++ take result bytes.now) }
+        ensures read { (o : Options) → (xs : List (Item Reading)) → (t : Tree Reading) → DeciderRepresents o self.old xs t →
+            DecidesBulk o self.new xs t (numbered_from (suc lines.old.before) (whole_lines (take result bytes.now))) (text_verdict self.old.machine) }
+    {
+        let mode = self.machine.mode();
+        let count = self.scanner.skip_text(mode, bytes);
+        if count == 0 {
+            return 0;
+        }
+        let last = lines.consume(&bytes[..count]);
+        let _ = self.machine.step_text(last);
+        count
+    }
+
+    /// What the end of the text says.
+    ///
+    /// # Errors
+    /// The text ends in a block comment, or else in a section.
+    pub(crate) fn finish(&self) -> Result<(), SectionFault>
+        ensures { (o : Options) → (xs : List (Item Reading)) → (t : Tree Reading) → DeciderRepresents o self.now xs t → end_fault_of result ≡ end_fault xs t }
+    {
+        self.machine.finish(self.scanner.in_comment())
+    }
+}

@@ -1,0 +1,348 @@
+//! Reading lines, and printing what is left of them.
+
+ghost use Rattle.std.specs.Prelude.{◌≡◌, bytes_eq, ◌∷◌, [], ◌++◌, ◌≤◌, List, ℕ, suc, length, take, IfOk, IfErr, IfSome, IfNone, OnOk, true, false, is_none};
+ghost use Rattle.ud_model.specs.text.Lines.{NoNewline, text_of, whole_lines, numbered_from};
+ghost use Rattle.ud_model.specs.text.Scans.{Reading};
+ghost use Rattle.ud_model.specs.sections.Tree.{Item, Tree, closed, nothing};
+ghost use Rattle.ud_model.specs.sections.Items.{Options};
+ghost use Rattle.ud_model.specs.sections.Faults.{end_fault};
+ghost use Rattle.ud_model.specs.answer.Printing.{Judged};
+ghost use Rattle.ud_cond.specs.SymbolTable.{TableRepresents};
+ghost use Rattle.ud_model.specs.declared.limits.TheConstants.{TEXT_LINES};
+ghost use Rattle.ud_text.specs.LinesState.{LinesRepresent};
+ghost use Rattle.ud_text.specs.LineViews.{as_line};
+ghost use Rattle.ud_text.specs.BulkScanning.{AreWholeLines};
+ghost use Rattle.ud_text.specs.Consuming.{CanConsume};
+ghost use Rattle.ud_sections.specs.Limits.{IsWithinLimits};
+ghost use Rattle.ud_sections.specs.MachineState.{end_fault_of};
+ghost use Rattle.ud_sections.specs.StepViews.{judged_step, HoldsKeyword};
+ghost use Rattle.ud_engine.specs.ProcessedLines.{ShowsLine, IsLeftOf, lister_of, printed_of};
+ghost use Rattle.ud_engine.specs.DecidedLines.{consumed};
+ghost use Rattle.ud_engine.specs.FaultEffects.{OutputUnchanged};
+ghost use Rattle.ud_io.specs.Watched.{AppendsPrefix};
+
+use crate::fault::RunFault;
+use crate::line_decider::LineDecider;
+use crate::output::Output;
+use std::io::Write;
+use ud_cond::Symbols;
+use ud_io::Watched;
+use ud_model::{Listing, Settings};
+use ud_sections::{BulkOutput, LineOutput, Lister, SectionFault, Show, Step};
+use ud_text::{Line, LineBuffer, Lines};
+
+/// Reads the lines of a text in order, and prints what is left of each, or lists its names.
+#[derive(Drop)]
+pub(crate) struct LineProcessor<S> {
+    decider: LineDecider,
+    /// What prints the lines, unless their names are listed.
+    printer: S,
+    /// What lists their names, if they are listed.
+    lister: Option<Lister>,
+    /// Whether what was printed of some line isn't the line itself.
+    differs: bool,
+}
+
+/// Lines that were read at once, all of them text.
+#[derive(Clone, Copy)]
+pub(crate) struct SkippedText {
+    /// How many bytes they have; 0 if none was read.
+    pub(crate) count: usize,
+    /// Whether each of them is printed as it is. Else nothing is printed of them.
+    pub(crate) kept: bool,
+}
+
+/// What lists names, if they are to be listed.
+fn lister_of(listing: Listing) -> Option<Lister>
+    ensures { result ≡ lister_of listing }
+{
+    match listing {
+        Listing::Off => None,
+        Listing::Names => Some(Lister::new(false)),
+        Listing::Depths => Some(Lister::new(true)),
+    }
+}
+
+impl<S: Show> LineProcessor<S> {
+    ghost use Rattle.ud_engine.specs.ProcessedLines.{ProcessorRepresents, PrintsLine, PrintErr, PrintsBulk, differs_in};
+
+    /// Has read no line, and prints by this printer.
+    pub(crate) fn new(settings: Settings, printer: S) -> LineProcessor<S>
+        ensures { (o : Options) → (piece : List Judged → Judged → List ℕ) → o.settings ≡ settings → S.represents printer [] →
+            ((before : List Judged) → (j : Judged) → S.piece printer before j ≡ piece before j) →
+            ProcessorRepresents S.represents S.piece result o piece [] (closed nothing) }
+    {
+        LineProcessor {
+            decider: LineDecider::new(settings),
+            printer,
+            lister: lister_of(settings.listing),
+            differs: false,
+        }
+    }
+
+    /// Reads the next line. What is printed of it is put after the run of bytes before it, unless it is the line itself:
+    /// then nothing is put, and the answer is `false`.
+    ///
+    /// # Errors
+    /// `Section` if the line is faulty: nothing is put. `Write` if a write fails: a front of all bytes to be written up to
+    /// the line's is written.
+    pub(crate) fn print<W: Write>(
+        &mut self,
+        line: &Line<'_>,
+        symbols: &Symbols,
+        pending: &[u8],
+        output: &mut Output,
+        out: &mut Watched<W>,
+    ) -> Result<bool, RunFault>
+        requires within { IsWithinLimits (as_line line.now) }
+        requires one_line { NoNewline line.now.body.now }
+        requires not_failed { out.old.failed ≡ false }
+        ensures ok { (o : Options) → (piece : List Judged → Judged → List ℕ) → (xs : List (Item Reading)) → (t : Tree Reading) →
+            TableRepresents symbols.now o.table → ProcessorRepresents S.represents S.piece self.old o piece xs t →
+            IfOk result (λ put. PrintsLine S.represents S.piece self.new o piece xs t (as_line line.now) put
+            (W.contents out.old.inner) (W.contents out.new.inner) output.old output.new pending.now) }
+        ensures err { (o : Options) → (piece : List Judged → Judged → List ℕ) → (xs : List (Item Reading)) → (t : Tree Reading) →
+            TableRepresents symbols.now o.table → ProcessorRepresents S.represents S.piece self.old o piece xs t →
+            IfErr result (PrintErr o piece xs t (as_line line.now) (W.contents out.old.inner) (W.contents out.new.inner) output.old pending.now) }
+        ensures not_failed { OnOk result (out.new.failed ≡ false) }
+        ensures output_unchanged { IfErr result (OutputUnchanged out.old out.new output.old output.new) }
+    {
+        match &mut self.lister {
+            Some(lister) => match self
+                .decider
+                .list_names(line, symbols, lister, pending, output, out)
+            {
+                Ok(()) => Ok(true),
+                Err(fault) => Err(fault),
+            },
+            None => match self.decider.decide(line, symbols) {
+                Err(fault) => Err(RunFault::Section(fault)),
+                Ok(step) => match append_line(&mut self.printer, line, step, pending, output, out) {
+                    None => Err(RunFault::Write),
+                    Some(shown) => {
+                        self.differs |= shown;
+                        Ok(shown)
+                    }
+                },
+            },
+        }
+    }
+
+    /// Reads the next line, and puts what is printed of it after the run of bytes before it.
+    ///
+    /// # Errors
+    /// As `print`.
+    pub(crate) fn put_line<W: Write>(
+        &mut self,
+        line: &Line<'_>,
+        symbols: &Symbols,
+        pending: &[u8],
+        output: &mut Output,
+        out: &mut Watched<W>,
+    ) -> Result<(), RunFault>
+        requires within { IsWithinLimits (as_line line.now) }
+        requires one_line { NoNewline line.now.body.now }
+        requires not_failed { out.old.failed ≡ false }
+        ensures ok { (o : Options) → (piece : List Judged → Judged → List ℕ) → (xs : List (Item Reading)) → (t : Tree Reading) →
+            TableRepresents symbols.now o.table → ProcessorRepresents S.represents S.piece self.old o piece xs t →
+            OnOk result (PrintsLine S.represents S.piece self.new o piece xs t (as_line line.now) true
+            (W.contents out.old.inner) (W.contents out.new.inner) output.old output.new pending.now) }
+        ensures err { (o : Options) → (piece : List Judged → Judged → List ℕ) → (xs : List (Item Reading)) → (t : Tree Reading) →
+            TableRepresents symbols.now o.table → ProcessorRepresents S.represents S.piece self.old o piece xs t →
+            IfErr result (PrintErr o piece xs t (as_line line.now) (W.contents out.old.inner) (W.contents out.new.inner) output.old pending.now) }
+        ensures not_failed { OnOk result (out.new.failed ≡ false) }
+        ensures output_unchanged { IfErr result (OutputUnchanged out.old out.new output.old output.new) }
+    {
+        match self.print(line, symbols, pending, output, out) {
+            Err(fault) => Err(fault),
+            Ok(true) => Ok(()),
+            Ok(false) => {
+                if output.append_parts(&[pending, line.body, line.ending], out) {
+                    Ok(())
+                } else {
+                    Err(RunFault::Write)
+                }
+            }
+        }
+    }
+
+    /// Reads as many of these whole lines, which come next, as are seen to be text, if it is known what is printed of them
+    /// all, and gives them up. Nothing is put.
+    pub(crate) fn skip_text<H: LineBuffer>(
+        &mut self,
+        bytes: &[u8],
+        lines: &mut Lines<H>,
+    ) -> SkippedText
+        requires run { CanConsume lines.old bytes.now }
+        requires goes_on { lines.old.closed ≡ false }
+        requires limit { lines.old.last_line ≤ TEXT_LINES }
+        ensures bound { result.count ≤ length bytes.now }
+        ensures ends { AreWholeLines (take result.count bytes.now) }
+        ensures consumed { lines.new ≡ consumed lines.old (take result.count bytes.now) }
+        ensures represents { (text : List ℕ) → LinesRepresent lines.old text → LinesRepresent lines.new (text ++ take result.count bytes.now) }
+        ensures printed { (o : Options) → (piece : List Judged → Judged → List ℕ) → (xs : List (Item Reading)) → (t : Tree Reading) →
+            ProcessorRepresents S.represents S.piece self.old o piece xs t →
+            PrintsBulk S.represents S.piece self.new o piece xs t (numbered_from (suc lines.old.before) (whole_lines (take result.count bytes.now)))
+            (printed_of result bytes.now) }
+    {
+        let none = SkippedText {
+            count: 0,
+            kept: true,
+        };
+        if self.lister.is_some() {
+            return none;
+        }
+        match self.printer.bulk_output(self.decider.text_verdict()) {
+            BulkOutput::OneByOne => none,
+            BulkOutput::Copied => SkippedText {
+                count: self.decider.skip_text(bytes, lines),
+                kept: true,
+            },
+            BulkOutput::Dropped => {
+                let count = self.decider.skip_text(bytes, lines);
+                if count == 0 {
+                    return none;
+                }
+                self.differs = true;
+                SkippedText { count, kept: false }
+            }
+        }
+    }
+
+    /// What the end of the text says.
+    ///
+    /// # Errors
+    /// The text ends in a block comment, or else in a section.
+    pub(crate) fn finish(&self) -> Result<(), SectionFault>
+        ensures { (o : Options) → (piece : List Judged → Judged → List ℕ) → (xs : List (Item Reading)) → (t : Tree Reading) →
+            ProcessorRepresents S.represents S.piece self.now o piece xs t → end_fault_of result ≡ end_fault xs t }
+    {
+        self.decider.finish()
+    }
+
+    /// Whether what was printed of some line isn't the line itself; never if names are listed.
+    pub(crate) fn differs(&self) -> bool
+        ensures { (o : Options) → (piece : List Judged → Judged → List ℕ) → (xs : List (Item Reading)) → (t : Tree Reading) →
+            ProcessorRepresents S.represents S.piece self.now o piece xs t → result ≡ differs_in o.settings.listing piece xs t }
+    {
+        self.differs
+    }
+}
+
+/// Puts what a printer makes of the next line after the run of bytes before it, unless it is the line itself, and answers
+/// whether it was put.
+///
+/// # Errors
+/// `None` if a write fails: a front of all these bytes is written, and `out` has failed.
+#[inline(always)]
+fn append_line<S: Show, W: Write>(
+    show: &mut S,
+    line: &Line<'_>,
+    step: Step,
+    pending: &[u8],
+    output: &mut Output,
+    out: &mut Watched<W>,
+) -> Option<bool>
+    requires not_failed { out.old.failed ≡ false }
+    requires keyword { HoldsKeyword step line.now }
+    ensures represents { (before : List Judged) → S.represents show.old before → S.represents show.new (before ++ judged_step line.now step ∷ []) }
+    ensures stays { (before : List Judged) → (j : Judged) → S.piece show.new before j ≡ S.piece show.old before j }
+    ensures failed { out.new.failed ≡ is_none result }
+    ensures none { IfNone result ((before : List Judged) → S.represents show.old before →
+        AppendsPrefix (W.contents out.old.inner) (W.contents out.new.inner) (output.old ++ (pending.now ++ S.piece show.old before (judged_step line.now step)))) }
+    ensures some { IfSome result (λ shown. (before : List Judged) → S.represents show.old before →
+        ShowsLine shown (W.contents out.old.inner) (W.contents out.new.inner) output.old output.new pending.now
+        (S.piece show.old before (judged_step line.now step)) (text_of (as_line line.now))) }
+{
+    match show.line_output(step.verdict) {
+        LineOutput::Whole => Some(false),
+        LineOutput::Nothing => append_line_output(line, &[], pending, output, out),
+        LineOutput::Ending => append_line_output(line, line.ending, pending, output, out),
+        LineOutput::Parts => append_parts_of(show, line, step, pending, output, out),
+    }
+}
+
+/// Puts what is left of a line, nothing or its ending, after the run of bytes before it, unless that is the line itself, and
+/// answers whether it was put.
+///
+/// # Errors
+/// As `append_line`.
+#[inline(always)]
+fn append_line_output<W: Write>(
+    line: &Line<'_>,
+    left: &[u8],
+    pending: &[u8],
+    output: &mut Output,
+    out: &mut Watched<W>,
+) -> Option<bool>
+    requires not_failed { out.old.failed ≡ false }
+    requires left { IsLeftOf left.now line.now.ending.now }
+    ensures failed { out.new.failed ≡ is_none result }
+    ensures none { IfNone result (AppendsPrefix (W.contents out.old.inner) (W.contents out.new.inner) (output.old ++ (pending.now ++ left.now))) }
+    ensures some { IfSome result (λ shown.
+        ShowsLine shown (W.contents out.old.inner) (W.contents out.new.inner) output.old output.new pending.now left.now (text_of (as_line line.now))) }
+{
+    if is_line(left, line) {
+        return Some(false);
+    }
+    let run_is_put = output.append(pending, out);
+    if !run_is_put {
+        return None;
+    }
+    if !output.append(left, out) {
+        return None;
+    }
+    Some(true)
+}
+
+/// Whether what is left of a line, nothing or its ending, is the line itself.
+#[inline(always)]
+fn is_line(left: &[u8], line: &Line<'_>) -> bool
+    requires { IsLeftOf left.now line.now.ending.now }
+    ensures { result ≡ bytes_eq left.now (text_of (as_line line.now)) }
+{
+    left.len() == line.body.len() + line.ending.len()
+}
+
+/// Puts the parts that a printer makes of the next line after the run of bytes before it, unless they are the line itself,
+/// and answers whether they were put.
+///
+/// # Errors
+/// As `append_line`.
+#[inline(never)]
+fn append_parts_of<S: Show, W: Write>(
+    show: &mut S,
+    line: &Line<'_>,
+    step: Step,
+    pending: &[u8],
+    output: &mut Output,
+    out: &mut Watched<W>,
+) -> Option<bool>
+    requires not_failed { out.old.failed ≡ false }
+    requires keyword { HoldsKeyword step line.now }
+    ensures represents { (before : List Judged) → S.represents show.old before → S.represents show.new (before ++ judged_step line.now step ∷ []) }
+    ensures stays { (before : List Judged) → (j : Judged) → S.piece show.new before j ≡ S.piece show.old before j }
+    ensures failed { out.new.failed ≡ is_none result }
+    ensures none { IfNone result ((before : List Judged) → S.represents show.old before →
+        AppendsPrefix (W.contents out.old.inner) (W.contents out.new.inner) (output.old ++ (pending.now ++ S.piece show.old before (judged_step line.now step)))) }
+    ensures some { IfSome result (λ shown. (before : List Judged) → S.represents show.old before →
+        ShowsLine shown (W.contents out.old.inner) (W.contents out.new.inner) output.old output.new pending.now
+        (S.piece show.old before (judged_step line.now step)) (text_of (as_line line.now))) }
+{
+    let line = Line {
+        body: line.body,
+        ending: line.ending,
+        number: line.number,
+    };
+    let pieces = show.pieces(&line, step);
+    if pieces.same() {
+        return Some(false);
+    }
+    if !output.append(pending, out) {
+        return None;
+    }
+    if !output.append_parts(pieces.parts(), out) {
+        return None;
+    }
+    Some(true)
+}

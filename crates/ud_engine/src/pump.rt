@@ -1,0 +1,130 @@
+//! A run over a reader.
+
+ghost use Rattle.std.specs.Prelude.{◌≡◌, ◌<◌, ℕ, List, Option, true, false, Ok, Err, IfSome, IfNone, IfErr, OnOk};
+ghost use Rattle.ud_model.specs.sections.Items.{Options};
+ghost use Rattle.ud_cond.specs.SymbolTable.{TableRepresents};
+ghost use Rattle.ud_engine.specs.Finishing.{RunAnswers};
+ghost use Rattle.ud_engine.specs.Runs.{LagsOneRead, RunEnded, RepresentsSomeText, InProgress, RunFinished, ErrorMatchesStreams};
+ghost use Rattle.ud_model.specs.declared.limits.TheConstants.{LINE_BYTES};
+
+use crate::engine::Engine;
+use crate::fault::RunFault;
+use std::io::{Read, Write};
+use ud_args::Plan;
+use ud_io::Watched;
+use ud_sections::Printer;
+use ud_text::{LineBuffer, LongLineBuffer, ShortLineBuffer};
+
+/// The most bytes that one read gives.
+pub(crate) const CHUNK_BYTES: usize = 8_192;
+
+/// Prints what is left of a text, or the names of its conditions, as the plan asks: reads it from `decider` in pieces of at
+/// most `CHUNK_BYTES`, and writes to `out` as it goes. Answers whether some line is printed otherwise than it is; `false` if
+/// names are listed. Takes no memory, and doesn't flush `out`.
+///
+/// If neither fails, what is appended to `out` and the answer are those of the one outcome of the bytes that `decider` gives
+/// up to its end. However the run ends, it has written what is left of all that came before the last piece.
+///
+/// # Errors
+/// `Text` or `Section` if a line is faulty, after what is left of the lines before it, or if the text ends in a comment or
+/// a section, after what is left of all lines; no more is read then. `Read` if a read fails, after what is left of the whole
+/// lines before; `Write` if a write fails.
+pub fn run<R: Read, W: Write>(
+    plan: &Plan,
+    reader: &mut Watched<R>,
+    out: &mut Watched<W>,
+) -> Result<bool, RunFault>
+    requires reader { reader.old.failed ≡ false }
+    requires out { out.old.failed ≡ false }
+    ensures ran { (o : Options) → o.settings ≡ plan.now.settings → TableRepresents plan.now.symbols o.table →
+        reader.new.failed ≡ false → out.new.failed ≡ false → IfSome (R.remaining reader.old.inner) (λ input.
+        RunAnswers o input (W.contents out.old.inner) (W.contents out.new.inner) result) }
+    ensures lag { (o : Options) → o.settings ≡ plan.now.settings → TableRepresents plan.now.symbols o.table →
+        LagsOneRead o (R.remaining reader.old.inner) (R.remaining reader.new.inner) (W.contents out.old.inner) (W.contents out.new.inner) }
+    ensures ended { (o : Options) → o.settings ≡ plan.now.settings → TableRepresents plan.now.symbols o.table →
+        RunEnded o (R.remaining reader.old.inner) (R.remaining reader.new.inner) (W.contents out.old.inner) (W.contents out.new.inner) result }
+    ensures not_failed { OnOk result ((reader.new.failed ≡ false) × (out.new.failed ≡ false)) }
+    ensures read_fails { (reader.new.failed ≡ true → result ≡ Err RunFault.Read) × (result ≡ Err RunFault.Read → reader.new.failed ≡ true) }
+    ensures write_fails { (out.new.failed ≡ true → result ≡ Err RunFault.Write) × (result ≡ Err RunFault.Write → out.new.failed ≡ true) }
+{
+    let mut engine: Engine<'_, Printer, ShortLineBuffer> = Engine::with_buffer(
+        plan,
+        Printer::of(&plan.settings()),
+    );
+    match pump(&mut engine, reader, out) {
+        Some(ended) => ended,
+        None => run_with_long_buffer(plan, &mut engine, reader, out),
+    }
+}
+
+/// Goes on with a run whose engine has no room left: what it holds is put into room for a line of any length. That room is this
+/// function's own, so that a run that meets no long line doesn't pay for it.
+///
+/// # Errors
+/// As `run`.
+#[inline(never)]
+fn run_with_long_buffer<R: Read, W: Write>(
+    plan: &Plan,
+    short: &mut Engine<'_, Printer, ShortLineBuffer>,
+    reader: &mut Watched<R>,
+    out: &mut Watched<W>,
+) -> Result<bool, RunFault>
+    requires reader { reader.old.failed ≡ false }
+    requires out { out.old.failed ≡ false }
+    requires begun { RepresentsSomeText short.old }
+    ensures finished { (o : Options) → (read written : Option (List ℕ)) →
+        InProgress short.old o read (R.remaining reader.old.inner) written (W.contents out.old.inner) →
+        RunFinished o read (R.remaining reader.new.inner) written (W.contents out.new.inner) reader.new.failed out.new.failed result }
+    ensures error_matches { ErrorMatchesStreams reader.new.failed out.new.failed result }
+{
+    let mut engine: Engine<'_, Printer, LongLineBuffer> = short.take_as_long(Printer::of(
+        &plan.settings(),
+    ));
+    match pump(&mut engine, reader, out) {
+        Some(ended) => ended,
+        None => unreachable!(),
+    }
+}
+
+/// Feeds an engine with pieces from `decider`, none longer than there is room for, until the text has ended or a fault is met. No
+/// answer if there is room for no byte more, which never comes in room for a line of any length.
+///
+/// # Errors
+/// As `run`.
+fn pump<R: Read, W: Write, H: LineBuffer>(
+    engine: &mut Engine<'_, Printer, H>,
+    reader: &mut Watched<R>,
+    out: &mut Watched<W>,
+) -> Option<Result<bool, RunFault>>
+    requires reader { reader.old.failed ≡ false }
+    requires out { out.old.failed ≡ false }
+    requires begun { RepresentsSomeText engine.old }
+    ensures finished { (o : Options) → (read written : Option (List ℕ)) →
+        InProgress engine.old o read (R.remaining reader.old.inner) written (W.contents out.old.inner) →
+        IfSome result (λ ended. RunFinished o read (R.remaining reader.new.inner) written (W.contents out.new.inner) reader.new.failed out.new.failed ended) }
+    ensures error_matches { IfSome result (λ ended. ErrorMatchesStreams reader.new.failed out.new.failed ended) }
+    ensures goes_on { (o : Options) → (read written : Option (List ℕ)) →
+        InProgress engine.old o read (R.remaining reader.old.inner) written (W.contents out.old.inner) →
+        IfNone result (InProgress engine.new o read (R.remaining reader.new.inner) written (W.contents out.new.inner)) }
+    ensures begun { IfNone result (RepresentsSomeText engine.new) }
+    ensures not_failed { IfNone result ((reader.new.failed ≡ false) × (out.new.failed ≡ false)) }
+    ensures full { IfNone result (H.CAPACITY < LINE_BYTES) }
+{
+    let mut buffer = [0u8; CHUNK_BYTES];
+    loop {
+        let capacity = engine.remaining_capacity(CHUNK_BYTES);
+        if capacity == 0 {
+            return None;
+        }
+        let chunk = &mut buffer[..capacity];
+        match reader.read(chunk) {
+            None => return Some(Err(RunFault::Read)),
+            Some(0) => return Some(engine.finish_in_place(out)),
+            Some(count) => {
+                if let Err(fault) = engine.feed(&chunk[..count], out) {
+                    return Some(Err(fault));
+                }
+            }
+        }
+    }
+}

@@ -1,0 +1,28 @@
+//! Writing all of some bytes.
+
+ghost use Rattle.std.specs.Prelude.{◌≡◌, [], false, not};
+ghost use Rattle.ud_io.specs.Watched.{AppendsAllOrPrefix};
+
+use crate::watched::Watched;
+use std::io::Write;
+
+/// Writes all of these bytes, in as many calls as the writer needs, and none if there are no bytes.
+///
+/// # Errors
+/// `false` if a write fails: a front of the bytes is written, and `out` has failed.
+pub fn write_all<W: Write>(out: &mut Watched<W>, bytes: &[u8]) -> bool
+    requires not_failed { out.old.failed ≡ false }
+    ensures written { AppendsAllOrPrefix out.new.failed (W.contents out.old.inner) (W.contents out.new.inner)
+        bytes.now }
+    ensures failed { out.new.failed ≡ not result }
+    ensures empty { bytes.now ≡ [] → out.new ≡ out.old }
+{
+    let mut rest = bytes;
+    while !rest.is_empty() {
+        match out.write(rest) {
+            Some(count) => rest = &rest[count..],
+            None => return false,
+        }
+    }
+    true
+}

@@ -1,0 +1,12 @@
+-- Letter by letter.
+use Rattle.ud_model.proofs.answer.WordLemmas.{after_end, operand_given, options_given}
+use Rattle.ud_model.proofs.laws.law_arguments.Goals as goal
+
+pub returns-clause-ended : goal.returns-clause-ended
+returns-clause-ended c = after_end
+
+pub returns-clause-operand : goal.returns-clause-operand
+returns-clause-operand c = operand_given
+
+pub returns-clause-options : goal.returns-clause-options
+returns-clause-options c = options_given

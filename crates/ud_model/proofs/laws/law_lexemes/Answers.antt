@@ -1,0 +1,13 @@
+-- By the size of a piece, which the text decides.
+use Rattle.ud_model.proofs.text.LexLemmas.{cut_cells, cut_unique}
+use Rattle.ud_model.proofs.text.LexExists.{cut_exists}
+use Rattle.ud_model.proofs.laws.law_lexemes.Goals as goal
+
+pub returns-clause-exists : goal.returns-clause-exists
+returns-clause-exists c = cut_exists
+
+pub returns-clause-only : goal.returns-clause-only
+returns-clause-only c = cut_unique
+
+pub returns-clause-cells : goal.returns-clause-cells
+returns-clause-cells c = cut_cells

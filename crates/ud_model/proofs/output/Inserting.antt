@@ -1,0 +1,202 @@
+-- Inserting: the lines that `-b` and `-n` put in stand between logical lines, so each other line is seen as without them.
+use Rattle.std.proofs.Common.{◌≡◌, ◌≢◌, ℕ, suc, List, [], ◌∷◌, ◌++◌, length, map, Bool, true, false, ◌&&◌, if◌then◌else◌, refl, sym, ◌∙◌, ap, ap₂, subst, arith}
+use Rattle.std.proofs.lemmas.List.{map-append, same_from_push}
+use Rattle.ud_model.specs.text.Lines.{Line, line_at, numbered_from, ending_of}
+use Rattle.ud_model.specs.text.Scans.{Reading}
+use Rattle.ud_model.specs.text.Splicing.{content, stays_open}
+use Rattle.ud_model.specs.text.Scanning.{scan_after}
+use Rattle.ud_model.specs.aids.LexStates.{LexState, in_text, state_after_line, white_after_line}
+use Rattle.ud_model.specs.sections.Directives.{Span}
+use Rattle.ud_model.specs.sections.Tree.{Item}
+use Rattle.ud_model.specs.sections.Pruning.{Mark}
+use Rattle.ud_model.specs.sections.Items.{Options, reading_of, line_of, item_of, read_after}
+use Rattle.ud_model.specs.sections.Faults.{ends_removed}
+use Rattle.ud_model.specs.answer.Printing.{Judged, Style, piece_by, piece_after, last_removed, judged_lines, number_line}
+use Rattle.ud_model.specs.output.InsertedLines.{IsLone}
+use Rattle.ud_model.specs.declared.kind.Mode.{Mode}
+use Rattle.ud_model.specs.declared.kind.Mode.TheVariants.{C, Plain}
+use Rattle.ud_model.specs.declared.verdict.Verdict.{Verdict}
+use Rattle.ud_model.specs.declared.verdict.Verdict.TheVariants.{Keep, Remove, ToIf, ToElse, ToEndif}
+use Rattle.ud_model.proofs.text.LinesLemmas.{numbered_from-next}
+use Rattle.ud_model.proofs.text.Pushes.{push_not_nil}
+use Rattle.ud_model.proofs.text.ScanLaws.{place_after, white_after}
+use Rattle.ud_model.proofs.sections.Soundness.{reading_of-item_of}
+use Rattle.ud_model.proofs.output.Formed.{IsLeft}
+use Rattle.ud_model.proofs.output.Heeding.{ReadIn, none_read, one_read}
+use Rattle.ud_model.proofs.output.LeavesOff.{LeavesOff, nowhere, kept_scan, leaves_next, leaves_anew}
+use Rattle.ud_model.proofs.output.LoneLines.{IsQuiet, lone_scan, end_is_some}
+use Rattle.ud_model.proofs.output.RereadStep.{plain_run}
+
+-- 1. Items that are read of the same lines are the same.
+
+pub lines_last : (o : Options) (ys : List (Item Reading)) (m : Mode) (l : Line) → map line_of (ys ++ item_of o (read_after ys m l) ∷ []) ≡ map line_of ys ++ l ∷ []
+lines_last o ys m l =
+    map-append line_of ys (item_of o (read_after ys m l) ∷ []) ∙ ap (λ (r : Reading). map line_of ys ++ r.line ∷ []) (reading_of-item_of o (read_after ys m l))
+
+pub read_once : (o : Options) (m : Mode) (ys zs : List (Item Reading)) → ReadIn o m ys → ReadIn o m zs → map line_of ys ≡ map line_of zs → ys ≡ zs
+read_once o m _ _ none_read none_read e = refl
+read_once o m _ _ none_read (one_read zs b k) e = absurd (push_not_nil (map line_of zs) k (sym (lines_last o zs m k) ∙ sym e))
+read_once o m _ _ (one_read ys a l) none_read e = absurd (push_not_nil (map line_of ys) l (sym (lines_last o ys m l) ∙ e))
+read_once o m _ _ (one_read ys a l) (one_read zs b k) e =
+    let s : (map line_of ys ≡ map line_of zs) × (l ≡ k) =
+    same_from_push (map line_of ys) (map line_of zs) l k (sym (lines_last o ys m l) ∙ e ∙ lines_last o zs m k) in
+    ap₂ (λ (ws : List (Item Reading)) (j : Line). ws ++ item_of o (read_after ws m j) ∷ []) (read_once o m ys zs a b s.0) s.1
+
+-- 2. Two outputs side by side.
+
+-- the items ys, and the items zs, read of the lines qs, leave off alike; and between logical lines, if the last line of ys joins nothing
+pub record Weave (o : Options) (m : Mode) (ys zs : List (Item Reading)) (qs : List (List ℕ)) : Type 0 where
+  pub place : LexState
+  pub white : Bool
+  pub on : Bool
+  pub first : LeavesOff ys place white on
+  pub second : LeavesOff zs place white on
+  pub rests : on ≡ false → LeavesOff zs in_text true false
+  pub read : ReadIn o m zs
+  pub are : map line_of zs ≡ numbered_from 1 qs
+
+-- the line of this text after those
+abbrev pub line_behind : List (List ℕ) → List ℕ → Line
+line_behind qs q = line_at (suc (length qs)) q
+
+abbrev pub with_line : Options → Mode → List (Item Reading) → Line → List (Item Reading)
+with_line o m zs l = zs ++ item_of o (read_after zs m l) ∷ []
+
+module _ (o : Options) (m : Mode) (ys zs : List (Item Reading)) (qs : List (List ℕ)) (w : Weave o m ys zs qs) where
+  pub are_more : (q : List ℕ) → map line_of (with_line o m zs (line_behind qs q)) ≡ numbered_from 1 (qs ++ q ∷ [])
+  are_more q = lines_last o zs m (line_behind qs q) ∙ ap (λ (ls : List Line). ls ++ line_behind qs q ∷ []) w.are ∙ sym (numbered_from-next qs q [])
+
+  between_lines : LeavesOff ys in_text true false → LeavesOff zs in_text true false
+  between_lines r = w.rests (w.first.joins_on ∙ sym r.joins_on)
+
+  lone_next : (n : Mode) → m ≡ n → (l : Line) → LeavesOff zs in_text true false → IsQuiet l → LeavesOff (with_line o m zs l) in_text true false
+  lone_next Plain e l a q =
+      nowhere (with_line o m zs l)
+      (plain_run o (with_line o m zs l) (subst (λ (k : Mode). ReadIn o k (with_line o m zs l)) e (one_read zs w.read l)))
+  lone_next C e l a q =
+      subst (λ (k : Mode). LeavesOff (with_line o k zs l) in_text true false) (sym e)
+      (leaves_anew o zs l (ap (λ s. s.joins_after) (lone_scan zs C l a q)) (end_is_some l.ending q.end))
+
+  -- a quiet line is put in
+  pub put : LeavesOff ys in_text true false → (q : List ℕ) → IsQuiet (line_behind qs q) → Weave o m ys (with_line o m zs (line_behind qs q)) (qs ++ q ∷ [])
+  put r q h =
+      let a : LeavesOff (with_line o m zs (line_behind qs q)) in_text true false = lone_next m refl (line_behind qs q) (between_lines r) h in
+      record {
+        place = in_text;
+        white = true;
+        on = false;
+        first = r;
+        second = a;
+        rests = λ e. a;
+        read = one_read zs w.read (line_behind qs q);
+        are = are_more q;
+      }
+
+  -- and is seen as it stands
+  pub put_lone : LeavesOff ys in_text true false → (q : List ℕ) → IsQuiet (line_behind qs q) → IsLone (read_after zs m (line_behind qs q))
+  put_lone r q h = lone_scan zs m (line_behind qs q) (between_lines r) h
+
+  -- a line of both is seen alike
+  pub left_seen : (n : ℕ) (q : List ℕ) → scan_after (map reading_of zs) m (line_behind qs q) ≡ scan_after (map reading_of ys) m (line_at n q)
+  left_seen n q = kept_scan ys zs m w.place w.white w.on (line_at n q) (line_behind qs q) w.first w.second refl refl
+
+  left_by : (k : Mode) → m ≡ k → ReadIn o m ys → (n : ℕ) (q : List ℕ) → ending_of q ≢ [] →
+      Weave o m (with_line o m ys (line_at n q)) (with_line o m zs (line_behind qs q)) (qs ++ q ∷ [])
+  left_by Plain e a n q h =
+      let f : LeavesOff (with_line o m ys (line_at n q)) in_text true false =
+      nowhere (with_line o m ys (line_at n q))
+      (plain_run o (with_line o m ys (line_at n q)) (subst (λ (k : Mode). ReadIn o k (with_line o m ys (line_at n q))) e (one_read ys a (line_at n q)))) in
+      let g : LeavesOff (with_line o m zs (line_behind qs q)) in_text true false =
+      nowhere (with_line o m zs (line_behind qs q))
+      (plain_run o (with_line o m zs (line_behind qs q))
+      (subst (λ (k : Mode). ReadIn o k (with_line o m zs (line_behind qs q))) e (one_read zs w.read (line_behind qs q)))) in
+      record {
+        place = in_text;
+        white = true;
+        on = false;
+        first = f;
+        second = g;
+        rests = λ e. g;
+        read = one_read zs w.read (line_behind qs q);
+        are = are_more q;
+      }
+  left_by C e a n q h =
+      let l : Line = line_at n q in
+      let k : Line = line_behind qs q in
+      let s : scan_after (map reading_of zs) C k ≡ scan_after (map reading_of ys) C l = subst (λ (k : Mode). scan_after (map reading_of zs) k (line_behind qs q) ≡ scan_after (map reading_of ys) k (line_at n q)) e (left_seen n q) in
+      let on : Bool = (scan_after (map reading_of ys) C l).joins_after in
+      let place : LexState = state_after_line (stays_open l) (place_after w.place (content l)) in
+      let white : Bool = white_after_line (stays_open l) (place_after w.place (content l)) (white_after w.place w.white (content l)) in
+      let g : LeavesOff (with_line o C zs k) place white (scan_after (map reading_of zs) C k).joins_after = leaves_next o zs w.place w.white w.on k w.second in
+      record {
+        place = place;
+        white = white;
+        on = on;
+        first = subst (λ (d : Mode). LeavesOff (with_line o d ys l) place white on) (sym e) (leaves_next o ys w.place w.white w.on l w.first);
+        second = subst (λ (d : Mode). LeavesOff (with_line o d zs k) place white on) (sym e)
+            (subst (λ (b : Bool). LeavesOff (with_line o C zs k) place white b) (ap (λ s. s.joins_after) s) g);
+        rests = λ f. subst (λ (d : Mode). LeavesOff (with_line o d zs k) in_text true false) (sym e) (leaves_anew o zs k (ap (λ s. s.joins_after) s ∙ f) h);
+        read = one_read zs w.read k;
+        are = are_more q;
+      }
+
+  -- and then both leave off alike
+  pub left : ReadIn o m ys → (n : ℕ) (q : List ℕ) → ending_of q ≢ [] → Weave o m (with_line o m ys (line_at n q)) (with_line o m zs (line_behind qs q)) (qs ++ q ∷ [])
+  left a n q h = left_by m refl a n q h
+
+-- 3. Pieces.
+
+-- lines are blanked, or numbered
+abbrev pub style : Bool → Bool → Style
+style b n = record { blank = b; complement = false; renumber = n }
+
+abbrev pub piece_of : Bool → Bool → List Judged → Judged → List ℕ
+piece_of b n = piece_after (style b n)
+
+abbrev with_verdict : Judged → Verdict → Judged
+with_verdict j v = record { line = j.line; verdict = v; keyword = j.keyword }
+
+pub gone_blank : (n : Bool) (before : List Judged) (j : Judged) → j.verdict ≡ Remove → piece_of true n before j ≡ j.line.ending
+gone_blank true before j e = ap (λ (v : Verdict). piece_of true true before (with_verdict j v)) e
+gone_blank false before j e = ap (λ (v : Verdict). piece_of true false before (with_verdict j v)) e
+
+gone_by : (before : List Judged) (j : Judged) (r : Bool) → last_removed before ≡ r → piece_of false true before (with_verdict j Remove) ≡ []
+gone_by before j true e = ap (λ (q : Bool). (if q && false then number_line j.line else []) ++ []) e
+gone_by before j false e = ap (λ (q : Bool). (if q && false then number_line j.line else []) ++ []) e
+
+pub gone_number : (before : List Judged) (j : Judged) → j.verdict ≡ Remove → piece_of false true before j ≡ []
+gone_number before j e = ap (λ (v : Verdict). piece_of false true before (with_verdict j v)) e ∙ gone_by before j (last_removed before) refl
+
+pub left_blank : (v : Verdict) (n : Bool) (before : List Judged) (l : Line) (k : Span) → IsLeft v →
+    piece_of true n before (record { line = l; verdict = v; keyword = k }) ≡ piece_by v k l
+left_blank Remove n before l k h = absurd h
+left_blank Keep true before l k h = refl
+left_blank Keep false before l k h = refl
+left_blank ToIf true before l k h = refl
+left_blank ToIf false before l k h = refl
+left_blank ToElse true before l k h = refl
+left_blank ToElse false before l k h = refl
+left_blank ToEndif true before l k h = refl
+left_blank ToEndif false before l k h = refl
+
+numbered_by : (b : Bool) (l : Line) (p : List ℕ) (r : Bool) → b ≡ r → (if b && true then number_line l else []) ++ p ≡ (if r then number_line l else []) ++ p
+numbered_by b l p true e = ap (λ (q : Bool). (if q && true then number_line l else []) ++ p) e
+numbered_by b l p false e = ap (λ (q : Bool). (if q && true then number_line l else []) ++ p) e
+
+pub left_number : (v : Verdict) (before : List Judged) (l : Line) (k : Span) (r : Bool) → last_removed before ≡ r → IsLeft v →
+    piece_of false true before (record { line = l; verdict = v; keyword = k }) ≡ (if r then number_line l else []) ++ piece_by v k l
+left_number Remove before l k r e h = absurd h
+left_number Keep before l k r e h = numbered_by (last_removed before) l (piece_by Keep k l) r e
+left_number ToIf before l k r e h = numbered_by (last_removed before) l (piece_by ToIf k l) r e
+left_number ToElse before l k r e h = numbered_by (last_removed before) l (piece_by ToElse k l) r e
+left_number ToEndif before l k r e h = numbered_by (last_removed before) l (piece_by ToEndif k l) r e
+
+-- the last judged line is removed if the last mark says so
+pub removed_last : (xs : List (Item Reading)) (ms : List Mark) → length xs ≡ length ms → last_removed (judged_lines xs ms) ≡ ends_removed ms
+removed_last [] [] e = refl
+removed_last [] (m ∷ ms) e = absurd (omega arith)
+removed_last (x ∷ xs) [] e = absurd (omega arith)
+removed_last (x ∷ []) (m ∷ []) e = refl
+removed_last (x ∷ []) (m ∷ n ∷ ms) e = absurd (omega arith)
+removed_last (x ∷ y ∷ xs) (m ∷ []) e = absurd (omega arith)
+removed_last (x ∷ y ∷ xs) (m ∷ n ∷ ms) e = removed_last (y ∷ xs) (n ∷ ms) (omega arith)

@@ -1,0 +1,222 @@
+-- Cuts: a text has one cut, and the computed one has its cells.
+use Rattle.std.proofs.Common.{◌≡◌, ◌≢◌, ℕ, suc, ◌+◌, ◌==◌, List, [], ◌∷◌, ◌++◌, length, take, drop, Bool, true, false, ◌&&◌, ◌||◌, if◌then◌else◌, refl, sym, ◌∙◌, ap, ap₂, subst, append_assoc, append-nil, arith, length-append, ne_eqb, zero-add}
+use Rattle.std.proofs.lemmas.Bool.{eq-eqb}
+use Rattle.std.proofs.lemmas.List.{take_at, drop_at}
+use Rattle.ud_model.specs.text.Bytes.{slash, star, backslash, is_quote}
+use Rattle.ud_model.specs.text.Lines.{NoNewline}
+use Rattle.ud_model.specs.text.Lexemes.{LexemeKind, block_comment, line_comment, literal, single, Lexeme, starts_with_byte, NoClose, IsLineEnd, IsLiteralBody, nothing, plain, passed, IsLexeme, closed_comment, open_comment, to_line_end, closed_literal, open_literal, open_at_backslash, single_byte, AreLexemes, Cell, cells_in, cells_of, comment_size, line_comment_size, literal_size, Extent, lexeme_at, lex_from, lex}
+use Rattle.ud_model.proofs.text.Steps.{lex_from-zero}
+
+begins_close : (i rest : List ℕ) → starts_with_byte slash ((i ++ star ∷ slash ∷ []) ++ rest) ≡ starts_with_byte slash (i ++ star ∷ [])
+begins_close [] rest = refl
+begins_close (x ∷ i) rest = refl
+
+close_size : (inside rest : List ℕ) → NoClose (inside ++ star ∷ []) →
+    comment_size ((inside ++ star ∷ slash ∷ []) ++ rest) ≡ length (inside ++ star ∷ slash ∷ [])
+close_size [] rest n = refl
+close_size (a ∷ inside) rest n =
+    ap (λ (t : Bool). if (a == star) && t then 2 else suc (comment_size ((inside ++ star ∷ slash ∷ []) ++ rest))) (begins_close inside rest)
+    ∙ ap (λ (t : Bool). if t then 2 else suc (comment_size ((inside ++ star ∷ slash ∷ []) ++ rest))) n.0
+    ∙ ap (λ (k : ℕ). suc k) (close_size inside rest n.1)
+
+open_size : (inside : List ℕ) → NoClose inside → comment_size inside ≡ length inside
+open_size [] n = refl
+open_size (a ∷ inside) n =
+    ap (λ (t : Bool). if t then 2 else suc (comment_size inside)) n.0 ∙ ap (λ (k : ℕ). suc k) (open_size inside n.1)
+
+line_end_size : (rest : List ℕ) → IsLineEnd rest → line_comment_size rest ≡ 0
+line_end_size [] e = refl
+line_end_size (a ∷ rest) e = ap (λ (t : Bool). if t then 0 else suc (line_comment_size rest)) (eq-eqb a 10 e)
+
+line_inside_size : (inside rest : List ℕ) → NoNewline inside → IsLineEnd rest → line_comment_size (inside ++ rest) ≡ length inside
+line_inside_size [] rest n e = line_end_size rest e
+line_inside_size (a ∷ inside) rest n e =
+    ap (λ (t : Bool). if t then 0 else suc (line_comment_size (inside ++ rest))) (ne_eqb a 10 n.0) ∙ ap (λ (k : ℕ). suc k) (line_inside_size inside rest n.1 e)
+
+literal_end_size : (q : ℕ) (p : Bool) (rest : List ℕ) → IsLineEnd rest → literal_size q p rest ≡ 0
+literal_end_size q true [] e = refl
+literal_end_size q false [] e = refl
+literal_end_size q true (a ∷ rest) e = ap (λ (t : Bool). if t then 0 else suc (literal_size q false rest)) (eq-eqb a 10 e)
+literal_end_size q false (a ∷ rest) e =
+    ap (λ (t : Bool). if t then 0 else if a == q then 1 else suc (literal_size q (a == backslash) rest)) (eq-eqb a 10 e)
+
+-- a byte that is no quote isn't this one
+not_this_quote : (q n : ℕ) → is_quote q ≡ true → is_quote n ≡ false → n ≢ q
+not_this_quote q n h none e = let f : is_quote n ≡ true = ap is_quote e ∙ h in cc
+
+not_a_quote : (q n : ℕ) → is_quote q ≡ true → is_quote n ≡ false → (q == n) ≡ false
+not_a_quote q n h none = ne_eqb q n (λ e. not_this_quote q n h none (sym e))
+
+inside_size : (q : ℕ) {inside : List ℕ} (rest : List ℕ) → is_quote q ≡ true → IsLiteralBody q inside →
+    literal_size q false (inside ++ rest) ≡ length inside + literal_size q false rest
+inside_size q rest h nothing = sym (zero-add (literal_size q false rest))
+inside_size q rest h (plain {a = a} {rest = inside} no_feed no_quote no_backslash i) =
+    ap (λ (t : Bool). if t then 0 else if a == q then 1 else suc (literal_size q (a == backslash) (inside ++ rest))) (ne_eqb a 10 no_feed)
+    ∙ ap (λ (t : Bool). if t then 1 else suc (literal_size q (a == backslash) (inside ++ rest))) (ne_eqb a q no_quote)
+    ∙ ap (λ (t : Bool). suc (literal_size q t (inside ++ rest))) (ne_eqb a 92 no_backslash)
+    ∙ more (literal_size q false (inside ++ rest)) (length inside) (literal_size q false rest) (inside_size q rest h i)
+  where
+    more : (x n m : ℕ) → x ≡ n + m → suc x ≡ suc n + m
+    more x n m e = omega arith
+inside_size q rest h (passed {b = b} {rest = inside} no_feed i) =
+    ap (λ (t : Bool). if t then 1 else suc (if b == 10 then 0 else suc (literal_size q false (inside ++ rest)))) (ne_eqb 92 q (not_this_quote q 92 h refl))
+    ∙ ap (λ (t : Bool). suc (if t then 0 else suc (literal_size q false (inside ++ rest)))) (ne_eqb b 10 no_feed)
+    ∙ more (literal_size q false (inside ++ rest)) (length inside) (literal_size q false rest) (inside_size q rest h i)
+  where
+    more : (x n m : ℕ) → x ≡ n + m → suc (suc x) ≡ suc (suc n) + m
+    more x n m e = omega arith
+
+-- a piece of this kind with so many bytes after its first
+abbrev pub extent : LexemeKind → ℕ → Extent
+extent k n = record { kind = k; more = n }
+
+at_bytes : (k : LexemeKind) (a b : ℕ) (tail tail' rest : List ℕ) → a ∷ tail ≡ b ∷ tail' →
+    lexeme_at b (tail' ++ rest) ≡ extent k (length tail') → lexeme_at a (tail ++ rest) ≡ extent k (length tail)
+at_bytes k a b tail tail' rest e h =
+    let p : a ≡ b = cc in
+    let q : tail ≡ tail' = cc in
+    ap₂ (λ (x : ℕ) (t : List ℕ). lexeme_at x (t ++ rest)) p q ∙ h ∙ ap (λ (t : List ℕ). extent k (length t)) (sym q)
+
+piece_literal : (q : ℕ) (rest : List ℕ) → is_quote q ≡ true → lexeme_at q rest ≡ extent literal (literal_size q false rest)
+unfolding lexeme_at
+piece_literal q rest h =
+    by_tests (q == slash) (is_quote q) (starts_with_byte star rest) (starts_with_byte slash rest) (suc (comment_size (drop 1 rest))) (suc (line_comment_size (drop 1 rest))) (not_a_quote q 47 h refl) h
+  where
+    by_tests : (s t x y : Bool) (m n : ℕ) → s ≡ false → t ≡ true →
+        ◌≡◌ {A = Extent}
+        (if s && x then record { kind = block_comment; more = m }
+        else if s && y then record { kind = line_comment; more = n }
+        else if t then record { kind = literal; more = literal_size q false rest }
+        else record { kind = single; more = 0 })
+        (record { kind = literal; more = literal_size q false rest })
+    by_tests false true x y m n e f = refl
+    by_tests true t x y m n e f = cc
+    by_tests false false x y m n e f = cc
+
+piece_single : (b : ℕ) (rest : List ℕ) → is_quote b ≡ false → ((b == slash) && (starts_with_byte star rest || starts_with_byte slash rest)) ≡ false →
+    lexeme_at b rest ≡ extent single 0
+unfolding lexeme_at
+piece_single b rest h f =
+    by_tests (b == slash) (is_quote b) (starts_with_byte star rest) (starts_with_byte slash rest) (suc (comment_size (drop 1 rest))) (suc (line_comment_size (drop 1 rest))) f h
+  where
+    by_tests : (s t x y : Bool) (m n : ℕ) → (s && (x || y)) ≡ false → t ≡ false →
+        ◌≡◌ {A = Extent}
+        (if s && x then record { kind = block_comment; more = m }
+        else if s && y then record { kind = line_comment; more = n }
+        else if t then record { kind = literal; more = literal_size b false rest }
+        else record { kind = single; more = 0 })
+        (record { kind = single; more = 0 })
+    by_tests false false x y m n e f = refl
+    by_tests true false false false m n e f = refl
+    by_tests true t true y m n e f = cc
+    by_tests true t false true m n e f = cc
+    by_tests false true x y m n e f = cc
+    by_tests true true false false m n e f = cc
+
+-- a piece reaches as far as the computed one
+pub piece_size : {k : LexemeKind} (a : ℕ) (tail rest : List ℕ) → IsLexeme (a ∷ tail) rest k → lexeme_at a (tail ++ rest) ≡ extent k (length tail)
+unfolding lexeme_at
+piece_size a tail rest (closed_comment inside e n) =
+    at_bytes block_comment a slash tail (star ∷ (inside ++ star ∷ slash ∷ [])) rest e
+    (ap (λ (k : ℕ). extent block_comment (suc k)) (close_size inside rest n))
+piece_size a tail rest (open_comment inside e n none) =
+    at_bytes block_comment a slash tail (star ∷ inside) rest e
+    (ap (λ (k : ℕ). extent block_comment (suc k))
+    (ap comment_size (ap (λ (r : List ℕ). inside ++ r) none ∙ append-nil inside) ∙ open_size inside n))
+piece_size a tail rest (to_line_end inside e n at_end) =
+    at_bytes line_comment a slash tail (slash ∷ inside) rest e
+    (ap (λ (k : ℕ). extent line_comment (suc k)) (line_inside_size inside rest n at_end))
+piece_size a tail rest (closed_literal q inside h e i) =
+    at_bytes literal a q tail (inside ++ q ∷ []) rest e
+    (piece_literal q ((inside ++ q ∷ []) ++ rest) h
+    ∙ ap (λ (k : ℕ). extent literal k)
+    (ap (λ (t : List ℕ). literal_size q false t) (append_assoc inside (q ∷ []) rest) ∙ inside_size q (q ∷ rest) h i
+    ∙ ap (λ (k : ℕ). length inside + k)
+    (ap (λ (t : Bool). if t then 0 else if q == q then 1 else suc (literal_size q (q == backslash) rest)) (not_a_quote q 10 h refl)
+    ∙ ap (λ (t : Bool). if t then 1 else suc (literal_size q (q == backslash) rest)) (eq-eqb q q refl))
+    ∙ sym (length-append inside (q ∷ []))))
+piece_size a tail rest (open_literal q inside h e i at_end) =
+    at_bytes literal a q tail inside rest e
+    (piece_literal q (inside ++ rest) h
+    ∙ ap (λ (k : ℕ). extent literal k)
+    (inside_size q rest h i ∙ ap (λ (k : ℕ). length inside + k) (literal_end_size q false rest at_end) ∙ omega arith))
+piece_size a tail rest (open_at_backslash q inside h e i at_end) =
+    at_bytes literal a q tail (inside ++ backslash ∷ []) rest e
+    (piece_literal q ((inside ++ backslash ∷ []) ++ rest) h
+    ∙ ap (λ (k : ℕ). extent literal k)
+    (ap (λ (t : List ℕ). literal_size q false t) (append_assoc inside (backslash ∷ []) rest) ∙ inside_size q (backslash ∷ rest) h i
+    ∙ ap (λ (k : ℕ). length inside + k)
+    (ap (λ (t : Bool). if t then 1 else suc (literal_size q true rest)) (ne_eqb 92 q (not_this_quote q 92 h refl))
+    ∙ ap (λ (k : ℕ). suc k) (literal_end_size q true rest at_end))
+    ∙ sym (length-append inside (backslash ∷ []))))
+piece_size a tail rest (single_byte b e h f) = at_bytes single a b tail [] rest e (piece_single b rest h f)
+
+-- a piece has a byte at least
+pub some_bytes : {k : LexemeKind} (rest : List ℕ) → IsLexeme [] rest k → ⊥
+some_bytes rest (closed_comment inside e n) = cc
+some_bytes rest (open_comment inside e n none) = cc
+some_bytes rest (to_line_end inside e n at_end) = cc
+some_bytes rest (closed_literal q inside h e i) = cc
+some_bytes rest (open_literal q inside h e i at_end) = cc
+some_bytes rest (open_at_backslash q inside h e i at_end) = cc
+some_bytes rest (single_byte b e h f) = cc
+
+cut_rest : (k : LexemeKind) (tail rest : List ℕ) → lex_from k (length tail) (tail ++ rest) ≡ cells_in k tail ++ lex_from k 0 rest
+unfolding lex_from
+cut_rest k [] rest = refl
+cut_rest k (a ∷ tail) rest = ap (λ (cells : List Cell). record { byte = a; kind = k } ∷ cells) (cut_rest k tail rest)
+
+-- the cells of a text with a piece in front
+pub cut_piece : (k : LexemeKind) (bytes rest : List ℕ) → IsLexeme bytes rest k → lex (bytes ++ rest) ≡ cells_in k bytes ++ lex rest
+unfolding lex lex_from
+cut_piece k [] rest p = absurd (some_bytes rest p)
+cut_piece k (a ∷ tail) rest p =
+    ap (λ (e : Extent). record { byte = a; kind = e.kind } ∷ lex_from e.kind e.more (tail ++ rest)) (piece_size a tail rest p)
+    ∙ ap (λ (cells : List Cell). record { byte = a; kind = k } ∷ cells)
+    (cut_rest k tail rest ∙ ap (λ (cells : List Cell). cells_in k tail ++ cells) (lex_from-zero k single rest))
+
+-- the cells of a cut are the computed ones
+pub cut_cells : (text : List ℕ) (pieces : List Lexeme) → AreLexemes pieces text → cells_of pieces ≡ lex text
+unfolding lex lex_from
+cut_cells text [] e = sym (ap lex e)
+cut_cells text (p ∷ pieces) (rest, e, is, others) =
+    ap (λ (cells : List Cell). cells_in p.kind p.bytes ++ cells) (cut_cells rest pieces others)
+    ∙ sym (ap lex e ∙ cut_piece p.kind p.bytes rest is)
+
+same_front : (s t rest more : List ℕ) → s ++ rest ≡ t ++ more → length s ≡ length t → (s ≡ t) × (rest ≡ more)
+same_front s t rest more e n = (
+  sym (take_at s rest (length t) n) ∙ ap (λ (l : List ℕ). take (length t) l) e ∙ take_at t more (length t) refl,
+  sym (drop_at s rest (length t) n) ∙ ap (λ (l : List ℕ). drop (length t) l) e ∙ drop_at t more (length t) refl,
+)
+
+-- two first pieces of a text are the same
+first_same : (k l : LexemeKind) (s t rest more : List ℕ) → IsLexeme s rest k → IsLexeme t more l → s ++ rest ≡ t ++ more → (k ≡ l) × (s ≡ t) × (rest ≡ more)
+first_same k l [] t rest more p q e = absurd (some_bytes rest p)
+first_same k l (a ∷ s) [] rest more p q e = absurd (some_bytes more q)
+first_same k l (a ∷ s) (b ∷ t) rest more p q e =
+    let same : a ≡ b = cc in
+    let behind : s ++ rest ≡ t ++ more = cc in
+    let reach : ◌≡◌ {A = Extent} (record { kind = k; more = length s }) (record { kind = l; more = length t }) =
+    sym (piece_size a s rest p) ∙ ap₂ lexeme_at same behind ∙ piece_size b t more q in
+    let front : (s ≡ t) × (rest ≡ more) = same_front s t rest more behind (ap (λ (x : Extent). x.more) reach) in
+    (ap (λ (x : Extent). x.kind) reach, ap₂ (λ (x : ℕ) (xs : List ℕ). x ∷ xs) same front.0, front.1)
+
+-- a text has one cut at most
+pub cut_unique : (text : List ℕ) (pieces others : List Lexeme) → AreLexemes pieces text → AreLexemes others text → pieces ≡ others
+cut_unique text [] [] e f = refl
+cut_unique text [] (q ∷ others) e (more, f, is, rest) =
+    absurd (empty_first q.kind q.bytes more (sym f ∙ e) is)
+  where
+    empty_first : (k : LexemeKind) (bytes behind : List ℕ) → bytes ++ behind ≡ [] → IsLexeme bytes behind k → ⊥
+    empty_first k [] behind e p = some_bytes behind p
+    empty_first k (b ∷ bytes) behind e p = cc
+cut_unique text (p ∷ pieces) [] (more, f, is, rest) e =
+    absurd (empty_first p.kind p.bytes more (sym f ∙ e) is)
+  where
+    empty_first : (k : LexemeKind) (bytes behind : List ℕ) → bytes ++ behind ≡ [] → IsLexeme bytes behind k → ⊥
+    empty_first k [] behind e p = some_bytes behind p
+    empty_first k (b ∷ bytes) behind e p = cc
+cut_unique text (p ∷ pieces) (q ∷ others) (rest, e, is, behind) (more, f, are, beyond) =
+    let same : (p.kind ≡ q.kind) × (p.bytes ≡ q.bytes) × (rest ≡ more) = first_same p.kind q.kind p.bytes q.bytes rest more is are (sym e ∙ f) in
+    let first : p ≡ q = ap₂ (λ (k : LexemeKind) (b : List ℕ). let x : Lexeme = record { kind = k; bytes = b } in x) same.0 same.1 in
+    ap₂ (λ (x : Lexeme) (xs : List Lexeme). x ∷ xs) first (cut_unique rest pieces others behind (subst (λ (t : List ℕ). AreLexemes others t) (sym same.2) beyond))

@@ -1,0 +1,317 @@
+-- Places: a text that leaves off at a place leaves off at the next one with one more byte.
+use Rattle.std.proofs.Common.{◌≡◌, ℕ, zero, suc, ◌≤◌, ◌==◌, List, [], ◌∷◌, ◌++◌, length, drop, map, Bool, true, false, ◌&&◌, ◌||◌, if◌then◌else◌, refl, sym, ◌∙◌, ap, subst, append_assoc, append-nil, arith, length-append}
+use Rattle.std.proofs.Math.Bool.{and-false, and-true}
+use Rattle.std.proofs.lemmas.Bool.{eqb-true}
+use Rattle.std.proofs.lemmas.List.{map-append, length-map, drop-append-le}
+use Rattle.std.proofs.lemmas.List.Folds.{list_all-append}
+use Rattle.ud_model.specs.text.Bytes.{newline, slash, star, backslash, space, is_quote, is_white}
+use Rattle.ud_model.specs.text.Lexemes.{LexemeKind, block_comment, line_comment, literal, single, Cell, lexeme_at, lex_from, lex, shown, ends_line, open_line}
+use Rattle.ud_model.specs.text.Scanning.{is_blank}
+use Rattle.ud_model.specs.aids.LexStates.{LexState, in_text, at_slash, in_block, at_star, in_line, in_literal, at_backslash, cells_after, LexesTo, next_state, opens_comment, masked_byte, stays_white, blank_last, mask, Masks}
+use Rattle.ud_model.proofs.text.Steps.{cell, settles, after_step}
+
+-- a text has as many cells as bytes, from any place on
+pub length-lex_from : (k : LexemeKind) (n : ℕ) (u : List ℕ) → length (lex_from k n u) ≡ length u
+unfolding lex_from
+length-lex_from k n [] = refl
+length-lex_from k zero (a ∷ u) = ap (λ (m : ℕ). suc m) (length-lex_from (lexeme_at a u).kind (lexeme_at a u).more u)
+length-lex_from k (suc n) (a ∷ u) = ap (λ (m : ℕ). suc m) (length-lex_from k n u)
+
+-- a text has as many cells as bytes
+pub length-lex : (u : List ℕ) → length (lex u) ≡ length u
+unfolding lex
+length-lex u = length-lex_from single 0 u
+
+-- a text as it is shown has as many bytes
+pub length-mask : (u : List ℕ) → length (mask u) ≡ length u
+unfolding mask
+length-mask u = length-map (lex u) shown ∙ length-lex u
+
+-- the open line of cells, and further ones
+pub open_line-append : (x xs ys : List Cell) → open_line x (xs ++ ys) ≡ open_line (open_line x xs) ys
+open_line-append x [] ys = refl
+open_line-append x (c ∷ xs) ys = open_line-append (if ends_line c then [] else x ++ c ∷ []) xs ys
+
+-- cells are white where those in front and those after are
+pub is_blank-append : (xs ys : List Cell) → is_blank (xs ++ ys) ≡ (is_blank xs && is_blank ys)
+is_blank-append xs ys = list_all-append (λ (c : Cell). is_white (shown c)) xs ys
+
+-- cells are white with one more where that is shown as white space
+pub is_blank_last : (xs : List Cell) (c : Cell) → is_blank (xs ++ c ∷ []) ≡ (is_blank xs && is_white (shown c))
+is_blank_last xs c = is_blank-append xs (c ∷ []) ∙ ap (λ (b : Bool). is_blank xs && b) (and-true (is_white (shown c)))
+
+comment_last : (xs : List Cell) (c : Cell) → is_white (shown c) ≡ true → is_blank (xs ++ c ∷ []) ≡ is_blank xs
+comment_last xs c e = is_blank_last xs c ∙ ap (λ (b : Bool). is_blank xs && b) e ∙ and-true (is_blank xs)
+
+black_last : (xs : List Cell) (c : Cell) → is_white (shown c) ≡ false → is_blank (xs ++ c ∷ []) ≡ false
+black_last xs c e = is_blank_last xs c ∙ ap (λ (b : Bool). is_blank xs && b) e ∙ and-false (is_blank xs)
+
+-- a quote is no new-line
+pub quote_is_no_feed : (b : ℕ) → is_quote b ≡ true → (b == newline) ≡ false
+quote_is_no_feed b q = by_feed (b == newline) refl
+  where
+    by_feed : (t : Bool) → (b == newline) ≡ t → t ≡ false
+    by_feed true e = let f : is_quote 10 ≡ true = subst (λ (n : ℕ). is_quote n ≡ true) (eqb-true b newline e) q in cc
+    by_feed false e = refl
+
+single_white : (b : ℕ) (x : List Cell) →
+    is_blank (open_line x (cell single b ∷ [])) ≡ (if b == newline then true else is_blank x && is_white b)
+single_white b x = by_feed (b == newline)
+  where
+    by_feed : (t : Bool) → is_blank (if t then [] else x ++ cell single b ∷ []) ≡ (if t then true else is_blank x && is_white b)
+    by_feed true = refl
+    by_feed false = is_blank_last x (cell single b)
+
+literal_white : (b : ℕ) (x : List Cell) → is_quote b ≡ true →
+    is_blank (open_line x (cell literal b ∷ [])) ≡ (if b == newline then true else is_blank x && is_white b)
+literal_white b x q =
+    is_blank_last x (cell literal b)
+    ∙ sym (ap (λ (t : Bool). if t then true else is_blank x && is_white b) (quote_is_no_feed b q))
+
+white-in_text : (b : ℕ) (x : List Cell) → is_blank (open_line x (settles in_text b)) ≡ stays_white in_text (is_blank x) b
+white-in_text b x = by_cases (b == slash) (is_quote b) refl
+  where
+    by_cases : (s q : Bool) → is_quote b ≡ q →
+        is_blank (open_line x (if s then [] else if q then cell literal b ∷ [] else cell single b ∷ []))
+        ≡ (if s then is_blank x else if b == newline then true else is_blank x && is_white b)
+    by_cases true q e = refl
+    by_cases false true e = literal_white b x e
+    by_cases false false e = single_white b x
+
+white-at_slash : (b : ℕ) (x : List Cell) → is_blank (open_line x (settles at_slash b)) ≡ stays_white at_slash (is_blank x) b
+white-at_slash b x = by_cases (b == star) (b == slash) (is_quote b) refl
+  where
+    behind : List Cell
+    behind = x ++ cell single slash ∷ []
+
+    behind_is : is_blank (x ++ cell single slash ∷ []) ≡ false
+    behind_is = black_last x (cell single slash) refl
+
+    two : (k : LexemeKind) → is_white (shown (cell k slash)) ≡ true → is_white (shown (cell k b)) ≡ true →
+        is_blank ((x ++ cell k slash ∷ []) ++ cell k b ∷ []) ≡ is_blank x
+    two k e f = comment_last (x ++ cell k slash ∷ []) (cell k b) f ∙ comment_last x (cell k slash) e
+
+    black : (t : Bool) → (if t then true else is_blank (x ++ cell single slash ∷ []) && is_white b) ≡ (if t then true else false)
+    black true = refl
+    black false = ap (λ (c : Bool). c && is_white b) behind_is
+
+    by_cases : (t s q : Bool) → is_quote b ≡ q →
+        is_blank (open_line x
+        (if t then cell block_comment slash ∷ cell block_comment b ∷ []
+        else if s then cell line_comment slash ∷ cell line_comment b ∷ []
+        else if q then cell single slash ∷ cell literal b ∷ []
+        else cell single slash ∷ cell single b ∷ []))
+        ≡ (if t then is_blank x else if s then is_blank x else if b == newline then true else false)
+    by_cases true s q e = two block_comment refl refl
+    by_cases false true q e = two line_comment refl refl
+    by_cases false false true e = literal_white b (x ++ cell single slash ∷ []) e ∙ black (b == newline)
+    by_cases false false false e = single_white b (x ++ cell single slash ∷ []) ∙ black (b == newline)
+
+white-in_line : (b : ℕ) (x : List Cell) → is_blank (open_line x (settles in_line b)) ≡ stays_white in_line (is_blank x) b
+white-in_line b x = by_feed (b == newline) refl
+  where
+    by_feed : (t : Bool) → (b == newline) ≡ t →
+        is_blank (open_line x (if t then cell single b ∷ [] else cell line_comment b ∷ [])) ≡ (if t then true else is_blank x)
+    by_feed true e = single_white b x ∙ ap (λ (t : Bool). if t then true else is_blank x && is_white b) e
+    by_feed false e = comment_last x (cell line_comment b) refl
+
+white_inside : (b : ℕ) (x : List Cell) →
+    is_blank (open_line x (if b == newline then cell single b ∷ [] else cell literal b ∷ []))
+    ≡ (if b == newline then true else is_blank x && is_white b)
+white_inside b x = by_feed (b == newline) refl
+  where
+    by_feed : (t : Bool) → (b == newline) ≡ t →
+        is_blank (open_line x (if t then cell single b ∷ [] else cell literal b ∷ []))
+        ≡ (if t then true else is_blank x && is_white b)
+    by_feed true e = single_white b x ∙ ap (λ (t : Bool). if t then true else is_blank x && is_white b) e
+    by_feed false e = is_blank_last x (cell literal b)
+
+-- whether the open line stays white with a byte
+pub white_step : (w : LexState) (b : ℕ) (x : List Cell) → is_blank (open_line x (settles w b)) ≡ stays_white w (is_blank x) b
+white_step in_text b x = white-in_text b x
+white_step at_slash b x = white-at_slash b x
+white_step in_block b x = comment_last x (cell block_comment b) refl
+white_step at_star b x = comment_last x (cell block_comment b) refl
+white_step in_line b x = white-in_line b x
+white_step (in_literal q) b x = white_inside b x
+white_step (at_backslash q) b x = white_inside b x
+
+-- a text leaves off at the next place with one more byte
+pub LexesTo-step : {text : List ℕ} {w : LexState} {white : Bool} (b : ℕ) → LexesTo text w white → LexesTo (text ++ b ∷ []) (next_state w b) (stays_white w white b)
+LexesTo-step {text} {w} {white} b r = record {
+  settled = r.settled ++ settles w b;
+  splits = λ rest.
+      ap lex (append_assoc text (b ∷ []) rest) ∙ r.splits (b ∷ rest)
+      ∙ ap (λ (cells : List Cell). r.settled ++ cells) (after_step w b rest)
+      ∙ sym (append_assoc r.settled (settles w b) (cells_after (next_state w b) rest));
+  white_is = ap (λ (v : Bool). stays_white w v b) r.white_is ∙ sym (white_step w b (open_line [] r.settled))
+      ∙ ap is_blank (sym (open_line-append [] r.settled (settles w b)));
+}
+
+-- the empty text leaves off between pieces
+pub LexesTo-nil : LexesTo [] in_text true
+unfolding lex cells_after
+LexesTo-nil = record { settled = []; splits = λ rest. refl; white_is = refl }
+
+-- a text as it is shown: its settled cells, and a slash where one may begin a comment
+pub mask_is : (text : List ℕ) (w : LexState) (white : Bool) (r : LexesTo text w white) → mask text ≡ map shown r.settled ++ map shown (cells_after w [])
+unfolding mask
+mask_is text w white r =
+    ap (λ (t : List ℕ). map shown (lex t)) (sym (append-nil text)) ∙ ap (λ (cells : List Cell). map shown cells) (r.splits [])
+    ∙ map-append shown r.settled (cells_after w [])
+
+tail-in_text : (b : ℕ) → map shown (settles in_text b ++ cells_after (next_state in_text b) []) ≡ b ∷ []
+unfolding cells_after lex_from lexeme_at
+tail-in_text b = by_cases (b == slash) (is_quote b) refl
+  where
+    by_cases : (s q : Bool) → (b == slash) ≡ s →
+        map shown ((if s then [] else if q then cell literal b ∷ [] else cell single b ∷ [])
+        ++ cells_after (if s then at_slash else if q then in_literal b else in_text) []) ≡ b ∷ []
+    by_cases true q e = ap (λ (n : ℕ). n ∷ []) (sym (eqb-true b slash e))
+    by_cases false true e = refl
+    by_cases false false e = refl
+
+tail-at_slash : (b : ℕ) → map shown (settles at_slash b ++ cells_after (next_state at_slash b) [])
+    ≡ (if opens_comment at_slash b then space ∷ masked_byte at_slash b ∷ [] else map shown (cells_after at_slash []) ++ masked_byte at_slash b ∷ [])
+unfolding cells_after lex_from lexeme_at
+tail-at_slash b = by_cases (b == star) (b == slash) (is_quote b)
+  where
+    by_cases : (t s q : Bool) →
+        map shown
+        ((if t then cell block_comment slash ∷ cell block_comment b ∷ []
+        else if s then cell line_comment slash ∷ cell line_comment b ∷ []
+        else if q then cell single slash ∷ cell literal b ∷ []
+        else cell single slash ∷ cell single b ∷ [])
+        ++ cells_after (if t then in_block else if s then in_line else if q then in_literal b else in_text) [])
+        ≡ (if t || s then space ∷ (if t then space else if s then space else b) ∷ [] else slash ∷ (if t then space else if s then space else b) ∷ [])
+    by_cases true s q = refl
+    by_cases false true q = refl
+    by_cases false false true = refl
+    by_cases false false false = refl
+
+tail-in_block : (b : ℕ) → map shown (settles in_block b ++ cells_after (next_state in_block b) []) ≡ space ∷ []
+unfolding cells_after lex_from
+tail-in_block b = by_star (b == star)
+  where
+    by_star : (t : Bool) → map shown (cell block_comment b ∷ cells_after (if t then at_star else in_block) []) ≡ space ∷ []
+    by_star true = refl
+    by_star false = refl
+
+tail-at_star : (b : ℕ) → map shown (settles at_star b ++ cells_after (next_state at_star b) []) ≡ space ∷ []
+unfolding cells_after lex_from
+tail-at_star b = by_cases (b == slash) (b == star)
+  where
+    by_cases : (s t : Bool) → map shown (cell block_comment b ∷ cells_after (if s then in_text else if t then at_star else in_block) []) ≡ space ∷ []
+    by_cases true t = refl
+    by_cases false true = refl
+    by_cases false false = refl
+
+tail-in_line : (b : ℕ) → map shown (settles in_line b ++ cells_after (next_state in_line b) []) ≡ (if b == newline then b else space) ∷ []
+unfolding cells_after lex_from
+tail-in_line b = by_feed (b == newline)
+  where
+    by_feed : (t : Bool) → map shown ((if t then cell single b ∷ [] else cell line_comment b ∷ []) ++ cells_after (if t then in_text else in_line) [])
+        ≡ (if t then b else space) ∷ []
+    by_feed true = refl
+    by_feed false = refl
+
+tail-in_literal : (q b : ℕ) → map shown (settles (in_literal q) b ++ cells_after (next_state (in_literal q) b) []) ≡ b ∷ []
+unfolding cells_after lex_from
+tail-in_literal q b = by_cases (b == newline) (b == q) (b == backslash)
+  where
+    by_cases : (t c s : Bool) →
+        map shown ((if t then cell single b ∷ [] else cell literal b ∷ [])
+        ++ cells_after (if t then in_text else if c then in_text else if s then at_backslash q else in_literal q) []) ≡ b ∷ []
+    by_cases true c s = refl
+    by_cases false true s = refl
+    by_cases false false true = refl
+    by_cases false false false = refl
+
+tail-at_backslash : (q b : ℕ) → map shown (settles (at_backslash q) b ++ cells_after (next_state (at_backslash q) b) []) ≡ b ∷ []
+unfolding cells_after lex_from
+tail-at_backslash q b = by_feed (b == newline)
+  where
+    by_feed : (t : Bool) → map shown ((if t then cell single b ∷ [] else cell literal b ∷ []) ++ cells_after (if t then in_text else in_literal q) []) ≡ b ∷ []
+    by_feed true = refl
+    by_feed false = refl
+
+tail_shown : (w : LexState) (b : ℕ) → map shown (settles w b ++ cells_after (next_state w b) [])
+    ≡ (if opens_comment w b then space ∷ masked_byte w b ∷ [] else map shown (cells_after w []) ++ masked_byte w b ∷ [])
+unfolding cells_after lex_from
+tail_shown in_text b = tail-in_text b
+tail_shown at_slash b = tail-at_slash b
+tail_shown in_block b = tail-in_block b
+tail_shown at_star b = tail-at_star b
+tail_shown in_line b = tail-in_line b
+tail_shown (in_literal q) b = tail-in_literal q b
+tail_shown (at_backslash q) b = tail-at_backslash q b
+
+-- of bytes with one more, that one is blanked
+pub blank_last-last : (xs : List ℕ) (y : ℕ) → blank_last (xs ++ y ∷ []) ≡ xs ++ space ∷ []
+blank_last-last [] y = refl
+blank_last-last (x ∷ []) y = refl
+blank_last-last (x ∷ z ∷ xs) y = ap (λ (l : List ℕ). x ∷ l) (blank_last-last (z ∷ xs) y)
+
+-- blanking the last byte keeps the number of bytes
+pub length-blank_last : (xs : List ℕ) → length (blank_last xs) ≡ length xs
+length-blank_last [] = refl
+length-blank_last (x ∷ []) = refl
+length-blank_last (x ∷ y ∷ xs) = ap (λ (n : ℕ). suc n) (length-blank_last (y ∷ xs))
+
+-- the last byte stays the last where bytes in front are left out
+pub blank_last-drop : (n : ℕ) (xs : List ℕ) → drop n (blank_last xs) ≡ blank_last (drop n xs)
+blank_last-drop zero xs = refl
+blank_last-drop (suc n) [] = refl
+blank_last-drop (suc n) (x ∷ []) = drop_nil n ∙ sym (ap blank_last (drop_nil n))
+  where
+    drop_nil : (m : ℕ) → ◌≡◌ {A = List ℕ} (drop m []) []
+    drop_nil zero = refl
+    drop_nil (suc m) = refl
+blank_last-drop (suc n) (x ∷ y ∷ xs) = blank_last-drop n (y ∷ xs)
+
+opened : (w : LexState) (b : ℕ) (xs : List ℕ) (y : ℕ) →
+    xs ++ (if opens_comment w b then space ∷ y ∷ [] else map shown (cells_after w []) ++ y ∷ [])
+    ≡ (if opens_comment w b then blank_last (xs ++ map shown (cells_after w [])) else xs ++ map shown (cells_after w [])) ++ y ∷ []
+unfolding cells_after lex_from lexeme_at
+opened in_text b xs y = sym (append_assoc xs [] (y ∷ []))
+opened at_slash b xs y = by_opens (opens_comment at_slash b)
+  where
+    by_opens : (o : Bool) → xs ++ (if o then space ∷ y ∷ [] else slash ∷ y ∷ [])
+        ≡ (if o then blank_last (xs ++ slash ∷ []) else xs ++ slash ∷ []) ++ y ∷ []
+    by_opens true = sym (append_assoc xs (space ∷ []) (y ∷ [])) ∙ ap (λ (l : List ℕ). l ++ y ∷ []) (sym (blank_last-last xs slash))
+    by_opens false = sym (append_assoc xs (slash ∷ []) (y ∷ []))
+opened in_block b xs y = sym (append_assoc xs [] (y ∷ []))
+opened at_star b xs y = sym (append_assoc xs [] (y ∷ []))
+opened in_line b xs y = sym (append_assoc xs [] (y ∷ []))
+opened (in_literal q) b xs y = sym (append_assoc xs [] (y ∷ []))
+opened (at_backslash q) b xs y = sym (append_assoc xs [] (y ∷ []))
+
+-- a text as it is shown with one more byte: a slash at its end may become a space
+pub mask_step : (text : List ℕ) (w : LexState) (white : Bool) (b : ℕ) → LexesTo text w white →
+    mask (text ++ b ∷ []) ≡ (if opens_comment w b then blank_last (mask text) else mask text) ++ masked_byte w b ∷ []
+unfolding LexesTo-step
+mask_step text w white b r =
+    mask_is (text ++ b ∷ []) (next_state w b) (stays_white w white b) (LexesTo-step b r)
+    ∙ ap (λ (l : List ℕ). l ++ map shown (cells_after (next_state w b) [])) (map-append shown r.settled (settles w b))
+    ∙ append_assoc (map shown r.settled) (map shown (settles w b)) (map shown (cells_after (next_state w b) []))
+    ∙ ap (λ (l : List ℕ). map shown r.settled ++ l) (sym (map-append shown (settles w b) (cells_after (next_state w b) [])) ∙ tail_shown w b)
+    ∙ opened w b (map shown r.settled) (masked_byte w b)
+    ∙ ap (λ (l : List ℕ). (if opens_comment w b then blank_last l else l) ++ masked_byte w b ∷ []) (sym (mask_is text w white r))
+
+cond_drop : (o : Bool) (n : ℕ) (xs : List ℕ) (y : ℕ) → n ≤ length xs →
+    drop n ((if o then blank_last xs else xs) ++ y ∷ []) ≡ (if o then blank_last (drop n xs) else drop n xs) ++ y ∷ []
+cond_drop true n xs y h =
+    drop-append-le n (blank_last xs) (y ∷ []) (subst (λ (k : ℕ). n ≤ k) (sym (length-blank_last xs)) h)
+    ∙ ap (λ (l : List ℕ). l ++ y ∷ []) (blank_last-drop n xs)
+cond_drop false n xs y h = drop-append-le n xs (y ∷ []) h
+
+-- so it is after the first n bytes
+pub Masks-step : {n : ℕ} {text : List ℕ} {w : LexState} {white : Bool} {masked : List ℕ} (b : ℕ) → Masks n text w white masked →
+    Masks n (text ++ b ∷ []) (next_state w b) (stays_white w white b) ((if opens_comment w b then blank_last masked else masked) ++ masked_byte w b ∷ [])
+Masks-step {n} {text} {w} {white} {masked} b m = record {
+  reads = LexesTo-step b m.reads;
+  within = let h : n ≤ length text = m.within in omega (arith, length-append text (b ∷ []));
+  masked_is = ap (λ (l : List ℕ). (if opens_comment w b then blank_last l else l) ++ masked_byte w b ∷ []) m.masked_is
+      ∙ sym (cond_drop (opens_comment w b) n (mask text) (masked_byte w b) (subst (λ (k : ℕ). n ≤ k) (sym (length-mask text)) m.within))
+      ∙ ap (λ (l : List ℕ). drop n l) (sym (mask_step text w white b m.reads));
+}

@@ -1,0 +1,54 @@
+-- Woven nodes: the tree of an output under `-b` or `-n`, beside the tree of the output without them.
+-- C11 6.10: a blank line and a `#line` begin no section, and end none.
+--
+--   IsSame r s                both lines have the same bytes, and are seen alike
+--   IsInserted d              a blank line by itself, or a `#line`
+--   NodesWithInserted ns ms   ms are the nodes ns, each line seen alike and each condition decided alike, with text lines put in
+--   LinesWithInserted rs ss   ss are the lines rs, each seen alike, with lines put in
+--
+-- Example: under `-n -UA` of `#if X`, `#ifdef A`, `#endif`, `y`, `#endif` the section of X has the text lines `#line 4` and `y`.
+use Rattle.std.specs.Prelude.{◌≡◌, ℕ, List, [], ◌∷◌, ◌⊎◌}
+use Rattle.ud_model.specs.text.Lines.{text_of}
+use Rattle.ud_model.specs.text.Scans.{Reading}
+use Rattle.ud_model.specs.sections.Tree.{Opener, Nodes, Groups, Elifs, nothing, text, section, conditional, otherwise, first, elif}
+use Rattle.ud_model.specs.output.InsertedLines.{IsBlankLine, IsNumberLine}
+
+-- the same bytes, seen alike
+pub record IsSame (r s : Reading) : Type 0 where
+  pub bytes : text_of s.line ≡ text_of r.line
+  pub seen : s.scan ≡ r.scan
+
+-- and decided alike
+pub record IsSameOpener (o p : Opener Reading) : Type 0 where
+  pub line : IsSame o.line p.line
+  pub cond : p.cond ≡ o.cond
+  pub ignoring : p.ignoring ≡ o.ignoring
+
+-- a blank line by itself, or a `#line`
+abbrev pub IsInserted : Reading → Type 0
+IsInserted d = IsBlankLine d ⊎ ((n : ℕ) × IsNumberLine n d)
+
+mutual
+  -- the same nodes, with text lines put in
+  pub data NodesWithInserted : Nodes Reading → Nodes Reading → Type 0 where
+    no_nodes : NodesWithInserted nothing nothing
+    same_text : {ns ms : Nodes Reading} {r s : Reading} → NodesWithInserted ns ms → IsSame r s → NodesWithInserted (text ns r) (text ms s)
+    put_text : {ns ms : Nodes Reading} {d : Reading} → NodesWithInserted ns ms → IsInserted d → NodesWithInserted ns (text ms d)
+    same_section : {ns ms : Nodes Reading} {gs hs : Groups Reading} {r s : Reading} → NodesWithInserted ns ms → GroupsWithInserted gs hs → IsSame r s →
+        NodesWithInserted (section ns gs r) (section ms hs s)
+
+  pub data GroupsWithInserted : Groups Reading → Groups Reading → Type 0 where
+    all_conditional : {es fs : Elifs Reading} → ElifsWithInserted es fs → GroupsWithInserted (conditional es) (conditional fs)
+    last_otherwise : {es fs : Elifs Reading} {r s : Reading} {ns ms : Nodes Reading} → ElifsWithInserted es fs → IsSame r s → NodesWithInserted ns ms →
+        GroupsWithInserted (otherwise es r ns) (otherwise fs s ms)
+
+  pub data ElifsWithInserted : Elifs Reading → Elifs Reading → Type 0 where
+    same_first : {o p : Opener Reading} {ns ms : Nodes Reading} → IsSameOpener o p → NodesWithInserted ns ms → ElifsWithInserted (first o ns) (first p ms)
+    same_elif : {es fs : Elifs Reading} {o p : Opener Reading} {ns ms : Nodes Reading} → ElifsWithInserted es fs → IsSameOpener o p → NodesWithInserted ns ms →
+        ElifsWithInserted (elif es o ns) (elif fs p ms)
+
+-- the same lines, with lines put in
+pub data LinesWithInserted : List Reading → List Reading → Type 0 where
+  no_lines : LinesWithInserted [] []
+  same_line : {r s : Reading} {rs ss : List Reading} → IsSame r s → LinesWithInserted rs ss → LinesWithInserted (r ∷ rs) (s ∷ ss)
+  put_line : {d : Reading} {rs ss : List Reading} → IsInserted d → LinesWithInserted rs ss → LinesWithInserted rs (d ∷ ss)

@@ -1,0 +1,25 @@
+-- SharedLines: how a run and the run with `-c` share the lines of a text.
+-- unifdef(1), `-c`: lines that would be removed are kept, and the other way round.
+--
+--   with_complement o   the same options, and `-c`
+--   ShareLines js a b   each of these judged lines is printed once: in a, as its verdict says, if it isn't removed; else in b, as it is
+--
+-- Example: under `-UA` of `#ifdef A`, `x`, `#endif`, `y` the run prints `y`, and with `-c` the three lines before.
+use Rattle.std.specs.Prelude.{◌≡◌, ℕ, List, [], ◌∷◌, ◌++◌, true, false}
+use Rattle.ud_model.specs.text.Lines.{text_of}
+use Rattle.ud_model.specs.sections.Pruning.{is_removed}
+use Rattle.ud_model.specs.sections.Items.{Options}
+use Rattle.ud_model.specs.answer.Printing.{Judged, piece_by}
+
+-- the same options, and `-c`
+abbrev pub with_complement : Options → Options
+with_complement o = record { settings = record o.settings { complement = true }; table = o.table }
+
+-- each line is printed in a or in b, and not in both
+pub data ShareLines : List Judged → List ℕ → List ℕ → Type 0 where
+  no_line : ShareLines [] [] []
+  -- a line that isn't removed, perhaps edited
+  stays : {j : Judged} {js : List Judged} {a b : List ℕ} → is_removed j.verdict ≡ false → ShareLines js a b →
+      ShareLines (j ∷ js) (piece_by j.verdict j.keyword j.line ++ a) b
+  -- a removed one
+  goes : {j : Judged} {js : List Judged} {a b : List ℕ} → is_removed j.verdict ≡ true → ShareLines js a b → ShareLines (j ∷ js) a (text_of j.line ++ b)

@@ -1,0 +1,68 @@
+-- Actions: what becomes of a line, by the innermost open section.
+--
+--   act plain section shape n   what becomes of a line of this shape and number; nothing if it is a directive out of
+--                               its place; `plain` tells that text outside of all sections is plain
+--   Applies change old new      the change makes the new open sections of the old ones
+use Rattle.std.specs.Prelude.{◌≡◌, ℕ, List, [], ◌∷◌, ◌++◌, Bool, true, not, ◌||◌, if◌then◌else◌, Option, Some, None}
+use Rattle.ud_model.specs.declared.cond.Cond.{Cond}
+use Rattle.ud_model.specs.declared.cond.Cond.TheVariants.{Yes}
+use Rattle.ud_model.specs.declared.verdict.Verdict.TheVariants.{Keep, Remove}
+use Rattle.ud_model.specs.sections.Pruning as table
+use Rattle.ud_sections.specs.declared.open_section.OpenSection.{OpenSection}
+use Rattle.ud_sections.specs.declared.open_section.StackOp.{StackOp}
+use Rattle.ud_sections.specs.declared.open_section.StackOp.TheVariants.{Stay, Push, Replace, Pop}
+use Rattle.ud_sections.specs.declared.open_section.Action.{Action}
+use Rattle.ud_sections.specs.declared.line_kind.LineKind.{LineKind}
+use Rattle.ud_sections.specs.declared.line_kind.LineKind.TheVariants.{Text, If, Elif, Else, Endif}
+use Rattle.ud_sections.specs.SectionStates.{opener_verdict_in, endif_verdict_in, is_kept_in, is_in_removed, new_state}
+use Rattle.ud_sections.specs.OpenSections.{new_section, section_with_group}
+
+-- the place is kept
+abbrev pub kept_at : Option OpenSection → Bool
+kept_at None = true
+kept_at (Some l) = is_kept_in l.state
+
+-- the next line is read as plain text
+abbrev pub plain_at : Bool → Option OpenSection → Bool
+plain_at plain None = plain
+plain_at plain (Some l) = l.ignoring
+
+-- a text line stays if its place is kept, and changes nothing
+abbrev pub text_action : Bool → Action
+text_action kept = record { verdict = if kept then Keep else Remove; kept = kept; change = Stay }
+
+-- a first directive opens a section; its verdict is that of the first opener of a section in this place
+abbrev pub if_action : Bool → Bool → Cond → Bool → ℕ → Action
+if_action kept plain c ignoring n = record {
+  verdict = opener_verdict_in (new_state kept) table.an_if c;
+  kept = kept;
+  change = Push (section_with_group (new_section kept (plain || ignoring) n) table.an_if c);
+}
+
+-- another opener of the section; there is none after an `#else`
+abbrev pub opener_action : OpenSection → table.Part → Cond → Option Action
+opener_action l part c =
+    if l.else_seen then None
+    else Some (record { verdict = opener_verdict_in l.state part c; kept = not (is_in_removed l.state); change = Replace (section_with_group l part c) })
+
+-- the section's `#endif`
+abbrev pub endif_action : OpenSection → Action
+endif_action l = record { verdict = endif_verdict_in l.state; kept = not (is_in_removed l.state); change = Pop }
+
+-- what becomes of a line of this shape
+abbrev pub act : Bool → Option OpenSection → LineKind → ℕ → Option Action
+act plain section Text n = Some (text_action (kept_at section))
+act plain section (If c ignoring) n = Some (if_action (kept_at section) (plain_at plain section) c ignoring n)
+act plain None (Elif c) n = None
+act plain None Else n = None
+act plain None Endif n = None
+act plain (Some l) (Elif c) n = opener_action l table.an_elif c
+act plain (Some l) Else n = opener_action l table.an_else Yes
+act plain (Some l) Endif n = Some (endif_action l)
+
+-- the change makes the new open sections of the old ones
+abbrev pub Applies : StackOp → List OpenSection → List OpenSection → Type 0
+Applies Stay old new = new ≡ old
+Applies (Push l) old new = new ≡ old ++ l ∷ []
+Applies (Replace l) old new = (outer : List OpenSection) × (last : OpenSection) × (old ≡ outer ++ last ∷ []) × (new ≡ outer ++ l ∷ [])
+Applies Pop old new = (last : OpenSection) × (old ≡ new ++ last ∷ [])

@@ -1,0 +1,41 @@
+-- Transitions: what the machine answers to the next line.
+--
+--   context_of m                  what stands before the line
+--   text_verdict m                what becomes of the line, if it is text
+--   transition_of before n seen   what becomes of a line of number n of which this is kept; one whose keyword is cut is faulty
+use Rattle.std.specs.Prelude.{ℕ, length, Result, Ok, Err}
+use Rattle.ud_model.specs.declared.verdict.Verdict.{Verdict}
+use Rattle.ud_sections.specs.declared.fault.SectionFault.{SectionFault}
+use Rattle.ud_sections.specs.declared.fault.SectionFault.TheVariants.{Obfuscated}
+use Rattle.ud_sections.specs.declared.directives.Cut.{Cut}
+use Rattle.ud_sections.specs.declared.check.LineContext.{LineContext}
+use Rattle.ud_sections.specs.declared.open_section.Action.{Action}
+use Rattle.ud_sections.specs.declared.machine.Machine.{Machine}
+use Rattle.ud_sections.specs.declared.machine.Transition.{Transition}
+use Rattle.ud_sections.specs.declared.classify_line.ClassifiedLine.{ClassifiedLine}
+use Rattle.ud_sections.specs.declared.step.Span.{Span}
+use Rattle.ud_sections.specs.Actions.{kept_at, text_action}
+use Rattle.ud_sections.specs.StackOps.{innermost_of}
+use Rattle.ud_sections.specs.Checking.{checked_by}
+
+-- what stands before the next line
+abbrev pub context_of : Machine → LineContext
+context_of m = record {
+  enclosing = record { section = innermost_of m.open_sections.items; plain = m.settings.plain };
+  depth = length m.open_sections.items;
+  removed = m.removed;
+}
+
+-- a text line is kept or removed by the innermost open section
+abbrev pub text_verdict : Machine → Verdict
+text_verdict m = (text_action (kept_at (innermost_of m.open_sections.items))).verdict
+
+-- with the place of the keyword
+abbrev pub transition_with : Span → Result Action SectionFault → Result Transition SectionFault
+transition_with keyword (Ok a) = Ok (record { step = record { verdict = a.verdict; keyword = keyword }; change = a.change })
+transition_with keyword (Err f) = Err f
+
+-- what becomes of a line, and what it does to the open sections; a cut keyword is a fault
+abbrev pub transition_of : LineContext → ℕ → Result ClassifiedLine Cut → Result Transition SectionFault
+transition_of before n (Ok seen) = transition_with seen.keyword (checked_by before seen n)
+transition_of before n (Err cut) = Err (Obfuscated n)

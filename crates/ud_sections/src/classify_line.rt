@@ -1,0 +1,135 @@
+//! What is kept of a line while it is judged.
+
+ghost use Rattle.std.specs.Prelude.{◌≡◌, ◌≤◌, ◌+◌, List, length, IfOk, Some};
+ghost use Rattle.ud_model.specs.text.Scans.{is_spanning};
+ghost use Rattle.ud_model.specs.sections.Directives.{content_of, skip_hash_if_fresh, role_of};
+ghost use Rattle.ud_model.specs.conditions.Conditions.{decision_on};
+ghost use Rattle.ud_model.specs.sections.Items.{rules_of};
+ghost use Rattle.ud_model.specs.conditions.Table.{Argument};
+ghost use Rattle.ud_model.specs.declared.limits.TheConstants.{LINE_BYTES};
+ghost use Rattle.ud_cond.specs.SymbolTable.{TableRepresents};
+ghost use Rattle.ud_cond.specs.CondViews.{as_decision, as_rules};
+ghost use Rattle.ud_text.specs.LineViews.{as_scan};
+ghost use Rattle.ud_sections.specs.ParsedDirectives.{as_directive};
+ghost use Rattle.ud_sections.specs.ClassifiedLines.{line_kind_in, classified};
+
+use crate::directives::{Cut, Directive};
+use crate::line_kind::LineKind;
+use crate::parse_directive::directive_after_hash;
+use crate::step::Span;
+use ud_cond::{Answer, Rules, Symbols, condition};
+use ud_model::{Cond, Role, Settings};
+use ud_text::Scan;
+
+/// What is kept of a line while it is judged.
+#[derive(Clone, Copy)]
+pub(crate) struct ClassifiedLine {
+    /// What it is among the sections.
+    pub kind: LineKind,
+    /// Where the keyword of its directive lies; 0 and 0 for a text line.
+    pub keyword: Span,
+    /// It joins a neighbour.
+    pub spans: bool,
+    /// The line before joins it.
+    pub joins_before: bool,
+}
+
+/// What is kept of a line with this scan, of which this follows the `#`, with what the symbols decide of its condition.
+///
+/// # Errors
+/// The keyword of its directive can't be known.
+#[inline(always)]
+pub(crate) fn classify<'a>(
+    scan: &Scan<'a>,
+    behind: &'a [u8],
+    symbols: &Symbols,
+    settings: Settings,
+) -> Result<ClassifiedLine, Cut>
+    requires fits { length scan.now.masked.now ≤ LINE_BYTES }
+    requires after_hash { skip_hash_if_fresh scan.now.masked.now ≡ Some behind.now }
+    ensures value { (calls : List Argument) → TableRepresents symbols.now calls → result ≡ classified (as_scan scan.now) calls (rules_of settings) (content_of (as_scan scan.now)) }
+    ensures place { IfOk result (λ seen. seen.keyword.at + seen.keyword.len ≤ length scan.now.masked.now) }
+{
+    let (shape, keyword) = match directive_after_hash(scan, behind)? {
+        Some(found) => (line_kind_of(scan, &found, symbols, settings), found.keyword),
+        None => (LineKind::Text, Span { at: 0, len: 0 }),
+    };
+    Ok(ClassifiedLine {
+        kind: shape,
+        keyword,
+        spans: joins_a_neighbor(scan),
+        joins_before: scan.joins_before,
+    })
+}
+
+/// Whether the line joins a neighbour.
+fn joins_a_neighbor(scan: &Scan<'_>) -> bool
+    ensures { result ≡ is_spanning (as_scan scan.now) }
+{
+    scan.joins_before || scan.joins_after
+}
+
+/// What the symbols decide of a line's directive: a broken one is undecided, and one that joins the next line opens no
+/// section that is plain text.
+#[inline(always)]
+fn condition_on(
+    scan: &Scan<'_>,
+    found: &Directive<'_>,
+    symbols: &Symbols,
+    settings: Settings,
+) -> Answer
+    requires { length found.now.after.now ≤ LINE_BYTES }
+    ensures { (calls : List Argument) → TableRepresents symbols.now calls →
+        as_decision result ≡ decision_on (as_scan scan.now) (as_directive found.now) calls (rules_of settings) }
+{
+    if found.broken {
+        return Answer {
+            cond: Cond::Unknown,
+            ignoring: false,
+        };
+    }
+    let answer = condition(found.kind, found.after, symbols, rules_of(settings));
+    Answer {
+        cond: answer.cond,
+        ignoring: answer.ignoring && !scan.joins_after,
+    }
+}
+
+/// How the settings have expressions valued.
+fn rules_of(settings: Settings) -> Rules
+    ensures { as_rules result ≡ rules_of settings }
+{
+    Rules {
+        constants: settings.constants,
+        strict: settings.strict,
+    }
+}
+
+/// What a line's directive is among the sections, with what the symbols decide of it. Only a condition is looked at.
+#[inline(always)]
+fn line_kind_of(
+    scan: &Scan<'_>,
+    found: &Directive<'_>,
+    symbols: &Symbols,
+    settings: Settings,
+) -> LineKind
+    requires { length found.now.after.now ≤ LINE_BYTES }
+    ensures { (calls : List Argument) → TableRepresents symbols.now calls →
+        result ≡ line_kind_in (role_of found.now.kind) (decision_on (as_scan scan.now) (as_directive found.now) calls (rules_of settings)) }
+{
+    match found.kind.role() {
+        Role::IfGroup => {
+            let answer = condition_on(scan, found, symbols, settings);
+            LineKind::If {
+                cond: answer.cond,
+                ignoring: answer.ignoring,
+            }
+        }
+        Role::ElifGroup => {
+            let answer = condition_on(scan, found, symbols, settings);
+            LineKind::Elif { cond: answer.cond }
+        }
+        Role::ElseGroup => LineKind::Else,
+        Role::EndifLine => LineKind::Endif,
+    }
+}

@@ -1,0 +1,18 @@
+//! What a line is among the sections.
+
+use ud_model::Cond;
+
+/// What a line is among the sections, with what is decided of its condition.
+#[derive(Clone, Copy)]
+pub(crate) enum LineKind {
+    /// A text line.
+    Text,
+    /// `#if`, `#ifdef` or `#ifndef`, and whether its section is plain text.
+    If { cond: Cond, ignoring: bool },
+    /// `#elif`, `#elifdef` or `#elifndef`.
+    Elif { cond: Cond },
+    /// `#else`.
+    Else,
+    /// `#endif`.
+    Endif,
+}

@@ -1,0 +1,189 @@
+//! The open sections, and what a line does to them.
+
+ghost use Rattle.std.specs.Prelude.{◌≡◌};
+ghost use Rattle.ud_sections.specs.SectionStates.{part_of, opener_verdict_in};
+ghost use Rattle.ud_sections.specs.OpenSections.{new_section, section_with_group};
+ghost use Rattle.ud_sections.specs.Actions.{opener_action, endif_action, text_action, if_action, act, kept_at, plain_at};
+
+use crate::line_kind::LineKind;
+use crate::section_state::{Part, SectionState};
+use ud_model::{Cond, Verdict};
+
+/// What is kept of an open section.
+#[derive(Clone, Copy)]
+pub(crate) struct OpenSection {
+    /// How far it is among its groups.
+    pub state: SectionState,
+    /// Its last group is opened by an `#else`.
+    pub else_seen: bool,
+    /// It, or a section around it, is plain text.
+    pub ignoring: bool,
+    /// The line of its first directive.
+    pub if_line: u32,
+}
+
+/// What a line does to the open sections.
+#[derive(Clone, Copy)]
+pub(crate) enum StackOp {
+    /// Nothing.
+    Stay,
+    /// It opens a section.
+    Push(OpenSection),
+    /// It opens another group of the innermost one.
+    Replace(OpenSection),
+    /// It ends the innermost one.
+    Pop,
+}
+
+/// What becomes of a line.
+#[derive(Clone, Copy)]
+pub(crate) struct Action {
+    /// Its verdict.
+    pub verdict: Verdict,
+    /// The line, or of a directive its section, lies in a kept place.
+    pub kept: bool,
+    /// What it does to the open sections.
+    pub change: StackOp,
+}
+
+/// Where a line stands.
+#[derive(Clone, Copy)]
+pub(crate) struct Enclosing {
+    /// The innermost open section.
+    pub section: Option<OpenSection>,
+    /// Text outside of all sections is plain.
+    pub plain: bool,
+}
+
+impl Default for OpenSection {
+    fn default() -> OpenSection {
+        OpenSection {
+            state: SectionState::InRemoved,
+            else_seen: false,
+            ignoring: false,
+            if_line: 0,
+        }
+    }
+}
+
+impl OpenSection {
+    /// A section before its first group.
+    fn new(kept: bool, ignoring: bool, if_line: u32) -> OpenSection
+        ensures { result ≡ new_section kept ignoring if_line }
+    {
+        OpenSection {
+            state: SectionState::new(kept),
+            else_seen: false,
+            ignoring,
+            if_line,
+        }
+    }
+
+    /// What becomes of the next group's opener, and the section after it.
+    #[inline(always)]
+    fn with_group(self, part: Part, cond: Cond) -> (Verdict, OpenSection)
+        ensures verdict { result.0 ≡ opener_verdict_in self.state (part_of part) cond }
+        ensures level { result.1 ≡ section_with_group self (part_of part) cond }
+    {
+        let (verdict, phase) = self.state.next_group(part, cond);
+        let level = OpenSection {
+            state: phase,
+            else_seen: part == Part::AnElse,
+            ignoring: self.ignoring,
+            if_line: self.if_line,
+        };
+        (verdict, level)
+    }
+
+    /// What becomes of another opener; none may follow an `#else`.
+    #[inline(always)]
+    fn opener_action(self, part: Part, cond: Cond) -> Option<Action>
+        ensures { result ≡ opener_action self (part_of part) cond }
+    {
+        if self.else_seen {
+            return None;
+        }
+        let (verdict, level) = self.with_group(part, cond);
+        Some(Action {
+            verdict,
+            kept: !self.state.is_in_removed(),
+            change: StackOp::Replace(level),
+        })
+    }
+
+    /// What becomes of the section's `#endif`.
+    #[inline(always)]
+    fn endif_action(self) -> Action
+        ensures { result ≡ endif_action self }
+    {
+        Action {
+            verdict: self.state.endif_verdict(),
+            kept: !self.state.is_in_removed(),
+            change: StackOp::Pop,
+        }
+    }
+}
+
+impl Enclosing {
+    /// Whether the place is kept.
+    pub(crate) fn is_kept(self) -> bool
+        ensures { result ≡ kept_at self.section }
+    {
+        match self.section {
+            Some(level) => level.state.is_kept(),
+            None => true,
+        }
+    }
+
+    /// Whether the next line is read as plain text.
+    pub(crate) fn is_plain(self) -> bool
+        ensures { result ≡ plain_at self.plain self.section }
+    {
+        match self.section {
+            Some(level) => level.ignoring,
+            None => self.plain,
+        }
+    }
+
+    /// What becomes of a text line.
+    #[inline(always)]
+    pub(crate) fn text_action(self) -> Action
+        ensures { result ≡ text_action (kept_at self.section) }
+    {
+        let kept = self.is_kept();
+        Action {
+            verdict: if kept { Verdict::Keep } else { Verdict::Remove },
+            kept,
+            change: StackOp::Stay,
+        }
+    }
+
+    /// What becomes of a section's first directive.
+    #[inline(always)]
+    fn if_action(self, cond: Cond, ignoring: bool, number: u32) -> Action
+        ensures { result ≡ if_action (kept_at self.section) (plain_at self.plain self.section) cond ignoring number }
+    {
+        let kept = self.is_kept();
+        let section = OpenSection::new(kept, self.is_plain() || ignoring, number);
+        let (verdict, level) = section.with_group(Part::AnIf, cond);
+        Action {
+            verdict,
+            kept,
+            change: StackOp::Push(level),
+        }
+    }
+
+    /// What becomes of a line of this shape and number; `None` if it is a directive out of its place.
+    #[inline(always)]
+    pub(crate) fn action_for(self, shape: LineKind, number: u32) -> Option<Action>
+        ensures { result ≡ act self.plain self.section shape number }
+    {
+        match shape {
+            LineKind::Text => Some(self.text_action()),
+            LineKind::If { cond, ignoring } => Some(self.if_action(cond, ignoring, number)),
+            LineKind::Elif { cond } => self.section?.opener_action(Part::AnElif, cond),
+            LineKind::Else => self.section?.opener_action(Part::AnElse, Cond::Yes),
+            LineKind::Endif => Some(self.section?.endif_action()),
+        }
+    }
+}

@@ -1,0 +1,11 @@
+-- The span is read; without one, the lines before the last one that begins are passed.
+use Rattle.ud_text.specs.BulkStates.{code_state}
+use Rattle.ud_text.proofs.StepLemmas.{line_step_read}
+use Rattle.ud_text.proofs.ProgressLemmas.{passed_of}
+use Rattle.ud_text.proofs.bulk.comment_step.Goals as goal
+
+pub returns-in-None-clause-read : goal.returns-in-None-clause-read
+returns-in-None-clause-read c = λ start r. passed_of (c.last_line.ensures.read start (code_state r.now_white) r.so_far)
+
+pub returns-in-Some-clause-read : goal.returns-in-Some-clause-read
+returns-in-Some-clause-read c = λ start r. line_step_read r c.in-Some.count c.in-Some.ensures.bound.1 c.in-Some.ensures.read

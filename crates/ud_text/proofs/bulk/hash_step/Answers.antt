@@ -1,0 +1,22 @@
+-- A name that is no keyword, or a line that is not white.
+use Rattle.std.proofs.Common.{inl, subst, List, ℕ, take, ◌+◌, ◌≤◌, ◌≡◌, length, true}
+use Rattle.std.proofs.lemmas.List.{take_rest}
+use Rattle.ud_text.specs.BulkStates.{code_state, is_other_word}
+use Rattle.ud_text.specs.BulkLexemes.{NoSignificant}
+use Rattle.ud_text.proofs.ProgressLemmas.{passed_of}
+use Rattle.ud_text.proofs.StepLemmas.{sign_step_read, sign_alone_read}
+use Rattle.ud_text.proofs.bulk.hash_step.Goals as goal
+
+pub returns-then-is_line_white_after-clause-read : goal.returns-then-is_line_white_after-clause-read
+returns-then-is_line_white_after-clause-read c = λ start r. passed_of (c.last_line.ensures.read start (code_state r.now_white) r.so_far)
+
+pub returns-clause-read : goal.returns-clause-read
+returns-clause-read c = λ start r. sign_alone_read r c.requires.first c.if-is_line_white_after.ensures
+
+pub returns-in-Some-clause-read : goal.returns-in-Some-clause-read
+returns-in-Some-clause-read c = λ start r.
+    let rest = take_rest c.args.lines.now (c.args.p.at + 1) in
+    sign_step_read r c.requires.first c.in-Some.count
+    (subst (λ (l : List ℕ). c.in-Some.count ≤ length l) rest c.in-Some.ensures.bound)
+    (subst (λ (l : List ℕ). NoSignificant (take c.in-Some.count l)) rest c.in-Some.ensures.plain)
+    (inl (subst (λ (l : List ℕ). is_other_word (take c.in-Some.count l) ≡ true) rest c.in-Some.ensures.other))

@@ -1,0 +1,16 @@
+-- The bytes up to the place are read.
+use Rattle.std.proofs.Common.{◌-◌, length}
+use Rattle.ud_text.specs.Progress.{InOrder, ReadBy}
+use Rattle.ud_text.specs.Blocks.{IsBlock}
+use Rattle.ud_text.specs.BulkStates.{BulkState}
+use Rattle.ud_text.proofs.bulk.skip_text_from.Given as goal
+
+abbrev pub invariant-loop-p : goal.invariant-loop-p
+invariant-loop-p l = record {
+  row : IsBlock l.row l.lines;
+  order : InOrder l.p l.lines;
+  read : (start : BulkState) → ReadBy start l.lines l.fn.begun → ReadBy start l.lines l.p;
+}
+
+abbrev pub decreases-loop-p : goal.decreases-loop-p
+decreases-loop-p l = length l.lines - l.p.at

@@ -1,0 +1,6 @@
+use Rattle.std.proofs.Common.{rules, refl}
+use Rattle.ud_text.proofs.LinesLemmas.{represent_nothing}
+use Rattle.ud_text.proofs.lines.Lines.reset.Goals as goal
+
+pub returns-clause-represents : goal.returns-clause-represents
+returns-clause-represents g c = represent_nothing _ (search rules) refl refl

@@ -1,0 +1,11 @@
+-- The line feeds in front, and those that come after them.
+use Rattle.std.proofs.Common.{arith}
+use Rattle.ud_text.proofs.ConsumeLemmas.{counted_more}
+use Rattle.ud_text.proofs.newlines.newlines_by_lanes.Goals as goal
+
+pub loop-at-preserved : goal.loop-at-preserved
+loop-at-preserved g c = record {
+  within = omega arith;
+  counted = counted_more c.args.bytes.now c.loop-at.at g.row.N c.loop-at.newlines c.newlines_in_lanes-newlines.result c.loop-at.invariant.counted c.newlines_in_lanes-newlines.ensures.value;
+  low = omega (arith, c.loop-at.invariant.low, c.newlines_in_lanes-newlines.ensures.bound);
+}

@@ -1,0 +1,11 @@
+-- None of the bytes in front may matter.
+use Rattle.std.proofs.Common.{◌≤◌, ◌-◌, length}
+use Rattle.std.specs.List.{position_or_len}
+use Rattle.ud_text.specs.BulkLexemes.{is_significant}
+use Rattle.ud_text.proofs.searching.significant_by_lanes.Given as goal
+
+abbrev pub invariant-loop-at : goal.invariant-loop-at
+invariant-loop-at g l = l.at ≤ position_or_len is_significant l.bytes
+
+abbrev pub decreases-loop-at : goal.decreases-loop-at
+decreases-loop-at g l = length l.initial.bytes - l.at

@@ -1,0 +1,11 @@
+-- No pair stands in front.
+use Rattle.std.proofs.Common.{◌≤◌, ◌-◌, length}
+use Rattle.std.specs.List.{position_or_len}
+use Rattle.ud_text.specs.Searches.{pairs_of, is_found}
+use Rattle.ud_text.proofs.searching.star_pair_by_lanes.Given as goal
+
+abbrev pub invariant-loop-at : goal.invariant-loop-at
+invariant-loop-at g l = l.at ≤ position_or_len is_found (pairs_of l.bytes)
+
+abbrev pub decreases-loop-at : goal.decreases-loop-at
+decreases-loop-at g l = length l.initial.bytes - l.at

@@ -1,0 +1,311 @@
+//! Many whole lines at once, in C mode, that are all text.
+//!
+//! The bytes are read from one that may matter to the next: outside comments and literals these are `/`, quotes,
+//! backslashes and `#`; in a block comment, a star before a slash or a backslash. At anything unusual the reading stops at
+//! the beginning of that line, so each way to go on is a step of its own, and a step that isn't sure need not go on.
+//! A new kind of span needs a function in lexeme_lengths.rt and its lemma.
+
+ghost use Rattle.std.specs.Prelude.{◌≡◌, ◌≤◌, ◌<◌, ◌+◌, Bool, [], ◌∷◌, length, take, drop, true, IfOk, IfErr, MatchResult};
+ghost use Rattle.ud_model.specs.text.Bytes.{slash, star, number_sign};
+ghost use Rattle.ud_text.specs.BulkStates.{BulkState, block_state, can_start};
+ghost use Rattle.ud_text.specs.Blocks.{IsBlock};
+ghost use Rattle.ud_text.specs.BulkLexemes.{NoStarPair, IsSplice};
+ghost use Rattle.ud_text.specs.Progress.{ReadTo, bulk_state_of, InOrder, ReadBy, SkippedBy, InBlock, Steps};
+ghost use Rattle.ud_text.specs.LineViews.{lex_state_of};
+
+use crate::blocks::{Block, next_significant, no_block};
+use crate::hash_sign::{is_line_white_after, other_word_len};
+use crate::lexeme_lengths::{lexeme_len, line_comment_len, splice_len};
+use crate::lexer::{LexState, Lexer};
+use crate::searching::{find_star_pair, last_line_start};
+
+/// The beginning of a line.
+#[derive(Clone, Copy)]
+pub(crate) struct LineStart {
+    /// Where it is; the lines before it are text.
+    pub(crate) at: usize,
+    /// How far the text is read there.
+    pub(crate) lexer: Lexer,
+}
+
+/// How far the lines are read: up to `at`, which lies outside comments and literals.
+#[derive(Clone, Copy)]
+struct Progress {
+    /// The beginning of a line; each line begun after it begins outside comments.
+    line: LineStart,
+    /// No comment begins from this place on.
+    base: usize,
+    /// Whether the logical line is white at that place.
+    begins: bool,
+    /// The bytes before this place are read.
+    at: usize,
+}
+
+/// The last line that begins up to this place. Each line begun after `line` begins a logical line outside comments.
+fn last_line(lines: &[u8], line: LineStart, at: usize) -> LineStart
+    requires order { line.at ≤ at }
+    requires within { at ≤ length lines.now }
+    ensures bound { result.at ≤ at }
+    ensures read { (start : BulkState) → (now : BulkState) →
+        ReadTo start lines.now line.at (bulk_state_of line.lexer) at now →
+        ReadTo start lines.now result.at (bulk_state_of result.lexer) at now }
+{
+    let begin = last_line_start(&lines[line.at..at]);
+    if begin == 0 {
+        line
+    } else {
+        LineStart {
+            at: line.at + begin,
+            lexer: Lexer {
+                state: LexState::Text,
+                white: true,
+            },
+        }
+    }
+}
+
+/// The last line that begins up to so many bytes after a place in a block comment. `white` tells whether the logical line
+/// is white before the comment.
+fn last_line_in_block(
+    lines: &[u8],
+    line: LineStart,
+    at: usize,
+    white: bool,
+    count: usize,
+) -> LineStart
+    requires order { line.at ≤ at }
+    requires within { at + count ≤ length lines.now }
+    requires inside { NoStarPair (take count (drop at lines.now)) }
+    ensures bound { result.at ≤ at + count }
+    ensures read { (start : BulkState) →
+        ReadTo start lines.now line.at (bulk_state_of line.lexer) at (block_state white) →
+        InBlock start lines.now result (at + count) white }
+{
+    let begin = last_line_start(&lines[at..at + count]);
+    if begin == 0 {
+        line
+    } else {
+        LineStart {
+            at: at + begin,
+            lexer: Lexer {
+                state: LexState::Block,
+                white,
+            },
+        }
+    }
+}
+
+/// Reads from a place in a block comment past its end. Stops if the bytes don't end it, or a splice may.
+fn skip_to_block_end(
+    lines: &[u8],
+    line: LineStart,
+    at: usize,
+    white: bool,
+) -> Result<Progress, LineStart>
+    requires order { line.at ≤ at }
+    requires within { at ≤ length lines.now }
+    ensures further { IfOk result (λ q. InOrder q lines.now × (at < q.at)) }
+    ensures bound { IfErr result (λ stop. stop.at ≤ length lines.now) }
+    ensures read { (start : BulkState) →
+        ReadTo start lines.now line.at (bulk_state_of line.lexer) at (block_state white) →
+        MatchResult result (λ q. ReadBy start lines.now q) (λ stop. SkippedBy start lines.now stop) }
+{
+    let rest = &lines[at..];
+    let count = find_star_pair(rest);
+    let last = last_line_in_block(lines, line, at, white, count);
+    if count >= rest.len() {
+        return Err(last);
+    }
+    if rest[count + 1] == b'/' {
+        return Ok(Progress {
+            line: last,
+            base: at + count + 2,
+            begins: white,
+            at: at + count + 2,
+        });
+    }
+    Err(last)
+}
+
+/// Reads a block comment.
+fn block_step(lines: &[u8], p: Progress) -> Result<Progress, LineStart>
+    requires order { InOrder p lines.now }
+    requires some { 2 ≤ length (drop p.at lines.now) }
+    requires first { take 2 (drop p.at lines.now) ≡ slash ∷ star ∷ [] }
+    ensures further { IfOk result (λ q. InOrder q lines.now × (p.at < q.at)) }
+    ensures bound { IfErr result (λ stop. stop.at ≤ length lines.now) }
+    ensures read { Steps lines.now p result }
+{
+    let white = is_line_white_after(&lines[p.base..p.at], p.begins);
+    match skip_to_block_end(lines, p.line, p.at + 2, white) {
+        Ok(q) => Ok(q),
+        Err(stop) if stop.at > p.at => Err(stop),
+        Err(_) => Err(last_line(lines, p.line, p.at)),
+    }
+}
+
+/// Reads a line comment with its line feed.
+fn comment_step(lines: &[u8], p: Progress) -> Result<Progress, LineStart>
+    requires order { InOrder p lines.now }
+    requires some { 2 ≤ length (drop p.at lines.now) }
+    requires first { take 2 (drop p.at lines.now) ≡ slash ∷ slash ∷ [] }
+    ensures further { IfOk result (λ q. InOrder q lines.now × (p.at < q.at)) }
+    ensures bound { IfErr result (λ stop. stop.at ≤ length lines.now) }
+    ensures read { Steps lines.now p result }
+{
+    match line_comment_len(&lines[p.at..]) {
+        None => Err(last_line(lines, p.line, p.at)),
+        Some(count) => Ok(Progress {
+            line: p.line,
+            base: p.at + count,
+            begins: true,
+            at: p.at + count,
+        }),
+    }
+}
+
+/// Reads a `#` that belongs to no directive, by the name after it or by what stands before it on its logical line.
+fn hash_step(lines: &[u8], p: Progress) -> Result<Progress, LineStart>
+    requires order { InOrder p lines.now }
+    requires some { 1 ≤ length (drop p.at lines.now) }
+    requires first { take 1 (drop p.at lines.now) ≡ number_sign ∷ [] }
+    ensures further { IfOk result (λ q. InOrder q lines.now × (p.at < q.at)) }
+    ensures bound { IfErr result (λ stop. stop.at ≤ length lines.now) }
+    ensures read { Steps lines.now p result }
+{
+    let after = p.at + 1;
+    if let Some(count) = other_word_len(&lines[after..]) {
+        let at = after + count;
+        return Ok(Progress { at, ..p });
+    }
+    let before = &lines[p.base..p.at];
+    if is_line_white_after(before, p.begins) {
+        return Err(last_line(lines, p.line, p.at));
+    }
+    Ok(Progress { at: after, ..p })
+}
+
+/// Reads what a slash, a backslash or a quote begins.
+fn text_step(lines: &[u8], p: Progress) -> Result<Progress, LineStart>
+    requires order { InOrder p lines.now }
+    requires some { p.at < length lines.now }
+    ensures further { IfOk result (λ q. InOrder q lines.now × (p.at < q.at)) }
+    ensures bound { IfErr result (λ stop. stop.at ≤ length lines.now) }
+    ensures read { Steps lines.now p result }
+{
+    match lexeme_len(&lines[p.at..]) {
+        None => Err(last_line(lines, p.line, p.at)),
+        Some(count) => Ok(Progress {
+            at: p.at + count,
+            ..p
+        }),
+    }
+}
+
+/// Reads a splice of so many bytes: the next line goes on with the logical line. Stops if that is white so far.
+fn splice_step(lines: &[u8], p: Progress, count: usize) -> Result<Progress, LineStart>
+    requires order { InOrder p lines.now }
+    requires some { (0 < count) × (count ≤ length (drop p.at lines.now)) }
+    requires splice { IsSplice (take count (drop p.at lines.now)) }
+    ensures further { IfOk result (λ q. InOrder q lines.now × (p.at < q.at)) }
+    ensures bound { IfErr result (λ stop. stop.at ≤ length lines.now) }
+    ensures read { Steps lines.now p result }
+{
+    if is_line_white_after(&lines[p.base..p.at], p.begins) {
+        return Err(last_line(lines, p.line, p.at));
+    }
+    let at = p.at + count;
+    let state = LexState::Text;
+    let white = false;
+    let lexer = Lexer { state, white };
+    Ok(Progress {
+        line: LineStart { at, lexer },
+        base: at,
+        begins: false,
+        at,
+    })
+}
+
+/// Reads what begins with a byte that may matter.
+fn significant_step(lines: &[u8], p: Progress) -> Result<Progress, LineStart>
+    requires order { InOrder p lines.now }
+    requires some { p.at < length lines.now }
+    ensures further { IfOk result (λ q. InOrder q lines.now × (p.at < q.at)) }
+    ensures bound { IfErr result (λ stop. stop.at ≤ length lines.now) }
+    ensures read { Steps lines.now p result }
+{
+    let rest = &lines[p.at..];
+    if rest.starts_with(b"#") {
+        hash_step(lines, p)
+    } else if rest.starts_with(b"/*") {
+        block_step(lines, p)
+    } else if rest.starts_with(b"//") {
+        comment_step(lines, p)
+    } else if let Some(count) = splice_len(rest) {
+        splice_step(lines, p, count)
+    } else {
+        text_step(lines, p)
+    }
+}
+
+/// Reads plain text, up to the next byte that may matter.
+#[inline(always)]
+fn plain_step(lines: &[u8], row: Block, p: Progress) -> (Block, Progress)
+    requires order { InOrder p lines.now }
+    requires row { IsBlock row lines.now }
+    ensures row { IsBlock result.0 lines.now }
+    ensures order { InOrder result.1 lines.now }
+    ensures further { p.at ≤ result.1.at }
+    ensures read { (start : BulkState) → ReadBy start lines.now p → ReadBy start lines.now result.1 }
+{
+    let (at, row) = next_significant(lines, row, p.at);
+    (row, Progress { at, ..p })
+}
+
+/// Reads on as far as all lines are seen to be text. Answers the beginning of the line at which it stops.
+fn skip_text_from(lines: &[u8], begun: Progress) -> LineStart
+    requires order { InOrder begun lines.now }
+    ensures bound { result.at ≤ length lines.now }
+    ensures skipped { (start : BulkState) → ReadBy start lines.now begun → SkippedBy start lines.now result }
+{
+    let (mut row, mut p) = plain_step(lines, no_block(lines), begun);
+    while p.at < lines.len() {
+        match significant_step(lines, p) {
+            Ok(next) => {
+                let (later, further) = plain_step(lines, row, next);
+                row = later;
+                p = further;
+            }
+            Err(stop) => {
+                return stop;
+            }
+        }
+    }
+    last_line(lines, p.line, p.at)
+}
+
+/// Reads as many of these lines as are seen to be text, from what the lines before them leave. Answers the beginning of
+/// the first line that isn't read.
+pub(crate) fn skip_text_lines(lexer: Lexer, lines: &[u8]) -> LineStart
+    requires starts { can_start (lex_state_of lexer.state) ≡ true }
+    ensures bound { result.at ≤ length lines.now }
+    ensures skipped { SkippedBy (bulk_state_of lexer) lines.now result }
+{
+    let line = LineStart { at: 0, lexer };
+    match lexer.state {
+        LexState::Text => {
+            let begun = Progress {
+                line,
+                base: 0,
+                begins: lexer.white,
+                at: 0,
+            };
+            skip_text_from(lines, begun)
+        }
+        LexState::Block => match skip_to_block_end(lines, line, 0, lexer.white) {
+            Ok(begun) => skip_text_from(lines, begun),
+            Err(stop) => stop,
+        },
+        _ => line,
+    }
+}

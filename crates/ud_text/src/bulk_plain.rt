@@ -1,0 +1,30 @@
+//! Many whole lines at once, in plain mode, that are all text.
+
+ghost use Rattle.std.specs.Prelude.{◌≡◌, ◌≤◌, length, take};
+ghost use Rattle.ud_text.specs.BulkScanning.{AreWholeLines};
+ghost use Rattle.ud_text.specs.BulkLexemes.{NoHash};
+
+use crate::searching::last_line_start;
+use memchr::memchr;
+
+/// The bytes before the first `#`.
+fn before_hash(bytes: &[u8]) -> &[u8]
+    ensures front { result.now ≡ take (length result.now) bytes.now }
+    ensures bound { length result.now ≤ length bytes.now }
+    ensures plain { NoHash result.now }
+{
+    match memchr(b'#', bytes) {
+        Some(at) => &bytes[..at],
+        None => bytes,
+    }
+}
+
+/// How many bytes in front are whole lines that have no `#`, so that each is text as it stands. The first line that has one
+/// isn't counted, nor what follows it.
+pub(crate) fn lines_without_hash(lines: &[u8]) -> usize
+    ensures bound { result ≤ length lines.now }
+    ensures ends { AreWholeLines (take result lines.now) }
+    ensures plain { NoHash (take result lines.now) }
+{
+    last_line_start(before_hash(lines))
+}

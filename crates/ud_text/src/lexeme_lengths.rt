@@ -1,0 +1,144 @@
+//! Spans of bytes outside block comments that are read in one go, each begun by a byte that may matter.
+//!
+//! A span ends on the line on which it begins. If its end isn't seen in the bytes, or a backslash may belong to a splice,
+//! there is no answer: the line is then read by itself.
+
+ghost use Rattle.std.specs.Prelude.{◌≡◌, ◌≤◌, ◌<◌, Bool, [], ◌∷◌, length, take, slice_index, true, false, IfSome, OnSome};
+ghost use Rattle.ud_model.specs.text.Bytes.{slash, backslash, is_quote};
+ghost use Rattle.ud_text.specs.BulkLexemes.{is_significant, CodeLexeme, LineLexeme, IsSplice, may_splice};
+
+use crate::searching::is_significant;
+use crate::simd::find_near;
+use memchr::memchr;
+
+/// The second byte, if it can't matter by itself outside comments and literals.
+fn insignificant_second(rest: &[u8]) -> Option<u8>
+    ensures within { OnSome result (2 ≤ length rest.now) }
+    ensures second { IfSome result (λ byte. byte ≡ slice_index rest.now 1) }
+    ensures plain { IfSome result (λ byte. is_significant byte ≡ false) }
+{
+    if rest.len() < 2 {
+        return None;
+    }
+    let byte = rest[1];
+    if is_significant(byte) {
+        return None;
+    }
+    Some(byte)
+}
+
+/// A slash that begins no comment, with the byte after it. No answer if that byte may matter by itself.
+fn slash_len(rest: &[u8]) -> Option<usize>
+    requires first { slice_index rest.now 0 ≡ slash }
+    ensures bound { IfSome result (λ n. (0 < n) × (n ≤ length rest.now)) }
+    ensures read { IfSome result (λ n. (white : Bool) → CodeLexeme white (take n rest.now)) }
+{
+    let Some(byte) = insignificant_second(rest) else {
+        return None;
+    };
+    if byte == b'*' {
+        return None;
+    }
+    Some(2)
+}
+
+/// A backslash that belongs to no splice, with the byte after it. No answer if that byte may matter by itself.
+fn backslash_len(rest: &[u8]) -> Option<usize>
+    requires first { slice_index rest.now 0 ≡ backslash }
+    ensures bound { IfSome result (λ n. (0 < n) × (n ≤ length rest.now)) }
+    ensures read { IfSome result (λ n. (white : Bool) → CodeLexeme white (take n rest.now)) }
+{
+    let Some(byte) = insignificant_second(rest) else {
+        return None;
+    };
+    if byte == b'\n' {
+        return None;
+    }
+    if byte == b'\r' {
+        return None;
+    }
+    Some(2)
+}
+
+/// How many bytes a splice in front has: a backslash and the ending that it deletes (C11 5.1.1.2, phase 2).
+pub(crate) fn splice_len(rest: &[u8]) -> Option<usize>
+    ensures bound { IfSome result (λ n. (0 < n) × (n ≤ length rest.now)) }
+    ensures splice { IfSome result (λ n. IsSplice (take n rest.now)) }
+{
+    if rest.starts_with(b"\\\n") {
+        Some(2)
+    } else if rest.starts_with(b"\\\r\n") {
+        Some(3)
+    } else {
+        None
+    }
+}
+
+/// A literal with this quote, up to the quote that closes it (C11 6.4.4.4 and 6.4.5). No answer if its line ends before.
+fn literal_len(rest: &[u8], quote: u8) -> Option<usize>
+    requires some { 0 < length rest.now }
+    requires first { slice_index rest.now 0 ≡ quote }
+    requires quote { is_quote quote ≡ true }
+    ensures bound { IfSome result (λ n. (0 < n) × (n ≤ length rest.now)) }
+    ensures read { IfSome result (λ n. (white : Bool) → CodeLexeme white (take n rest.now)) }
+{
+    let mut at = 1;
+    while at < rest.len() {
+        let end = at + find_near(&rest[at..], [quote, b'\\', b'\n', b'\n', b'\n']);
+        if end >= rest.len() {
+            return None;
+        }
+        if rest[end] == b'\n' {
+            return None;
+        }
+        if rest[end] == quote {
+            return Some(end + 1);
+        }
+        if end + 1 >= rest.len() {
+            return None;
+        }
+        if rest[end + 1] == b'\n' {
+            return None;
+        }
+        at = end + 2;
+    }
+    None
+}
+
+/// What is read in one go outside comments, begun by a slash, a backslash or a quote.
+pub(crate) fn lexeme_len(rest: &[u8]) -> Option<usize>
+    requires some { 0 < length rest.now }
+    ensures bound { IfSome result (λ n. (0 < n) × (n ≤ length rest.now)) }
+    ensures read { IfSome result (λ n. (white : Bool) → CodeLexeme white (take n rest.now)) }
+{
+    match rest[0] {
+        b'/' => slash_len(rest),
+        b'\\' => backslash_len(rest),
+        b'"' => literal_len(rest, b'"'),
+        b'\'' => literal_len(rest, b'\''),
+        _ => None,
+    }
+}
+
+/// Whether a splice may end with a line feed after these two bytes, and what stands before them.
+fn may_splice(first: u8, second: u8) -> bool
+    ensures { result ≡ may_splice first second }
+{
+    second == b'\\' || second == b'\r' && (first == b'\\' || first == b'\r')
+}
+
+/// A line comment with its line feed (C11 6.4.9). No answer if a backslash may join the next line to it.
+pub(crate) fn line_comment_len(rest: &[u8]) -> Option<usize>
+    requires some { 2 ≤ length rest.now }
+    requires first { take 2 rest.now ≡ slash ∷ slash ∷ [] }
+    ensures bound { IfSome result (λ n. (0 < n) × (n ≤ length rest.now)) }
+    ensures read { IfSome result (λ n. (white : Bool) → LineLexeme white (take n rest.now)) }
+{
+    let Some(count) = memchr(b'\n', &rest[2..]) else {
+        return None;
+    };
+    if may_splice(rest[count], rest[count + 1]) {
+        return None;
+    }
+    Some(2 + count + 1)
+}

@@ -1,0 +1,90 @@
+//! Searches over many bytes at a time.
+//!
+//! Each answers what a search byte by byte would. So many lanes are compared at once; at the end the last of them overlap
+//! those before. How many lanes a search takes is a choice of speed alone: a search for what is near takes few.
+
+ghost use Rattle.std.specs.Prelude.{◌≡◌, ◌≤◌, ◌<◌, ◌+◌, length, take, drop};
+ghost use Rattle.std.specs.List.{position_or_len};
+ghost use Rattle.ud_text.specs.Searches.{is_one_of, lowest_set_bit};
+
+use std::simd::Simd;
+use std::simd::prelude::*;
+
+/// Five bytes that are searched for. One of them may stand there more than once.
+pub(crate) type ByteSet = [u8; 5];
+
+/// Whether a byte is one of these.
+fn is_one_of(byte: u8, set: ByteSet) -> bool
+    ensures { result ≡ is_one_of set byte }
+{
+    byte == set[0] || byte == set[1] || byte == set[2] || byte == set[3] || byte == set[4]
+}
+
+/// The place of the lowest bit that is set, or `simd` if none is.
+#[inline(always)]
+pub(crate) fn lowest_set_bit(bits: u64, lanes: usize) -> usize
+    ensures { result ≡ lowest_set_bit bits lanes }
+{
+    if bits == 0 {
+        lanes
+    } else {
+        bits.trailing_zeros() as usize
+    }
+}
+
+/// How many of the `N` bytes from a place on stand before the first of these bytes; all if there is none.
+#[inline(always)]
+pub(crate) fn find_in_lanes<const N: usize>(bytes: &[u8], at: usize, set: ByteSet) -> usize
+    requires few { N ≤ 64 }
+    requires fits { at + N ≤ length bytes.now }
+    ensures value { result ≡ position_or_len (is_one_of set) (take N (drop at bytes.now)) }
+    ensures bound { result ≤ N }
+{
+    let lanes = Simd::<u8, N>::from_slice(&bytes[at..]);
+    let found = lanes.simd_eq(Simd::splat(set[0]))
+        | lanes.simd_eq(Simd::splat(set[1]))
+        | lanes.simd_eq(Simd::splat(set[2]))
+        | lanes.simd_eq(Simd::splat(set[3]))
+        | lanes.simd_eq(Simd::splat(set[4]));
+    lowest_set_bit(found.to_bitmask(), N)
+}
+
+/// The place of the first of these bytes, by `N` lanes. The number of bytes if there is none.
+#[inline(always)]
+fn find_by_lanes<const N: usize>(bytes: &[u8], set: ByteSet) -> usize
+    requires some { 0 < N }
+    requires few { N ≤ 64 }
+    requires fits { N ≤ length bytes.now }
+    ensures { result ≡ position_or_len (is_one_of set) bytes.now }
+{
+    let last = bytes.len() - N;
+    let mut at = 0;
+    while at < last {
+        let count = find_in_lanes::<N>(bytes, at, set);
+        if count < N {
+            return at + count;
+        }
+        at += N;
+    }
+    last + find_in_lanes::<N>(bytes, last, set)
+}
+
+/// The place of the first of these bytes, where one is near. The number of bytes if there is none.
+#[inline(always)]
+pub(crate) fn find_near(bytes: &[u8], set: ByteSet) -> usize
+    ensures value { result ≡ position_or_len (is_one_of set) bytes.now }
+    ensures bound { result ≤ length bytes.now }
+{
+    if bytes.len() >= 16 {
+        find_by_lanes::<16>(bytes, set)
+    } else if bytes.len() >= 8 {
+        find_by_lanes::<8>(bytes, set)
+    } else if bytes.len() >= 4 {
+        find_by_lanes::<4>(bytes, set)
+    } else {
+        bytes
+            .iter()
+            .position(|byte| is_one_of(*byte, set))
+            .unwrap_or(bytes.len())
+    }
+}

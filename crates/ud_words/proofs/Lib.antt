@@ -1,4 +1,0 @@
-pub mod LetterLemmas
-pub mod GivenLemmas
-pub mod OptionLemmas
-pub mod PlanLemmas
