@@ -1,11 +1,11 @@
 # make            proves the crates, builds the program and copies it to ./unifdef
 # make check      the merge gate: every proof from nothing, the edits that must be refused, the tests, the stored run
-# make edits      tries the wrong bodies in edits/, which the gate leaves out; CRATES='NAME ..' those of some crates
+# make edits      tries the second edits, which the gate leaves out; CRATES='NAME ..' those of some crates
 # make examples   runs the examples of README.md and docs/EXAMPLES.md with ./unifdef
 # make differences  runs what the manual says of the released unifdef, with both programs
-# make faults     runs ./unifdef with failing streams, refused memory and a small stack (faults/README.md)
+# make faults     runs ./unifdef with failing streams, refused memory and a small stack (tests/faults/README.md)
 # make fail-alloc lets each allocation of the program fail in turn, by the kit's fault injection
-# make tree-test  tries tree/unifdef-tree on trees with every trap, and interrupts it
+# make tree-test  tries tools/unifdef-tree on trees with every trap, and interrupts it
 # make install    installs ./unifdef, unifdef-tree, manuals and completions under DESTDIR and PREFIX; make uninstall takes them away
 # make dist       makes unifdef-VERSION.tar.gz of the last commit, which builds by itself
 # make deb        makes a Debian package of ./unifdef
@@ -58,36 +58,36 @@ check: kit
 	@$(RT) ci
 
 edits: kit
-	RT='$(RT)' edits/run.sh $(CRATES)
+	RT='$(RT)' tests/edits.sh $(CRATES)
 
 examples: unifdef
-	@examples/run.sh README.md
-	@examples/run.sh docs/EXAMPLES.md
-	@examples/quotes.sh docs/LIBRARY.md crates/example_library/src/*.rt
+	@tests/examples.sh README.md
+	@tests/examples.sh docs/EXAMPLES.md
+	@tests/quotes.sh docs/LIBRARY.md crates/example_library/src/*.rt
 
 differences: unifdef
-	@examples/differences.sh
+	@tests/differences.sh
 
 faults: unifdef
 	cd crates/test_memory && $(RT) run < /dev/null > /dev/null
-	faults/run.sh
+	tests/faults/run.sh
 
 fail-alloc: kit
-	RT='$(RT)' faults/fail-alloc.sh
+	RT='$(RT)' tests/faults/fail-alloc.sh
 
 tree-test: unifdef
-	@tree/test.sh
+	@tests/tree.sh
 
 install: unifdef
 	$(INSTALL) -d "$(DESTDIR)$(BINDIR)" "$(DESTDIR)$(MANDIR)/man1" "$(DESTDIR)$(DOCDIR)"
 	$(INSTALL) -d "$(DESTDIR)$(BASHDIR)" "$(DESTDIR)$(ZSHDIR)" "$(DESTDIR)$(FISHDIR)"
-	$(INSTALL) -m 755 unifdef tree/unifdef-tree "$(DESTDIR)$(BINDIR)"
+	$(INSTALL) -m 755 unifdef tools/unifdef-tree "$(DESTDIR)$(BINDIR)"
 	$(INSTALL) -m 644 docs/unifdef.1 docs/unifdef-tree.1 "$(DESTDIR)$(MANDIR)/man1"
 	$(INSTALL) -m 644 docs/DEFINITIONS.md LICENSE "$(DESTDIR)$(DOCDIR)"
-	$(INSTALL) -m 644 completions/unifdef.bash "$(DESTDIR)$(BASHDIR)/unifdef"
-	$(INSTALL) -m 644 completions/unifdef.bash "$(DESTDIR)$(BASHDIR)/unifdef-tree"
-	$(INSTALL) -m 644 completions/_unifdef "$(DESTDIR)$(ZSHDIR)"
-	$(INSTALL) -m 644 completions/unifdef.fish completions/unifdef-tree.fish "$(DESTDIR)$(FISHDIR)"
+	$(INSTALL) -m 644 packaging/completions/unifdef.bash "$(DESTDIR)$(BASHDIR)/unifdef"
+	$(INSTALL) -m 644 packaging/completions/unifdef.bash "$(DESTDIR)$(BASHDIR)/unifdef-tree"
+	$(INSTALL) -m 644 packaging/completions/_unifdef "$(DESTDIR)$(ZSHDIR)"
+	$(INSTALL) -m 644 packaging/completions/unifdef.fish packaging/completions/unifdef-tree.fish "$(DESTDIR)$(FISHDIR)"
 	@test -n "$(DESTDIR)" || packaging/warn.sh "$(BINDIR)"
 
 uninstall:
@@ -104,11 +104,11 @@ deb: unifdef
 	@MAKE="$(MAKE)" packaging/deb.sh
 
 packages-test: unifdef
-	@MAKE="$(MAKE)" packaging/test.sh
-	@completions/test.sh
+	@MAKE="$(MAKE)" tests/packages.sh
+	@tests/completions.sh
 
 manuals:
-	@packaging/lint.sh
+	@tools/lint.sh
 
 around: manuals examples differences faults tree-test packages-test
 

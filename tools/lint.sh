@@ -13,9 +13,9 @@ else
   echo 'manuals: mandoc is not there, so it is left out'
 fi
 mapfile -t scripts < <(find . \( -name .git -o -name crates \) -prune -o -type f -exec grep -lE '^#!.*[/ ](sh|bash)$' {} + | sort)
-scripts+=(completions/unifdef.bash)
+scripts+=(packaging/completions/unifdef.bash)
 if command -v shellcheck > /dev/null; then
-  shellcheck -s bash completions/unifdef.bash || result=1
+  shellcheck -s bash packaging/completions/unifdef.bash || result=1
   shellcheck "${scripts[@]}" || result=1
 else
   echo 'manuals: shellcheck is not there, so it is left out'

@@ -53,7 +53,7 @@ run_block() {
   rm -rf "$work/folder"
   mkdir "$work/folder"
   ln -s "$program" "$work/folder/unifdef"
-  ln -s "$here/../tree/unifdef-tree" "$work/folder/unifdef-tree"
+  ln -s "$here/../tools/unifdef-tree" "$work/folder/unifdef-tree"
   while IFS= read -r line || [ -n "$line" ]; do
     if [[ "$line" == "$ "* ]]; then
       if [ -n "$command" ]; then

@@ -3,13 +3,14 @@
 set -u -o pipefail
 here=$(cd "$(dirname "$0")" && pwd)
 program=$(realpath "${1:-$here/../unifdef}")
+completions=$here/../packaging/completions
 [ -x "$program" ] || { echo "completions: $program is not there: run make" >&2; exit 1; }
 
 work=$(mktemp -d)
 trap 'rm -rf "$work"' EXIT
 mkdir "$work/bin" "$work/here"
 ln -s "$program" "$work/bin/unifdef"
-ln -s "$here/../tree/unifdef-tree" "$work/bin/unifdef-tree"
+ln -s "$here/../tools/unifdef-tree" "$work/bin/unifdef-tree"
 export PATH=$work/bin:$PATH HOME=$work XDG_CONFIG_HOME=$work XDG_DATA_HOME=$work
 cd "$work/here" || exit 1
 printf '#if DEBUG > 1 && defined(DEEP)\n#endif\n' > a.h
@@ -24,10 +25,10 @@ in_bash() {
     [[ "$2" != *" " ]] || COMP_WORDS+=("")
     COMP_CWORD=$((${#COMP_WORDS[@]} - 1))
     _unifdef
-    printf "%s\n" "${COMPREPLY[@]}"' bash "$here" "$1"
+    printf "%s\n" "${COMPREPLY[@]}"' bash "$completions" "$1"
 }
 # shellcheck disable=SC2016 # The variables are those of the other shell.
-in_fish() { fish --no-config -c 'source $argv[1]/unifdef.fish; source $argv[1]/unifdef-tree.fish; complete -C $argv[2]' "$here" "$1"; }
+in_fish() { fish --no-config -c 'source $argv[1]/unifdef.fish; source $argv[1]/unifdef-tree.fish; complete -C $argv[2]' "$completions" "$1"; }
 # zsh completes at a terminal alone, so one is made for it.
 cat > "$work/ask.zsh" << 'END'
 zmodload zsh/zpty
@@ -50,7 +51,7 @@ zpty -d shell
 print -r -- $shown
 END
 in_zsh() {
-  timeout 30 zsh -f "$work/ask.zsh" "$here" "$1" | tr -d '\r' | sed 's/\x1b\[[0-9;]*[A-Za-z]/\n/g' | tr -s ' ' '\n'
+  timeout 30 zsh -f "$work/ask.zsh" "$completions" "$1" | tr -d '\r' | sed 's/\x1b\[[0-9;]*[A-Za-z]/\n/g' | tr -s ' ' '\n'
 }
 
 # offers SHELL LINE WANTED UNWANTED: what is offered for a line has one word and not the other.

@@ -6,8 +6,8 @@
 set -eu -o pipefail
 export LC_ALL=C
 here=$(cd "$(dirname "$0")" && pwd)
-program=$(realpath "${1:-$here/../unifdef}")
-table=${2:-$here/../crates/test_memory/out/test_memory}
+program=$(realpath "${1:-$here/../../unifdef}")
+table=${2:-$here/../../crates/test_memory/out/test_memory}
 
 [ -x "$program" ] || { echo "faults: $program is not there: run make" >&2; exit 1; }
 

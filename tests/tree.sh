@@ -1,7 +1,7 @@
 #!/usr/bin/env bash
 # Runs unifdef-tree over trees with every trap that its manual speaks of, and interrupts it in the middle.
 #
-# test.sh [PROGRAM]: with ./unifdef beside this folder, or PROGRAM. It goes through it once for each shell that is there.
+# test.sh [PROGRAM]: with ./unifdef, or PROGRAM. It goes through it once for each shell that is there.
 set -u -o pipefail
 export LC_ALL=C
 here=$(cd "$(dirname "$0")" && pwd)
@@ -30,7 +30,7 @@ check() {
 # tree WORDS..: runs unifdef-tree with the shell at hand; what it prints is in $work/out and $work/err.
 tree() {
   status=0
-  (cd "$work/run" && $shell "$here/unifdef-tree" "$@" > "$work/out" 2> "$work/err") || status=$?
+  (cd "$work/run" && $shell "$here/../tools/unifdef-tree" "$@" > "$work/out" 2> "$work/err") || status=$?
 }
 
 holds() { [ "$(cat "$1"; echo .)" = "$(printf '%b' "$2"; echo .)" ]; }
@@ -263,7 +263,7 @@ interrupts() {
     ln "src/linked$i.c" "src/other$i.c"
   done
   set -m
-  UNIFDEF=$work/slow $shell "$here/unifdef-tree" -j 3 -DA src > "$work/out" 2> "$work/err" &
+  UNIFDEF=$work/slow $shell "$here/../tools/unifdef-tree" -j 3 -DA src > "$work/out" 2> "$work/err" &
   pid=$!
   set +m
   for i in $(seq 1 500); do
@@ -305,7 +305,7 @@ interrupts_link() {
   printf '#!/bin/sh\n%s "$@"\ntouch "%s"\nsleep 0.5\n' "$(command -v dd)" "$work/run/writing" > bin/dd
   chmod +x bin/dd
   set -m
-  PATH=$work/run/bin:$PATH $shell "$here/unifdef-tree" -DA src > "$work/out" 2> "$work/err" &
+  PATH=$work/run/bin:$PATH $shell "$here/../tools/unifdef-tree" -DA src > "$work/out" 2> "$work/err" &
   pid=$!
   set +m
   for i in $(seq 1 200); do
@@ -327,7 +327,7 @@ counts() {
   for i in $(seq 1 40); do
     put "src/$i.c" "$text"
   done
-  UNIFDEF=$work/slow script -qec "$shell $here/unifdef-tree -j 1 -DA src" /dev/null < /dev/null > "$work/out"
+  UNIFDEF=$work/slow script -qec "$shell $here/../tools/unifdef-tree -j 1 -DA src" /dev/null < /dev/null > "$work/out"
   check 'counter: on a terminal' grep -q 'unifdef-tree: [0-9]* of 40 files' "$work/out"
   tree -DA src
   check 'counter: nowhere else' same "$(cat "$work/err")" 'unifdef-tree: 0 changed, 40 unchanged, 0 faulty'

@@ -10,7 +10,7 @@ words=(-DA -UB -DC=1)
 work=$(mktemp -d)
 trap 'rm -rf "$work"' EXIT
 printf '#ifdef A\nx\n#endif\n' > "$work/in"
-cd "$here/../crates/unifdef_cli"
+cd "$here/../../crates/unifdef_cli"
 
 # The message and the output with this allocation refused.
 answer_at() {
