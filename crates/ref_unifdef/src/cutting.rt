@@ -10,7 +10,8 @@ use ud_text::Line;
 pub(crate) fn cut_line(text: &[u8], number: u32) -> (Line<'_>, &[u8])
     requires some { 0 < length text.now }
     ensures one_line { NoNewline result.0.body.now }
-    ensures parts { length result.0.body.now + length result.0.ending.now + length result.1.now ≡ length text.now }
+    ensures parts { length result.0.body.now + length result.0.ending.now + length result.1.now ≡
+        length text.now }
     ensures shorter { length result.1.now < length text.now }
 {
     let Some(at) = memchr(b'\n', text) else {

@@ -73,7 +73,8 @@ impl<'a> Reader<'a> {
         ensures one_line { IfSome result (λ line. NoNewline line.body.now) }
         ensures fits { IfSome result (λ line. length line.body.now ≤ LINE_BYTES) }
         ensures left { length self.new.rest.now ≤ length self.old.rest.now }
-        ensures shorter { IfSome result (λ line. length self.new.rest.now < length self.old.rest.now) }
+        ensures shorter { IfSome result
+            (λ line. length self.new.rest.now < length self.old.rest.now) }
     {
         if self.fault.is_some() || self.rest.is_empty() {
             return None;
@@ -95,7 +96,8 @@ impl<'a> Reader<'a> {
     /// Reads the next line in this mode, in so many open sections; `None` at the end of the text and at a fault.
     fn next(&mut self, mode: Mode, level: usize) -> Result<Option<Row<'a>>, AllocError>
         ensures left { length self.new.rest.now ≤ length self.old.rest.now }
-        ensures shorter { IfOk result (λ row. IfSome row (λ r. length self.new.rest.now < length self.old.rest.now)) }
+        ensures shorter { IfOk result (λ row. IfSome row
+            (λ r. length self.new.rest.now < length self.old.rest.now)) }
     {
         let Some(line) = self.next_line() else {
             return Ok(None);
@@ -114,7 +116,8 @@ impl<'a> Reader<'a> {
     fn place(&mut self, mode: Mode, level: usize) -> Result<Place<'a>, AllocError>
         requires { level ≤ OPEN_SECTIONS }
         ensures left { OnOk result (length self.new.rest.now ≤ length self.old.rest.now) }
-        ensures shorter { IfOk result (λ place. IfSome place.closer (λ r. length self.new.rest.now < length self.old.rest.now)) }
+        ensures shorter { IfOk result (λ place. IfSome place.closer
+            (λ r. length self.new.rest.now < length self.old.rest.now)) }
     {
         let mut nodes = Vec::new(self.alloc);
         'lines: while let Some(row) = self.next(mode, level)? {

@@ -1,6 +1,7 @@
 //! Printing any lines by any printer, which is known by what the trait says alone.
 
-ghost use Rattle.std.specs.Prelude.{◌≡◌, [], ◌∷◌, ◌++◌, List, ℕ, map, not, bytes_eq, All, IfOk, OnOk};
+ghost use Rattle.std.specs.Prelude.{◌≡◌, [], ◌∷◌, ◌++◌, List, ℕ, map, not, bytes_eq, All, IfOk};
+ghost use Rattle.std.specs.Prelude.{OnOk};
 ghost use Rattle.std.specs.List.{concat, flat_map};
 ghost use Rattle.ud_model.specs.text.Lines.{text_of};
 ghost use Rattle.ud_model.specs.answer.Printing.{Judged, pieces_by, some_other};
@@ -43,9 +44,12 @@ fn print_next<S: Show>(
     ensures printed { (before : List Judged) → S.represents show.old before → OnOk result
         (out.new.items ≡ out.old.items ++ S.piece show.old before (judged_step line.now step)) }
     ensures same { (before : List Judged) → S.represents show.old before → IfOk result (λ same.
-        same ≡ bytes_eq (S.piece show.old before (judged_step line.now step)) (text_of (as_line line.now))) }
-    ensures stands { (before : List Judged) → S.represents show.old before → S.represents show.new (before ++ judged_step line.now step ∷ []) }
-    ensures piece { (before : List Judged) → (j : Judged) → S.piece show.new before j ≡ S.piece show.old before j }
+        same ≡ bytes_eq (S.piece show.old before (judged_step line.now step))
+        (text_of (as_line line.now))) }
+    ensures stands { (before : List Judged) → S.represents show.old before →
+        S.represents show.new (before ++ judged_step line.now step ∷ []) }
+    ensures piece { (before : List Judged) → (j : Judged) →
+        S.piece show.new before j ≡ S.piece show.old before j }
 {
     let line = Line {
         body: line.body,
@@ -69,9 +73,11 @@ pub(crate) fn print_all<S: Show>(
 ) -> Result<bool, AllocError>
     requires { All HoldsItsKeyword lines.now }
     ensures printed { (before : List Judged) → S.represents show.old before → OnOk result
-        (out.new.items ≡ out.old.items ++ concat (pieces_by (S.piece show.old) before (map judged_of lines.now))) }
+        (out.new.items ≡ out.old.items ++
+        concat (pieces_by (S.piece show.old) before (map judged_of lines.now))) }
     ensures same { (before : List Judged) → S.represents show.old before → IfOk result (λ same.
-        not same ≡ some_other (pieces_by (S.piece show.old) before (map judged_of lines.now)) (map judged_of lines.now)) }
+        not same ≡ some_other (pieces_by (S.piece show.old) before (map judged_of lines.now))
+        (map judged_of lines.now)) }
 {
     let mut same = true;
     for ruled in lines {

@@ -3,12 +3,16 @@
 --   parsed_arg given      what the code gives, as the definitions have it
 --   remaining_args line   all that a command line of the code still gives
 --   parsed_then next      what its next call gives, and all that is given after it
-use Rattle.std.specs.Prelude.{ℕ, List, [], ◌∷◌, map, chars, string_bytes, Option, Some, None, if◌then◌else◌}
-use Rattle.ud_model.specs.answer.CommandLine.{flag, option, operand, unknown, lacking, operands_from, parsed_letters, parsed_from, parsed_after_option}
+use Rattle.std.specs.Prelude.{ℕ, List, [], ◌∷◌, map, chars, string_bytes, Option, Some, None}
+use Rattle.std.specs.Prelude.{if◌then◌else◌}
+use Rattle.ud_model.specs.answer.CommandLine.{flag, option, operand, unknown, lacking}
+use Rattle.ud_model.specs.answer.CommandLine.{operands_from, parsed_letters, parsed_from}
+use Rattle.ud_model.specs.answer.CommandLine.{parsed_after_option}
 use Rattle.ud_model.specs.answer.CommandLine.{ParsedArg as GivenInWords}
 use Rattle.ud_args.specs.declared.command_line.CommandLine.{CommandLine}
 use Rattle.ud_args.specs.declared.command_line.ParsedArg.{ParsedArg}
-use Rattle.ud_args.specs.declared.command_line.ParsedArg.TheVariants.{Flag, WithArgument, Operand, Unknown, MissingArgument}
+use Rattle.ud_args.specs.declared.command_line.ParsedArg.TheVariants.{Flag, WithArgument, Operand}
+use Rattle.ud_args.specs.declared.command_line.ParsedArg.TheVariants.{Unknown, MissingArgument}
 
 abbrev pub parsed_arg : ParsedArg → GivenInWords
 parsed_arg (Flag letter) = flag letter
@@ -19,7 +23,8 @@ parsed_arg (MissingArgument letter) = lacking letter
 
 -- what these letters give in front of these words, of which so many were read before
 abbrev pub parsed_after_letters : ℕ → List ℕ → List (List ℕ) → List GivenInWords
-parsed_after_letters read letters args = parsed_letters read letters (λ c. parsed_after_option c read args) (parsed_from read args)
+parsed_after_letters read letters args =
+    parsed_letters read letters (λ c. parsed_after_option c read args) (parsed_from read args)
 
 -- all that is still to be given
 abbrev pub remaining_args : CommandLine → List GivenInWords

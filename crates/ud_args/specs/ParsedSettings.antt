@@ -7,22 +7,32 @@
 --                        only as a symbol is put into the table
 --   with_flag s c        the settings with one more flag
 --   after_first bytes    what stands after the first of some bytes
-use Rattle.std.specs.Prelude.{◌≡◌, ℕ, List, [], ◌∷◌, false, ◌||◌, Option, Some, None, option_map, codes, if◌then◌else◌}
+use Rattle.std.specs.Prelude.{◌≡◌, ℕ, List, [], ◌∷◌, false, ◌||◌, Option, Some, None, option_map}
+use Rattle.std.specs.Prelude.{codes, if◌then◌else◌}
 use Rattle.ud_model.specs.conditions.Table.{Argument}
 use Rattle.ud_model.specs.declared.settings.Settings.{Settings}
 use Rattle.ud_model.specs.declared.settings.Listing.{Listing}
 use Rattle.ud_model.specs.declared.settings.Listing.TheVariants.{Off, Names, Depths}
-use Rattle.ud_model.specs.answer.CommandLine.{flag, option, operand, has_letter, parse_symbol, parse_exit_mode, first_fault, UsageFault, unknown_option, missing_argument, bad_symbol_in, bad_mode_in, too_many_files}
+use Rattle.ud_model.specs.answer.CommandLine.{flag, option, operand, has_letter, parse_symbol}
+use Rattle.ud_model.specs.answer.CommandLine.{parse_exit_mode, first_fault, UsageFault}
+use Rattle.ud_model.specs.answer.CommandLine.{unknown_option, missing_argument, bad_symbol_in}
+use Rattle.ud_model.specs.answer.CommandLine.{bad_mode_in, too_many_files}
 use Rattle.ud_model.specs.answer.CommandLine.{ParsedArg as GivenInWords}
 use Rattle.ud_args.specs.SymbolStorage.{StoresSymbol}
 use Rattle.ud_args.specs.declared.options.Symbol.{Symbol}
 use Rattle.ud_args.specs.declared.options.Setting.{Setting}
 use Rattle.ud_args.specs.declared.options.Setting.TheVariants as said
 use Rattle.ud_args.specs.declared.usage.Usage.{Usage}
-use Rattle.ud_args.specs.declared.usage.Usage.TheVariants.{UnknownOption, MissingArgument, BadSymbol, BadMode, TooManyFiles, OutOfMemory}
+use Rattle.ud_args.specs.declared.usage.Usage.TheVariants.{UnknownOption, MissingArgument}
+use Rattle.ud_args.specs.declared.usage.Usage.TheVariants.{BadSymbol, BadMode, TooManyFiles}
+use Rattle.ud_args.specs.declared.usage.Usage.TheVariants.{OutOfMemory}
 
 abbrev pub as_argument : Symbol → Argument
-as_argument s = record { name = s.name.now; entry = record { value = option_map (λ v. v.now) s.value; ignoring = s.ignoring } }
+as_argument s = record {
+  name = s.name.now;
+  entry =
+      record { value = option_map (λ v. v.now) s.value; ignoring = s.ignoring };
+}
 
 -- what an option says of a symbol
 pub record SetsSymbol (g : GivenInWords) (s : Argument) : Type 0 where
@@ -35,7 +45,8 @@ pub record SetsSymbol (g : GivenInWords) (s : Argument) : Type 0 where
 
 abbrev pub IsSetting : GivenInWords → Setting → Type 0
 IsSetting g (said.Flag letter) = g ≡ flag letter
-IsSetting g (said.Mode mode) = (word : ℕ) × (argument : List ℕ) × (g ≡ option 120 word argument) × (parse_exit_mode argument ≡ Some mode)
+IsSetting g (said.Mode mode) = (word : ℕ) × (argument : List ℕ) × (g ≡ option 120 word argument) ×
+    (parse_exit_mode argument ≡ Some mode)
 IsSetting g (said.Symbol s) = SetsSymbol g (as_argument s)
 IsSetting g (said.Operand index name) = g ≡ operand index name.now
 
@@ -57,7 +68,10 @@ with_names Names = Names
 with_names Depths = Depths
 
 abbrev pub listing_with : Listing → ℕ → Listing
-listing_with l c = if has_letter (codes "S") c then Depths else if has_letter (codes "s") c then with_names l else l
+listing_with l c =
+    if has_letter (codes "S") c then Depths
+    else if has_letter (codes "s") c then with_names l
+    else l
 
 abbrev pub with_flag : Settings → ℕ → Settings
 with_flag s c = record {

@@ -4,7 +4,9 @@
 //! told by `options`. Reading takes no memory.
 
 ghost use Rattle.std.specs.Prelude.{◌≡◌, ◌∷◌, ◌+◌, ◌<◌, ◌^◌, length, map, chars, string_bytes};
-ghost use Rattle.ud_model.specs.answer.CommandLine.{is_flag, takes_argument, option_letters, operands_from, parsed_option, parsed_letters, parsed_from, parsed_after_option, parsed_args};
+ghost use Rattle.ud_model.specs.answer.CommandLine.{is_flag, takes_argument, option_letters};
+ghost use Rattle.ud_model.specs.answer.CommandLine.{operands_from, parsed_option, parsed_letters};
+ghost use Rattle.ud_model.specs.answer.CommandLine.{parsed_from, parsed_after_option, parsed_args};
 ghost use Rattle.ud_args.specs.LetterSplits.{letters_then, bytes_then};
 
 /// What is given in the words.
@@ -79,7 +81,8 @@ impl<'a> CommandLine<'a> {
 
     /// The next word, if no letters are left.
     fn next_arg(&self) -> Option<(ParsedArg<'a>, CommandLine<'a>)>
-        ensures { parsed_from self.now.read (map string_bytes self.now.args.now) ≡ parsed_then result }
+        ensures { parsed_from self.now.read (map string_bytes self.now.args.now) ≡
+            parsed_then result }
     {
         let (word, args) = self.args.split_first()?;
         let behind = CommandLine {
@@ -99,7 +102,8 @@ impl<'a> CommandLine<'a> {
 
     /// The next word as an operand, as all after it are.
     fn operand(&self) -> Option<(ParsedArg<'a>, CommandLine<'a>)>
-        ensures { operands_from self.now.read (map string_bytes self.now.args.now) ≡ parsed_then result }
+        ensures { operands_from self.now.read (map string_bytes self.now.args.now) ≡
+            parsed_then result }
     {
         let (word, args) = self.args.split_first()?;
         let name = word.as_bytes();
@@ -117,7 +121,8 @@ impl<'a> CommandLine<'a> {
     fn option(&self, letter: char, behind: &'a str) -> (ParsedArg<'a>, CommandLine<'a>)
         ensures { parsed_letters self.now.read (letter ∷ chars behind.now)
             (λ c. parsed_after_option c self.now.read (map string_bytes self.now.args.now))
-            (parsed_from self.now.read (map string_bytes self.now.args.now)) ≡ parsed_arg result.0 ∷ remaining_args result.1 }
+            (parsed_from self.now.read (map string_bytes self.now.args.now)) ≡ parsed_arg result.0 ∷
+            remaining_args result.1 }
     {
         if takes_argument(letter) {
             return self.option_with_argument(letter, behind);
@@ -139,7 +144,8 @@ impl<'a> CommandLine<'a> {
     ) -> (ParsedArg<'a>, CommandLine<'a>)
         ensures { parsed_option letter self.now.read (chars behind.now)
             (parsed_after_option letter self.now.read (map string_bytes self.now.args.now))
-            (parsed_from self.now.read (map string_bytes self.now.args.now)) ≡ parsed_arg result.0 ∷ remaining_args result.1 }
+            (parsed_from self.now.read (map string_bytes self.now.args.now)) ≡ parsed_arg result.0 ∷
+            remaining_args result.1 }
     {
         if !behind.is_empty() {
             let word = self.read;

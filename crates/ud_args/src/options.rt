@@ -1,11 +1,16 @@
 //! What options and operands say, and what is wrong with them (unifdef(1)).
 
-ghost use Rattle.std.specs.Prelude.{◌≡◌, ◌≤◌, ◌++◌, ◌∷◌, List, length, take, drop, None, false, is_some, option_map, IfOk, IfErr};
-ghost use Rattle.ud_model.specs.answer.CommandLine.{option, parse_exit_mode, parse_symbol, parse_ignoring_symbol, parse_define, parse_undefine, symbol_named, first_fault, operand_in};
+ghost use Rattle.std.specs.Prelude.{◌≡◌, ◌≤◌, ◌++◌, ◌∷◌, List, length, take, drop, None, false};
+ghost use Rattle.std.specs.Prelude.{is_some, option_map, IfOk, IfErr};
+ghost use Rattle.ud_model.specs.answer.CommandLine.{option, parse_exit_mode, parse_symbol};
+ghost use Rattle.ud_model.specs.answer.CommandLine.{parse_ignoring_symbol, parse_define};
+ghost use Rattle.ud_model.specs.answer.CommandLine.{parse_undefine, symbol_named, first_fault};
+ghost use Rattle.ud_model.specs.answer.CommandLine.{operand_in};
 ghost use Rattle.ud_model.specs.answer.CommandLine.{ParsedArg as GivenInWords};
 ghost use Rattle.ud_model.specs.answer.SymbolArguments.{name_before_equals, value_after_equals};
 ghost use Rattle.ud_args.specs.ParsedArgs.{parsed_arg};
-ghost use Rattle.ud_args.specs.ParsedSettings.{IsSetting, IsFaultOf, as_argument, with_flag, with_names, after_first};
+ghost use Rattle.ud_args.specs.ParsedSettings.{IsSetting, IsFaultOf, as_argument, with_flag};
+ghost use Rattle.ud_args.specs.ParsedSettings.{with_names, after_first};
 
 use crate::command_line::ParsedArg;
 use crate::usage::Usage;
@@ -45,7 +50,8 @@ pub(crate) fn parse_arg<'a>(
     behind_operand: bool,
 ) -> Result<Setting<'a>, Usage>
     ensures ok { IfOk result (IsSetting (parsed_arg given.entry)) }
-    ensures err { (gs : List GivenInWords) → (more : List GivenInWords) → first_fault gs ≡ None → is_some (operand_in gs) ≡ behind_operand
+    ensures err { (gs : List GivenInWords) → (more : List GivenInWords) → first_fault gs ≡ None →
+        is_some (operand_in gs) ≡ behind_operand
         → IfErr result (IsFaultOf (first_fault (gs ++ parsed_arg given.entry ∷ more))) }
     ensures first { IfOk result (λ s. behind_operand ≡ false) }
 {
@@ -61,7 +67,8 @@ pub(crate) fn parse_arg<'a>(
 /// `UnknownOption`, `MissingArgument`, `BadSymbol` and `BadMode`, each for what is given alone.
 fn parse_setting<'a>(given: ParsedArg<'a>) -> Result<Setting<'a>, Usage>
     ensures ok { IfOk result (IsSetting (parsed_arg given.entry)) }
-    ensures err { (more : List GivenInWords) → IfErr result (IsFaultOf (first_fault (parsed_arg given.entry ∷ more))) }
+    ensures err { (more : List GivenInWords) →
+        IfErr result (IsFaultOf (first_fault (parsed_arg given.entry ∷ more))) }
 {
     match given {
         ParsedArg::Flag { letter } => Ok(Setting::Flag { letter }),
@@ -83,7 +90,8 @@ fn parse_option_with_argument(
     argument: &[u8],
 ) -> Result<Setting<'_>, Usage>
     ensures ok { IfOk result (IsSetting (option letter word argument.now)) }
-    ensures err { (more : List GivenInWords) → IfErr result (IsFaultOf (first_fault (option letter word argument.now ∷ more))) }
+    ensures err { (more : List GivenInWords) →
+        IfErr result (IsFaultOf (first_fault (option letter word argument.now ∷ more))) }
 {
     if letter == 'x' {
         let mode = parse_exit_mode(argument).ok_or(Usage::BadMode { word })?;
@@ -154,7 +162,8 @@ fn parse_undefine(argument: &[u8], ignoring: bool) -> Option<Symbol<'_>>
 
 /// A symbol of this name; `None` if no symbol may have it.
 fn symbol_named<'a>(name: &'a [u8], value: Option<&'a [u8]>, ignoring: bool) -> Option<Symbol<'a>>
-    ensures { option_map as_argument result ≡ symbol_named name.now (option_map (λ v. v.now) value.entry) ignoring }
+    ensures { option_map as_argument result ≡
+        symbol_named name.now (option_map (λ v. v.now) value.entry) ignoring }
 {
     if !is_name(name) {
         return None;

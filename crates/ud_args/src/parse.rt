@@ -1,7 +1,9 @@
 //! Reading the words of a command line: what they say, and where they are faulty.
 
-ghost use Rattle.std.specs.Prelude.{◌≡◌, ◌∷◌, [], None, Some, map, string_bytes, option_map, IfOk, IfErr};
-ghost use Rattle.ud_model.specs.answer.CommandLine.{ParsedArg, usage_fault, parsed_args, operand_in, input_of, display_name};
+ghost use Rattle.std.specs.Prelude.{◌≡◌, ◌∷◌, [], None, Some, map, string_bytes, option_map, IfOk};
+ghost use Rattle.std.specs.Prelude.{IfErr};
+ghost use Rattle.ud_model.specs.answer.CommandLine.{ParsedArg, usage_fault, parsed_args};
+ghost use Rattle.ud_model.specs.answer.CommandLine.{operand_in, input_of, display_name};
 ghost use Rattle.ud_args.specs.ParsedSettings.{IsSetting, IsFaultOf, IsUsageOf};
 ghost use Rattle.ud_args.specs.Plans.{IsPlanOf, as_operand};
 
@@ -49,7 +51,8 @@ pub fn input_of(args: &[String]) -> Option<usize>
 /// How messages call the input of words that have no fault: by the operand's bytes, or `stdin` if there is no operand
 /// or it is `-`. Takes no memory.
 pub fn display_name(args: &[String]) -> &[u8]
-    ensures { usage_fault (map string_bytes args.now) ≡ None → result.now ≡ display_name (map string_bytes args.now) }
+    ensures { usage_fault (map string_bytes args.now) ≡ None →
+        result.now ≡ display_name (map string_bytes args.now) }
 {
     match find_operand(args) {
         Ok(Some(operand)) => operand.display_name(),
@@ -115,7 +118,8 @@ fn find_operand(args: &[String]) -> Result<Option<Operand<'_>>, Usage>
 
 /// The operand, where it is one that was given.
 fn as_operand(said: Setting<'_>) -> Option<Operand<'_>>
-    ensures { (g : ParsedArg) → IsSetting g said.entry → option_map as_operand result ≡ operand_in (g ∷ []) }
+    ensures { (g : ParsedArg) → IsSetting g said.entry →
+        option_map as_operand result ≡ operand_in (g ∷ []) }
 {
     match said {
         Setting::Operand { index, name } => Some(Operand { index, name }),

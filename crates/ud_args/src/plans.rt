@@ -33,7 +33,12 @@ impl Model for Plan {
 
     ghost Value = { PlanState };
 
-    ghost view = { λ p. record { settings = p.settings; symbols = p.symbols; operand = p.operand } };
+    ghost view = { λ p. record {
+      settings = p.settings;
+      symbols = p.symbols;
+      operand =
+          p.operand;
+    } };
 }
 
 impl Plan {
@@ -75,8 +80,10 @@ impl Plan {
     /// What is wrong with it, or, where it is right and says something of a symbol, that memory for that was refused. The
     /// plan is then of no use.
     pub(crate) fn apply(&mut self, given: ParsedArg<'_>) -> Result<(), Usage>
-        ensures ok { (gs : List GivenInWords) → PlanRepresents self.old gs → OnOk result (PlanRepresents self.new (gs ++ parsed_arg given.entry ∷ [])) }
-        ensures err { (gs : List GivenInWords) → PlanRepresents self.old gs → (more : List GivenInWords)
+        ensures ok { (gs : List GivenInWords) → PlanRepresents self.old gs →
+            OnOk result (PlanRepresents self.new (gs ++ parsed_arg given.entry ∷ [])) }
+        ensures err { (gs : List GivenInWords) → PlanRepresents self.old gs →
+            (more : List GivenInWords)
             → IfErr result (IsUsageOf (gs ++ parsed_arg given.entry ∷ more)) }
     {
         match parse_arg(given, self.operand.is_some()) {
@@ -90,9 +97,11 @@ impl Plan {
     /// # Errors
     /// `OutOfMemory` if memory for a symbol is refused.
     fn set(&mut self, said: Setting<'_>) -> Result<(), Usage>
-        ensures ok { (gs : List GivenInWords) → (g : GivenInWords) → PlanRepresents self.old gs → self.old.operand ≡ None → IsSetting g said.entry
+        ensures ok { (gs : List GivenInWords) → (g : GivenInWords) → PlanRepresents self.old gs →
+            self.old.operand ≡ None → IsSetting g said.entry
             → OnOk result (PlanRepresents self.new (gs ++ g ∷ [])) }
-        ensures err { (g : GivenInWords) → IsSetting g said.entry → IfErr result (λ u. (u ≡ Usage.OutOfMemory) × IsSome (argument_in g)) }
+        ensures err { (g : GivenInWords) → IsSetting g said.entry →
+            IfErr result (λ u. (u ≡ Usage.OutOfMemory) × IsSome (argument_in g)) }
     {
         match said {
             Setting::Flag { letter } => {
@@ -118,7 +127,8 @@ impl Plan {
     fn set_symbol(&mut self, symbol: Symbol<'_>) -> Result<(), Usage>
         ensures ok { OnOk result ((calls : List Argument) → TableRepresents self.old.symbols calls
             → TableRepresents self.new.symbols (calls ++ as_argument symbol.entry ∷ [])) }
-        ensures same { (self.new.settings ≡ self.old.settings) × (self.new.operand ≡ self.old.operand) }
+        ensures same { (self.new.settings ≡ self.old.settings) ×
+            (self.new.operand ≡ self.old.operand) }
         ensures err { IfErr result (λ u. u ≡ Usage.OutOfMemory) }
     {
         let said = match symbol.value {

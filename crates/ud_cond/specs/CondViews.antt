@@ -12,7 +12,8 @@ use Rattle.ud_cond.specs.declared.constants.Base.TheVariants.{Octal, Decimal, He
 use Rattle.ud_cond.specs.declared.constants.ConstantParts as parts
 use Rattle.ud_model.specs.text.Bytes.{is_digit}
 use Rattle.ud_model.specs.conditions.Constants.{ConstantParts, is_octal_digit, is_hex_digit}
-use Rattle.ud_model.specs.conditions.Tokens.{Token, number, name, defined, operator, opening, closing, NextToken, at_end, unreadable, found}
+use Rattle.ud_model.specs.conditions.Tokens.{Token, number, name, defined, operator, opening}
+use Rattle.ud_model.specs.conditions.Tokens.{closing, NextToken, at_end, unreadable, found}
 use Rattle.ud_model.specs.conditions.Table.{Argument, Entry}
 use Rattle.ud_model.specs.conditions.Conditions.{Rules, Decision}
 
@@ -22,7 +23,8 @@ as_entry e = record { value = option_map (λ v. v.now) e.value; ignoring = e.ign
 
 -- the call that says of a name that it has this value, or that it is undefined
 abbrev pub argument_for : List ℕ → Option (List ℕ) → Bool → Argument
-argument_for n value ignoring = record { name = n; entry = record { value = value; ignoring = ignoring } }
+argument_for n value ignoring =
+    record { name = n; entry = record { value = value; ignoring = ignoring } }
 
 abbrev pub as_rules : rules.Rules → Rules
 as_rules r = record { constants = r.constants; strict = r.strict }

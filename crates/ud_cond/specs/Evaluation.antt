@@ -5,15 +5,19 @@
 --   value_meaning table strict u     what each part of an expression is worth, u saying whether the whole has a `u`
 --   value_of_tree table strict u e   what a tree is worth
 --   cond_of_value rules v            what a value decides
-use Rattle.std.specs.Prelude.{ℕ, List, [], Option, Some, None, Bool, true, false, ◌||◌, ◌&&◌, not, if◌then◌else◌}
+use Rattle.std.specs.Prelude.{ℕ, List, [], Option, Some, None, Bool, true, false, ◌||◌, ◌&&◌, not}
+use Rattle.std.specs.Prelude.{if◌then◌else◌}
 use Rattle.std.specs.Borrow.{Bor}
 use Rattle.ud_model.specs.conditions.Table.{Argument, entry_in}
 use Rattle.ud_model.specs.conditions.Constants.{has_u}
 use Rattle.ud_model.specs.conditions.Symbols.{resolve}
 use Rattle.ud_model.specs.conditions.Expressions.{Expression}
 use Rattle.ud_model.specs.aids.Parsing.{Meaning}
-use Rattle.ud_model.specs.conditions.Values.{constant_value, end_value, name_value, name_has_u, defined_value, apply_unary, apply_binary, number_of, has_unsigned}
-use Rattle.ud_model.specs.conditions.Conditions.{Rules, is_listed, undefined_by, mentions_listed, calls_undefined, truth_of}
+use Rattle.ud_model.specs.conditions.Values.{constant_value, end_value, name_value, name_has_u}
+use Rattle.ud_model.specs.conditions.Values.{defined_value, apply_unary, apply_binary, number_of}
+use Rattle.ud_model.specs.conditions.Values.{has_unsigned}
+use Rattle.ud_model.specs.conditions.Conditions.{Rules, is_listed, undefined_by, mentions_listed}
+use Rattle.ud_model.specs.conditions.Conditions.{calls_undefined, truth_of}
 use Rattle.ud_model.specs.declared.operator.Operator.{Operator}
 use Rattle.ud_model.specs.declared.cond.Cond.{Cond}
 use Rattle.ud_model.specs.declared.cond.Cond.TheVariants.{Unknown}
@@ -21,19 +25,42 @@ use Rattle.ud_cond.specs.declared.values.Value.{Value}
 use Rattle.ud_cond.specs.declared.values.Scope.{Scope}
 
 abbrev pub constant_value_of : List ℕ → Value
-constant_value_of w = record { number = constant_value w; unsigned = has_u w; listed = false; calls_undefined = false }
+constant_value_of w = record {
+  number = constant_value w;
+  unsigned = has_u w;
+  listed = false;
+  calls_undefined = false;
+}
 
 module _ (table : List Argument) where
   abbrev pub name_value_of : Bool → List ℕ → Bool → Value
   name_value_of u n arguments =
-      record { number = name_value table u n; unsigned = name_has_u table n; listed = is_listed table n; calls_undefined = arguments && undefined_by (entry_in table n) }
+      record {
+        number = name_value table u n;
+        unsigned = name_has_u table n;
+        listed =
+            is_listed table n;
+        calls_undefined = arguments && undefined_by (entry_in table n);
+      }
 
   -- of a name that the table defines
   abbrev pub defined_name_value_of : Bool → List ℕ → Value
-  defined_name_value_of u n = record { number = end_value u (resolve table n); unsigned = name_has_u table n; listed = true; calls_undefined = false }
+  defined_name_value_of u n = record {
+    number = end_value u (resolve table n);
+    unsigned =
+        name_has_u table n;
+    listed = true;
+    calls_undefined = false;
+  }
 
   abbrev pub defined_value_of : List ℕ → Value
-  defined_value_of n = record { number = defined_value table n; unsigned = false; listed = is_listed table n; calls_undefined = false }
+  defined_value_of n = record {
+    number = defined_value table n;
+    unsigned = false;
+    listed =
+        is_listed table n;
+    calls_undefined = false;
+  }
 
 abbrev pub unary_value_of : Bool → Operator → Value → Value
 unary_value_of u o a = record a { number = apply_unary u o a.number }
@@ -79,4 +106,6 @@ value_of_tree table strict u e = record {
 
 -- what a value decides
 abbrev pub cond_of_value : Rules → Value → Cond
-cond_of_value rules v = if v.calls_undefined || not (rules.constants || v.listed) then Unknown else truth_of v.number
+cond_of_value rules v =
+    if v.calls_undefined || not (rules.constants || v.listed) then Unknown
+    else truth_of v.number

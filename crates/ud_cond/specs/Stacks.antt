@@ -8,7 +8,8 @@
 --   weight s           how many bytes of the text what waits has at least
 --   IsSettled j s      nothing of level j or tighter waits on top
 --   parse_state v s    where the reading stands, if an operand has come and if none has
-use Rattle.std.specs.Prelude.{ℕ, ◌<◌, ◌≤◌, ◌+◌, ◌*◌, Bool, true, false, List, [], ◌∷◌, Option, Some, None}
+use Rattle.std.specs.Prelude.{ℕ, ◌<◌, ◌≤◌, ◌+◌, ◌*◌, Bool, true, false, List, [], ◌∷◌, Option, Some}
+use Rattle.std.specs.Prelude.{None}
 use Rattle.ud_model.specs.conditions.Expressions.{precedence}
 use Rattle.ud_model.specs.aids.Parsing.{Frame, left, before, paren, ParseState, needs, has}
 use Rattle.ud_model.specs.declared.operator.Operator.{Operator}

@@ -7,7 +7,8 @@
 --   AreSorted rows                each row's name comes before the names of the rows after it, so no two have one name
 --   IsRowOf rows i name           row i names it
 --   IsGapFor rows i name          the name comes after those of the rows before place i, and before those of the rows from there on
-use Rattle.std.specs.Prelude.{◌≡◌, ℕ, ◌<◌, ◌≤◌, List, [], length, get_or, None, Some, bytes_eq, false, if◌then◌else◌}
+use Rattle.std.specs.Prelude.{◌≡◌, ℕ, ◌<◌, ◌≤◌, List, [], length, get_or, None, Some, bytes_eq}
+use Rattle.std.specs.Prelude.{false, if◌then◌else◌}
 use Rattle.std.specs.Ordering.{nat_cmp, ordering_then}
 use Rattle.std.specs.declared.cmp.Ordering.{Ordering}
 use Rattle.std.specs.declared.cmp.Ordering.TheVariants.{Less, Greater}
@@ -21,7 +22,8 @@ TableRepresents table calls = (name : List ℕ) → entry_in table name ≡ entr
 
 -- the new table says this of its name, and of every other name what the old one says
 abbrev pub SetsEntry : List Argument → List Argument → Argument → Type 0
-SetsEntry old new a = (name : List ℕ) → entry_in new name ≡ (if bytes_eq a.name name then Some a.entry else entry_in old name)
+SetsEntry old new a = (name : List ℕ) →
+    entry_in new name ≡ (if bytes_eq a.name name then Some a.entry else entry_in old name)
 
 -- how one name stands to another with the same key: by their lengths, and by their bytes if these are equal
 abbrev pub same_key_cmp : List ℕ → List ℕ → Ordering
@@ -41,7 +43,8 @@ name_at rows i = (get_or rows i no_row).name
 
 -- each row's name comes before the names of the rows after it
 abbrev pub AreSorted : List Argument → Type 0
-AreSorted rows = (i j : ℕ) → i < j → j < length rows → name_cmp (name_at rows i) (name_at rows j) ≡ Less
+AreSorted rows = (i j : ℕ) → i < j → j < length rows →
+    name_cmp (name_at rows i) (name_at rows j) ≡ Less
 
 -- row i names it
 pub record IsRowOf (rows : List Argument) (i : ℕ) (name : List ℕ) : Type 0 where

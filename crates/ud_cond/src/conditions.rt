@@ -163,7 +163,8 @@ fn negate(cond: Cond) -> Cond
 #[inline(always)]
 fn condition_by_test(test: Test, text: &[u8], symbols: &Symbols, rules: Rules) -> Answer
     requires fits { length text.now ≤ LINE_BYTES }
-    ensures { as_decision result ≡ spec.decision_by_test test text.now symbols.now (as_rules rules) }
+    ensures { as_decision result ≡
+        spec.decision_by_test test text.now symbols.now (as_rules rules) }
 {
     match test {
         Test::Nonzero => Answer {
@@ -207,7 +208,8 @@ fn condition_by_kind(kind: Kind, text: &[u8], symbols: &Symbols, rules: Rules) -
 #[inline(always)]
 pub fn condition(kind: Kind, text: &[u8], symbols: &Symbols, rules: Rules) -> Answer
     requires fits { length text.now ≤ LINE_BYTES }
-    ensures { (calls : List Argument) → TableRepresents symbols.now calls → as_decision result ≡ spec.condition_of kind text.now calls (as_rules rules) }
+    ensures { (calls : List Argument) → TableRepresents symbols.now calls →
+        as_decision result ≡ spec.condition_of kind text.now calls (as_rules rules) }
 {
     condition_by_kind(kind, text, symbols, rules)
 }

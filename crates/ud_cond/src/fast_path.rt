@@ -62,8 +62,13 @@ impl PendingSlot {
     /// it is of a level or tighter.
     #[inline(always)]
     fn apply_pending(&mut self, scope: &Scope<'_>, least: u8, value: &mut Value) -> bool
-        ensures yes { IsTrue result → (s : List (Frame Value)) → (spec.reduce (value_meaning_in scope.now) least value.old (pending_in self.old s) ≡ spec.reduce (value_meaning_in scope.now) least value.new s) × (pending_in self.new s ≡ s) }
-        ensures no { result ≡ false → (s : List (Frame Value)) → spec.reduce (value_meaning_in scope.now) least value.old (pending_in self.old s) ≡ (value.new, pending_in self.new s) }
+        ensures yes { IsTrue result → (s : List (Frame Value)) →
+            (spec.reduce (value_meaning_in scope.now) least value.old (pending_in self.old s) ≡
+            spec.reduce (value_meaning_in scope.now) least value.new s) ×
+            (pending_in self.new s ≡ s) }
+        ensures no { result ≡ false → (s : List (Frame Value)) →
+            spec.reduce (value_meaning_in scope.now) least value.old (pending_in self.old s) ≡
+            (value.new, pending_in self.new s) }
     {
         let Some(operator) = self.operator else {
             return true;
@@ -98,7 +103,8 @@ impl TwoSlots {
     /// The operators of a level or tighter take their operands, of which this is the last.
     #[inline(always)]
     fn reduce(&mut self, scope: &Scope<'_>, least: u8, value: &mut Value)
-        ensures { spec.reduce (value_meaning_in scope.now) least value.old (pending_in_slots self.old) ≡ (value.new, pending_in_slots self.new) }
+        ensures { spec.reduce (value_meaning_in scope.now) least value.old
+            (pending_in_slots self.old) ≡ (value.new, pending_in_slots self.new) }
     {
         if !self.inner.apply_pending(scope, least, value) {
             return;
@@ -109,7 +115,8 @@ impl TwoSlots {
     /// An operator waits with its left operand, if there is a place for it.
     #[inline(always)]
     fn push(&mut self, operator: Operator, operand: &Value) -> bool
-        ensures { IsTrue result → pending_in_slots self.new ≡ left operator operand.now ∷ pending_in_slots self.old }
+        ensures { IsTrue result → pending_in_slots self.new ≡ left operator operand.now ∷
+            pending_in_slots self.old }
     {
         let Some(waiting) = self.inner.operator else {
             self.inner.set(operator, operand);
@@ -126,7 +133,9 @@ impl TwoSlots {
     /// Reads an operator after an operand, if it stands between two and there is a place for it.
     #[inline(always)]
     fn read_operator(&mut self, scope: &Scope<'_>, value: &mut Value, operator: Operator) -> bool
-        ensures { IsTrue result → spec.step (value_meaning_in scope.now) (spec.has value.old (pending_in_slots self.old)) (tokens.operator operator) ≡ spec.needs (pending_in_slots self.new) }
+        ensures { IsTrue result → spec.step (value_meaning_in scope.now)
+            (spec.has value.old (pending_in_slots self.old)) (tokens.operator operator) ≡
+            spec.needs (pending_in_slots self.new) }
     {
         let tightness = precedence(operator);
         if tightness == 0 {
@@ -141,7 +150,8 @@ impl TwoSlots {
 #[inline(always)]
 #[tactic(auto, unfolding(ud_model::specs::conditions::Tokens::next_token))]
 fn skip_not(text: &[u8]) -> (bool, &[u8])
-    ensures yes { IsTrue result.0 → token_of text.now ≡ tokens.found (tokens.operator Operator.Not) result.1.now }
+    ensures yes { IsTrue result.0 →
+        token_of text.now ≡ tokens.found (tokens.operator Operator.Not) result.1.now }
     ensures no { result.0 ≡ false → result.1.now ≡ skip_white text.now }
 {
     let start = skip_white(text);
@@ -185,7 +195,8 @@ fn skip_close_paren(text: &[u8]) -> Option<&[u8]>
 /// A name without arguments in front, and what follows it.
 #[inline(always)]
 fn leading_name(text: &[u8]) -> Option<(&[u8], &[u8])>
-    ensures { IfSome result (λ r. token_of text.now ≡ tokens.found (tokens.name r.0.now false) r.1.now) }
+    ensures { IfSome result (λ r. token_of text.now ≡
+        tokens.found (tokens.name r.0.now false) r.1.now) }
 {
     match next_token(text) {
         NextToken::Found(Token::Name(name, false), rest) => Some((name, rest)),
@@ -196,7 +207,8 @@ fn leading_name(text: &[u8]) -> Option<(&[u8], &[u8])>
 /// Reads the name after `defined`, in parentheses or not: what the `defined` is worth then, and what follows.
 #[inline(always)]
 fn defined_operand<'a>(scope: &Scope<'_>, text: &'a [u8], value: &mut Value) -> Option<&'a [u8]>
-    ensures { IfSome result (λ rest. Asked (value_meaning_in scope.now) spec.asks text.now value.new rest.now) }
+    ensures { IfSome result (λ rest. Asked (value_meaning_in scope.now) spec.asks text.now value.new
+        rest.now) }
 {
     let (enclosed, inside) = skip_open_paren(text);
     let (name, end) = leading_name(inside)?;
@@ -210,7 +222,8 @@ fn defined_operand<'a>(scope: &Scope<'_>, text: &'a [u8], value: &mut Value) -> 
 /// Reads the operand in front if no operator stands before it: what it is worth then, and what follows it.
 #[inline(always)]
 fn primary_operand<'a>(scope: &Scope<'_>, text: &'a [u8], value: &mut Value) -> Option<&'a [u8]>
-    ensures { IfSome result (λ rest. Asked (value_meaning_in scope.now) spec.needs text.now value.new rest.now) }
+    ensures { IfSome result (λ rest. Asked (value_meaning_in scope.now) spec.needs text.now
+        value.new rest.now) }
 {
     match next_token(text) {
         NextToken::AtEnd => None,
@@ -233,7 +246,8 @@ fn primary_operand<'a>(scope: &Scope<'_>, text: &'a [u8], value: &mut Value) -> 
 /// Reads the operand in front, after one `!` at most: what it is worth then, and what follows it.
 #[inline(always)]
 fn operand<'a>(scope: &Scope<'_>, text: &'a [u8], value: &mut Value) -> Option<&'a [u8]>
-    ensures { IfSome result (λ rest. Asked (value_meaning_in scope.now) spec.needs text.now value.new rest.now) }
+    ensures { IfSome result (λ rest. Asked (value_meaning_in scope.now) spec.needs text.now
+        value.new rest.now) }
 {
     let (negated, start) = skip_not(text);
     let rest = primary_operand(scope, start, value)?;
@@ -247,7 +261,8 @@ fn operand<'a>(scope: &Scope<'_>, text: &'a [u8], value: &mut Value) -> Option<&
 /// What the expression of a text is worth, where it is a row of operands between which few operators wait.
 #[inline(always)]
 pub(crate) fn evaluate_fast(scope: &Scope<'_>, text: &[u8]) -> Option<Value>
-    ensures { IfSome result (λ v. Some v ≡ spec.reads (value_meaning_in scope.now) (spec.needs []) text.now) }
+    ensures { IfSome result (λ v. Some v ≡
+        spec.reads (value_meaning_in scope.now) (spec.needs []) text.now) }
 {
     let empty = PendingSlot {
         operator: None,

@@ -39,7 +39,8 @@ impl NameFilter {
     /// Notes the mark of a key.
     pub(crate) fn insert(&mut self, key: u64)
         ensures inserted { spec.slot_is_set self.new.slots key ≡ true }
-        ensures others_kept { (other : ℕ) → spec.slot_is_set self.old.slots other ≡ true → spec.slot_is_set self.new.slots other ≡ true }
+        ensures others_kept { (other : ℕ) → spec.slot_is_set self.old.slots other ≡ true →
+            spec.slot_is_set self.new.slots other ≡ true }
     {
         self.slots[slot_of(key)] = true;
     }

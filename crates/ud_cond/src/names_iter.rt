@@ -1,6 +1,7 @@
 //! Names, one at a time.
 
-ghost use Rattle.std.specs.Prelude.{◌≡◌, List, ℕ, is_some, option_map, true, IfNone, IfSome, [], ◌∷◌, Some, None};
+ghost use Rattle.std.specs.Prelude.{◌≡◌, List, ℕ, is_some, option_map, true, IfNone, IfSome, []};
+ghost use Rattle.std.specs.Prelude.{◌∷◌, Some, None};
 ghost use Rattle.std.specs.Iterator.{YieldsFirstRef, item_count};
 ghost use Rattle.ud_model.specs.aids.Parsing.{tokens_of};
 ghost use Rattle.ud_cond.specs.NameLists.{name_in_token, names_in_text, names_remaining};

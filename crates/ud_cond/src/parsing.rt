@@ -75,7 +75,8 @@ fn after_paren(text: &[u8]) -> Option<&[u8]>
 
 /// What a `defined` is worth by the name that is to stand after a `(`, and what follows the `)` after the name.
 fn defined_in_parens<'a>(scope: &Scope<'_>, inside: &'a [u8]) -> Option<(Value, &'a [u8])>
-    ensures { ReadsDefinedInParens (value_meaning_in scope.now) inside.now (option_map (λ r. (r.0, r.1.now)) result) }
+    ensures { ReadsDefinedInParens (value_meaning_in scope.now) inside.now
+        (option_map (λ r. (r.0, r.1.now)) result) }
 {
     let (name, end) = plain_name(inside)?;
     let rest = after_paren(end)?;
@@ -86,7 +87,8 @@ fn defined_in_parens<'a>(scope: &Scope<'_>, inside: &'a [u8]) -> Option<(Value, 
 
 /// What a `defined` is worth by the name after it, in parentheses or not, and what follows the name.
 fn defined_operand<'a>(scope: &Scope<'_>, text: &'a [u8]) -> Option<(Value, &'a [u8])>
-    ensures { ReadsDefined (value_meaning_in scope.now) text.now (option_map (λ r. (r.0, r.1.now)) result) }
+    ensures { ReadsDefined (value_meaning_in scope.now) text.now
+        (option_map (λ r. (r.0, r.1.now)) result) }
 {
     match next_token(text) {
         NextToken::AtEnd => None,
@@ -118,9 +120,15 @@ fn read_operand<'a, const BYTES: usize, const OPERANDS: usize>(
     rest: &'a [u8],
 ) -> Option<(Option<Value>, &'a [u8])>
     requires { weight stacks.old + 1 ≤ BYTES }
-    ensures none { IfNone result (spec.reads (value_meaning_in scope.now) (spec.step (value_meaning_in scope.now) (spec.needs stacks.old) (as_token token.entry)) rest.now ≡ None) }
-    ensures some { IfSome result (λ r. spec.reads (value_meaning_in scope.now) (spec.step (value_meaning_in scope.now) (spec.needs stacks.old) (as_token token.entry)) rest.now ≡ spec.reads (value_meaning_in scope.now) (parse_state r.0 stacks.new) r.1.now) }
-    ensures room { IfSome result (λ r. (weight stacks.new + operand_weight r.0 ≤ weight stacks.old + 1) × (length r.1.now ≤ length rest.now)) }
+    ensures none { IfNone result (spec.reads (value_meaning_in scope.now)
+        (spec.step (value_meaning_in scope.now) (spec.needs stacks.old) (as_token token.entry))
+        rest.now ≡ None) }
+    ensures some { IfSome result (λ r. spec.reads (value_meaning_in scope.now)
+        (spec.step (value_meaning_in scope.now) (spec.needs stacks.old) (as_token token.entry))
+        rest.now ≡ spec.reads (value_meaning_in scope.now) (parse_state r.0 stacks.new) r.1.now) }
+    ensures room { IfSome result (λ r.
+        (weight stacks.new + operand_weight r.0 ≤ weight stacks.old + 1) ×
+        (length r.1.now ≤ length rest.now)) }
 {
     match token {
         Token::Number(word) => {
@@ -160,9 +168,12 @@ fn read_operator<const BYTES: usize, const OPERANDS: usize>(
     token: Token<'_>,
 ) -> Option<Option<Value>>
     requires { weight stacks.old + 2 ≤ BYTES }
-    ensures none { IfNone result (spec.step (value_meaning_in scope.now) (spec.has value stacks.old) (as_token token.entry) ≡ spec.stuck) }
-    ensures some { IfSome result (λ r. spec.step (value_meaning_in scope.now) (spec.has value stacks.old) (as_token token.entry) ≡ parse_state r stacks.new) }
-    ensures room { IfSome result (λ r. weight stacks.new + operand_weight r ≤ weight stacks.old + 2) }
+    ensures none { IfNone result (spec.step (value_meaning_in scope.now) (spec.has value stacks.old)
+        (as_token token.entry) ≡ spec.stuck) }
+    ensures some { IfSome result (λ r. spec.step (value_meaning_in scope.now)
+        (spec.has value stacks.old) (as_token token.entry) ≡ parse_state r stacks.new) }
+    ensures room { IfSome result
+        (λ r. weight stacks.new + operand_weight r ≤ weight stacks.old + 2) }
 {
     match token {
         Token::Operator(operator) => {

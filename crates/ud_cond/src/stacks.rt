@@ -53,7 +53,13 @@ impl Model for PackedValue {
 
     ghost Value = { declared.Value };
 
-    ghost view = { λ o. record { number = if o.is_known then Some o.number else None; unsigned = o.has_u; listed = o.is_listed; calls_undefined = o.calls_undefined } };
+    ghost view = { λ o. record {
+      number = if o.is_known then Some o.number
+          else None;
+      unsigned = o.has_u;
+      listed = o.is_listed;
+      calls_undefined = o.calls_undefined;
+    } };
 }
 
 impl PackedValue {
@@ -107,7 +113,8 @@ impl<const BYTES: usize, const OPERANDS: usize> Model for Stacks<BYTES, OPERANDS
 
     ghost view = { λ s. frames (reverse s.operators.items) (reverse s.operands.items) };
 
-    ghost invariant = { λ s. AreMatched (reverse s.operators.items) (reverse s.operands.items) × (array_vec_len s.operators ≤ BYTES) × Suffice BYTES OPERANDS };
+    ghost invariant = { λ s. AreMatched (reverse s.operators.items) (reverse s.operands.items) ×
+        (array_vec_len s.operators ≤ BYTES) × Suffice BYTES OPERANDS };
 }
 
 impl<const BYTES: usize, const OPERANDS: usize> Stacks<BYTES, OPERANDS> {
@@ -172,7 +179,8 @@ impl<const BYTES: usize, const OPERANDS: usize> Stacks<BYTES, OPERANDS> {
     /// Takes the innermost operator, with its left operand if it has one, if it is of this level or tighter.
     fn pop_operator(&mut self, least: u8) -> Option<(Operator, Option<Value>)>
         ensures none { IfNone result (self.new ≡ self.old × spec.IsSettled least self.old) }
-        ensures some { IfSome result (λ t. self.old ≡ spec.popped t.0 t.1 ∷ self.new × spec.BindsAsTightly least t.0 t.1) }
+        ensures some { IfSome result (λ t. self.old ≡ spec.popped t.0 t.1 ∷ self.new ×
+            spec.BindsAsTightly least t.0 t.1) }
     {
         match self.operators.pop() {
             Some(PendingOp::Binary(operator)) => {
@@ -194,7 +202,8 @@ impl<const BYTES: usize, const OPERANDS: usize> Stacks<BYTES, OPERANDS> {
 
     /// The operators of a level or tighter take their operands, of which this is the last.
     pub(crate) fn reduce(&mut self, scope: &Scope<'_>, least: u8, last: Value) -> Value
-        ensures value { reduce (value_meaning_in scope.now) least last self.old ≡ (result, self.new) }
+        ensures value { reduce (value_meaning_in scope.now) least last self.old ≡
+            (result, self.new) }
         ensures lighter { weight self.new ≤ weight self.old }
     {
         let mut value = last;

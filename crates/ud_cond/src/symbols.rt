@@ -4,13 +4,16 @@
 //! a later call for it changes its row.
 //! Memory is taken before anything changes, so a refused call leaves the table as it was.
 
-ghost use Rattle.std.specs.Prelude.{◌≡◌, ◌++◌, ◌∷◌, [], List, option_map, OnOk, OnErr, IfOk, IfErr, IsErrOf, Some, None, ◌↔◌, false, true, IsTrue, length, bytes_eq};
+ghost use Rattle.std.specs.Prelude.{◌≡◌, ◌++◌, ◌∷◌, [], List, option_map, OnOk, OnErr, IfOk, IfErr};
+ghost use Rattle.std.specs.Prelude.{IsErrOf, Some, None, ◌↔◌, false, true, IsTrue, length};
+ghost use Rattle.std.specs.Prelude.{bytes_eq};
 ghost use Rattle.std.specs.List.{insert};
 ghost use Rattle.ud_model.specs.conditions.Table.{Argument, entry_in};
 ghost use Rattle.ud_model.specs.answer.SymbolArguments as names;
 ghost use Rattle.ud_model.specs.conditions.Symbols as ends;
 ghost use Rattle.ud_cond.specs.Keys as spec;
-ghost use Rattle.ud_cond.specs.SymbolTable.{TableRepresents, SetsEntry, name_cmp, same_key_cmp, IsRowOf, IsGapFor};
+ghost use Rattle.ud_cond.specs.SymbolTable.{TableRepresents, SetsEntry, name_cmp, same_key_cmp};
+ghost use Rattle.ud_cond.specs.SymbolTable.{IsRowOf, IsGapFor};
 ghost use Rattle.ud_cond.specs.CondViews.{as_entry, argument_for};
 
 use crate::fault::SymbolFault;
@@ -162,8 +165,12 @@ impl Symbols {
     /// In this order: `BadName` where the name isn't an identifier or is `defined` (C11 6.10.8p4), before memory is
     /// taken; `OutOfMemory` if memory is refused. The table stays as it was.
     pub fn define(&mut self, name: &[u8], value: &[u8], ignoring: bool) -> Result<(), SymbolFault>
-        ensures ok { OnOk result (SetsEntry self.old self.new (argument_for name.now (Some value.now) ignoring)) }
-        ensures represents { OnOk result ((calls : List Argument) → TableRepresents self.old calls → TableRepresents self.new (calls ++ argument_for name.now (Some value.now) ignoring ∷ [])) }
+        ensures ok { OnOk result
+            (SetsEntry self.old self.new
+            (argument_for name.now (Some value.now) ignoring)) }
+        ensures represents { OnOk result ((calls : List Argument) → TableRepresents self.old calls →
+            TableRepresents self.new (calls ++ argument_for name.now (Some value.now) ignoring ∷
+            [])) }
         ensures err { OnErr result (self.new ≡ self.old) }
         ensures bad { IsErrOf result SymbolFault.BadName ↔ names.is_name name.now ≡ false }
     {
@@ -176,8 +183,10 @@ impl Symbols {
     /// In this order: `BadName` where the name isn't an identifier or is `defined` (C11 6.10.8p4), before memory is
     /// taken; `OutOfMemory` if memory is refused. The table stays as it was.
     pub fn undefine(&mut self, name: &[u8], ignoring: bool) -> Result<(), SymbolFault>
-        ensures ok { OnOk result (SetsEntry self.old self.new (argument_for name.now None ignoring)) }
-        ensures represents { OnOk result ((calls : List Argument) → TableRepresents self.old calls → TableRepresents self.new (calls ++ argument_for name.now None ignoring ∷ [])) }
+        ensures ok { OnOk result
+            (SetsEntry self.old self.new (argument_for name.now None ignoring)) }
+        ensures represents { OnOk result ((calls : List Argument) → TableRepresents self.old calls →
+            TableRepresents self.new (calls ++ argument_for name.now None ignoring ∷ [])) }
         ensures err { OnErr result (self.new ≡ self.old) }
         ensures bad { IsErrOf result SymbolFault.BadName ↔ names.is_name name.now ≡ false }
     {
@@ -188,7 +197,8 @@ impl Symbols {
     #[inline(always)]
     pub fn find(&self, name: &[u8]) -> Option<Entry<'_>>
         ensures value { option_map as_entry result ≡ entry_in self.now name.now }
-        ensures represents { (calls : List Argument) → TableRepresents self.now calls → option_map as_entry result ≡ entry_in calls name.now }
+        ensures represents { (calls : List Argument) → TableRepresents self.now calls →
+            option_map as_entry result ≡ entry_in calls name.now }
     {
         let key = key_of(name);
         if !self.filter.may_contain(key) {
@@ -281,7 +291,9 @@ impl Symbols {
         value: Option<&[u8]>,
         ignoring: bool,
     ) -> Result<(), SymbolFault>
-        ensures ok { OnOk result (SetsEntry self.old self.new (argument_for name.now (option_map (λ v. v.now) value.entry) ignoring)) }
+        ensures ok { OnOk result
+            (SetsEntry self.old self.new
+            (argument_for name.now (option_map (λ v. v.now) value.entry) ignoring)) }
         ensures err { OnErr result (self.new ≡ self.old) }
         ensures bad { IsErrOf result SymbolFault.BadName ↔ names.is_name name.now ≡ false }
     {
@@ -298,7 +310,9 @@ impl Symbols {
         value: Option<&[u8]>,
         ignoring: bool,
     ) -> Result<(), SymbolFault>
-        ensures ok { OnOk result (SetsEntry self.old self.new (argument_for name.now (option_map (λ v. v.now) value.entry) ignoring)) }
+        ensures ok { OnOk result
+            (SetsEntry self.old self.new
+            (argument_for name.now (option_map (λ v. v.now) value.entry) ignoring)) }
         ensures err { OnErr result (self.new ≡ self.old) }
         ensures fault { OnErr result (IsErrOf result SymbolFault.OutOfMemory) }
     {
@@ -351,7 +365,8 @@ fn cache_positions_from(cache: &mut SlotCache, rows: &[Row], from: usize) {
 
 /// A value in memory of its own.
 fn try_clone(alloc: Global, value: Option<&[u8]>) -> Result<Option<Vec<u8>>, SymbolFault>
-    ensures ok { IfOk result (λ c. option_map (λ v. v.items) c ≡ option_map (λ v. v.now) value.entry) }
+    ensures ok { IfOk result (λ c. option_map (λ v. v.items) c ≡
+        option_map (λ v. v.now) value.entry) }
     ensures fault { OnErr result (IsErrOf result SymbolFault.OutOfMemory) }
 {
     match value {

@@ -2,7 +2,8 @@
 //!
 //! What the tokens of an expression are stands in ud_model, specs/conditions/Tokens.antt (C11 6.4).
 
-ghost use Rattle.std.specs.Prelude.{◌≡◌, drop, length, option_map, slice_index, ◌-◌, bytes_eq, codes};
+ghost use Rattle.std.specs.Prelude.{◌≡◌, drop, length, option_map, slice_index, ◌-◌, bytes_eq};
+ghost use Rattle.std.specs.Prelude.{codes};
 ghost use Rattle.ud_model.specs.conditions.Tokens as spec;
 ghost use Rattle.ud_model.specs.conditions.Constants as texts;
 ghost use Rattle.ud_model.specs.text.Bytes as bytes;

@@ -7,7 +7,9 @@ ghost use Rattle.ud_model.specs.conditions.Table.{entry_in};
 ghost use Rattle.ud_model.specs.conditions.Symbols.{resolve, defined_text};
 ghost use Rattle.ud_model.specs.conditions.Values as spec;
 ghost use Rattle.ud_cond.specs.CondViews.{as_entry};
-ghost use Rattle.ud_cond.specs.Evaluation.{table_in, constant_value_of, name_value_of, defined_name_value_of, defined_value_of, unary_value_of, binary_value_of};
+ghost use Rattle.ud_cond.specs.Evaluation.{table_in, constant_value_of, name_value_of};
+ghost use Rattle.ud_cond.specs.Evaluation.{defined_name_value_of, defined_value_of, unary_value_of};
+ghost use Rattle.ud_cond.specs.Evaluation.{binary_value_of};
 
 use crate::constants::{constant_value, has_u, is_constant, single_digit_value};
 use crate::symbols::{Entry, Symbols};

@@ -3,11 +3,15 @@
 --   usage_text u                                  the message of this fault of the words, or of want of memory
 --   ReportsUsage gs fault failed old new status   of what is given, at fault so, this was said, and this status given back
 use Rattle.std.specs.Prelude.{◌≡◌, ◌⊎◌, ℕ, List, Bool, Option}
-use Rattle.ud_model.specs.answer.CommandLine.{ParsedArg, UsageFault, unknown_option, missing_argument, bad_symbol_in, bad_mode_in, too_many_files, usage_message}
+use Rattle.ud_model.specs.answer.CommandLine.{ParsedArg, UsageFault, unknown_option}
+use Rattle.ud_model.specs.answer.CommandLine.{missing_argument, bad_symbol_in, bad_mode_in}
+use Rattle.ud_model.specs.answer.CommandLine.{too_many_files, usage_message}
 use Rattle.ud_model.specs.answer.Messages.{out_of_memory}
 use Rattle.ud_args.specs.SymbolStorage.{StoresSymbol}
 use Rattle.ud_args.specs.declared.usage.Usage.{Usage}
-use Rattle.ud_args.specs.declared.usage.Usage.TheVariants.{UnknownOption, MissingArgument, BadSymbol, BadMode, TooManyFiles, OutOfMemory}
+use Rattle.ud_args.specs.declared.usage.Usage.TheVariants.{UnknownOption, MissingArgument}
+use Rattle.ud_args.specs.declared.usage.Usage.TheVariants.{BadSymbol, BadMode, TooManyFiles}
+use Rattle.ud_args.specs.declared.usage.Usage.TheVariants.{OutOfMemory}
 use Rattle.ud_io.specs.Watched.{AppendsAllOrPrefix}
 
 abbrev pub usage_text : Usage → List ℕ
@@ -19,6 +23,8 @@ usage_text TooManyFiles = usage_message too_many_files
 usage_text OutOfMemory = out_of_memory
 
 -- the status is 2, and the fault's message was said; or a symbol stands before the fault, and memory for it was refused
-pub record ReportsUsage (gs : List ParsedArg) (fault : UsageFault) (failed : Bool) (old new : Option (List ℕ)) (status : ℕ) : Type 0 where
-  pub message : AppendsAllOrPrefix failed old new (usage_message fault) ⊎ (StoresSymbol gs × AppendsAllOrPrefix failed old new out_of_memory)
+pub record ReportsUsage (gs : List ParsedArg) (fault : UsageFault) (failed : Bool)
+    (old new : Option (List ℕ)) (status : ℕ) : Type 0 where
+  pub message : AppendsAllOrPrefix failed old new (usage_message fault) ⊎
+      (StoresSymbol gs × AppendsAllOrPrefix failed old new out_of_memory)
   pub answered : status ≡ 2

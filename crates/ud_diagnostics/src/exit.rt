@@ -33,7 +33,8 @@ pub fn report_result<E: Write>(
     ended: Result<bool, RunFault>,
 ) -> u8
     requires not_failed { err.old.failed ≡ false }
-    ensures message { AppendsAllOrPrefix err.new.failed (E.contents err.old.inner) (E.contents err.new.inner) (result_message name.now ended) }
+    ensures message { AppendsAllOrPrefix err.new.failed (E.contents err.old.inner)
+        (E.contents err.new.inner) (result_message name.now ended) }
     ensures status { result ≡ result_status settings ended }
 {
     match ended {

@@ -19,7 +19,8 @@ use ud_text::TextFault;
 /// Says why a run ended. If a write fails, a front of the message is written.
 pub(crate) fn report_fault<E: Write>(err: &mut Watched<E>, name: &[u8], fault: RunFault)
     requires not_failed { err.old.failed ≡ false }
-    ensures { AppendsAllOrPrefix err.new.failed (E.contents err.old.inner) (E.contents err.new.inner) (fault_message name.now fault) }
+    ensures { AppendsAllOrPrefix err.new.failed (E.contents err.old.inner)
+        (E.contents err.new.inner) (fault_message name.now fault) }
 {
     match fault {
         RunFault::Text(fault) => report_limit(err, name, fault),
@@ -32,7 +33,8 @@ pub(crate) fn report_fault<E: Write>(err: &mut Watched<E>, name: &[u8], fault: R
 /// Says which limit the text passes, and in which line.
 fn report_limit<E: Write>(err: &mut Watched<E>, name: &[u8], fault: TextFault)
     requires not_failed { err.old.failed ≡ false }
-    ensures { AppendsAllOrPrefix err.new.failed (E.contents err.old.inner) (E.contents err.new.inner) (message_of name.now (limit_of fault)) }
+    ensures { AppendsAllOrPrefix err.new.failed (E.contents err.old.inner)
+        (E.contents err.new.inner) (message_of name.now (limit_of fault)) }
 {
     match fault {
         TextFault::TooManyLines { line } => report_at(err, name, line, b"Too many lines"),
@@ -43,7 +45,8 @@ fn report_limit<E: Write>(err: &mut Watched<E>, name: &[u8], fault: TextFault)
 /// Says which line is faulty among the sections, and why, or what the text ends in.
 fn report_section<E: Write>(err: &mut Watched<E>, name: &[u8], fault: SectionFault)
     requires not_failed { err.old.failed ≡ false }
-    ensures { AppendsAllOrPrefix err.new.failed (E.contents err.old.inner) (E.contents err.new.inner) (message_of name.now (fault_of fault)) }
+    ensures { AppendsAllOrPrefix err.new.failed (E.contents err.old.inner)
+        (E.contents err.new.inner) (message_of name.now (fault_of fault)) }
 {
     match fault {
         SectionFault::InappropriateElif { line } => {
@@ -71,7 +74,8 @@ fn report_section<E: Write>(err: &mut Watched<E>, name: &[u8], fault: SectionFau
 /// Says something of a line of the text.
 fn report_at<E: Write>(err: &mut Watched<E>, name: &[u8], line: u32, text: &[u8])
     requires not_failed { err.old.failed ≡ false }
-    ensures { AppendsAllOrPrefix err.new.failed (E.contents err.old.inner) (E.contents err.new.inner)
+    ensures { AppendsAllOrPrefix err.new.failed (E.contents err.old.inner)
+        (E.contents err.new.inner)
         (about_line name.now line text.now) }
 {
     let mut digits = Buffer::new();
@@ -85,7 +89,8 @@ fn report_at<E: Write>(err: &mut Watched<E>, name: &[u8], line: u32, text: &[u8]
 /// Says that the text ends in a section whose first directive stands in the line `if_line`.
 fn report_premature_eof<E: Write>(err: &mut Watched<E>, name: &[u8], line: u32, if_line: u32)
     requires not_failed { err.old.failed ≡ false }
-    ensures { AppendsAllOrPrefix err.new.failed (E.contents err.old.inner) (E.contents err.new.inner)
+    ensures { AppendsAllOrPrefix err.new.failed (E.contents err.old.inner)
+        (E.contents err.new.inner)
         (message_of name.now (premature_eof line if_line)) }
 {
     let mut digits = Buffer::new();
@@ -109,7 +114,8 @@ fn report_premature_eof<E: Write>(err: &mut Watched<E>, name: &[u8], line: u32, 
 /// Says something of the input.
 fn report_on<E: Write>(err: &mut Watched<E>, name: &[u8], text: &[u8])
     requires not_failed { err.old.failed ≡ false }
-    ensures { AppendsAllOrPrefix err.new.failed (E.contents err.old.inner) (E.contents err.new.inner)
+    ensures { AppendsAllOrPrefix err.new.failed (E.contents err.old.inner)
+        (E.contents err.new.inner)
         (about name.now text.now) }
 {
     write_parts(err, &[b"unifdef: ", name, b": ", text, b"\n"]);

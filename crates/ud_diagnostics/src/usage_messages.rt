@@ -13,7 +13,8 @@ use ud_io::{Watched, write_all};
 /// Says what is wrong with the words, or that memory was refused. If a write fails, a front of the message is written.
 pub fn report_usage<E: Write>(err: &mut Watched<E>, usage: Usage)
     requires not_failed { err.old.failed ≡ false }
-    ensures { AppendsAllOrPrefix err.new.failed (E.contents err.old.inner) (E.contents err.new.inner)
+    ensures { AppendsAllOrPrefix err.new.failed (E.contents err.old.inner)
+        (E.contents err.new.inner)
         (usage_text usage) }
 {
     match usage {
@@ -37,7 +38,8 @@ pub fn report_usage<E: Write>(err: &mut Watched<E>, usage: Usage)
 /// Says something of a letter, which stands between two texts.
 fn report_letter<E: Write>(err: &mut Watched<E>, before: &[u8], letter: char, behind: &[u8])
     requires not_failed { err.old.failed ≡ false }
-    ensures { AppendsAllOrPrefix err.new.failed (E.contents err.old.inner) (E.contents err.new.inner)
+    ensures { AppendsAllOrPrefix err.new.failed (E.contents err.old.inner)
+        (E.contents err.new.inner)
         (before.now ++ encode_utf8 letter ++ behind.now) }
 {
     let mut buffer = [0; 4];
@@ -48,7 +50,8 @@ fn report_letter<E: Write>(err: &mut Watched<E>, before: &[u8], letter: char, be
 /// Says something of a word, whose number stands after the text.
 fn report_number<E: Write>(err: &mut Watched<E>, text: &[u8], word: usize)
     requires not_failed { err.old.failed ≡ false }
-    ensures { AppendsAllOrPrefix err.new.failed (E.contents err.old.inner) (E.contents err.new.inner)
+    ensures { AppendsAllOrPrefix err.new.failed (E.contents err.old.inner)
+        (E.contents err.new.inner)
         (text.now ++ decimal word ++ codes "\n") }
 {
     let mut digits = Buffer::new();

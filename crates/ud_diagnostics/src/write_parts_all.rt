@@ -13,7 +13,8 @@ use ud_io::{Watched, write_all};
 /// `false` if a write fails: a front of the parts' bytes is written, and `out` has failed.
 pub(crate) fn write_parts<W: Write>(out: &mut Watched<W>, parts: &[&[u8]]) -> bool
     requires not_failed { out.old.failed ≡ false }
-    ensures written { AppendsAllOrPrefix out.new.failed (W.contents out.old.inner) (W.contents out.new.inner)
+    ensures written { AppendsAllOrPrefix out.new.failed (W.contents out.old.inner)
+        (W.contents out.new.inner)
         (flat_map (λ p. p.now) parts.now) }
     ensures failed { out.new.failed ≡ not result }
 {

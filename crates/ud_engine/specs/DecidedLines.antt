@@ -21,25 +21,29 @@ use Rattle.ud_sections.specs.declared.step.Step.{Step}
 use Rattle.ud_engine.specs.declared.line_decider.LineDecider.{LineDecider}
 
 -- the reader has read these items, none of which is faulty
-pub record DeciderRepresents (o : Options) (r : LineDecider) (xs : List (Item Reading)) (t : Tree Reading) : Type 0 where
+pub record DeciderRepresents (o : Options) (r : LineDecider) (xs : List (Item Reading))
+    (t : Tree Reading) : Type 0 where
   pub read : MachineRepresents r.machine o xs t
   pub unrefused : machine_fault r.machine ≡ None
   pub carries : ScannerRepresents r.scanner (map reading_of xs)
 
 -- the items are one more, whose mark is the last one; the step has its verdict, and the place of its keyword
-pub record DecidesLine (o : Options) (r : LineDecider) (xs : List (Item Reading)) (t : Tree Reading) (l : Line) (step : Step) : Type 0 where
+pub record DecidesLine (o : Options) (r : LineDecider) (xs : List (Item Reading)) (t : Tree Reading)
+    (l : Line) (step : Step) : Type 0 where
   pub tree : Tree Reading
   pub has : DeciderRepresents o r (xs ++ next_item o xs t l ∷ []) tree
   pub mark : Mark
   pub marks_are : marks tree ≡ marks t ++ mark ∷ []
-  pub judged_so : record { line = l; verdict = step.verdict; keyword = as_span step.keyword } ≡ judged_line (next_item o xs t l) mark
+  pub judged_so : record { line = l; verdict = step.verdict; keyword = as_span step.keyword } ≡
+      judged_line (next_item o xs t l) mark
 
 -- the whole lines of these bytes are given up too
 abbrev pub consumed : LinesState → List ℕ → LinesState
 consumed lines bytes = record lines { before = lines.before + length (whole_lines bytes) }
 
 -- the items are those of these lines more, if there are any, each a text line with this verdict
-pub record DecidesBulk (o : Options) (r : LineDecider) (xs : List (Item Reading)) (t : Tree Reading) (ls : List Line) (verdict : Verdict) : Type 0 where
+pub record DecidesBulk (o : Options) (r : LineDecider) (xs : List (Item Reading)) (t : Tree Reading)
+    (ls : List Line) (verdict : Verdict) : Type 0 where
   pub items : List (Item Reading)
   pub tree : Tree Reading
   pub has : DeciderRepresents o r (xs ++ items) tree

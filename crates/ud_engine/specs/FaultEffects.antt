@@ -6,7 +6,8 @@ use Rattle.ud_engine.specs.declared.fault.RunFault.TheVariants.{Text, Section, R
 use Rattle.ud_io.specs.Watched.{WatchedState, AppendsPrefix}
 
 -- of what is faulty nothing was put or written; or a write has failed
-abbrev pub OutputUnchanged : {W : Type 0} → WatchedState W → WatchedState W → List ℕ → List ℕ → RunFault → Type 0
+abbrev pub OutputUnchanged : {W : Type 0} → WatchedState W → WatchedState W → List ℕ → List ℕ →
+    RunFault → Type 0
 OutputUnchanged old new buffered left (Section f) = (new ≡ old) × (left ≡ buffered)
 OutputUnchanged old new buffered left Write = new.failed ≡ true
 OutputUnchanged old new buffered left (Text f) = (new ≡ old) × (left ≡ buffered)
@@ -20,13 +21,17 @@ ErrorMatchesFailure failed Read = failed ≡ false
 ErrorMatchesFailure failed Write = failed ≡ true
 
 -- what ends a run with these bytes to be written: the fault, after all of them; or a write that failed, after a front of them
-abbrev pub FlushesThenFails : Bool → Option (List ℕ) → Option (List ℕ) → List ℕ → RunFault → RunFault → Type 0
+abbrev pub FlushesThenFails : Bool → Option (List ℕ) → Option (List ℕ) → List ℕ → RunFault →
+    RunFault → Type 0
 FlushesThenFails true old new pending fault by = (by ≡ Write) × AppendsPrefix old new pending
 FlushesThenFails false old new pending fault by = (by ≡ fault) × Appends old new pending
 
 -- after a failed write nothing is written
-abbrev pub FailsAfterFlush : Bool → Option (List ℕ) → Option (List ℕ) → List ℕ → RunFault → RunFault → Type 0
-FailsAfterFlush failed old new pending (Section f) by = FlushesThenFails failed old new pending (Section f) by
-FailsAfterFlush failed old new pending (Text f) by = FlushesThenFails failed old new pending (Text f) by
+abbrev pub FailsAfterFlush : Bool → Option (List ℕ) → Option (List ℕ) → List ℕ → RunFault →
+    RunFault → Type 0
+FailsAfterFlush failed old new pending (Section f) by =
+    FlushesThenFails failed old new pending (Section f) by
+FailsAfterFlush failed old new pending (Text f) by =
+    FlushesThenFails failed old new pending (Text f) by
 FailsAfterFlush failed old new pending Read by = FlushesThenFails failed old new pending Read by
 FailsAfterFlush failed old new pending Write by = (failed ≡ true) × (by ≡ Write) × (new ≡ old)

@@ -7,7 +7,8 @@
 --   Continues .. old new more                            what was fed next was taken, and this was appended
 --   FeedFails .. old new longer f                        what was fed next is faulty, or a write failed
 --   ErrorMatchesWriter failed f                          a write error is told exactly if the writer has failed, and a read error never
-use Rattle.std.specs.Prelude.{◌≡◌, ℕ, ◌<◌, ◌≤◌, List, [], ◌++◌, length, Bool, true, false, Option, Some, None}
+use Rattle.std.specs.Prelude.{◌≡◌, ℕ, ◌<◌, ◌≤◌, List, [], ◌++◌, length, Bool, true, false, Option}
+use Rattle.std.specs.Prelude.{Some, None}
 use Rattle.std.specs.Io.KnownBytes.{Appends}
 use Rattle.ud_model.specs.text.Lines.{Line, NoNewline, partial_line}
 use Rattle.ud_model.specs.text.Scans.{Reading}
@@ -46,7 +47,8 @@ pub record IsOpen (lines : LinesState) : Type 0 where
   pub no_newline : NoNewline lines.held
 
 -- these bytes were taken, none of their lines is faulty, and this is printed of the whole ones
-pub record EngineRepresentsBuffered {S : Type 0} (stands : S → List Judged → Type 0) (piece_of : S → List Judged → Judged → List ℕ) (e : EngineState S) (o : Options)
+pub record EngineRepresentsBuffered {S : Type 0} (stands : S → List Judged → Type 0) (piece_of : S →
+    List Judged → Judged → List ℕ) (e : EngineState S) (o : Options)
     (piece : List Judged → Judged → List ℕ) (text printed : List ℕ) : Type 0 where
   pub items : List (Item Reading)
   pub tree : Tree Reading
@@ -61,7 +63,8 @@ pub record EngineRepresentsBuffered {S : Type 0} (stands : S → List Judged →
   pub count : e.lines.before ≤ TEXT_LINES
 
 -- so it is, nothing was refused, and nothing is left to be written
-pub record EngineRepresents {S : Type 0} (stands : S → List Judged → Type 0) (piece_of : S → List Judged → Judged → List ℕ) (e : EngineState S) (o : Options)
+pub record EngineRepresents {S : Type 0} (stands : S → List Judged → Type 0) (piece_of : S →
+    List Judged → Judged → List ℕ) (e : EngineState S) (o : Options)
     (piece : List Judged → Judged → List ℕ) (text printed : List ℕ) : Type 0 where
   pub taken : EngineRepresentsBuffered stands piece_of e o piece text printed
   pub works : e.fault ≡ None
@@ -69,8 +72,10 @@ pub record EngineRepresents {S : Type 0} (stands : S → List Judged → Type 0)
 
 -- The longer text is fed, and this was appended, which is printed of its lines after what is printed already. Nothing in the
 -- text is faulty so far; what it begins of a line is held, and so many sections are open.
-pub record Continues {S : Type 0} (stands : S → List Judged → Type 0) (piece_of : S → List Judged → Judged → List ℕ) (e : EngineState S) (o : Options)
-    (piece : List Judged → Judged → List ℕ) (longer printed : List ℕ) (old new : Option (List ℕ)) : Type 0 where
+pub record Continues {S : Type 0} (stands : S → List Judged → Type 0) (piece_of : S → List Judged →
+    Judged → List ℕ) (e : EngineState S) (o : Options)
+    (piece : List Judged → Judged →
+    List ℕ) (longer printed : List ℕ) (old new : Option (List ℕ)) : Type 0 where
   pub more : List ℕ
   pub fed : EngineRepresents stands piece_of e o piece longer (printed ++ more)
   pub appended : Appends old new more
@@ -84,14 +89,16 @@ limit_of (TooManyLines line) = too_many_lines line
 limit_of (LineTooLong line) = line_too_long line
 
 -- the text that goes on has this fault, and this is printed of the lines before it
-pub record FaultsAfter (o : Options) (piece : List Judged → Judged → List ℕ) (longer printed : List ℕ) (f : Fault) : Type 0 where
+pub record FaultsAfter (o : Options) (piece : List Judged → Judged →
+    List ℕ) (longer printed : List ℕ) (f : Fault) : Type 0 where
   pub items : List (Item Reading)
   pub tree : Tree Reading
   pub reads : ReadsSoFar o longer items tree (Some f)
   pub printed_is : printed ≡ text_by o.settings.listing piece items tree
 
 -- some first lines of the text that goes on aren't faulty, and this is printed of them
-pub record PrintsPrefix (o : Options) (piece : List Judged → Judged → List ℕ) (longer printed : List ℕ) : Type 0 where
+pub record PrintsPrefix (o : Options) (piece : List Judged → Judged →
+    List ℕ) (longer printed : List ℕ) : Type 0 where
   pub items : List (Item Reading)
   pub tree : Tree Reading
   pub lines : List Line
@@ -102,14 +109,18 @@ pub record PrintsPrefix (o : Options) (piece : List Judged → Judged → List �
 
 -- The next bytes are faulty: what is printed of the lines before is written then, and no more. Or a write failed: a front of
 -- what is printed of some first lines is written.
-abbrev pub FeedFails : Options → (List Judged → Judged → List ℕ) → Bool → Option (List ℕ) → Option (List ℕ) → List ℕ → List ℕ → RunFault → Type 0
+abbrev pub FeedFails : Options → (List Judged → Judged → List ℕ) → Bool → Option (List ℕ) →
+    Option (List ℕ) → List ℕ → List ℕ → RunFault → Type 0
 FeedFails o piece failed old new longer printed (Text f) =
-    (failed ≡ false) × ((more : List ℕ) × FaultsAfter o piece longer (printed ++ more) (limit_of f) × Appends old new more)
+    (failed ≡ false) × ((more : List ℕ) ×
+    FaultsAfter o piece longer (printed ++ more) (limit_of f) × Appends old new more)
 FeedFails o piece failed old new longer printed (Section f) =
-    (failed ≡ false) × ((more : List ℕ) × FaultsAfter o piece longer (printed ++ more) (fault_of f) × Appends old new more)
+    (failed ≡ false) × ((more : List ℕ) ×
+    FaultsAfter o piece longer (printed ++ more) (fault_of f) × Appends old new more)
 FeedFails o piece failed old new longer printed Read = ⊥
 FeedFails o piece failed old new longer printed Write =
-    (failed ≡ true) × ((more : List ℕ) × PrintsPrefix o piece longer (printed ++ more) × AppendsPrefix old new more)
+    (failed ≡ true) × ((more : List ℕ) × PrintsPrefix o piece longer (printed ++ more) ×
+    AppendsPrefix old new more)
 
 -- what an engine refuses: `Write` exactly if the writer has failed, and `Read` never
 abbrev pub ErrorMatchesWriter : Bool → RunFault → Type 0

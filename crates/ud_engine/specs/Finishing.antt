@@ -5,7 +5,8 @@
 --   FinishOk .. differs                            the text has no fault, and all of it is printed
 --   FinishErr .. f                                 the text has a fault, and what is printed of the lines before it is written; or a write failed
 --   ResultIs result r                              what a run answers is this outcome
-use Rattle.std.specs.Prelude.{◌≡◌, ℕ, List, ◌++◌, Bool, true, false, Option, Some, None, Result, Ok, Err}
+use Rattle.std.specs.Prelude.{◌≡◌, ℕ, List, ◌++◌, Bool, true, false, Option, Some, None, Result, Ok}
+use Rattle.std.specs.Prelude.{Err}
 use Rattle.std.specs.Io.KnownBytes.{Appends}
 use Rattle.ud_model.specs.text.Lines.{lines_of}
 use Rattle.ud_model.specs.text.Scans.{Reading}
@@ -25,12 +26,23 @@ use Rattle.ud_engine.specs.ProcessedLines.{ProcessorRepresents, text_by, differs
 use Rattle.ud_io.specs.Watched.{AppendsPrefix}
 
 -- an engine that has refused nothing
-abbrev pub without_fault : {S : Type 0} → List Argument → LinesState → LineProcessor S → List ℕ → EngineState S
-without_fault symbols lines printer buffered = record { symbols = symbols; lines = lines; printer = printer; buffered = buffered; fault = None }
+abbrev pub without_fault : {S : Type 0} → List Argument → LinesState → LineProcessor S → List ℕ →
+    EngineState S
+without_fault symbols lines printer buffered =
+    record {
+      symbols = symbols;
+      lines = lines;
+      printer = printer;
+      buffered = buffered;
+      fault =
+          None;
+    }
 
 -- all lines of the text were read, none of them is faulty, and this was appended, which is printed of them after what is printed already
-pub record PrintsAll {S : Type 0} (stands : S → List Judged → Type 0) (piece_of : S → List Judged → Judged → List ℕ) (p : LineProcessor S) (o : Options)
-    (piece : List Judged → Judged → List ℕ) (text printed : List ℕ) (old new : Option (List ℕ)) : Type 0 where
+pub record PrintsAll {S : Type 0} (stands : S → List Judged → Type 0) (piece_of : S → List Judged →
+    Judged → List ℕ) (p : LineProcessor S) (o : Options)
+    (piece : List Judged → Judged →
+    List ℕ) (text printed : List ℕ) (old new : Option (List ℕ)) : Type 0 where
   pub items : List (Item Reading)
   pub tree : Tree Reading
   pub goes : HasNoFault o (lines_of text) items tree
@@ -40,7 +52,8 @@ pub record PrintsAll {S : Type 0} (stands : S → List Judged → Type 0) (piece
   pub appended : Appends old new more
 
 -- the text has no fault; what is printed of it is written, and this tells whether some line differs
-pub record FinishOk (o : Options) (piece : List Judged → Judged → List ℕ) (text printed : List ℕ) (old new : Option (List ℕ)) (differs : Bool) : Type 0 where
+pub record FinishOk (o : Options) (piece : List Judged → Judged →
+    List ℕ) (text printed : List ℕ) (old new : Option (List ℕ)) (differs : Bool) : Type 0 where
   pub items : List (Item Reading)
   pub tree : Tree Reading
   pub reads : ReadsAs o text items tree None
@@ -50,7 +63,8 @@ pub record FinishOk (o : Options) (piece : List Judged → Judged → List ℕ) 
   pub differs_is : differs ≡ differs_in o.settings.listing piece items tree
 
 -- the text has this fault; what is printed of the lines before it is written
-pub record FinishFault (o : Options) (piece : List Judged → Judged → List ℕ) (text printed : List ℕ) (old new : Option (List ℕ)) (f : Fault) : Type 0 where
+pub record FinishFault (o : Options) (piece : List Judged → Judged →
+    List ℕ) (text printed : List ℕ) (old new : Option (List ℕ)) (f : Fault) : Type 0 where
   pub items : List (Item Reading)
   pub tree : Tree Reading
   pub reads : ReadsAs o text items tree (Some f)
@@ -59,7 +73,8 @@ pub record FinishFault (o : Options) (piece : List Judged → Judged → List �
   pub appended : Appends old new more
 
 -- a write failed: a front of what is printed of all lines is written
-pub record FinishTruncated (o : Options) (piece : List Judged → Judged → List ℕ) (text printed : List ℕ) (old new : Option (List ℕ)) : Type 0 where
+pub record FinishTruncated (o : Options) (piece : List Judged → Judged →
+    List ℕ) (text printed : List ℕ) (old new : Option (List ℕ)) : Type 0 where
   pub items : List (Item Reading)
   pub tree : Tree Reading
   pub goes : HasNoFault o (lines_of text) items tree
@@ -67,11 +82,15 @@ pub record FinishTruncated (o : Options) (piece : List Judged → Judged → Lis
   pub printed_is : printed ++ more ≡ text_by o.settings.listing piece items tree
   pub front : AppendsPrefix old new more
 
-abbrev pub FinishErr : Options → (List Judged → Judged → List ℕ) → Bool → Option (List ℕ) → Option (List ℕ) → List ℕ → List ℕ → RunFault → Type 0
-FinishErr o piece failed old new text printed (Text f) = (failed ≡ false) × FinishFault o piece text printed old new (limit_of f)
-FinishErr o piece failed old new text printed (Section f) = (failed ≡ false) × FinishFault o piece text printed old new (fault_of f)
+abbrev pub FinishErr : Options → (List Judged → Judged → List ℕ) → Bool → Option (List ℕ) →
+    Option (List ℕ) → List ℕ → List ℕ → RunFault → Type 0
+FinishErr o piece failed old new text printed (Text f) = (failed ≡ false) ×
+    FinishFault o piece text printed old new (limit_of f)
+FinishErr o piece failed old new text printed (Section f) = (failed ≡ false) ×
+    FinishFault o piece text printed old new (fault_of f)
 FinishErr o piece failed old new text printed Read = ⊥
-FinishErr o piece failed old new text printed Write = (failed ≡ true) × FinishTruncated o piece text printed old new
+FinishErr o piece failed old new text printed Write = (failed ≡ true) ×
+    FinishTruncated o piece text printed old new
 
 -- a fault as the definitions have it, if it is one of the text
 abbrev pub text_fault_of : RunFault → Option Fault
@@ -86,7 +105,8 @@ ResultIs (Ok differs) r = (r.fault ≡ None) × (differs ≡ r.differs)
 ResultIs (Err f) r = (r.fault ≡ text_fault_of f) × (r.fault ≡ None → ⊥)
 
 -- this was appended, and answered: the outcome of the input
-pub record RunAnswers (o : Options) (input : List ℕ) (old new : Option (List ℕ)) (result : Result Bool RunFault) : Type 0 where
+pub record RunAnswers (o : Options) (input : List ℕ) (old new : Option (List ℕ))
+    (result : Result Bool RunFault) : Type 0 where
   pub outcome : Outcome
   pub runs : HasOutcome o input outcome
   pub output : Appends old new outcome.output

@@ -18,11 +18,15 @@ use Rattle.ud_io.specs.Buffering.{AppendsAllBut}
 use Rattle.ud_io.specs.Watched.{AppendsPrefix}
 
 -- with the line l after these, these names are listed too
-abbrev pub ListsMore : Options → List (Item Reading) → Tree Reading → Line → Bool → Tree Reading → List ℕ → Type 0
-ListsMore o xs t l depths tree more = listed depths (xs ++ next_item o xs t l ∷ []) (levels tree) ≡ listed depths xs (levels t) ++ more
+abbrev pub ListsMore : Options → List (Item Reading) → Tree Reading → Line → Bool → Tree Reading →
+    List ℕ → Type 0
+ListsMore o xs t l depths tree more =
+    listed depths (xs ++ next_item o xs t l ∷ []) (levels tree) ≡ listed depths xs (levels t) ++
+    more
 
 -- the lister takes one line more: what was gathered, the run and the line's names are sent, but for what is left
-pub record ListsLine (o : Options) (r : LineDecider) (xs : List (Item Reading)) (t : Tree Reading) (l : Line) (depths : Bool)
+pub record ListsLine (o : Options) (r : LineDecider) (xs : List (Item Reading)) (t : Tree Reading)
+    (l : Line) (depths : Bool)
     (old new : Option (List ℕ)) (buffered left pending : List ℕ) : Type 0 where
   pub tree : Tree Reading
   pub has : DeciderRepresents o r (xs ++ next_item o xs t l ∷ []) tree
@@ -31,7 +35,8 @@ pub record ListsLine (o : Options) (r : LineDecider) (xs : List (Item Reading)) 
   pub sent : AppendsAllBut old new (buffered ++ (pending ++ more)) left
 
 -- a write failed as one line more was listed: a front of what was gathered, the run and the line's names went out
-pub record ListingFails (o : Options) (xs : List (Item Reading)) (t : Tree Reading) (l : Line) (depths : Bool)
+pub record ListingFails (o : Options) (xs : List (Item Reading)) (t : Tree Reading) (l : Line)
+    (depths : Bool)
     (old new : Option (List ℕ)) (buffered pending : List ℕ) : Type 0 where
   pub tree : Tree Reading
   pub sound : AreFaultless o (xs ++ next_item o xs t l ∷ []) tree
@@ -39,8 +44,11 @@ pub record ListingFails (o : Options) (xs : List (Item Reading)) (t : Tree Readi
   pub is_more : ListsMore o xs t l depths tree more
   pub front : AppendsPrefix old new (buffered ++ (pending ++ more))
 
-abbrev pub ListErr : Options → List (Item Reading) → Tree Reading → Line → Bool → Option (List ℕ) → Option (List ℕ) → List ℕ → List ℕ → RunFault → Type 0
-ListErr o xs t l depths old new buffered pending (Section f) = FaultOf xs (next_item o xs t l) (fault_of f)
-ListErr o xs t l depths old new buffered pending Write = ListingFails o xs t l depths old new buffered pending
+abbrev pub ListErr : Options → List (Item Reading) → Tree Reading → Line → Bool → Option (List ℕ) →
+    Option (List ℕ) → List ℕ → List ℕ → RunFault → Type 0
+ListErr o xs t l depths old new buffered pending (Section f) =
+    FaultOf xs (next_item o xs t l) (fault_of f)
+ListErr o xs t l depths old new buffered pending Write =
+    ListingFails o xs t l depths old new buffered pending
 ListErr o xs t l depths old new buffered pending (Text f) = ⊥
 ListErr o xs t l depths old new buffered pending Read = ⊥

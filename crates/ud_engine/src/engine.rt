@@ -4,7 +4,8 @@
 //! printed of a piece's lines is written before `feed` returns: lines that stay as they are and lie side by side go out
 //! together, and smaller parts are gathered.
 
-ghost use Rattle.std.specs.Prelude.{◌≡◌, ◌++◌, [], ◌<◌, ◌≤◌, ◌-◌, List, ℕ, length, drop, true, false, IfOk, IfErr, OnOk, IfSome, None, Some, Err, take, not};
+ghost use Rattle.std.specs.Prelude.{◌≡◌, ◌++◌, [], ◌<◌, ◌≤◌, ◌-◌, List, ℕ, length, drop, true};
+ghost use Rattle.std.specs.Prelude.{false, IfOk, IfErr, OnOk, IfSome, None, Some, Err, take, not};
 ghost use Rattle.ud_model.specs.sections.Items.{Options};
 ghost use Rattle.ud_model.specs.answer.Printing.{Judged};
 ghost use Rattle.ud_cond.specs.SymbolTable.{TableRepresents};
@@ -113,8 +114,10 @@ impl<'p, S: Show> Engine<'p, S, LongLineBuffer> {
     ///
     /// `show` was given no line. Takes no memory.
     pub fn new(plan: &'p Plan, show: S) -> Engine<'p, S, LongLineBuffer>
-        ensures represents { (o : Options) → (piece : List Judged → Judged → List ℕ) → o.settings ≡ plan.now.settings → TableRepresents plan.now.symbols o.table →
-            S.represents show [] → ((before : List Judged) → (j : Judged) → S.piece show before j ≡ piece before j) →
+        ensures represents { (o : Options) → (piece : List Judged → Judged → List ℕ) →
+            o.settings ≡ plan.now.settings → TableRepresents plan.now.symbols o.table →
+            S.represents show [] → ((before : List Judged) → (j : Judged) →
+            S.piece show before j ≡ piece before j) →
             EngineRepresents S.represents S.piece result o piece [] [] }
         ensures unrefused { result.fault ≡ None }
     {
@@ -123,16 +126,21 @@ impl<'p, S: Show> Engine<'p, S, LongLineBuffer> {
 }
 
 impl<'p, S: Show, H: LineBuffer> Engine<'p, S, H> {
-    ghost use Rattle.ud_engine.specs.Feeding.{EngineRepresents, EngineRepresentsBuffered, Continues, FeedFails, ErrorMatchesWriter};
+    ghost use Rattle.ud_engine.specs.Feeding.{EngineRepresents, EngineRepresentsBuffered};
+    ghost use Rattle.ud_engine.specs.Feeding.{Continues, FeedFails, ErrorMatchesWriter};
     ghost use Rattle.ud_engine.specs.Finishing.{FinishOk, FinishErr};
-    ghost use Rattle.ud_engine.specs.Advancing.{Advances, StepFails, IsCursor, slice_between, measure};
-    ghost use Rattle.ud_engine.specs.FaultEffects.{OutputUnchanged, ErrorMatchesFailure, FailsAfterFlush};
+    ghost use Rattle.ud_engine.specs.Advancing.{Advances, StepFails, IsCursor, slice_between};
+    ghost use Rattle.ud_engine.specs.Advancing.{measure};
+    ghost use Rattle.ud_engine.specs.FaultEffects.{OutputUnchanged, ErrorMatchesFailure};
+    ghost use Rattle.ud_engine.specs.FaultEffects.{FailsAfterFlush};
     ghost use Rattle.ud_model.specs.declared.limits.TheConstants.{LINE_BYTES};
 
     /// An engine that was fed nothing, and holds the line so far in a room of this type. Else as `new`.
     pub(crate) fn with_buffer(plan: &'p Plan, show: S) -> Engine<'p, S, H>
-        ensures represents { (o : Options) → (piece : List Judged → Judged → List ℕ) → o.settings ≡ plan.now.settings → TableRepresents plan.now.symbols o.table →
-            S.represents show [] → ((before : List Judged) → (j : Judged) → S.piece show before j ≡ piece before j) →
+        ensures represents { (o : Options) → (piece : List Judged → Judged → List ℕ) →
+            o.settings ≡ plan.now.settings → TableRepresents plan.now.symbols o.table →
+            S.represents show [] → ((before : List Judged) → (j : Judged) →
+            S.piece show before j ≡ piece before j) →
             EngineRepresents S.represents S.piece result o piece [] [] }
         ensures unrefused { result.fault ≡ None }
     {
@@ -157,16 +165,22 @@ impl<'p, S: Show, H: LineBuffer> Engine<'p, S, H> {
     pub fn feed<W: Write>(&mut self, chunk: &[u8], out: &mut Watched<W>) -> Result<(), RunFault>
         requires not_failed { self.old.fault ≡ None → out.old.failed ≡ false }
         requires fits { HasCapacity H.CAPACITY self.old.lines (length chunk.now) }
-        ensures represents { (o : Options) → (pieces : List Judged → Judged → List ℕ) → (text : List ℕ) → (printed : List ℕ) →
+        ensures represents { (o : Options) → (pieces : List Judged → Judged → List ℕ) →
+            (text : List ℕ) → (printed : List ℕ) →
             EngineRepresents S.represents S.piece self.old o pieces text printed →
-            OnOk result (Continues S.represents S.piece self.new o pieces (text ++ chunk.now) printed (W.contents out.old.inner) (W.contents out.new.inner)) }
-        ensures fails { (o : Options) → (pieces : List Judged → Judged → List ℕ) → (text : List ℕ) → (printed : List ℕ) →
+            OnOk result (Continues S.represents S.piece self.new o pieces (text ++ chunk.now)
+            printed (W.contents out.old.inner) (W.contents out.new.inner)) }
+        ensures fails { (o : Options) → (pieces : List Judged → Judged → List ℕ) → (text : List ℕ) →
+            (printed : List ℕ) →
             EngineRepresents S.represents S.piece self.old o pieces text printed →
-            IfErr result (FeedFails o pieces out.new.failed (W.contents out.old.inner) (W.contents out.new.inner) (text ++ chunk.now) printed) }
+            IfErr result (FeedFails o pieces out.new.failed (W.contents out.old.inner)
+            (W.contents out.new.inner) (text ++ chunk.now) printed) }
         ensures not_failed { OnOk result (out.new.failed ≡ false) }
-        ensures error_matches { self.old.fault ≡ None → IfErr result (ErrorMatchesWriter out.new.failed) }
+        ensures error_matches { self.old.fault ≡ None →
+            IfErr result (ErrorMatchesWriter out.new.failed) }
         ensures records_fault { IfErr result (λ f. self.new.fault ≡ Some f) }
-        ensures fused { IfSome self.old.fault (λ f. (result ≡ Err f) × (self.new ≡ self.old) × (out.new ≡ out.old)) }
+        ensures fused { IfSome self.old.fault (λ f. (result ≡ Err f) × (self.new ≡ self.old) ×
+            (out.new ≡ out.old)) }
     {
         if let Some(fault) = self.fault {
             return Err(fault);
@@ -190,14 +204,19 @@ impl<'p, S: Show, H: LineBuffer> Engine<'p, S, H> {
     /// lines before it, or if the text ends in a block comment or a section, after what is left of all lines; `Write` if a write fails.
     pub fn finish<W: Write>(self, out: &mut Watched<W>) -> Result<bool, RunFault>
         requires { self.fault ≡ None → out.old.failed ≡ false }
-        ensures ended { (o : Options) → (pieces : List Judged → Judged → List ℕ) → (text : List ℕ) → (printed : List ℕ) →
+        ensures ended { (o : Options) → (pieces : List Judged → Judged → List ℕ) → (text : List ℕ) →
+            (printed : List ℕ) →
             EngineRepresents S.represents S.piece self.entry o pieces text printed →
-            IfOk result (FinishOk o pieces text printed (W.contents out.old.inner) (W.contents out.new.inner)) }
-        ensures fails { (o : Options) → (pieces : List Judged → Judged → List ℕ) → (text : List ℕ) → (printed : List ℕ) →
+            IfOk result (FinishOk o pieces text printed (W.contents out.old.inner)
+            (W.contents out.new.inner)) }
+        ensures fails { (o : Options) → (pieces : List Judged → Judged → List ℕ) → (text : List ℕ) →
+            (printed : List ℕ) →
             EngineRepresents S.represents S.piece self.entry o pieces text printed →
-            IfErr result (FinishErr o pieces out.new.failed (W.contents out.old.inner) (W.contents out.new.inner) text printed) }
+            IfErr result (FinishErr o pieces out.new.failed (W.contents out.old.inner)
+            (W.contents out.new.inner) text printed) }
         ensures not_failed { OnOk result (out.new.failed ≡ false) }
-        ensures error_matches { self.entry.fault ≡ None → IfErr result (ErrorMatchesWriter out.new.failed) }
+        ensures error_matches { self.entry.fault ≡ None →
+            IfErr result (ErrorMatchesWriter out.new.failed) }
         ensures fused { IfSome self.entry.fault (λ f. (result ≡ Err f) × (out.new ≡ out.old)) }
     {
         let mut engine = self;
@@ -213,14 +232,19 @@ impl<'p, S: Show, H: LineBuffer> Engine<'p, S, H> {
         out: &mut Watched<W>,
     ) -> Result<bool, RunFault>
         requires { self.old.fault ≡ None → out.old.failed ≡ false }
-        ensures ended { (o : Options) → (pieces : List Judged → Judged → List ℕ) → (text : List ℕ) → (printed : List ℕ) →
+        ensures ended { (o : Options) → (pieces : List Judged → Judged → List ℕ) → (text : List ℕ) →
+            (printed : List ℕ) →
             EngineRepresents S.represents S.piece self.old o pieces text printed →
-            IfOk result (FinishOk o pieces text printed (W.contents out.old.inner) (W.contents out.new.inner)) }
-        ensures fails { (o : Options) → (pieces : List Judged → Judged → List ℕ) → (text : List ℕ) → (printed : List ℕ) →
+            IfOk result (FinishOk o pieces text printed (W.contents out.old.inner)
+            (W.contents out.new.inner)) }
+        ensures fails { (o : Options) → (pieces : List Judged → Judged → List ℕ) → (text : List ℕ) →
+            (printed : List ℕ) →
             EngineRepresents S.represents S.piece self.old o pieces text printed →
-            IfErr result (FinishErr o pieces out.new.failed (W.contents out.old.inner) (W.contents out.new.inner) text printed) }
+            IfErr result (FinishErr o pieces out.new.failed (W.contents out.old.inner)
+            (W.contents out.new.inner) text printed) }
         ensures not_failed { OnOk result (out.new.failed ≡ false) }
-        ensures error_matches { self.old.fault ≡ None → IfErr result (ErrorMatchesWriter out.new.failed) }
+        ensures error_matches { self.old.fault ≡ None →
+            IfErr result (ErrorMatchesWriter out.new.failed) }
         ensures fused { IfSome self.old.fault (λ f. (result ≡ Err f) × (out.new ≡ out.old)) }
     {
         if let Some(refused) = self.fault {
@@ -280,12 +304,16 @@ impl<'p, S: Show, H: LineBuffer> Engine<'p, S, H> {
     ) -> Result<(), RunFault>
         requires not_failed { out.old.failed ≡ false }
         requires fits { HasCapacity H.CAPACITY self.old.lines (length chunk.now) }
-        ensures represents { (o : Options) → (pieces : List Judged → Judged → List ℕ) → (text : List ℕ) → (printed : List ℕ) →
+        ensures represents { (o : Options) → (pieces : List Judged → Judged → List ℕ) →
+            (text : List ℕ) → (printed : List ℕ) →
             EngineRepresents S.represents S.piece self.old o pieces text printed →
-            OnOk result (Continues S.represents S.piece self.new o pieces (text ++ chunk.now) printed (W.contents out.old.inner) (W.contents out.new.inner)) }
-        ensures fails { (o : Options) → (pieces : List Judged → Judged → List ℕ) → (text : List ℕ) → (printed : List ℕ) →
+            OnOk result (Continues S.represents S.piece self.new o pieces (text ++ chunk.now)
+            printed (W.contents out.old.inner) (W.contents out.new.inner)) }
+        ensures fails { (o : Options) → (pieces : List Judged → Judged → List ℕ) → (text : List ℕ) →
+            (printed : List ℕ) →
             EngineRepresents S.represents S.piece self.old o pieces text printed →
-            IfErr result (FeedFails o pieces out.new.failed (W.contents out.old.inner) (W.contents out.new.inner) (text ++ chunk.now) printed) }
+            IfErr result (FeedFails o pieces out.new.failed (W.contents out.old.inner)
+            (W.contents out.new.inner) (text ++ chunk.now) printed) }
         ensures not_failed { OnOk result (out.new.failed ≡ false) }
         ensures error_matches { IfErr result (ErrorMatchesWriter out.new.failed) }
     {
@@ -322,18 +350,25 @@ impl<'p, S: Show, H: LineBuffer> Engine<'p, S, H> {
         requires cursor { IsCursor H.CAPACITY self.old.lines chunk.now cursor }
         requires some { cursor.pos < length chunk.now }
         ensures cursor { IfOk result (λ next. IsCursor H.CAPACITY self.new.lines chunk.now next) }
-        ensures progress { IfOk result (λ next. (cursor.pos ≤ next.pos) × (measure chunk.now next < measure chunk.now cursor)) }
-        ensures taken { (o : Options) → (pieces : List Judged → Judged → List ℕ) → (text : List ℕ) → (printed : List ℕ) →
+        ensures progress { IfOk result (λ next. (cursor.pos ≤ next.pos) ×
+            (measure chunk.now next < measure chunk.now cursor)) }
+        ensures taken { (o : Options) → (pieces : List Judged → Judged → List ℕ) → (text : List ℕ) →
+            (printed : List ℕ) →
             EngineRepresentsBuffered S.represents S.piece self.old o pieces text printed →
-            IfOk result (λ next. Advances S.represents S.piece self.new o pieces text printed (slice_between chunk.now cursor.pos next.pos)
+            IfOk result (λ next. Advances S.represents S.piece self.new o pieces text printed
+            (slice_between chunk.now cursor.pos next.pos)
             (W.contents out.old.inner) (W.contents out.new.inner)
-            (self.old.buffered ++ slice_between chunk.now cursor.pending_start cursor.pos) (self.new.buffered ++ slice_between chunk.now next.pending_start next.pos)) }
-        ensures stops { (o : Options) → (pieces : List Judged → Judged → List ℕ) → (text : List ℕ) → (printed : List ℕ) →
+            (self.old.buffered ++ slice_between chunk.now cursor.pending_start cursor.pos)
+            (self.new.buffered ++ slice_between chunk.now next.pending_start next.pos)) }
+        ensures stops { (o : Options) → (pieces : List Judged → Judged → List ℕ) → (text : List ℕ) →
+            (printed : List ℕ) →
             EngineRepresentsBuffered S.represents S.piece self.old o pieces text printed →
-            IfErr result (StepFails o pieces (text ++ drop cursor.pos chunk.now) printed (W.contents out.old.inner) (W.contents out.new.inner)
+            IfErr result (StepFails o pieces (text ++ drop cursor.pos chunk.now) printed
+            (W.contents out.old.inner) (W.contents out.new.inner)
             (self.old.buffered ++ slice_between chunk.now cursor.pending_start cursor.pos)) }
         ensures not_failed { OnOk result (out.new.failed ≡ false) }
-        ensures output_unchanged { IfErr result (OutputUnchanged out.old out.new self.old.buffered self.new.buffered) }
+        ensures output_unchanged { IfErr result
+            (OutputUnchanged out.old out.new self.old.buffered self.new.buffered) }
         ensures fault_unchanged { self.new.fault ≡ self.old.fault }
     {
         if may_skip_text(chunk, cursor) {
@@ -359,18 +394,25 @@ impl<'p, S: Show, H: LineBuffer> Engine<'p, S, H> {
         requires untried { cursor.bulk_tried ≡ false }
         requires some { cursor.pos < cursor.whole_end }
         ensures cursor { IfOk result (λ next. IsCursor H.CAPACITY self.new.lines chunk.now next) }
-        ensures progress { IfOk result (λ next. (cursor.pos ≤ next.pos) × (measure chunk.now next < measure chunk.now cursor)) }
-        ensures taken { (o : Options) → (pieces : List Judged → Judged → List ℕ) → (text : List ℕ) → (printed : List ℕ) →
+        ensures progress { IfOk result (λ next. (cursor.pos ≤ next.pos) ×
+            (measure chunk.now next < measure chunk.now cursor)) }
+        ensures taken { (o : Options) → (pieces : List Judged → Judged → List ℕ) → (text : List ℕ) →
+            (printed : List ℕ) →
             EngineRepresentsBuffered S.represents S.piece self.old o pieces text printed →
-            IfOk result (λ next. Advances S.represents S.piece self.new o pieces text printed (slice_between chunk.now cursor.pos next.pos)
+            IfOk result (λ next. Advances S.represents S.piece self.new o pieces text printed
+            (slice_between chunk.now cursor.pos next.pos)
             (W.contents out.old.inner) (W.contents out.new.inner)
-            (self.old.buffered ++ slice_between chunk.now cursor.pending_start cursor.pos) (self.new.buffered ++ slice_between chunk.now next.pending_start next.pos)) }
-        ensures stops { (o : Options) → (pieces : List Judged → Judged → List ℕ) → (text : List ℕ) → (printed : List ℕ) →
+            (self.old.buffered ++ slice_between chunk.now cursor.pending_start cursor.pos)
+            (self.new.buffered ++ slice_between chunk.now next.pending_start next.pos)) }
+        ensures stops { (o : Options) → (pieces : List Judged → Judged → List ℕ) → (text : List ℕ) →
+            (printed : List ℕ) →
             EngineRepresentsBuffered S.represents S.piece self.old o pieces text printed →
-            IfErr result (StepFails o pieces (text ++ drop cursor.pos chunk.now) printed (W.contents out.old.inner) (W.contents out.new.inner)
+            IfErr result (StepFails o pieces (text ++ drop cursor.pos chunk.now) printed
+            (W.contents out.old.inner) (W.contents out.new.inner)
             (self.old.buffered ++ slice_between chunk.now cursor.pending_start cursor.pos)) }
         ensures not_failed { OnOk result (out.new.failed ≡ false) }
-        ensures output_unchanged { IfErr result (OutputUnchanged out.old out.new self.old.buffered self.new.buffered) }
+        ensures output_unchanged { IfErr result
+            (OutputUnchanged out.old out.new self.old.buffered self.new.buffered) }
         ensures fault_unchanged { self.new.fault ≡ self.old.fault }
     {
         let pending = &chunk[cursor.pending_start..cursor.pos];
@@ -410,18 +452,25 @@ impl<'p, S: Show, H: LineBuffer> Engine<'p, S, H> {
         requires cursor { IsCursor H.CAPACITY self.old.lines chunk.now cursor }
         requires some { cursor.pos < length chunk.now }
         ensures cursor { IfOk result (λ next. IsCursor H.CAPACITY self.new.lines chunk.now next) }
-        ensures progress { IfOk result (λ next. (cursor.pos ≤ next.pos) × (measure chunk.now next < measure chunk.now cursor)) }
-        ensures taken { (o : Options) → (pieces : List Judged → Judged → List ℕ) → (text : List ℕ) → (printed : List ℕ) →
+        ensures progress { IfOk result (λ next. (cursor.pos ≤ next.pos) ×
+            (measure chunk.now next < measure chunk.now cursor)) }
+        ensures taken { (o : Options) → (pieces : List Judged → Judged → List ℕ) → (text : List ℕ) →
+            (printed : List ℕ) →
             EngineRepresentsBuffered S.represents S.piece self.old o pieces text printed →
-            IfOk result (λ next. Advances S.represents S.piece self.new o pieces text printed (slice_between chunk.now cursor.pos next.pos)
+            IfOk result (λ next. Advances S.represents S.piece self.new o pieces text printed
+            (slice_between chunk.now cursor.pos next.pos)
             (W.contents out.old.inner) (W.contents out.new.inner)
-            (self.old.buffered ++ slice_between chunk.now cursor.pending_start cursor.pos) (self.new.buffered ++ slice_between chunk.now next.pending_start next.pos)) }
-        ensures stops { (o : Options) → (pieces : List Judged → Judged → List ℕ) → (text : List ℕ) → (printed : List ℕ) →
+            (self.old.buffered ++ slice_between chunk.now cursor.pending_start cursor.pos)
+            (self.new.buffered ++ slice_between chunk.now next.pending_start next.pos)) }
+        ensures stops { (o : Options) → (pieces : List Judged → Judged → List ℕ) → (text : List ℕ) →
+            (printed : List ℕ) →
             EngineRepresentsBuffered S.represents S.piece self.old o pieces text printed →
-            IfErr result (StepFails o pieces (text ++ drop cursor.pos chunk.now) printed (W.contents out.old.inner) (W.contents out.new.inner)
+            IfErr result (StepFails o pieces (text ++ drop cursor.pos chunk.now) printed
+            (W.contents out.old.inner) (W.contents out.new.inner)
             (self.old.buffered ++ slice_between chunk.now cursor.pending_start cursor.pos)) }
         ensures not_failed { OnOk result (out.new.failed ≡ false) }
-        ensures output_unchanged { IfErr result (OutputUnchanged out.old out.new self.old.buffered self.new.buffered) }
+        ensures output_unchanged { IfErr result
+            (OutputUnchanged out.old out.new self.old.buffered self.new.buffered) }
         ensures fault_unchanged { self.new.fault ≡ self.old.fault }
     {
         let pending = &chunk[cursor.pending_start..cursor.pos];
@@ -469,17 +518,24 @@ impl<'p, S: Show, H: LineBuffer> Engine<'p, S, H> {
         requires some { 0 < length rest.now }
         requires fits { HasCapacity H.CAPACITY self.old.lines (length rest.now) }
         ensures progress { IfOk result (λ used. (0 < used) × (used ≤ length rest.now)) }
-        ensures fits { IfOk result (λ used. HasCapacity H.CAPACITY self.new.lines (length rest.now - used)) }
-        ensures taken { (o : Options) → (pieces : List Judged → Judged → List ℕ) → (text : List ℕ) → (printed : List ℕ) →
+        ensures fits { IfOk result (λ used. HasCapacity H.CAPACITY self.new.lines
+            (length rest.now - used)) }
+        ensures taken { (o : Options) → (pieces : List Judged → Judged → List ℕ) → (text : List ℕ) →
+            (printed : List ℕ) →
             EngineRepresentsBuffered S.represents S.piece self.old o pieces text printed →
-            IfOk result (λ used. Advances S.represents S.piece self.new o pieces text printed (take used rest.now)
-            (W.contents out.old.inner) (W.contents out.new.inner) (self.old.buffered ++ pending.now) self.new.buffered) }
-        ensures stops { (o : Options) → (pieces : List Judged → Judged → List ℕ) → (text : List ℕ) → (printed : List ℕ) →
+            IfOk result (λ used. Advances S.represents S.piece self.new o pieces text printed
+            (take used rest.now)
+            (W.contents out.old.inner) (W.contents out.new.inner) (self.old.buffered ++ pending.now)
+            self.new.buffered) }
+        ensures stops { (o : Options) → (pieces : List Judged → Judged → List ℕ) → (text : List ℕ) →
+            (printed : List ℕ) →
             EngineRepresentsBuffered S.represents S.piece self.old o pieces text printed →
-            IfErr result (StepFails o pieces (text ++ rest.now) printed (W.contents out.old.inner) (W.contents out.new.inner)
+            IfErr result (StepFails o pieces (text ++ rest.now) printed (W.contents out.old.inner)
+            (W.contents out.new.inner)
             (self.old.buffered ++ pending.now)) }
         ensures not_failed { OnOk result (out.new.failed ≡ false) }
-        ensures output_unchanged { IfErr result (OutputUnchanged out.old out.new self.old.buffered self.new.buffered) }
+        ensures output_unchanged { IfErr result
+            (OutputUnchanged out.old out.new self.old.buffered self.new.buffered) }
         ensures fault_unchanged { self.new.fault ≡ self.old.fault }
     {
         let taken = match self.lines.take(rest) {
@@ -514,7 +570,8 @@ impl<'p, S: Show, H: LineBuffer> Engine<'p, S, H> {
         out: &mut Watched<W>,
     ) -> RunFault
         requires not_failed { ErrorMatchesFailure out.old.failed fault }
-        ensures written { FailsAfterFlush out.new.failed (W.contents out.old.inner) (W.contents out.new.inner) (self.old.buffered ++ pending.now) fault result }
+        ensures written { FailsAfterFlush out.new.failed (W.contents out.old.inner)
+            (W.contents out.new.inner) (self.old.buffered ++ pending.now) fault result }
     {
         match fault {
             RunFault::Write => RunFault::Write,
@@ -529,9 +586,11 @@ impl<'p, S: Show, H: LineBuffer> Engine<'p, S, H> {
     /// `false` if a write fails: a front of all these bytes is written, and `out` has failed.
     fn flush_pending<W: Write>(&mut self, pending: &[u8], out: &mut Watched<W>) -> bool
         requires not_failed { out.old.failed ≡ false }
-        ensures appends { AppendsAllButOrPrefix result (W.contents out.old.inner) (W.contents out.new.inner) (self.old.buffered ++ pending.now) [] }
+        ensures appends { AppendsAllButOrPrefix result (W.contents out.old.inner)
+            (W.contents out.new.inner) (self.old.buffered ++ pending.now) [] }
         ensures failed { out.new.failed ≡ not result }
-        ensures rest { (buffered : List ℕ) × (self.new ≡ record self.old { buffered = buffered }) × (result ≡ true → buffered ≡ []) }
+        ensures rest { (buffered : List ℕ) × (self.new ≡ record self.old { buffered = buffered }) ×
+            (result ≡ true → buffered ≡ []) }
     {
         self.output.append(pending, out) && self.output.flush_buffer(out)
     }
@@ -550,12 +609,18 @@ fn print_last_line<S: Show, H: LineBuffer, W: Write>(
 ) -> Result<(), RunFault>
     requires not_failed { out.old.failed ≡ false }
     requires opened { IsOpen lines.old }
-    ensures last { (o : Options) → (pieces : List Judged → Judged → List ℕ) → (text : List ℕ) → (printed : List ℕ) →
-        EngineRepresents S.represents S.piece (without_fault symbols.now lines.old printer.old output.old) o pieces text printed →
-        OnOk result (PrintsAll S.represents S.piece printer.new o pieces text printed (W.contents out.old.inner) (W.contents out.new.inner)) }
-    ensures fails { (o : Options) → (pieces : List Judged → Judged → List ℕ) → (text : List ℕ) → (printed : List ℕ) →
-        EngineRepresents S.represents S.piece (without_fault symbols.now lines.old printer.old output.old) o pieces text printed →
-        IfErr result (FinishErr o pieces out.new.failed (W.contents out.old.inner) (W.contents out.new.inner) text printed) }
+    ensures last { (o : Options) → (pieces : List Judged → Judged → List ℕ) → (text : List ℕ) →
+        (printed : List ℕ) →
+        EngineRepresents S.represents S.piece
+        (without_fault symbols.now lines.old printer.old output.old) o pieces text printed →
+        OnOk result (PrintsAll S.represents S.piece printer.new o pieces text printed
+        (W.contents out.old.inner) (W.contents out.new.inner)) }
+    ensures fails { (o : Options) → (pieces : List Judged → Judged → List ℕ) → (text : List ℕ) →
+        (printed : List ℕ) →
+        EngineRepresents S.represents S.piece
+        (without_fault symbols.now lines.old printer.old output.old) o pieces text printed →
+        IfErr result (FinishErr o pieces out.new.failed (W.contents out.old.inner)
+        (W.contents out.new.inner) text printed) }
     ensures not_failed { OnOk result (out.new.failed ≡ false) }
     ensures error_matches { IfErr result (ErrorMatchesWriter out.new.failed) }
     ensures limit { lines.new.last_line ≡ lines.old.last_line }

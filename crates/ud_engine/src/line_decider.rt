@@ -1,6 +1,7 @@
 //! Lines read one after another, by a scanner and a machine.
 
-ghost use Rattle.std.specs.Prelude.{◌≡◌, ◌≤◌, ◌+◌, ◌∷◌, [], ◌++◌, ℕ, suc, List, length, take, IfOk, IfErr, OnOk, false};
+ghost use Rattle.std.specs.Prelude.{◌≡◌, ◌≤◌, ◌+◌, ◌∷◌, [], ◌++◌, ℕ, suc, List, length, take, IfOk};
+ghost use Rattle.std.specs.Prelude.{IfErr, OnOk, false};
 ghost use Rattle.ud_model.specs.text.Lines.{NoNewline, whole_lines, numbered_from};
 ghost use Rattle.ud_model.specs.text.Scans.{Reading};
 ghost use Rattle.ud_model.specs.sections.Tree.{Item, Tree, closed, nothing};
@@ -35,13 +36,15 @@ pub(crate) struct LineDecider {
 }
 
 impl LineDecider {
-    ghost use Rattle.ud_engine.specs.DecidedLines.{DeciderRepresents, DecidesLine, DecidesBulk, consumed};
+    ghost use Rattle.ud_engine.specs.DecidedLines.{DeciderRepresents, DecidesLine, DecidesBulk};
+    ghost use Rattle.ud_engine.specs.DecidedLines.{consumed};
     ghost use Rattle.ud_engine.specs.NameListing.{ListsLine, ListErr};
     ghost use Rattle.ud_engine.specs.FaultEffects.{OutputUnchanged};
 
     /// Has read no line.
     pub(crate) fn new(settings: Settings) -> LineDecider
-        ensures { (o : Options) → o.settings ≡ settings → DeciderRepresents o result [] (closed nothing) }
+        ensures { (o : Options) → o.settings ≡ settings →
+            DeciderRepresents o result [] (closed nothing) }
     {
         LineDecider {
             scanner: ShortScanner::new(),
@@ -61,9 +64,11 @@ impl LineDecider {
     ) -> Result<Step, SectionFault>
         requires within { IsWithinLimits (as_line line.now) }
         requires one_line { NoNewline line.now.body.now }
-        ensures ok { (o : Options) → (xs : List (Item Reading)) → (t : Tree Reading) → TableRepresents symbols.now o.table → DeciderRepresents o self.old xs t →
+        ensures ok { (o : Options) → (xs : List (Item Reading)) → (t : Tree Reading) →
+            TableRepresents symbols.now o.table → DeciderRepresents o self.old xs t →
             IfOk result (DecidesLine o self.new xs t (as_line line.now)) }
-        ensures err { (o : Options) → (xs : List (Item Reading)) → (t : Tree Reading) → TableRepresents symbols.now o.table → DeciderRepresents o self.old xs t →
+        ensures err { (o : Options) → (xs : List (Item Reading)) → (t : Tree Reading) →
+            TableRepresents symbols.now o.table → DeciderRepresents o self.old xs t →
             IfErr result (λ f. FaultOf xs (next_item o xs t (as_line line.now)) (fault_of f)) }
         ensures cursor { IfOk result (λ s. HoldsKeyword s line.now) }
     {
@@ -83,9 +88,11 @@ impl LineDecider {
     fn decide_long(&mut self, line: &Line<'_>, symbols: &Symbols) -> Result<Step, SectionFault>
         requires within { IsWithinLimits (as_line line.now) }
         requires one_line { NoNewline line.now.body.now }
-        ensures ok { (o : Options) → (xs : List (Item Reading)) → (t : Tree Reading) → TableRepresents symbols.now o.table → DeciderRepresents o self.old xs t →
+        ensures ok { (o : Options) → (xs : List (Item Reading)) → (t : Tree Reading) →
+            TableRepresents symbols.now o.table → DeciderRepresents o self.old xs t →
             IfOk result (DecidesLine o self.new xs t (as_line line.now)) }
-        ensures err { (o : Options) → (xs : List (Item Reading)) → (t : Tree Reading) → TableRepresents symbols.now o.table → DeciderRepresents o self.old xs t →
+        ensures err { (o : Options) → (xs : List (Item Reading)) → (t : Tree Reading) →
+            TableRepresents symbols.now o.table → DeciderRepresents o self.old xs t →
             IfErr result (λ f. FaultOf xs (next_item o xs t (as_line line.now)) (fault_of f)) }
         ensures cursor { IfOk result (λ s. HoldsKeyword s line.now) }
     {
@@ -115,12 +122,18 @@ impl LineDecider {
         requires within { IsWithinLimits (as_line line.now) }
         requires one_line { NoNewline line.now.body.now }
         requires not_failed { out.old.failed ≡ false }
-        ensures ok { (o : Options) → (xs : List (Item Reading)) → (t : Tree Reading) → TableRepresents symbols.now o.table → DeciderRepresents o self.old xs t →
-            OnOk result (ListsLine o self.new xs t (as_line line.now) lister.old (W.contents out.old.inner) (W.contents out.new.inner) output.old output.new pending.now) }
-        ensures err { (o : Options) → (xs : List (Item Reading)) → (t : Tree Reading) → TableRepresents symbols.now o.table → DeciderRepresents o self.old xs t →
-            IfErr result (ListErr o xs t (as_line line.now) lister.old (W.contents out.old.inner) (W.contents out.new.inner) output.old pending.now) }
+        ensures ok { (o : Options) → (xs : List (Item Reading)) → (t : Tree Reading) →
+            TableRepresents symbols.now o.table → DeciderRepresents o self.old xs t →
+            OnOk result (ListsLine o self.new xs t (as_line line.now) lister.old
+            (W.contents out.old.inner) (W.contents out.new.inner)
+            output.old output.new pending.now) }
+        ensures err { (o : Options) → (xs : List (Item Reading)) → (t : Tree Reading) →
+            TableRepresents symbols.now o.table → DeciderRepresents o self.old xs t →
+            IfErr result (ListErr o xs t (as_line line.now) lister.old (W.contents out.old.inner)
+            (W.contents out.new.inner) output.old pending.now) }
         ensures not_failed { OnOk result (out.new.failed ≡ false) }
-        ensures output_unchanged { IfErr result (OutputUnchanged out.old out.new output.old output.new) }
+        ensures output_unchanged { IfErr result
+            (OutputUnchanged out.old out.new output.old output.new) }
         ensures stays { lister.new ≡ lister.old }
     {
         if line.body.len() > SHORT_LINE_BYTES {
@@ -159,12 +172,18 @@ impl LineDecider {
         requires within { IsWithinLimits (as_line line.now) }
         requires one_line { NoNewline line.now.body.now }
         requires not_failed { out.old.failed ≡ false }
-        ensures ok { (o : Options) → (xs : List (Item Reading)) → (t : Tree Reading) → TableRepresents symbols.now o.table → DeciderRepresents o self.old xs t →
-            OnOk result (ListsLine o self.new xs t (as_line line.now) lister.old (W.contents out.old.inner) (W.contents out.new.inner) output.old output.new pending.now) }
-        ensures err { (o : Options) → (xs : List (Item Reading)) → (t : Tree Reading) → TableRepresents symbols.now o.table → DeciderRepresents o self.old xs t →
-            IfErr result (ListErr o xs t (as_line line.now) lister.old (W.contents out.old.inner) (W.contents out.new.inner) output.old pending.now) }
+        ensures ok { (o : Options) → (xs : List (Item Reading)) → (t : Tree Reading) →
+            TableRepresents symbols.now o.table → DeciderRepresents o self.old xs t →
+            OnOk result (ListsLine o self.new xs t (as_line line.now) lister.old
+            (W.contents out.old.inner) (W.contents out.new.inner)
+            output.old output.new pending.now) }
+        ensures err { (o : Options) → (xs : List (Item Reading)) → (t : Tree Reading) →
+            TableRepresents symbols.now o.table → DeciderRepresents o self.old xs t →
+            IfErr result (ListErr o xs t (as_line line.now) lister.old (W.contents out.old.inner)
+            (W.contents out.new.inner) output.old pending.now) }
         ensures not_failed { OnOk result (out.new.failed ≡ false) }
-        ensures output_unchanged { IfErr result (OutputUnchanged out.old out.new output.old output.new) }
+        ensures output_unchanged { IfErr result
+            (OutputUnchanged out.old out.new output.old output.new) }
         ensures stays { lister.new ≡ lister.old }
     {
         let mode = self.machine.mode();
@@ -201,9 +220,12 @@ impl LineDecider {
         ensures bound { result ≤ length bytes.now }
         ensures ends { AreWholeLines (take result bytes.now) }
         ensures consumed { lines.new ≡ consumed lines.old (take result bytes.now) }
-        ensures represents { (text : List ℕ) → LinesRepresent lines.old text → LinesRepresent lines.new (text ++ take result bytes.now) }
-        ensures read { (o : Options) → (xs : List (Item Reading)) → (t : Tree Reading) → DeciderRepresents o self.old xs t →
-            DecidesBulk o self.new xs t (numbered_from (suc lines.old.before) (whole_lines (take result bytes.now))) (text_verdict self.old.machine) }
+        ensures represents { (text : List ℕ) → LinesRepresent lines.old text →
+            LinesRepresent lines.new (text ++ take result bytes.now) }
+        ensures read { (o : Options) → (xs : List (Item Reading)) → (t : Tree Reading) →
+            DeciderRepresents o self.old xs t →
+            DecidesBulk o self.new xs t (numbered_from (suc lines.old.before)
+            (whole_lines (take result bytes.now))) (text_verdict self.old.machine) }
     {
         let mode = self.machine.mode();
         let count = self.scanner.skip_text(mode, bytes);
@@ -220,7 +242,8 @@ impl LineDecider {
     /// # Errors
     /// The text ends in a block comment, or else in a section.
     pub(crate) fn finish(&self) -> Result<(), SectionFault>
-        ensures { (o : Options) → (xs : List (Item Reading)) → (t : Tree Reading) → DeciderRepresents o self.now xs t → end_fault_of result ≡ end_fault xs t }
+        ensures { (o : Options) → (xs : List (Item Reading)) → (t : Tree Reading) →
+            DeciderRepresents o self.now xs t → end_fault_of result ≡ end_fault xs t }
     {
         self.machine.finish(self.scanner.in_comment())
     }

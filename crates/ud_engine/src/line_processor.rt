@@ -1,6 +1,7 @@
 //! Reading lines, and printing what is left of them.
 
-ghost use Rattle.std.specs.Prelude.{◌≡◌, bytes_eq, ◌∷◌, [], ◌++◌, ◌≤◌, List, ℕ, suc, length, take, IfOk, IfErr, IfSome, IfNone, OnOk, true, false, is_none};
+ghost use Rattle.std.specs.Prelude.{◌≡◌, bytes_eq, ◌∷◌, [], ◌++◌, ◌≤◌, List, ℕ, suc, length, take};
+ghost use Rattle.std.specs.Prelude.{IfOk, IfErr, IfSome, IfNone, OnOk, true, false, is_none};
 ghost use Rattle.ud_model.specs.text.Lines.{NoNewline, text_of, whole_lines, numbered_from};
 ghost use Rattle.ud_model.specs.text.Scans.{Reading};
 ghost use Rattle.ud_model.specs.sections.Tree.{Item, Tree, closed, nothing};
@@ -64,11 +65,13 @@ fn lister_of(listing: Listing) -> Option<Lister>
 }
 
 impl<S: Show> LineProcessor<S> {
-    ghost use Rattle.ud_engine.specs.ProcessedLines.{ProcessorRepresents, PrintsLine, PrintErr, PrintsBulk, differs_in};
+    ghost use Rattle.ud_engine.specs.ProcessedLines.{ProcessorRepresents, PrintsLine, PrintErr};
+    ghost use Rattle.ud_engine.specs.ProcessedLines.{PrintsBulk, differs_in};
 
     /// Has read no line, and prints by this printer.
     pub(crate) fn new(settings: Settings, printer: S) -> LineProcessor<S>
-        ensures { (o : Options) → (piece : List Judged → Judged → List ℕ) → o.settings ≡ settings → S.represents printer [] →
+        ensures { (o : Options) → (piece : List Judged → Judged → List ℕ) → o.settings ≡ settings →
+            S.represents printer [] →
             ((before : List Judged) → (j : Judged) → S.piece printer before j ≡ piece before j) →
             ProcessorRepresents S.represents S.piece result o piece [] (closed nothing) }
     {
@@ -97,15 +100,23 @@ impl<S: Show> LineProcessor<S> {
         requires within { IsWithinLimits (as_line line.now) }
         requires one_line { NoNewline line.now.body.now }
         requires not_failed { out.old.failed ≡ false }
-        ensures ok { (o : Options) → (piece : List Judged → Judged → List ℕ) → (xs : List (Item Reading)) → (t : Tree Reading) →
-            TableRepresents symbols.now o.table → ProcessorRepresents S.represents S.piece self.old o piece xs t →
-            IfOk result (λ put. PrintsLine S.represents S.piece self.new o piece xs t (as_line line.now) put
-            (W.contents out.old.inner) (W.contents out.new.inner) output.old output.new pending.now) }
-        ensures err { (o : Options) → (piece : List Judged → Judged → List ℕ) → (xs : List (Item Reading)) → (t : Tree Reading) →
-            TableRepresents symbols.now o.table → ProcessorRepresents S.represents S.piece self.old o piece xs t →
-            IfErr result (PrintErr o piece xs t (as_line line.now) (W.contents out.old.inner) (W.contents out.new.inner) output.old pending.now) }
+        ensures ok { (o : Options) → (piece : List Judged → Judged → List ℕ) →
+            (xs : List (Item Reading)) → (t : Tree Reading) →
+            TableRepresents symbols.now o.table →
+            ProcessorRepresents S.represents S.piece self.old o piece xs t →
+            IfOk result (λ put. PrintsLine S.represents S.piece self.new o piece xs t
+            (as_line line.now) put
+            (W.contents out.old.inner) (W.contents out.new.inner)
+            output.old output.new pending.now) }
+        ensures err { (o : Options) → (piece : List Judged → Judged → List ℕ) →
+            (xs : List (Item Reading)) → (t : Tree Reading) →
+            TableRepresents symbols.now o.table →
+            ProcessorRepresents S.represents S.piece self.old o piece xs t →
+            IfErr result (PrintErr o piece xs t (as_line line.now) (W.contents out.old.inner)
+            (W.contents out.new.inner) output.old pending.now) }
         ensures not_failed { OnOk result (out.new.failed ≡ false) }
-        ensures output_unchanged { IfErr result (OutputUnchanged out.old out.new output.old output.new) }
+        ensures output_unchanged { IfErr result
+            (OutputUnchanged out.old out.new output.old output.new) }
     {
         match &mut self.lister {
             Some(lister) => match self
@@ -143,15 +154,23 @@ impl<S: Show> LineProcessor<S> {
         requires within { IsWithinLimits (as_line line.now) }
         requires one_line { NoNewline line.now.body.now }
         requires not_failed { out.old.failed ≡ false }
-        ensures ok { (o : Options) → (piece : List Judged → Judged → List ℕ) → (xs : List (Item Reading)) → (t : Tree Reading) →
-            TableRepresents symbols.now o.table → ProcessorRepresents S.represents S.piece self.old o piece xs t →
-            OnOk result (PrintsLine S.represents S.piece self.new o piece xs t (as_line line.now) true
-            (W.contents out.old.inner) (W.contents out.new.inner) output.old output.new pending.now) }
-        ensures err { (o : Options) → (piece : List Judged → Judged → List ℕ) → (xs : List (Item Reading)) → (t : Tree Reading) →
-            TableRepresents symbols.now o.table → ProcessorRepresents S.represents S.piece self.old o piece xs t →
-            IfErr result (PrintErr o piece xs t (as_line line.now) (W.contents out.old.inner) (W.contents out.new.inner) output.old pending.now) }
+        ensures ok { (o : Options) → (piece : List Judged → Judged → List ℕ) →
+            (xs : List (Item Reading)) → (t : Tree Reading) →
+            TableRepresents symbols.now o.table →
+            ProcessorRepresents S.represents S.piece self.old o piece xs t →
+            OnOk result (PrintsLine S.represents S.piece self.new o piece xs t (as_line line.now)
+            true
+            (W.contents out.old.inner) (W.contents out.new.inner)
+            output.old output.new pending.now) }
+        ensures err { (o : Options) → (piece : List Judged → Judged → List ℕ) →
+            (xs : List (Item Reading)) → (t : Tree Reading) →
+            TableRepresents symbols.now o.table →
+            ProcessorRepresents S.represents S.piece self.old o piece xs t →
+            IfErr result (PrintErr o piece xs t (as_line line.now) (W.contents out.old.inner)
+            (W.contents out.new.inner) output.old pending.now) }
         ensures not_failed { OnOk result (out.new.failed ≡ false) }
-        ensures output_unchanged { IfErr result (OutputUnchanged out.old out.new output.old output.new) }
+        ensures output_unchanged { IfErr result
+            (OutputUnchanged out.old out.new output.old output.new) }
     {
         match self.print(line, symbols, pending, output, out) {
             Err(fault) => Err(fault),
@@ -179,10 +198,13 @@ impl<S: Show> LineProcessor<S> {
         ensures bound { result.count ≤ length bytes.now }
         ensures ends { AreWholeLines (take result.count bytes.now) }
         ensures consumed { lines.new ≡ consumed lines.old (take result.count bytes.now) }
-        ensures represents { (text : List ℕ) → LinesRepresent lines.old text → LinesRepresent lines.new (text ++ take result.count bytes.now) }
-        ensures printed { (o : Options) → (piece : List Judged → Judged → List ℕ) → (xs : List (Item Reading)) → (t : Tree Reading) →
+        ensures represents { (text : List ℕ) → LinesRepresent lines.old text →
+            LinesRepresent lines.new (text ++ take result.count bytes.now) }
+        ensures printed { (o : Options) → (piece : List Judged → Judged → List ℕ) →
+            (xs : List (Item Reading)) → (t : Tree Reading) →
             ProcessorRepresents S.represents S.piece self.old o piece xs t →
-            PrintsBulk S.represents S.piece self.new o piece xs t (numbered_from (suc lines.old.before) (whole_lines (take result.count bytes.now)))
+            PrintsBulk S.represents S.piece self.new o piece xs t
+            (numbered_from (suc lines.old.before) (whole_lines (take result.count bytes.now)))
             (printed_of result bytes.now) }
     {
         let none = SkippedText {
@@ -214,16 +236,20 @@ impl<S: Show> LineProcessor<S> {
     /// # Errors
     /// The text ends in a block comment, or else in a section.
     pub(crate) fn finish(&self) -> Result<(), SectionFault>
-        ensures { (o : Options) → (piece : List Judged → Judged → List ℕ) → (xs : List (Item Reading)) → (t : Tree Reading) →
-            ProcessorRepresents S.represents S.piece self.now o piece xs t → end_fault_of result ≡ end_fault xs t }
+        ensures { (o : Options) → (piece : List Judged → Judged → List ℕ) →
+            (xs : List (Item Reading)) → (t : Tree Reading) →
+            ProcessorRepresents S.represents S.piece self.now o piece xs t →
+            end_fault_of result ≡ end_fault xs t }
     {
         self.decider.finish()
     }
 
     /// Whether what was printed of some line isn't the line itself; never if names are listed.
     pub(crate) fn differs(&self) -> bool
-        ensures { (o : Options) → (piece : List Judged → Judged → List ℕ) → (xs : List (Item Reading)) → (t : Tree Reading) →
-            ProcessorRepresents S.represents S.piece self.now o piece xs t → result ≡ differs_in o.settings.listing piece xs t }
+        ensures { (o : Options) → (piece : List Judged → Judged → List ℕ) →
+            (xs : List (Item Reading)) → (t : Tree Reading) →
+            ProcessorRepresents S.represents S.piece self.now o piece xs t →
+            result ≡ differs_in o.settings.listing piece xs t }
     {
         self.differs
     }
@@ -245,13 +271,17 @@ fn append_line<S: Show, W: Write>(
 ) -> Option<bool>
     requires not_failed { out.old.failed ≡ false }
     requires keyword { HoldsKeyword step line.now }
-    ensures represents { (before : List Judged) → S.represents show.old before → S.represents show.new (before ++ judged_step line.now step ∷ []) }
-    ensures stays { (before : List Judged) → (j : Judged) → S.piece show.new before j ≡ S.piece show.old before j }
+    ensures represents { (before : List Judged) → S.represents show.old before →
+        S.represents show.new (before ++ judged_step line.now step ∷ []) }
+    ensures stays { (before : List Judged) → (j : Judged) →
+        S.piece show.new before j ≡ S.piece show.old before j }
     ensures failed { out.new.failed ≡ is_none result }
     ensures none { IfNone result ((before : List Judged) → S.represents show.old before →
-        AppendsPrefix (W.contents out.old.inner) (W.contents out.new.inner) (output.old ++ (pending.now ++ S.piece show.old before (judged_step line.now step)))) }
+        AppendsPrefix (W.contents out.old.inner) (W.contents out.new.inner) (output.old ++
+        (pending.now ++ S.piece show.old before (judged_step line.now step)))) }
     ensures some { IfSome result (λ shown. (before : List Judged) → S.represents show.old before →
-        ShowsLine shown (W.contents out.old.inner) (W.contents out.new.inner) output.old output.new pending.now
+        ShowsLine shown (W.contents out.old.inner) (W.contents out.new.inner) output.old output.new
+        pending.now
         (S.piece show.old before (judged_step line.now step)) (text_of (as_line line.now))) }
 {
     match show.line_output(step.verdict) {
@@ -278,9 +308,11 @@ fn append_line_output<W: Write>(
     requires not_failed { out.old.failed ≡ false }
     requires left { IsLeftOf left.now line.now.ending.now }
     ensures failed { out.new.failed ≡ is_none result }
-    ensures none { IfNone result (AppendsPrefix (W.contents out.old.inner) (W.contents out.new.inner) (output.old ++ (pending.now ++ left.now))) }
+    ensures none { IfNone result (AppendsPrefix (W.contents out.old.inner)
+        (W.contents out.new.inner) (output.old ++ (pending.now ++ left.now))) }
     ensures some { IfSome result (λ shown.
-        ShowsLine shown (W.contents out.old.inner) (W.contents out.new.inner) output.old output.new pending.now left.now (text_of (as_line line.now))) }
+        ShowsLine shown (W.contents out.old.inner) (W.contents out.new.inner) output.old output.new
+        pending.now left.now (text_of (as_line line.now))) }
 {
     if is_line(left, line) {
         return Some(false);
@@ -320,13 +352,17 @@ fn append_parts_of<S: Show, W: Write>(
 ) -> Option<bool>
     requires not_failed { out.old.failed ≡ false }
     requires keyword { HoldsKeyword step line.now }
-    ensures represents { (before : List Judged) → S.represents show.old before → S.represents show.new (before ++ judged_step line.now step ∷ []) }
-    ensures stays { (before : List Judged) → (j : Judged) → S.piece show.new before j ≡ S.piece show.old before j }
+    ensures represents { (before : List Judged) → S.represents show.old before →
+        S.represents show.new (before ++ judged_step line.now step ∷ []) }
+    ensures stays { (before : List Judged) → (j : Judged) →
+        S.piece show.new before j ≡ S.piece show.old before j }
     ensures failed { out.new.failed ≡ is_none result }
     ensures none { IfNone result ((before : List Judged) → S.represents show.old before →
-        AppendsPrefix (W.contents out.old.inner) (W.contents out.new.inner) (output.old ++ (pending.now ++ S.piece show.old before (judged_step line.now step)))) }
+        AppendsPrefix (W.contents out.old.inner) (W.contents out.new.inner) (output.old ++
+        (pending.now ++ S.piece show.old before (judged_step line.now step)))) }
     ensures some { IfSome result (λ shown. (before : List Judged) → S.represents show.old before →
-        ShowsLine shown (W.contents out.old.inner) (W.contents out.new.inner) output.old output.new pending.now
+        ShowsLine shown (W.contents out.old.inner) (W.contents out.new.inner) output.old output.new
+        pending.now
         (S.piece show.old before (judged_step line.now step)) (text_of (as_line line.now))) }
 {
     let line = Line {

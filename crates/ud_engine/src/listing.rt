@@ -21,7 +21,8 @@ pub(crate) fn append_names<W: Write>(
     out: &mut Watched<W>,
 ) -> bool
     requires not_failed { out.old.failed ≡ false }
-    ensures appends { AppendsAllButOrPrefix result (W.contents out.old.inner) (W.contents out.new.inner) (output.old ++ listed_names prefix.now names.entry) output.new }
+    ensures appends { AppendsAllButOrPrefix result (W.contents out.old.inner)
+        (W.contents out.new.inner) (output.old ++ listed_names prefix.now names.entry) output.new }
     ensures failed { out.new.failed ≡ not result }
 {
     for name in names {
@@ -43,7 +44,8 @@ fn append_name<W: Write>(
     out: &mut Watched<W>,
 ) -> bool
     requires not_failed { out.old.failed ≡ false }
-    ensures appends { AppendsAllButOrPrefix result (W.contents out.old.inner) (W.contents out.new.inner) (output.old ++ name_line prefix.now name.now) output.new }
+    ensures appends { AppendsAllButOrPrefix result (W.contents out.old.inner)
+        (W.contents out.new.inner) (output.old ++ name_line prefix.now name.now) output.new }
     ensures failed { out.new.failed ≡ not result }
 {
     output.append_parts(&[prefix, name, b"\n"], out)

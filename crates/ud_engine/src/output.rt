@@ -40,7 +40,8 @@ impl Output {
     #[inline(always)]
     pub(crate) fn append<W: Write>(&mut self, bytes: &[u8], out: &mut Watched<W>) -> bool
         requires not_failed { out.old.failed ≡ false }
-        ensures appends { AppendsAllButOrPrefix result (W.contents out.old.inner) (W.contents out.new.inner) (self.old ++ bytes.now) self.new }
+        ensures appends { AppendsAllButOrPrefix result (W.contents out.old.inner)
+            (W.contents out.new.inner) (self.old ++ bytes.now) self.new }
         ensures failed { out.new.failed ≡ not result }
     {
         if bytes.is_empty() {
@@ -52,7 +53,8 @@ impl Output {
     /// The same of bytes of which there are some.
     fn append_nonempty<W: Write>(&mut self, bytes: &[u8], out: &mut Watched<W>) -> bool
         requires not_failed { out.old.failed ≡ false }
-        ensures appends { AppendsAllButOrPrefix result (W.contents out.old.inner) (W.contents out.new.inner) (self.old ++ bytes.now) self.new }
+        ensures appends { AppendsAllButOrPrefix result (W.contents out.old.inner)
+            (W.contents out.new.inner) (self.old ++ bytes.now) self.new }
         ensures failed { out.new.failed ≡ not result }
     {
         if self.buffered.try_append(bytes) {
@@ -73,7 +75,8 @@ impl Output {
     /// As `append`.
     pub(crate) fn append_parts<W: Write>(&mut self, parts: &[&[u8]], out: &mut Watched<W>) -> bool
         requires not_failed { out.old.failed ≡ false }
-        ensures appends { AppendsAllButOrPrefix result (W.contents out.old.inner) (W.contents out.new.inner) (self.old ++ flat_map (λ p. p.now) parts.now) self.new }
+        ensures appends { AppendsAllButOrPrefix result (W.contents out.old.inner)
+            (W.contents out.new.inner) (self.old ++ flat_map (λ p. p.now) parts.now) self.new }
         ensures failed { out.new.failed ≡ not result }
     {
         for part in parts {
@@ -90,7 +93,8 @@ impl Output {
     /// `false` if a write fails: a front of the bytes is written, and `out` has failed.
     pub(crate) fn flush_buffer<W: Write>(&mut self, out: &mut Watched<W>) -> bool
         requires not_failed { out.old.failed ≡ false }
-        ensures appends { AppendsAllButOrPrefix result (W.contents out.old.inner) (W.contents out.new.inner) self.old self.new }
+        ensures appends { AppendsAllButOrPrefix result (W.contents out.old.inner)
+            (W.contents out.new.inner) self.old self.new }
         ensures failed { out.new.failed ≡ not result }
         ensures all { result ≡ true → self.new ≡ [] }
     {

@@ -1,10 +1,12 @@
 //! A run over a reader.
 
-ghost use Rattle.std.specs.Prelude.{◌≡◌, ◌<◌, ℕ, List, Option, true, false, Ok, Err, IfSome, IfNone, IfErr, OnOk};
+ghost use Rattle.std.specs.Prelude.{◌≡◌, ◌<◌, ℕ, List, Option, true, false, Ok, Err, IfSome};
+ghost use Rattle.std.specs.Prelude.{IfNone, IfErr, OnOk};
 ghost use Rattle.ud_model.specs.sections.Items.{Options};
 ghost use Rattle.ud_cond.specs.SymbolTable.{TableRepresents};
 ghost use Rattle.ud_engine.specs.Finishing.{RunAnswers};
-ghost use Rattle.ud_engine.specs.Runs.{LagsOneRead, RunEnded, RepresentsSomeText, InProgress, RunFinished, ErrorMatchesStreams};
+ghost use Rattle.ud_engine.specs.Runs.{LagsOneRead, RunEnded, RepresentsSomeText, InProgress};
+ghost use Rattle.ud_engine.specs.Runs.{RunFinished, ErrorMatchesStreams};
 ghost use Rattle.ud_model.specs.declared.limits.TheConstants.{LINE_BYTES};
 
 use crate::engine::Engine;
@@ -36,16 +38,24 @@ pub fn run<R: Read, W: Write>(
 ) -> Result<bool, RunFault>
     requires reader { reader.old.failed ≡ false }
     requires out { out.old.failed ≡ false }
-    ensures ran { (o : Options) → o.settings ≡ plan.now.settings → TableRepresents plan.now.symbols o.table →
-        reader.new.failed ≡ false → out.new.failed ≡ false → IfSome (R.remaining reader.old.inner) (λ input.
+    ensures ran { (o : Options) → o.settings ≡ plan.now.settings →
+        TableRepresents plan.now.symbols o.table →
+        reader.new.failed ≡ false → out.new.failed ≡ false →
+        IfSome (R.remaining reader.old.inner) (λ input.
         RunAnswers o input (W.contents out.old.inner) (W.contents out.new.inner) result) }
-    ensures lag { (o : Options) → o.settings ≡ plan.now.settings → TableRepresents plan.now.symbols o.table →
-        LagsOneRead o (R.remaining reader.old.inner) (R.remaining reader.new.inner) (W.contents out.old.inner) (W.contents out.new.inner) }
-    ensures ended { (o : Options) → o.settings ≡ plan.now.settings → TableRepresents plan.now.symbols o.table →
-        RunEnded o (R.remaining reader.old.inner) (R.remaining reader.new.inner) (W.contents out.old.inner) (W.contents out.new.inner) result }
+    ensures lag { (o : Options) → o.settings ≡ plan.now.settings →
+        TableRepresents plan.now.symbols o.table →
+        LagsOneRead o (R.remaining reader.old.inner) (R.remaining reader.new.inner)
+        (W.contents out.old.inner) (W.contents out.new.inner) }
+    ensures ended { (o : Options) → o.settings ≡ plan.now.settings →
+        TableRepresents plan.now.symbols o.table →
+        RunEnded o (R.remaining reader.old.inner) (R.remaining reader.new.inner)
+        (W.contents out.old.inner) (W.contents out.new.inner) result }
     ensures not_failed { OnOk result ((reader.new.failed ≡ false) × (out.new.failed ≡ false)) }
-    ensures read_fails { (reader.new.failed ≡ true → result ≡ Err RunFault.Read) × (result ≡ Err RunFault.Read → reader.new.failed ≡ true) }
-    ensures write_fails { (out.new.failed ≡ true → result ≡ Err RunFault.Write) × (result ≡ Err RunFault.Write → out.new.failed ≡ true) }
+    ensures read_fails { (reader.new.failed ≡ true → result ≡ Err RunFault.Read) ×
+        (result ≡ Err RunFault.Read → reader.new.failed ≡ true) }
+    ensures write_fails { (out.new.failed ≡ true → result ≡ Err RunFault.Write) ×
+        (result ≡ Err RunFault.Write → out.new.failed ≡ true) }
 {
     let mut engine: Engine<'_, Printer, ShortLineBuffer> = Engine::with_buffer(
         plan,
@@ -73,8 +83,10 @@ fn run_with_long_buffer<R: Read, W: Write>(
     requires out { out.old.failed ≡ false }
     requires begun { RepresentsSomeText short.old }
     ensures finished { (o : Options) → (read written : Option (List ℕ)) →
-        InProgress short.old o read (R.remaining reader.old.inner) written (W.contents out.old.inner) →
-        RunFinished o read (R.remaining reader.new.inner) written (W.contents out.new.inner) reader.new.failed out.new.failed result }
+        InProgress short.old o read (R.remaining reader.old.inner) written
+        (W.contents out.old.inner) →
+        RunFinished o read (R.remaining reader.new.inner) written (W.contents out.new.inner)
+        reader.new.failed out.new.failed result }
     ensures error_matches { ErrorMatchesStreams reader.new.failed out.new.failed result }
 {
     let mut engine: Engine<'_, Printer, LongLineBuffer> = short.take_as_long(Printer::of(
@@ -100,12 +112,17 @@ fn pump<R: Read, W: Write, H: LineBuffer>(
     requires out { out.old.failed ≡ false }
     requires begun { RepresentsSomeText engine.old }
     ensures finished { (o : Options) → (read written : Option (List ℕ)) →
-        InProgress engine.old o read (R.remaining reader.old.inner) written (W.contents out.old.inner) →
-        IfSome result (λ ended. RunFinished o read (R.remaining reader.new.inner) written (W.contents out.new.inner) reader.new.failed out.new.failed ended) }
-    ensures error_matches { IfSome result (λ ended. ErrorMatchesStreams reader.new.failed out.new.failed ended) }
+        InProgress engine.old o read (R.remaining reader.old.inner) written
+        (W.contents out.old.inner) →
+        IfSome result (λ ended. RunFinished o read (R.remaining reader.new.inner) written
+        (W.contents out.new.inner) reader.new.failed out.new.failed ended) }
+    ensures error_matches { IfSome result
+        (λ ended. ErrorMatchesStreams reader.new.failed out.new.failed ended) }
     ensures goes_on { (o : Options) → (read written : Option (List ℕ)) →
-        InProgress engine.old o read (R.remaining reader.old.inner) written (W.contents out.old.inner) →
-        IfNone result (InProgress engine.new o read (R.remaining reader.new.inner) written (W.contents out.new.inner)) }
+        InProgress engine.old o read (R.remaining reader.old.inner) written
+        (W.contents out.old.inner) →
+        IfNone result (InProgress engine.new o read (R.remaining reader.new.inner) written
+        (W.contents out.new.inner)) }
     ensures begun { IfNone result (RepresentsSomeText engine.new) }
     ensures not_failed { IfNone result ((reader.new.failed ≡ false) × (out.new.failed ≡ false)) }
     ensures full { IfNone result (H.CAPACITY < LINE_BYTES) }

@@ -13,6 +13,7 @@ pub record AppendsAllBut (old new : Option (List ℕ)) (bytes rest : List ℕ) :
   pub appended : Appends old new front
 
 -- of these bytes all but the rest were appended; or, if a write failed, a front of them
-abbrev pub AppendsAllButOrPrefix : Bool → Option (List ℕ) → Option (List ℕ) → List ℕ → List ℕ → Type 0
+abbrev pub AppendsAllButOrPrefix : Bool → Option (List ℕ) → Option (List ℕ) → List ℕ → List ℕ →
+    Type 0
 AppendsAllButOrPrefix true old new bytes rest = AppendsAllBut old new bytes rest
 AppendsAllButOrPrefix false old new bytes rest = AppendsPrefix old new bytes

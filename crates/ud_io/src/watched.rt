@@ -65,7 +65,8 @@ impl<R: Read> Watched<R> {
     /// is open, and the reader has failed for good.
     pub fn read(&mut self, buf: &mut [u8]) -> Option<usize>
         requires not_failed { self.old.failed ≡ false }
-        ensures once { ReadsOnce (R.remaining self.old.inner) (R.remaining self.new.inner) result buf.new }
+        ensures once { ReadsOnce (R.remaining self.old.inner) (R.remaining self.new.inner) result
+            buf.new }
         ensures failed { self.new.failed ≡ is_none result }
     {
         match self.inner.read(buf) {
@@ -88,7 +89,8 @@ impl<W: Write> Watched<W> {
     /// least one byte. No byte was written, and the writer has failed for good.
     pub fn write(&mut self, bytes: &[u8]) -> Option<usize>
         requires not_failed { self.old.failed ≡ false }
-        ensures once { WritesOnce (W.contents self.old.inner) (W.contents self.new.inner) result bytes.now }
+        ensures once { WritesOnce (W.contents self.old.inner) (W.contents self.new.inner) result
+            bytes.now }
         ensures failed { self.new.failed ≡ is_none result }
     {
         match self.inner.write(bytes) {

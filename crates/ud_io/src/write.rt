@@ -12,7 +12,8 @@ use std::io::Write;
 /// `false` if a write fails: a front of the bytes is written, and `out` has failed.
 pub fn write_all<W: Write>(out: &mut Watched<W>, bytes: &[u8]) -> bool
     requires not_failed { out.old.failed ≡ false }
-    ensures written { AppendsAllOrPrefix out.new.failed (W.contents out.old.inner) (W.contents out.new.inner)
+    ensures written { AppendsAllOrPrefix out.new.failed (W.contents out.old.inner)
+        (W.contents out.new.inner)
         bytes.now }
     ensures failed { out.new.failed ≡ not result }
     ensures empty { bytes.now ≡ [] → out.new ≡ out.old }

@@ -4,7 +4,9 @@
 //! specs/text/Bytes.antt, and which text names a symbol in specs/answer/SymbolArguments.antt.
 
 ghost use Rattle.std.specs.Prelude.{◌≡◌, ◌≤◌, take, drop, length};
-ghost use Rattle.ud_model.specs.text.Bytes.{is_white, is_digit, is_word_byte, is_identifier, are_white, are_word_bytes, skip_white, leading_word, skip_word};
+ghost use Rattle.ud_model.specs.text.Bytes.{is_white, is_digit, is_word_byte, is_identifier};
+ghost use Rattle.ud_model.specs.text.Bytes.{are_white, are_word_bytes, skip_white, leading_word};
+ghost use Rattle.ud_model.specs.text.Bytes.{skip_word};
 ghost use Rattle.ud_model.specs.answer.SymbolArguments.{is_name};
 
 /// Whether a byte is white space within a line: space, tab, vertical tab, form feed or carriage return.

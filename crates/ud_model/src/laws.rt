@@ -1,11 +1,14 @@
 //! Laws over the definitions: functions without a body, whose contracts are theorems.
 
-ghost use Rattle.std.specs.Prelude.{◌≡◌, ◌≢◌, ◌++◌, ℕ, suc, List, [], ◌∷◌, length, map, true, false, Bool, Option, Some, ℤ, pos, bytes_eq, codes};
-ghost use Rattle.ud_model.specs.text.Lines.{Line, AreLines, AreSplitLines, texts_of, text_of, lines_of, whole_lines, partial_line};
+ghost use Rattle.std.specs.Prelude.{◌≡◌, ◌≢◌, ◌++◌, ℕ, suc, List, [], ◌∷◌, length, map, true};
+ghost use Rattle.std.specs.Prelude.{false, Bool, Option, Some, ℤ, pos, bytes_eq, codes};
+ghost use Rattle.ud_model.specs.text.Lines.{Line, AreLines, AreSplitLines, texts_of, text_of};
+ghost use Rattle.ud_model.specs.text.Lines.{lines_of, whole_lines, partial_line};
 ghost use Rattle.ud_model.specs.text.Scans.{Reading};
 ghost use Rattle.ud_model.specs.text.Splicing.{content, c_run_of};
 ghost use Rattle.ud_model.specs.text.Lexemes.{Lexeme, Cell, AreLexemes, cells_of, lex, shown};
-ghost use Rattle.ud_model.specs.text.Scanning.{content_cells, scan_after, next_reading, readings_after, readings_of};
+ghost use Rattle.ud_model.specs.text.Scanning.{content_cells, scan_after, next_reading};
+ghost use Rattle.ud_model.specs.text.Scanning.{readings_after, readings_of};
 ghost use Rattle.ud_model.specs.declared.kind.Mode.{Mode};
 ghost use Rattle.ud_model.specs.sections.Tree.{Item, Tree, lines};
 ghost use Rattle.ud_model.specs.sections.Pruning.{Mark, marks, marks_in};
@@ -14,7 +17,8 @@ ghost use Rattle.ud_model.specs.sections.Items.{Options, line_of};
 ghost use Rattle.ud_model.specs.answer.Printing.{Judged, judged_lines, pieces_by};
 ghost use Rattle.ud_model.specs.answer.Listing.{levels};
 ghost use Rattle.ud_model.specs.sections.Faults.{Fault, FaultOf, NoneHolds, cases};
-ghost use Rattle.ud_model.specs.answer.Outcomes.{Outcome, ReadsAs, ReadsSoFar, HasOutcome, HasOutcomeSoFar};
+ghost use Rattle.ud_model.specs.answer.Outcomes.{Outcome, ReadsAs, ReadsSoFar, HasOutcome};
+ghost use Rattle.ud_model.specs.answer.Outcomes.{HasOutcomeSoFar};
 ghost use Rattle.ud_model.specs.answer.CommandLine.{option_letters, operands_from, parsed_from};
 ghost use Rattle.ud_model.specs.answer.SingleArguments.{letters_give, given_next};
 ghost use Rattle.ud_model.specs.answer.Answer.{Answer, IsAnswer};
@@ -23,7 +27,8 @@ ghost use Rattle.ud_model.specs.conditions.Symbols.{ResolvesTo, resolve};
 ghost use Rattle.ud_model.specs.conditions.Expressions.{Expression, IsWritten};
 ghost use Rattle.ud_model.specs.aids.Parsing.{expression_of};
 ghost use Rattle.ud_model.specs.conditions.Values.{value_of};
-ghost use Rattle.ud_model.specs.conditions.Conditions.{Rules, tree_cond, expression_cond, condition_of};
+ghost use Rattle.ud_model.specs.conditions.Conditions.{Rules, tree_cond, expression_cond};
+ghost use Rattle.ud_model.specs.conditions.Conditions.{condition_of};
 ghost use Rattle.ud_model.specs.conditions.Names.{names_in, names_of};
 ghost use Rattle.ud_model.specs.declared.cond.Cond.{Cond};
 ghost use Rattle.ud_model.specs.declared.kind.Kind.{Kind};
@@ -35,38 +40,54 @@ pub fn law_lines()
     ensures exists { (text : List ℕ) → AreLines text (texts_of text) }
     ensures only { (text : List ℕ) → (ls : List (List ℕ)) → AreLines text ls → ls ≡ texts_of text }
     ensures bytes { (text : List ℕ) → map text_of (lines_of text) ≡ texts_of text }
-    ensures number { (text : List ℕ) → (front : List Line) → (l : Line) → (later : List Line) → lines_of text ≡ front ++ l ∷ later → l.number ≡ suc (length front) }
-    ensures whole { (text : List ℕ) → AreSplitLines text (record { whole = whole_lines text; rest = partial_line text }) }
-    ensures only_whole { (text : List ℕ) → (ls : List (List ℕ)) → (rest : List ℕ) → AreSplitLines text (record { whole = ls; rest = rest }) → (ls ≡ whole_lines text) × (rest ≡ partial_line text) }
+    ensures number { (text : List ℕ) → (front : List Line) → (l : Line) → (later : List Line) →
+        lines_of text ≡ front ++ l ∷ later → l.number ≡ suc (length front) }
+    ensures whole { (text : List ℕ) →
+        AreSplitLines text (record { whole = whole_lines text; rest = partial_line text }) }
+    ensures only_whole { (text : List ℕ) → (ls : List (List ℕ)) → (rest : List ℕ) →
+        AreSplitLines text (record { whole = ls; rest = rest }) →
+        (ls ≡ whole_lines text) × (rest ≡ partial_line text) }
 {}
 
 /// A joined text is cut into comments, literals and single bytes in one way, and the computed cells are those of this
 /// cut.
 pub fn law_lexemes()
     ensures exists { (text : List ℕ) → (pieces : List Lexeme) × AreLexemes pieces text }
-    ensures only { (text : List ℕ) → (pieces : List Lexeme) → (others : List Lexeme) → AreLexemes pieces text → AreLexemes others text → pieces ≡ others }
-    ensures cells { (text : List ℕ) → (pieces : List Lexeme) → AreLexemes pieces text → cells_of pieces ≡ lex text }
+    ensures only { (text : List ℕ) → (pieces : List Lexeme) → (others : List Lexeme) →
+        AreLexemes pieces text → AreLexemes others text → pieces ≡ others }
+    ensures cells { (text : List ℕ) → (pieces : List Lexeme) → AreLexemes pieces text →
+        cells_of pieces ≡ lex text }
 {}
 
 /// A line is seen by its logical line alone: after a line that has an ending and doesn't join the next one, lines are
 /// seen as if no line stood before them.
 pub fn law_scan_alone()
-    ensures line { (front : List Reading) → (group : List Reading) → (m : Mode) → (n : Mode) → (last : Line) → (l : Line) → (scan_after front m last).joins_after ≡ false → last.ending ≢ [] → scan_after ((front ++ next_reading front m last ∷ []) ++ group) n l ≡ scan_after group n l }
-    ensures lines { (front : List Reading) → (group : List Reading) → (m : Mode) → (last : Line) → (ls : List (Mode × Line)) → (scan_after front m last).joins_after ≡ false → last.ending ≢ [] → readings_after ((front ++ next_reading front m last ∷ []) ++ group) ls ≡ (front ++ next_reading front m last ∷ []) ++ readings_after group ls }
+    ensures line { (front : List Reading) → (group : List Reading) → (m : Mode) → (n : Mode) →
+        (last : Line) → (l : Line) → (scan_after front m last).joins_after ≡ false →
+        last.ending ≢ [] → scan_after ((front ++ next_reading front m last ∷ []) ++ group) n l ≡
+        scan_after group n l }
+    ensures lines { (front : List Reading) → (group : List Reading) → (m : Mode) → (last : Line) →
+        (ls : List (Mode × Line)) → (scan_after front m last).joins_after ≡ false →
+        last.ending ≢ [] → readings_after ((front ++ next_reading front m last ∷ []) ++ group) ls ≡
+        (front ++ next_reading front m last ∷ []) ++ readings_after group ls }
 {}
 
 /// Place i of a masked line is place i of the body: the masked line shows a cell for each byte of the line's content,
 /// in order, and the body begins with the content.
 pub fn law_scan_bytes()
-    ensures shows { (before : List Reading) → (l : Line) → (scan_after before Mode.C l).masked ≡ map shown (content_cells (c_run_of before) l) }
-    ensures bytes { (run : List Line) → (l : Line) → map (λ (c : Cell). c.byte) (content_cells run l) ≡ content l }
-    ensures len { (before : List Reading) → (l : Line) → length (scan_after before Mode.C l).masked ≡ length (content l) }
+    ensures shows { (before : List Reading) → (l : Line) →
+        (scan_after before Mode.C l).masked ≡ map shown (content_cells (c_run_of before) l) }
+    ensures bytes { (run : List Line) → (l : Line) →
+        map (λ (c : Cell). c.byte) (content_cells run l) ≡ content l }
+    ensures len { (before : List Reading) → (l : Line) →
+        length (scan_after before Mode.C l).masked ≡ length (content l) }
     ensures front { (l : Line) → (rest : List ℕ) × (l.body ≡ content l ++ rest) }
 {}
 
 /// What is seen of lines stays when more lines follow.
 pub fn law_scans_stay()
-    ensures { (ls : List (Mode × Line)) → (more : List (Mode × Line)) → (rest : List Reading) × (readings_of (ls ++ more) ≡ readings_of ls ++ rest) }
+    ensures { (ls : List (Mode × Line)) → (more : List (Mode × Line)) →
+        (rest : List Reading) × (readings_of (ls ++ more) ≡ readings_of ls ++ rest) }
 {}
 
 /// The lines of a text are nested in one way at most.
@@ -78,104 +99,162 @@ pub fn law_one_tree()
 /// far, and a longer text begins with the marks of the shorter one.
 pub fn law_marks_stay()
     ensures table { (t : Tree Reading) → marks_in true t ≡ marks_so_far true t }
-    ensures stays { (t : Tree Reading) → (u : Tree Reading) → (more : List (Item Reading)) → lines u ≡ lines t ++ more → (rest : List Mark) × (marks u ≡ marks t ++ rest) }
+    ensures stays { (t : Tree Reading) → (u : Tree Reading) → (more : List (Item Reading)) →
+        lines u ≡ lines t ++ more → (rest : List Mark) × (marks u ≡ marks t ++ rest) }
 {}
 
 /// Each line of a text has one mark and one level, so no line goes without a word.
 pub fn law_each_line()
     ensures marks { (t : Tree Reading) → length (marks t) ≡ length (lines t) }
-    ensures judged { (t : Tree Reading) → map (λ (j : Judged). j.line) (judged_lines (lines t) (marks t)) ≡ map line_of (lines t) }
+    ensures judged { (t : Tree Reading) →
+        map (λ (j : Judged). j.line) (judged_lines (lines t) (marks t)) ≡ map line_of (lines t) }
     ensures levels { (t : Tree Reading) → length (levels t) ≡ length (lines t) }
 {}
 
 /// A line has one fault at most, and none if no case holds.
 pub fn law_one_fault()
-    ensures one { (xs : List (Item Reading)) → (x : Item Reading) → (f : Fault) → (g : Fault) → FaultOf xs x f → FaultOf xs x g → f ≡ g }
-    ensures none { (xs : List (Item Reading)) → (x : Item Reading) → (f : Fault) → NoneHolds xs x cases → FaultOf xs x f → ⊥ }
+    ensures one { (xs : List (Item Reading)) → (x : Item Reading) → (f : Fault) → (g : Fault) →
+        FaultOf xs x f → FaultOf xs x g → f ≡ g }
+    ensures none { (xs : List (Item Reading)) → (x : Item Reading) → (f : Fault) →
+        NoneHolds xs x cases → FaultOf xs x f → ⊥ }
 {}
 
 /// A fault of the text so far is the fault of every longer text, whether that goes on or has ended, and what is
 /// printed before it is the same.
 pub fn law_fault_stays()
-    ensures { (o : Options) → (given : List ℕ) → (more : List ℕ) → (r : Outcome) → HasOutcomeSoFar o given r → (f : Fault) → r.fault ≡ Some f → HasOutcomeSoFar o (given ++ more) r × HasOutcome o (given ++ more) r }
+    ensures { (o : Options) → (given : List ℕ) → (more : List ℕ) → (r : Outcome) →
+        HasOutcomeSoFar o given r → (f : Fault) → r.fault ≡ Some f →
+        HasOutcomeSoFar o (given ++ more) r × HasOutcome o (given ++ more) r }
 {}
 
 /// How a text so far is read, and what is printed of it, is the front of that of every longer text, whether that goes on or
 /// has ended: the items; the pieces of the lines, whatever is printed of a line by the lines before it; and the output, in
 /// each style and where names are listed.
 pub fn law_output_grows()
-    ensures items_so_far { (o : Options) → (given : List ℕ) → (more : List ℕ) → (xs : List (Item Reading)) → (ys : List (Item Reading)) → (t : Tree Reading) → (u : Tree Reading) → (f : Option Fault) → (g : Option Fault) → ReadsSoFar o given xs t f → ReadsSoFar o (given ++ more) ys u g → (rest : List (Item Reading)) × (ys ≡ xs ++ rest) }
-    ensures items { (o : Options) → (given : List ℕ) → (more : List ℕ) → (xs : List (Item Reading)) → (ys : List (Item Reading)) → (t : Tree Reading) → (u : Tree Reading) → (f : Option Fault) → (g : Option Fault) → ReadsSoFar o given xs t f → ReadsAs o (given ++ more) ys u g → (rest : List (Item Reading)) × (ys ≡ xs ++ rest) }
-    ensures pieces { (piece : List Judged → Judged → List ℕ) → (t : Tree Reading) → (u : Tree Reading) → (more : List (Item Reading)) → lines u ≡ lines t ++ more → (rest : List (List ℕ)) × (pieces_by piece [] (judged_lines (lines u) (marks u)) ≡ pieces_by piece [] (judged_lines (lines t) (marks t)) ++ rest) }
-    ensures output_so_far { (o : Options) → (given : List ℕ) → (more : List ℕ) → (r : Outcome) → (s : Outcome) → HasOutcomeSoFar o given r → HasOutcomeSoFar o (given ++ more) s → (rest : List ℕ) × (s.output ≡ r.output ++ rest) }
-    ensures output { (o : Options) → (given : List ℕ) → (more : List ℕ) → (r : Outcome) → (s : Outcome) → HasOutcomeSoFar o given r → HasOutcome o (given ++ more) s → (rest : List ℕ) × (s.output ≡ r.output ++ rest) }
+    ensures items_so_far { (o : Options) → (given : List ℕ) → (more : List ℕ) →
+        (xs : List (Item Reading)) → (ys : List (Item Reading)) → (t : Tree Reading) →
+        (u : Tree Reading) → (f : Option Fault) → (g : Option Fault) → ReadsSoFar o given xs t f →
+        ReadsSoFar o (given ++ more) ys u g → (rest : List (Item Reading)) × (ys ≡ xs ++ rest) }
+    ensures items { (o : Options) → (given : List ℕ) → (more : List ℕ) →
+        (xs : List (Item Reading)) → (ys : List (Item Reading)) → (t : Tree Reading) →
+        (u : Tree Reading) → (f : Option Fault) → (g : Option Fault) → ReadsSoFar o given xs t f →
+        ReadsAs o (given ++ more) ys u g → (rest : List (Item Reading)) × (ys ≡ xs ++ rest) }
+    ensures pieces { (piece : List Judged → Judged → List ℕ) → (t : Tree Reading) →
+        (u : Tree Reading) → (more : List (Item Reading)) → lines u ≡ lines t ++ more →
+        (rest : List (List ℕ)) × (pieces_by piece [] (judged_lines (lines u) (marks u)) ≡
+        pieces_by piece [] (judged_lines (lines t) (marks t)) ++ rest) }
+    ensures output_so_far { (o : Options) → (given : List ℕ) → (more : List ℕ) → (r : Outcome) →
+        (s : Outcome) → HasOutcomeSoFar o given r → HasOutcomeSoFar o (given ++ more) s →
+        (rest : List ℕ) × (s.output ≡ r.output ++ rest) }
+    ensures output { (o : Options) → (given : List ℕ) → (more : List ℕ) → (r : Outcome) →
+        (s : Outcome) → HasOutcomeSoFar o given r → HasOutcome o (given ++ more) s →
+        (rest : List ℕ) × (s.output ≡ r.output ++ rest) }
 {}
 
 /// A text is read in one way, as items with a tree, and as far as its first fault; these are the lines of the tree. So it is
 /// if the text goes on.
 pub fn law_one_reading()
-    ensures exists { (o : Options) → (input : List ℕ) → (xs : List (Item Reading)) × (t : Tree Reading) × (f : Option Fault) × ReadsAs o input xs t f }
-    ensures only { (o : Options) → (input : List ℕ) → (xs : List (Item Reading)) → (ys : List (Item Reading)) → (t : Tree Reading) → (u : Tree Reading) → (f : Option Fault) → (g : Option Fault) → ReadsAs o input xs t f → ReadsAs o input ys u g → (xs ≡ ys) × (t ≡ u) × (f ≡ g) }
-    ensures lines { (o : Options) → (input : List ℕ) → (xs : List (Item Reading)) → (t : Tree Reading) → (f : Option Fault) → ReadsAs o input xs t f → lines t ≡ xs }
-    ensures exists_so_far { (o : Options) → (given : List ℕ) → (xs : List (Item Reading)) × (t : Tree Reading) × (f : Option Fault) × ReadsSoFar o given xs t f }
-    ensures only_so_far { (o : Options) → (given : List ℕ) → (xs : List (Item Reading)) → (ys : List (Item Reading)) → (t : Tree Reading) → (u : Tree Reading) → (f : Option Fault) → (g : Option Fault) → ReadsSoFar o given xs t f → ReadsSoFar o given ys u g → (xs ≡ ys) × (t ≡ u) × (f ≡ g) }
-    ensures lines_so_far { (o : Options) → (given : List ℕ) → (xs : List (Item Reading)) → (t : Tree Reading) → (f : Option Fault) → ReadsSoFar o given xs t f → lines t ≡ xs }
+    ensures exists { (o : Options) → (input : List ℕ) →
+        (xs : List (Item Reading)) × (t : Tree Reading) × (f : Option Fault) ×
+        ReadsAs o input xs t f }
+    ensures only { (o : Options) → (input : List ℕ) → (xs : List (Item Reading)) →
+        (ys : List (Item Reading)) → (t : Tree Reading) → (u : Tree Reading) → (f : Option Fault) →
+        (g : Option Fault) → ReadsAs o input xs t f → ReadsAs o input ys u g →
+        (xs ≡ ys) × (t ≡ u) × (f ≡ g) }
+    ensures lines { (o : Options) → (input : List ℕ) → (xs : List (Item Reading)) →
+        (t : Tree Reading) → (f : Option Fault) → ReadsAs o input xs t f → lines t ≡ xs }
+    ensures exists_so_far { (o : Options) → (given : List ℕ) →
+        (xs : List (Item Reading)) × (t : Tree Reading) × (f : Option Fault) ×
+        ReadsSoFar o given xs t f }
+    ensures only_so_far { (o : Options) → (given : List ℕ) → (xs : List (Item Reading)) →
+        (ys : List (Item Reading)) → (t : Tree Reading) → (u : Tree Reading) → (f : Option Fault) →
+        (g : Option Fault) → ReadsSoFar o given xs t f → ReadsSoFar o given ys u g →
+        (xs ≡ ys) × (t ≡ u) × (f ≡ g) }
+    ensures lines_so_far { (o : Options) → (given : List ℕ) → (xs : List (Item Reading)) →
+        (t : Tree Reading) → (f : Option Fault) → ReadsSoFar o given xs t f → lines t ≡ xs }
 {}
 
 /// A text has one outcome, whether it has ended or goes on: what the settings make of the items as which it is read.
 pub fn law_one_outcome()
     ensures exists { (o : Options) → (input : List ℕ) → (r : Outcome) × HasOutcome o input r }
-    ensures only { (o : Options) → (input : List ℕ) → (r : Outcome) → (s : Outcome) → HasOutcome o input r → HasOutcome o input s → r ≡ s }
-    ensures exists_so_far { (o : Options) → (given : List ℕ) → (r : Outcome) × HasOutcomeSoFar o given r }
-    ensures only_so_far { (o : Options) → (given : List ℕ) → (r : Outcome) → (s : Outcome) → HasOutcomeSoFar o given r → HasOutcomeSoFar o given s → r ≡ s }
+    ensures only { (o : Options) → (input : List ℕ) → (r : Outcome) → (s : Outcome) →
+        HasOutcome o input r → HasOutcome o input s → r ≡ s }
+    ensures exists_so_far { (o : Options) → (given : List ℕ) →
+        (r : Outcome) × HasOutcomeSoFar o given r }
+    ensures only_so_far { (o : Options) → (given : List ℕ) → (r : Outcome) → (s : Outcome) →
+        HasOutcomeSoFar o given r → HasOutcomeSoFar o given s → r ≡ s }
 {}
 
 /// What words give is what each gives by itself, in order. After `--` each word is an operand, and so it is from the first
 /// operand on. The letters of a word give options, of which the last may wait for the next word.
 pub fn law_arguments()
-    ensures ended { (n : ℕ) → (args : List (List ℕ)) → parsed_from n (codes "--" ∷ args) ≡ operands_from (suc n) args }
-    ensures operand { (n : ℕ) → (w : List ℕ) → (args : List (List ℕ)) → bytes_eq w (codes "--") ≡ false → option_letters w ≡ [] → parsed_from n (w ∷ args) ≡ operands_from n (w ∷ args) }
-    ensures options { (n : ℕ) → (w : List ℕ) → (args : List (List ℕ)) → (c : ℕ) → (cs : List ℕ) → bytes_eq w (codes "--") ≡ false → option_letters w ≡ c ∷ cs → parsed_from n (w ∷ args) ≡ (letters_give (suc n) (c ∷ cs)).given ++ given_next (letters_give (suc n) (c ∷ cs)).waits (suc n) args }
+    ensures ended { (n : ℕ) → (args : List (List ℕ)) →
+        parsed_from n (codes "--" ∷ args) ≡ operands_from (suc n) args }
+    ensures operand { (n : ℕ) → (w : List ℕ) → (args : List (List ℕ)) →
+        bytes_eq w (codes "--") ≡ false → option_letters w ≡ [] →
+        parsed_from n (w ∷ args) ≡ operands_from n (w ∷ args) }
+    ensures options { (n : ℕ) → (w : List ℕ) → (args : List (List ℕ)) → (c : ℕ) → (cs : List ℕ) →
+        bytes_eq w (codes "--") ≡ false → option_letters w ≡ c ∷ cs →
+        parsed_from n (w ∷ args) ≡ (letters_give (suc n) (c ∷ cs)).given ++
+        given_next (letters_give (suc n) (c ∷ cs)).waits (suc n) args }
 {}
 
 /// Words and an input have one answer.
 pub fn law_one_answer()
-    ensures exists { (args : List (List ℕ)) → (input : List ℕ) → (a : Answer) × IsAnswer args input a }
-    ensures only { (args : List (List ℕ)) → (input : List ℕ) → (a : Answer) → (b : Answer) → IsAnswer args input a → IsAnswer args input b → a ≡ b }
+    ensures exists { (args : List (List ℕ)) → (input : List ℕ) →
+        (a : Answer) × IsAnswer args input a }
+    ensures only { (args : List (List ℕ)) → (input : List ℕ) → (a : Answer) → (b : Answer) →
+        IsAnswer args input a → IsAnswer args input b → a ≡ b }
 {}
 
 /// A text is written for one tree at most, and the computed tree is the one for which it is written (C11 6.5).
 pub fn law_one_expression()
-    ensures only { (text : List ℕ) → (e : Expression) → (f : Expression) → IsWritten text e → IsWritten text f → e ≡ f }
-    ensures found { (text : List ℕ) → (e : Expression) → IsWritten text e → expression_of text ≡ Some e }
-    ensures written { (text : List ℕ) → (e : Expression) → expression_of text ≡ Some e → IsWritten text e }
+    ensures only { (text : List ℕ) → (e : Expression) → (f : Expression) → IsWritten text e →
+        IsWritten text f → e ≡ f }
+    ensures found { (text : List ℕ) → (e : Expression) → IsWritten text e →
+        expression_of text ≡ Some e }
+    ensures written { (text : List ℕ) → (e : Expression) → expression_of text ≡ Some e →
+        IsWritten text e }
 {}
 
 /// The condition and the names of an `#if` or `#elif` are those of the tree for which its text is written; if there is
 /// none, the condition is unknown and there are no names.
 pub fn law_expression_cond()
-    ensures cond { (text : List ℕ) → (e : Expression) → (table : List Argument) → (rules : Rules) → IsWritten text e → expression_cond text table rules ≡ tree_cond e table rules }
-    ensures unknown { (text : List ℕ) → (table : List Argument) → (rules : Rules) → ((e : Expression) → IsWritten text e → ⊥) → expression_cond text table rules ≡ Cond.Unknown }
-    ensures names { (text : List ℕ) → (e : Expression) → IsWritten text e → names_of Kind.If text ≡ names_in e }
-    ensures no_names { (text : List ℕ) → ((e : Expression) → IsWritten text e → ⊥) → names_of Kind.If text ≡ [] }
+    ensures cond { (text : List ℕ) → (e : Expression) → (table : List Argument) → (rules : Rules) →
+        IsWritten text e → expression_cond text table rules ≡ tree_cond e table rules }
+    ensures unknown { (text : List ℕ) → (table : List Argument) → (rules : Rules) →
+        ((e : Expression) → IsWritten text e → ⊥) →
+        expression_cond text table rules ≡ Cond.Unknown }
+    ensures names { (text : List ℕ) → (e : Expression) → IsWritten text e →
+        names_of Kind.If text ≡ names_in e }
+    ensures no_names { (text : List ℕ) → ((e : Expression) → IsWritten text e → ⊥) →
+        names_of Kind.If text ≡ [] }
 {}
 
 /// Tables that say the same of every name decide the same of every directive.
 pub fn law_condition_by_entries()
-    ensures { (table : List Argument) → (other : List Argument) → ((name : List ℕ) → entry_in table name ≡ entry_in other name) → (kind : Kind) → (after : List ℕ) → (rules : Rules) → condition_of kind after table rules ≡ condition_of kind after other rules }
+    ensures { (table : List Argument) → (other : List Argument) →
+        ((name : List ℕ) → entry_in table name ≡ entry_in other name) → (kind : Kind) →
+        (after : List ℕ) → (rules : Rules) →
+        condition_of kind after table rules ≡ condition_of kind after other rules }
 {}
 
 /// The computed end of a symbol's value is the one at which it ends, from name to name; there is no other.
 pub fn law_symbol_end()
-    ensures found { (table : List Argument) → (n : List ℕ) → (v : List ℕ) → ResolvesTo table n v → resolve table n ≡ Some v }
-    ensures ends { (table : List Argument) → (n : List ℕ) → (v : List ℕ) → resolve table n ≡ Some v → ResolvesTo table n v }
+    ensures found { (table : List Argument) → (n : List ℕ) → (v : List ℕ) → ResolvesTo table n v →
+        resolve table n ≡ Some v }
+    ensures ends { (table : List Argument) → (n : List ℕ) → (v : List ℕ) →
+        resolve table n ≡ Some v → ResolvesTo table n v }
 {}
 
 /// Where the value of an expression is known, it is the C value, whatever stands for the names that the table leaves open,
 /// with and without `strict`: each value that C may give the expression is this number (C11 6.10.1p4, 6.5). So a condition that is decided is true or
 /// false as C has it.
 pub fn law_known_stays()
-    ensures value { (table : List Argument) → (strict : Bool) → (e : Expression) → (n : ℤ) → (c : Number) → value_of table strict e ≡ Some n → IsCValue table e c → number c ≡ n }
-    ensures yes { (table : List Argument) → (rules : Rules) → (e : Expression) → (c : Number) → tree_cond e table rules ≡ Cond.Yes → IsCValue table e c → number c ≢ pos 0 }
-    ensures no { (table : List Argument) → (rules : Rules) → (e : Expression) → (c : Number) → tree_cond e table rules ≡ Cond.No → IsCValue table e c → number c ≡ pos 0 }
+    ensures value { (table : List Argument) → (strict : Bool) → (e : Expression) → (n : ℤ) →
+        (c : Number) → value_of table strict e ≡ Some n → IsCValue table e c → number c ≡ n }
+    ensures yes { (table : List Argument) → (rules : Rules) → (e : Expression) → (c : Number) →
+        tree_cond e table rules ≡ Cond.Yes → IsCValue table e c → number c ≢ pos 0 }
+    ensures no { (table : List Argument) → (rules : Rules) → (e : Expression) → (c : Number) →
+        tree_cond e table rules ≡ Cond.No → IsCValue table e c → number c ≡ pos 0 }
 {}

@@ -1,6 +1,7 @@
 //! Laws of options: what a user of an option may rely on.
 
-ghost use Rattle.std.specs.Prelude.{◌≡◌, ◌≢◌, ◌∷◌, codes, ℕ, List, [], map, Option, Some, None, Bool, true, false, ◌||◌, ◌⊎◌, ℤ};
+ghost use Rattle.std.specs.Prelude.{◌≡◌, ◌≢◌, ◌∷◌, codes, ℕ, List, [], map, Option, Some, None};
+ghost use Rattle.std.specs.Prelude.{Bool, true, false, ◌||◌, ◌⊎◌, ℤ};
 ghost use Rattle.ud_model.specs.text.Lines.{Line, lines_of, partial_line};
 ghost use Rattle.ud_model.specs.text.Scans.{Reading};
 ghost use Rattle.ud_model.specs.conditions.Table.{Argument, entry_in};
@@ -16,7 +17,9 @@ ghost use Rattle.ud_model.specs.answer.Answer.{Answer, IsAnswer};
 ghost use Rattle.ud_model.specs.answer.Printing.{judged_lines};
 ghost use Rattle.ud_model.specs.answer.Outcomes.{Outcome, ReadsAs, HasOutcome};
 ghost use Rattle.ud_model.specs.output.Rereading.{NoneIgnores, IsPlain, IsTreeOf};
-ghost use Rattle.ud_model.specs.output.ListedNames.{with_listing, listing_settings, IsListed, AgreeOnListed, IsNoValue, DifferAtMostAt, ExtendsTable};
+ghost use Rattle.ud_model.specs.output.ListedNames.{with_listing, listing_settings, IsListed};
+ghost use Rattle.ud_model.specs.output.ListedNames.{AgreeOnListed, IsNoValue, DifferAtMostAt};
+ghost use Rattle.ud_model.specs.output.ListedNames.{ExtendsTable};
 ghost use Rattle.ud_model.specs.output.BlankedLines.{AreBlankedLines};
 ghost use Rattle.ud_model.specs.output.InsertedLines.{with_blank_renumber, read_as, Counted};
 ghost use Rattle.ud_model.specs.output.InsertedNodes.{NodesWithInserted, LinesWithInserted};
@@ -30,67 +33,120 @@ ghost use Rattle.ud_model.specs.declared.settings.Listing.{Listing};
 /// (unifdef(1)). If neither option is `-iD` or `-iU`, a list that was made with any other symbols serves, too, and the
 /// fault is the same.
 pub fn law_list_is_complete()
-    ensures listed { (o : Options) → (p : Options) → (input : List ℕ) → (l : Outcome) → (r : Outcome) → HasOutcome (with_listing o) input l → l.fault ≡ None → p.settings ≡ o.settings → AgreeOnListed l.output o.table p.table → HasOutcome o input r → HasOutcome p input r }
-    ensures serves { (q : Options) → (o : Options) → (p : Options) → (input : List ℕ) → (l : Outcome) → (r : Outcome) → q.settings ≡ listing_settings o.settings → NoneIgnores q.table → NoneIgnores o.table → HasOutcome q input l → l.fault ≡ None → p.settings ≡ o.settings → AgreeOnListed l.output o.table p.table → HasOutcome o input r → HasOutcome p input r }
-    ensures alike { (list : List ℕ) → (name : List ℕ) → (o : Options) → (p : Options) → (IsListed name list → ⊥) → IsNoValue o.table name → DifferAtMostAt name o.table p.table → AgreeOnListed list o.table p.table }
+    ensures listed { (o : Options) → (p : Options) → (input : List ℕ) → (l : Outcome) →
+        (r : Outcome) → HasOutcome (with_listing o) input l → l.fault ≡ None →
+        p.settings ≡ o.settings → AgreeOnListed l.output o.table p.table → HasOutcome o input r →
+        HasOutcome p input r }
+    ensures serves { (q : Options) → (o : Options) → (p : Options) → (input : List ℕ) →
+        (l : Outcome) → (r : Outcome) → q.settings ≡ listing_settings o.settings →
+        NoneIgnores q.table → NoneIgnores o.table → HasOutcome q input l → l.fault ≡ None →
+        p.settings ≡ o.settings → AgreeOnListed l.output o.table p.table → HasOutcome o input r →
+        HasOutcome p input r }
+    ensures alike { (list : List ℕ) → (name : List ℕ) → (o : Options) → (p : Options) →
+        (IsListed name list → ⊥) → IsNoValue o.table name → DifferAtMostAt name o.table p.table →
+        AgreeOnListed list o.table p.table }
 {}
 
 /// Of the options that name symbols only what the last one says of each name counts: in whatever order they are given, and
 /// however often, options that say the same of every name make the same of a text (unifdef(1)).
 pub fn law_last_option_counts()
-    ensures { (o : Options) → (p : Options) → (input : List ℕ) → (r : Outcome) → p.settings ≡ o.settings → ((name : List ℕ) → entry_in o.table name ≡ entry_in p.table name) → HasOutcome o input r → HasOutcome p input r }
+    ensures { (o : Options) → (p : Options) → (input : List ℕ) → (r : Outcome) →
+        p.settings ≡ o.settings → ((name : List ℕ) →
+        entry_in o.table name ≡ entry_in p.table name) → HasOutcome o input r →
+        HasOutcome p input r }
 {}
 
 /// Lines keep their place: under `-b` each line of the output has the number and the ending of the line at its place in the
 /// input, and is that line, its edited form or its ending alone, as its verdict says; under `-c`, too (unifdef(1)). A last
 /// line without an ending leaves no line if it is removed. So a place in the output is a place in the input.
 pub fn law_lines_keep_their_place()
-    ensures as_many { (o : Options) → (input : List ℕ) → (r : Outcome) → o.settings.blank ≡ true → o.settings.listing ≡ Listing.Off → partial_line input ≡ [] → HasOutcome o input r → r.fault ≡ None → map (λ (k : Line). k.ending) (lines_of r.output) ≡ map (λ (l : Line). l.ending) (lines_of input) }
-    ensures places { (o : Options) → (input : List ℕ) → (xs : List (Item Reading)) → (t : Tree Reading) → (f : Option Fault) → (r : Outcome) → o.settings.blank ≡ true → o.settings.listing ≡ Listing.Off → ReadsAs o input xs t f → HasOutcome o input r → AreBlankedLines o.settings.complement (judged_lines xs (marks t)) (lines_of r.output) }
+    ensures as_many { (o : Options) → (input : List ℕ) → (r : Outcome) → o.settings.blank ≡ true →
+        o.settings.listing ≡ Listing.Off → partial_line input ≡ [] → HasOutcome o input r →
+        r.fault ≡ None → map (λ (k : Line). k.ending) (lines_of r.output) ≡
+        map (λ (l : Line). l.ending) (lines_of input) }
+    ensures places { (o : Options) → (input : List ℕ) → (xs : List (Item Reading)) →
+        (t : Tree Reading) → (f : Option Fault) → (r : Outcome) → o.settings.blank ≡ true →
+        o.settings.listing ≡ Listing.Off → ReadsAs o input xs t f → HasOutcome o input r →
+        AreBlankedLines o.settings.complement (judged_lines xs (marks t)) (lines_of r.output) }
 {}
 
 /// Nothing is lost between a run and its complement: the run with `-c` has the same fault, and each line that was read is
 /// printed by one of the two runs and not by the other: by the run without `-c` if it stays, as it is or edited, else by the
 /// run with `-c`, as it is (unifdef(1)).
 pub fn law_complement()
-    ensures fault { (o : Options) → (input : List ℕ) → (xs : List (Item Reading)) → (t : Tree Reading) → (f : Option Fault) → (r : Outcome) → (s : Outcome) → o.settings.listing ≡ Listing.Off → o.settings.blank ≡ false → o.settings.renumber ≡ false → o.settings.complement ≡ false → ReadsAs o input xs t f → HasOutcome o input r → HasOutcome (with_complement o) input s → s.fault ≡ r.fault }
-    ensures shared { (o : Options) → (input : List ℕ) → (xs : List (Item Reading)) → (t : Tree Reading) → (f : Option Fault) → (r : Outcome) → (s : Outcome) → o.settings.listing ≡ Listing.Off → o.settings.blank ≡ false → o.settings.renumber ≡ false → o.settings.complement ≡ false → ReadsAs o input xs t f → HasOutcome o input r → HasOutcome (with_complement o) input s → ShareLines (judged_lines xs (marks t)) r.output s.output }
+    ensures fault { (o : Options) → (input : List ℕ) → (xs : List (Item Reading)) →
+        (t : Tree Reading) → (f : Option Fault) → (r : Outcome) → (s : Outcome) →
+        o.settings.listing ≡ Listing.Off → o.settings.blank ≡ false → o.settings.renumber ≡ false →
+        o.settings.complement ≡ false → ReadsAs o input xs t f → HasOutcome o input r →
+        HasOutcome (with_complement o) input s → s.fault ≡ r.fault }
+    ensures shared { (o : Options) → (input : List ℕ) → (xs : List (Item Reading)) →
+        (t : Tree Reading) → (f : Option Fault) → (r : Outcome) → (s : Outcome) →
+        o.settings.listing ≡ Listing.Off → o.settings.blank ≡ false → o.settings.renumber ≡ false →
+        o.settings.complement ≡ false → ReadsAs o input xs t f → HasOutcome o input r →
+        HasOutcome (with_complement o) input s →
+        ShareLines (judged_lines xs (marks t)) r.output s.output }
 {}
 
 /// Each line has its number: under `-n`, and under `-b`, the lines that are put in stand between logical lines and are seen as
 /// they stand, as a `#line` or a blank line, and each other line is seen as without these options. Counting on from line to
 /// line, and anew after each `#line`, it has its own number in the input (C11 6.10.4p3, unifdef(1)).
 pub fn law_lines_are_counted()
-    ensures { (o : Options) → IsPlain o → (b : Bool) → (n : Bool) → (b || n) ≡ true → (input : List ℕ) → (xs : List (Item Reading)) → (t : Tree Reading) → (f : Option Fault) → (r : Outcome) → (s : Outcome) → ReadsAs o input xs t f → HasOutcome o input r → HasOutcome (with_blank_renumber b n o) input s → (k : ℕ) × Counted (judged_lines xs (marks t)) (read_as (mode_by o.settings.plain) r.output) (read_as (mode_by o.settings.plain) s.output) k }
+    ensures { (o : Options) → IsPlain o → (b : Bool) → (n : Bool) → (b || n) ≡ true →
+        (input : List ℕ) → (xs : List (Item Reading)) → (t : Tree Reading) → (f : Option Fault) →
+        (r : Outcome) → (s : Outcome) → ReadsAs o input xs t f → HasOutcome o input r →
+        HasOutcome (with_blank_renumber b n o) input s →
+        (k : ℕ) × Counted (judged_lines xs (marks t)) (read_as (mode_by o.settings.plain) r.output)
+        (read_as (mode_by o.settings.plain) s.output) k }
 {}
 
 /// `-K` decides less and nothing else: a value that is known under `-K` is known without, and is the same; a condition that
 /// is decided under `-K` is decided alike without (unifdef(1)).
 pub fn law_strict_decides_less()
-    ensures value { (table : List Argument) → (e : Expression) → (n : ℤ) → value_of table true e ≡ Some n → value_of table false e ≡ Some n }
-    ensures cond { (table : List Argument) → (e : Expression) → (k : Bool) → tree_cond e table (record { constants = k; strict = true }) ≢ Cond.Unknown → tree_cond e table (record { constants = k; strict = false }) ≡ tree_cond e table (record { constants = k; strict = true }) }
+    ensures value { (table : List Argument) → (e : Expression) → (n : ℤ) →
+        value_of table true e ≡ Some n → value_of table false e ≡ Some n }
+    ensures cond { (table : List Argument) → (e : Expression) → (k : Bool) →
+        tree_cond e table (record { constants = k; strict = true }) ≢ Cond.Unknown →
+        tree_cond e table (record { constants = k; strict = false }) ≡
+        tree_cond e table (record { constants = k; strict = true }) }
 {}
 
 /// The list is complete, said of words: if `-s` before words without `-S` lists the names of an input without a fault, and
 /// other words say the same but for symbols that aren't listed, and to which no listed one leads, then they have the same
 /// answer (unifdef(1)).
 pub fn law_answer_by_list()
-    ensures lists { (words : List (List ℕ)) → has_flag (codes "S") (parsed_args words) ≡ false → options_of (codes "-s" ∷ words) ≡ with_listing (options_of words) }
-    ensures same { (words : List (List ℕ)) → (more : List (List ℕ)) → (input : List ℕ) → (l : Answer) → (a : Answer) → has_flag (codes "S") (parsed_args words) ≡ false → IsAnswer (codes "-s" ∷ words) input l → l.status ≢ 2 → IsAnswer words input a → a.status ≢ 2 → usage_fault more ≡ None → (options_of more).settings ≡ (options_of words).settings → AgreeOnListed l.output (options_of words).table (options_of more).table → IsAnswer more input a }
+    ensures lists { (words : List (List ℕ)) → has_flag (codes "S") (parsed_args words) ≡ false →
+        options_of (codes "-s" ∷ words) ≡ with_listing (options_of words) }
+    ensures same { (words : List (List ℕ)) → (more : List (List ℕ)) → (input : List ℕ) →
+        (l : Answer) → (a : Answer) → has_flag (codes "S") (parsed_args words) ≡ false →
+        IsAnswer (codes "-s" ∷ words) input l → l.status ≢ 2 → IsAnswer words input a →
+        a.status ≢ 2 → usage_fault more ≡ None →
+        (options_of more).settings ≡ (options_of words).settings →
+        AgreeOnListed l.output (options_of words).table (options_of more).table →
+        IsAnswer more input a }
 {}
 
 /// What is put in changes no section: the tree of the output under `-n`, and under `-b`, is that of the output without these
 /// options, each line seen alike and each condition decided alike, with the lines that are put in as text lines. If each
 /// opener has the same truth in both, the same lines are selected of both, what is put in aside (C11 6.10.1p6, unifdef(1)).
 pub fn law_put_in_changes_no_section()
-    ensures tree { (o : Options) → IsPlain o → (b : Bool) → (n : Bool) → (b || n) ≡ true → (input : List ℕ) → (r : Outcome) → (s : Outcome) → HasOutcome o input r → HasOutcome (with_blank_renumber b n o) input s → (us : Nodes Reading) → IsTreeOf o r.output (closed us) → (vs : Nodes Reading) × IsTreeOf o s.output (closed vs) × NodesWithInserted us vs }
-    ensures selected { (us : Nodes Reading) → (vs : Nodes Reading) → NodesWithInserted us vs → (w : World Reading) → (v : World Reading) → map v (openers vs) ≡ map w (openers us) → LinesWithInserted (selected w us) (selected v vs) }
+    ensures tree { (o : Options) → IsPlain o → (b : Bool) → (n : Bool) → (b || n) ≡ true →
+        (input : List ℕ) → (r : Outcome) → (s : Outcome) → HasOutcome o input r →
+        HasOutcome (with_blank_renumber b n o) input s → (us : Nodes Reading) →
+        IsTreeOf o r.output (closed us) →
+        (vs : Nodes Reading) × IsTreeOf o s.output (closed vs) × NodesWithInserted us vs }
+    ensures selected { (us : Nodes Reading) → (vs : Nodes Reading) → NodesWithInserted us vs →
+        (w : World Reading) → (v : World Reading) → map v (openers vs) ≡ map w (openers us) →
+        LinesWithInserted (selected w us) (selected v vs) }
 {}
 
 /// To say more never turns a condition: if further symbols are named, a condition that was decided is decided alike, or is
 /// unknown (a symbol's value may have a `u`, and an undefined symbol may be called), and is never decided the other way round
 /// (C11 6.10.1p4, unifdef(1)).
 pub fn law_more_never_turns()
-    ensures value { (t : List Argument) → (u : List Argument) → ExtendsTable t u → (strict : Bool) → (e : Expression) → (n : ℤ) → value_of t strict e ≡ Some n → (value_of u strict e ≡ Some n) ⊎ (value_of u strict e ≡ None) }
-    ensures cond { (t : List Argument) → (u : List Argument) → ExtendsTable t u → (e : Expression) → (rules : Rules) → tree_cond e t rules ≢ Cond.Unknown → (tree_cond e u rules ≡ tree_cond e t rules) ⊎ (tree_cond e u rules ≡ Cond.Unknown) }
+    ensures value { (t : List Argument) → (u : List Argument) → ExtendsTable t u → (strict : Bool) →
+        (e : Expression) → (n : ℤ) → value_of t strict e ≡ Some n →
+        (value_of u strict e ≡ Some n) ⊎ (value_of u strict e ≡ None) }
+    ensures cond { (t : List Argument) → (u : List Argument) → ExtendsTable t u → (e : Expression) →
+        (rules : Rules) → tree_cond e t rules ≢ Cond.Unknown →
+        (tree_cond e u rules ≡ tree_cond e t rules) ⊎ (tree_cond e u rules ≡ Cond.Unknown) }
 {}

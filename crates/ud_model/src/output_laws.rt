@@ -9,7 +9,8 @@ ghost use Rattle.ud_model.specs.sections.Items.{Options};
 ghost use Rattle.ud_model.specs.answer.Outcomes.{Outcome, HasOutcome};
 ghost use Rattle.ud_model.specs.output.Worlds.{World, Agrees, selected, openers};
 ghost use Rattle.ud_model.specs.output.Pruned.{Edited, edited, pruned, printed, IsUndecided};
-ghost use Rattle.ud_model.specs.output.Rereading.{IsTreeOf, IsClean, CleanRun, LinesFit, line_bytes, edited_bytes, KeepsTruths};
+ghost use Rattle.ud_model.specs.output.Rereading.{IsTreeOf, IsClean, CleanRun, LinesFit};
+ghost use Rattle.ud_model.specs.output.Rereading.{line_bytes, edited_bytes, KeepsTruths};
 ghost use Rattle.ud_model.specs.output.CSelection.{IsCWorld, condition_in};
 ghost use Rattle.ud_model.specs.declared.settings.Listing.{Listing};
 ghost use Rattle.ud_model.specs.declared.verdict.Verdict.{Verdict};
@@ -17,42 +18,56 @@ ghost use Rattle.ud_model.specs.declared.verdict.Verdict.{Verdict};
 /// If lines aren't numbered (`-n`) and no names are listed (`-s`, `-S`), some line of a text without a fault differs exactly
 /// if output and input are different bytes. So the exit status tells whether the output is a copy (unifdef(1)).
 pub fn law_changed()
-    ensures { (o : Options) → o.settings.renumber ≡ false → o.settings.listing ≡ Listing.Off → (input : List ℕ) → (r : Outcome) → HasOutcome o input r → r.fault ≡ None → r.differs ≡ not (bytes_eq r.output input) }
+    ensures { (o : Options) → o.settings.renumber ≡ false → o.settings.listing ≡ Listing.Off →
+        (input : List ℕ) → (r : Outcome) → HasOutcome o input r → r.fault ≡ None →
+        r.differs ≡ not (bytes_eq r.output input) }
 {}
 
 /// In a world that agrees with what is decided, what is selected of the pruned nodes is what is selected of the nodes
 /// (C11 6.10.1p6).
 pub fn law_selected_tree()
-    ensures { (w : World Reading) → (ns : Nodes Reading) → Agrees w ns → selected (λ e. w e.line) (pruned ns) ≡ map (edited Verdict.Keep) (selected w ns) }
+    ensures { (w : World Reading) → (ns : Nodes Reading) → Agrees w ns →
+        selected (λ e. w e.line) (pruned ns) ≡ map (edited Verdict.Keep) (selected w ns) }
 {}
 
 /// The lines that are left of nodes, with edited directives, are the lines of the pruned nodes (unifdef(1)).
 pub fn law_printed()
-    ensures { (ns : Nodes Reading) → printed (lines_of_nodes ns) (marks (closed ns)) ≡ lines_of_nodes (pruned ns) }
+    ensures { (ns : Nodes Reading) →
+        printed (lines_of_nodes ns) (marks (closed ns)) ≡ lines_of_nodes (pruned ns) }
 {}
 
 /// A text without a fault has a tree, whose sections are all closed; and a text has one tree at most (C11 6.10).
 pub fn law_tree_of()
-    ensures exists { (o : Options) → (input : List ℕ) → (r : Outcome) → HasOutcome o input r → r.fault ≡ None → (ns : Nodes Reading) × IsTreeOf o input (closed ns) }
-    ensures only { (o : Options) → (text : List ℕ) → (t : Tree Reading) → (u : Tree Reading) → IsTreeOf o text t → IsTreeOf o text u → t ≡ u }
+    ensures exists { (o : Options) → (input : List ℕ) → (r : Outcome) → HasOutcome o input r →
+        r.fault ≡ None → (ns : Nodes Reading) × IsTreeOf o input (closed ns) }
+    ensures only { (o : Options) → (text : List ℕ) → (t : Tree Reading) → (u : Tree Reading) →
+        IsTreeOf o text t → IsTreeOf o text u → t ≡ u }
 {}
 
 /// The output has a tree whose sections are all closed: the pruned tree of the input, each line as it is printed. Of the
 /// openers in it with a condition none is decided. Unless a line of the output is too long, the output is printed as it is,
 /// without a fault: unifdef(1) has nothing more to do.
 pub fn law_reread()
-    ensures tree { (o : Options) → (input : List ℕ) → (r : Outcome) → IsClean o input r → (ns : Nodes Reading) → IsTreeOf o input (closed ns) → (us : Nodes Reading) × IsTreeOf o r.output (closed us) }
-    ensures left { (k : CleanRun) → with_lines line_bytes k.after ≡ with_lines edited_bytes (pruned k.before) }
+    ensures tree { (o : Options) → (input : List ℕ) → (r : Outcome) → IsClean o input r →
+        (ns : Nodes Reading) → IsTreeOf o input (closed ns) →
+        (us : Nodes Reading) × IsTreeOf o r.output (closed us) }
+    ensures left { (k : CleanRun) →
+        with_lines line_bytes k.after ≡ with_lines edited_bytes (pruned k.before) }
     ensures undecided { (k : CleanRun) → IsUndecided k.after }
-    ensures again { (o : Options) → (input : List ℕ) → (r : Outcome) → IsClean o input r → LinesFit (lines_of r.output) → HasOutcome o r.output (record { output = r.output; fault = None; differs = false }) }
+    ensures again { (o : Options) → (input : List ℕ) → (r : Outcome) → IsClean o input r →
+        LinesFit (lines_of r.output) →
+        HasOutcome o r.output (record { output = r.output; fault = None; differs = false }) }
 {}
 
 /// Each opener of the output can be given the truth of the opener from which it comes. If the world agrees with what is
 /// decided of the input, the lines that are selected of the output are then those that are selected of the input, byte by
 /// byte (C11 6.10.1p6).
 pub fn law_selected()
-    ensures truths { (k : CleanRun) → (w : World Reading) → (v : World Reading) × KeepsTruths w k.before v k.after }
-    ensures same { (k : CleanRun) → (w : World Reading) → (v : World Reading) → Agrees w k.before → KeepsTruths w k.before v k.after → map line_bytes (selected v k.after) ≡ map line_bytes (selected w k.before) }
+    ensures truths { (k : CleanRun) → (w : World Reading) →
+        (v : World Reading) × KeepsTruths w k.before v k.after }
+    ensures same { (k : CleanRun) → (w : World Reading) → (v : World Reading) → Agrees w k.before →
+        KeepsTruths w k.before v k.after →
+        map line_bytes (selected v k.after) ≡ map line_bytes (selected w k.before) }
 {}
 
 /// Whatever C makes of each condition that it evaluates, where each symbol that the options don't name is any number: the
@@ -60,7 +75,13 @@ pub fn law_selected()
 /// of the output has the very condition of the opener from which it comes, so C may make of the output what it makes of the
 /// input.
 pub fn law_c_selects()
-    ensures selected { (k : CleanRun) → (w : World Reading) → (v : World Reading) → IsCWorld k.options.table w k.before → KeepsTruths w k.before v k.after → map line_bytes (selected v k.after) ≡ map line_bytes (selected w k.before) }
-    ensures conditions { (k : CleanRun) → map condition_in (openers k.after) ≡ map (λ e. condition_in e.line) (openers (pruned k.before)) }
-    ensures world { (k : CleanRun) → (w : World Reading) → (v : World Reading) → IsCWorld k.options.table w k.before → KeepsTruths w k.before v k.after → IsCWorld k.options.table v k.after }
+    ensures selected { (k : CleanRun) → (w : World Reading) → (v : World Reading) →
+        IsCWorld k.options.table w k.before → KeepsTruths w k.before v k.after →
+        map line_bytes (selected v k.after) ≡ map line_bytes (selected w k.before) }
+    ensures conditions { (k : CleanRun) →
+        map condition_in (openers k.after) ≡
+        map (λ e. condition_in e.line) (openers (pruned k.before)) }
+    ensures world { (k : CleanRun) → (w : World Reading) → (v : World Reading) →
+        IsCWorld k.options.table w k.before → KeepsTruths w k.before v k.after →
+        IsCWorld k.options.table v k.after }
 {}

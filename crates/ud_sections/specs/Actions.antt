@@ -3,7 +3,8 @@
 --   act plain section shape n   what becomes of a line of this shape and number; nothing if it is a directive out of
 --                               its place; `plain` tells that text outside of all sections is plain
 --   Applies change old new      the change makes the new open sections of the old ones
-use Rattle.std.specs.Prelude.{◌≡◌, ℕ, List, [], ◌∷◌, ◌++◌, Bool, true, not, ◌||◌, if◌then◌else◌, Option, Some, None}
+use Rattle.std.specs.Prelude.{◌≡◌, ℕ, List, [], ◌∷◌, ◌++◌, Bool, true, not, ◌||◌, if◌then◌else◌}
+use Rattle.std.specs.Prelude.{Option, Some, None}
 use Rattle.ud_model.specs.declared.cond.Cond.{Cond}
 use Rattle.ud_model.specs.declared.cond.Cond.TheVariants.{Yes}
 use Rattle.ud_model.specs.declared.verdict.Verdict.TheVariants.{Keep, Remove}
@@ -14,7 +15,8 @@ use Rattle.ud_sections.specs.declared.open_section.StackOp.TheVariants.{Stay, Pu
 use Rattle.ud_sections.specs.declared.open_section.Action.{Action}
 use Rattle.ud_sections.specs.declared.line_kind.LineKind.{LineKind}
 use Rattle.ud_sections.specs.declared.line_kind.LineKind.TheVariants.{Text, If, Elif, Else, Endif}
-use Rattle.ud_sections.specs.SectionStates.{opener_verdict_in, endif_verdict_in, is_kept_in, is_in_removed, new_state}
+use Rattle.ud_sections.specs.SectionStates.{opener_verdict_in, endif_verdict_in, is_kept_in}
+use Rattle.ud_sections.specs.SectionStates.{is_in_removed, new_state}
 use Rattle.ud_sections.specs.OpenSections.{new_section, section_with_group}
 
 -- the place is kept
@@ -43,16 +45,26 @@ if_action kept plain c ignoring n = record {
 abbrev pub opener_action : OpenSection → table.Part → Cond → Option Action
 opener_action l part c =
     if l.else_seen then None
-    else Some (record { verdict = opener_verdict_in l.state part c; kept = not (is_in_removed l.state); change = Replace (section_with_group l part c) })
+    else Some (record {
+      verdict = opener_verdict_in l.state part c;
+      kept =
+          not (is_in_removed l.state);
+      change = Replace (section_with_group l part c);
+    })
 
 -- the section's `#endif`
 abbrev pub endif_action : OpenSection → Action
-endif_action l = record { verdict = endif_verdict_in l.state; kept = not (is_in_removed l.state); change = Pop }
+endif_action l = record {
+  verdict = endif_verdict_in l.state;
+  kept = not (is_in_removed l.state);
+  change = Pop;
+}
 
 -- what becomes of a line of this shape
 abbrev pub act : Bool → Option OpenSection → LineKind → ℕ → Option Action
 act plain section Text n = Some (text_action (kept_at section))
-act plain section (If c ignoring) n = Some (if_action (kept_at section) (plain_at plain section) c ignoring n)
+act plain section (If c ignoring) n =
+    Some (if_action (kept_at section) (plain_at plain section) c ignoring n)
 act plain None (Elif c) n = None
 act plain None Else n = None
 act plain None Endif n = None
@@ -64,5 +76,6 @@ act plain (Some l) Endif n = Some (endif_action l)
 abbrev pub Applies : StackOp → List OpenSection → List OpenSection → Type 0
 Applies Stay old new = new ≡ old
 Applies (Push l) old new = new ≡ old ++ l ∷ []
-Applies (Replace l) old new = (outer : List OpenSection) × (last : OpenSection) × (old ≡ outer ++ last ∷ []) × (new ≡ outer ++ l ∷ [])
+Applies (Replace l) old new = (outer : List OpenSection) × (last : OpenSection) ×
+    (old ≡ outer ++ last ∷ []) × (new ≡ outer ++ l ∷ [])
 Applies Pop old new = (last : OpenSection) × (old ≡ new ++ last ∷ [])

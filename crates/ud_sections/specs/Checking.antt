@@ -2,11 +2,15 @@
 --
 --   checked_by before seen n   what becomes of a line of number n of which this is kept, or why it is faulty
 --   is_obfuscated_by removed seen a a directive over several lines would have to be edited or removed
-use Rattle.std.specs.Prelude.{ℕ, ◌==◌, Bool, true, false, not, ◌&&◌, ◌||◌, if◌then◌else◌, Option, Some, None, Result, Ok, Err}
+use Rattle.std.specs.Prelude.{ℕ, ◌==◌, Bool, true, false, not, ◌&&◌, ◌||◌, if◌then◌else◌, Option}
+use Rattle.std.specs.Prelude.{Some, None, Result, Ok, Err}
 use Rattle.ud_model.specs.sections.Faults.{keeps_rest}
 use Rattle.ud_model.specs.declared.limits.TheConstants.{OPEN_SECTIONS}
 use Rattle.ud_sections.specs.declared.fault.SectionFault.{SectionFault}
-use Rattle.ud_sections.specs.declared.fault.SectionFault.TheVariants.{InappropriateElif, InappropriateElse, InappropriateEndif, TooManyLevels, Obfuscated}
+use Rattle.ud_sections.specs.declared.fault.SectionFault.TheVariants.{InappropriateElif}
+use Rattle.ud_sections.specs.declared.fault.SectionFault.TheVariants.{InappropriateElse}
+use Rattle.ud_sections.specs.declared.fault.SectionFault.TheVariants.{InappropriateEndif}
+use Rattle.ud_sections.specs.declared.fault.SectionFault.TheVariants.{TooManyLevels, Obfuscated}
 use Rattle.ud_sections.specs.declared.open_section.StackOp.{StackOp}
 use Rattle.ud_sections.specs.declared.open_section.StackOp.TheVariants.{Stay, Push, Replace, Pop}
 use Rattle.ud_sections.specs.declared.open_section.Action.{Action}
@@ -34,7 +38,8 @@ opens_section Pop = false
 -- a directive spans lines and would have to be edited or removed; `removed` tells that the line before is
 abbrev pub is_obfuscated_by : Bool → ClassifiedLine → Action → Bool
 is_obfuscated_by removed s a =
-    is_directive_kind s.kind && s.spans && a.kept && (not (keeps_rest a.verdict) || (s.joins_before && removed))
+    is_directive_kind s.kind && s.spans && a.kept &&
+    (not (keeps_rest a.verdict) || (s.joins_before && removed))
 
 -- the fault of a directive out of its place
 abbrev pub misplaced_fault_by : LineKind → ℕ → SectionFault
@@ -45,7 +50,8 @@ misplaced_fault_by Else n = InappropriateElse n
 misplaced_fault_by Endif n = InappropriateEndif n
 
 -- one section too many comes first, then a directive that is spoiled
-abbrev pub checked_action : LineContext → ClassifiedLine → ℕ → Option Action → Result Action SectionFault
+abbrev pub checked_action : LineContext → ClassifiedLine → ℕ → Option Action →
+    Result Action SectionFault
 checked_action b s n None = Err (misplaced_fault_by s.kind n)
 checked_action b s n (Some a) =
     if opens_section a.change && (b.depth == OPEN_SECTIONS) then Err (TooManyLevels n)

@@ -31,13 +31,22 @@ span_of s = record { at = s.at; len = s.len }
 
 -- what is kept of a line with this scan
 abbrev pub classified_with : Scan → TextSpan → LineKind → ClassifiedLine
-classified_with scan keyword shape = record { kind = shape; keyword = span_of keyword; spans = is_spanning scan; joins_before = scan.joins_before }
+classified_with scan keyword shape =
+    record {
+      kind = shape;
+      keyword = span_of keyword;
+      spans = is_spanning scan;
+      joins_before =
+          scan.joins_before;
+    }
 
 -- what is kept of a line that carries this; nothing if its keyword is cut
 abbrev pub classified : Scan → List Argument → Rules → Content → Result ClassifiedLine Cut
 classified scan table rules cut_keyword = Err (record {})
 classified scan table rules text = Ok (classified_with scan (record { at = 0; len = 0 }) Text)
-classified scan table rules (directive d) = Ok (classified_with scan d.keyword (line_kind_in (role_of d.kind) (decision_on scan d table rules)))
+classified scan table rules (directive d) =
+    Ok (classified_with scan d.keyword
+    (line_kind_in (role_of d.kind) (decision_on scan d table rules)))
 
 -- what an item is among the sections
 abbrev pub item_kind : Item Reading → LineKind

@@ -11,7 +11,8 @@
 -- refused: it then speaks of the lines before that one.
 --
 -- Example: a machine that has read `#if X` alone has one section open, and the line was no text.
-use Rattle.std.specs.Prelude.{◌≡◌, List, [], ◌∷◌, ◌++◌, map, true, Option, Some, None, Result, Ok, Err}
+use Rattle.std.specs.Prelude.{◌≡◌, List, [], ◌∷◌, ◌++◌, map, true, Option, Some, None, Result, Ok}
+use Rattle.std.specs.Prelude.{Err}
 use Rattle.ud_model.specs.text.Lines.{Line}
 use Rattle.ud_model.specs.text.Scans.{Scan, Reading}
 use Rattle.ud_model.specs.text.Scanning.{scan_after}
@@ -20,13 +21,20 @@ use Rattle.ud_model.specs.conditions.Table.{Argument}
 use Rattle.ud_model.specs.sections.Tree.{Item, Tree, text_line}
 use Rattle.ud_model.specs.sections.Pruning.{Mark, marks}
 use Rattle.ud_model.specs.sections.Items.{Options, reading_of, mode_after, read_after, next_item}
-use Rattle.ud_model.specs.sections.Faults.{Fault, AreFaultless, last_number, ends_removed, obfuscated, inappropriate_elif, inappropriate_else, inappropriate_endif, too_many_levels, eof_in_comment, premature_eof}
+use Rattle.ud_model.specs.sections.Faults.{Fault, AreFaultless, last_number, ends_removed}
+use Rattle.ud_model.specs.sections.Faults.{obfuscated, inappropriate_elif, inappropriate_else}
+use Rattle.ud_model.specs.sections.Faults.{inappropriate_endif, too_many_levels, eof_in_comment}
+use Rattle.ud_model.specs.sections.Faults.{premature_eof}
 use Rattle.ud_model.specs.answer.Printing.{judged_line}
 use Rattle.ud_model.specs.declared.kind.Mode.{Mode}
 use Rattle.ud_model.specs.declared.verdict.Verdict.{Verdict}
 use Rattle.ud_cond.specs.SymbolTable.{TableRepresents}
 use Rattle.ud_sections.specs.declared.fault.SectionFault.{SectionFault}
-use Rattle.ud_sections.specs.declared.fault.SectionFault.TheVariants.{InappropriateElif, InappropriateElse, InappropriateEndif, TooManyLevels, Obfuscated, PrematureEof, EofInComment}
+use Rattle.ud_sections.specs.declared.fault.SectionFault.TheVariants.{InappropriateElif}
+use Rattle.ud_sections.specs.declared.fault.SectionFault.TheVariants.{InappropriateElse}
+use Rattle.ud_sections.specs.declared.fault.SectionFault.TheVariants.{InappropriateEndif}
+use Rattle.ud_sections.specs.declared.fault.SectionFault.TheVariants.{TooManyLevels, Obfuscated}
+use Rattle.ud_sections.specs.declared.fault.SectionFault.TheVariants.{PrematureEof, EofInComment}
 use Rattle.ud_sections.specs.declared.machine.Machine.{Machine}
 use Rattle.ud_sections.specs.declared.step.Step.{Step}
 use Rattle.ud_sections.specs.StepViews.{as_span}
@@ -34,7 +42,8 @@ use Rattle.ud_sections.specs.OpenSections.{open_sections_of}
 use Rattle.ud_sections.specs.Limits.{IsWithinLimits}
 
 -- none of these lines is faulty, t is their tree, and this is what the machine keeps of them
-pub record MachineRepresents (m : Machine) (o : Options) (xs : List (Item Reading)) (t : Tree Reading) : Type 0 where
+pub record MachineRepresents (m : Machine) (o : Options) (xs : List (Item Reading))
+    (t : Tree Reading) : Type 0 where
   pub settings : m.settings ≡ o.settings
   pub sound : AreFaultless o xs t
   pub sections : m.open_sections.items ≡ open_sections_of true o.settings.plain t
@@ -42,26 +51,31 @@ pub record MachineRepresents (m : Machine) (o : Options) (xs : List (Item Readin
   pub last : m.last ≡ last_number xs
 
 -- the line is read in the mode that the items give, with this scan, and the table says of every name what the options do
-pub record ComesNext (o : Options) (xs : List (Item Reading)) (t : Tree Reading) (scan : Scan) (l : Line) (table : List Argument) : Type 0 where
+pub record ComesNext (o : Options) (xs : List (Item Reading)) (t : Tree Reading) (scan : Scan)
+    (l : Line) (table : List Argument) : Type 0 where
   pub seen : scan ≡ scan_after (map reading_of xs) (mode_after o t) l
   pub stands : TableRepresents table o.table
 
 -- the items are one more, whose mark is the last one; the step has its verdict, and the place of its keyword
-pub record StepsLine (m : Machine) (o : Options) (xs : List (Item Reading)) (t : Tree Reading) (l : Line) (step : Step) : Type 0 where
+pub record StepsLine (m : Machine) (o : Options) (xs : List (Item Reading)) (t : Tree Reading)
+    (l : Line) (step : Step) : Type 0 where
   pub tree : Tree Reading
   pub read : MachineRepresents m o (xs ++ next_item o xs t l ∷ []) tree
   pub mark : Mark
   pub marks_are : marks tree ≡ marks t ++ mark ∷ []
-  pub judged_so : record { line = l; verdict = step.verdict; keyword = as_span step.keyword } ≡ judged_line (next_item o xs t l) mark
+  pub judged_so : record { line = l; verdict = step.verdict; keyword = as_span step.keyword } ≡
+      judged_line (next_item o xs t l) mark
 
 -- these lines are text within the limits, as they are read in this mode, one after another, after these items
 abbrev pub AreTextLines : Options → Mode → List (Item Reading) → List Reading → Type 0
 AreTextLines o mode xs [] = Unit {0}
 AreTextLines o mode xs (r ∷ rs) =
-    (r ≡ read_after xs mode r.line) × (content_of r.scan ≡ text) × IsWithinLimits r.line × AreTextLines o mode (xs ++ text_line r ∷ []) rs
+    (r ≡ read_after xs mode r.line) × (content_of r.scan ≡ text) × IsWithinLimits r.line ×
+    AreTextLines o mode (xs ++ text_line r ∷ []) rs
 
 -- the items are so many text lines more, each with this verdict
-pub record StepsText (m : Machine) (o : Options) (xs : List (Item Reading)) (t : Tree Reading) (rs : List Reading) (verdict : Verdict) : Type 0 where
+pub record StepsText (m : Machine) (o : Options) (xs : List (Item Reading)) (t : Tree Reading)
+    (rs : List Reading) (verdict : Verdict) : Type 0 where
   pub tree : Tree Reading
   pub read : MachineRepresents m o (xs ++ map text_line rs) tree
   pub mark : Mark

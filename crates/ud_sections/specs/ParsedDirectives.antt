@@ -12,7 +12,13 @@ use Rattle.ud_sections.specs.StepViews.{as_span}
 
 -- a directive of the program as the definitions have it
 abbrev pub as_directive : Directive → model.Directive
-as_directive d = record { kind = d.kind; keyword = as_span d.keyword; after = d.after.now; broken = d.broken }
+as_directive d = record {
+  kind = d.kind;
+  keyword = as_span d.keyword;
+  after = d.after.now;
+  broken =
+      d.broken;
+}
 
 -- a directive, or text if there is none
 abbrev pub directive_or_text : Option Directive → Content

@@ -18,7 +18,10 @@ use Rattle.ud_model.specs.sections.Pruning as table
 use Rattle.ud_sections.specs.declared.section_state.Part.{Part}
 use Rattle.ud_sections.specs.declared.section_state.Part.TheVariants.{AnIf, AnElif, AnElse}
 use Rattle.ud_sections.specs.declared.section_state.SectionState.{SectionState}
-use Rattle.ud_sections.specs.declared.section_state.SectionState.TheVariants.{InRemoved, NoneKept, OnlyTrue, LastUnknown, LastFalse, LastTrue, AfterTrue}
+use Rattle.ud_sections.specs.declared.section_state.SectionState.TheVariants.{InRemoved, NoneKept}
+use Rattle.ud_sections.specs.declared.section_state.SectionState.TheVariants.{OnlyTrue, LastUnknown}
+use Rattle.ud_sections.specs.declared.section_state.SectionState.TheVariants.{LastFalse, LastTrue}
+use Rattle.ud_sections.specs.declared.section_state.SectionState.TheVariants.{AfterTrue}
 
 -- what opens a group, in the words of the definitions
 abbrev pub part_of : Part → table.Part

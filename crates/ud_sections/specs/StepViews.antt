@@ -20,7 +20,12 @@ as_span s = record { at = s.at; len = s.len }
 
 -- a line with its step
 abbrev pub judged_step : Line → Step → Judged
-judged_step line step = record { line = as_line line; verdict = step.verdict; keyword = as_span step.keyword }
+judged_step line step = record {
+  line = as_line line;
+  verdict = step.verdict;
+  keyword =
+      as_span step.keyword;
+}
 
 -- a directive with this verdict whose keyword lies here has it in this body, if it is edited
 abbrev pub KeywordIsWithin : Verdict → Span → List ℕ → Type 0

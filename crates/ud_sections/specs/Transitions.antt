@@ -32,10 +32,12 @@ text_verdict m = (text_action (kept_at (innermost_of m.open_sections.items))).ve
 
 -- with the place of the keyword
 abbrev pub transition_with : Span → Result Action SectionFault → Result Transition SectionFault
-transition_with keyword (Ok a) = Ok (record { step = record { verdict = a.verdict; keyword = keyword }; change = a.change })
+transition_with keyword (Ok a) =
+    Ok (record { step = record { verdict = a.verdict; keyword = keyword }; change = a.change })
 transition_with keyword (Err f) = Err f
 
 -- what becomes of a line, and what it does to the open sections; a cut keyword is a fault
-abbrev pub transition_of : LineContext → ℕ → Result ClassifiedLine Cut → Result Transition SectionFault
+abbrev pub transition_of : LineContext → ℕ → Result ClassifiedLine Cut →
+    Result Transition SectionFault
 transition_of before n (Ok seen) = transition_with seen.keyword (checked_by before seen n)
 transition_of before n (Err cut) = Err (Obfuscated n)

@@ -2,7 +2,8 @@
 
 ghost use Rattle.std.specs.Prelude.{◌≡◌};
 ghost use Rattle.ud_model.specs.sections.Faults.{keeps_rest};
-ghost use Rattle.ud_sections.specs.Checking.{is_directive_kind, opens_section, is_obfuscated_by, misplaced_fault_by, checked_by};
+ghost use Rattle.ud_sections.specs.Checking.{is_directive_kind, opens_section, is_obfuscated_by};
+ghost use Rattle.ud_sections.specs.Checking.{misplaced_fault_by, checked_by};
 
 use crate::classify_line::ClassifiedLine;
 use crate::fault::SectionFault;

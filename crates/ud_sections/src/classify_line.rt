@@ -47,8 +47,11 @@ pub(crate) fn classify<'a>(
 ) -> Result<ClassifiedLine, Cut>
     requires fits { length scan.now.masked.now ≤ LINE_BYTES }
     requires after_hash { skip_hash_if_fresh scan.now.masked.now ≡ Some behind.now }
-    ensures value { (calls : List Argument) → TableRepresents symbols.now calls → result ≡ classified (as_scan scan.now) calls (rules_of settings) (content_of (as_scan scan.now)) }
-    ensures place { IfOk result (λ seen. seen.keyword.at + seen.keyword.len ≤ length scan.now.masked.now) }
+    ensures value { (calls : List Argument) → TableRepresents symbols.now calls →
+        result ≡ classified (as_scan scan.now) calls (rules_of settings)
+        (content_of (as_scan scan.now)) }
+    ensures place { IfOk result (λ seen. seen.keyword.at + seen.keyword.len ≤ length
+        scan.now.masked.now) }
 {
     let (shape, keyword) = match directive_after_hash(scan, behind)? {
         Some(found) => (line_kind_of(scan, &found, symbols, settings), found.keyword),
@@ -80,7 +83,8 @@ fn condition_on(
 ) -> Answer
     requires { length found.now.after.now ≤ LINE_BYTES }
     ensures { (calls : List Argument) → TableRepresents symbols.now calls →
-        as_decision result ≡ decision_on (as_scan scan.now) (as_directive found.now) calls (rules_of settings) }
+        as_decision result ≡ decision_on (as_scan scan.now) (as_directive found.now) calls
+        (rules_of settings) }
 {
     if found.broken {
         return Answer {
@@ -115,7 +119,8 @@ fn line_kind_of(
 ) -> LineKind
     requires { length found.now.after.now ≤ LINE_BYTES }
     ensures { (calls : List Argument) → TableRepresents symbols.now calls →
-        result ≡ line_kind_in (role_of found.now.kind) (decision_on (as_scan scan.now) (as_directive found.now) calls (rules_of settings)) }
+        result ≡ line_kind_in (role_of found.now.kind)
+        (decision_on (as_scan scan.now) (as_directive found.now) calls (rules_of settings)) }
 {
     match found.kind.role() {
         Role::IfGroup => {

@@ -63,7 +63,8 @@ fn common_keyword(rest: &[u8]) -> Option<Keyword>
 /// The keyword of this kind and length, if no word goes on after it.
 #[inline(always)]
 fn whole_keyword(kind: Kind, len: usize, after: &[u8]) -> Option<Keyword>
-    ensures { IfSome result (λ k. (k ≡ record { kind = kind; len = len }) × (leading_word after.now ≡ []) × (skip_word after.now ≡ after.now)) }
+    ensures { IfSome result (λ k. (k ≡ record { kind = kind; len = len }) ×
+        (leading_word after.now ≡ []) × (skip_word after.now ≡ after.now)) }
 {
     match after.first() {
         Some(byte) if is_word_byte(*byte) => None,

@@ -4,7 +4,8 @@
 //! only whether the last one is removed, and its number. What a line does is decided by `check`, after all its faults;
 //! then the open sections change. `specs/MachineState.antt` says what a machine stands for: a list of lines and their tree.
 
-ghost use Rattle.std.specs.Prelude.{◌≡◌, ◌≤◌, ◌<◌, ◌+◌, ◌∷◌, [], ◌++◌, List, length, map, IsTrue, IfOk, IfErr, OnOk, OnErr, None, Some};
+ghost use Rattle.std.specs.Prelude.{◌≡◌, ◌≤◌, ◌<◌, ◌+◌, ◌∷◌, [], ◌++◌, List, length, map, IsTrue};
+ghost use Rattle.std.specs.Prelude.{IfOk, IfErr, OnOk, OnErr, None, Some};
 ghost use Rattle.arrayvec.specs.ArrayVec.{array_vec_len};
 ghost use Rattle.ud_model.specs.text.Scans.{Reading};
 ghost use Rattle.ud_model.specs.sections.Tree.{Item, Tree, text_line, closed, nothing, depth};
@@ -57,7 +58,9 @@ pub struct Machine {
 }
 
 impl Machine {
-    ghost use Rattle.ud_sections.specs.MachineState.{MachineRepresents, ComesNext, StepsLine, AreTextLines, StepsText, machine_fault, machine_with_fault, fault_of, end_fault_of};
+    ghost use Rattle.ud_sections.specs.MachineState.{MachineRepresents, ComesNext, StepsLine};
+    ghost use Rattle.ud_sections.specs.MachineState.{AreTextLines, StepsText, machine_fault};
+    ghost use Rattle.ud_sections.specs.MachineState.{machine_with_fault, fault_of, end_fault_of};
     ghost use Rattle.ud_sections.specs.Transitions.{context_of, transition_of, text_verdict};
     ghost use Rattle.ud_sections.specs.Actions.{kept_at, text_action};
     ghost use Rattle.ud_sections.specs.ClassifiedLines.{classified};
@@ -65,7 +68,8 @@ impl Machine {
 
     /// Has read no line.
     pub fn new(settings: Settings) -> Machine
-        ensures represents { (o : Options) → o.settings ≡ settings → MachineRepresents result o [] (closed nothing) }
+        ensures represents { (o : Options) → o.settings ≡ settings →
+            MachineRepresents result o [] (closed nothing) }
         ensures no_fault { machine_fault result ≡ None }
     {
         Machine {
@@ -79,7 +83,8 @@ impl Machine {
 
     /// The mode in which the next line is to be read.
     pub fn mode(&self) -> Mode
-        ensures { (o : Options) → (xs : List (Item Reading)) → (t : Tree Reading) → MachineRepresents self.now o xs t → result ≡ mode_after o t }
+        ensures { (o : Options) → (xs : List (Item Reading)) → (t : Tree Reading) →
+            MachineRepresents self.now o xs t → result ≡ mode_after o t }
     {
         if self.enclosing().is_plain() {
             Mode::Plain
@@ -90,7 +95,8 @@ impl Machine {
 
     /// How many sections are open; at most `OPEN_SECTIONS`.
     pub fn depth(&self) -> usize
-        ensures value { (o : Options) → (xs : List (Item Reading)) → (t : Tree Reading) → MachineRepresents self.now o xs t → result ≡ depth t }
+        ensures value { (o : Options) → (xs : List (Item Reading)) → (t : Tree Reading) →
+            MachineRepresents self.now o xs t → result ≡ depth t }
         ensures bound { result ≤ OPEN_SECTIONS }
     {
         self.open_sections.len()
@@ -122,16 +128,21 @@ impl Machine {
     ) -> Result<Step, SectionFault>
         requires fits { length scan.now.masked.now ≤ length line.now.body.now }
         requires within { IsWithinLimits (as_line line.now) }
-        ensures represents { (o : Options) → (xs : List (Item Reading)) → (t : Tree Reading) → MachineRepresents self.old o xs t →
+        ensures represents { (o : Options) → (xs : List (Item Reading)) → (t : Tree Reading) →
+            MachineRepresents self.old o xs t →
             ComesNext o xs t (as_scan scan.now) (as_line line.now) symbols.now →
             IfOk result (StepsLine self.new o xs t (as_line line.now)) }
-        ensures finds_fault { (o : Options) → (xs : List (Item Reading)) → (t : Tree Reading) → MachineRepresents self.old o xs t →
-            ComesNext o xs t (as_scan scan.now) (as_line line.now) symbols.now → machine_fault self.old ≡ None →
+        ensures finds_fault { (o : Options) → (xs : List (Item Reading)) → (t : Tree Reading) →
+            MachineRepresents self.old o xs t →
+            ComesNext o xs t (as_scan scan.now) (as_line line.now) symbols.now →
+            machine_fault self.old ≡ None →
             IfErr result (λ f. FaultOf xs (next_item o xs t (as_line line.now)) (fault_of f)) }
         ensures place { IfOk result (λ step. HoldsKeyword step line.now) }
-        ensures no_fault { OnOk result ((machine_fault self.old ≡ None) × (machine_fault self.new ≡ None)) }
+        ensures no_fault { OnOk result ((machine_fault self.old ≡ None) ×
+            (machine_fault self.new ≡ None)) }
         ensures records_fault { IfErr result (λ f. self.new ≡ machine_with_fault self.old f) }
-        ensures unchanged { OnErr result ((o : Options) → (xs : List (Item Reading)) → (t : Tree Reading) →
+        ensures unchanged { OnErr result ((o : Options) → (xs : List (Item Reading)) →
+            (t : Tree Reading) →
             MachineRepresents self.old o xs t → MachineRepresents self.new o xs t) }
         ensures fused { (f : SectionFault) → machine_fault self.old ≡ Some f → result ≡ Err f }
     {
@@ -163,8 +174,10 @@ impl Machine {
     /// # Errors
     /// What `step` refused, again; else the text ends in a block comment, or else in a section.
     pub fn finish(&self, in_comment: bool) -> Result<(), SectionFault>
-        ensures value { (o : Options) → (xs : List (Item Reading)) → (t : Tree Reading) → MachineRepresents self.now o xs t →
-            machine_fault self.now ≡ None → in_comment ≡ ends_in_comment xs → end_fault_of result ≡ end_fault xs t }
+        ensures value { (o : Options) → (xs : List (Item Reading)) → (t : Tree Reading) →
+            MachineRepresents self.now o xs t →
+            machine_fault self.now ≡ None → in_comment ≡ ends_in_comment xs →
+            end_fault_of result ≡ end_fault xs t }
         ensures fused { (f : SectionFault) → machine_fault self.now ≡ Some f → result ≡ Err f }
     {
         if let Some(fault) = self.fault {
@@ -175,8 +188,10 @@ impl Machine {
 
     /// Reads all lines up to the one with this number, which are text, one at least, and tells the verdict of them all.
     pub fn step_text(&mut self, last: u32) -> Verdict
-        ensures value { (o : Options) → (xs : List (Item Reading)) → (t : Tree Reading) → MachineRepresents self.old o xs t →
-            (r : Reading) → (rs : List Reading) → AreTextLines o (mode_after o t) xs (r ∷ rs) → last ≡ last_number (xs ++ map text_line (r ∷ rs)) →
+        ensures value { (o : Options) → (xs : List (Item Reading)) → (t : Tree Reading) →
+            MachineRepresents self.old o xs t →
+            (r : Reading) → (rs : List Reading) → AreTextLines o (mode_after o t) xs (r ∷ rs) →
+            last ≡ last_number (xs ++ map text_line (r ∷ rs)) →
             StepsText self.new o xs t (r ∷ rs) result }
         ensures verdict { result ≡ text_verdict self.old }
         ensures records_fault { machine_fault self.new ≡ machine_fault self.old }
@@ -198,7 +213,10 @@ impl Machine {
 
     /// Where the next line stands.
     fn enclosing(&self) -> Enclosing
-        ensures place { result ≡ record { section = innermost_of self.now.open_sections.items; plain = self.now.settings.plain } }
+        ensures place { result ≡ record {
+          section = innermost_of self.now.open_sections.items;
+          plain = self.now.settings.plain;
+        } }
         ensures fits { array_vec_len self.now.open_sections ≤ OPEN_SECTIONS }
     {
         Enclosing {
@@ -219,10 +237,14 @@ impl Machine {
         requires fits { length scan.now.masked.now ≤ LINE_BYTES }
         requires after_hash { skip_hash_if_fresh scan.now.masked.now ≡ Some behind.now }
         ensures value { (calls : List Argument) → TableRepresents symbols.now calls →
-            result ≡ transition_of (context_of self.now) number (classified (as_scan scan.now) calls (rules_of self.now.settings) (content_of (as_scan scan.now))) }
-        ensures place { IfOk result (λ turn. turn.step.keyword.at + turn.step.keyword.len ≤ length scan.now.masked.now) }
+            result ≡ transition_of (context_of self.now) number
+            (classified (as_scan scan.now) calls (rules_of self.now.settings)
+            (content_of (as_scan scan.now))) }
+        ensures place { IfOk result (λ turn. turn.step.keyword.at + turn.step.keyword.len ≤ length
+            scan.now.masked.now) }
         ensures fits { array_vec_len self.now.open_sections ≤ OPEN_SECTIONS }
-        ensures has_space { IfOk result (λ turn. IsTrue (opens_section turn.change) → array_vec_len self.now.open_sections < OPEN_SECTIONS) }
+        ensures has_space { IfOk result (λ turn. IsTrue (opens_section turn.change) →
+            array_vec_len self.now.open_sections < OPEN_SECTIONS) }
     {
         let before = LineContext {
             enclosing: self.enclosing(),
@@ -245,7 +267,8 @@ impl Machine {
 
     /// What the end of the text says to the open sections.
     fn end_fault(&self, in_comment: bool) -> Result<(), SectionFault>
-        ensures { result ≡ end_in in_comment self.now.last (innermost_of self.now.open_sections.items) }
+        ensures { result ≡ end_in in_comment self.now.last
+            (innermost_of self.now.open_sections.items) }
     {
         let line = self.last;
         if in_comment {
@@ -265,7 +288,8 @@ impl Machine {
 #[inline(always)]
 fn apply(open_sections: &mut ArrayVec<OpenSection, OPEN_SECTIONS>, change: StackOp)
     requires fits { array_vec_len open_sections.old ≤ OPEN_SECTIONS }
-    requires has_space { IsTrue (opens_section change) → array_vec_len open_sections.old < OPEN_SECTIONS }
+    requires has_space { IsTrue (opens_section change) →
+        array_vec_len open_sections.old < OPEN_SECTIONS }
     ensures { open_sections.new.items ≡ applied change open_sections.old.items }
 {
     match change {

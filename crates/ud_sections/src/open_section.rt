@@ -3,7 +3,8 @@
 ghost use Rattle.std.specs.Prelude.{◌≡◌};
 ghost use Rattle.ud_sections.specs.SectionStates.{part_of, opener_verdict_in};
 ghost use Rattle.ud_sections.specs.OpenSections.{new_section, section_with_group};
-ghost use Rattle.ud_sections.specs.Actions.{opener_action, endif_action, text_action, if_action, act, kept_at, plain_at};
+ghost use Rattle.ud_sections.specs.Actions.{opener_action, endif_action, text_action, if_action};
+ghost use Rattle.ud_sections.specs.Actions.{act, kept_at, plain_at};
 
 use crate::line_kind::LineKind;
 use crate::section_state::{Part, SectionState};
@@ -161,7 +162,8 @@ impl Enclosing {
     /// What becomes of a section's first directive.
     #[inline(always)]
     fn if_action(self, cond: Cond, ignoring: bool, number: u32) -> Action
-        ensures { result ≡ if_action (kept_at self.section) (plain_at self.plain self.section) cond ignoring number }
+        ensures { result ≡ if_action (kept_at self.section) (plain_at self.plain self.section) cond
+            ignoring number }
     {
         let kept = self.is_kept();
         let section = OpenSection::new(kept, self.is_plain() || ignoring, number);

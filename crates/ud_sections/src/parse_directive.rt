@@ -1,7 +1,11 @@
 //! The directive that a line carries.
 
-ghost use Rattle.std.specs.Prelude.{◌≡◌, ◌+◌, length, IfOk, IfNone, IfSome, MatchOption, Some, None};
-ghost use Rattle.ud_model.specs.sections.Directives.{text, content_of, skip_hash_if_fresh, is_continued_outside_comment, is_keyword_prefix, may_split_keyword, has_split_keyword, content_after_hash};
+ghost use Rattle.std.specs.Prelude.{◌≡◌, ◌+◌, length, IfOk, IfNone, IfSome, MatchOption, Some};
+ghost use Rattle.std.specs.Prelude.{None};
+ghost use Rattle.ud_model.specs.sections.Directives.{text, content_of, skip_hash_if_fresh};
+ghost use Rattle.ud_model.specs.sections.Directives.{is_continued_outside_comment};
+ghost use Rattle.ud_model.specs.sections.Directives.{is_keyword_prefix, may_split_keyword};
+ghost use Rattle.ud_model.specs.sections.Directives.{has_split_keyword, content_after_hash};
 ghost use Rattle.ud_model.specs.text.Scans.{Scan as LineScan};
 ghost use Rattle.ud_text.specs.LineViews.{as_scan};
 ghost use Rattle.ud_sections.specs.ParsedDirectives.{content_found, directive_or_text};
@@ -35,7 +39,8 @@ pub fn directive<'a>(scan: &Scan<'a>) -> Result<Option<Directive<'a>>, Cut>
 #[inline(always)]
 pub(crate) fn after_hash<'a>(scan: &Scan<'a>) -> Option<&'a [u8]>
     ensures none { IfNone result (content_of (as_scan scan.now) ≡ text) }
-    ensures some { IfSome result (λ behind. skip_hash_if_fresh scan.now.masked.now ≡ Some behind.now) }
+    ensures some { IfSome result (λ behind. skip_hash_if_fresh scan.now.masked.now ≡
+        Some behind.now) }
 {
     if scan.fresh {
         skip_hash(scan.masked)
@@ -66,7 +71,8 @@ pub(crate) fn directive_after_hash<'a>(
 
 /// The bytes after the `#` that comes first but for white space, if one does.
 fn skip_hash(masked: &[u8]) -> Option<&[u8]>
-    ensures { MatchOption result (skip_hash_if_fresh masked.now ≡ None) (λ rest. skip_hash_if_fresh masked.now ≡ Some rest.now) }
+    ensures { MatchOption result (skip_hash_if_fresh masked.now ≡ None)
+        (λ rest. skip_hash_if_fresh masked.now ≡ Some rest.now) }
 {
     match skip_white(masked).split_first() {
         Some((b'#', rest)) => Some(rest),
@@ -89,7 +95,8 @@ fn has_split_keyword(scan: &Scan<'_>, behind: &[u8]) -> bool
 /// outside comments or not.
 #[inline(never)]
 fn may_split_keyword(cut_off: bool, rest: &[u8]) -> bool
-    ensures { (scan : LineScan) → cut_off ≡ is_continued_outside_comment scan → result ≡ may_split_keyword scan rest.now }
+    ensures { (scan : LineScan) → cut_off ≡ is_continued_outside_comment scan →
+        result ≡ may_split_keyword scan rest.now }
 {
     rest.is_empty() || cut_off && (rest == b"/".as_slice() || is_keyword_prefix(rest))
 }
@@ -115,8 +122,10 @@ fn is_keyword_prefix(text: &[u8]) -> bool
 #[inline(always)]
 fn parse_after_hash<'a>(scan: &Scan<'a>, behind: &'a [u8]) -> Option<Directive<'a>>
     requires { skip_hash_if_fresh scan.now.masked.now ≡ Some behind.now }
-    ensures value { directive_or_text result ≡ content_after_hash (as_scan scan.now) (Some behind.now) }
-    ensures places { IfSome result (λ d. d.keyword.at + d.keyword.len + length d.after.now ≡ length scan.now.masked.now) }
+    ensures value { directive_or_text result ≡
+        content_after_hash (as_scan scan.now) (Some behind.now) }
+    ensures places { IfSome result (λ d. d.keyword.at + d.keyword.len + length d.after.now ≡
+        length scan.now.masked.now) }
 {
     if !scan.fresh {
         return None;

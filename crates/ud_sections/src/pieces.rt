@@ -47,7 +47,8 @@ impl<'a> Pieces<'a> {
         requires few { count ≤ 5 }
         ensures parts { concatenated result ≡ flat_map (λ s. s.now) (take count slices.entry) }
         ensures count { count_of result ≡ count }
-        ensures is_unchanged { is_unchanged result ≡ bytes_eq (concatenated result) (text_of (as_line line.now)) }
+        ensures is_unchanged { is_unchanged result ≡
+            bytes_eq (concatenated result) (text_of (as_line line.now)) }
     {
         let same = equals_line(&slices[..count], line);
         Pieces {
@@ -62,7 +63,8 @@ impl<'a> Pieces<'a> {
     fn whole(line: &Line<'a>) -> Pieces<'a>
         ensures parts { concatenated result ≡ text_of (as_line line.now) }
         ensures count { count_of result ≡ 2 }
-        ensures is_unchanged { is_unchanged result ≡ bytes_eq (concatenated result) (text_of (as_line line.now)) }
+        ensures is_unchanged { is_unchanged result ≡
+            bytes_eq (concatenated result) (text_of (as_line line.now)) }
     {
         Pieces {
             slices: [line.body, line.ending, &[], &[], &[]],
@@ -75,9 +77,11 @@ impl<'a> Pieces<'a> {
     #[inline(always)]
     pub(crate) fn for_line(line: &Line<'a>, step: Step, blank: &'a [u8]) -> Pieces<'a>
         requires keyword { HoldsKeyword step line.now }
-        ensures parts { concatenated result ≡ (if is_removed step.verdict then blank.now else piece_by step.verdict (as_span step.keyword) (as_line line.now)) }
+        ensures parts { concatenated result ≡ (if is_removed step.verdict then blank.now
+            else piece_by step.verdict (as_span step.keyword) (as_line line.now)) }
         ensures count { count_of result ≤ 4 }
-        ensures is_unchanged { is_unchanged result ≡ bytes_eq (concatenated result) (text_of (as_line line.now)) }
+        ensures is_unchanged { is_unchanged result ≡
+            bytes_eq (concatenated result) (text_of (as_line line.now)) }
     {
         match step.verdict {
             Verdict::Keep => Pieces::whole(line),
@@ -104,7 +108,8 @@ impl<'a> Pieces<'a> {
         requires has_space { count_of self ≤ 4 }
         ensures parts { concatenated result ≡ first.now ++ concatenated self.entry }
         ensures count { count_of result ≡ count_of self.entry + 1 }
-        ensures is_unchanged { is_unchanged result ≡ bytes_eq (concatenated result) (text_of (as_line line.now)) }
+        ensures is_unchanged { is_unchanged result ≡
+            bytes_eq (concatenated result) (text_of (as_line line.now)) }
     {
         let [a, b, c, d, _] = self.slices;
         Pieces::new([first, a, b, c, d], self.count + 1, line)

@@ -36,7 +36,8 @@ impl Printer {
     /// The printer for these settings, at the beginning of a text. Where removed lines are blanked, none is numbered.
     pub fn of(settings: &Settings) -> Printer
         ensures represents { printer_represents result [] }
-        ensures piece { (before : List Judged) → (j : Judged) → printer_piece result before j ≡ piece_after (style_of settings.now) before j }
+        ensures piece { (before : List Judged) → (j : Judged) →
+            printer_piece result before j ≡ piece_after (style_of settings.now) before j }
     {
         match (settings.complement, settings.blank, settings.renumber) {
             (false, true, _) => Printer::Blanks(Blank::new()),

@@ -2,7 +2,9 @@
 
 ghost use Rattle.std.specs.Prelude.{◌≡◌};
 ghost use Rattle.ud_model.specs.sections.Pruning.{first_kept_verdict, first_true_verdict};
-ghost use Rattle.ud_sections.specs.SectionStates.{part_of, new_state, next_section_state, opener_verdict_in, endif_verdict_in, is_kept_in, is_in_removed};
+ghost use Rattle.ud_sections.specs.SectionStates.{part_of, new_state, next_section_state};
+ghost use Rattle.ud_sections.specs.SectionStates.{opener_verdict_in, endif_verdict_in, is_kept_in};
+ghost use Rattle.ud_sections.specs.SectionStates.{is_in_removed};
 
 use ud_model::{Cond, Verdict};
 

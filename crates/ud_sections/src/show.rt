@@ -31,16 +31,21 @@ pub trait Show: Drop {
     /// What is printed of the next line. A directive that is edited has its keyword in the line's body.
     fn pieces<'a>(&'a mut self, line: &Line<'a>, step: Step) -> Pieces<'a>
         requires keyword { HoldsKeyword step line.now }
-        ensures parts { (before : List Judged) → represents self.old before → concatenated result ≡ piece self.old before (judged_step line.now step) }
-        ensures is_unchanged { is_unchanged result ≡ bytes_eq (concatenated result) (text_of (as_line line.now)) }
+        ensures parts { (before : List Judged) → represents self.old before →
+            concatenated result ≡ piece self.old before (judged_step line.now step) }
+        ensures is_unchanged { is_unchanged result ≡
+            bytes_eq (concatenated result) (text_of (as_line line.now)) }
         ensures* represents_after { sem 𝓛 (Rests Self.row self.entry (λ new.
-            ((before : List Judged) → represents self.entry.now before → represents new (before ++ judged_step line.now step ∷ []))
-            × ((before : List Judged) (j : Judged) → piece new before j ≡ piece self.entry.now before j))) };
+            ((before : List Judged) → represents self.entry.now before →
+            represents new (before ++ judged_step line.now step ∷ []))
+            × ((before : List Judged) (j : Judged) →
+            piece new before j ≡ piece self.entry.now before j))) };
 
     /// What is printed of the next line, if it has this verdict. If that is told, the line needn't be given then: the printer
     /// stands for it too, as it is.
     fn line_output(&self, verdict: Verdict) -> LineOutput
-        ensures line_output { GivesLineOutput (represents self.now) (piece self.now) verdict result }
+        ensures line_output { GivesLineOutput (represents self.now) (piece self.now) verdict
+            result }
     {
         LineOutput::Parts
     }
@@ -48,7 +53,8 @@ pub trait Show: Drop {
     /// What is printed of the next lines, as many as come, if all of them are text with this verdict. They needn't be
     /// given then: the printer stands for them as it is.
     fn bulk_output(&self, verdict: Verdict) -> BulkOutput
-        ensures bulk_output { GivesBulkOutput (represents self.now) (piece self.now) verdict result }
+        ensures bulk_output { GivesBulkOutput (represents self.now) (piece self.now) verdict
+            result }
     {
         match self.line_output(verdict) {
             LineOutput::Whole => BulkOutput::Copied,

@@ -13,8 +13,10 @@
 -- Each span but a splice is read quietly, and none has a line feed in a block comment (specs/BulkStates.antt).
 --
 -- Example: `"a\"b"` is a `CodeLexeme`, and `// a` with its line feed a `LineLexeme`.
-use Rattle.std.specs.Prelude.{◌≡◌, ◌≤◌, ℕ, ◌==◌, List, [], ◌∷◌, ◌++◌, length, take, drop, Bool, true, false, ◌&&◌, ◌||◌}
-use Rattle.ud_model.specs.text.Bytes.{newline, carriage_return, backslash, number_sign, slash, star, is_quote, is_white, are_white}
+use Rattle.std.specs.Prelude.{◌≡◌, ◌≤◌, ℕ, ◌==◌, List, [], ◌∷◌, ◌++◌, length, take, drop, Bool}
+use Rattle.std.specs.Prelude.{true, false, ◌&&◌, ◌||◌}
+use Rattle.ud_model.specs.text.Bytes.{newline, carriage_return, backslash, number_sign, slash, star}
+use Rattle.ud_model.specs.text.Bytes.{is_quote, is_white, are_white}
 use Rattle.ud_model.specs.text.Lines.{NoNewline}
 use Rattle.ud_model.specs.aids.LexStates.{LexState, in_text, next_state, opens_comment}
 use Rattle.ud_text.specs.BulkStates.{bulk_state_after, HasNoStop, NoNewlineInBlock, code_state}
@@ -75,7 +77,8 @@ pub record LineLexeme (white : Bool) (bytes : List ℕ) : Type 0 where
 
 -- after these two bytes, and what stands before them, a line feed may belong to a splice
 abbrev pub may_splice : ℕ → ℕ → Bool
-may_splice a b = (b == backslash) || ((b == carriage_return) && ((a == backslash) || (a == carriage_return)))
+may_splice a b = (b == backslash) ||
+    ((b == carriage_return) && ((a == backslash) || (a == carriage_return)))
 
 -- a backslash and the ending that it deletes (C11 5.1.1.2, phase 2)
 pub data IsSplice : List ℕ → Type 0 where
@@ -86,6 +89,8 @@ pub data IsSplice : List ℕ → Type 0 where
 -- is as it was before them
 pub data IsWhiteAfter (bytes : List ℕ) (begins : Bool) : Bool → Type 0 where
   all_white : are_white bytes ≡ true → IsWhiteAfter bytes begins begins
-  new_line : (front rest : List ℕ) → bytes ≡ front ++ newline ∷ rest → are_white rest ≡ true → IsWhiteAfter bytes begins true
-  black : (front : List ℕ) (b : ℕ) (rest : List ℕ) → bytes ≡ front ++ b ∷ rest → is_white b ≡ false →
+  new_line : (front rest : List ℕ) → bytes ≡ front ++ newline ∷ rest → are_white rest ≡ true →
+      IsWhiteAfter bytes begins true
+  black : (front : List ℕ) (b : ℕ) (rest : List ℕ) → bytes ≡ front ++ b ∷ rest →
+      is_white b ≡ false →
       (b == newline) ≡ false → are_white rest ≡ true → IsWhiteAfter bytes begins false

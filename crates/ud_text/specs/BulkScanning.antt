@@ -30,7 +30,8 @@ lines_in_mode mode n lines = map (line_in_mode mode) (numbered_from n lines)
 abbrev pub HaveNoDirective : Mode → List Reading → List Line → Type 0
 HaveNoDirective mode before [] = Unit {0}
 HaveNoDirective mode before (line ∷ lines) =
-    (content_of (scan_after before mode line) ≡ text) × HaveNoDirective mode (before ++ next_reading before mode line ∷ []) lines
+    (content_of (scan_after before mode line) ≡ text) ×
+    HaveNoDirective mode (before ++ next_reading before mode line ∷ []) lines
 
 -- the bytes end with a line feed, or there are none
 abbrev pub AreWholeLines : List ℕ → Type 0
@@ -40,4 +41,5 @@ AreWholeLines bytes = partial_line bytes ≡ []
 pub record SkipsText (mode : Mode) (old new : ScannerState) (bytes : List ℕ) : Type 0 where
   pub stands : (n : ℕ) (before : List Reading) → ScannerRepresents old before →
       ScannerRepresents new (readings_after before (lines_in_mode mode n (whole_lines bytes)))
-  pub texts : (n : ℕ) (before : List Reading) → ScannerRepresents old before → HaveNoDirective mode before (numbered_from n (whole_lines bytes))
+  pub texts : (n : ℕ) (before : List Reading) → ScannerRepresents old before →
+      HaveNoDirective mode before (numbered_from n (whole_lines bytes))

@@ -18,10 +18,14 @@
 -- outside comments and literals, on a logical line that isn't white, the next line begins where the text leaves off.
 --
 -- Example: `x /* c` with its line feed leads from `code_state true` quietly to `block_state false`.
-use Rattle.std.specs.Prelude.{◌≡◌, ℕ, ◌==◌, List, [], ◌∷◌, Bool, true, false, not, ◌&&◌, ◌||◌, if◌then◌else◌}
-use Rattle.ud_model.specs.text.Bytes.{newline, carriage_return, backslash, number_sign, skip_white, is_word_byte}
+use Rattle.std.specs.Prelude.{◌≡◌, ℕ, ◌==◌, List, [], ◌∷◌, Bool, true, false, not, ◌&&◌, ◌||◌}
+use Rattle.std.specs.Prelude.{if◌then◌else◌}
+use Rattle.ud_model.specs.text.Bytes.{newline, carriage_return, backslash, number_sign, skip_white}
+use Rattle.ud_model.specs.text.Bytes.{is_word_byte}
 use Rattle.ud_model.specs.text.Scanning.{is_block}
-use Rattle.ud_model.specs.aids.LexStates.{LexState, in_text, at_slash, in_block, at_star, in_line, in_literal, at_backslash, next_state, stays_white, kind_in_state}
+use Rattle.ud_model.specs.aids.LexStates.{LexState, in_text, at_slash, in_block, at_star, in_line}
+use Rattle.ud_model.specs.aids.LexStates.{in_literal, at_backslash, next_state, stays_white}
+use Rattle.ud_model.specs.aids.LexStates.{kind_in_state}
 use Rattle.ud_model.specs.declared.kind.Mode.TheVariants.{C}
 use Rattle.ud_text.specs.ScannerState.{ScannerState}
 use Rattle.ud_text.specs.BulkScanning.{AreWholeLines, SkipsText}
@@ -57,7 +61,9 @@ shows_hash (at_backslash quote) = true
 -- whether a line feed after this byte belongs to a splice that counts, from the place before the byte
 abbrev pub spliced_after : LexState → Bool → ℕ → Bool
 spliced_after state spliced b =
-    if b == backslash then not (ignores_splice state) else if b == carriage_return then spliced else false
+    if b == backslash then not (ignores_splice state)
+    else if b == carriage_return then spliced
+    else false
 
 -- the state after one more byte
 abbrev pub next_bulk_state : BulkState → ℕ → BulkState
@@ -126,7 +132,8 @@ HasNoStop s (b ∷ bytes) = (stops_bulk s b bytes ≡ false) × HasNoStop (next_
 abbrev pub NoNewlineInBlock : BulkState → List ℕ → Type 0
 NoNewlineInBlock s [] = Unit {0}
 NoNewlineInBlock s (b ∷ bytes) =
-    (((b == newline) && is_block (kind_in_state s.state)) ≡ false) × NoNewlineInBlock (next_bulk_state s b) bytes
+    (((b == newline) && is_block (kind_in_state s.state)) ≡ false) ×
+    NoNewlineInBlock (next_bulk_state s b) bytes
 
 -- at the beginning of a line
 abbrev pub line_state : LexState → Bool → BulkState
@@ -142,7 +149,12 @@ block_state white = line_state in_block white
 
 -- the same, after a star or not
 abbrev pub inside_state : Bool → Bool → BulkState
-inside_state starred white = record { state = if starred then at_star else in_block; white = white; spliced = false }
+inside_state starred white = record {
+  state = if starred then at_star
+      else in_block;
+  white = white;
+  spliced = false;
+}
 
 -- whole lines can be read from here: outside comments and literals, or in a block comment
 abbrev pub can_start : LexState → Bool
@@ -160,7 +172,8 @@ continues_line state white = is_block (kind_in_state state) || not white
 
 -- what is carried to a line that begins so
 abbrev pub scanner_state_at : LexState → Bool → ScannerState
-scanner_state_at state white = record { state = state; white = white; joins = continues_line state white }
+scanner_state_at state white =
+    record { state = state; white = white; joins = continues_line state white }
 
 -- the state is one at the beginning of a line
 pub record AtLine (s : BulkState) : Type 0 where
@@ -170,5 +183,6 @@ pub record AtLine (s : BulkState) : Type 0 where
 -- the bytes are whole lines, all text in C mode, and lead from the one state to the other
 pub record Skipped (start : BulkState) (bytes : List ℕ) (now : BulkState) : Type 0 where
   pub ends : AreWholeLines bytes
-  pub passes : SkipsText C (scanner_state_at start.state start.white) (scanner_state_at now.state now.white) bytes
+  pub passes : SkipsText C (scanner_state_at start.state start.white)
+      (scanner_state_at now.state now.white) bytes
   pub at_line : AtLine now

@@ -9,7 +9,8 @@
 --   IsLastLine text line            the line is the last one of the text
 --
 -- Example: after "a\nb" with the first line given up, "b" is held and 1 line stands before it.
-use Rattle.std.specs.Prelude.{◌≡◌, ℕ, ◌+◌, ◌<◌, ◌≤◌, List, [], ◌∷◌, ◌++◌, length, take, Bool, true, false, Option, Some, if◌then◌else◌, ◌⊎◌}
+use Rattle.std.specs.Prelude.{◌≡◌, ℕ, ◌+◌, ◌<◌, ◌≤◌, List, [], ◌∷◌, ◌++◌, length, take, Bool, true}
+use Rattle.std.specs.Prelude.{false, Option, Some, if◌then◌else◌, ◌⊎◌}
 use Rattle.ud_model.specs.text.Lines.{NoNewline, split_lines, Line, lines_of}
 use Rattle.ud_model.specs.declared.limits.TheConstants.{LINE_BYTES}
 use Rattle.ud_text.specs.declared.fault.TextFault.{TextFault}
@@ -28,14 +29,17 @@ pub record LinesState : Type 0 where
 -- these bytes were taken so far: they are the lines given up, and what is held
 pub record LinesRepresent (lines : LinesState) (text : List ℕ) : Type 0 where
   pub consumed : List (List ℕ)
-  pub cut : split_lines text ≡ (if lines.whole then record { whole = consumed ++ lines.held ∷ []; rest = [] } else record { whole = consumed; rest = lines.held })
+  pub cut : split_lines text ≡ (if lines.whole
+      then record { whole = consumed ++ lines.held ∷ []; rest = [] }
+      else record { whole = consumed; rest = lines.held })
   pub count : lines.before ≡ length consumed
 
 -- the bytes up to the first line feed, which is the last of them, or all if there is none
 pub record UpToNewline (chunk : List ℕ) (used : ℕ) (whole : Bool) : Type 0 where
   pub within : used ≤ length chunk
   pub all : whole ≡ false → (used ≡ length chunk) × NoNewline chunk
-  pub line : whole ≡ true → (front : List ℕ) × NoNewline front × (take used chunk ≡ front ++ 10 ∷ [])
+  pub line : whole ≡ true → (front : List ℕ) × NoNewline front ×
+      (take used chunk ≡ front ++ 10 ∷ [])
 
 -- a refusal keeps what is held, and is answered for good
 abbrev pub with_fault : LinesState → TextFault → LinesState
@@ -44,10 +48,12 @@ with_fault lines fault = record lines { fault = Some fault }
 -- the piece passes a limit: it has a byte for a line after the last one, or else more bytes of the line than fit
 abbrev pub BreaksLimit : LinesState → List ℕ → TextFault → Type 0
 BreaksLimit lines chunk (TooManyLines line) =
-    (line ≡ lines.before + 1) × (lines.last_line ≤ lines.before) × ((used : ℕ) × (whole : Bool) × UpToNewline chunk used whole × (0 < used))
+    (line ≡ lines.before + 1) × (lines.last_line ≤ lines.before) ×
+    ((used : ℕ) × (whole : Bool) × UpToNewline chunk used whole × (0 < used))
 BreaksLimit lines chunk (LineTooLong line) =
     (line ≡ lines.before + 1) × (lines.before < lines.last_line)
-    × ((used : ℕ) × (whole : Bool) × UpToNewline chunk used whole × (LINE_BYTES < length lines.held + used))
+    × ((used : ℕ) × (whole : Bool) × UpToNewline chunk used whole ×
+    (LINE_BYTES < length lines.held + used))
 
 -- so many bytes more fit beside what is held, in room for so many bytes; if there is room for a line of any length, any number
 -- fits that the line may have

@@ -15,7 +15,8 @@
 -- Example: in `a` line feed `b /* c` with `at` before the `/`, `line` may be 0 or 2.
 use Rattle.std.specs.Prelude.{◌≡◌, ◌≤◌, ℕ, ◌+◌, List, ◌++◌, length, take, Bool, Result, MatchResult}
 use Rattle.ud_model.specs.aids.LexStates.{in_text}
-use Rattle.ud_text.specs.BulkStates.{BulkState, bulk_state_after, HasNoStop, NoNewlineInBlock, line_state, code_state, inside_state, Skipped}
+use Rattle.ud_text.specs.BulkStates.{BulkState, bulk_state_after, HasNoStop, NoNewlineInBlock}
+use Rattle.ud_text.specs.BulkStates.{line_state, code_state, inside_state, Skipped}
 use Rattle.ud_text.specs.BulkLexemes.{NoComment}
 use Rattle.ud_text.specs.LineViews.{lex_state_of}
 use Rattle.ud_text.specs.declared.bulk.Progress.{Progress}
@@ -23,7 +24,8 @@ use Rattle.ud_text.specs.declared.bulk.LineStart.{LineStart}
 use Rattle.ud_text.specs.declared.lexer.Lexer.{Lexer}
 
 -- the bytes before `at` lead from the start to this state; the lines before `line` are passed, and this is kept of them
-pub record ReadTo (start : BulkState) (bytes : List ℕ) (line : ℕ) (kept : BulkState) (at : ℕ) (now : BulkState) : Type 0 where
+pub record ReadTo (start : BulkState) (bytes : List ℕ) (line : ℕ) (kept : BulkState) (at : ℕ)
+    (now : BulkState) : Type 0 where
   -- the lines before `line`, the bytes from there up to `at`, and the others
   pub front : List ℕ
   pub mid : List ℕ
@@ -38,7 +40,8 @@ pub record ReadTo (start : BulkState) (bytes : List ℕ) (line : ℕ) (kept : Bu
 
 -- the same outside comments and literals: no comment begins from `base` on, and `begins` tells whether the logical line is
 -- white there
-pub record ReadOutside (start : BulkState) (bytes : List ℕ) (line : ℕ) (kept : BulkState) (base : ℕ) (begins : Bool) (at : ℕ) : Type 0 where
+pub record ReadOutside (start : BulkState) (bytes : List ℕ) (line : ℕ) (kept : BulkState) (base : ℕ)
+    (begins : Bool) (at : ℕ) : Type 0 where
   pub now_white : Bool
   pub so_far : ReadTo start bytes line kept at (code_state now_white)
   -- the bytes from `line` up to `base`, and from there up to `at`
@@ -59,7 +62,8 @@ InOrder p bytes = (p.line.at ≤ p.at) × (p.base ≤ p.at) × (p.at ≤ length 
 
 -- the bytes are read so far
 abbrev pub ReadBy : BulkState → List ℕ → Progress → Type 0
-ReadBy start bytes p = ReadOutside start bytes p.line.at (bulk_state_of p.line.lexer) p.base p.begins p.at
+ReadBy start bytes p = ReadOutside start bytes p.line.at (bulk_state_of p.line.lexer) p.base
+    p.begins p.at
 
 -- the lines before this one are passed
 abbrev pub SkippedBy : BulkState → List ℕ → LineStart → Type 0
@@ -68,7 +72,8 @@ SkippedBy start bytes line = Skipped start (take line.at bytes) (bulk_state_of l
 -- the bytes before `at` lead into a block comment, and the lines before this one are passed
 abbrev pub InBlock : BulkState → List ℕ → LineStart → ℕ → Bool → Type 0
 InBlock start bytes line at white =
-    (starred : Bool) × ReadTo start bytes line.at (bulk_state_of line.lexer) at (inside_state starred white)
+    (starred : Bool) × ReadTo start bytes line.at (bulk_state_of line.lexer) at
+    (inside_state starred white)
 
 -- a step reads on to a further place, or stops at the beginning of a line
 abbrev pub Steps : List ℕ → Progress → Result Progress LineStart → Type 0

@@ -18,9 +18,11 @@ use Rattle.ud_text.specs.contracts.short_scanner.ShortScanner.{the_row as short_
 -- for all readings that the scanner stands for, it stands for these and the line's
 abbrev pub ScansLine : MutBor ScannerState → Mode → TextLine → Fml
 ScansLine scanner mode line =
-    Rests the_row scanner (λ new. (before : List Reading) → ScannerRepresents scanner.now before → ScannerRepresents new (before ++ next_reading before mode line ∷ []))
+    Rests the_row scanner (λ new. (before : List Reading) → ScannerRepresents scanner.now before →
+    ScannerRepresents new (before ++ next_reading before mode line ∷ []))
 
 -- the same of a scanner of short lines
 abbrev pub ScansShortLine : MutBor ScannerState → Mode → TextLine → Fml
 ScansShortLine scanner mode line =
-    Rests short_row scanner (λ new. (before : List Reading) → ScannerRepresents scanner.now before → ScannerRepresents new (before ++ next_reading before mode line ∷ []))
+    Rests short_row scanner (λ new. (before : List Reading) → ScannerRepresents scanner.now before →
+    ScannerRepresents new (before ++ next_reading before mode line ∷ []))

@@ -47,7 +47,12 @@ pub record ScannerRepresents (scan_state : ScannerState) (before : List Reading)
 
 -- what the program carries
 abbrev pub scanner_state_of : ScanState → ScannerState
-scanner_state_of c = record { state = lex_state_of c.lexer.state; white = c.lexer.white; joins = c.joins }
+scanner_state_of c = record {
+  state = lex_state_of c.lexer.state;
+  white = c.lexer.white;
+  joins =
+      c.joins;
+}
 
 -- the scan of these masked bytes and these facts
 abbrev pub scan_with : List ℕ → LineFlags → LineScan

@@ -12,7 +12,8 @@ use Rattle.ud_text.specs.BulkLexemes.{is_star_pair}
 
 -- a byte is one of these five
 abbrev pub is_one_of : List ℕ → ℕ → Bool
-is_one_of set b = (b == slice_index set 0) || (b == slice_index set 1) || (b == slice_index set 2) || (b == slice_index set 3) || (b == slice_index set 4)
+is_one_of set b = (b == slice_index set 0) || (b == slice_index set 1) ||
+    (b == slice_index set 2) || (b == slice_index set 3) || (b == slice_index set 4)
 
 -- the place of the lowest bit that is set, or the number of lanes if none is
 abbrev pub lowest_set_bit : ℕ → ℕ → ℕ

@@ -5,12 +5,14 @@
 //! the beginning of that line, so each way to go on is a step of its own, and a step that isn't sure need not go on.
 //! A new kind of span needs a function in lexeme_lengths.rt and its lemma.
 
-ghost use Rattle.std.specs.Prelude.{◌≡◌, ◌≤◌, ◌<◌, ◌+◌, Bool, [], ◌∷◌, length, take, drop, true, IfOk, IfErr, MatchResult};
+ghost use Rattle.std.specs.Prelude.{◌≡◌, ◌≤◌, ◌<◌, ◌+◌, Bool, [], ◌∷◌, length, take, drop, true};
+ghost use Rattle.std.specs.Prelude.{IfOk, IfErr, MatchResult};
 ghost use Rattle.ud_model.specs.text.Bytes.{slash, star, number_sign};
 ghost use Rattle.ud_text.specs.BulkStates.{BulkState, block_state, can_start};
 ghost use Rattle.ud_text.specs.Blocks.{IsBlock};
 ghost use Rattle.ud_text.specs.BulkLexemes.{NoStarPair, IsSplice};
-ghost use Rattle.ud_text.specs.Progress.{ReadTo, bulk_state_of, InOrder, ReadBy, SkippedBy, InBlock, Steps};
+ghost use Rattle.ud_text.specs.Progress.{ReadTo, bulk_state_of, InOrder, ReadBy, SkippedBy};
+ghost use Rattle.ud_text.specs.Progress.{InBlock, Steps};
 ghost use Rattle.ud_text.specs.LineViews.{lex_state_of};
 
 use crate::blocks::{Block, next_significant, no_block};
@@ -108,7 +110,8 @@ fn skip_to_block_end(
     ensures bound { IfErr result (λ stop. stop.at ≤ length lines.now) }
     ensures read { (start : BulkState) →
         ReadTo start lines.now line.at (bulk_state_of line.lexer) at (block_state white) →
-        MatchResult result (λ q. ReadBy start lines.now q) (λ stop. SkippedBy start lines.now stop) }
+        MatchResult result (λ q. ReadBy start lines.now q)
+        (λ stop. SkippedBy start lines.now stop) }
 {
     let rest = &lines[at..];
     let count = find_star_pair(rest);
@@ -256,7 +259,8 @@ fn plain_step(lines: &[u8], row: Block, p: Progress) -> (Block, Progress)
     ensures row { IsBlock result.0 lines.now }
     ensures order { InOrder result.1 lines.now }
     ensures further { p.at ≤ result.1.at }
-    ensures read { (start : BulkState) → ReadBy start lines.now p → ReadBy start lines.now result.1 }
+    ensures read { (start : BulkState) → ReadBy start lines.now p →
+        ReadBy start lines.now result.1 }
 {
     let (at, row) = next_significant(lines, row, p.at);
     (row, Progress { at, ..p })
@@ -266,7 +270,8 @@ fn plain_step(lines: &[u8], row: Block, p: Progress) -> (Block, Progress)
 fn skip_text_from(lines: &[u8], begun: Progress) -> LineStart
     requires order { InOrder begun lines.now }
     ensures bound { result.at ≤ length lines.now }
-    ensures skipped { (start : BulkState) → ReadBy start lines.now begun → SkippedBy start lines.now result }
+    ensures skipped { (start : BulkState) → ReadBy start lines.now begun →
+        SkippedBy start lines.now result }
 {
     let (mut row, mut p) = plain_step(lines, no_block(lines), begun);
     while p.at < lines.len() {

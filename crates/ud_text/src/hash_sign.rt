@@ -2,7 +2,8 @@
 //!
 //! It doesn't if a word that is no keyword follows, nor if its logical line isn't white before it (C11 6.10).
 
-ghost use Rattle.std.specs.Prelude.{◌≡◌, ◌≤◌, ◌<◌, ◌-◌, length, take, drop, slice_index, true, false, IfSome};
+ghost use Rattle.std.specs.Prelude.{◌≡◌, ◌≤◌, ◌<◌, ◌-◌, length, take, drop, slice_index, true};
+ghost use Rattle.std.specs.Prelude.{false, IfSome};
 ghost use Rattle.ud_model.specs.text.Bytes.{is_white, are_white};
 ghost use Rattle.ud_text.specs.BulkStates.{is_no_keyword, is_other_word};
 ghost use Rattle.ud_text.specs.BulkLexemes.{IsWhiteAfter, NoSignificant};

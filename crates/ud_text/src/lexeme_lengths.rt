@@ -3,9 +3,11 @@
 //! A span ends on the line on which it begins. If its end isn't seen in the bytes, or a backslash may belong to a splice,
 //! there is no answer: the line is then read by itself.
 
-ghost use Rattle.std.specs.Prelude.{◌≡◌, ◌≤◌, ◌<◌, Bool, [], ◌∷◌, length, take, slice_index, true, false, IfSome, OnSome};
+ghost use Rattle.std.specs.Prelude.{◌≡◌, ◌≤◌, ◌<◌, Bool, [], ◌∷◌, length, take, slice_index, true};
+ghost use Rattle.std.specs.Prelude.{false, IfSome, OnSome};
 ghost use Rattle.ud_model.specs.text.Bytes.{slash, backslash, is_quote};
-ghost use Rattle.ud_text.specs.BulkLexemes.{is_significant, CodeLexeme, LineLexeme, IsSplice, may_splice};
+ghost use Rattle.ud_text.specs.BulkLexemes.{is_significant, CodeLexeme, LineLexeme, IsSplice};
+ghost use Rattle.ud_text.specs.BulkLexemes.{may_splice};
 
 use crate::searching::is_significant;
 use crate::simd::find_near;

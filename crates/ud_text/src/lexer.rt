@@ -4,11 +4,14 @@
 //! until the next byte tells that it begins a comment. Runs of bytes outside comments and literals, and within comments,
 //! are taken at once: they leave the place as it is.
 
-ghost use Rattle.std.specs.Prelude.{◌≡◌, ◌≤◌, ◌<◌, ◌+◌, ◌&&◌, ℕ, List, [], ◌∷◌, ◌++◌, length, take, replicate};
+ghost use Rattle.std.specs.Prelude.{◌≡◌, ◌≤◌, ◌<◌, ◌+◌, ◌&&◌, ℕ, List, [], ◌∷◌, ◌++◌, length, take};
+ghost use Rattle.std.specs.Prelude.{replicate};
 ghost use Rattle.arrayvec.specs.ArrayVec.{array_vec_len};
 ghost use Rattle.ud_model.specs.text.Lines.{NoNewline};
 ghost use Rattle.ud_model.specs.text.Scanning.{is_block};
-ghost use Rattle.ud_model.specs.aids.LexStates.{LexesTo, Masks, next_state, opens_comment, masked_byte, stays_white, blank_last, kind_in_state, fresh_at};
+ghost use Rattle.ud_model.specs.aids.LexStates.{LexesTo, Masks, next_state, opens_comment};
+ghost use Rattle.ud_model.specs.aids.LexStates.{masked_byte, stays_white, blank_last};
+ghost use Rattle.ud_model.specs.aids.LexStates.{kind_in_state, fresh_at};
 ghost use Rattle.ud_text.specs.LineViews.{lex_state_of, shown_in};
 
 use crate::marks::first_mark;
@@ -151,7 +154,9 @@ fn blank_last<const ROOM: usize>(masked: &mut ArrayVec<u8, ROOM>)
 /// Reads one more byte, and puts it at the end as it is shown.
 fn mask_byte<const ROOM: usize>(lexer: Lexer, byte: u8, masked: &mut ArrayVec<u8, ROOM>) -> Lexer
     requires { array_vec_len masked.old < ROOM }
-    ensures masks { (n : ℕ) → (text : List ℕ) → Masks n text (lex_state_of lexer.state) lexer.white masked.old.items → Masks n (text ++ byte ∷ []) (lex_state_of result.state) result.white masked.new.items }
+    ensures masks { (n : ℕ) → (text : List ℕ) →
+        Masks n text (lex_state_of lexer.state) lexer.white masked.old.items →
+        Masks n (text ++ byte ∷ []) (lex_state_of result.state) result.white masked.new.items }
     ensures len { array_vec_len masked.new ≡ array_vec_len masked.old + 1 }
 {
     if opens_comment(lexer.state, byte) {
@@ -191,7 +196,10 @@ fn mask_uniform<const ROOM: usize>(
 ) -> (Lexer, usize)
     requires fits { array_vec_len masked.old + length rest.now ≤ ROOM }
     requires one_line { NoNewline rest.now }
-    ensures masks { (n : ℕ) → (text : List ℕ) → Masks n text (lex_state_of lexer.state) lexer.white masked.old.items → Masks n (text ++ take result.1 rest.now) (lex_state_of result.0.state) result.0.white masked.new.items }
+    ensures masks { (n : ℕ) → (text : List ℕ) →
+        Masks n text (lex_state_of lexer.state) lexer.white masked.old.items →
+        Masks n (text ++ take result.1 rest.now) (lex_state_of result.0.state) result.0.white
+        masked.new.items }
     ensures bound { result.1 ≤ length rest.now }
     ensures len { array_vec_len masked.new ≡ array_vec_len masked.old + result.1 }
 {
@@ -233,7 +241,9 @@ fn mask_content<const ROOM: usize>(
     requires fits { length content.now ≤ ROOM }
     requires one_line { NoNewline content.now }
     ensures len { length masked.new.items ≡ length content.now }
-    ensures masks { (text : List ℕ) → LexesTo text (lex_state_of lexer.state) lexer.white → Masks (length text) (text ++ content.now) (lex_state_of result.state) result.white masked.new.items }
+    ensures masks { (text : List ℕ) → LexesTo text (lex_state_of lexer.state) lexer.white →
+        Masks (length text) (text ++ content.now) (lex_state_of result.state) result.white
+        masked.new.items }
 {
     let mut inside = lexer;
     let mut at = 0;
@@ -261,7 +271,9 @@ pub(crate) fn mask_or_borrow<'a, const ROOM: usize>(
     requires fits { length content.now ≤ ROOM }
     requires one_line { NoNewline content.now }
     ensures len { length (shown_in result.1 masked.new.items) ≡ length content.now }
-    ensures masks { (text : List ℕ) → LexesTo text (lex_state_of lexer.state) lexer.white → Masks (length text) (text ++ content.now) (lex_state_of result.0.state) result.0.white (shown_in result.1 masked.new.items) }
+    ensures masks { (text : List ℕ) → LexesTo text (lex_state_of lexer.state) lexer.white →
+        Masks (length text) (text ++ content.now) (lex_state_of result.0.state) result.0.white
+        (shown_in result.1 masked.new.items) }
 {
     if let LexState::Text = lexer.state {
         if first_mark(content) == content.len() {

@@ -33,7 +33,8 @@ pub trait LineBuffer: Drop {
     fn try_append(&mut self, bytes: &[u8]) -> bool
         ensures fits { result ≡ true → items self.new ≡ items self.old ++ bytes.now }
         ensures line { result ≡ true → length (items self.new) ≤ LINE_BYTES }
-        ensures full { result ≡ false → (CAPACITY < length (items self.old) + length bytes.now) × (self.new ≡ self.old) };
+        ensures full { result ≡ false →
+            (CAPACITY < length (items self.old) + length bytes.now) × (self.new ≡ self.old) };
 
     /// The bytes that are held.
     fn as_slice(&self) -> &[u8]

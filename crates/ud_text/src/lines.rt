@@ -6,10 +6,14 @@
 //! lends one, and `consume` gives up many at once.
 //! A new way in which a line may end needs another `lines_of` and another `up_to_newline`.
 
-ghost use Rattle.std.specs.Prelude.{◌≡◌, ℕ, suc, ◌+◌, ◌<◌, ◌≤◌, ◌↔◌, List, [], ◌∷◌, ◌++◌, length, take, drop, true, false, Some, None, IfOk, IfErr, OnOk, OnErr, IfSome, OnSome, IfNone, Ok, Err, IsTrue, MatchResult};
-ghost use Rattle.ud_model.specs.text.Lines.{NoNewline, whole_lines, partial_line, line_at, text_of, is_ending};
+ghost use Rattle.std.specs.Prelude.{◌≡◌, ℕ, suc, ◌+◌, ◌<◌, ◌≤◌, ◌↔◌, List, [], ◌∷◌, ◌++◌, length};
+ghost use Rattle.std.specs.Prelude.{take, drop, true, false, Some, None, IfOk, IfErr, OnOk, OnErr};
+ghost use Rattle.std.specs.Prelude.{IfSome, OnSome, IfNone, Ok, Err, IsTrue, MatchResult};
+ghost use Rattle.ud_model.specs.text.Lines.{NoNewline, whole_lines, partial_line, line_at, text_of};
+ghost use Rattle.ud_model.specs.text.Lines.{is_ending};
 ghost use Rattle.ud_text.specs.Borrowing.{CanBorrow, IsFirstLine};
-ghost use Rattle.ud_text.specs.LinesState.{LinesRepresent, UpToNewline, BreaksLimit, with_fault, HasCapacity, IsComplete, IsLastLine, IsLineOf};
+ghost use Rattle.ud_text.specs.LinesState.{LinesRepresent, UpToNewline, BreaksLimit, with_fault};
+ghost use Rattle.ud_text.specs.LinesState.{HasCapacity, IsComplete, IsLastLine, IsLineOf};
 ghost use Rattle.ud_text.specs.LineViews.{as_line};
 ghost use Rattle.ud_text.specs.Consuming.{CanConsume};
 
@@ -78,7 +82,14 @@ impl Lines<LongLineBuffer> {
     pub fn new(last_line: u32) -> Lines<LongLineBuffer>
         requires low { 1 ≤ last_line }
         requires high { last_line ≤ TEXT_LINES }
-        ensures value { result ≡ record { held = []; whole = false; before = 0; closed = false; fault = None; last_line = last_line } }
+        ensures value { result ≡ record {
+          held = [];
+          whole = false;
+          before = 0;
+          closed = false;
+          fault = None;
+          last_line = last_line;
+        } }
         ensures represents { LinesRepresent result [] }
     {
         Lines::with_buffer(last_line)
@@ -90,7 +101,14 @@ impl<H: LineBuffer> Lines<H> {
     pub fn with_buffer(last_line: u32) -> Lines<H>
         requires low { 1 ≤ last_line }
         requires high { last_line ≤ TEXT_LINES }
-        ensures value { result ≡ record { held = []; whole = false; before = 0; closed = false; fault = None; last_line = last_line } }
+        ensures value { result ≡ record {
+          held = [];
+          whole = false;
+          before = 0;
+          closed = false;
+          fault = None;
+          last_line = last_line;
+        } }
         ensures represents { LinesRepresent result [] }
     {
         Lines {
@@ -122,16 +140,23 @@ impl<H: LineBuffer> Lines<H> {
         requires fits { HasCapacity H.CAPACITY self.old (length chunk.now) }
         ensures used { IfOk result (λ t. UpToNewline chunk.now t.used t.whole) }
         ensures value { IfOk result (λ t.
-            self.new ≡ record self.old { held = self.old.held ++ take t.used chunk.now; whole = t.whole }) }
+            self.new ≡ record self.old {
+              held = self.old.held ++ take t.used chunk.now;
+              whole =
+                  t.whole;
+            }) }
         ensures represents { IfOk result (λ t.
-            (text : List ℕ) → LinesRepresent self.old text → LinesRepresent self.new (text ++ take t.used chunk.now)) }
+            (text : List ℕ) → LinesRepresent self.old text →
+            LinesRepresent self.new (text ++ take t.used chunk.now)) }
         ensures no_fault { OnOk result (self.new.fault ≡ None) }
         ensures limits { IfOk result (λ t. 0 < t.used →
             (length self.new.held ≤ LINE_BYTES) × (self.old.before < self.old.last_line)) }
 
-        ensures breaks_limit { IfNone self.old.fault (IfErr result (λ f. BreaksLimit self.old chunk.now f)) }
+        ensures breaks_limit { IfNone self.old.fault
+            (IfErr result (λ f. BreaksLimit self.old chunk.now f)) }
         ensures records_fault { IfErr result (λ f. self.new ≡ with_fault self.old f) }
-        ensures unchanged { OnErr result ((text : List ℕ) → LinesRepresent self.old text → LinesRepresent self.new text) }
+        ensures unchanged { OnErr result ((text : List ℕ) → LinesRepresent self.old text →
+            LinesRepresent self.new text) }
         ensures fused { IfSome self.old.fault (λ f. (result ≡ Err f) × (self.new ≡ self.old)) }
     {
         if let Some(fault) = self.fault {
@@ -171,16 +196,20 @@ impl<H: LineBuffer> Lines<H> {
     pub fn whole_in<'a>(&mut self, chunk: &'a [u8]) -> Option<Line<'a>>
         requires no_whole_line { self.old.whole ≡ false }
         requires not_closed { self.old.closed ≡ false }
-        ensures borrowed { IfSome result (λ line. CanBorrow self.old chunk.now (length (text_of (as_line line)))) }
+        ensures borrowed { IfSome result
+            (λ line. CanBorrow self.old chunk.now (length (text_of (as_line line)))) }
         ensures value { IfSome result (λ line.
-            as_line line ≡ line_at (suc self.old.before) (take (length (text_of (as_line line))) chunk.now)) }
+            as_line line ≡ line_at (suc self.old.before)
+            (take (length (text_of (as_line line))) chunk.now)) }
         ensures bytes { IfSome result (λ line.
             text_of (as_line line) ≡ take (length (text_of (as_line line))) chunk.now) }
         ensures one_line { IfSome result (λ line. NoNewline line.body.now) }
         ensures bound { IfSome result (λ line. line.number ≤ self.old.last_line) }
-        ensures counted { OnSome result (self.new ≡ record self.old { before = self.old.before + 1 }) }
+        ensures counted { OnSome result (self.new ≡
+            record self.old { before = self.old.before + 1 }) }
         ensures represents { IfSome result (λ line.
-            (text : List ℕ) → LinesRepresent self.old text → LinesRepresent self.new (text ++ text_of (as_line line))) }
+            (text : List ℕ) → LinesRepresent self.old text →
+            LinesRepresent self.new (text ++ text_of (as_line line))) }
 
         ensures none { IfNone result ((used : ℕ) → CanBorrow self.old chunk.now used → ⊥) }
         ensures unchanged { IfNone result (self.new ≡ self.old) }
@@ -210,7 +239,8 @@ impl<H: LineBuffer> Lines<H> {
     pub fn whole_lines_len(&self, chunk: &[u8]) -> usize
         ensures bound { result ≤ length chunk.now }
         ensures whole_lines { 0 < result → CanConsume self.now (take result chunk.now) }
-        ensures most { self.now.held ≡ [] → self.now.fault ≡ None → self.now.before + length chunk.now ≤ self.now.last_line →
+        ensures most { self.now.held ≡ [] → self.now.fault ≡ None →
+            self.now.before + length chunk.now ≤ self.now.last_line →
             (used : ℕ) → UpToNewline (drop result chunk.now) used true → LINE_BYTES < used }
     {
         if self.fault.is_some() || !self.buffer.as_slice().is_empty() {
@@ -228,8 +258,12 @@ impl<H: LineBuffer> Lines<H> {
     pub fn consume(&mut self, lines: &[u8]) -> u32
         requires whole_lines { CanConsume self.old lines.now }
         requires not_closed { self.old.closed ≡ false }
-        ensures value { self.new ≡ record self.old { before = self.old.before + length (whole_lines lines.now) } }
-        ensures represents { (text : List ℕ) → LinesRepresent self.old text → LinesRepresent self.new (text ++ lines.now) }
+        ensures value { self.new ≡ record self.old {
+          before =
+              self.old.before + length (whole_lines lines.now);
+        } }
+        ensures represents { (text : List ℕ) → LinesRepresent self.old text →
+            LinesRepresent self.new (text ++ lines.now) }
         ensures number { result ≡ self.new.before }
     {
         let before = self.consumed;
@@ -284,7 +318,8 @@ impl<H: LineBuffer> Lines<H> {
             IsLastLine text (line_at (suc self.now.before) self.now.held) }
         ensures whole { self.now.whole ≡ true → (text : List ℕ) → LinesRepresent self.now text →
             (earlier : List (List ℕ)) × (whole_lines text ≡ earlier ++ self.now.held ∷ []) }
-        ensures rest { self.now.whole ≡ false → (text : List ℕ) → LinesRepresent self.now text → partial_line text ≡ self.now.held }
+        ensures rest { self.now.whole ≡ false → (text : List ℕ) → LinesRepresent self.now text →
+            partial_line text ≡ self.now.held }
     {
         let (body, ending) = split_ending(self.buffer.as_slice());
         Line {
@@ -297,8 +332,14 @@ impl<H: LineBuffer> Lines<H> {
     /// Gives up the whole line that is held, so that the next one can be taken.
     pub fn clear(&mut self)
         requires whole { self.old.whole ≡ true }
-        ensures value { self.new ≡ record self.old { held = []; whole = false; before = self.old.before + 1 } }
-        ensures represents { (text : List ℕ) → LinesRepresent self.old text → LinesRepresent self.new text }
+        ensures value { self.new ≡ record self.old {
+          held = [];
+          whole = false;
+          before =
+              self.old.before + 1;
+        } }
+        ensures represents { (text : List ℕ) → LinesRepresent self.old text →
+            LinesRepresent self.new text }
     {
         self.buffer.clear();
         self.is_whole = false;
@@ -318,7 +359,8 @@ impl<H: LineBuffer> Lines<H> {
             (λ last. (self.old.fault ≡ None) × (self.new ≡ record self.old { closed = true })
             × (IsTrue last ↔ (0 < length self.old.held)))
             (λ f. (self.old.fault ≡ Some f) × (self.new ≡ self.old)) }
-        ensures represents { (text : List ℕ) → LinesRepresent self.old text → LinesRepresent self.new text }
+        ensures represents { (text : List ℕ) → LinesRepresent self.old text →
+            LinesRepresent self.new text }
     {
         if let Some(fault) = self.fault {
             return Err(fault);
@@ -329,7 +371,14 @@ impl<H: LineBuffer> Lines<H> {
 
     /// Forgets the text, whatever was taken of it, and stands before another one, which may have as many lines.
     pub fn reset(&mut self)
-        ensures value { self.new ≡ record { held = []; whole = false; before = 0; closed = false; fault = None; last_line = self.old.last_line } }
+        ensures value { self.new ≡ record {
+          held = [];
+          whole = false;
+          before = 0;
+          closed = false;
+          fault = None;
+          last_line = self.old.last_line;
+        } }
         ensures represents { LinesRepresent self.new [] }
     {
         self.buffer.clear();
@@ -389,7 +438,8 @@ fn up_to_newline(chunk: &[u8]) -> Taken
 /// than `LINE_BYTES`.
 fn first_line(chunk: &[u8]) -> Option<&[u8]>
     ensures some { IfSome result (λ line. IsFirstLine chunk.now line.now) }
-    ensures none { IfNone result ((used : ℕ) → UpToNewline chunk.now used true → LINE_BYTES < used) }
+    ensures none { IfNone result ((used : ℕ) → UpToNewline chunk.now used true →
+        LINE_BYTES < used) }
 {
     let taken = up_to_newline(chunk);
     if taken.whole && taken.used <= LINE_BYTES {
@@ -401,7 +451,8 @@ fn first_line(chunk: &[u8]) -> Option<&[u8]>
 
 /// A line as its body and its ending.
 fn split_ending(line: &[u8]) -> (&[u8], &[u8])
-    ensures value { (number : ℕ) → IsLineOf result.0.now result.1.now number (line_at number line.now) }
+    ensures value { (number : ℕ) →
+        IsLineOf result.0.now result.1.now number (line_at number line.now) }
     ensures ended { IsTrue (is_ending result.1.now) }
 {
     let ending = if line.ends_with(b"\r\n") {

@@ -4,7 +4,8 @@
 //! then lent. Of the lines before, a scanner carries where their joined text leaves off, whether the last logical line is
 //! white, and whether the last line joins the next one.
 
-ghost use Rattle.std.specs.Prelude.{◌≡◌, ◌≤◌, ◌||◌, ℕ, List, [], ◌∷◌, ◌++◌, length, true, false, take, IfSome};
+ghost use Rattle.std.specs.Prelude.{◌≡◌, ◌≤◌, ◌||◌, ℕ, List, [], ◌∷◌, ◌++◌, length, true, false};
+ghost use Rattle.std.specs.Prelude.{take, IfSome};
 ghost use Rattle.std.specs.Borrow.{sem};
 ghost use Rattle.std.specs.List.{position_or_len};
 ghost use Rattle.ud_model.specs.text.Bytes.{is_mark};
@@ -16,7 +17,8 @@ ghost use Rattle.ud_model.specs.text.Scans.{Reading};
 ghost use Rattle.ud_model.specs.text.Scanning.{comment_at, scan_after, next_reading};
 ghost use Rattle.ud_model.specs.aids.LexStates.{kind_in_state, state_after_line, white_after_line};
 ghost use Rattle.ud_text.specs.LineViews.{as_line, as_scan, lex_state_of, shown_in};
-ghost use Rattle.ud_text.specs.ScannerState.{ScannerState, ScannerRepresents, scanner_state_of, initial_scanner_state, scan_with, ends_in_block};
+ghost use Rattle.ud_text.specs.ScannerState.{ScannerState, ScannerRepresents, scanner_state_of};
+ghost use Rattle.ud_text.specs.ScannerState.{initial_scanner_state, scan_with, ends_in_block};
 ghost use Rattle.ud_text.specs.ScanBorrows.{ScansLine};
 ghost use Rattle.ud_text.specs.BulkScanning.{AreWholeLines, SkipsText};
 ghost use Rattle.ud_text.specs.BulkStates.{can_start, continues_line};
@@ -113,8 +115,10 @@ fn content<'a>(line: &Line<'a>, spliced: bool) -> &'a [u8]
 /// How far the text is read after the line's new-line, if it has one.
 fn end_line(line: &Line<'_>, spliced: bool, inside: Lexer) -> Lexer
     requires { spliced ≡ is_spliced (as_line line.now) }
-    ensures state { lex_state_of result.state ≡ state_after_line (stays_open (as_line line.now)) (lex_state_of inside.state) }
-    ensures white { result.white ≡ white_after_line (stays_open (as_line line.now)) (lex_state_of inside.state) inside.white }
+    ensures state { lex_state_of result.state ≡
+        state_after_line (stays_open (as_line line.now)) (lex_state_of inside.state) }
+    ensures white { result.white ≡
+        white_after_line (stays_open (as_line line.now)) (lex_state_of inside.state) inside.white }
 {
     if spliced || line.ending.is_empty() {
         inside
@@ -147,8 +151,14 @@ fn scan_code<'a, const ROOM: usize>(
     requires empty { masked.old.items ≡ [] }
     requires fits { length line.now.body.now ≤ ROOM }
     requires one_line { NoNewline line.now.body.now }
-    ensures represents { (before : List Reading) → ScannerRepresents (scanner_state_of scan_state) before → ScannerRepresents (scanner_state_of result.scan_state) (before ++ next_reading before Mode.C (as_line line.now) ∷ []) }
-    ensures value { (before : List Reading) → ScannerRepresents (scanner_state_of scan_state) before → scan_with (shown_in result.borrowed masked.new.items) result.flags ≡ scan_after before Mode.C (as_line line.now) }
+    ensures represents { (before : List Reading) →
+        ScannerRepresents (scanner_state_of scan_state) before →
+        ScannerRepresents (scanner_state_of result.scan_state) (before ++
+        next_reading before Mode.C (as_line line.now) ∷ []) }
+    ensures value { (before : List Reading) →
+        ScannerRepresents (scanner_state_of scan_state) before →
+        scan_with (shown_in result.borrowed masked.new.items) result.flags ≡
+        scan_after before Mode.C (as_line line.now) }
     ensures fits { length (shown_in result.borrowed masked.new.items) ≤ length line.now.body.now }
 {
     let spliced = is_spliced(line);
@@ -189,11 +199,16 @@ fn has_no_mark(body: &[u8]) -> bool
 #[inline(always)]
 fn scan_without_marks<'a>(scan_state: ScanState, line: &Line<'a>) -> Option<ScannedLine<'a>>
     requires one_line { NoNewline line.now.body.now }
-    ensures represents { IfSome result (λ seen. (before : List Reading) → ScannerRepresents (scanner_state_of scan_state) before →
-        ScannerRepresents (scanner_state_of seen.scan_state) (before ++ next_reading before Mode.C (as_line line.now) ∷ [])) }
-    ensures value { IfSome result (λ seen. (masked : List ℕ) → (before : List Reading) → ScannerRepresents (scanner_state_of scan_state) before →
-        scan_with (shown_in seen.borrowed masked) seen.flags ≡ scan_after before Mode.C (as_line line.now)) }
-    ensures fits { IfSome result (λ seen. (masked : List ℕ) → length (shown_in seen.borrowed masked) ≤ length line.now.body.now) }
+    ensures represents { IfSome result (λ seen. (before : List Reading) →
+        ScannerRepresents (scanner_state_of scan_state) before →
+        ScannerRepresents (scanner_state_of seen.scan_state) (before ++
+        next_reading before Mode.C (as_line line.now) ∷ [])) }
+    ensures value { IfSome result (λ seen. (masked : List ℕ) → (before : List Reading) →
+        ScannerRepresents (scanner_state_of scan_state) before →
+        scan_with (shown_in seen.borrowed masked) seen.flags ≡
+        scan_after before Mode.C (as_line line.now)) }
+    ensures fits { IfSome result (λ seen. (masked : List ℕ) →
+        length (shown_in seen.borrowed masked) ≤ length line.now.body.now) }
 {
     let LexState::Text = scan_state.lexer.state else {
         return None;
@@ -219,9 +234,14 @@ fn scan_without_marks<'a>(scan_state: ScanState, line: &Line<'a>) -> Option<Scan
 /// Reads a line in plain mode, in which it is seen as it stands.
 #[inline(always)]
 fn scan_plain<'a>(line: &Line<'a>) -> ScannedLine<'a>
-    ensures represents { (before : List Reading) → ScannerRepresents (scanner_state_of result.scan_state) (before ++ next_reading before Mode.Plain (as_line line.now) ∷ []) }
-    ensures value { (masked : List ℕ) → (before : List Reading) → scan_with (shown_in result.borrowed masked) result.flags ≡ scan_after before Mode.Plain (as_line line.now) }
-    ensures fits { (masked : List ℕ) → length (shown_in result.borrowed masked) ≤ length line.now.body.now }
+    ensures represents { (before : List Reading) →
+        ScannerRepresents (scanner_state_of result.scan_state) (before ++
+        next_reading before Mode.Plain (as_line line.now) ∷ []) }
+    ensures value { (masked : List ℕ) → (before : List Reading) →
+        scan_with (shown_in result.borrowed masked) result.flags ≡
+        scan_after before Mode.Plain (as_line line.now) }
+    ensures fits { (masked : List ℕ) →
+        length (shown_in result.borrowed masked) ≤ length line.now.body.now }
 {
     let facts = LineFlags {
         fresh: true,
@@ -249,8 +269,14 @@ pub(crate) fn scan_line<'a, const ROOM: usize>(
 ) -> ScannedLine<'a>
     requires fits { length line.now.body.now ≤ ROOM }
     requires one_line { NoNewline line.now.body.now }
-    ensures represents { (before : List Reading) → ScannerRepresents (scanner_state_of scan_state) before → ScannerRepresents (scanner_state_of result.scan_state) (before ++ next_reading before mode (as_line line.now) ∷ []) }
-    ensures value { (before : List Reading) → ScannerRepresents (scanner_state_of scan_state) before → scan_with (shown_in result.borrowed masked.new.items) result.flags ≡ scan_after before mode (as_line line.now) }
+    ensures represents { (before : List Reading) →
+        ScannerRepresents (scanner_state_of scan_state) before →
+        ScannerRepresents (scanner_state_of result.scan_state) (before ++
+        next_reading before mode (as_line line.now) ∷ []) }
+    ensures value { (before : List Reading) →
+        ScannerRepresents (scanner_state_of scan_state) before →
+        scan_with (shown_in result.borrowed masked.new.items) result.flags ≡
+        scan_after before mode (as_line line.now) }
     ensures fits { length (shown_in result.borrowed masked.new.items) ≤ length line.now.body.now }
 {
     match mode {
@@ -276,7 +302,9 @@ fn continues_line(lexer: Lexer) -> bool
 /// logical line that isn't white, outside comments and literals.
 fn can_skip_text(scan_state: ScanState) -> bool
     ensures starts { result ≡ true → can_start (lex_state_of scan_state.lexer.state) ≡ true }
-    ensures joins { result ≡ true → scan_state.joins ≡ continues_line (lex_state_of scan_state.lexer.state) scan_state.lexer.white }
+    ensures joins { result ≡ true →
+        scan_state.joins ≡ continues_line (lex_state_of scan_state.lexer.state)
+        scan_state.lexer.white }
 {
     match scan_state.lexer.state {
         LexState::Text | LexState::Block => scan_state.joins == continues_line(scan_state.lexer),
@@ -288,7 +316,8 @@ fn can_skip_text(scan_state: ScanState) -> bool
 fn skip_text_in_c_mode(scan_state: ScanState, lines: &[u8]) -> (usize, ScanState)
     ensures bound { result.0 ≤ length lines.now }
     ensures ends { AreWholeLines (take result.0 lines.now) }
-    ensures skips { SkipsText Mode.C (scanner_state_of scan_state) (scanner_state_of result.1) (take result.0 lines.now) }
+    ensures skips { SkipsText Mode.C (scanner_state_of scan_state) (scanner_state_of result.1)
+        (take result.0 lines.now) }
 {
     if !can_skip_text(scan_state) {
         return (0, scan_state);
@@ -306,7 +335,8 @@ fn skip_text_in_c_mode(scan_state: ScanState, lines: &[u8]) -> (usize, ScanState
 fn skip_text_in_plain_mode(scan_state: ScanState, lines: &[u8]) -> (usize, ScanState)
     ensures bound { result.0 ≤ length lines.now }
     ensures ends { AreWholeLines (take result.0 lines.now) }
-    ensures skips { SkipsText Mode.Plain (scanner_state_of scan_state) (scanner_state_of result.1) (take result.0 lines.now) }
+    ensures skips { SkipsText Mode.Plain (scanner_state_of scan_state) (scanner_state_of result.1)
+        (take result.0 lines.now) }
 {
     let count = lines_without_hash(lines);
     if count == 0 {
@@ -319,7 +349,8 @@ fn skip_text_in_plain_mode(scan_state: ScanState, lines: &[u8]) -> (usize, ScanS
 pub(crate) fn skip_text_in(mode: Mode, scan_state: ScanState, lines: &[u8]) -> (usize, ScanState)
     ensures bound { result.0 ≤ length lines.now }
     ensures ends { AreWholeLines (take result.0 lines.now) }
-    ensures skips { SkipsText mode (scanner_state_of scan_state) (scanner_state_of result.1) (take result.0 lines.now) }
+    ensures skips { SkipsText mode (scanner_state_of scan_state) (scanner_state_of result.1)
+        (take result.0 lines.now) }
 {
     match mode {
         Mode::C => skip_text_in_c_mode(scan_state, lines),
@@ -356,7 +387,8 @@ impl Scanner {
         requires fits { length line.now.body.now ≤ LINE_BYTES }
         requires one_line { NoNewline line.now.body.now }
         ensures* represents { sem 𝓛 (ScansLine self.entry mode (as_line line.now)) }
-        ensures value { (before : List Reading) → ScannerRepresents self.old before → as_scan result ≡ scan_after before mode (as_line line.now) }
+        ensures value { (before : List Reading) → ScannerRepresents self.old before →
+            as_scan result ≡ scan_after before mode (as_line line.now) }
         ensures fits { length result.masked.now ≤ length line.now.body.now }
     {
         let seen = scan_line(mode, self.scan_state, line, &mut self.masked);
@@ -395,7 +427,8 @@ impl Scanner {
 
     /// Whether a block comment is unclosed at the end of the last line; false if no line is read.
     pub fn in_comment(&self) -> bool
-        ensures { (before : List Reading) → ScannerRepresents self.now before → result ≡ ends_in_block before }
+        ensures { (before : List Reading) → ScannerRepresents self.now before →
+            result ≡ ends_in_block before }
     {
         is_in_block_comment(self.scan_state.lexer.state)
     }
@@ -404,5 +437,7 @@ impl Scanner {
 /// What is carried decides what is seen of the next line: where it stands for two lists of readings, each line is seen
 /// alike after both.
 pub fn law_same_scans()
-    ensures { (scan_state : ScannerState) → (before : List Reading) → (others : List Reading) → (m : Mode) → (l : TextLine) → ScannerRepresents scan_state before → ScannerRepresents scan_state others → scan_after before m l ≡ scan_after others m l }
+    ensures { (scan_state : ScannerState) → (before : List Reading) → (others : List Reading) →
+        (m : Mode) → (l : TextLine) → ScannerRepresents scan_state before →
+        ScannerRepresents scan_state others → scan_after before m l ≡ scan_after others m l }
 {}

@@ -4,7 +4,8 @@ ghost use Rattle.std.specs.Prelude.{◌≡◌, ◌≤◌, ◌<◌, ◌+◌, ◌-
 ghost use Rattle.std.specs.List.{position_or_len};
 ghost use Rattle.ud_text.specs.Searches.{pairs_of, is_found};
 ghost use Rattle.ud_text.specs.Blocks.{significant_bits};
-ghost use Rattle.ud_text.specs.BulkLexemes.{is_significant, is_star_pair, NoStarPair, LastLineStarts};
+ghost use Rattle.ud_text.specs.BulkLexemes.{is_significant, is_star_pair, NoStarPair};
+ghost use Rattle.ud_text.specs.BulkLexemes.{LastLineStarts};
 
 use crate::simd::{find_near, lowest_set_bit};
 use memchr::memrchr;

@@ -58,7 +58,8 @@ impl ShortScanner {
         requires fits { length line.now.body.now ≤ SHORT_LINE_BYTES }
         requires one_line { NoNewline line.now.body.now }
         ensures* represents { sem 𝓛 (ScansShortLine self.entry mode (as_line line.now)) }
-        ensures value { (before : List Reading) → ScannerRepresents self.old before → as_scan result ≡ scan_after before mode (as_line line.now) }
+        ensures value { (before : List Reading) → ScannerRepresents self.old before →
+            as_scan result ≡ scan_after before mode (as_line line.now) }
         ensures fits { length result.masked.now ≤ length line.now.body.now }
     {
         let seen = scan_line(mode, self.scan_state, line, &mut self.masked);
@@ -90,7 +91,8 @@ impl ShortScanner {
 
     /// Whether a block comment is unclosed at the end of the last line; false if no line is read.
     pub fn in_comment(&self) -> bool
-        ensures { (before : List Reading) → ScannerRepresents self.now before → result ≡ ends_in_block before }
+        ensures { (before : List Reading) → ScannerRepresents self.now before →
+            result ≡ ends_in_block before }
     {
         is_in_block_comment(self.scan_state.lexer.state)
     }

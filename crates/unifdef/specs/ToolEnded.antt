@@ -29,12 +29,14 @@ is_write_error (Err Write) = true
 
 -- A run went so, and its output was flushed, or couldn't be: a failed flush is a failed write if the run had no fault, and changes
 -- nothing else. The reader failed if a read did, and the output if a write or the flush did. This was told of it, and given back.
-pub record ToolEnded (args : List (List ℕ)) (reader_failed out_failed : Bool) (read_old read_new : Option (List ℕ)) (before after : Streams)
+pub record ToolEnded (args : List (List ℕ)) (reader_failed out_failed : Bool)
+    (read_old read_new : Option (List ℕ)) (before after : Streams)
     (err_failed : Bool) (status : ℕ) : Type 0 where
   pub ran : Result Bool RunFault
   pub flushed : Bool
   pub went : RunEnded (options_of args) read_old read_new before.out after.out ran
   pub read_failed : reader_failed ≡ is_read_error ran
   pub write_failed : out_failed ≡ (is_write_error ran || not flushed)
-  pub told : AppendsAllOrPrefix err_failed before.err after.err (result_message (display_name args) (final_result ran flushed))
+  pub told : AppendsAllOrPrefix err_failed before.err after.err
+      (result_message (display_name args) (final_result ran flushed))
   pub answered : status ≡ result_status (options_of args).settings (final_result ran flushed)

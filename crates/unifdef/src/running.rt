@@ -1,7 +1,8 @@
 //! The tool: words, a text, what is left of it, and what is said of it.
 
 ghost use Rattle.std.specs.Prelude.{◌≡◌, ◌⊎◌, map, string_bytes, false, true, None, IfSome, IsSome};
-ghost use Rattle.ud_model.specs.answer.CommandLine.{parsed_args, usage_fault, options_of, display_name};
+ghost use Rattle.ud_model.specs.answer.CommandLine.{parsed_args, usage_fault, options_of};
+ghost use Rattle.ud_model.specs.answer.CommandLine.{display_name};
 ghost use Rattle.ud_model.specs.answer.Messages.{read_error, write_error};
 ghost use Rattle.ud_engine.specs.Runs.{LagsOneRead};
 ghost use Rattle.ud_io.specs.Watched.{AppendsAllOrPrefix};
@@ -44,41 +45,56 @@ pub fn tool<R: Read, W: Write, E: Write>(
     requires err { err.old.failed ≡ false }
     // If neither reading nor writing fails, this is the definition's answer, or memory for a symbol was refused, before
     // anything was read or written.
-    ensures answer { let before : Streams = streams (W.contents out.old.inner) (E.contents err.old.inner) in
+    ensures answer { let before : Streams =
+        streams (W.contents out.old.inner) (E.contents err.old.inner) in
         let after : Streams = streams (W.contents out.new.inner) (E.contents err.new.inner) in
-        reader.new.failed ≡ false → out.new.failed ≡ false → IfSome (R.remaining reader.old.inner) (λ input.
+        reader.new.failed ≡ false → out.new.failed ≡ false →
+        IfSome (R.remaining reader.old.inner) (λ input.
         AnswersSpec (map string_bytes args.now) input before after err.new.failed result
-        ⊎ FailsForMemory (map string_bytes args.now) reader.old reader.new out.old out.new before after err.new.failed result) }
+        ⊎ FailsForMemory (map string_bytes args.now) reader.old reader.new out.old out.new before
+        after err.new.failed result) }
     // However the run ends, what is left of all that came before the last piece is written.
-    ensures lag { let before : Streams = streams (W.contents out.old.inner) (E.contents err.old.inner) in
+    ensures lag { let before : Streams =
+        streams (W.contents out.old.inner) (E.contents err.old.inner) in
         let after : Streams = streams (W.contents out.new.inner) (E.contents err.new.inner) in
         usage_fault (map string_bytes args.now) ≡ None →
-        LagsOneRead (options_of (map string_bytes args.now)) (R.remaining reader.old.inner) (R.remaining reader.new.inner)
+        LagsOneRead (options_of (map string_bytes args.now)) (R.remaining reader.old.inner)
+        (R.remaining reader.new.inner)
         (W.contents out.old.inner) (W.contents out.new.inner)
-        ⊎ FailsForMemory (map string_bytes args.now) reader.old reader.new out.old out.new before after err.new.failed result }
+        ⊎ FailsForMemory (map string_bytes args.now) reader.old reader.new out.old out.new before
+        after err.new.failed result }
     // However it ends, with streams that tell their bytes or don't: what was written goes with what was read, and the message and
     // the status with why it ended.
-    ensures ended { let before : Streams = streams (W.contents out.old.inner) (E.contents err.old.inner) in
+    ensures ended { let before : Streams =
+        streams (W.contents out.old.inner) (E.contents err.old.inner) in
         let after : Streams = streams (W.contents out.new.inner) (E.contents err.new.inner) in
         usage_fault (map string_bytes args.now) ≡ None →
-        ToolEnded (map string_bytes args.now) reader.new.failed out.new.failed (R.remaining reader.old.inner) (R.remaining reader.new.inner)
+        ToolEnded (map string_bytes args.now) reader.new.failed out.new.failed
+        (R.remaining reader.old.inner) (R.remaining reader.new.inner)
         before after err.new.failed result
-        ⊎ FailsForMemory (map string_bytes args.now) reader.old reader.new out.old out.new before after err.new.failed result }
+        ⊎ FailsForMemory (map string_bytes args.now) reader.old reader.new out.old out.new before
+        after err.new.failed result }
     // At a fault of the words nothing is read, nothing is done with `out`, and the fault is told, or that memory for a
     // symbol before it was refused.
-    ensures untouched { IsSome (usage_fault (map string_bytes args.now)) → (reader.new ≡ reader.old) × (out.new ≡ out.old) }
+    ensures untouched { IsSome (usage_fault (map string_bytes args.now)) →
+        (reader.new ≡ reader.old) × (out.new ≡ out.old) }
     ensures refused { IfSome (usage_fault (map string_bytes args.now)) (λ fault.
-        ReportsUsage (parsed_args (map string_bytes args.now)) fault err.new.failed (E.contents err.old.inner) (E.contents err.new.inner) result) }
+        ReportsUsage (parsed_args (map string_bytes args.now)) fault err.new.failed
+        (E.contents err.old.inner) (E.contents err.new.inner) result) }
     // A failing read or write has status 2.
     ensures read_fails { reader.new.failed ≡ true → result ≡ 2 }
     ensures write_fails { out.new.failed ≡ true → result ≡ 2 }
     // And it is told; only if the flush alone failed, after a fault, that fault is.
     ensures read_told { reader.new.failed ≡ true →
-        AppendsAllOrPrefix err.new.failed (E.contents err.old.inner) (E.contents err.new.inner) (read_error (display_name (map string_bytes args.now))) }
-    ensures write_told { let before : Streams = streams (W.contents out.old.inner) (E.contents err.old.inner) in
+        AppendsAllOrPrefix err.new.failed (E.contents err.old.inner) (E.contents err.new.inner)
+        (read_error (display_name (map string_bytes args.now))) }
+    ensures write_told { let before : Streams =
+        streams (W.contents out.old.inner) (E.contents err.old.inner) in
         let after : Streams = streams (W.contents out.new.inner) (E.contents err.new.inner) in
-        out.new.failed ≡ true → reader.new.failed ≡ false → IfSome (R.remaining reader.old.inner) (λ input.
-        AppendsAllOrPrefix err.new.failed before.err after.err (write_error (display_name (map string_bytes args.now)))
+        out.new.failed ≡ true → reader.new.failed ≡ false →
+        IfSome (R.remaining reader.old.inner) (λ input.
+        AppendsAllOrPrefix err.new.failed before.err after.err
+        (write_error (display_name (map string_bytes args.now)))
         ⊎ AnswersSpec (map string_bytes args.now) input before after err.new.failed result) }
 {
     match plan(alloc, args) {

@@ -1,6 +1,8 @@
 -- Height: how many sections are open at once within a tree, at most.
 use Rattle.std.specs.Prelude.{ℕ, suc, max}
-use Rattle.ud_model.specs.sections.Tree.{Nodes, Groups, Elifs, Head, Tree, nothing, text, section, conditional, otherwise, first, elif, if_head, elif_head, else_head, closed, open_section}
+use Rattle.ud_model.specs.sections.Tree.{Nodes, Groups, Elifs, Head, Tree, nothing, text, section}
+use Rattle.ud_model.specs.sections.Tree.{conditional, otherwise, first, elif, if_head, elif_head}
+use Rattle.ud_model.specs.sections.Tree.{else_head, closed, open_section}
 
 module _ {L : Type 0} where
   abbrev mutual

@@ -10,9 +10,12 @@
 -- The pieces of a text are settled as it is read, but for a slash at its end, which may begin a comment.
 --
 -- Example: `a/` leaves off at a slash, and `a/*` in a block comment, which the slash now belongs to.
-use Rattle.std.specs.Prelude.{◌≡◌, ◌≤◌, ℕ, ◌==◌, List, [], ◌∷◌, ◌++◌, length, map, drop, Bool, true, false, ◌&&◌, ◌||◌, if◌then◌else◌}
+use Rattle.std.specs.Prelude.{◌≡◌, ◌≤◌, ℕ, ◌==◌, List, [], ◌∷◌, ◌++◌, length, map, drop, Bool, true}
+use Rattle.std.specs.Prelude.{false, ◌&&◌, ◌||◌, if◌then◌else◌}
 use Rattle.ud_model.specs.text.Bytes.{newline, slash, star, backslash, space, is_quote, is_white}
-use Rattle.ud_model.specs.text.Lexemes.{LexemeKind, block_comment, line_comment, literal, single, Cell, starts_with_byte, comment_size, line_comment_size, literal_size, lex_from, lex, shown, open_line}
+use Rattle.ud_model.specs.text.Lexemes.{LexemeKind, block_comment, line_comment, literal, single}
+use Rattle.ud_model.specs.text.Lexemes.{Cell, starts_with_byte, comment_size, line_comment_size}
+use Rattle.ud_model.specs.text.Lexemes.{literal_size, lex_from, lex, shown, open_line}
 use Rattle.ud_model.specs.text.Scanning.{is_blank}
 
 -- where a text leaves off
@@ -35,7 +38,8 @@ unfoldable pub cells_after : LexState → List ℕ → List Cell
 cells_after in_text rest = lex_from single 0 rest
 cells_after at_slash rest = lex_from single 0 (slash ∷ rest)
 cells_after in_block rest = lex_from block_comment (comment_size rest) rest
-cells_after at_star rest = lex_from block_comment (if starts_with_byte slash rest then 1 else comment_size rest) rest
+cells_after at_star rest = lex_from block_comment (if starts_with_byte slash rest then 1
+    else comment_size rest) rest
 cells_after in_line rest = lex_from line_comment (line_comment_size rest) rest
 cells_after (in_literal quote) rest = lex_from literal (literal_size quote false rest) rest
 cells_after (at_backslash quote) rest = lex_from literal (literal_size quote true rest) rest
@@ -50,12 +54,19 @@ pub record LexesTo (text : List ℕ) (place : LexState) (white : Bool) : Type 0 
 -- where the text leaves off with one more byte
 abbrev pub next_state : LexState → ℕ → LexState
 next_state in_text b = if b == slash then at_slash else if is_quote b then in_literal b else in_text
-next_state at_slash b = if b == star then in_block else if b == slash then in_line else if is_quote b then in_literal b else in_text
+next_state at_slash b =
+    if b == star then in_block
+    else if b == slash then in_line
+    else if is_quote b then in_literal b
+    else in_text
 next_state in_block b = if b == star then at_star else in_block
 next_state at_star b = if b == slash then in_text else if b == star then at_star else in_block
 next_state in_line b = if b == newline then in_text else in_line
 next_state (in_literal quote) b =
-    if b == newline then in_text else if b == quote then in_text else if b == backslash then at_backslash quote else in_literal quote
+    if b == newline then in_text
+    else if b == quote then in_text
+    else if b == backslash then at_backslash quote
+    else in_literal quote
 next_state (at_backslash quote) b = if b == newline then in_text else in_literal quote
 
 -- the byte makes the slash before it the beginning of a comment
@@ -80,8 +91,15 @@ masked_byte (at_backslash quote) b = b
 
 -- whether the settled cells of the line are white with the byte
 abbrev pub stays_white : LexState → Bool → ℕ → Bool
-stays_white in_text white b = if b == slash then white else if b == newline then true else white && is_white b
-stays_white at_slash white b = if b == star then white else if b == slash then white else if b == newline then true else false
+stays_white in_text white b =
+    if b == slash then white
+    else if b == newline then true
+    else white && is_white b
+stays_white at_slash white b =
+    if b == star then white
+    else if b == slash then white
+    else if b == newline then true
+    else false
 stays_white in_block white b = white
 stays_white at_star white b = white
 stays_white in_line white b = if b == newline then true else white
@@ -127,7 +145,8 @@ unfoldable pub mask : List ℕ → List ℕ
 mask text = map shown (lex text)
 
 -- the text leaves off there, and masked is how it is shown after its first n bytes
-pub record Masks (n : ℕ) (text : List ℕ) (place : LexState) (white : Bool) (masked : List ℕ) : Type 0 where
+pub record Masks (n : ℕ) (text : List ℕ) (place : LexState) (white : Bool) (masked : List ℕ) : Type
+    0 where
   pub reads : LexesTo text place white
   pub within : n ≤ length text
   pub masked_is : masked ≡ drop n (mask text)

@@ -10,9 +10,13 @@
 --
 -- Tokens are read one at a time, with the operators that wait for their operands. Since the meaning is a parameter, a
 -- program that keeps no tree reads by the same steps.
-use Rattle.std.specs.Prelude.{ℕ, zero, suc, ◌<◌, ◌≤◌, leb, Bool, true, false, if◌then◌else◌, List, [], ◌∷◌, length, Option, Some, None, option_map}
-use Rattle.ud_model.specs.conditions.Tokens.{Token, number, name, defined, operator, opening, closing, NextToken, at_end, unreadable, found, next_token}
-use Rattle.ud_model.specs.conditions.Expressions.{Expression, constant, named, is_defined, unary, binary, parens, precedence, is_prefix}
+use Rattle.std.specs.Prelude.{ℕ, zero, suc, ◌<◌, ◌≤◌, leb, Bool, true, false, if◌then◌else◌, List}
+use Rattle.std.specs.Prelude.{[], ◌∷◌, length, Option, Some, None, option_map}
+use Rattle.ud_model.specs.conditions.Tokens.{Token, number, name, defined, operator, opening}
+use Rattle.ud_model.specs.conditions.Tokens.{closing, NextToken, at_end, unreadable, found}
+use Rattle.ud_model.specs.conditions.Tokens.{next_token}
+use Rattle.ud_model.specs.conditions.Expressions.{Expression, constant, named, is_defined, unary}
+use Rattle.ud_model.specs.conditions.Expressions.{binary, parens, precedence, is_prefix}
 use Rattle.ud_model.specs.declared.operator.Operator.{Operator}
 
 -- what each node of a tree means
@@ -67,7 +71,9 @@ module _ {A : Type 0} (m : Meaning A) where
   -- the operators of level j or tighter take their operands
   abbrev pub reduce : ℕ → A → List (Frame A) → A × List (Frame A)
   reduce j x [] = (x, [])
-  reduce j x (left o a ∷ s) = if leb j (precedence o) then reduce j (m.binary o a x) s else (x, left o a ∷ s)
+  reduce j x (left o a ∷ s) =
+      if leb j (precedence o) then reduce j (m.binary o a x) s
+      else (x, left o a ∷ s)
   reduce j x (before o ∷ s) = reduce j (m.unary o x) s
   reduce j x (paren ∷ s) = (x, paren ∷ s)
 
@@ -88,7 +94,9 @@ module _ {A : Type 0} (m : Meaning A) where
   step (needs s) (operator o) = if is_prefix o then needs (before o ∷ s) else stuck
   step (needs s) opening = needs (paren ∷ s)
   step (needs s) closing = stuck
-  step (has x s) (operator o) = if leb 1 (precedence o) then wait o (reduce (precedence o) x s) else stuck
+  step (has x s) (operator o) =
+      if leb 1 (precedence o) then wait o (reduce (precedence o) x s)
+      else stuck
   step (has x s) closing = close (reduce 0 x s)
   step (has x s) _ = stuck
   step (asks s) (name n false) = has (m.is_defined n false) s
@@ -131,7 +139,8 @@ unfoldable pub tokens_of : List ℕ → Option (List Token)
 tokens_of text = tokens_in (suc (length text)) text
 
 -- what tokens mean, if there are such
-abbrev pub parse_all_tokens : {A : Type 0} → Meaning A → ParseState A → Option (List Token) → Option A
+abbrev pub parse_all_tokens : {A : Type 0} → Meaning A → ParseState A → Option (List Token) →
+    Option A
 parse_all_tokens m s None = None
 parse_all_tokens m s (Some ts) = parse_tokens m s ts
 
@@ -141,7 +150,14 @@ reads m s text = parse_all_tokens m s (tokens_of text)
 
 -- each node means itself
 abbrev pub itself : Meaning Expression
-itself = record { constant = constant; named = named; is_defined = is_defined; unary = unary; binary = binary; parens = parens }
+itself = record {
+  constant = constant;
+  named = named;
+  is_defined = is_defined;
+  unary = unary;
+  binary = binary;
+  parens = parens;
+}
 
 -- the tree of a text, if it has one
 unfoldable pub expression_of : List ℕ → Option Expression

@@ -6,8 +6,14 @@ use Rattle.ud_model.specs.declared.cond.Cond.{Cond}
 use Rattle.ud_model.specs.declared.cond.Cond.TheVariants.{Yes}
 use Rattle.ud_model.specs.declared.verdict.Verdict.{Verdict}
 use Rattle.ud_model.specs.declared.verdict.Verdict.TheVariants.{Keep, Remove, ToEndif}
-use Rattle.ud_model.specs.sections.Tree.{Nodes, Groups, Elifs, Head, Tree, nothing, text, section, conditional, otherwise, first, elif, if_head, elif_head, else_head, closed, open_section}
-use Rattle.ud_model.specs.sections.Pruning.{Part, an_if, an_elif, an_else, Mark, marked, is_kept, is_inside_kept, is_false, gives_way, all_false, any_true, ends_with_first_true, first_kept_verdict, later_verdict, endif_verdict, conds_of_elifs, conds_of_groups}
+use Rattle.ud_model.specs.sections.Tree.{Nodes, Groups, Elifs, Head, Tree, nothing, text, section}
+use Rattle.ud_model.specs.sections.Tree.{conditional, otherwise, first, elif, if_head, elif_head}
+use Rattle.ud_model.specs.sections.Tree.{else_head, closed, open_section}
+use Rattle.ud_model.specs.sections.Pruning.{Part, an_if, an_elif, an_else, Mark, marked, is_kept}
+use Rattle.ud_model.specs.sections.Pruning.{is_inside_kept, is_false, gives_way, all_false}
+use Rattle.ud_model.specs.sections.Pruning.{any_true, ends_with_first_true, first_kept_verdict}
+use Rattle.ud_model.specs.sections.Pruning.{later_verdict, endif_verdict, conds_of_elifs}
+use Rattle.ud_model.specs.sections.Pruning.{conds_of_groups}
 
 -- an opener's verdict as if its group were the last one
 abbrev pub verdict_so_far : List Cond → Part → Cond → Verdict
@@ -24,7 +30,8 @@ module _ {L : Type 0} where
     nodes_so_far kept nothing = []
     nodes_so_far kept (text ns l) = nodes_so_far kept ns ++ marked kept Keep ∷ []
     nodes_so_far kept (section ns gs e) =
-        (nodes_so_far kept ns ++ groups_so_far kept gs) ++ marked kept (endif_verdict (conds_of_groups gs)) ∷ []
+        (nodes_so_far kept ns ++ groups_so_far kept gs) ++
+        marked kept (endif_verdict (conds_of_groups gs)) ∷ []
 
     pub groups_so_far : Bool → Groups L → List Mark
     groups_so_far kept (conditional es) = elifs_so_far kept es
@@ -34,15 +41,19 @@ module _ {L : Type 0} where
 
     pub elifs_so_far : Bool → Elifs L → List Mark
     elifs_so_far kept (first o ns) =
-        (marked kept (verdict_so_far [] an_if o.cond) ∷ []) ++ nodes_so_far (kept && is_kept [] o.cond) ns
+        (marked kept (verdict_so_far [] an_if o.cond) ∷ []) ++
+        nodes_so_far (kept && is_kept [] o.cond) ns
     elifs_so_far kept (elif es o ns) =
-        (elifs_so_far kept es ++ marked kept (verdict_so_far (conds_of_elifs es) an_elif o.cond) ∷ [])
+        (elifs_so_far kept es ++ marked kept (verdict_so_far (conds_of_elifs es) an_elif o.cond) ∷
+        [])
         ++ nodes_so_far (kept && is_kept (conds_of_elifs es) o.cond) ns
 
   abbrev pub head_so_far : Bool → Head L → List Mark
   head_so_far kept (if_head o) = marked kept (verdict_so_far [] an_if o.cond) ∷ []
-  head_so_far kept (elif_head es o) = elifs_so_far kept es ++ marked kept (verdict_so_far (conds_of_elifs es) an_elif o.cond) ∷ []
-  head_so_far kept (else_head es l) = elifs_so_far kept es ++ marked kept (verdict_so_far (conds_of_elifs es) an_else Yes) ∷ []
+  head_so_far kept (elif_head es o) =
+      elifs_so_far kept es ++ marked kept (verdict_so_far (conds_of_elifs es) an_elif o.cond) ∷ []
+  head_so_far kept (else_head es l) =
+      elifs_so_far kept es ++ marked kept (verdict_so_far (conds_of_elifs es) an_else Yes) ∷ []
 
   abbrev pub marks_so_far : Bool → Tree L → List Mark
   marks_so_far kept (closed ns) = nodes_so_far kept ns

@@ -8,7 +8,8 @@
 -- directive (Directives) with its condition (Conditions), and so they have a tree (Tree). The tree is pruned (Pruning)
 -- and printed (Printing), or its names are listed (Listing), up to the first fault (Faults, Runs).
 use Rattle.std.specs.Prelude.{◌≡◌, ℕ, List, [], Bool, true, false, Option, Some, None}
-use Rattle.ud_model.specs.answer.CommandLine.{UsageFault, usage_fault, options_of, display_name, usage_message}
+use Rattle.ud_model.specs.answer.CommandLine.{UsageFault, usage_fault, options_of, display_name}
+use Rattle.ud_model.specs.answer.CommandLine.{usage_message}
 use Rattle.ud_model.specs.sections.Faults.{Fault}
 use Rattle.ud_model.specs.answer.Messages.{message_of, out_of_memory}
 use Rattle.ud_model.specs.answer.Outcomes.{Outcome, HasOutcome}
@@ -52,12 +53,18 @@ usage_answer f = record { output = []; message = usage_message f; status = 2 }
 
 -- the answer of a run under these settings over the input of this name
 abbrev pub run_answer : Settings → List ℕ → Outcome → Answer
-run_answer s name r = record { output = r.output; message = message_or_none name r.fault; status = status_of s r.differs r.fault }
+run_answer s name r = record {
+  output = r.output;
+  message = message_or_none name r.fault;
+  status =
+      status_of s r.differs r.fault;
+}
 
 -- the answer of a run whose output is a copy of its input
 abbrev pub copy_answer : List (List ℕ) → List ℕ → Answer
 copy_answer args text =
-    run_answer (options_of args).settings (display_name args) (record { output = text; fault = None; differs = false })
+    run_answer (options_of args).settings (display_name args)
+    (record { output = text; fault = None; differs = false })
 
 -- the answer to these words and this input: a message on the first fault of the words, or what the run leaves
 pub data IsAnswer (args : List (List ℕ)) (input : List ℕ) : Answer → Type 0 where

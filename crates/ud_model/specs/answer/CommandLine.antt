@@ -14,10 +14,13 @@
 -- A word is the bytes of a text in UTF-8, and its letters are the characters of that text. A word that starts with `-`
 -- and is longer is letters of options. A letter's argument is what follows it in its word, or the whole next word where
 -- nothing does. `--` ends the options; so does the first operand, and every word after either is an operand.
-use Rattle.std.specs.Prelude.{ℕ, suc, List, [], ◌∷◌, ◌++◌, Bool, true, false, ◌||◌, ◌==◌, Option, Some, None, bytes_eq, codes, chars, encode_utf8, encode_utf8_all, decimal, if◌then◌else◌}
+use Rattle.std.specs.Prelude.{ℕ, suc, List, [], ◌∷◌, ◌++◌, Bool, true, false, ◌||◌, ◌==◌, Option}
+use Rattle.std.specs.Prelude.{Some, None, bytes_eq, codes, chars, encode_utf8, encode_utf8_all}
+use Rattle.std.specs.Prelude.{decimal, if◌then◌else◌}
 use Rattle.std.specs.List.{filter_map}
 use Rattle.ud_model.specs.text.Bytes.{hyphen}
-use Rattle.ud_model.specs.answer.SymbolArguments.{name_before_equals, value_after_equals, value_or_one, is_name}
+use Rattle.ud_model.specs.answer.SymbolArguments.{name_before_equals, value_after_equals}
+use Rattle.ud_model.specs.answer.SymbolArguments.{value_or_one, is_name}
 use Rattle.ud_model.specs.conditions.Table.{Argument}
 use Rattle.ud_model.specs.sections.Items.{Options}
 use Rattle.ud_model.specs.declared.settings.Settings.{Settings}
@@ -76,7 +79,8 @@ parsed_letters number (c ∷ cs) next rest =
     else unknown c ∷ parsed_letters number cs next rest
 
 -- what a word gives that has these letters, if any; `operands` is given where it has none
-abbrev pub parsed_word : ℕ → List ℕ → (ℕ → List ParsedArg) → List ParsedArg → List ParsedArg → List ParsedArg
+abbrev pub parsed_word : ℕ → List ℕ → (ℕ → List ParsedArg) → List ParsedArg → List ParsedArg →
+    List ParsedArg
 parsed_word number [] next rest operands = operands
 parsed_word number (c ∷ cs) next rest operands = parsed_letters number (c ∷ cs) next rest
 
@@ -86,7 +90,8 @@ abbrev mutual
   parsed_from n [] = []
   parsed_from n (w ∷ ws) =
       if bytes_eq w (codes "--") then operands_from (suc n) ws
-      else parsed_word (suc n) (option_letters w) (λ c. parsed_after_option c (suc n) ws) (parsed_from (suc n) ws) (operands_from n (w ∷ ws))
+      else parsed_word (suc n) (option_letters w) (λ c. parsed_after_option c (suc n) ws)
+      (parsed_from (suc n) ws) (operands_from n (w ∷ ws))
 
   -- what words give from the place n on, where the first of them is the argument of the option c
   pub parsed_after_option : ℕ → ℕ → List (List ℕ) → List ParsedArg
@@ -99,11 +104,19 @@ parsed_args args = parsed_from 0 args
 
 -- what is said of a symbol of this name; a name is an identifier other than `defined`
 abbrev pub symbol_named : List ℕ → Option (List ℕ) → Bool → Option Argument
-symbol_named name value ignoring = if is_name name then Some (record { name = name; entry = record { value = value; ignoring = ignoring } }) else None
+symbol_named name value ignoring =
+    if is_name name then Some (record {
+      name = name;
+      entry =
+          record { value = value; ignoring = ignoring };
+    })
+    else None
 
 -- `NAME` or `NAME=VALUE`, split at the first `=`
 abbrev pub parse_define : Bool → List ℕ → Option Argument
-parse_define ignoring argument = symbol_named (name_before_equals argument) (Some (value_or_one (value_after_equals argument))) ignoring
+parse_define ignoring argument =
+    symbol_named (name_before_equals argument) (Some (value_or_one (value_after_equals argument)))
+    ignoring
 
 abbrev pub parse_undefine : Bool → List ℕ → Option Argument
 parse_undefine ignoring argument = symbol_named argument None ignoring
@@ -165,7 +178,8 @@ fault_or (Some f) later = Some f
 abbrev pub first_fault : List ParsedArg → Option UsageFault
 first_fault [] = None
 first_fault (flag c ∷ gs) = first_fault gs
-first_fault (option c number argument ∷ gs) = fault_or (argument_fault c number argument) (first_fault gs)
+first_fault (option c number argument ∷ gs) =
+    fault_or (argument_fault c number argument) (first_fault gs)
 first_fault (operand n w ∷ gs) = fault_after_operand gs
 first_fault (unknown c ∷ gs) = Some (unknown_option c)
 first_fault (lacking c ∷ gs) = Some (missing_argument c)
@@ -196,7 +210,9 @@ mode_or earlier (Some mode) = mode
 abbrev pub mode_from : ExitMode → List ParsedArg → ExitMode
 mode_from mode [] = mode
 mode_from mode (flag c ∷ gs) = mode_from mode gs
-mode_from mode (option c number argument ∷ gs) = mode_from (if has_letter (codes "x") c then mode_or mode (parse_exit_mode argument) else mode) gs
+mode_from mode (option c number argument ∷ gs) =
+    mode_from (if has_letter (codes "x") c then mode_or mode (parse_exit_mode argument)
+    else mode) gs
 mode_from mode (operand n w ∷ gs) = mode_from mode gs
 mode_from mode (unknown c ∷ gs) = mode_from mode gs
 mode_from mode (lacking c ∷ gs) = mode_from mode gs
@@ -223,7 +239,11 @@ argument_in (unknown c) = None
 argument_in (lacking c) = None
 
 abbrev pub options_of : List (List ℕ) → Options
-options_of args = record { settings = settings_in (parsed_args args); table = filter_map argument_in (parsed_args args) }
+options_of args = record {
+  settings = settings_in (parsed_args args);
+  table =
+      filter_map argument_in (parsed_args args);
+}
 
 -- an operand: its place, counted from 0, and its bytes
 pub record Operand : Type 0 where
@@ -271,8 +291,12 @@ abbrev pub input_of : List (List ℕ) → Option ℕ
 input_of args = unless_fault (usage_fault args) (file_index (operand_in (parsed_args args)))
 
 abbrev pub usage_message : UsageFault → List ℕ
-usage_message (unknown_option letter) = codes "unifdef: Unknown option -" ++ encode_utf8 letter ++ codes "\n"
-usage_message (missing_argument letter) = codes "unifdef: Option -" ++ encode_utf8 letter ++ codes " needs an argument\n"
-usage_message (bad_symbol_in number) = codes "unifdef: Bad symbol in word " ++ decimal number ++ codes "\n"
-usage_message (bad_mode_in number) = codes "unifdef: Bad exit mode in word " ++ decimal number ++ codes "\n"
+usage_message (unknown_option letter) =
+    codes "unifdef: Unknown option -" ++ encode_utf8 letter ++ codes "\n"
+usage_message (missing_argument letter) =
+    codes "unifdef: Option -" ++ encode_utf8 letter ++ codes " needs an argument\n"
+usage_message (bad_symbol_in number) =
+    codes "unifdef: Bad symbol in word " ++ decimal number ++ codes "\n"
+usage_message (bad_mode_in number) =
+    codes "unifdef: Bad exit mode in word " ++ decimal number ++ codes "\n"
 usage_message too_many_files = codes "unifdef: Too many files\n"

@@ -12,7 +12,9 @@ use Rattle.std.specs.Prelude.{ℕ, suc, List, [], ◌∷◌, ◌++◌, Bool, cod
 use Rattle.ud_model.specs.text.Scans.{Reading}
 use Rattle.ud_model.specs.sections.Directives.{Content, cut_keyword, directive, text, content_of}
 use Rattle.ud_model.specs.conditions.Names.{names_on}
-use Rattle.ud_model.specs.sections.Tree.{Item, Nodes, Groups, Elifs, Head, Tree, nothing, section, conditional, otherwise, first, elif, if_head, elif_head, else_head, closed, open_section}
+use Rattle.ud_model.specs.sections.Tree.{Item, Nodes, Groups, Elifs, Head, Tree, nothing, section}
+use Rattle.ud_model.specs.sections.Tree.{conditional, otherwise, first, elif, if_head, elif_head}
+use Rattle.ud_model.specs.sections.Tree.{else_head, closed, open_section}
 use Rattle.ud_model.specs.sections.Tree as tree
 use Rattle.ud_model.specs.sections.Items.{reading_of}
 
@@ -26,11 +28,13 @@ module _ {L : Type 0} where
 
     pub levels_of_groups : ℕ → Groups L → List ℕ
     levels_of_groups n (conditional es) = levels_of_elifs n es
-    levels_of_groups n (otherwise es l ns) = (levels_of_elifs n es ++ n ∷ []) ++ levels_of_nodes (suc n) ns
+    levels_of_groups n (otherwise es l ns) =
+        (levels_of_elifs n es ++ n ∷ []) ++ levels_of_nodes (suc n) ns
 
     pub levels_of_elifs : ℕ → Elifs L → List ℕ
     levels_of_elifs n (first o ns) = (n ∷ []) ++ levels_of_nodes (suc n) ns
-    levels_of_elifs n (elif es o ns) = (levels_of_elifs n es ++ n ∷ []) ++ levels_of_nodes (suc n) ns
+    levels_of_elifs n (elif es o ns) =
+        (levels_of_elifs n es ++ n ∷ []) ++ levels_of_nodes (suc n) ns
 
   abbrev pub levels_of_head : ℕ → Head L → List ℕ
   levels_of_head n (if_head o) = n ∷ []
@@ -40,7 +44,8 @@ module _ {L : Type 0} where
   -- of a text with so many sections around it
   abbrev pub levels_from : ℕ → Tree L → List ℕ
   levels_from n (closed ns) = levels_of_nodes n ns
-  levels_from n (open_section ns h t) = (levels_of_nodes n ns ++ levels_of_head n h) ++ levels_from (suc n) t
+  levels_from n (open_section ns h t) =
+      (levels_of_nodes n ns ++ levels_of_head n h) ++ levels_from (suc n) t
 
   abbrev pub levels : Tree L → List ℕ
   levels t = levels_from 0 t
@@ -64,4 +69,5 @@ listed_names prefix (name ∷ names) = prefix ++ name ++ codes "\n" ++ listed_na
 abbrev pub listed : Bool → List (Item Reading) → List ℕ → List ℕ
 listed depths [] ns = []
 listed depths (x ∷ xs) [] = []
-listed depths (x ∷ xs) (n ∷ ns) = listed_names (depth_prefix depths n) (names_at x) ++ listed depths xs ns
+listed depths (x ∷ xs) (n ∷ ns) =
+    listed_names (depth_prefix depths n) (names_at x) ++ listed depths xs ns

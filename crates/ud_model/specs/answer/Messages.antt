@@ -6,7 +6,10 @@
 --
 -- The messages of the words' faults stand in CommandLine.
 use Rattle.std.specs.Prelude.{ℕ, List, ◌++◌, codes, decimal}
-use Rattle.ud_model.specs.sections.Faults.{Fault, too_many_lines, line_too_long, obfuscated, inappropriate_elif, inappropriate_else, inappropriate_endif, too_many_levels, eof_in_comment, premature_eof}
+use Rattle.ud_model.specs.sections.Faults.{Fault, too_many_lines, line_too_long, obfuscated}
+use Rattle.ud_model.specs.sections.Faults.{inappropriate_elif, inappropriate_else}
+use Rattle.ud_model.specs.sections.Faults.{inappropriate_endif, too_many_levels, eof_in_comment}
+use Rattle.ud_model.specs.sections.Faults.{premature_eof}
 
 -- a message about the input of this name
 abbrev pub about : List ℕ → List ℕ → List ℕ
@@ -14,18 +17,21 @@ about name text = codes "unifdef: " ++ name ++ codes ": " ++ text ++ codes "\n"
 
 -- and about a line of it
 abbrev pub about_line : List ℕ → ℕ → List ℕ → List ℕ
-about_line name line text = codes "unifdef: " ++ name ++ codes ": " ++ decimal line ++ codes ": " ++ text ++ codes "\n"
+about_line name line text = codes "unifdef: " ++ name ++ codes ": " ++ decimal line ++ codes ": " ++
+    text ++ codes "\n"
 
 abbrev pub message_of : List ℕ → Fault → List ℕ
 message_of name (too_many_lines line) = about_line name line (codes "Too many lines")
 message_of name (line_too_long line) = about_line name line (codes "Line too long")
-message_of name (obfuscated line) = about_line name line (codes "Obfuscated preprocessor control line")
+message_of name (obfuscated line) =
+    about_line name line (codes "Obfuscated preprocessor control line")
 message_of name (inappropriate_elif line) = about_line name line (codes "Inappropriate #elif")
 message_of name (inappropriate_else line) = about_line name line (codes "Inappropriate #else")
 message_of name (inappropriate_endif line) = about_line name line (codes "Inappropriate #endif")
 message_of name (too_many_levels line) = about_line name line (codes "Too many levels of nesting")
 message_of name (eof_in_comment line) = about_line name line (codes "EOF in comment")
-message_of name (premature_eof line if_line) = about_line name line (codes "Premature EOF (#if line " ++ decimal if_line ++ codes ")")
+message_of name (premature_eof line if_line) =
+    about_line name line (codes "Premature EOF (#if line " ++ decimal if_line ++ codes ")")
 
 abbrev pub read_error : List ℕ → List ℕ
 read_error name = about name (codes "Read error")

@@ -8,13 +8,16 @@
 --
 -- At a fault the text of the lines before the faulty line is printed; a fault of the end comes after all lines. A text has
 -- one outcome, whether it has ended or goes on.
-use Rattle.std.specs.Prelude.{◌≡◌, ℕ, suc, List, [], ◌∷◌, ◌++◌, length, map, Bool, true, false, Option, Some, None}
-use Rattle.ud_model.specs.text.Lines.{Line, line_at, lines_of, whole_lines, partial_line, numbered_from}
+use Rattle.std.specs.Prelude.{◌≡◌, ℕ, suc, List, [], ◌∷◌, ◌++◌, length, map, Bool, true, false}
+use Rattle.std.specs.Prelude.{Option, Some, None}
+use Rattle.ud_model.specs.text.Lines.{Line, line_at, lines_of, whole_lines, partial_line}
+use Rattle.ud_model.specs.text.Lines.{numbered_from}
 use Rattle.ud_model.specs.text.Scans.{Reading}
 use Rattle.ud_model.specs.sections.Tree.{Item, Tree}
 use Rattle.ud_model.specs.sections.Pruning.{marks}
 use Rattle.ud_model.specs.sections.Items.{Options, line_of, next_item}
-use Rattle.ud_model.specs.sections.Faults.{Fault, Case, FaultOf, AreFaultless, end_fault, past_last, too_long}
+use Rattle.ud_model.specs.sections.Faults.{Fault, Case, FaultOf, AreFaultless, end_fault, past_last}
+use Rattle.ud_model.specs.sections.Faults.{too_long}
 use Rattle.ud_model.specs.answer.Printing.{printed_by, some_differ_by}
 use Rattle.ud_model.specs.answer.Listing.{levels, listed}
 use Rattle.ud_model.specs.declared.settings.Settings.{Settings}
@@ -22,7 +25,8 @@ use Rattle.ud_model.specs.declared.settings.Listing.{Listing}
 use Rattle.ud_model.specs.declared.settings.Listing.TheVariants.{Off, Names, Depths}
 
 -- of these lines, those before the first faulty one are these items with this tree, and the faulty one has this fault
-pub record FirstFaultAt (o : Options) (ls : List Line) (xs : List (Item Reading)) (t : Tree Reading) (f : Fault) : Type 0 where
+pub record FirstFaultAt (o : Options) (ls : List Line) (xs : List (Item Reading)) (t : Tree Reading)
+    (f : Fault) : Type 0 where
   pub sound : AreFaultless o xs t
   pub faulty : Line
   pub later : List Line
@@ -30,15 +34,19 @@ pub record FirstFaultAt (o : Options) (ls : List Line) (xs : List (Item Reading)
   pub fault : FaultOf xs (next_item o xs t faulty) f
 
 -- none of these lines is faulty, and they are these items with this tree
-pub record HasNoFault (o : Options) (ls : List Line) (xs : List (Item Reading)) (t : Tree Reading) : Type 0 where
+pub record HasNoFault (o : Options) (ls : List Line) (xs : List (Item Reading)) (t : Tree Reading) :
+    Type 0 where
   pub sound : AreFaultless o xs t
   pub are : ls ≡ map line_of xs
 
 -- A text that has ended is read as these items with this tree: those before its first faulty line, which has this fault,
 -- or all of them, and then the fault of the end, if there is one. Nothing is said of how they are printed.
-pub data ReadsAs (o : Options) (input : List ℕ) : List (Item Reading) → Tree Reading → Option Fault → Type 0 where
-  stops : (xs : List (Item Reading)) (t : Tree Reading) (f : Fault) → FirstFaultAt o (lines_of input) xs t f → ReadsAs o input xs t (Some f)
-  ends : (xs : List (Item Reading)) (t : Tree Reading) → HasNoFault o (lines_of input) xs t → ReadsAs o input xs t (end_fault xs t)
+pub data ReadsAs (o : Options) (input : List ℕ) : List (Item Reading) → Tree Reading →
+    Option Fault → Type 0 where
+  stops : (xs : List (Item Reading)) (t : Tree Reading) (f : Fault) →
+      FirstFaultAt o (lines_of input) xs t f → ReadsAs o input xs t (Some f)
+  ends : (xs : List (Item Reading)) (t : Tree Reading) → HasNoFault o (lines_of input) xs t →
+      ReadsAs o input xs t (end_fault xs t)
 
 -- the whole lines of a text that goes on
 abbrev pub lines_so_far : List ℕ → List Line
@@ -54,15 +62,19 @@ pub data IsLimit : Case → Type 0 where
   by_bytes : IsLimit too_long
 
 -- the rest that has come of a line breaks a limit
-pub record RestBreaks (o : Options) (given : List ℕ) (xs : List (Item Reading)) (t : Tree Reading) (f : Fault) : Type 0 where
+pub record RestBreaks (o : Options) (given : List ℕ) (xs : List (Item Reading)) (t : Tree Reading)
+    (f : Fault) : Type 0 where
   pub some : (partial_line given ≡ []) → ⊥
   pub fault : FaultOf xs (next_item o xs t (line_so_far given)) f
   pub limit : IsLimit fault.which
 
 -- the same of a text that goes on: no line is faulty so far, and the rest breaks no limit; or a fault is there
-pub data ReadsSoFar (o : Options) (given : List ℕ) : List (Item Reading) → Tree Reading → Option Fault → Type 0 where
-  stops : (xs : List (Item Reading)) (t : Tree Reading) (f : Fault) → FirstFaultAt o (lines_so_far given) xs t f → ReadsSoFar o given xs t (Some f)
-  breaks : (xs : List (Item Reading)) (t : Tree Reading) (f : Fault) → HasNoFault o (lines_so_far given) xs t →
+pub data ReadsSoFar (o : Options) (given : List ℕ) : List (Item Reading) → Tree Reading →
+    Option Fault → Type 0 where
+  stops : (xs : List (Item Reading)) (t : Tree Reading) (f : Fault) →
+      FirstFaultAt o (lines_so_far given) xs t f → ReadsSoFar o given xs t (Some f)
+  breaks : (xs : List (Item Reading)) (t : Tree Reading) (f : Fault) →
+      HasNoFault o (lines_so_far given) xs t →
       RestBreaks o given xs t f → ReadsSoFar o given xs t (Some f)
   goes_on : (xs : List (Item Reading)) (t : Tree Reading) → HasNoFault o (lines_so_far given) xs t →
       ((f : Fault) → RestBreaks o given xs t f → ⊥) → ReadsSoFar o given xs t None
@@ -87,12 +99,19 @@ differs_by Depths s xs t = false
 
 -- what comes of these lines, whose tree this is; and then this fault
 abbrev pub outcome_of : Settings → List (Item Reading) → Tree Reading → Option Fault → Outcome
-outcome_of s xs t f = record { output = output_by s.listing s xs t; fault = f; differs = differs_by s.listing s xs t }
+outcome_of s xs t f = record {
+  output = output_by s.listing s xs t;
+  fault = f;
+  differs =
+      differs_by s.listing s xs t;
+}
 
 -- the outcome of a text that has ended: what comes of the items as which it is read
 pub data HasOutcome (o : Options) (input : List ℕ) : Outcome → Type 0 where
-  ran_as : {xs : List (Item Reading)} {t : Tree Reading} {f : Option Fault} → ReadsAs o input xs t f → HasOutcome o input (outcome_of o.settings xs t f)
+  ran_as : {xs : List (Item Reading)} {t : Tree Reading} {f : Option Fault} →
+      ReadsAs o input xs t f → HasOutcome o input (outcome_of o.settings xs t f)
 
 -- the same of a text that goes on
 pub data HasOutcomeSoFar (o : Options) (given : List ℕ) : Outcome → Type 0 where
-  came_as : {xs : List (Item Reading)} {t : Tree Reading} {f : Option Fault} → ReadsSoFar o given xs t f → HasOutcomeSoFar o given (outcome_of o.settings xs t f)
+  came_as : {xs : List (Item Reading)} {t : Tree Reading} {f : Option Fault} →
+      ReadsSoFar o given xs t f → HasOutcomeSoFar o given (outcome_of o.settings xs t f)

@@ -8,12 +8,14 @@
 --   some_differ_by settings ..   some line's piece isn't the line itself
 --
 -- Example: of a line `x` that follows a removed one, `#line 5` and the line are printed under `-n`, 5 being its number.
-use Rattle.std.specs.Prelude.{ℕ, ◌+◌, ◌==◌, List, [], ◌∷◌, ◌++◌, take, drop, map, Bool, false, not, ◌&&◌, ◌||◌, bytes_eq, codes, decimal, if◌then◌else◌}
+use Rattle.std.specs.Prelude.{ℕ, ◌+◌, ◌==◌, List, [], ◌∷◌, ◌++◌, take, drop, map, Bool, false, not}
+use Rattle.std.specs.Prelude.{◌&&◌, ◌||◌, bytes_eq, codes, decimal, if◌then◌else◌}
 use Rattle.std.specs.List.{concat}
 use Rattle.ud_model.specs.text.Bytes.{newline}
 use Rattle.ud_model.specs.text.Lines.{Line, text_of}
 use Rattle.ud_model.specs.text.Scans.{Reading}
-use Rattle.ud_model.specs.sections.Directives.{Span, Content, cut_keyword, directive, text, content_of}
+use Rattle.ud_model.specs.sections.Directives.{Span, Content, cut_keyword, directive, text}
+use Rattle.ud_model.specs.sections.Directives.{content_of}
 use Rattle.ud_model.specs.sections.Tree.{Item}
 use Rattle.ud_model.specs.sections.Pruning.{Mark, is_removed}
 use Rattle.ud_model.specs.sections.Items.{reading_of, line_of}
@@ -40,7 +42,8 @@ opener_keyword len = by_length len (codes "ifdef  ") (codes "ifndef  ") (codes "
 abbrev pub piece_by : Verdict → Span → Line → List ℕ
 piece_by Keep keyword l = text_of l
 piece_by Remove keyword l = []
-piece_by ToIf keyword l = take keyword.at l.body ++ opener_keyword keyword.len ++ drop (keyword.at + keyword.len) l.body ++ l.ending
+piece_by ToIf keyword l = take keyword.at l.body ++ opener_keyword keyword.len ++
+    drop (keyword.at + keyword.len) l.body ++ l.ending
 piece_by ToElse keyword l = take keyword.at l.body ++ codes "else" ++ l.ending
 piece_by ToEndif keyword l = take keyword.at l.body ++ codes "endif" ++ l.ending
 
@@ -87,19 +90,24 @@ number_line l = codes "#line " ++ decimal l.number ++ ending_or_newline l.ending
 
 -- what is printed of a line by itself: of a removed one nothing, or under `-b` its ending
 abbrev pub piece_alone : Bool → Judged → List ℕ
-piece_alone blank j = if blank && is_removed j.verdict then j.line.ending else piece_by j.verdict j.keyword j.line
+piece_alone blank j =
+    if blank && is_removed j.verdict then j.line.ending
+    else piece_by j.verdict j.keyword j.line
 
 -- a line that isn't removed is numbered where the line before is removed; where lines are blanked, none is
 abbrev pub is_numbered : Style → List Judged → Judged → Bool
-is_numbered style before j = style.renumber && not style.blank && last_removed before && not (is_removed j.verdict)
+is_numbered style before j = style.renumber && not style.blank && last_removed before &&
+    not (is_removed j.verdict)
 
 abbrev pub uncomplemented_piece : Style → List Judged → Judged → List ℕ
-uncomplemented_piece style before j = (if is_numbered style before j then number_line j.line else []) ++ piece_alone style.blank j
+uncomplemented_piece style before j =
+    (if is_numbered style before j then number_line j.line else []) ++ piece_alone style.blank j
 
 -- what is printed of a line that follows these; `-c` counts before all else
 abbrev pub piece_after : Style → List Judged → Judged → List ℕ
 piece_after style before j =
-    if style.complement then uncomplemented_piece style (map complemented before) (complemented j) else uncomplemented_piece style before j
+    if style.complement then uncomplemented_piece style (map complemented before) (complemented j)
+    else uncomplemented_piece style before j
 
 -- the pieces of the second lines, which follow the first ones, where this is the piece of a line after others
 abbrev pub pieces_by : (List Judged → Judged → List ℕ) → List Judged → List Judged → List (List ℕ)
@@ -113,7 +121,12 @@ some_other (p ∷ ps) [] = false
 some_other (p ∷ ps) (j ∷ js) = not (bytes_eq p (text_of j.line)) || some_other ps js
 
 abbrev pub judged_line : Item Reading → Mark → Judged
-judged_line x m = record { line = line_of x; verdict = m.verdict; keyword = keyword_in (content_of (reading_of x).scan) }
+judged_line x m = record {
+  line = line_of x;
+  verdict = m.verdict;
+  keyword =
+      keyword_in (content_of (reading_of x).scan);
+}
 
 -- these lines with these marks
 abbrev pub judged_lines : List (Item Reading) → List Mark → List Judged

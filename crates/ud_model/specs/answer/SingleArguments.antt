@@ -8,7 +8,8 @@
 --
 -- Example: the letters `bD` give `-b`, and the option `-D` waits; the letters `DA` give `-D` with `A`, and none waits.
 use Rattle.std.specs.Prelude.{ℕ, List, [], ◌∷◌, Option, Some, None, encode_utf8_all, if◌then◌else◌}
-use Rattle.ud_model.specs.answer.CommandLine.{ParsedArg, flag, option, unknown, is_flag, takes_argument, parsed_from, parsed_after_option}
+use Rattle.ud_model.specs.answer.CommandLine.{ParsedArg, flag, option, unknown, is_flag}
+use Rattle.ud_model.specs.answer.CommandLine.{takes_argument, parsed_from, parsed_after_option}
 
 -- what a word gives, and the letter of the option whose argument is the next word, if one waits
 pub record WordGives : Type 0 where
@@ -26,7 +27,8 @@ then_gives g w = record { given = g ∷ w.given; waits = w.waits }
 -- an option with an argument, by the letters after it in its word: they are the argument, or it waits
 abbrev pub option_gives : ℕ → ℕ → List ℕ → WordGives
 option_gives c number [] = record { given = []; waits = Some c }
-option_gives c number (l ∷ ls) = record { given = option c number (encode_utf8_all (l ∷ ls)) ∷ []; waits = None }
+option_gives c number (l ∷ ls) =
+    record { given = option c number (encode_utf8_all (l ∷ ls)) ∷ []; waits = None }
 
 abbrev pub letters_give : ℕ → List ℕ → WordGives
 letters_give number [] = gives_nothing

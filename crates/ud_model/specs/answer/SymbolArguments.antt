@@ -4,7 +4,8 @@
 --   name_before_equals a, value_after_equals a   what stands before and after the first `=`
 --   is_name n                                    n may be a symbol's name
 --   value_or_one v                               the value of a symbol that is defined
-use Rattle.std.specs.Prelude.{ℕ, List, [], ◌∷◌, Bool, not, ◌&&◌, ◌==◌, Option, Some, None, bytes_eq, codes, if◌then◌else◌}
+use Rattle.std.specs.Prelude.{ℕ, List, [], ◌∷◌, Bool, not, ◌&&◌, ◌==◌, Option, Some, None, bytes_eq}
+use Rattle.std.specs.Prelude.{codes, if◌then◌else◌}
 use Rattle.ud_model.specs.text.Bytes.{equals_sign, is_identifier}
 
 -- the bytes before the first `=`, or all if there is none

@@ -14,15 +14,23 @@
 -- value (a divisor of 0, a signed result out of range, a constant without a type) none is related.
 --
 -- Example: with A undefined and X unlisted, `A && X` can be 0 alone, and `X - X` any number.
-use Rattle.std.specs.Prelude.{◌≡◌, ◌≢◌, ℕ, ◌+◌, ◌-◌, ◌*◌, ◌/◌, ◌%◌, ◌^◌, ◌<◌, ◌≤◌, Bool, true, false, if◌then◌else◌, List, Some, None, ◌⊎◌, ℤ, pos, ◌+ℤ◌, ◌-ℤ◌, ◌*ℤ◌, neg_ℤ, ◌<ℤ◌, ◌≤ℤ◌, int_div, int_rem, bit_and, bit_or, bit_xor, FitsSigned}
+use Rattle.std.specs.Prelude.{◌≡◌, ◌≢◌, ℕ, ◌+◌, ◌-◌, ◌*◌, ◌/◌, ◌%◌, ◌^◌, ◌<◌, ◌≤◌, Bool, true}
+use Rattle.std.specs.Prelude.{false, if◌then◌else◌, List, Some, None, ◌⊎◌, ℤ, pos, ◌+ℤ◌, ◌-ℤ◌, ◌*ℤ◌}
+use Rattle.std.specs.Prelude.{neg_ℤ, ◌<ℤ◌, ◌≤ℤ◌, int_div, int_rem, bit_and, bit_or, bit_xor}
+use Rattle.std.specs.Prelude.{FitsSigned}
 use Rattle.std.specs.Int.{cast_signed, cast_unsigned}
 use mir.Syntax.{w64}
 use Rattle.ud_model.specs.conditions.Table.{Argument}
 use Rattle.ud_model.specs.conditions.Constants.{has_u, is_decimal, constant_number}
-use Rattle.ud_model.specs.conditions.Expressions.{Expression, constant, named, is_defined, unary, binary, parens}
+use Rattle.ud_model.specs.conditions.Expressions.{Expression, constant, named, is_defined, unary}
+use Rattle.ud_model.specs.conditions.Expressions.{binary, parens}
 use Rattle.ud_model.specs.conditions.Values.{name_value, name_has_u, defined_value, has_unsigned}
 use Rattle.ud_model.specs.declared.operator.Operator.{Operator}
-use Rattle.ud_model.specs.declared.operator.Operator.TheVariants.{Or, And, BitOr, BitXor, BitAnd, Equal, NotEqual, Less, LessEqual, Greater, GreaterEqual, Plus, Minus, Times, Over, Remainder, Not, Complement}
+use Rattle.ud_model.specs.declared.operator.Operator.TheVariants.{Or, And, BitOr, BitXor, BitAnd}
+use Rattle.ud_model.specs.declared.operator.Operator.TheVariants.{Equal, NotEqual, Less, LessEqual}
+use Rattle.ud_model.specs.declared.operator.Operator.TheVariants.{Greater, GreaterEqual, Plus}
+use Rattle.ud_model.specs.declared.operator.Operator.TheVariants.{Minus, Times, Over, Remainder}
+use Rattle.ud_model.specs.declared.operator.Operator.TheVariants.{Not, Complement}
 
 -- a number with its type
 pub data Number : Type 0 where
@@ -77,7 +85,8 @@ GivesSigned Plus a b c = IsResult (a +ℤ b) c
 GivesSigned Minus a b c = IsResult (a -ℤ b) c
 GivesSigned Times a b c = IsResult (a *ℤ b) c
 GivesSigned Over a b c = (b ≢ pos 0) × IsResult (int_div a b) c
-GivesSigned Remainder a b c = (b ≢ pos 0) × FitsSigned w64 (int_div a b) × (c ≡ signed (int_rem a b))
+GivesSigned Remainder a b c = (b ≢ pos 0) × FitsSigned w64 (int_div a b) ×
+    (c ≡ signed (int_rem a b))
 GivesSigned _ a b c = ⊥
 
 -- two operands of uintmax_t: modulo 2^64 (6.2.5p9)
@@ -116,9 +125,12 @@ GivesUnary _ x c = ⊥
 
 -- of uintmax_t with a `u`, or where only that type holds it and it isn't decimal
 pub data IsConstantValue (w : List ℕ) : Number → Type 0 where
-  plain : has_u w ≡ false → constant_number w < 2 ^ 63 → IsConstantValue w (signed (pos (constant_number w)))
-  by_suffix : has_u w ≡ true → constant_number w < 2 ^ 64 → IsConstantValue w (unsigned (constant_number w))
-  by_size : has_u w ≡ false → is_decimal w ≡ false → 2 ^ 63 ≤ constant_number w → constant_number w < 2 ^ 64 →
+  plain : has_u w ≡ false → constant_number w < 2 ^ 63 →
+      IsConstantValue w (signed (pos (constant_number w)))
+  by_suffix : has_u w ≡ true → constant_number w < 2 ^ 64 →
+      IsConstantValue w (unsigned (constant_number w))
+  by_size : has_u w ≡ false → is_decimal w ≡ false → 2 ^ 63 ≤ constant_number w →
+      constant_number w < 2 ^ 64 →
       IsConstantValue w (unsigned (constant_number w))
 
 -- a known value in the type of its constant
@@ -131,19 +143,28 @@ pub data CValue (table : List Argument) (u : Bool) : Expression → Number → T
   of_constant : {w : List ℕ} {c : Number} → IsConstantValue w c → CValue table u (constant w) c
   of_known_name : {n : List ℕ} {arguments : Bool} {z : ℤ} → name_value table u n ≡ Some z →
       CValue table u (named n arguments) (typed (name_has_u table n) z)
-  of_open_name : {n : List ℕ} {arguments : Bool} {c : Number} → name_value table u n ≡ None → IsInRange c →
+  of_open_name : {n : List ℕ} {arguments : Bool} {c : Number} → name_value table u n ≡ None →
+      IsInRange c →
       CValue table u (named n arguments) c
-  of_known_defined : {n : List ℕ} {p : Bool} {z : ℤ} → defined_value table n ≡ Some z → CValue table u (is_defined n p) (signed z)
-  of_open_defined : {n : List ℕ} {p : Bool} {c : Number} → defined_value table n ≡ None → (c ≡ signed (pos 0)) ⊎ (c ≡ signed (pos 1)) →
+  of_known_defined : {n : List ℕ} {p : Bool} {z : ℤ} → defined_value table n ≡ Some z →
+      CValue table u (is_defined n p) (signed z)
+  of_open_defined : {n : List ℕ} {p : Bool} {c : Number} → defined_value table n ≡ None →
+      (c ≡ signed (pos 0)) ⊎ (c ≡ signed (pos 1)) →
       CValue table u (is_defined n p) c
-  of_unary : {o : Operator} {a : Expression} {x c : Number} → CValue table u a x → GivesUnary o x c → CValue table u (unary o a) c
-  of_binary : {o : Operator} {a b : Expression} {x y c : Number} → CValue table u a x → CValue table u b y → Gives o x y c →
+  of_unary : {o : Operator} {a : Expression} {x c : Number} → CValue table u a x →
+      GivesUnary o x c → CValue table u (unary o a) c
+  of_binary : {o : Operator} {a b : Expression} {x y c : Number} → CValue table u a x →
+      CValue table u b y → Gives o x y c →
       CValue table u (binary o a b) c
-  of_and_left : {a b : Expression} {x : Number} → CValue table u a x → IsZero x → CValue table u (binary And a b) (signed (pos 0))
-  of_and_both : {a b : Expression} {x y c : Number} → CValue table u a x → (IsZero x → ⊥) → CValue table u b y → IsTruth (IsZero y → ⊥) c →
+  of_and_left : {a b : Expression} {x : Number} → CValue table u a x → IsZero x →
+      CValue table u (binary And a b) (signed (pos 0))
+  of_and_both : {a b : Expression} {x y c : Number} → CValue table u a x → (IsZero x → ⊥) →
+      CValue table u b y → IsTruth (IsZero y → ⊥) c →
       CValue table u (binary And a b) c
-  of_or_left : {a b : Expression} {x : Number} → CValue table u a x → (IsZero x → ⊥) → CValue table u (binary Or a b) (signed (pos 1))
-  of_or_both : {a b : Expression} {x y c : Number} → CValue table u a x → IsZero x → CValue table u b y → IsTruth (IsZero y → ⊥) c →
+  of_or_left : {a b : Expression} {x : Number} → CValue table u a x → (IsZero x → ⊥) →
+      CValue table u (binary Or a b) (signed (pos 1))
+  of_or_both : {a b : Expression} {x y c : Number} → CValue table u a x → IsZero x →
+      CValue table u b y → IsTruth (IsZero y → ⊥) c →
       CValue table u (binary Or a b) c
   of_parens : {a : Expression} {c : Number} → CValue table u a c → CValue table u (parens a) c
 

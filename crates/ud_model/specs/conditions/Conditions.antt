@@ -9,12 +9,14 @@
 --   decision_on scan d table rules            the decision on a directive in its line
 --
 -- Example: with A undefined, `A && X` is no, and unknown under `strict`; `X || 1` is unknown unless `constants`.
-use Rattle.std.specs.Prelude.{ℕ, List, Bool, true, false, not, ◌&&◌, ◌||◌, Option, Some, None, is_some, if◌then◌else◌, ℤ}
+use Rattle.std.specs.Prelude.{ℕ, List, Bool, true, false, not, ◌&&◌, ◌||◌, Option, Some, None}
+use Rattle.std.specs.Prelude.{is_some, if◌then◌else◌, ℤ}
 use Rattle.ud_model.specs.text.Bytes.{skip_white, leading_word, skip_word, are_white, is_identifier}
 use Rattle.ud_model.specs.text.Scans.{Scan}
 use Rattle.ud_model.specs.sections.Directives.{Directive, role_of, test_of}
 use Rattle.ud_model.specs.conditions.Table.{Argument, Entry, entry_in}
-use Rattle.ud_model.specs.conditions.Expressions.{Expression, constant, named, is_defined, unary, binary, parens}
+use Rattle.ud_model.specs.conditions.Expressions.{Expression, constant, named, is_defined, unary}
+use Rattle.ud_model.specs.conditions.Expressions.{binary, parens}
 use Rattle.ud_model.specs.aids.Parsing.{expression_of}
 use Rattle.ud_model.specs.conditions.Values.{is_zero, value_of}
 use Rattle.ud_model.specs.declared.cond.Cond.{Cond}
@@ -101,7 +103,8 @@ truth_of (Some z) = if is_zero z then No else Yes
 -- unknown where an undefined name has arguments; and, unless `constants`, if no name is listed
 abbrev pub tree_cond : Expression → List Argument → Rules → Cond
 tree_cond e table rules =
-    if calls_undefined table e || not (rules.constants || mentions_listed table e) then Unknown else truth_of (value_of table rules.strict e)
+    if calls_undefined table e || not (rules.constants || mentions_listed table e) then Unknown
+    else truth_of (value_of table rules.strict e)
 
 -- the condition of a tree, if there is one
 abbrev pub tree_cond_if : Option Expression → List Argument → Rules → Cond
@@ -115,9 +118,14 @@ expression_cond after table rules = tree_cond_if (expression_of after) table rul
 
 -- the decision on a text by what makes its condition true
 abbrev pub decision_by_test : Test → List ℕ → List Argument → Rules → Decision
-decision_by_test Nonzero after table rules = record { cond = expression_cond after table rules; ignoring = false }
+decision_by_test Nonzero after table rules =
+    record { cond = expression_cond after table rules; ignoring = false }
 decision_by_test Defined after table rules = ifdef_decision (sole_name after) table
-decision_by_test Undefined after table rules = record (ifdef_decision (sole_name after) table) { cond = negate (ifdef_decision (sole_name after) table).cond }
+decision_by_test Undefined after table rules =
+    record (ifdef_decision (sole_name after) table) {
+      cond =
+          negate (ifdef_decision (sole_name after) table).cond;
+    }
 decision_by_test Nothing after table rules = undecided
 
 -- a directive with this role begins a section
@@ -130,10 +138,17 @@ begins_section EndifLine = false
 -- the decision on the text after a keyword; only a directive that begins a section makes it plain text
 abbrev pub condition_of : Kind → List ℕ → List Argument → Rules → Decision
 condition_of kind after table rules =
-    record (decision_by_test (test_of kind) after table rules) { ignoring = begins_section (role_of kind) && (decision_by_test (test_of kind) after table rules).ignoring }
+    record (decision_by_test (test_of kind) after table rules) {
+      ignoring =
+          begins_section (role_of kind) &&
+          (decision_by_test (test_of kind) after table rules).ignoring;
+    }
 
 -- a broken directive is undecided; one that joins the next line isn't ignoring
 abbrev pub decision_on : Scan → Directive → List Argument → Rules → Decision
 decision_on scan d table rules =
     if d.broken then undecided
-    else record (condition_of d.kind d.after table rules) { ignoring = (condition_of d.kind d.after table rules).ignoring && not scan.joins_after }
+    else record (condition_of d.kind d.after table rules) {
+      ignoring =
+          (condition_of d.kind d.after table rules).ignoring && not scan.joins_after;
+    }

@@ -9,7 +9,9 @@
 --   constant_number w   the number that its digits are
 --
 -- Example: `0x1uL` is the number 1, of base 16, and has a `u`. `08` is no constant.
-use Rattle.std.specs.Prelude.{ℕ, ◌+◌, ◌-◌, ◌*◌, ◌==◌, nat_le, List, [], ◌∷◌, ◌++◌, map, take, drop, length, Bool, true, false, not, ◌&&◌, ◌||◌, if◌then◌else◌, Option, Some, None, is_some, unwrap_or, bytes_eq, codes}
+use Rattle.std.specs.Prelude.{ℕ, ◌+◌, ◌-◌, ◌*◌, ◌==◌, nat_le, List, [], ◌∷◌, ◌++◌, map, take, drop}
+use Rattle.std.specs.Prelude.{length, Bool, true, false, not, ◌&&◌, ◌||◌, if◌then◌else◌, Option}
+use Rattle.std.specs.Prelude.{Some, None, is_some, unwrap_or, bytes_eq, codes}
 use Rattle.std.specs.List.{prefix_len, flat_map}
 use Rattle.ud_model.specs.text.Bytes.{is_digit}
 
@@ -34,11 +36,17 @@ pub record ConstantParts : Type 0 where
 
 -- the longest run of digits of this kind in front, and what follows it
 abbrev pub split_digits : (ℕ → Bool) → ℕ → List ℕ → ConstantParts
-split_digits is_one base w = record { base = base; digits = take (prefix_len is_one w) w; suffix = drop (prefix_len is_one w) w }
+split_digits is_one base w = record {
+  base = base;
+  digits = take (prefix_len is_one w) w;
+  suffix =
+      drop (prefix_len is_one w) w;
+}
 
 -- `0x` or `0X` stands in front
 abbrev pub has_hex_prefix : List ℕ → Bool
-has_hex_prefix w = starts_with_byte 48 w && (starts_with_byte 120 (drop 1 w) || starts_with_byte 88 (drop 1 w))
+has_hex_prefix w = starts_with_byte 48 w &&
+    (starts_with_byte 120 (drop 1 w) || starts_with_byte 88 (drop 1 w))
 
 -- hexadecimal digits after `0x` or `0X`, else octal digits from a `0` on, else decimal digits
 abbrev pub constant_parts : List ℕ → ConstantParts
@@ -67,7 +75,8 @@ is_one_of_texts (t ∷ ts) s = bytes_eq t s || is_one_of_texts ts s
 -- one of each kind in either order, or one alone, or nothing
 unfoldable pub suffix_sign : List ℕ → Option Bool
 suffix_sign s =
-    if is_one_of_texts (unsigned_suffixes ++ each_combination unsigned_suffixes long_suffixes ++ each_combination long_suffixes unsigned_suffixes) s then Some true
+    if is_one_of_texts (unsigned_suffixes ++ each_combination unsigned_suffixes long_suffixes ++
+    each_combination long_suffixes unsigned_suffixes) s then Some true
     else if is_one_of_texts ([] ∷ long_suffixes) s then Some false
     else None
 

@@ -9,9 +9,14 @@
 --
 -- Example: `1 - 2 - 3` is written for (1 - 2) - 3 and for no other tree.
 use Rattle.std.specs.Prelude.{ℕ, ◌+◌, ◌≤◌, Bool, true, false, IsTrue, List, [], ◌∷◌, ◌++◌}
-use Rattle.ud_model.specs.conditions.Tokens.{Token, number, name, defined, operator, opening, closing, AreTokens}
+use Rattle.ud_model.specs.conditions.Tokens.{Token, number, name, defined, operator, opening}
+use Rattle.ud_model.specs.conditions.Tokens.{closing, AreTokens}
 use Rattle.ud_model.specs.declared.operator.Operator.{Operator}
-use Rattle.ud_model.specs.declared.operator.Operator.TheVariants.{Or, And, BitOr, BitXor, BitAnd, Equal, NotEqual, Less, LessEqual, Greater, GreaterEqual, Plus, Minus, Times, Over, Remainder, Not, Complement}
+use Rattle.ud_model.specs.declared.operator.Operator.TheVariants.{Or, And, BitOr, BitXor, BitAnd}
+use Rattle.ud_model.specs.declared.operator.Operator.TheVariants.{Equal, NotEqual, Less, LessEqual}
+use Rattle.ud_model.specs.declared.operator.Operator.TheVariants.{Greater, GreaterEqual, Plus}
+use Rattle.ud_model.specs.declared.operator.Operator.TheVariants.{Minus, Times, Over, Remainder}
+use Rattle.ud_model.specs.declared.operator.Operator.TheVariants.{Not, Complement}
 
 -- the level of an operator between two operands; 0 where it stands between none
 abbrev pub precedence : Operator → ℕ
@@ -70,7 +75,8 @@ HasPrecedence k (constant w) = Unit {0}
 HasPrecedence k (named n arguments) = Unit {0}
 HasPrecedence k (is_defined n parentheses) = Unit {0}
 HasPrecedence k (unary o a) = IsTrue (is_prefix o) × HasPrecedence 10 a
-HasPrecedence k (binary o a b) = (k ≤ precedence o) × HasPrecedence (precedence o) a × HasPrecedence (precedence o + 1) b
+HasPrecedence k (binary o a b) = (k ≤ precedence o) × HasPrecedence (precedence o) a ×
+    HasPrecedence (precedence o + 1) b
 HasPrecedence k (parens a) = HasPrecedence 1 a
 
 -- The text is written for this tree.

@@ -9,7 +9,8 @@
 -- Example: ` F(X) + defined(Y) > 1` has the names F and Y.
 use Rattle.std.specs.Prelude.{ℕ, List, [], ◌∷◌, ◌++◌, Option, Some, None, if◌then◌else◌}
 use Rattle.ud_model.specs.sections.Directives.{Directive, test_of}
-use Rattle.ud_model.specs.conditions.Expressions.{Expression, constant, named, is_defined, unary, binary, parens}
+use Rattle.ud_model.specs.conditions.Expressions.{Expression, constant, named, is_defined, unary}
+use Rattle.ud_model.specs.conditions.Expressions.{binary, parens}
 use Rattle.ud_model.specs.aids.Parsing.{expression_of}
 use Rattle.ud_model.specs.conditions.Conditions.{sole_name}
 use Rattle.ud_model.specs.declared.kind.Kind.{Kind}

@@ -9,7 +9,8 @@
 -- end, and neither has a way to a name that isn't defined.
 --
 -- Example: with A as B and B as 5 the value of A ends at 5; with A as B and B as A it ends nowhere.
-use Rattle.std.specs.Prelude.{◌≡◌, ℕ, zero, suc, List, length, true, false, Option, Some, None, if◌then◌else◌}
+use Rattle.std.specs.Prelude.{◌≡◌, ℕ, zero, suc, List, length, true, false, Option, Some, None}
+use Rattle.std.specs.Prelude.{if◌then◌else◌}
 use Rattle.ud_model.specs.text.Bytes.{is_identifier}
 use Rattle.ud_model.specs.conditions.Table.{Argument, Entry, entry_in}
 
@@ -24,8 +25,10 @@ defined_text table n = text_in (entry_in table n)
 
 -- the value of a name ends at the text that defines it, if that is no identifier, and else if the value of that name ends
 pub data ResolvesTo (table : List Argument) : List ℕ → List ℕ → Type 0 where
-  at_text : (n v : List ℕ) → defined_text table n ≡ Some v → is_identifier v ≡ false → ResolvesTo table n v
-  by_name : (n m v : List ℕ) → defined_text table n ≡ Some m → is_identifier m ≡ true → ResolvesTo table m v → ResolvesTo table n v
+  at_text : (n v : List ℕ) → defined_text table n ≡ Some v → is_identifier v ≡ false →
+      ResolvesTo table n v
+  by_name : (n m v : List ℕ) → defined_text table n ≡ Some m → is_identifier m ≡ true →
+      ResolvesTo table m v → ResolvesTo table n v
 
 -- a text that is no identifier is an end; from another the way goes on
 abbrev pub on_text : (List ℕ → Option (List ℕ)) → Option (List ℕ) → Option (List ℕ)

@@ -18,7 +18,8 @@ pub record Argument : Type 0 where
 -- what a list of arguments says of a name, where `earlier` is what those before it say
 abbrev pub entry_from : Option Entry → List Argument → List ℕ → Option Entry
 entry_from earlier [] name = earlier
-entry_from earlier (a ∷ more) name = entry_from (if bytes_eq a.name name then Some a.entry else earlier) more name
+entry_from earlier (a ∷ more) name =
+    entry_from (if bytes_eq a.name name then Some a.entry else earlier) more name
 
 -- what the last argument that names it says; nothing where it is unlisted
 abbrev pub entry_in : List Argument → List ℕ → Option Entry

@@ -9,11 +9,17 @@
 -- in them. C reads two minus signs as one token, and `0xE-9` as one too; both are none here.
 --
 -- Example: ` F(X)>0` is the name F with arguments, the operator `>` and the constant 0.
-use Rattle.std.specs.Prelude.{◌≡◌, ℕ, zero, suc, ◌-◌, ◌==◌, List, [], ◌∷◌, length, drop, slice_index, Bool, true, false, not, ◌&&◌, ◌||◌, if◌then◌else◌, Option, Some, None, bytes_eq, codes}
+use Rattle.std.specs.Prelude.{◌≡◌, ℕ, zero, suc, ◌-◌, ◌==◌, List, [], ◌∷◌, length, drop}
+use Rattle.std.specs.Prelude.{slice_index, Bool, true, false, not, ◌&&◌, ◌||◌, if◌then◌else◌}
+use Rattle.std.specs.Prelude.{Option, Some, None, bytes_eq, codes}
 use Rattle.ud_model.specs.text.Bytes.{is_digit, is_word_byte, skip_white, leading_word, skip_word}
 use Rattle.ud_model.specs.conditions.Constants.{starts_with_byte, is_constant}
 use Rattle.ud_model.specs.declared.operator.Operator.{Operator}
-use Rattle.ud_model.specs.declared.operator.Operator.TheVariants.{Or, And, BitOr, BitXor, BitAnd, Equal, NotEqual, Less, LessEqual, Greater, GreaterEqual, Plus, Minus, Times, Over, Remainder, Not, Complement}
+use Rattle.ud_model.specs.declared.operator.Operator.TheVariants.{Or, And, BitOr, BitXor, BitAnd}
+use Rattle.ud_model.specs.declared.operator.Operator.TheVariants.{Equal, NotEqual, Less, LessEqual}
+use Rattle.ud_model.specs.declared.operator.Operator.TheVariants.{Greater, GreaterEqual, Plus}
+use Rattle.ud_model.specs.declared.operator.Operator.TheVariants.{Minus, Times, Over, Remainder}
+use Rattle.ud_model.specs.declared.operator.Operator.TheVariants.{Not, Complement}
 
 -- what an expression is written with
 pub data Token : Type 0 where
@@ -38,9 +44,14 @@ pub data NextToken : Type 0 where
 -- what stands after the `)` that closes a parenthesis, in which so many more are open
 abbrev pub after_matching_paren : ℕ → List ℕ → Option (List ℕ)
 after_matching_paren n [] = None
-after_matching_paren zero (b ∷ text) = if b == 40 then after_matching_paren 1 text else if b == 41 then Some text else after_matching_paren 0 text
+after_matching_paren zero (b ∷ text) =
+    if b == 40 then after_matching_paren 1 text
+    else if b == 41 then Some text
+    else after_matching_paren 0 text
 after_matching_paren (suc n) (b ∷ text) =
-    if b == 40 then after_matching_paren (suc (suc n)) text else if b == 41 then after_matching_paren n text else after_matching_paren (suc n) text
+    if b == 40 then after_matching_paren (suc (suc n)) text
+    else if b == 41 then after_matching_paren n text
+    else after_matching_paren (suc n) text
 
 -- the name with its arguments, where they end
 abbrev pub with_arguments : List ℕ → Option (List ℕ) → NextToken
@@ -50,22 +61,28 @@ with_arguments w (Some rest) = found (name w true) rest
 -- a name and the arguments after it, if a `(` comes next
 abbrev pub name_token : List ℕ → List ℕ → NextToken
 name_token w rest =
-    if starts_with_byte 40 (skip_white rest) then with_arguments w (after_matching_paren 0 (drop 1 (skip_white rest))) else found (name w false) rest
+    if starts_with_byte 40 (skip_white rest)
+    then with_arguments w (after_matching_paren 0 (drop 1 (skip_white rest)))
+    else found (name w false) rest
 
 -- the constant ends in `e` or `E`, and a sign follows: C reads both as one token
 abbrev pub has_exponent_sign : List ℕ → List ℕ → Bool
-has_exponent_sign w rest = (slice_index w (length w - 1) == 101 || slice_index w (length w - 1) == 69) && (starts_with_byte 43 rest || starts_with_byte 45 rest)
+has_exponent_sign w rest = (slice_index w (length w - 1) == 101 || slice_index w (length w - 1) ==
+    69) && (starts_with_byte 43 rest || starts_with_byte 45 rest)
 
 -- a word that begins with a digit is a constant as a whole
 abbrev pub word_token : List ℕ → List ℕ → NextToken
 word_token w rest =
-    if is_digit (slice_index w 0) then (if is_constant w && not (has_exponent_sign w rest) then found (number w) rest else unreadable)
+    if is_digit (slice_index w 0) then (if is_constant w && not (has_exponent_sign w rest)
+    then found (number w) rest else unreadable)
     else if bytes_eq w (codes "defined") then found defined rest
     else name_token w rest
 
 -- the operator of two bytes where the second one follows, else the one of one byte
 abbrev pub one_or_two_bytes : ℕ → Operator → Operator → List ℕ → NextToken
-one_or_two_bytes c long short rest = if starts_with_byte c rest then found (operator long) (drop 1 rest) else found (operator short) rest
+one_or_two_bytes c long short rest =
+    if starts_with_byte c rest then found (operator long) (drop 1 rest)
+    else found (operator short) rest
 
 -- the token that begins with this byte, which is in no word
 abbrev pub punctuator : ℕ → List ℕ → NextToken
@@ -77,8 +94,10 @@ punctuator b rest =
     else if b == 62 then one_or_two_bytes 61 GreaterEqual Greater rest
     else if b == 38 then one_or_two_bytes 38 And BitAnd rest
     else if b == 124 then one_or_two_bytes 124 Or BitOr rest
-    else if b == 61 then (if starts_with_byte 61 rest then found (operator Equal) (drop 1 rest) else unreadable)
-    else if b == 45 then (if starts_with_byte 45 rest then unreadable else found (operator Minus) rest)
+    else if b == 61 then (if starts_with_byte 61 rest then found (operator Equal) (drop 1 rest)
+    else unreadable)
+    else if b == 45 then (if starts_with_byte 45 rest then unreadable
+    else found (operator Minus) rest)
     else if b == 43 then found (operator Plus) rest
     else if b == 42 then found (operator Times) rest
     else if b == 47 then found (operator Over) rest
@@ -91,7 +110,8 @@ punctuator b rest =
 abbrev pub leading_token : List ℕ → NextToken
 leading_token [] = at_end
 leading_token (b ∷ text) =
-    if is_word_byte b then word_token (leading_word (b ∷ text)) (skip_word (b ∷ text)) else punctuator b text
+    if is_word_byte b then word_token (leading_word (b ∷ text)) (skip_word (b ∷ text))
+    else punctuator b text
 
 -- the token at the front of a text, white space left out
 unfoldable pub next_token : List ℕ → NextToken

@@ -15,15 +15,23 @@
 -- or another one than whole numbers do. Under `strict`, `&&` and `||` are unknown where an operand is.
 --
 -- Example: with A as 5, `-A / 2` is -2, `~A < 0u` is unknown, and `X && !A` is 0 unless `strict`.
-use Rattle.std.specs.Prelude.{ℕ, ◌^◌, ◌==◌, nat_eq, nat_lt, Bool, true, false, not, ◌&&◌, ◌||◌, if◌then◌else◌, List, [], ◌∷◌, Option, Some, None, is_some, ℤ, pos, negsuc, ◌+ℤ◌, ◌-ℤ◌, ◌*ℤ◌, neg_ℤ, int_lt, int_le, int_div, int_rem, bit_and, bit_or, bit_xor}
+use Rattle.std.specs.Prelude.{ℕ, ◌^◌, ◌==◌, nat_eq, nat_lt, Bool, true, false, not, ◌&&◌, ◌||◌}
+use Rattle.std.specs.Prelude.{if◌then◌else◌, List, [], ◌∷◌, Option, Some, None, is_some, ℤ, pos}
+use Rattle.std.specs.Prelude.{negsuc, ◌+ℤ◌, ◌-ℤ◌, ◌*ℤ◌, neg_ℤ, int_lt, int_le, int_div, int_rem}
+use Rattle.std.specs.Prelude.{bit_and, bit_or, bit_xor}
 use mir.Val.{to_z, of_z}
 use mir.Syntax.{w64}
 use Rattle.ud_model.specs.conditions.Table.{Argument, Entry, entry_in}
 use Rattle.ud_model.specs.conditions.Constants.{is_constant, has_u, constant_number}
 use Rattle.ud_model.specs.conditions.Symbols.{resolve}
-use Rattle.ud_model.specs.conditions.Expressions.{Expression, constant, named, is_defined, unary, binary, parens}
+use Rattle.ud_model.specs.conditions.Expressions.{Expression, constant, named, is_defined, unary}
+use Rattle.ud_model.specs.conditions.Expressions.{binary, parens}
 use Rattle.ud_model.specs.declared.operator.Operator.{Operator}
-use Rattle.ud_model.specs.declared.operator.Operator.TheVariants.{Or, And, BitOr, BitXor, BitAnd, Equal, NotEqual, Less, LessEqual, Greater, GreaterEqual, Plus, Minus, Times, Over, Remainder, Not, Complement}
+use Rattle.ud_model.specs.declared.operator.Operator.TheVariants.{Or, And, BitOr, BitXor, BitAnd}
+use Rattle.ud_model.specs.declared.operator.Operator.TheVariants.{Equal, NotEqual, Less, LessEqual}
+use Rattle.ud_model.specs.declared.operator.Operator.TheVariants.{Greater, GreaterEqual, Plus}
+use Rattle.ud_model.specs.declared.operator.Operator.TheVariants.{Minus, Times, Over, Remainder}
+use Rattle.ud_model.specs.declared.operator.Operator.TheVariants.{Not, Complement}
 
 -- from -2^63, or from 0 beside a `u`, to 2^63-1
 abbrev pub fits : Bool → ℤ → Bool
@@ -69,7 +77,10 @@ apply_binary_known u Plus a b = fit u (a +ℤ b)
 apply_binary_known u Minus a b = fit u (a -ℤ b)
 apply_binary_known u Times a b = fit u (a *ℤ b)
 apply_binary_known u Over a b = if is_zero b then None else fit u (int_div a b)
-apply_binary_known u Remainder a b = if is_zero b then None else if fits u (int_div a b) then fit u (int_rem a b) else None
+apply_binary_known u Remainder a b =
+    if is_zero b then None
+    else if fits u (int_div a b) then fit u (int_rem a b)
+    else None
 apply_binary_known u _ a b = None
 
 -- one known operand decides `&&` where it is 0, and `||` where it isn't
@@ -171,7 +182,8 @@ module _ (table : List Argument) where
   number_of strict u (named n arguments) = name_value table u n
   number_of strict u (is_defined n parentheses) = defined_value table n
   number_of strict u (unary o a) = apply_unary u o (number_of strict u a)
-  number_of strict u (binary o a b) = apply_binary strict u o (number_of strict u a) (number_of strict u b)
+  number_of strict u (binary o a b) =
+      apply_binary strict u o (number_of strict u a) (number_of strict u b)
   number_of strict u (parens a) = number_of strict u a
 
   -- a `u` stands in the expression

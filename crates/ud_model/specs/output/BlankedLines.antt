@@ -27,5 +27,6 @@ pub record IsBlankedLine (c : Bool) (j : Judged) (k : Line) : Type 0 where
 -- each line is printed of the line at its place
 pub data AreBlankedLines (c : Bool) : List Judged → List Line → Type 0 where
   no_line : AreBlankedLines c [] []
-  one_line : (j : Judged) (k : Line) (js : List Judged) (ks : List Line) → IsBlankedLine c j k → AreBlankedLines c js ks → AreBlankedLines c (j ∷ js) (k ∷ ks)
+  one_line : (j : Judged) (k : Line) (js : List Judged) (ks : List Line) → IsBlankedLine c j k →
+      AreBlankedLines c js ks → AreBlankedLines c (j ∷ js) (k ∷ ks)
   lost_line : (j : Judged) → j.line.ending ≡ [] → blanked c j ≡ [] → AreBlankedLines c (j ∷ []) []

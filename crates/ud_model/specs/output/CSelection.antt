@@ -12,9 +12,11 @@
 --
 -- Example: of `#if A && X`, `#elif X`, `#endif` with A undefined, the first condition is false in each C world, and the
 -- second one true or false. Of `#if 1 / 0` there is no C world, since C gives its condition no value.
-use Rattle.std.specs.Prelude.{ℕ, List, Bool, true, false, Option, Some, None, option_map, if◌then◌else◌}
+use Rattle.std.specs.Prelude.{ℕ, List, Bool, true, false, Option, Some, None, option_map}
+use Rattle.std.specs.Prelude.{if◌then◌else◌}
 use Rattle.ud_model.specs.text.Scans.{Scan, Reading}
-use Rattle.ud_model.specs.sections.Directives.{Content, cut_keyword, directive, text, content_of, test_of}
+use Rattle.ud_model.specs.sections.Directives.{Content, cut_keyword, directive, text, content_of}
+use Rattle.ud_model.specs.sections.Directives.{test_of}
 use Rattle.ud_model.specs.conditions.Table.{Argument}
 use Rattle.ud_model.specs.conditions.Expressions.{Expression, is_defined, unary}
 use Rattle.ud_model.specs.aids.Parsing.{expression_of}
@@ -31,7 +33,8 @@ use Rattle.ud_model.specs.declared.operator.Operator.TheVariants.{Not}
 abbrev pub condition_by_test : Test → List ℕ → Option Expression
 condition_by_test Nonzero after = expression_of after
 condition_by_test Defined after = option_map (λ n. is_defined n false) (sole_name after)
-condition_by_test Undefined after = option_map (λ n. unary Not (is_defined n false)) (sole_name after)
+condition_by_test Undefined after =
+    option_map (λ n. unary Not (is_defined n false)) (sole_name after)
 condition_by_test Nothing after = None
 
 -- the expression that the text after a keyword is

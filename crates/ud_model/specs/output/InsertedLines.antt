@@ -10,7 +10,8 @@
 --                               in the input; the line that comes next would have the number n
 --
 -- Example: under `-n -UA` of `x`, `#ifdef A`, `y`, `#endif`, `z` the lines `x`, `#line 5`, `z` are read, and z has number 5.
-use Rattle.std.specs.Prelude.{◌≡◌, ℕ, suc, List, [], ◌∷◌, ◌++◌, map, Bool, true, false, codes, decimal}
+use Rattle.std.specs.Prelude.{◌≡◌, ℕ, suc, List, [], ◌∷◌, ◌++◌, map, Bool, true, false, codes}
+use Rattle.std.specs.Prelude.{decimal}
 use Rattle.ud_model.specs.text.Lines.{Line, text_of, lines_of}
 use Rattle.ud_model.specs.text.Scans.{Reading, plain_scan}
 use Rattle.ud_model.specs.text.Scanning.{readings_of}
@@ -21,7 +22,10 @@ use Rattle.ud_model.specs.declared.kind.Mode.{Mode}
 
 -- the same options, with `-b` and `-n` or without
 abbrev pub with_blank_renumber : Bool → Bool → Options → Options
-with_blank_renumber b n o = record { settings = record o.settings { blank = b; renumber = n }; table = o.table }
+with_blank_renumber b n o = record {
+  settings = record o.settings { blank = b; renumber = n };
+  table = o.table;
+}
 
 abbrev pub in_mode : Mode → Line → Mode × Line
 in_mode m l = (m, l)
@@ -57,13 +61,18 @@ pub record IsPrinted (j : Judged) (r s : Reading) : Type 0 where
 pub data Counted : List Judged → List Reading → List Reading → ℕ → Type 0 where
   no_line : Counted [] [] [] 1
   -- a removed line, of which nothing is printed
-  goes : {js : List Judged} {rs ss : List Reading} {n : ℕ} → Counted js rs ss n → (j : Judged) → is_removed j.verdict ≡ true → Counted (js ++ j ∷ []) rs ss n
+  goes : {js : List Judged} {rs ss : List Reading} {n : ℕ} → Counted js rs ss n → (j : Judged) →
+      is_removed j.verdict ≡ true → Counted (js ++ j ∷ []) rs ss n
   -- a removed line that is blanked
-  blanked : {js : List Judged} {rs ss : List Reading} → (j : Judged) → Counted js rs ss j.line.number → is_removed j.verdict ≡ true →
+  blanked : {js : List Judged} {rs ss : List Reading} → (j : Judged) →
+      Counted js rs ss j.line.number → is_removed j.verdict ≡ true →
       (d : Reading) → IsBlankLine d → Counted (js ++ j ∷ []) rs (ss ++ d ∷ []) (suc j.line.number)
   -- a line that counts on
-  counts_on : {js : List Judged} {rs ss : List Reading} → (j : Judged) → Counted js rs ss j.line.number → (r s : Reading) → IsPrinted j r s →
+  counts_on : {js : List Judged} {rs ss : List Reading} → (j : Judged) →
+      Counted js rs ss j.line.number → (r s : Reading) → IsPrinted j r s →
       Counted (js ++ j ∷ []) (rs ++ r ∷ []) (ss ++ s ∷ []) (suc j.line.number)
   -- a line with which the count starts anew
-  starts_anew : {js : List Judged} {rs ss : List Reading} {n : ℕ} → Counted js rs ss n → (j : Judged) → (d : Reading) → IsNumberLine j.line.number d →
-      (r s : Reading) → IsPrinted j r s → Counted (js ++ j ∷ []) (rs ++ r ∷ []) ((ss ++ d ∷ []) ++ s ∷ []) (suc j.line.number)
+  starts_anew : {js : List Judged} {rs ss : List Reading} {n : ℕ} → Counted js rs ss n →
+      (j : Judged) → (d : Reading) → IsNumberLine j.line.number d →
+      (r s : Reading) → IsPrinted j r s →
+      Counted (js ++ j ∷ []) (rs ++ r ∷ []) ((ss ++ d ∷ []) ++ s ∷ []) (suc j.line.number)

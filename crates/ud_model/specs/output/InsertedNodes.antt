@@ -10,7 +10,8 @@
 use Rattle.std.specs.Prelude.{◌≡◌, ℕ, List, [], ◌∷◌, ◌⊎◌}
 use Rattle.ud_model.specs.text.Lines.{text_of}
 use Rattle.ud_model.specs.text.Scans.{Reading}
-use Rattle.ud_model.specs.sections.Tree.{Opener, Nodes, Groups, Elifs, nothing, text, section, conditional, otherwise, first, elif}
+use Rattle.ud_model.specs.sections.Tree.{Opener, Nodes, Groups, Elifs, nothing, text, section}
+use Rattle.ud_model.specs.sections.Tree.{conditional, otherwise, first, elif}
 use Rattle.ud_model.specs.output.InsertedLines.{IsBlankLine, IsNumberLine}
 
 -- the same bytes, seen alike
@@ -32,23 +33,32 @@ mutual
   -- the same nodes, with text lines put in
   pub data NodesWithInserted : Nodes Reading → Nodes Reading → Type 0 where
     no_nodes : NodesWithInserted nothing nothing
-    same_text : {ns ms : Nodes Reading} {r s : Reading} → NodesWithInserted ns ms → IsSame r s → NodesWithInserted (text ns r) (text ms s)
-    put_text : {ns ms : Nodes Reading} {d : Reading} → NodesWithInserted ns ms → IsInserted d → NodesWithInserted ns (text ms d)
-    same_section : {ns ms : Nodes Reading} {gs hs : Groups Reading} {r s : Reading} → NodesWithInserted ns ms → GroupsWithInserted gs hs → IsSame r s →
+    same_text : {ns ms : Nodes Reading} {r s : Reading} → NodesWithInserted ns ms → IsSame r s →
+        NodesWithInserted (text ns r) (text ms s)
+    put_text : {ns ms : Nodes Reading} {d : Reading} → NodesWithInserted ns ms → IsInserted d →
+        NodesWithInserted ns (text ms d)
+    same_section : {ns ms : Nodes Reading} {gs hs : Groups Reading} {r s : Reading} →
+        NodesWithInserted ns ms → GroupsWithInserted gs hs → IsSame r s →
         NodesWithInserted (section ns gs r) (section ms hs s)
 
   pub data GroupsWithInserted : Groups Reading → Groups Reading → Type 0 where
-    all_conditional : {es fs : Elifs Reading} → ElifsWithInserted es fs → GroupsWithInserted (conditional es) (conditional fs)
-    last_otherwise : {es fs : Elifs Reading} {r s : Reading} {ns ms : Nodes Reading} → ElifsWithInserted es fs → IsSame r s → NodesWithInserted ns ms →
+    all_conditional : {es fs : Elifs Reading} → ElifsWithInserted es fs →
+        GroupsWithInserted (conditional es) (conditional fs)
+    last_otherwise : {es fs : Elifs Reading} {r s : Reading} {ns ms : Nodes Reading} →
+        ElifsWithInserted es fs → IsSame r s → NodesWithInserted ns ms →
         GroupsWithInserted (otherwise es r ns) (otherwise fs s ms)
 
   pub data ElifsWithInserted : Elifs Reading → Elifs Reading → Type 0 where
-    same_first : {o p : Opener Reading} {ns ms : Nodes Reading} → IsSameOpener o p → NodesWithInserted ns ms → ElifsWithInserted (first o ns) (first p ms)
-    same_elif : {es fs : Elifs Reading} {o p : Opener Reading} {ns ms : Nodes Reading} → ElifsWithInserted es fs → IsSameOpener o p → NodesWithInserted ns ms →
+    same_first : {o p : Opener Reading} {ns ms : Nodes Reading} → IsSameOpener o p →
+        NodesWithInserted ns ms → ElifsWithInserted (first o ns) (first p ms)
+    same_elif : {es fs : Elifs Reading} {o p : Opener Reading} {ns ms : Nodes Reading} →
+        ElifsWithInserted es fs → IsSameOpener o p → NodesWithInserted ns ms →
         ElifsWithInserted (elif es o ns) (elif fs p ms)
 
 -- the same lines, with lines put in
 pub data LinesWithInserted : List Reading → List Reading → Type 0 where
   no_lines : LinesWithInserted [] []
-  same_line : {r s : Reading} {rs ss : List Reading} → IsSame r s → LinesWithInserted rs ss → LinesWithInserted (r ∷ rs) (s ∷ ss)
-  put_line : {d : Reading} {rs ss : List Reading} → IsInserted d → LinesWithInserted rs ss → LinesWithInserted rs (d ∷ ss)
+  same_line : {r s : Reading} {rs ss : List Reading} → IsSame r s → LinesWithInserted rs ss →
+      LinesWithInserted (r ∷ rs) (s ∷ ss)
+  put_line : {d : Reading} {rs ss : List Reading} → IsInserted d → LinesWithInserted rs ss →
+      LinesWithInserted rs (d ∷ ss)

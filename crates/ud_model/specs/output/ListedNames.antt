@@ -28,16 +28,19 @@ with_listing o = record { settings = listing_settings o.settings; table = o.tabl
 
 -- the list has the line n: whole lines stand before it, and its line feed behind it
 abbrev pub IsListed : List ℕ → List ℕ → Type 0
-IsListed n list = (before : List ℕ) × (later : List ℕ) × (partial_line before ≡ []) × (list ≡ before ++ n ++ newline ∷ later)
+IsListed n list = (before : List ℕ) × (later : List ℕ) × (partial_line before ≡ []) ×
+    (list ≡ before ++ n ++ newline ∷ later)
 
 -- m is n, or a name from which the value of n is taken
 pub data LeadsTo (table : List Argument) : List ℕ → List ℕ → Type 0 where
   itself : (n : List ℕ) → LeadsTo table n n
-  by_value : (n v m : List ℕ) → defined_text table n ≡ Some v → is_identifier v ≡ true → LeadsTo table v m → LeadsTo table n m
+  by_value : (n v m : List ℕ) → defined_text table n ≡ Some v → is_identifier v ≡ true →
+      LeadsTo table v m → LeadsTo table n m
 
 -- the tables say the same of each name that is listed, and of each to which it leads
 abbrev pub AgreeOnListed : List ℕ → List Argument → List Argument → Type 0
-AgreeOnListed list t u = (n m : List ℕ) → IsListed n list → LeadsTo t n m → entry_in t m ≡ entry_in u m
+AgreeOnListed list t u = (n m : List ℕ) → IsListed n list → LeadsTo t n m →
+    entry_in t m ≡ entry_in u m
 
 -- no symbol has this name as its value
 abbrev pub IsNoValue : List Argument → List ℕ → Type 0

@@ -18,7 +18,9 @@ use Rattle.ud_model.specs.declared.cond.Cond.{Cond}
 use Rattle.ud_model.specs.declared.cond.Cond.TheVariants.{Yes, No, Unknown}
 use Rattle.ud_model.specs.declared.verdict.Verdict.{Verdict}
 use Rattle.ud_model.specs.declared.verdict.Verdict.TheVariants.{Keep, Remove, ToIf, ToElse, ToEndif}
-use Rattle.ud_model.specs.sections.Tree.{item_with, Item, Opener, Nodes, Groups, Elifs, if_line, elif_line, else_line, endif_line, nothing, text, section, conditional, otherwise, first, elif}
+use Rattle.ud_model.specs.sections.Tree.{item_with, Item, Opener, Nodes, Groups, Elifs, if_line}
+use Rattle.ud_model.specs.sections.Tree.{elif_line, else_line, endif_line, nothing, text, section}
+use Rattle.ud_model.specs.sections.Tree.{conditional, otherwise, first, elif}
 use Rattle.ud_model.specs.sections.Pruning.{Part, an_if, an_elif, Mark, first_kept_verdict}
 
 -- a line of the output: the line that it comes from, and what became of that
@@ -56,7 +58,8 @@ module _ {L : Type 0} where
   abbrev pub with_group : KeptGroups L → Part → Opener L → Cond → Nodes (Edited L) → KeptGroups L
   with_group none_kept part o Yes ns = replaced ns
   with_group none_kept part o No ns = none_kept
-  with_group none_kept part o Unknown ns = kept_groups (first (edited_opener (first_kept_verdict part) o) ns)
+  with_group none_kept part o Unknown ns =
+      kept_groups (first (edited_opener (first_kept_verdict part) o) ns)
   with_group (replaced ms) part o c ns = replaced ms
   with_group (kept_groups es) part o Yes ns = ended es (edited ToElse o.line) ns None
   with_group (kept_groups es) part o No ns = kept_groups es

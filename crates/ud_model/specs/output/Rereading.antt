@@ -41,7 +41,8 @@ pub record IsPlain (o : Options) : Type 0 where
 -- these items have this tree, and each line was read in the mode that the lines before give
 pub data AreRead (o : Options) : List (Item Reading) → Tree Reading → Type 0 where
   no_items : AreRead o [] (closed nothing)
-  one_item : (xs : List (Item Reading)) (t : Tree Reading) → AreRead o xs t → (l : Line) (u : Tree Reading) →
+  one_item : (xs : List (Item Reading)) (t : Tree Reading) → AreRead o xs t →
+      (l : Line) (u : Tree Reading) →
       lines u ≡ xs ++ next_item o xs t l ∷ [] → AreRead o (xs ++ next_item o xs t l ∷ []) u
 
 -- the text has this tree

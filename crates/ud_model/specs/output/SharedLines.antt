@@ -13,13 +13,19 @@ use Rattle.ud_model.specs.answer.Printing.{Judged, piece_by}
 
 -- the same options, and `-c`
 abbrev pub with_complement : Options → Options
-with_complement o = record { settings = record o.settings { complement = true }; table = o.table }
+with_complement o = record {
+  settings = record o.settings { complement = true };
+  table =
+      o.table;
+}
 
 -- each line is printed in a or in b, and not in both
 pub data ShareLines : List Judged → List ℕ → List ℕ → Type 0 where
   no_line : ShareLines [] [] []
   -- a line that isn't removed, perhaps edited
-  stays : {j : Judged} {js : List Judged} {a b : List ℕ} → is_removed j.verdict ≡ false → ShareLines js a b →
+  stays : {j : Judged} {js : List Judged} {a b : List ℕ} → is_removed j.verdict ≡ false →
+      ShareLines js a b →
       ShareLines (j ∷ js) (piece_by j.verdict j.keyword j.line ++ a) b
   -- a removed one
-  goes : {j : Judged} {js : List Judged} {a b : List ℕ} → is_removed j.verdict ≡ true → ShareLines js a b → ShareLines (j ∷ js) a (text_of j.line ++ b)
+  goes : {j : Judged} {js : List Judged} {a b : List ℕ} → is_removed j.verdict ≡ true →
+      ShareLines js a b → ShareLines (j ∷ js) a (text_of j.line ++ b)

@@ -13,7 +13,8 @@
 use Rattle.std.specs.Prelude.{◌≡◌, List, [], ◌∷◌, ◌++◌, Bool, true, false, Option, Some, None}
 use Rattle.ud_model.specs.declared.cond.Cond.{Cond}
 use Rattle.ud_model.specs.declared.cond.Cond.TheVariants.{Yes, No, Unknown}
-use Rattle.ud_model.specs.sections.Tree.{Opener, Nodes, Groups, Elifs, nothing, section, conditional, otherwise, first, elif}
+use Rattle.ud_model.specs.sections.Tree.{Opener, Nodes, Groups, Elifs, nothing, section}
+use Rattle.ud_model.specs.sections.Tree.{conditional, otherwise, first, elif}
 use Rattle.ud_model.specs.sections.Tree as tree
 
 -- the truth of an opener, by its line
@@ -51,7 +52,8 @@ module _ {L : Type 0} (w : World L) where
     -- the lines of the first group whose condition is true, if there is one
     pub selected_elifs : Elifs L → Option (List L)
     selected_elifs (first o ns) = where_true (w o.line) (selected ns)
-    selected_elifs (elif es o ns) = or_else (selected_elifs es) (where_true (w o.line) (selected ns))
+    selected_elifs (elif es o ns) =
+        or_else (selected_elifs es) (where_true (w o.line) (selected ns))
 
 module _ {L : Type 0} (w : World L) (Is : Opener L → Type 0) where
   abbrev mutual
@@ -64,12 +66,14 @@ module _ {L : Type 0} (w : World L) (Is : Opener L → Type 0) where
     -- the group of an `#else` is processed if none before it is
     pub GroupsReached : Groups L → Type 0
     GroupsReached (conditional es) = ElifsReached es
-    GroupsReached (otherwise es l ns) = ElifsReached es × (selected_elifs w es ≡ None → EachReached ns)
+    GroupsReached (otherwise es l ns) = ElifsReached es ×
+        (selected_elifs w es ≡ None → EachReached ns)
 
     -- an opener is reached if no group before its own is processed, and its group is processed if its condition is true
     pub ElifsReached : Elifs L → Type 0
     ElifsReached (first o ns) = Is o × (w o.line ≡ true → EachReached ns)
-    ElifsReached (elif es o ns) = ElifsReached es × (selected_elifs w es ≡ None → Is o × (w o.line ≡ true → EachReached ns))
+    ElifsReached (elif es o ns) = ElifsReached es ×
+        (selected_elifs w es ≡ None → Is o × (w o.line ≡ true → EachReached ns))
 
 module _ {L : Type 0} (w : World L) where
   -- the world has the truth of a condition that is decided

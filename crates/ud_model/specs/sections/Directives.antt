@@ -7,13 +7,15 @@
 --   test_of kind         what makes its condition true
 --
 -- Example: `  # ifdef A` is an `#ifdef` whose keyword lies at 4 and has 5 bytes, and ` A` follows it.
-use Rattle.std.specs.Prelude.{ℕ, ◌-◌, ◌==◌, List, [], ◌∷◌, length, Bool, true, false, not, ◌&&◌, ◌||◌, if◌then◌else◌, Option, Some, None, bytes_eq, codes}
+use Rattle.std.specs.Prelude.{ℕ, ◌-◌, ◌==◌, List, [], ◌∷◌, length, Bool, true, false, not, ◌&&◌}
+use Rattle.std.specs.Prelude.{◌||◌, if◌then◌else◌, Option, Some, None, bytes_eq, codes}
 use Rattle.std.specs.List.{list_any, starts_with}
 use Rattle.std.specs.Prelude.{nat_eq}
 use Rattle.ud_model.specs.text.Bytes.{skip_white, leading_word, skip_word, are_word_bytes}
 use Rattle.ud_model.specs.text.Scans.{Scan}
 use Rattle.ud_model.specs.declared.kind.Kind.{Kind}
-use Rattle.ud_model.specs.declared.kind.Kind.TheVariants.{If, Ifdef, Ifndef, Elif, Elifdef, Elifndef, Else, Endif}
+use Rattle.ud_model.specs.declared.kind.Kind.TheVariants.{If, Ifdef, Ifndef, Elif, Elifdef}
+use Rattle.ud_model.specs.declared.kind.Kind.TheVariants.{Elifndef, Else, Endif}
 use Rattle.ud_model.specs.declared.kind.Role.{Role}
 use Rattle.ud_model.specs.declared.kind.Role.TheVariants.{IfGroup, ElifGroup, ElseGroup, EndifLine}
 use Rattle.ud_model.specs.declared.kind.Test.{Test}
@@ -105,7 +107,8 @@ is_continued_outside_comment scan = scan.spliced && is_outside scan.comment
 
 -- this word is a front of a keyword, or a whole one
 abbrev pub is_prefix_of_keyword : List ℕ → Bool
-is_prefix_of_keyword word = list_any (λ (row : List ℕ × Kind). starts_with nat_eq row.0 word) keywords
+is_prefix_of_keyword word = list_any (λ (row : List ℕ × Kind). starts_with nat_eq row.0 word)
+    keywords
 
 -- a nonempty run of word bytes, up to the end, that begins a keyword
 abbrev pub is_keyword_prefix : List ℕ → Bool
@@ -116,12 +119,14 @@ is_keyword_prefix (b ∷ bs) = are_word_bytes (b ∷ bs) && is_prefix_of_keyword
 -- a single `/` follows, which may begin a comment; or it is cut off within a word that may become a keyword
 abbrev pub may_split_keyword : Scan → List ℕ → Bool
 may_split_keyword scan [] = true
-may_split_keyword scan (b ∷ bs) = is_continued_outside_comment scan && (bytes_eq (b ∷ bs) (47 ∷ []) || is_keyword_prefix (b ∷ bs))
+may_split_keyword scan (b ∷ bs) = is_continued_outside_comment scan &&
+    (bytes_eq (b ∷ bs) (47 ∷ []) || is_keyword_prefix (b ∷ bs))
 
 abbrev pub has_split_keyword : Scan → Option (List ℕ) → Bool
 has_split_keyword scan None = false
 has_split_keyword scan (Some rest) =
-    scan.fresh && scan.joins_after && not (is_in_line scan.comment) && may_split_keyword scan (skip_white rest)
+    scan.fresh && scan.joins_after && not (is_in_line scan.comment) &&
+    may_split_keyword scan (skip_white rest)
 
 -- the directive whose keyword stands in front of these bytes, which end the masked line
 abbrev pub directive_at : Scan → List ℕ → Option Kind → Content
@@ -136,10 +141,13 @@ directive_at scan rest (Some kind) = directive (record {
 abbrev pub content_after_hash : Scan → Option (List ℕ) → Content
 content_after_hash scan None = text
 content_after_hash scan (Some rest) =
-    if scan.fresh then directive_at scan (skip_white rest) (kind_of (leading_word (skip_white rest))) else text
+    if scan.fresh then directive_at scan (skip_white rest)
+    (kind_of (leading_word (skip_white rest)))
+    else text
 
 -- what a scan carries: a directive where the line is fresh and its masked text is white space, `#`, white space, and a
 -- longest run of word bytes that is a keyword
 abbrev pub content_of : Scan → Content
 content_of scan =
-    if has_split_keyword scan (skip_hash_if_fresh scan.masked) then cut_keyword else content_after_hash scan (skip_hash_if_fresh scan.masked)
+    if has_split_keyword scan (skip_hash_if_fresh scan.masked) then cut_keyword
+    else content_after_hash scan (skip_hash_if_fresh scan.masked)

@@ -9,11 +9,14 @@
 --   end_fault xs t        the fault of a text that ends after these lines
 --
 -- The verdicts are those of the text up to the line; no later line changes them.
-use Rattle.std.specs.Prelude.{◌≡◌, ℕ, ◌<◌, List, [], ◌∷◌, ◌++◌, length, Bool, true, false, not, ◌&&◌, ◌||◌, IsTrue, Option, Some, None}
+use Rattle.std.specs.Prelude.{◌≡◌, ℕ, ◌<◌, List, [], ◌∷◌, ◌++◌, length, Bool, true, false, not}
+use Rattle.std.specs.Prelude.{◌&&◌, ◌||◌, IsTrue, Option, Some, None}
 use Rattle.ud_model.specs.text.Lines.{Line, text_of}
 use Rattle.ud_model.specs.text.Scans.{Reading, is_spanning}
 use Rattle.ud_model.specs.sections.Directives.{Content, cut_keyword, directive, text, content_of}
-use Rattle.ud_model.specs.sections.Tree.{Item, Opener, Tree, closed, nothing, text_line, if_line, elif_line, else_line, endif_line, lines, HasTree, depth, innermost}
+use Rattle.ud_model.specs.sections.Tree.{Item, Opener, Tree, closed, nothing, text_line, if_line}
+use Rattle.ud_model.specs.sections.Tree.{elif_line, else_line, endif_line, lines, HasTree, depth}
+use Rattle.ud_model.specs.sections.Tree.{innermost}
 use Rattle.ud_model.specs.sections.Pruning.{Mark, marks, is_removed}
 use Rattle.ud_model.specs.sections.Items.{Options, reading_of, line_of, next_item}
 use Rattle.ud_model.specs.declared.kind.CommentAt.{CommentAt}
@@ -100,7 +103,8 @@ is_obfuscated before x m = is_obfuscated_after (ends_removed before) x m
 
 -- the line x has these marks before it, and this one
 abbrev pub MarksWith : List (Item Reading) → Item Reading → List Mark → Mark → Type 0
-MarksWith xs x before m = (t : Tree Reading) × (lines t ≡ xs ++ x ∷ []) × (marks t ≡ before ++ m ∷ [])
+MarksWith xs x before m = (t : Tree Reading) × (lines t ≡ xs ++ x ∷ []) ×
+    (marks t ≡ before ++ m ∷ [])
 
 abbrev pub Holds : List (Item Reading) → Item Reading → Case → Type 0
 Holds xs x past_last = TEXT_LINES < (line_of x).number
@@ -108,7 +112,8 @@ Holds xs x too_long = LINE_BYTES < length (text_of (line_of x))
 Holds xs x cut = IsTrue (is_cut (content_of (reading_of x).scan))
 Holds xs x out_of_place = HasTree xs × ¬ (HasTree (xs ++ x ∷ []))
 Holds xs x too_deep = (t : Tree Reading) × (lines t ≡ xs ++ x ∷ []) × (OPEN_SECTIONS < depth t)
-Holds xs x obfuscated_case = (before : List Mark) × (m : Mark) × MarksWith xs x before m × IsTrue (is_obfuscated before x m)
+Holds xs x obfuscated_case = (before : List Mark) × (m : Mark) × MarksWith xs x before m ×
+    IsTrue (is_obfuscated before x m)
 
 -- none of these cases holds
 abbrev pub NoneHolds : List (Item Reading) → Item Reading → List Case → Type 0
@@ -142,7 +147,8 @@ pub record FaultOf (xs : List (Item Reading)) (x : Item Reading) (f : Fault) : T
 -- lines that were taken one by one without a fault, and their tree
 pub data AreFaultless (o : Options) : List (Item Reading) → Tree Reading → Type 0 where
   no_lines : AreFaultless o [] (closed nothing)
-  one_more : (xs : List (Item Reading)) (t : Tree Reading) → AreFaultless o xs t → (l : Line) (u : Tree Reading) →
+  one_more : (xs : List (Item Reading)) (t : Tree Reading) → AreFaultless o xs t →
+      (l : Line) (u : Tree Reading) →
       lines u ≡ xs ++ next_item o xs t l ∷ [] → NoneHolds xs (next_item o xs t l) cases →
       AreFaultless o (xs ++ next_item o xs t l ∷ []) u
 

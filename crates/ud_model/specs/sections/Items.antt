@@ -12,10 +12,12 @@ use Rattle.std.specs.Prelude.{List, map, Bool, true, false, ◌||◌}
 use Rattle.ud_model.specs.text.Lines.{Line}
 use Rattle.ud_model.specs.text.Scans.{Reading}
 use Rattle.ud_model.specs.text.Scanning.{scan_after}
-use Rattle.ud_model.specs.sections.Directives.{Content, cut_keyword, directive, text, content_of, role_of}
+use Rattle.ud_model.specs.sections.Directives.{Content, cut_keyword, directive, text, content_of}
+use Rattle.ud_model.specs.sections.Directives.{role_of}
 use Rattle.ud_model.specs.conditions.Table.{Argument}
 use Rattle.ud_model.specs.conditions.Conditions.{Decision, Rules, decision_on}
-use Rattle.ud_model.specs.sections.Tree.{Item, Opener, Tree, text_line, if_line, elif_line, else_line, endif_line, is_ignoring}
+use Rattle.ud_model.specs.sections.Tree.{Item, Opener, Tree, text_line, if_line, elif_line}
+use Rattle.ud_model.specs.sections.Tree.{else_line, endif_line, is_ignoring}
 use Rattle.ud_model.specs.declared.settings.Settings.{Settings}
 use Rattle.ud_model.specs.declared.kind.Mode.{Mode}
 use Rattle.ud_model.specs.declared.kind.Mode.TheVariants.{C, Plain}
@@ -44,7 +46,8 @@ directive_item r EndifLine d = endif_line r
 abbrev pub item_by : Options → Reading → Content → Item Reading
 item_by o r cut_keyword = text_line r
 item_by o r text = text_line r
-item_by o r (directive d) = directive_item r (role_of d.kind) (decision_on r.scan d o.table (rules_of o.settings))
+item_by o r (directive d) = directive_item r (role_of d.kind)
+    (decision_on r.scan d o.table (rules_of o.settings))
 
 abbrev pub item_of : Options → Reading → Item Reading
 item_of o r = item_by o r (content_of r.scan)
@@ -69,7 +72,12 @@ mode_after o t = mode_by (o.settings.plain || is_ignoring t)
 
 -- a line as it is read in this mode after these
 abbrev pub read_after : List (Item Reading) → Mode → Line → Reading
-read_after xs mode l = record { line = l; mode = mode; scan = scan_after (map reading_of xs) mode l }
+read_after xs mode l = record {
+  line = l;
+  mode = mode;
+  scan =
+      scan_after (map reading_of xs) mode l;
+}
 
 abbrev pub next_item : Options → List (Item Reading) → Tree Reading → Line → Item Reading
 next_item o xs t l = item_of o (read_after xs (mode_after o t) l)

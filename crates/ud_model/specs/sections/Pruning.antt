@@ -19,7 +19,9 @@ use Rattle.ud_model.specs.declared.cond.Cond.{Cond}
 use Rattle.ud_model.specs.declared.cond.Cond.TheVariants.{Yes, No, Unknown}
 use Rattle.ud_model.specs.declared.verdict.Verdict.{Verdict}
 use Rattle.ud_model.specs.declared.verdict.Verdict.TheVariants.{Keep, Remove, ToIf, ToElse, ToEndif}
-use Rattle.ud_model.specs.sections.Tree.{Nodes, Groups, Elifs, Head, Tree, nothing, text, section, conditional, otherwise, first, elif, if_head, elif_head, else_head, closed, open_section}
+use Rattle.ud_model.specs.sections.Tree.{Nodes, Groups, Elifs, Head, Tree, nothing, text, section}
+use Rattle.ud_model.specs.sections.Tree.{conditional, otherwise, first, elif, if_head, elif_head}
+use Rattle.ud_model.specs.sections.Tree.{else_head, closed, open_section}
 
 -- what opens a group: `#if`, `#ifdef` or `#ifndef`; `#elif`; `#else`
 pub data Part : Type 0 where
@@ -172,27 +174,33 @@ module _ {L : Type 0} where
     marks_of_nodes kept nothing = []
     marks_of_nodes kept (text ns l) = marks_of_nodes kept ns ++ marked kept Keep ∷ []
     marks_of_nodes kept (section ns gs e) =
-        (marks_of_nodes kept ns ++ marks_of_groups kept (conds_of_groups gs) gs) ++ marked kept (endif_verdict (conds_of_groups gs)) ∷ []
+        (marks_of_nodes kept ns ++ marks_of_groups kept (conds_of_groups gs) gs) ++
+        marked kept (endif_verdict (conds_of_groups gs)) ∷ []
 
     pub marks_of_groups : Bool → List Cond → Groups L → List Mark
     marks_of_groups kept all (conditional es) = marks_of_elifs kept all es
     marks_of_groups kept all (otherwise es l ns) =
-        (marks_of_elifs kept all es ++ marked kept (opener_verdict all (conds_of_elifs es) an_else Yes) ∷ [])
+        (marks_of_elifs kept all es ++
+        marked kept (opener_verdict all (conds_of_elifs es) an_else Yes) ∷ [])
         ++ marks_of_nodes (kept && is_kept (conds_of_elifs es) Yes) ns
 
     pub marks_of_elifs : Bool → List Cond → Elifs L → List Mark
     marks_of_elifs kept all (first o ns) =
-        (marked kept (opener_verdict all [] an_if o.cond) ∷ []) ++ marks_of_nodes (kept && is_kept [] o.cond) ns
+        (marked kept (opener_verdict all [] an_if o.cond) ∷ []) ++
+        marks_of_nodes (kept && is_kept [] o.cond) ns
     marks_of_elifs kept all (elif es o ns) =
-        (marks_of_elifs kept all es ++ marked kept (opener_verdict all (conds_of_elifs es) an_elif o.cond) ∷ [])
+        (marks_of_elifs kept all es ++
+        marked kept (opener_verdict all (conds_of_elifs es) an_elif o.cond) ∷ [])
         ++ marks_of_nodes (kept && is_kept (conds_of_elifs es) o.cond) ns
 
   abbrev pub marks_of_head : Bool → List Cond → Head L → List Mark
   marks_of_head kept all (if_head o) = marked kept (opener_verdict all [] an_if o.cond) ∷ []
   marks_of_head kept all (elif_head es o) =
-      marks_of_elifs kept all es ++ marked kept (opener_verdict all (conds_of_elifs es) an_elif o.cond) ∷ []
+      marks_of_elifs kept all es ++ marked kept
+      (opener_verdict all (conds_of_elifs es) an_elif o.cond) ∷ []
   marks_of_head kept all (else_head es l) =
-      marks_of_elifs kept all es ++ marked kept (opener_verdict all (conds_of_elifs es) an_else Yes) ∷ []
+      marks_of_elifs kept all es ++ marked kept (opener_verdict all (conds_of_elifs es) an_else Yes)
+      ∷ []
 
   -- the group that a head opens is kept
   abbrev pub is_inside_kept : Head L → Bool
@@ -204,7 +212,8 @@ module _ {L : Type 0} where
   abbrev pub marks_in : Bool → Tree L → List Mark
   marks_in kept (closed ns) = marks_of_nodes kept ns
   marks_in kept (open_section ns h t) =
-      (marks_of_nodes kept ns ++ marks_of_head kept (conds_of_head h) h) ++ marks_in (kept && is_inside_kept h) t
+      (marks_of_nodes kept ns ++ marks_of_head kept (conds_of_head h) h) ++
+      marks_in (kept && is_inside_kept h) t
 
   -- the text itself is a kept place
   abbrev pub marks : Tree L → List Mark

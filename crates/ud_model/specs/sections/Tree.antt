@@ -10,7 +10,8 @@
 --   with_lines f ns   the same nodes with another line in place of each
 --
 -- Each type is written from left to right, so a longer text adds to the end: nodes and then a line, groups and then a group.
-use Rattle.std.specs.Prelude.{◌≡◌, ℕ, suc, List, [], ◌∷◌, ◌++◌, Bool, false, ◌||◌, Option, Some, None}
+use Rattle.std.specs.Prelude.{◌≡◌, ℕ, suc, List, [], ◌∷◌, ◌++◌, Bool, false, ◌||◌, Option, Some}
+use Rattle.std.specs.Prelude.{None}
 use Rattle.ud_model.specs.declared.cond.Cond.{Cond}
 
 -- a directive with a condition, and whether its section is plain text
@@ -62,11 +63,13 @@ module _ {L : Type 0} where
     pub lines_of_nodes : Nodes L → List (Item L)
     lines_of_nodes nothing = []
     lines_of_nodes (text ns l) = lines_of_nodes ns ++ text_line l ∷ []
-    lines_of_nodes (section ns gs e) = (lines_of_nodes ns ++ lines_of_groups gs) ++ endif_line e ∷ []
+    lines_of_nodes (section ns gs e) =
+        (lines_of_nodes ns ++ lines_of_groups gs) ++ endif_line e ∷ []
 
     pub lines_of_groups : Groups L → List (Item L)
     lines_of_groups (conditional es) = lines_of_elifs es
-    lines_of_groups (otherwise es l ns) = (lines_of_elifs es ++ else_line l ∷ []) ++ lines_of_nodes ns
+    lines_of_groups (otherwise es l ns) =
+        (lines_of_elifs es ++ else_line l ∷ []) ++ lines_of_nodes ns
 
     pub lines_of_elifs : Elifs L → List (Item L)
     lines_of_elifs (first o ns) = (if_line o ∷ []) ++ lines_of_nodes ns
@@ -137,4 +140,5 @@ module _ {L M : Type 0} (f : L → M) where
 
     pub elifs_with_lines : Elifs L → Elifs M
     elifs_with_lines (first o ns) = first (opener_with_line f o) (with_lines ns)
-    elifs_with_lines (elif es o ns) = elif (elifs_with_lines es) (opener_with_line f o) (with_lines ns)
+    elifs_with_lines (elif es o ns) =
+        elif (elifs_with_lines es) (opener_with_line f o) (with_lines ns)

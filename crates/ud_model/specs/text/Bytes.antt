@@ -10,7 +10,8 @@
 --   leading_word t    the longest run of word bytes in front of t; skip_word t is what follows it
 --
 -- Bytes from 128 on and NUL are ordinary bytes that belong to no word.
-use Rattle.std.specs.Prelude.{ℕ, List, [], ◌∷◌, ◌==◌, nat_le, Bool, true, false, not, ◌&&◌, ◌||◌, if◌then◌else◌}
+use Rattle.std.specs.Prelude.{ℕ, List, [], ◌∷◌, ◌==◌, nat_le, Bool, true, false, not, ◌&&◌, ◌||◌}
+use Rattle.std.specs.Prelude.{if◌then◌else◌}
 
 abbrev pub newline : ℕ
 newline = 10

@@ -14,7 +14,8 @@
 -- comment, end before the new-line. A new-line inside a block comment doesn't end the logical line.
 --
 -- Example: `a/*b` is cut into the single byte `a` and a block comment of three bytes, and is shown as `a` and three spaces.
-use Rattle.std.specs.Prelude.{◌≡◌, ◌≢◌, ℕ, zero, suc, ◌==◌, List, [], ◌∷◌, ◌++◌, drop, Bool, true, false, ◌&&◌, ◌||◌, if◌then◌else◌}
+use Rattle.std.specs.Prelude.{◌≡◌, ◌≢◌, ℕ, zero, suc, ◌==◌, List, [], ◌∷◌, ◌++◌, drop, Bool, true}
+use Rattle.std.specs.Prelude.{false, ◌&&◌, ◌||◌, if◌then◌else◌}
 use Rattle.ud_model.specs.text.Bytes.{newline, slash, star, backslash, space, is_quote}
 use Rattle.ud_model.specs.text.Lines.{NoNewline}
 
@@ -51,29 +52,42 @@ IsLineEnd (a ∷ rest) = a ≡ newline
 -- after it, which is no new-line.
 pub data IsLiteralBody (quote : ℕ) : List ℕ → Type 0 where
   nothing : IsLiteralBody quote []
-  plain : {a : ℕ} {rest : List ℕ} → a ≢ newline → a ≢ quote → a ≢ backslash → IsLiteralBody quote rest → IsLiteralBody quote (a ∷ rest)
-  passed : {b : ℕ} {rest : List ℕ} → b ≢ newline → IsLiteralBody quote rest → IsLiteralBody quote (backslash ∷ b ∷ rest)
+  plain : {a : ℕ} {rest : List ℕ} → a ≢ newline → a ≢ quote → a ≢ backslash →
+      IsLiteralBody quote rest → IsLiteralBody quote (a ∷ rest)
+  passed : {b : ℕ} {rest : List ℕ} → b ≢ newline → IsLiteralBody quote rest →
+      IsLiteralBody quote (backslash ∷ b ∷ rest)
 
 -- These bytes are a piece of this kind where the rest of the text stands after them.
 pub data IsLexeme (bytes rest : List ℕ) : LexemeKind → Type 0 where
   -- from `/*` to the first `*/` that starts after those two bytes
-  closed_comment : (inside : List ℕ) → bytes ≡ slash ∷ star ∷ (inside ++ star ∷ slash ∷ []) → NoClose (inside ++ star ∷ []) → IsLexeme bytes rest block_comment
+  closed_comment : (inside : List ℕ) → bytes ≡ slash ∷ star ∷ (inside ++ star ∷ slash ∷ []) →
+      NoClose (inside ++ star ∷ []) → IsLexeme bytes rest block_comment
   -- from `/*` to the end of the text
-  open_comment : (inside : List ℕ) → bytes ≡ slash ∷ star ∷ inside → NoClose inside → rest ≡ [] → IsLexeme bytes rest block_comment
+  open_comment : (inside : List ℕ) → bytes ≡ slash ∷ star ∷ inside → NoClose inside → rest ≡ [] →
+      IsLexeme bytes rest block_comment
   -- from `//` up to the new-line
-  to_line_end : (inside : List ℕ) → bytes ≡ slash ∷ slash ∷ inside → NoNewline inside → IsLineEnd rest → IsLexeme bytes rest line_comment
+  to_line_end : (inside : List ℕ) → bytes ≡ slash ∷ slash ∷ inside → NoNewline inside →
+      IsLineEnd rest → IsLexeme bytes rest line_comment
   -- from a quote to the same quote
-  closed_literal : (quote : ℕ) (inside : List ℕ) → is_quote quote ≡ true → bytes ≡ quote ∷ (inside ++ quote ∷ []) → IsLiteralBody quote inside → IsLexeme bytes rest literal
+  closed_literal : (quote : ℕ) (inside : List ℕ) → is_quote quote ≡ true →
+      bytes ≡ quote ∷ (inside ++ quote ∷ []) → IsLiteralBody quote inside →
+      IsLexeme bytes rest literal
   -- from a quote up to the new-line; its last byte may be a backslash
-  open_literal : (quote : ℕ) (inside : List ℕ) → is_quote quote ≡ true → bytes ≡ quote ∷ inside → IsLiteralBody quote inside → IsLineEnd rest → IsLexeme bytes rest literal
-  open_at_backslash : (quote : ℕ) (inside : List ℕ) → is_quote quote ≡ true → bytes ≡ quote ∷ (inside ++ backslash ∷ []) → IsLiteralBody quote inside → IsLineEnd rest → IsLexeme bytes rest literal
+  open_literal : (quote : ℕ) (inside : List ℕ) → is_quote quote ≡ true → bytes ≡ quote ∷ inside →
+      IsLiteralBody quote inside → IsLineEnd rest → IsLexeme bytes rest literal
+  open_at_backslash : (quote : ℕ) (inside : List ℕ) → is_quote quote ≡ true →
+      bytes ≡ quote ∷ (inside ++ backslash ∷ []) → IsLiteralBody quote inside → IsLineEnd rest →
+      IsLexeme bytes rest literal
   -- a byte at which neither a comment nor a literal begins
-  single_byte : (b : ℕ) → bytes ≡ b ∷ [] → is_quote b ≡ false → ((b == slash) && (starts_with_byte star rest || starts_with_byte slash rest)) ≡ false → IsLexeme bytes rest single
+  single_byte : (b : ℕ) → bytes ≡ b ∷ [] → is_quote b ≡ false →
+      ((b == slash) && (starts_with_byte star rest || starts_with_byte slash rest)) ≡ false →
+      IsLexeme bytes rest single
 
 -- these are the pieces of the text, one after another, and they make it up
 abbrev pub AreLexemes : List Lexeme → List ℕ → Type 0
 AreLexemes [] text = text ≡ []
-AreLexemes (p ∷ pieces) text = (rest : List ℕ) × (text ≡ p.bytes ++ rest) × IsLexeme p.bytes rest p.kind × AreLexemes pieces rest
+AreLexemes (p ∷ pieces) text = (rest : List ℕ) × (text ≡ p.bytes ++ rest) ×
+    IsLexeme p.bytes rest p.kind × AreLexemes pieces rest
 
 -- a byte, and what the piece is that it lies in
 pub record Cell : Type 0 where
@@ -93,7 +107,9 @@ cells_of (p ∷ pieces) = cells_in p.kind p.bytes ++ cells_of pieces
 -- how many bytes of a block comment stand after its `/*`: up to the first `*/`, or all
 abbrev pub comment_size : List ℕ → ℕ
 comment_size [] = 0
-comment_size (a ∷ rest) = if (a == star) && starts_with_byte slash rest then 2 else suc (comment_size rest)
+comment_size (a ∷ rest) =
+    if (a == star) && starts_with_byte slash rest then 2
+    else suc (comment_size rest)
 
 -- how many bytes of a line comment stand after its `//`: up to the new-line, or all
 abbrev pub line_comment_size : List ℕ → ℕ
@@ -105,7 +121,10 @@ line_comment_size (a ∷ rest) = if a == newline then 0 else suc (line_comment_s
 abbrev pub literal_size : ℕ → Bool → List ℕ → ℕ
 literal_size quote behind_backslash [] = 0
 literal_size quote true (a ∷ rest) = if a == newline then 0 else suc (literal_size quote false rest)
-literal_size quote false (a ∷ rest) = if a == newline then 0 else if a == quote then 1 else suc (literal_size quote (a == backslash) rest)
+literal_size quote false (a ∷ rest) =
+    if a == newline then 0
+    else if a == quote then 1
+    else suc (literal_size quote (a == backslash) rest)
 
 -- how far a piece reaches: its kind, and how many bytes it has after its first
 pub record Extent : Type 0 where
@@ -115,8 +134,10 @@ pub record Extent : Type 0 where
 -- the piece that begins with this byte, where this rest of the text follows: the first of these that fits
 unfoldable pub lexeme_at : ℕ → List ℕ → Extent
 lexeme_at a rest =
-    if (a == slash) && starts_with_byte star rest then record { kind = block_comment; more = suc (comment_size (drop 1 rest)) }
-    else if (a == slash) && starts_with_byte slash rest then record { kind = line_comment; more = suc (line_comment_size (drop 1 rest)) }
+    if (a == slash) && starts_with_byte star rest
+    then record { kind = block_comment; more = suc (comment_size (drop 1 rest)) }
+    else if (a == slash) && starts_with_byte slash rest
+    then record { kind = line_comment; more = suc (line_comment_size (drop 1 rest)) }
     else if is_quote a then record { kind = literal; more = literal_size a false rest }
     else record { kind = single; more = 0 }
 

@@ -8,7 +8,8 @@
 --   lines_of text              the lines of a text that has ended, each with body, ending and number; line k has the number k
 --
 -- Example: "a\r\nb" has the lines "a" with the ending "\r\n" and number 1, and "b" without an ending and number 2.
-use Rattle.std.specs.Prelude.{◌≡◌, ◌≢◌, ℕ, suc, ◌-◌, ◌==◌, nat_eq, List, [], ◌∷◌, ◌++◌, length, take, if◌then◌else◌, ◌⊎◌, Bool, true, ◌||◌, bytes_eq}
+use Rattle.std.specs.Prelude.{◌≡◌, ◌≢◌, ℕ, suc, ◌-◌, ◌==◌, nat_eq, List, [], ◌∷◌, ◌++◌, length}
+use Rattle.std.specs.Prelude.{take, if◌then◌else◌, ◌⊎◌, Bool, true, ◌||◌, bytes_eq}
 use Rattle.std.specs.List.{concat, ends_with}
 use Rattle.ud_model.specs.text.Bytes.{newline, carriage_return}
 
@@ -59,7 +60,9 @@ prepend_to_first b (l ∷ ls) rest = record { whole = (b ∷ l) ∷ ls; rest = r
 
 -- a byte in front of these parts
 abbrev pub prepend_byte : ℕ → SplitLines → SplitLines
-prepend_byte b parts = if b == newline then record { whole = (newline ∷ []) ∷ parts.whole; rest = parts.rest } else prepend_to_first b parts.whole parts.rest
+prepend_byte b parts =
+    if b == newline then record { whole = (newline ∷ []) ∷ parts.whole; rest = parts.rest }
+    else prepend_to_first b parts.whole parts.rest
 
 -- the parts of a text
 unfoldable pub split_lines : List ℕ → SplitLines
@@ -83,12 +86,16 @@ texts_of text = whole_lines text ++ last_line (partial_line text)
 
 -- the ending of a line: `\r\n` where it ends so, else `\n` where it ends so, else nothing
 abbrev pub ending_of : List ℕ → List ℕ
-ending_of line = if ends_with nat_eq line (carriage_return ∷ newline ∷ []) then carriage_return ∷ newline ∷ [] else if ends_with nat_eq line (newline ∷ []) then newline ∷ [] else []
+ending_of line =
+    if ends_with nat_eq line (carriage_return ∷ newline ∷ []) then carriage_return ∷ newline ∷ []
+    else if ends_with nat_eq line (newline ∷ []) then newline ∷ []
+    else []
 
 -- what may end a line: `\r\n`, `\n` or nothing
 abbrev pub is_ending : List ℕ → Bool
 is_ending [] = true
-is_ending (b ∷ bs) = bytes_eq (b ∷ bs) (newline ∷ []) || bytes_eq (b ∷ bs) (carriage_return ∷ newline ∷ [])
+is_ending (b ∷ bs) = bytes_eq (b ∷ bs) (newline ∷ []) ||
+    bytes_eq (b ∷ bs) (carriage_return ∷ newline ∷ [])
 
 -- a line of a text: its body, its ending and its number from 1
 pub record Line : Type 0 where
@@ -102,7 +109,12 @@ text_of line = line.body ++ line.ending
 
 -- the line of this number and this text: the body is what is left without the ending
 abbrev pub line_at : ℕ → List ℕ → Line
-line_at number text = record { body = take (length text - length (ending_of text)) text; ending = ending_of text; number = number }
+line_at number text = record {
+  body = take (length text - length (ending_of text)) text;
+  ending =
+      ending_of text;
+  number = number;
+}
 
 -- these lines, numbered from here on
 abbrev pub numbered_from : ℕ → List (List ℕ) → List Line

@@ -14,13 +14,16 @@
 --
 -- Example: after the line `/\`, which isn't blank, the line `* c */ #ifdef A` is seen as seven spaces and `#ifdef A`;
 -- it is fresh, for the `/` before it has become the first byte of a comment.
-use Rattle.std.specs.Prelude.{List, [], ◌∷◌, ◌++◌, length, take, drop, map, Bool, true, false, ◌||◌, if◌then◌else◌}
+use Rattle.std.specs.Prelude.{List, [], ◌∷◌, ◌++◌, length, take, drop, map, Bool, true, false, ◌||◌}
+use Rattle.std.specs.Prelude.{if◌then◌else◌}
 use Rattle.std.specs.List.{list_all}
 use Rattle.ud_model.specs.text.Bytes.{is_white}
 use Rattle.ud_model.specs.text.Lines.{Line}
 use Rattle.ud_model.specs.text.Scans.{Scan, Reading, plain_scan}
-use Rattle.ud_model.specs.text.Splicing.{is_spliced, content, spliced_part, spliced_text, c_run_of, last_is_spliced}
-use Rattle.ud_model.specs.text.Lexemes.{LexemeKind, block_comment, line_comment, literal, single, Cell, lex, shown, open_line, kind_at_end}
+use Rattle.ud_model.specs.text.Splicing.{is_spliced, content, spliced_part, spliced_text, c_run_of}
+use Rattle.ud_model.specs.text.Splicing.{last_is_spliced}
+use Rattle.ud_model.specs.text.Lexemes.{LexemeKind, block_comment, line_comment, literal, single}
+use Rattle.ud_model.specs.text.Lexemes.{Cell, lex, shown, open_line, kind_at_end}
 use Rattle.ud_model.specs.declared.kind.Mode.{Mode}
 use Rattle.ud_model.specs.declared.kind.Mode.TheVariants.{C, Plain}
 use Rattle.ud_model.specs.declared.kind.CommentAt.{CommentAt}
@@ -50,14 +53,16 @@ is_blank cells = list_all (λ c. is_white (shown c)) cells
 
 -- the cells of a line's content after a run of lines in C mode
 abbrev pub content_cells : List Line → Line → List Cell
-content_cells run line = take (length (content line)) (drop (length (spliced_text run)) (lex (spliced_text run ++ spliced_part line)))
+content_cells run line = take (length (content line))
+    (drop (length (spliced_text run)) (lex (spliced_text run ++ spliced_part line)))
 
 -- the scan of a line in C mode after a run of lines in C mode
 unfoldable pub scan_after_run : List Line → Line → Scan
 scan_after_run run line =
     record {
       masked = map shown (content_cells run line);
-      fresh = is_blank (open_line [] (take (length (spliced_text run)) (lex (spliced_text run ++ spliced_part line))));
+      fresh = is_blank (open_line []
+          (take (length (spliced_text run)) (lex (spliced_text run ++ spliced_part line))));
       joins_before = joins run;
       joins_after = joins (run ++ line ∷ []);
       spliced = is_spliced line;
@@ -71,12 +76,14 @@ scan_after before Plain line = plain_scan line
 
 -- a line as it is read in this mode after these readings
 abbrev pub next_reading : List Reading → Mode → Line → Reading
-next_reading before mode line = record { line = line; mode = mode; scan = scan_after before mode line }
+next_reading before mode line =
+    record { line = line; mode = mode; scan = scan_after before mode line }
 
 -- the readings of these lines, each in its mode, after those before
 abbrev pub readings_after : List Reading → List (Mode × Line) → List Reading
 readings_after before [] = before
-readings_after before (l ∷ lines) = readings_after (before ++ next_reading before l.0 l.1 ∷ []) lines
+readings_after before (l ∷ lines) =
+    readings_after (before ++ next_reading before l.0 l.1 ∷ []) lines
 
 -- the readings of these lines, each in its mode
 abbrev pub readings_of : List (Mode × Line) → List Reading

@@ -38,7 +38,15 @@ pub record Reading : Type 0 where
 
 -- the masked line is the body; it is fresh and joins nothing
 abbrev pub plain_scan : Line → Scan
-plain_scan line = record { masked = line.body; fresh = true; joins_before = false; joins_after = false; spliced = false; comment = Outside }
+plain_scan line = record {
+  masked = line.body;
+  fresh = true;
+  joins_before = false;
+  joins_after =
+      false;
+  spliced = false;
+  comment = Outside;
+}
 
 -- the line joins a neighbour: a directive on it spans several lines
 abbrev pub is_spanning : Scan → Bool

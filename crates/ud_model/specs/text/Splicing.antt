@@ -11,7 +11,8 @@
 -- A line counts by its body and its ending alone, never by its number.
 --
 -- Example: the lines `a\` and `b`, each with a line feed, make the text `ab` and one line feed.
-use Rattle.std.specs.Prelude.{ℕ, ◌-◌, ◌==◌, nat_eq, List, [], ◌∷◌, ◌++◌, length, take, Bool, false, not, ◌&&◌, ◌||◌, if◌then◌else◌}
+use Rattle.std.specs.Prelude.{ℕ, ◌-◌, ◌==◌, nat_eq, List, [], ◌∷◌, ◌++◌, length, take, Bool, false}
+use Rattle.std.specs.Prelude.{not, ◌&&◌, ◌||◌, if◌then◌else◌}
 use Rattle.std.specs.List.{flat_map, ends_with}
 use Rattle.ud_model.specs.text.Bytes.{backslash, newline}
 use Rattle.ud_model.specs.text.Lines.{Line}

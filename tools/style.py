@@ -1,0 +1,147 @@
+#!/usr/bin/env python3
+"""Checks the language of comments and pages (CONTRIBUTING.md, "How we write").
+
+    tools/style.py [FILE ..]     the files, or all that git tracks
+
+Prints each finding as FILE:LINE: REASON, and exits with 1 if there is one. Text in backquotes is left out.
+"""
+import re
+import subprocess
+import sys
+
+COLUMNS = 100
+
+# Words of no field, and what to write in their place.
+WORDS = [
+    (r"\b(a|the|each|its|some|this|in|any) front\b|\bfronts? of (the|a|its|all|these|what)\b", "prefix"),
+    (r"\bline[ -]feeds?\b", "newline"),
+    (r"\bstands? behind\b|\bbehind (the|a|its|it|them|these) (\w+ )?(bytes?|letters?|keyword|words?|sign|name)", "after"),
+    (r"\b(gives?|given|gave) up\b(?! (on|the search))", "consumes, fails"),
+    (r"\b(in|of) pieces\b|\bpieces? of (the )?(input|text|at most)\b|\bthe (last|next|whole) piece\b", "chunk"),
+    (r"\broom for\b|\bhas no room\b|\ba room\b|\blong room\b|\bshort room\b", "capacity, buffer"),
+    (r"\bgathered\b", "buffered"),
+    (r"\b(is|are|was|were) (told|said|put|seen|had|lent|judged|turned|spoiled)\b", "returned, set, appended, scanned, borrowed, checked"),
+    (r"\bwhat is (left|seen|said|told|put|kept|worth|printed) of\b", "the output for, the scan of, the value of"),
+    (r"\bfor good\b", "is fused"),
+    (r"\bso it (is|does)\b|\bso they (are|do)\b", "repeat the noun"),
+    (r"\bworth\b", "value"),
+    (r"\bTurned down\b", "Rejected"),
+]
+WORDS = [(re.compile(pattern, re.IGNORECASE if "Turned" not in pattern else 0), better) for pattern, better in WORDS]
+
+# How no item's comment begins.
+OPENING = re.compile(r"^\s*(///|--) (Whether|What|How many|How far|Where|The same|As) ")
+
+RUST_ITEM = re.compile(r"^(\s*)pub (const fn|fn|struct|enum|trait|const|type|union) (\w+)")
+DEFINITION = re.compile(r"^ {0,2}(?:abbrev pub|unfoldable pub|pub data|pub record) ([^\s:({]+)")
+
+
+def comment_of(line, kind):
+    """Returns the comment of a line, or None."""
+    if kind == "rt":
+        found = re.match(r"\s*(//[/!]?)(?!/)(.*)", line)
+        return found.group(2) if found else None
+    if kind == "antt":
+        found = re.match(r"\s*--(.*)", line)
+        return found.group(1) if found else None
+    if kind == "script":
+        found = re.match(r"\s*#(?!!)(.*)", line)
+        return found.group(1) if found else None
+    return line
+
+
+def kind_of(path):
+    """Returns how the comments of a file are written, or None if it has none to check."""
+    if path.endswith(".rt"):
+        return "rt"
+    if path.endswith(".antt"):
+        return "antt"
+    if path.endswith((".md", ".1")):
+        return "page"
+    if path.endswith((".sh", ".py")) or path.split("/")[-1] in ("Makefile", "crates.txt", "run"):
+        return "script"
+    return None
+
+
+def narrow(path):
+    """Returns whether the lines of a file are limited."""
+    return path.endswith(".md") or path.endswith(".rt") or (path.endswith(".antt") and "/specs/" in path)
+
+
+def may_be_wide(kind, line):
+    """Returns whether a line can't be broken: a row of a table, a link, an attribute, a text of a test."""
+    if kind == "page":
+        return line.startswith("|") or "](" in line and " " not in line.strip()
+    return line.lstrip().startswith("#[") or (kind == "rt" and '"' in line and not line.lstrip().startswith("//"))
+
+
+def findings(path, text):
+    """Yields a line number and a reason for each finding."""
+    kind = kind_of(path)
+    if kind is None:
+        return
+    lines = text.split("\n")
+    fenced = False
+    for number, line in enumerate(lines, 1):
+        if kind == "page" and line.lstrip().startswith("```"):
+            fenced = not fenced
+            continue
+        if narrow(path) and len(line) > COLUMNS and not may_be_wide(kind, line) and not fenced:
+            yield number, f"{len(line)} columns, {COLUMNS} at most"
+        comment = comment_of(line, kind)
+        if comment is None or fenced:
+            continue
+        bare = re.sub(r"`[^`]*`", "``", comment)
+        quoted = path.endswith("DEFINITIONS.md")
+        for pattern, better in WORDS:
+            if quoted and "line[ -]feed" in pattern.pattern:
+                continue
+            found = pattern.search(bare)
+            if found:
+                yield number, f"'{found.group(0)}': {better}"
+        before = lines[number - 2] if number > 1 else ""
+        if kind in ("rt", "antt") and OPENING.match(line) and comment_of(before, kind) is None:
+            yield number, "an item's comment begins with a verb or a noun"
+    yield from bare_items(path, lines)
+
+
+def bare_items(path, lines):
+    """Yields each public item without a line that says what it is."""
+    if "/src/" in path and path.endswith(".rt"):
+        for number, line in enumerate(lines, 1):
+            if RUST_ITEM.match(line) and not documented(lines, number - 1, "///"):
+                yield number, f"no line says what `{RUST_ITEM.match(line).group(3)}` is"
+    if "/specs/" in path and path.endswith(".antt"):
+        for number, line in enumerate(lines, 1):
+            found = DEFINITION.match(line)
+            if found and not documented(lines, number - 1, "--"):
+                yield number, f"no line says what `{found.group(1)}` is"
+
+
+def documented(lines, index, mark):
+    """Returns whether a comment stands above the item at an index, attributes between."""
+    index -= 1
+    while index >= 0 and (lines[index].strip().startswith("#[") or lines[index].strip() in ("mutual", "abbrev mutual")):
+        index -= 1
+    return index >= 0 and lines[index].strip().startswith(mark)
+
+
+def main():
+    paths = sys.argv[1:]
+    if not paths:
+        paths = subprocess.run(["git", "ls-files"], check=True, capture_output=True, text=True).stdout.split()
+    count = 0
+    for path in paths:
+        if kind_of(path) is None or path.endswith(("renames.txt", "style.py")):
+            continue
+        with open(path, encoding="utf-8") as file:
+            text = file.read()
+        for number, reason in findings(path, text):
+            print(f"{path}:{number}: {reason}")
+            count += 1
+    if count:
+        print(f"style: {count} findings", file=sys.stderr)
+    return 1 if count else 0
+
+
+sys.exit(main())
