@@ -1,4 +1,4 @@
--- Letters of a text in UTF-8, and what they give.
+-- Letters of a text in UTF-8, and the options that they give.
 use Rattle.std.proofs.Common.{◌≡◌, ◌∙◌, ℕ, suc, ◌<◌, List, [], ◌∷◌, ◌++◌, length, ap, sym, refl, chars, arith, ◌≢◌, ◌+◌, add-one, bytes_eq, codes, false}
 use Rattle.std.specs.Str.{IsUtf8, encode_utf8_all}
 use Rattle.std.specs.Char.{encode_utf8}
@@ -6,7 +6,7 @@ use Rattle.std.proofs.lemmas.Grind.{common_steps}
 use Rattle.std.proofs.lemmas.Str.{chars-nil, encodes-chars, char_from_byte}
 use Rattle.ud_model.specs.answer.CommandLine.{ParsedArg, option, parsed_option, option_letters, parsed_letters, parsed_from, parsed_after_option}
 
--- a text of no bytes has no letters
+-- a text without bytes has no letters
 pub chars-empty : (bytes : List ℕ) → length bytes ≡ 0 → chars bytes ≡ []
 chars-empty [] e = chars-nil
 chars-empty (b ∷ bs) e = absurd (omega (arith, e))
@@ -32,7 +32,7 @@ option_letters-other [] rest c e h = refl
 option_letters-other (b ∷ bs) rest c e h =
     option_letters-cons b bs (λ (k : b ≡ 45). h (char_from_byte (b ∷ bs) rest c e (omega (arith, k)) (omega arith) ∙ k))
 
--- a word of options gives what its letters give
+-- an argument of option letters gives what its letters give
 pub parsed_from-letters : (n : ℕ) (w : List ℕ) (ws : List (List ℕ)) (c : ℕ) (cs : List ℕ) → bytes_eq w (codes "--") ≡ false → option_letters w ≡ c ∷ cs
     → parsed_from n (w ∷ ws) ≡ parsed_letters (n + 1) (c ∷ cs) (λ d. parsed_after_option d (n + 1) ws) (parsed_from (n + 1) ws)
 parsed_from-letters n w ws c cs h e =

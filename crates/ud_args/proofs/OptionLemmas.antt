@@ -1,4 +1,4 @@
--- The argument of an option that names a symbol, cut at its first `=`.
+-- The argument of an option that names a symbol, split at its first `=`.
 use Rattle.std.proofs.Common.{◌≡◌, ℕ, ◌+◌, List, [], ◌∷◌, take, drop, Bool, true, false, not, cond, Option, Some, refl, ap, one-add, ◌==◌, if◌then◌else◌}
 use Rattle.std.specs.List.{position_or_len}
 use Rattle.ud_model.specs.answer.SymbolArguments.{name_before_equals, value_after_equals}
@@ -22,7 +22,7 @@ value_one : (e : Bool) (n b : ℕ) (bs : List ℕ) (value : Option (List ℕ)) �
 value_one true n b bs value h = refl
 value_one false n b bs value h = rw one-add h
 
--- the bytes after it are the value
+-- the bytes after the first `=` are the value
 pub drop-equals_at : (bytes : List ℕ) → after_first (drop (equals_at bytes) bytes) ≡ value_after_equals bytes
 drop-equals_at [] = refl
 drop-equals_at (b ∷ bs) = value_one (b == 61) (equals_at bs) b bs (value_after_equals bs) (drop-equals_at bs)

@@ -1,4 +1,4 @@
--- What is given, with more after it: faults, settings, symbols and the operand.
+-- Options and operands with more after them: faults, settings, symbols and the operand.
 use Rattle.std.proofs.Common.{◌≡◌, ◌∙◌, ap, refl, ℕ, List, [], ◌∷◌, ◌++◌, Bool, true, false, ◌||◌, Option, Some, None, is_some, codes, if◌then◌else◌}
 use Rattle.ud_model.specs.declared.settings.Listing.TheVariants.{Depths}
 use Rattle.ud_model.specs.declared.settings.ExitMode.{ExitMode}
@@ -10,7 +10,7 @@ or_none : (a b : Option UsageFault) → fault_or a b ≡ None → (a ≡ None) �
 or_none None b h = (refl, h)
 or_none (Some f) b h = cc
 
--- after what has no fault and no operand, the first fault is that of what comes
+-- after options without a fault and an operand, the first fault is that of the rest
 pub first_fault-append : (gs more : List ParsedArg) → first_fault gs ≡ None → operand_in gs ≡ None → first_fault (gs ++ more) ≡ first_fault more
 first_fault-append [] more h k = refl
 first_fault-append (flag c ∷ gs) more h k = first_fault-append gs more h k
@@ -21,7 +21,7 @@ first_fault-append (operand n w ∷ gs) more h k = cc
 first_fault-append (unknown c ∷ gs) more h k = cc
 first_fault-append (lacking c ∷ gs) more h k = cc
 
--- after an operand anything is too many
+-- after an operand, anything is one too many
 pub first_fault-behind_operand : (gs more : List ParsedArg) (g : ParsedArg) → first_fault gs ≡ None → is_some (operand_in gs) ≡ true
     → first_fault (gs ++ g ∷ more) ≡ Some too_many_files
 first_fault-behind_operand [] more g h k = cc
@@ -34,12 +34,12 @@ first_fault-behind_operand (operand n w ∷ (f ∷ gs)) more g h k = cc
 first_fault-behind_operand (unknown c ∷ gs) more g h k = cc
 first_fault-behind_operand (lacking c ∷ gs) more g h k = cc
 
--- what has no operand
+-- options without an operand
 pub operand_in-none : (o : Option Operand) → is_some o ≡ false → o ≡ None
 operand_in-none None h = refl
 operand_in-none (Some o) h = cc
 
--- the operand of what has none, with more after it
+-- the operand of options without one, with more after them, is that of the rest
 pub operand_in-append : (gs more : List ParsedArg) → operand_in gs ≡ None → operand_in (gs ++ more) ≡ operand_in more
 operand_in-append [] more h = refl
 operand_in-append (flag c ∷ gs) more h = operand_in-append gs more h
@@ -63,11 +63,11 @@ has_flag-flag_last ls (operand n w ∷ gs) c = has_flag-flag_last ls gs c
 has_flag-flag_last ls (unknown d ∷ gs) c = has_flag-flag_last ls gs c
 has_flag-flag_last ls (lacking d ∷ gs) c = has_flag-flag_last ls gs c
 
--- what is no flag
+-- an option or operand that is no flag
 abbrev pub IsNoFlag : ParsedArg → Type 0
 IsNoFlag g = (ls : List ℕ) → has_flag ls (g ∷ []) ≡ false
 
--- at its end it changes no flag
+-- an option or operand at the end that is no flag changes no flag
 pub has_flag-last : (ls : List ℕ) (gs : List ParsedArg) (g : ParsedArg) → IsNoFlag g → has_flag ls (gs ++ g ∷ []) ≡ has_flag ls gs
 has_flag-last ls [] g h = h ls
 has_flag-last ls (flag d ∷ gs) g h = ap (λ (b : Bool). has_letter ls d || b) (has_flag-last ls gs g h)
@@ -76,7 +76,7 @@ has_flag-last ls (operand n w ∷ gs) g h = has_flag-last ls gs g h
 has_flag-last ls (unknown d ∷ gs) g h = has_flag-last ls gs g h
 has_flag-last ls (lacking d ∷ gs) g h = has_flag-last ls gs g h
 
--- the exit mode of more is that after the exit mode of what comes first
+-- the exit mode of two parts is that of the second, starting with the exit mode of the first
 pub mode_from-append : (mode : ExitMode) (gs more : List ParsedArg) → mode_from mode (gs ++ more) ≡ mode_from (mode_from mode gs) more
 mode_from-append mode [] more = refl
 mode_from-append mode (flag c ∷ gs) more = mode_from-append mode gs more
@@ -118,7 +118,7 @@ settings_in-flag_last gs c =
       exit_mode = mode i;
     }
 
--- at the end of what is given, what is no flag changes the exit mode alone
+-- at the end, an option or operand that is no flag changes the exit mode alone
 pub settings_in-last : (gs : List ParsedArg) (g : ParsedArg) (m : ExitMode) → IsNoFlag g → mode_from (mode_from Zero gs) (g ∷ []) ≡ m
     → settings_in (gs ++ g ∷ []) ≡ record (settings_in gs) { exit_mode = m }
 settings_in-last gs g m h e = λ i. record {

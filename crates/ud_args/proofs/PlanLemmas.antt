@@ -1,4 +1,4 @@
--- Plans, with what is given after it.
+-- Plans with more options and operands.
 use Rattle.std.proofs.Common.{◌≡◌, ◌∙◌, ap, sym, refl, ℕ, List, [], ◌∷◌, ◌++◌, Bool, Option, Some, None, is_some, append-nil, option_map, IsSome}
 use Rattle.std.proofs.lemmas.List.Elements.{filter_map-append}
 use Rattle.std.specs.List.{filter_map}
@@ -21,12 +21,12 @@ place_none : (o : Option Operand) → operand_index o ≡ None → o ≡ None
 place_none None h = refl
 place_none (Some o) h = cc
 
--- an operand has a place
+-- an operand has an index
 is_some-operand_index : (o : Option Operand) → is_some (operand_index o) ≡ is_some o
 is_some-operand_index None = refl
 is_some-operand_index (Some o) = refl
 
--- a plan has an operand as far as one was given
+-- a plan has an operand if one was given
 pub is_some-operand_in : (plan : PlanState) (gs : List ParsedArg) (o : Option ℕ) (found : Bool) → PlanRepresents plan gs → o ≡ plan.operand → found ≡ is_some o
     → is_some (operand_in gs) ≡ found
 is_some-operand_in plan gs o found p e f = sym (is_some-operand_index (operand_in gs)) ∙ ap is_some (sym p.index) ∙ ap is_some (sym e) ∙ sym f
@@ -34,7 +34,7 @@ is_some-operand_in plan gs o found p e f = sym (is_some-operand_index (operand_i
 exit_mode_of : (s t : Settings) (mode : ExitMode) → s ≡ t → record s { exit_mode = mode } ≡ record t { exit_mode = mode }
 exit_mode_of s t mode e = rw e refl
 
--- a plan with what is given after it, if no operand came before
+-- a plan with one more option or operand, if no operand came before
 represents_last : (old new : PlanState) (gs : List ParsedArg) (g : ParsedArg) → PlanRepresents old gs → old.operand ≡ None → first_fault (g ∷ []) ≡ None
     → new.settings ≡ settings_in (gs ++ g ∷ []) → TableRepresents new.symbols (filter_map argument_in gs ++ filter_map argument_in (g ∷ []))
     → new.operand ≡ operand_index (operand_in (g ∷ [])) → PlanRepresents new (gs ++ g ∷ [])
@@ -47,7 +47,7 @@ represents_last old new gs g p free right said stands index =
       index = index ∙ ap operand_index (sym (operand_in-append gs (g ∷ []) none));
     }
 
--- what is no symbol leaves the table
+-- an option or operand without a symbol keeps the table
 represents_same : (old new : PlanState) (gs : List ParsedArg) (g : ParsedArg) → PlanRepresents old gs → old.operand ≡ None → first_fault (g ∷ []) ≡ None
     → filter_map argument_in (g ∷ []) ≡ [] → new.settings ≡ settings_in (gs ++ g ∷ []) → new.symbols ≡ old.symbols
     → new.operand ≡ operand_index (operand_in (g ∷ [])) → PlanRepresents new (gs ++ g ∷ [])
@@ -73,7 +73,7 @@ represents_mode old new gs word argument mode p free e said same index =
     said ∙ exit_mode_of old.settings (settings_in gs) mode p.said ∙ sym (settings_in-last gs (option 120 word argument) mode (λ ls. refl) last) in
     represents_same old new gs (option 120 word argument) p free right refl settings same (index ∙ free)
 
--- a symbol goes to the end of the table
+-- a symbol is added as the last one of the table
 pub represents_symbol : (old new : PlanState) (gs : List ParsedArg) (g : ParsedArg) (a : Argument) → PlanRepresents old gs → old.operand ≡ None → SetsSymbol g a
     → new.settings ≡ old.settings → TableRepresents new.symbols (filter_map argument_in gs ++ a ∷ []) → new.operand ≡ old.operand
     → PlanRepresents new (gs ++ g ∷ [])
@@ -85,7 +85,7 @@ represents_symbol old new gs g a p free s said stands index =
     let table : TableRepresents new.symbols (filter_map argument_in gs ++ filter_map argument_in (option s.letter s.word s.argument ∷ [])) = rw s.says stands in
     rw s.is (represents_last old new gs (option s.letter s.word s.argument) p free right settings table (index ∙ free))
 
--- an operand has its place
+-- an operand sets the index
 pub represents_operand : (old new : PlanState) (gs : List ParsedArg) (n : ℕ) (name : List ℕ) → PlanRepresents old gs → old.operand ≡ None
     → new.settings ≡ old.settings → new.symbols ≡ old.symbols → new.operand ≡ Some n → PlanRepresents new (gs ++ operand n name ∷ [])
 represents_operand old new gs n name p free said same index =
@@ -93,14 +93,14 @@ represents_operand old new gs n name p free said same index =
     said ∙ p.said ∙ sym (settings_in-last gs (operand n name) (mode_from Zero gs) (λ ls. refl) refl) in
     represents_same old new gs (operand n name) p free refl refl settings same index
 
--- what is said rightly has no fault
+-- an option or operand with a setting has no fault
 pub first_fault-said : (g : ParsedArg) (s : Setting) → IsSetting g s → first_fault (g ∷ []) ≡ None
 first_fault-said g (said.Flag letter) h = rw h refl
 first_fault-said g (said.Mode mode) h = rw (h.2, h.3) refl
 first_fault-said g (said.Symbol a) h = rw (h.is, h.other, h.says) refl
 first_fault-said g (said.Operand index name) h = rw h refl
 
--- a fault of the words is what a plan may answer
+-- a fault of the command line is one that `plan` may return
 pub IsUsageOf-fault : (gs : List ParsedArg) (u : Usage) → IsFaultOf (first_fault gs) u → IsUsageOf gs u
 IsUsageOf-fault gs (UnknownOption letter) h = h
 IsUsageOf-fault gs (MissingArgument letter) h = h
@@ -109,7 +109,7 @@ IsUsageOf-fault gs (BadMode word) h = h
 IsUsageOf-fault gs TooManyFiles h = h
 IsUsageOf-fault gs OutOfMemory h = absurd h
 
--- so is want of memory at a symbol that stands after what is right
+-- a failed allocation for a symbol, with no fault before, is one too
 pub IsUsageOf-memory : (gs more : List ParsedArg) (g : ParsedArg) (s : Setting) (u : Usage) → first_fault gs ≡ None → operand_in gs ≡ None → IsSetting g s
     → (u ≡ OutOfMemory) × IsSome (argument_in g) → IsUsageOf (gs ++ g ∷ more) u
 IsUsageOf-memory gs more g s u right none is h =
@@ -123,7 +123,7 @@ IsUsageOf-memory gs more g s u right none is h =
     } in
     rw h.0 puts
 
--- a thing is there as far as what it is turned into is
+-- an option stays `Some` or `None` if its value is mapped
 pub is_some-turned : {A B : Type 0} (f : A → B) (o : Option A) → is_some (option_map f o) ≡ is_some o
 is_some-turned f None = refl
 is_some-turned f (Some a) = refl

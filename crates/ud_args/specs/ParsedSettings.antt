@@ -1,12 +1,11 @@
--- What is said by options and operands, as the code tells it.
+-- ParsedSettings: the settings and faults of options and operands, as the code has them.
 --
---   as_argument symbol   what is said of a symbol, as the definitions have it
---   IsSetting g said     what is given says this, and is right
---   IsFaultOf fault u    the code's fault is this one of the words; want of memory is none
---   IsUsageOf gs u       the code's fault is the first one of what is given; or memory was refused, which is asked for
---                        only as a symbol is put into the table
+--   as_argument symbol   a symbol, as the definitions have it
+--   IsSetting g said     `g` is valid, and `said` is its setting
+--   IsFaultOf fault u    the code's fault `u` is this fault of the command line
+--   IsUsageOf gs u       the code's fault `u` is the first one of `gs`, or a failed allocation
 --   with_flag s c        the settings with one more flag
---   after_first bytes    what stands after the first of some bytes
+--   after_first bytes    the bytes after the first one
 use Rattle.std.specs.Prelude.{◌≡◌, ℕ, List, [], ◌∷◌, false, ◌||◌, Option, Some, None, option_map}
 use Rattle.std.specs.Prelude.{codes, if◌then◌else◌}
 use Rattle.ud_model.specs.conditions.Table.{Argument}
@@ -27,6 +26,7 @@ use Rattle.ud_args.specs.declared.usage.Usage.TheVariants.{UnknownOption, Missin
 use Rattle.ud_args.specs.declared.usage.Usage.TheVariants.{BadSymbol, BadMode, TooManyFiles}
 use Rattle.ud_args.specs.declared.usage.Usage.TheVariants.{OutOfMemory}
 
+-- `as_argument s`: the code's symbol, as the definitions have it
 abbrev pub as_argument : Symbol → Argument
 as_argument s = record {
   name = s.name.now;
@@ -34,7 +34,7 @@ as_argument s = record {
       record { value = option_map (λ v. v.now) s.value; ignoring = s.ignoring };
 }
 
--- what an option says of a symbol
+-- `SetsSymbol g s`: `g` is a valid option that defines or undefines a symbol as `s` does
 pub record SetsSymbol (g : GivenInWords) (s : Argument) : Type 0 where
   pub letter : ℕ
   pub word : ℕ
@@ -43,6 +43,7 @@ pub record SetsSymbol (g : GivenInWords) (s : Argument) : Type 0 where
   pub other : has_letter (codes "x") letter ≡ false
   pub says : parse_symbol letter argument ≡ Some s
 
+-- `IsSetting g said`: the option or operand `g` is valid, and `said` is its setting
 abbrev pub IsSetting : GivenInWords → Setting → Type 0
 IsSetting g (said.Flag letter) = g ≡ flag letter
 IsSetting g (said.Mode mode) = (word : ℕ) × (argument : List ℕ) × (g ≡ option 120 word argument) ×
@@ -50,6 +51,8 @@ IsSetting g (said.Mode mode) = (word : ℕ) × (argument : List ℕ) × (g ≡ o
 IsSetting g (said.Symbol s) = SetsSymbol g (as_argument s)
 IsSetting g (said.Operand index name) = g ≡ operand index name.now
 
+-- `IsFaultOf fault u`: the code's fault `u` is this fault of the command line; a lack of memory is
+-- none
 abbrev pub IsFaultOf : Option UsageFault → Usage → Type 0
 IsFaultOf fault (UnknownOption letter) = fault ≡ Some (unknown_option letter)
 IsFaultOf fault (MissingArgument letter) = fault ≡ Some (missing_argument letter)
@@ -58,21 +61,26 @@ IsFaultOf fault (BadMode word) = fault ≡ Some (bad_mode_in word)
 IsFaultOf fault TooManyFiles = fault ≡ Some too_many_files
 IsFaultOf fault OutOfMemory = ⊥
 
+-- `IsUsageOf gs u`: the code's fault `u` is the first one of `gs`; or an allocation failed, which
+-- happens only as a symbol is added to the table
 abbrev pub IsUsageOf : List GivenInWords → Usage → Type 0
 IsUsageOf gs OutOfMemory = StoresSymbol gs
 IsUsageOf gs u = IsFaultOf (first_fault gs) u
 
+-- `with_names l`: the listing with names added to what is listed already
 abbrev pub with_names : Listing → Listing
 with_names Off = Names
 with_names Names = Names
 with_names Depths = Depths
 
+-- `listing_with l c`: the listing `l` with the flag `c` added
 abbrev pub listing_with : Listing → ℕ → Listing
 listing_with l c =
     if has_letter (codes "S") c then Depths
     else if has_letter (codes "s") c then with_names l
     else l
 
+-- `with_flag s c`: the settings with the flag `c` added
 abbrev pub with_flag : Settings → ℕ → Settings
 with_flag s c = record {
   plain = has_letter (codes "t") c || s.plain;
@@ -85,6 +93,7 @@ with_flag s c = record {
   exit_mode = s.exit_mode;
 }
 
+-- `after_first bytes`: the bytes after the first one, if there is a first one
 abbrev pub after_first : List ℕ → Option (List ℕ)
 after_first [] = None
 after_first (b ∷ bs) = Some bs

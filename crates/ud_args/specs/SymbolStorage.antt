@@ -1,10 +1,11 @@
--- When memory is taken for the words: as what an option says of a symbol is put into the table.
+-- SymbolStorage: arguments take memory only as a symbol of an option is added to the table.
 --
---   StoresSymbol gs   among what is given an option says something of a symbol, and up to it nothing is wrong
+--   StoresSymbol gs   `gs` has an option with a symbol, and no fault up to it
 use Rattle.std.specs.Prelude.{◌≡◌, List, [], ◌∷◌, ◌++◌, None, IsSome}
 use Rattle.ud_model.specs.answer.CommandLine.{ParsedArg, first_fault, argument_in}
 
--- among what is given an option says something of a symbol, and up to it nothing is wrong
+-- `StoresSymbol gs`: one of the options `gs` defines or undefines a symbol, and there is no fault
+-- up to that option
 pub record StoresSymbol (gs : List ParsedArg) : Type 0 where
   pub before : List ParsedArg
   pub symbol : ParsedArg

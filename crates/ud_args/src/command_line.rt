@@ -1,7 +1,7 @@
-//! The words of a command line, read from the first letter to the last (POSIX XBD 12.2).
+//! The arguments of a command line, read from the first letter to the last (POSIX XBD 12.2).
 //!
-//! What is given is an option, with its argument where it takes one, or an operand; what is wrong with an argument is
-//! told by `options`. Reading takes no memory.
+//! Each step reads an option, with its argument if it takes one, or an operand. `options` finds
+//! the faults of an option's argument. Reading takes no memory.
 
 ghost use Rattle.std.specs.Prelude.{◌≡◌, ◌∷◌, ◌+◌, ◌<◌, ◌^◌, length, map, chars, string_bytes};
 ghost use Rattle.ud_model.specs.answer.CommandLine.{is_flag, takes_argument, option_letters};
@@ -9,20 +9,21 @@ ghost use Rattle.ud_model.specs.answer.CommandLine.{operands_from, parsed_option
 ghost use Rattle.ud_model.specs.answer.CommandLine.{parsed_from, parsed_after_option, parsed_args};
 ghost use Rattle.ud_args.specs.LetterSplits.{letters_then, bytes_then};
 
-/// What is given in the words.
+/// An option or an operand, as read from the arguments.
 #[derive(Clone, Copy)]
 pub(crate) enum ParsedArg<'a> {
     /// An option without an argument.
     Flag {
         letter: char,
     },
-    /// An option with its argument, and the number of the word that holds the argument, counted from 1.
+    /// An option with its argument, and the number of the command-line argument that contains the
+    /// option's, counted from 1.
     WithArgument {
         letter: char,
         word: usize,
         argument: &'a [u8],
     },
-    /// An operand, and its place among the words, counted from 0.
+    /// An operand, and its index among the arguments, counted from 0.
     Operand {
         index: usize,
         name: &'a [u8],
@@ -31,22 +32,22 @@ pub(crate) enum ParsedArg<'a> {
     Unknown {
         letter: char,
     },
-    /// An option whose argument isn't there.
+    /// An option without the argument that it takes.
     MissingArgument {
         letter: char,
     },
 }
 
-/// What is still to be read of a command line.
+/// The rest of a command line.
 #[derive(Clone, Copy)]
 pub(crate) struct CommandLine<'a> {
-    /// The letters that are left of the last word that was read.
+    /// The remaining letters of the argument that was read last.
     letters: &'a str,
-    /// The words after that one.
+    /// The arguments after that one.
     args: &'a [String],
-    /// How many words were read.
+    /// The number of arguments that were read.
     read: usize,
-    /// Each further word is an operand; no letters are left then.
+    /// `true` if each further argument is an operand; no letters remain then.
     only_operands: bool,
     ghost few: { read + length args.now < 2 ^ 64 },
 }
@@ -54,7 +55,7 @@ pub(crate) struct CommandLine<'a> {
 impl<'a> CommandLine<'a> {
     ghost use Rattle.ud_args.specs.ParsedArgs.{remaining_args, parsed_arg, parsed_then};
 
-    /// All of these words, of which the program's name is none.
+    /// Returns the whole command line of `args`, which are without the program's name.
     pub(crate) fn new(args: &'a [String]) -> CommandLine<'a>
         ensures { remaining_args result ≡ parsed_args (map string_bytes args.now) }
     {
@@ -66,7 +67,7 @@ impl<'a> CommandLine<'a> {
         }
     }
 
-    /// What is given next, and what is still to be read after it; `None` at the end of the words.
+    /// Reads the next option or operand. Returns it with the rest, or `None` at the end.
     pub(crate) fn next(&self) -> Option<(ParsedArg<'a>, CommandLine<'a>)>
         ensures { remaining_args self.now ≡ parsed_then result }
     {
@@ -79,7 +80,7 @@ impl<'a> CommandLine<'a> {
         }
     }
 
-    /// The next word, if no letters are left.
+    /// Reads the next argument, if no letters remain.
     fn next_arg(&self) -> Option<(ParsedArg<'a>, CommandLine<'a>)>
         ensures { parsed_from self.now.read (map string_bytes self.now.args.now) ≡
             parsed_then result }
@@ -100,7 +101,7 @@ impl<'a> CommandLine<'a> {
         }
     }
 
-    /// The next word as an operand, as all after it are.
+    /// Reads the next argument as an operand, as all after it are.
     fn operand(&self) -> Option<(ParsedArg<'a>, CommandLine<'a>)>
         ensures { operands_from self.now.read (map string_bytes self.now.args.now) ≡
             parsed_then result }
@@ -117,7 +118,7 @@ impl<'a> CommandLine<'a> {
         Some((ParsedArg::Operand { index, name }, behind))
     }
 
-    /// A letter of the word that was read last, with these letters after it.
+    /// Reads a letter of the argument that was read last. The letters `behind` follow it.
     fn option(&self, letter: char, behind: &'a str) -> (ParsedArg<'a>, CommandLine<'a>)
         ensures { parsed_letters self.now.read (letter ∷ chars behind.now)
             (λ c. parsed_after_option c self.now.read (map string_bytes self.now.args.now))
@@ -135,8 +136,8 @@ impl<'a> CommandLine<'a> {
         }
     }
 
-    /// An option with its argument, where these letters stand after its own: they are the argument, or where there
-    /// are none, the next word is.
+    /// Reads an option with its argument. The letters `behind` follow the option's: they are its
+    /// argument or, if there are none, the next command-line argument is.
     fn option_with_argument(
         &self,
         letter: char,
@@ -182,7 +183,7 @@ impl<'a> CommandLine<'a> {
         }
     }
 
-    /// The same words after these letters.
+    /// Returns the same command line with `letters` as the remaining letters.
     fn with_letters(&self, letters: &'a str) -> CommandLine<'a>
         ensures { remaining_args result ≡ parsed_letters self.now.read (chars letters.now)
             (λ c. parsed_after_option c self.now.read (map string_bytes self.now.args.now))
@@ -197,7 +198,7 @@ impl<'a> CommandLine<'a> {
     }
 }
 
-/// The letters of a word of options; none where the word is an operand.
+/// Returns the option letters of an argument; none if it is an operand.
 fn option_letters(word: &str) -> &str
     ensures { chars result.now ≡ option_letters word.now }
 {
@@ -207,7 +208,7 @@ fn option_letters(word: &str) -> &str
     if letter == '-' { letters } else { "" }
 }
 
-/// The first letter of a text, and what stands behind it; `None` where the text is empty.
+/// Returns the first letter of a text and what follows, or `None` if the text is empty.
 fn split_first_letter(text: &str) -> Option<(char, &str)>
     ensures letters { chars text.now ≡ letters_then result }
     ensures bytes { text.now ≡ bytes_then result }
@@ -217,14 +218,14 @@ fn split_first_letter(text: &str) -> Option<(char, &str)>
     Some((letter, letters.as_str()))
 }
 
-/// Whether a letter is an option without an argument.
+/// Returns whether a letter is an option without an argument.
 fn is_flag(letter: char) -> bool
     ensures { result ≡ is_flag letter }
 {
     matches!(letter, 'b' | 'c' | 'k' | 'l' | 'n' | 's' | 'K' | 'S' | 't')
 }
 
-/// Whether a letter is an option with an argument.
+/// Returns whether a letter is an option with an argument.
 fn takes_argument(letter: char) -> bool
     ensures { result ≡ takes_argument letter }
 {

@@ -1,8 +1,9 @@
-//! The argument words of unifdef(1): its options, its operand, and what the options say of symbols (POSIX XBD 12.2).
+//! The command line of unifdef(1): its options, its operand, and the symbols that the options
+//! define or undefine (POSIX XBD 12.2).
 //!
-//! What words say, and when they are faulty, stands in ud_model, specs/answer/CommandLine.antt. `command_line` reads the words
-//! one option or operand after another, `options` tells what each says or what is wrong with it, and `parse` puts it
-//! into the plan of a run.
+//! `ud_model.specs.answer.CommandLine` defines what arguments mean, and when they are faulty.
+//! `command_line` reads the arguments, one option or operand after another. `options` returns the
+//! setting of each, or its fault, and `parse` adds the setting to the plan of a run.
 #![tactic(auto)]
 
 mod command_line;

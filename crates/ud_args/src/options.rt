@@ -1,4 +1,4 @@
-//! What options and operands say, and what is wrong with them (unifdef(1)).
+//! The settings of options and operands, and their faults (unifdef(1)).
 
 ghost use Rattle.std.specs.Prelude.{◌≡◌, ◌≤◌, ◌++◌, ◌∷◌, List, length, take, drop, None, false};
 ghost use Rattle.std.specs.Prelude.{is_some, option_map, IfOk, IfErr};
@@ -17,34 +17,35 @@ use crate::usage::Usage;
 use ud_model::bytes::is_name;
 use ud_model::{ExitMode, Listing, Settings};
 
-/// What is said of a symbol.
+/// A symbol that an option defines or undefines.
 #[derive(Clone, Copy)]
 pub(crate) struct Symbol<'a> {
     /// An identifier other than `defined`.
     pub name: &'a [u8],
-    /// Its value; `None` where it is undefined.
+    /// The value; `None` if the symbol is undefined.
     pub value: Option<&'a [u8]>,
-    /// Whether the sections that it controls are plain text.
+    /// `true` if the sections that the symbol controls are plain text.
     pub ignoring: bool,
 }
 
-/// What an option or an operand says that is right.
+/// The setting of a valid option or operand.
 #[derive(Clone, Copy)]
 pub(crate) enum Setting<'a> {
-    /// A setting: the letter of a flag.
+    /// The letter of a flag.
     Flag { letter: char },
     /// The exit mode.
     Mode { mode: ExitMode },
-    /// A symbol is defined or undefined.
+    /// A symbol that is defined or undefined.
     Symbol { symbol: Symbol<'a> },
-    /// An operand, and its place among the words, counted from 0.
+    /// An operand, and its index among the arguments, counted from 0.
     Operand { index: usize, name: &'a [u8] },
 }
 
-/// What is said by what is given next, where an operand was given before or not.
+/// Returns the setting of the next option or operand. `behind_operand` is whether an operand came
+/// before.
 ///
 /// # Errors
-/// `TooManyFiles` after an operand; else what is wrong with an option. Memory isn't asked for.
+/// `TooManyFiles` after an operand, else the fault of an option. Takes no memory.
 pub(crate) fn parse_arg<'a>(
     given: ParsedArg<'a>,
     behind_operand: bool,
@@ -61,10 +62,10 @@ pub(crate) fn parse_arg<'a>(
     parse_setting(given)
 }
 
-/// What is said by an option or an operand.
+/// Returns the setting of an option or an operand.
 ///
 /// # Errors
-/// `UnknownOption`, `MissingArgument`, `BadSymbol` and `BadMode`, each for what is given alone.
+/// `UnknownOption`, `MissingArgument`, `BadSymbol` or `BadMode`, each by `given` alone.
 fn parse_setting<'a>(given: ParsedArg<'a>) -> Result<Setting<'a>, Usage>
     ensures ok { IfOk result (IsSetting (parsed_arg given.entry)) }
     ensures err { (more : List GivenInWords) →
@@ -83,7 +84,8 @@ fn parse_setting<'a>(given: ParsedArg<'a>) -> Result<Setting<'a>, Usage>
     }
 }
 
-/// What is said by an option with this argument, which this word holds.
+/// Returns the setting of an option with its argument. `word` is the number of the command-line
+/// argument that contains the option's.
 fn parse_option_with_argument(
     letter: char,
     word: usize,
@@ -102,7 +104,7 @@ fn parse_option_with_argument(
     }
 }
 
-/// The exit mode of this name.
+/// Returns the exit mode of this name.
 fn parse_exit_mode(argument: &[u8]) -> Option<ExitMode>
     ensures { result ≡ parse_exit_mode argument.now }
 {
@@ -117,7 +119,7 @@ fn parse_exit_mode(argument: &[u8]) -> Option<ExitMode>
     }
 }
 
-/// What `-D`, `-U` or `-i` says of a symbol by this argument; `None` where it names none.
+/// Returns the symbol of `-D`, `-U` or `-i` with this argument, or `None` if it names no symbol.
 fn parse_symbol(letter: char, argument: &[u8]) -> Option<Symbol<'_>>
     ensures { option_map as_argument result ≡ parse_symbol letter argument.now }
 {
@@ -129,7 +131,7 @@ fn parse_symbol(letter: char, argument: &[u8]) -> Option<Symbol<'_>>
     }
 }
 
-/// What `-i` says of a symbol by this argument.
+/// Returns the symbol of `-i` with this argument.
 fn parse_ignoring_symbol(argument: &[u8]) -> Option<Symbol<'_>>
     ensures { option_map as_argument result ≡ parse_ignoring_symbol argument.now }
 {
@@ -141,7 +143,7 @@ fn parse_ignoring_symbol(argument: &[u8]) -> Option<Symbol<'_>>
     }
 }
 
-/// A symbol that is defined by `NAME` or `NAME=VALUE`.
+/// Parses `NAME` or `NAME=VALUE` as a symbol that is defined.
 fn parse_define(argument: &[u8], ignoring: bool) -> Option<Symbol<'_>>
     ensures { option_map as_argument result ≡ parse_define ignoring argument.now }
 {
@@ -153,14 +155,14 @@ fn parse_define(argument: &[u8], ignoring: bool) -> Option<Symbol<'_>>
     }
 }
 
-/// A symbol that is undefined.
+/// Parses a name as a symbol that is undefined.
 fn parse_undefine(argument: &[u8], ignoring: bool) -> Option<Symbol<'_>>
     ensures { option_map as_argument result ≡ parse_undefine ignoring argument.now }
 {
     symbol_named(argument, None, ignoring)
 }
 
-/// A symbol of this name; `None` if no symbol may have it.
+/// Returns a symbol of this name, or `None` if no symbol may have it.
 fn symbol_named<'a>(name: &'a [u8], value: Option<&'a [u8]>, ignoring: bool) -> Option<Symbol<'a>>
     ensures { option_map as_argument result ≡
         symbol_named name.now (option_map (λ v. v.now) value.entry) ignoring }
@@ -175,7 +177,7 @@ fn symbol_named<'a>(name: &'a [u8], value: Option<&'a [u8]>, ignoring: bool) -> 
     })
 }
 
-/// How many bytes stand before the first `=`, or how many there are if there is none.
+/// Returns the number of bytes before the first `=`, or the number of all bytes if there is none.
 fn name_len(argument: &[u8]) -> usize
     ensures bound { result ≤ length argument.now }
     ensures name { take result argument.now ≡ name_before_equals argument.now }
@@ -187,7 +189,7 @@ fn name_len(argument: &[u8]) -> usize
         .unwrap_or(argument.len())
 }
 
-/// The settings with one more flag; of two listings the one with depths counts.
+/// Returns the settings with one more flag. Of two listings, the one with depths counts.
 pub(crate) fn with_flag(settings: Settings, letter: char) -> Settings
     ensures { result ≡ with_flag settings letter }
 {
@@ -228,7 +230,7 @@ pub(crate) fn with_flag(settings: Settings, letter: char) -> Settings
     }
 }
 
-/// What is listed where names are to be, beside what is listed already.
+/// Returns the listing with names added to what is listed already.
 fn with_names(listing: Listing) -> Listing
     ensures { result ≡ with_names listing }
 {

@@ -1,4 +1,4 @@
-//! Reading the words of a command line: what they say, and where they are faulty.
+//! The parser of a command line: its plan, its input and its faults.
 
 ghost use Rattle.std.specs.Prelude.{◌≡◌, ◌∷◌, [], None, Some, map, string_bytes, option_map, IfOk};
 ghost use Rattle.std.specs.Prelude.{IfErr};
@@ -13,16 +13,21 @@ use crate::plans::Plan;
 use crate::usage::Usage;
 use std::alloc::Global;
 
-/// What the words of a command line say, of which the program's name is none (POSIX XBD 12.2, unifdef(1)).
+/// Parses the arguments of a command line, without the program's name, into the plan of a run.
 ///
-/// A word that starts with `-` and is longer is letters of options, up to the first operand or `--`; an option's
-/// argument is the rest of its word or, if that is empty, the whole next word. Memory is taken for the symbols alone.
+/// An argument that starts with `-` and is longer consists of option letters, up to the first
+/// operand or `--`. An option's own argument is the rest after its letter or, if that is empty,
+/// the whole next argument. Memory is taken for the symbols alone.
 ///
 /// # Errors
-/// The first fault in reading order: `UnknownOption`, `MissingArgument`, `BadSymbol`, `BadMode`, or `TooManyFiles` at
-/// the word after an operand. `OutOfMemory` if memory is refused as a symbol is put into the table; the words after it
-/// aren't read then, and those up to it have no fault. Words without a right `-D`, `-U` or `-i` before their first fault
-/// never have this answer.
+/// The first fault in reading order: `UnknownOption`, `MissingArgument`, `BadSymbol`, `BadMode`,
+/// or `TooManyFiles` at the argument after an operand.
+///
+/// `OutOfMemory` if an allocation fails as a symbol is added to the table. The arguments after
+/// the symbol aren't read then, and those up to it have no fault. Arguments without a valid `-D`,
+/// `-U` or `-i` before their first fault never give this error.
+///
+/// (POSIX XBD 12.2, unifdef(1))
 pub fn plan(alloc: Global, args: &[String]) -> Result<Plan, Usage>
     ensures ok { IfOk result (IsPlanOf (map string_bytes args.now)) }
     ensures err { IfErr result (IsUsageOf (parsed_args (map string_bytes args.now))) }
@@ -36,9 +41,10 @@ pub fn plan(alloc: Global, args: &[String]) -> Result<Plan, Usage>
     Ok(plan)
 }
 
-/// The place of the operand that names a file, counted from 0 among the words. Takes no memory.
+/// Returns the index of the operand that names a file, counted from 0 among the arguments.
 ///
-/// `None` where the words have a fault, if there is no operand, and where it is `-`, the standard input.
+/// Returns `None` if the arguments have a fault, if there is no operand, or if the operand is `-`,
+/// the standard input. Takes no memory.
 pub fn input_of(args: &[String]) -> Option<usize>
     ensures { result ≡ input_of (map string_bytes args.now) }
 {
@@ -48,8 +54,9 @@ pub fn input_of(args: &[String]) -> Option<usize>
     }
 }
 
-/// How messages call the input of words that have no fault: by the operand's bytes, or `stdin` if there is no operand
-/// or it is `-`. Takes no memory.
+/// Returns the input's name in messages: the operand, or `stdin` if there is none or it is `-`.
+///
+/// This holds for arguments without a fault. Takes no memory.
 pub fn display_name(args: &[String]) -> &[u8]
     ensures { usage_fault (map string_bytes args.now) ≡ None →
         result.now ≡ display_name (map string_bytes args.now) }
@@ -60,26 +67,26 @@ pub fn display_name(args: &[String]) -> &[u8]
     }
 }
 
-/// An operand.
+/// An operand of a command line.
 #[derive(Clone, Copy)]
 pub(crate) struct Operand<'a> {
-    /// Its place among the words, counted from 0.
+    /// The index among the arguments, counted from 0.
     pub index: usize,
-    /// Its bytes, of which there may be none.
+    /// The bytes of the operand, which may be empty.
     pub name: &'a [u8],
 }
 
 impl<'a> Operand<'a> {
     ghost use Rattle.ud_model.specs.answer.CommandLine.{is_stdin, file_index, name_or_stdin};
 
-    /// Whether it is `-`, the standard input.
+    /// Returns whether the operand is `-`, the standard input.
     fn is_stdin(&self) -> bool
         ensures { result ≡ is_stdin self.now.name.now }
     {
         self.name == b"-".as_slice()
     }
 
-    /// Its place, where it names a file; `-` is the standard input.
+    /// Returns the index of an operand that names a file; `-` is the standard input.
     fn file_index(&self) -> Option<usize>
         ensures { result ≡ file_index (Some (as_operand self.now)) }
     {
@@ -90,7 +97,7 @@ impl<'a> Operand<'a> {
         }
     }
 
-    /// How messages call it.
+    /// Returns the operand's name in messages.
     fn display_name(&self) -> &'a [u8]
         ensures { result.now ≡ name_or_stdin (Some (as_operand self.now)) }
     {
@@ -98,10 +105,10 @@ impl<'a> Operand<'a> {
     }
 }
 
-/// The operand, where the words have no fault. Takes no memory.
+/// Returns the operand of arguments without a fault. Takes no memory.
 ///
 /// # Errors
-/// The first fault in reading order; none is `OutOfMemory`.
+/// The first fault in reading order, which is never `OutOfMemory`.
 fn find_operand(args: &[String]) -> Result<Option<Operand<'_>>, Usage>
     ensures ok { IfOk result (λ o. (usage_fault (map string_bytes args.now) ≡ None)
         × (option_map as_operand o ≡ operand_in (parsed_args (map string_bytes args.now)))) }
@@ -116,7 +123,7 @@ fn find_operand(args: &[String]) -> Result<Option<Operand<'_>>, Usage>
     Ok(operand)
 }
 
-/// The operand, where it is one that was given.
+/// Returns the operand, if the setting is one.
 fn as_operand(said: Setting<'_>) -> Option<Operand<'_>>
     ensures { (g : ParsedArg) → IsSetting g said.entry →
         option_map as_operand result ≡ operand_in (g ∷ []) }

@@ -1,4 +1,4 @@
-//! The plan of a run: what the words of a command line say.
+//! The plan of a run, as the arguments of a command line set it.
 
 ghost use Rattle.std.specs.Prelude.{◌≡◌, ◌++◌, ◌∷◌, [], List, None, IsSome, OnOk, IfErr};
 ghost use Rattle.ud_model.specs.conditions.Table.{Argument};
@@ -17,14 +17,14 @@ use std::marker::Model;
 use ud_cond::Symbols;
 use ud_model::Settings;
 
-/// What the words of a command line say: the settings, the symbols and the operand.
+/// The plan of a run: the settings, the symbols and the operand of a command line.
 #[derive(Drop)]
 pub struct Plan {
-    /// The settings, as they were given.
+    /// The settings, as given.
     settings: Settings,
-    /// What is said of symbols.
+    /// The table of symbols.
     symbols: Symbols,
-    /// The operand's place among the words, counted from 0.
+    /// The operand's index among the arguments, counted from 0.
     operand: Option<usize>,
 }
 
@@ -42,7 +42,7 @@ impl Model for Plan {
 }
 
 impl Plan {
-    /// The plan of no words. Its symbols take memory from `alloc`.
+    /// Returns the plan of no arguments. Its symbols take memory from `alloc`.
     pub(crate) fn new(alloc: Global) -> Plan
         ensures { PlanRepresents result [] }
     {
@@ -53,32 +53,34 @@ impl Plan {
         }
     }
 
-    /// The settings, as they were given: `renumber` stays true beside `blank`, and both beside a listing.
+    /// Returns the settings as given: `renumber` stays true beside `blank`, and both beside a
+    /// listing.
     pub fn settings(&self) -> Settings
         ensures { result ≡ self.now.settings }
     {
         self.settings
     }
 
-    /// What is said of symbols.
+    /// Returns the table of symbols.
     pub fn symbols(&self) -> &Symbols
         ensures { result.now ≡ self.now.symbols }
     {
         &self.symbols
     }
 
-    /// The operand's place among the words, counted from 0; `None` if there is no operand.
+    /// Returns the operand's index among the arguments, counted from 0; `None` if there is no
+    /// operand.
     pub fn operand(&self) -> Option<usize>
         ensures { result ≡ self.now.operand }
     {
         self.operand
     }
 
-    /// Takes what is given next into the plan.
+    /// Adds the next option or operand to the plan.
     ///
     /// # Errors
-    /// What is wrong with it, or, where it is right and says something of a symbol, that memory for that was refused. The
-    /// plan is then of no use.
+    /// The fault of `given`. If `given` is valid and sets a symbol, `OutOfMemory` if the allocation
+    /// for the symbol fails. The plan is then of no use.
     pub(crate) fn apply(&mut self, given: ParsedArg<'_>) -> Result<(), Usage>
         ensures ok { (gs : List GivenInWords) → PlanRepresents self.old gs →
             OnOk result (PlanRepresents self.new (gs ++ parsed_arg given.entry ∷ [])) }
@@ -92,10 +94,10 @@ impl Plan {
         }
     }
 
-    /// Adds what is said to the plan, after no operand.
+    /// Adds a setting to the plan, which has no operand yet.
     ///
     /// # Errors
-    /// `OutOfMemory` if memory for a symbol is refused.
+    /// `OutOfMemory` if an allocation for a symbol fails.
     fn set(&mut self, said: Setting<'_>) -> Result<(), Usage>
         ensures ok { (gs : List GivenInWords) → (g : GivenInWords) → PlanRepresents self.old gs →
             self.old.operand ≡ None → IsSetting g said.entry
@@ -120,10 +122,11 @@ impl Plan {
         }
     }
 
-    /// Puts what is said of a symbol into the table.
+    /// Adds a symbol to the table.
     ///
     /// # Errors
-    /// `OutOfMemory` if memory is refused; the name is right, so the table refuses for no other reason.
+    /// `OutOfMemory` if an allocation fails. The name is valid, so the table fails for no other
+    /// reason.
     fn set_symbol(&mut self, symbol: Symbol<'_>) -> Result<(), Usage>
         ensures ok { OnOk result ((calls : List Argument) → TableRepresents self.old.symbols calls
             → TableRepresents self.new.symbols (calls ++ as_argument symbol.entry ∷ [])) }

@@ -1,40 +1,42 @@
-//! What is wrong with the words of a command line, as data. The texts that the tool writes stand in unifdef.
+//! The faults of a command line, as data. The messages that the tool writes are in
+//! `ud_diagnostics`.
 
 use thiserror::Error;
 
-/// What is wrong with the words of a command line, or that memory for them was refused.
+/// A fault of a command line, or the lack of memory for the command line.
 ///
-/// Words are counted from 1, the program's name not among them. The texts of `Display` are nobody's promise.
+/// Arguments are counted from 1, without the program's name. The texts of `Display` aren't
+/// guaranteed.
 #[derive(Clone, Copy, Debug, PartialEq, Eq, Error)]
 pub enum Usage {
-    /// The letter is no option.
+    /// A letter that is no option.
     #[error("unknown option -{letter}")]
     UnknownOption {
-        /// The letter, as it stands in its word.
+        /// The letter, as given in its argument.
         letter: char,
     },
-    /// No argument follows an option that takes one.
+    /// An option without the argument that it takes.
     #[error("option -{letter} needs an argument")]
     MissingArgument {
         /// The option's letter.
         letter: char,
     },
-    /// The argument of `-D`, `-U` or `-i` names no symbol.
+    /// An argument of `-D`, `-U` or `-i` that names no symbol.
     #[error("bad symbol in word {word}")]
     BadSymbol {
-        /// The word that holds the argument.
+        /// The number of the command-line argument that contains the option's argument.
         word: usize,
     },
-    /// The argument of `-x` is no exit mode.
+    /// An argument of `-x` that is no exit mode.
     #[error("bad exit mode in word {word}")]
     BadMode {
-        /// The word that holds the argument.
+        /// The number of the command-line argument that contains the option's argument.
         word: usize,
     },
-    /// A word stands after the first operand.
+    /// An argument after the first operand.
     #[error("too many files")]
     TooManyFiles,
-    /// Memory for a symbol was refused.
+    /// Memory for a symbol couldn't be allocated.
     #[error("out of memory")]
     OutOfMemory,
 }

@@ -1,4 +1,4 @@
--- What stands after `defined`, one way each: it means the same in every state that asks for it.
+-- The text after `defined`, case by case: it means the same in every state that asks for it.
 use Rattle.std.proofs.Common.{◌≡◌, ℕ, List, true, false, Option, Some, None, refl, sym, ◌∙◌, ap, arith}
 use Rattle.std.proofs.lemmas.Option.{none-some, same_Some}
 use Rattle.ud_model.specs.conditions.Tokens.{number, name, defined, operator, opening, closing, Token, NextToken, at_end, unreadable, found, next_token}
@@ -8,7 +8,7 @@ use Rattle.ud_model.proofs.conditions.TokenLemmas.{shorter}
 use Rattle.ud_cond.proofs.ReadingLemmas.{reads_on, reads-on, reads-stuck, reads-found}
 
 module _ {A : Type 0} (m : Meaning A) where
-  -- `defined` and a name
+  -- a `defined` and a name
   pub asks-plain : (text n rest : List ℕ) → next_token text ≡ found (name n false) rest → Asked m asks text (m.is_defined n false) rest
   asks-plain text n rest e = record { same = λ s. reads-found m (asks s) text (name n false) rest e; shorter = shorter text rest (name n false) e }
 
@@ -20,7 +20,7 @@ module _ {A : Type 0} (m : Meaning A) where
     shorter = omega (arith, shorter inside end (name n false) f, shorter end rest closing g);
   }
 
-  -- `defined` and what stands in parentheses
+  -- a `defined` and parentheses
   pub asks-parens : (text inside : List ℕ) (r : Option (A × List ℕ)) → next_token text ≡ found opening inside → ReadsDefinedInParens m inside r → ReadsDefined m text r
   asks-parens text inside None e none = λ s. reads-found m (asks s) text opening inside e ∙ none s
   asks-parens text inside (Some r) e some = record {
@@ -28,7 +28,7 @@ module _ {A : Type 0} (m : Meaning A) where
     shorter = omega (arith, shorter text inside opening e, some.shorter);
   }
 
-  -- a token that no name begins with
+  -- a token with which no name begins
   pub stuck-at : (start : List (Frame A) → ParseState A) (text rest : List ℕ) (t : Token) → ((s : List (Frame A)) → step m (start s) t ≡ stuck) → found t rest ≡ next_token text →
       (s : List (Frame A)) → reads m (start s) text ≡ None
   stuck-at start text rest t e f s = reads-found m (start s) text t rest (sym f) ∙ ap (λ q. reads m q rest) (e s) ∙ reads-stuck m rest
@@ -65,12 +65,12 @@ module _ {A : Type 0} (m : Meaning A) where
   endless n s (found opening rest) e = reads-stuck m rest
   endless n s (found closing rest) e = absurd (none-some rest (sym e))
 
-  -- the parenthesis doesn't close after the name
+  -- no closing parenthesis after the name
   pub encloses-endless : (inside n end : List ℕ) → next_token inside ≡ found (name n false) end → after_paren (next_token end) ≡ None → ReadsDefinedInParens m inside None
   encloses-endless inside n end f g s =
       reads-found m (asks_inside s) inside (name n false) end f ∙ reads-on m (asks_end n s) end ∙ endless n s (next_token end) g
 
--- what a test of the front found
+-- the next token, if `plain_name` found a name
 pub found-plain_name : (x : NextToken) (n rest : List ℕ) → Some (n, rest) ≡ plain_name x → x ≡ found (name n false) rest
 found-plain_name at_end n rest e = absurd (none-some (n, rest) (sym e))
 found-plain_name unreadable n rest e = absurd (none-some (n, rest) (sym e))

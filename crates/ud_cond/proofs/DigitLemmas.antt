@@ -1,4 +1,4 @@
--- Numbers grow with their digits, so one that is too large stays so.
+-- Numbers grow with their digits, so a number that is too large stays too large.
 use Rattle.std.proofs.Common.{◌≡◌, ℕ, ℤ, pos, ◌≤◌, ◌<◌, ◌+◌, ◌*◌, ◌^◌, ◌==◌, List, [], ◌∷◌, length, get_or, Bool, Some, None, is_some, unwrap_or, nat_lt, nat_le, true, false, refl, sym, ◌∙◌, ap, subst, arith}
 use Rattle.std.proofs.lemmas.Bool.{le-ltb, lt-ltb, eqb-true, ne_eqb, leb-true, and_parts}
 use Rattle.std.proofs.lemmas.Option.{none-some}
@@ -24,13 +24,13 @@ grows b n (d ∷ ds) = omega (arith, grows_by b n (digit_value d), grows b (n * 
 limited-above : (n : ℕ) → 2 ^ 63 ≤ n → limited n ≡ None
 limited-above n l = let no : nat_lt n (2 ^ 63) ≡ false = le-ltb n (2 ^ 63) l in rw no
 
--- so is one whose digits so far are too large
+-- a number whose digits so far are too large is unknown too
 pub unknown-above : (b : Base) (n : ℕ) (ds : List ℕ) → 0 < length ds → 2 ^ 64 ≤ n * base_of b + digit_value (get_or ds 0 0) → limited (append_digits (base_of b) n ds) ≡ None
 unknown-above b n [] l h = absurd (omega arith)
 unknown-above b n (d ∷ ds) l h =
     limited-above (append_digits (base_of b) n (d ∷ ds)) (omega (arith, grows b (n * base_of b + digit_value d) ds))
 
--- the parts of a word that is one digit
+-- the parts of a word of one digit
 digit_by : (b : ℕ) (z : Bool) → (b == 48) ≡ z → is_digit b ≡ true → (base : ℕ) × (constant_parts (b ∷ []) ≡ record { base = base; digits = b ∷ []; suffix = [] })
 digit_by b true e d = (8, let is : b ≡ 48 = eqb-true b 48 e in subst (λ (n : ℕ). constant_parts (n ∷ []) ≡ record { base = 8; digits = n ∷ []; suffix = [] }) (sym is) refl)
 digit_by b false e d = (10, simp (e, d))
@@ -53,7 +53,7 @@ sole (b ∷ a ∷ w) l = absurd (omega arith)
 limited-below : (n : ℕ) → n < 2 ^ 63 → limited n ≡ Some (pos n)
 limited-below n l = let yes : nat_lt n (2 ^ 63) ≡ true = lt-ltb n (2 ^ 63) l in rw yes
 
--- a word that is one digit is a constant of its value
+-- a word of one digit is a constant of the digit's value
 pub one-digit : (b n : ℕ) → is_digit b ≡ true → n ≡ digit_value b → n < 256 → IsOneDigit (b ∷ []) (pos n)
 one-digit b n d is few =
     let parts = digit_by b (b == 48) refl d in
@@ -65,7 +65,7 @@ one-digit b n d is few =
       positive = dash b d;
     }
 
--- the value that a name has that is defined as one digit
+-- the value of a name that is defined as one digit
 pub text_value-digit : (u : Bool) (w : List ℕ) (z : ℤ) → IsOneDigit w z → text_value u w ≡ Some z
 text_value-digit u [] z is = absurd (none-some false is.sign)
 text_value-digit u (b ∷ w) z is =

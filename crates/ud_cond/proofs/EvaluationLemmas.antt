@@ -1,4 +1,4 @@
--- What is kept of an expression while it is read is what the definitions say of its tree.
+-- The value that is kept of an expression while it is read is the value of its tree.
 use Rattle.std.proofs.Common.{◌≡◌, ℕ, List, [], Bool, false, Option, Some, None, option_map, refl, sym, ◌∙◌, ap, ap₂, subst}
 use Rattle.std.proofs.lemmas.Option.{none-some, same_Some}
 use Rattle.ud_model.specs.conditions.Table.{Argument}
@@ -11,7 +11,7 @@ use Rattle.ud_cond.specs.declared.values.Value.{Value}
 use Rattle.ud_cond.specs.Evaluation.{value_meaning, value_of_tree, unary_value_of, binary_value_of, cond_of_value}
 
 module _ (table : List Argument) (strict u : Bool) where
-  -- a tree means what it is worth
+  -- the meaning of a tree is its value
   pub meaning-value_meaning : (e : Expression) → meaning (value_meaning table strict u) e ≡ value_of_tree table strict u e
   meaning-value_meaning (constant w) = refl
   meaning-value_meaning (named n a) = refl
@@ -20,7 +20,7 @@ module _ (table : List Argument) (strict u : Bool) where
   meaning-value_meaning (binary o d e) = ap₂ (binary_value_of strict u o) (meaning-value_meaning d) (meaning-value_meaning e)
   meaning-value_meaning (parens e) = meaning-value_meaning e
 
-  -- a text is worth what its tree is
+  -- the value of a text is the value of its tree
   pub reads-value_meaning : (text : List ℕ) → reads (value_meaning table strict u) (needs []) text ≡ option_map (value_of_tree table strict u) (expression_of text)
   reads-value_meaning text = reads_meaning (value_meaning table strict u) text ∙ each (expression_of text)
     where
@@ -49,7 +49,8 @@ pub cond-none : (table : List Argument) (rules : Rules) (u : Bool) (text : List 
 unfolding expression_cond
 cond-none table rules u text e = none_by (value_of_tree table rules.strict u) (expression_of text) table rules (e ∙ reads-value_meaning table rules.strict u text)
 
--- a text is valued with a least number first, and its condition is decided by the value with its own least number
+-- a text is evaluated with signed numbers first; the value with its own least number decides the
+-- condition
 pub cond-some : (table : List Argument) (rules : Rules) (u : Bool) (text : List ℕ) (v w : Value) → Some v ≡ reads (value_meaning table rules.strict false) (needs []) text → v.unsigned ≡ u →
     Some w ≡ reads (value_meaning table rules.strict u) (needs []) text → cond_of_value rules w ≡ expression_cond text table rules
 unfolding expression_cond

@@ -1,4 +1,4 @@
--- Operands of a row, one way each: an operand that is read means the same in every state that needs one.
+-- Operands on the fast path, case by case: an operand means the same in every state that needs one.
 use Rattle.std.proofs.Common.{◌≡◌, ℕ, ◌≤◌, List, [], Bool, length, true, false, ◌∷◌, Option, Some, None, IfSome, refl, sym, ◌∙◌, ap, arith}
 use Rattle.ud_model.specs.text.Bytes.{is_white, skip_white}
 use Rattle.ud_model.proofs.text.ByteLemmas.{length-skip_white}
@@ -19,7 +19,7 @@ skip_white-skip_white : (text : List ℕ) → skip_white (skip_white text) ≡ s
 skip_white-skip_white [] = refl
 skip_white-skip_white (b ∷ bs) = skip_white-one (is_white b) b bs refl (skip_white-skip_white bs)
 
--- without white space in front a text has the same token there
+-- a text has the same token without leading white space
 next_token-skip_white : (text : List ℕ) → next_token (skip_white text) ≡ next_token text
 unfolding next_token
 next_token-skip_white text = ap leading_token (skip_white-skip_white text)
@@ -40,14 +40,14 @@ module _ {A : Type 0} (m : Meaning A) where
   needs-definition f text rest v None e h = tt
   needs-definition f text rest v (Some b) e h = needs-defined text rest v (f b) e h
 
-  -- without white space in front a text means the same
+  -- a text means the same without leading white space
   pub trimmed : (start : List (Frame A) → ParseState A) (text inside : List ℕ) (v : A) (rest : List ℕ) → inside ≡ skip_white text → Asked m start inside v rest → Asked m start text v rest
   trimmed start text inside v rest e h = record {
     same = λ s. reads-on m (start s) text ∙ ap (reads_on m (start s)) (sym (ap next_token e ∙ next_token-skip_white text)) ∙ sym (reads-on m (start s) inside) ∙ h.same s;
     shorter = let less : length inside ≤ length text = rw e (length-skip_white text) in omega (arith, h.shorter);
   }
 
-  -- `defined` and a name, in parentheses or not
+  -- a `defined` and a name, in parentheses or not
   pub asks-name : (text inside n end : List ℕ) → inside ≡ skip_white text → next_token inside ≡ found (name n false) end → Asked m asks text (m.is_defined n false) end
   asks-name text inside n end same f = trimmed asks text inside (m.is_defined n false) end same (asks-plain m inside n end f)
 
@@ -66,7 +66,7 @@ module _ {A : Type 0} (m : Meaning A) where
   before_on s o v (found opening rest) = refl
   before_on s o v (found closing rest) = refl
 
-  -- an operator before an operand takes it whatever comes next
+  -- an operator before an operand takes the operand, whatever follows
   pub reads-before : (s : List (Frame A)) (o : Operator) (v : A) (text : List ℕ) → reads m (has v (before o ∷ s)) text ≡ reads m (has (m.unary o v) s) text
   reads-before s o v text = reads-on m (has v (before o ∷ s)) text ∙ before_on s o v (next_token text) ∙ sym (reads-on m (has (m.unary o v) s) text)
 

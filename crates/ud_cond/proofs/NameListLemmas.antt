@@ -15,7 +15,7 @@ names-append : (ts us : List Token) → names_in_tokens (ts ++ us) ≡ names_in_
 names-append [] us = refl
 names-append (t ∷ ts) us = ap (λ ns. option_to_list (name_in_token t) ++ ns) (names-append ts us) ∙ sym (append_assoc (option_to_list (name_in_token t)) (names_in_tokens ts) (names_in_tokens us))
 
--- the tokens that a tree is written with have its names
+-- the tokens of a tree have its names
 pub names-spelling : (e : Expression) → names_in_tokens (spelling e) ≡ names_in e
 names-spelling (constant w) = refl
 names-spelling (named n a) = refl
@@ -25,7 +25,7 @@ names-spelling (unary o e) = names-spelling e
 names-spelling (binary o d e) = names-append (spelling d) _ ∙ ap₂ (λ x y. x ++ y) (names-spelling d) (names-spelling e)
 names-spelling (parens e) = names-append (spelling e) _ ∙ append-nil (names_in_tokens (spelling e)) ∙ names-spelling e
 
--- an expression is tokens to its end
+-- an expression consists of tokens
 tokens-whole : (text : List ℕ) (e : Expression) → expression_of text ≡ Some e → tokens_of text ≡ Some (spelling e)
 tokens-whole text e f = tokens_of_only text (spelling e) (expression_is text e f).1
 
@@ -55,11 +55,11 @@ some_map : {A B : Type 0} (f : A → B) (o : Option A) → is_some (option_map f
 some_map f None = refl
 some_map f (Some x) = refl
 
--- a text has a value, whatever its parts are worth, where it has a tree
+-- a text has a value if it has a tree, whatever the values of its parts are
 pub reads-some : {A : Type 0} (m : Meaning A) (text : List ℕ) → is_some (reads m (needs []) text) ≡ is_some (expression_of text)
 reads-some m text = ap is_some (reads_meaning m text) ∙ some_map (meaning m) (expression_of text)
 
--- the names of a text are that of the token in front, if it is one, and those of the text after it
+-- the names of a text are that of the leading token, if it is one, and those of the text after it
 pub record Steps (text : List ℕ) (t : Token) (rest : List ℕ) : Type 0 where
   pub names : names_in_text text ≡ option_to_list (name_in_token t) ++ names_in_text rest
   pub whole : is_some (tokens_of rest) ≡ true
@@ -74,10 +74,10 @@ step_by text t rest (Some ts) e f s = record {
 pub steps : (text : List ℕ) (t : Token) (rest : List ℕ) → found t rest ≡ next_token text → is_some (tokens_of text) ≡ true → Steps text t rest
 steps text t rest e s = step_by text t rest (tokens_of rest) refl (tokens_of-prepend_token text ∙ ap (prepend_token tokens_of) (sym e)) s
 
--- at its end a text has no names
+-- a text without tokens has no names
 pub names-end : (text : List ℕ) → at_end ≡ next_token text → names_in_text text ≡ []
 names-end text e = ap names_in_all (tokens_of-prepend_token text ∙ ap (prepend_token tokens_of) (sym e))
 
--- a text that is tokens to its end is readable
+-- a text that consists of tokens is readable
 pub readable : (text : List ℕ) → unreadable ≡ next_token text → is_some (tokens_of text) ≡ true → ⊥
 readable text e s = let none : is_some (tokens_of text) ≡ false = ap is_some (tokens_of-prepend_token text ∙ ap (prepend_token tokens_of) (sym e)) in cc

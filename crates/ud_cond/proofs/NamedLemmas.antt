@@ -1,4 +1,4 @@
--- What a name is worth as an operand, by what the table says of it.
+-- The value of a name as an operand, by its entry in the table.
 use Rattle.std.proofs.Common.{◌≡◌, ℕ, zero, suc, List, length, Bool, true, false, ◌&&◌, Option, Some, None, is_some, ℤ, pos, IfSome, refl, sym, ◌∙◌, ap, ap₂}
 use Rattle.ud_model.specs.text.Bytes.{is_identifier}
 use Rattle.ud_model.specs.conditions.Table.{Argument, Entry, entry_in}
@@ -15,16 +15,16 @@ ends_none : (k : ℕ) (t : List Argument) (n : List ℕ) → defined_text t n �
 ends_none zero t n e = refl
 ends_none (suc k) t n e = ap (on_text (λ v. resolve_within k t v)) e
 
--- the value of a name that isn't defined ends nowhere
+-- a name that isn't defined resolves to nothing
 end-none : (t : List Argument) (n : List ℕ) → defined_text t n ≡ None → resolve t n ≡ None
 unfolding resolve
 end-none t n e = ends_none (length t) t n e
 
--- the value of a name ends at the text that defines it, if that is no identifier
+-- a name resolves to the text that defines it, if that is no identifier
 pub end-here : (t : List Argument) (n v : List ℕ) → defined_text t n ≡ Some v → is_identifier v ≡ false → resolve t n ≡ Some v
 end-here t n v e f = end_found t n v (at_text n v e f)
 
--- what a name is worth by its end and its entry
+-- the value of a name by the text to which it resolves and its entry
 abbrev worth_by : Bool → Bool → Option (List ℕ) → Option Entry → Value
 worth_by u arguments end e = record { number = name_value_by u end e; unsigned = end_has_u end; listed = is_some e; calls_undefined = arguments && undefined_by e }
 
@@ -36,7 +36,7 @@ unlisted_by : (u arguments : Bool) → worth_by u arguments None None ≡ record
 unlisted_by u true = refl
 unlisted_by u false = refl
 
--- of a name that isn't listed
+-- the value of a name that isn't listed
 pub worth-unlisted : (t : List Argument) (u : Bool) (n : List ℕ) (arguments : Bool) → entry_in t n ≡ None → record { number = None; unsigned = false; listed = false; calls_undefined = false } ≡ name_value_of t u n arguments
 worth-unlisted t u n arguments e = sym (by_entry t u n arguments None None (end-none t n (ap text_in e)) e ∙ unlisted_by u arguments)
 
@@ -44,7 +44,7 @@ undefined_by_entry : (u arguments ignoring : Bool) → worth_by u arguments None
 undefined_by_entry u true ignoring = refl
 undefined_by_entry u false ignoring = refl
 
--- of one that is undefined
+-- the value of a name that is undefined
 pub worth-undefined : (t : List Argument) (u : Bool) (n : List ℕ) (arguments ignoring : Bool) → entry_in t n ≡ Some (record { value = None; ignoring = ignoring }) →
     record { number = Some (pos 0); unsigned = false; listed = true; calls_undefined = arguments } ≡ name_value_of t u n arguments
 worth-undefined t u n arguments ignoring e =
@@ -55,11 +55,11 @@ unfolding name_has_u
 defined_by_entry t u n true ignoring v = refl
 defined_by_entry t u n false ignoring v = refl
 
--- of one that is defined
+-- the value of a name that is defined
 pub worth-defined : (t : List Argument) (u : Bool) (n : List ℕ) (arguments ignoring : Bool) (v : List ℕ) → entry_in t n ≡ Some (record { value = Some v; ignoring = ignoring }) → defined_name_value_of t u n ≡ name_value_of t u n arguments
 worth-defined t u n arguments ignoring v e = sym (by_entry t u n arguments (resolve t n) (Some (record { value = Some v; ignoring = ignoring })) refl e ∙ defined_by_entry t u n arguments ignoring v)
 
--- of one that is defined as one digit
+-- the value of a name that is defined as one digit
 pub worth-digit : (t : List Argument) (u : Bool) (n text : List ℕ) (o : Option ℤ) → is_some o ≡ true → defined_text t n ≡ Some text → IfSome o (IsOneDigit text) →
     record { number = o; unsigned = false; listed = true; calls_undefined = false } ≡ defined_name_value_of t u n
 unfolding name_has_u

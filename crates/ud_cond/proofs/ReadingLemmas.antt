@@ -1,10 +1,11 @@
--- Reading a text token by token: each token has a byte at least, and the text after it goes on in the state that it makes.
+-- Reading a text token by token: each token has at least one byte, and the text after it continues
+-- in the state that the token makes.
 use Rattle.std.proofs.Common.{◌≡◌, ℕ, zero, suc, ◌<◌, List, [], ◌∷◌, length, Option, Some, None, option_map, refl, ◌∙◌, ap, arith}
 use Rattle.ud_model.specs.conditions.Tokens.{Token, NextToken, at_end, unreadable, found, next_token}
 use Rattle.ud_model.specs.aids.Parsing.{Meaning, ParseState, stuck, step, finish, parse_tokens, parse_all_tokens, prepend_token, tokens_in, tokens_of, reads}
 use Rattle.ud_model.proofs.conditions.TokenLemmas.{shorter}
 
--- what is left after a token has fewer bytes than this
+-- the text after a token has fewer than `n` bytes
 abbrev pub Leaves : ℕ → NextToken → Type 0
 Leaves n at_end = Unit {0}
 Leaves n unreadable = Unit {0}
@@ -35,7 +36,7 @@ tokens_of-prepend_token text =
     (λ rest short. tokens_in-enough (length text) (suc (length rest)) rest short (omega arith))
 
 module _ {A : Type 0} (m : Meaning A) where
-  -- what a text means in a state, by the token in front
+  -- the meaning of a text in a state, by its leading token
   abbrev pub reads_on : ParseState A → NextToken → Option A
   reads_on s at_end = finish m s
   reads_on s unreadable = None
@@ -51,7 +52,7 @@ module _ {A : Type 0} (m : Meaning A) where
   parse_all_tokens-prepend_token s unreadable = refl
   parse_all_tokens-prepend_token s (found t rest) = parse_all_tokens-one s t (tokens_of rest)
 
-  -- a text means in a state what the token in front makes of it
+  -- the leading token decides the meaning of a text in a state
   pub reads-on : (s : ParseState A) (text : List ℕ) → reads m s text ≡ reads_on s (next_token text)
   unfolding reads
   reads-on s text = ap (parse_all_tokens m s) (tokens_of-prepend_token text) ∙ parse_all_tokens-prepend_token s (next_token text)
@@ -64,11 +65,11 @@ module _ {A : Type 0} (m : Meaning A) where
   parse_all_tokens-stuck None = refl
   parse_all_tokens-stuck (Some ts) = parse_tokens-stuck ts
 
-  -- after tokens with which no expression begins there is none
+  -- no expression begins with the tokens so far, so no text completes one
   pub reads-stuck : (text : List ℕ) → reads m stuck text ≡ None
   unfolding reads
   reads-stuck text = parse_all_tokens-stuck (tokens_of text)
 
-  -- the token in front makes a state
+  -- the leading token makes a state
   pub reads-found : (s : ParseState A) (text : List ℕ) (t : Token) (rest : List ℕ) → next_token text ≡ found t rest → reads m s text ≡ reads m (step m s t) rest
   reads-found s text t rest e = reads-on s text ∙ ap (reads_on s) e

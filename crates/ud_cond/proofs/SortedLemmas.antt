@@ -1,4 +1,4 @@
--- Sorted rows: what a search finds among them, and how they stay sorted.
+-- Sorted rows: where a search ends, and how rows stay sorted.
 use Rattle.std.proofs.Common.{◌≡◌, ◌<◌, ◌≤◌, ◌+◌, ◌-◌, ℕ, List, length, get_or, Bool, true, false, Result, Ok, Err, IfOk, IfErr, if◌then◌else◌, Ordering, Less, Equal, Greater, is_eq, is_lt, bytes_eq, refl, sym, ◌∙◌, ap, ap₂, subst, arith, inl, inr, ◌⊎◌}
 use Rattle.std.proofs.Math.ListN.{set}
 use Rattle.std.specs.List.{insert}
@@ -29,13 +29,13 @@ then_equal Less b e = absurd (let no : true ≡ false = ap is_lt e in cc)
 then_equal Equal b e = e
 then_equal Greater b e = absurd (let no : false ≡ true = ap is_eq e in cc)
 
--- what comes after another doesn't come before it by its key
+-- a name that comes after another doesn't come before it by its key
 then_greater : (a b : Ordering) → ordering_then a b ≡ Greater → is_lt a ≡ false
 then_greater Less b e = absurd (let no : true ≡ false = ap is_lt e in cc)
 then_greater Equal b e = refl
 then_greater Greater b e = refl
 
--- names that stand to each other as equal are the same
+-- names that compare as equal are equal
 name_ties : (m n : List ℕ) → name_cmp m n ≡ Equal → m ≡ n
 name_ties m n e =
     let alike : same_key_cmp m n ≡ Equal = then_equal (nat_cmp (key_of m) (key_of n)) (same_key_cmp m n) e in
@@ -52,12 +52,12 @@ apart_by m n false e f = refl
 apart : (m n : List ℕ) (o : Ordering) → name_cmp m n ≡ o → is_eq o ≡ false → bytes_eq m n ≡ false
 apart m n o e f = apart_by m n (bytes_eq m n) refl (ap is_eq e ∙ f)
 
--- the other way round
+-- the comparison the other way round
 turned : (m n : List ℕ) → name_cmp m n ≡ Less → name_cmp n m ≡ Greater
 turned m n e = name_total.antisymm n m ∙ ap ordering_reverse e
 
 module _ (rows : List Argument) (sorted : AreSorted rows) where
-  -- the row of a name is the last that names it
+  -- the row of a name is the last row of the name
   pub last-row : (i : ℕ) (name : List ℕ) → IsRowOf rows i name → IsLastRow rows i name
   last-row i name row = record {
     within = row.within;
@@ -76,7 +76,7 @@ module _ (rows : List Argument) (sorted : AreSorted rows) where
       default : (k : ℕ) (d : Argument) → k < length rows → (get_or rows k d).name ≡ name_at rows k
       default k d high = ap (λ a. a.name) (get_or_default rows k d no_row high)
 
-  -- the keys rise too
+  -- the keys of sorted rows don't fall
   pub rise-keys : (key : ℕ) → IsNonDecreasingBy (λ a. ordering_index (nat_cmp (key_of a.name) key)) rows
   rise-keys key = searchable_from_sorted nat_cmp_total (λ a. key_of a.name) rows key (λ k d low high.
       let less : name_cmp (get_or rows k d).name (get_or rows (k + 1) d).name ≡ Less =
@@ -86,14 +86,14 @@ module _ (rows : List Argument) (sorted : AreSorted rows) where
       default : (k : ℕ) (d : Argument) → k < length rows → (get_or rows k d).name ≡ name_at rows k
       default k d high = ap (λ a. a.name) (get_or_default rows k d no_row high)
 
-  -- a search by halving ends at the name's row, or at its gap
+  -- a binary search ends at the name's row, or at its gap
   pub searched : (name : List ℕ) (r : Result ℕ ℕ) → IsSearchInRange r (length rows) → IsBinarySearchResult (λ a. name_cmp a.name name) rows r →
       IfOk r (λ i. IsRowOf rows i name) × IfErr r (λ i. IsGapFor rows i name)
   searched name (Ok i) within same = (record { within = within; named = name_ties (name_at rows i) name (same no_row) }, tt)
   searched name (Err i) within parted =
       (tt, record { within = within; after = λ k low. (parted (rise name)).0 k no_row (omega arith) low; before = λ k low high. (parted (rise name)).1 k no_row low high })
 
--- no row names what has a gap
+-- a name that has a gap has no row
 pub none-gap : (rows : List Argument) (i : ℕ) (name : List ℕ) → IsGapFor rows i name → NoneFrom rows i name
 none-gap rows i name gap k low high = apart (name_at rows k) name Greater (gap.before k low high) refl
 
@@ -103,7 +103,7 @@ none-at_all rows i name gap k low high = elim (cases_lt k i) [
   | inr above ↦ none-gap rows i name gap k above high
 ]
 
--- a search by keys that finds none ends at the name's gap
+-- a search by keys that finds no row ends at the name's gap
 pub gap-keys : (rows : List Argument) (sorted : AreSorted rows) (name : List ℕ) (r : Result ℕ ℕ) → IsSearchInRange r (length rows) →
     IsBinarySearchResult (λ a. nat_cmp (key_of a.name) (key_of name)) rows r → IfErr r (λ i. IsGapFor rows i name)
 gap-keys rows sorted name (Ok i) within same = tt
@@ -113,7 +113,7 @@ gap-keys rows sorted name (Err i) within parted = record {
   before = λ k low high. ap (λ o. ordering_then o (same_key_cmp (name_at rows k) name)) ((parted (rise-keys rows sorted (key_of name))).1 k no_row low high);
 }
 
--- a row that is changed, its name staying
+-- a row is changed and keeps its name
 pub sorted-set : (rows : List Argument) (i : ℕ) (a : Argument) → AreSorted rows → IsRowOf rows i a.name → AreSorted (set rows i a)
 sorted-set rows i a sorted row j k low high =
     ap₂ name_cmp (kept j (cases_lt j i)) (kept k (cases_lt k i)) ∙ sorted j k low (omega (arith, length-set rows i a))
@@ -121,14 +121,15 @@ sorted-set rows i a sorted row j k low high =
     kept : (n : ℕ) → (n < i) ⊎ (i ≤ n) → name_at (set rows i a) n ≡ name_at rows n
     kept n c = grind (arith, get_or-set_other rows i n a no_row, get_or-set_same rows i a no_row row.within, row.named)
 
--- names with one put in: each is an old one before its place, the new one at it, or an old one moved up by one
+-- names with one inserted: each is an old one before the position, the new one at it, or an old one
+-- after it, moved up by one
 ascends-more : (R : List ℕ → List ℕ → Ordering) (old new : ℕ → List ℕ) (n i : ℕ) (x : List ℕ) → ((j k : ℕ) → j < k → k < n → R (old j) (old k) ≡ Less) →
     ((k : ℕ) → k < i → new k ≡ old k) → ((k : ℕ) → k ≡ i → new k ≡ x) → ((k : ℕ) → i < k → new k ≡ old (k - 1)) →
     ((k : ℕ) → k < i → R (old k) x ≡ Less) → ((k : ℕ) → i ≤ k → k < n → R x (old k) ≡ Less) → (j k : ℕ) → j < k → k < n + 1 → i ≤ n → R (new j) (new k) ≡ Less
 ascends-more R old new n i x sorted below here above after before j k low high within =
     grind (arith, below j, here j, above j, below k, here k, above k, sorted j k, sorted j (k - 1), sorted (j - 1) (k - 1), after j, before (k - 1))
 
--- a row that is added in its gap
+-- a row is inserted in its gap
 pub sorted-insert : (rows : List Argument) (i : ℕ) (a : Argument) → AreSorted rows → IsGapFor rows i a.name → AreSorted (insert rows i a)
 sorted-insert rows i a sorted gap j k low high =
     let new = insert rows i a in
@@ -141,7 +142,7 @@ sorted-insert rows i a sorted gap j k low high =
     above gap.after (λ n l h. name_total.antisymm a.name (name_at rows n) ∙ ap ordering_reverse (gap.before n l h))
     j k low (omega arith) gap.within
 
--- rows that a row is added to, unless memory is refused
+-- a row is inserted, unless the allocation fails
 pub sorted-added : (rows : List Argument) (i : ℕ) (a : Argument) (b : Bool) → AreSorted rows → IsGapFor rows i a.name → AreSorted (if b then insert rows i a else rows)
 sorted-added rows i a true sorted gap = sorted-insert rows i a sorted gap
 sorted-added rows i a false sorted gap = sorted

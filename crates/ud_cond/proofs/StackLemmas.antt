@@ -1,4 +1,4 @@
--- What waits, by both stacks: what a push and a pop do to it, and how much it weighs.
+-- Both stacks: what a push and a pop do to the frames, and how much the frames weigh.
 use Rattle.std.proofs.Common.{◌≡◌, ℕ, ◌≤◌, ◌<◌, ◌+◌, ◌*◌, ◌==◌, List, [], ◌∷◌, ◌++◌, length, reverse, Option, None, refl, sym, ◌∙◌, ap, subst, arith}
 use Rattle.std.proofs.lemmas.List.{length-reverse, reverse-append}
 use Rattle.ud_model.specs.conditions.Tokens.{Token, at_end, unreadable, found, next_token}
@@ -11,7 +11,7 @@ use Rattle.ud_cond.specs.declared.stacks.PendingOp.TheVariants.{Binary, Prefix, 
 use Rattle.ud_cond.specs.Stacks.{frames, AreMatched, weight, IsSettled, is_empty, parse_state}
 use Rattle.ud_cond.proofs.ReadingLemmas.{reads_on, reads-on, reads-found}
 
--- what waits weighs as much as both stacks are long
+-- the frames weigh as much as both stacks are long
 pub weighs : (ws : List PendingOp) (vs : List Value) → AreMatched ws vs → weight (frames ws vs) ≡ length ws + length vs
 weighs [] [] m = refl
 weighs [] (a ∷ vs) m = absurd m
@@ -37,7 +37,7 @@ pub holds-both : (new ws : List PendingOp) (more vs : List Value) (o : Operator)
 holds-both new ws more vs o a e f m =
     holds-push new ws (reverse more) (Binary o) e (subst (λ us. AreMatched (Binary o ∷ reverse ws) us) (sym (ap reverse f ∙ reverse-append vs (a ∷ []))) m)
 
--- what waits has room for one byte more, or for two
+-- there is capacity for one more operator, or for an operand too
 pub room : (ws : List PendingOp) (vs : List Value) (n : ℕ) → AreMatched (reverse ws) (reverse vs) → weight (frames (reverse ws) (reverse vs)) + 1 ≤ n → length ws < n
 room ws vs n m l =
     let all = weighs (reverse ws) (reverse vs) m in
@@ -56,11 +56,11 @@ nothing_by (Binary o ∷ ws) (a ∷ vs) m = grind arith
 nothing_by (Prefix o ∷ ws) vs m = grind arith
 nothing_by (Opening ∷ ws) vs m = grind arith
 
--- nothing waits where no operator does
+-- no frame is pending if no operator is
 pub nothing : (ws : List PendingOp) (vs : List Value) → AreMatched (reverse ws) (reverse vs) → (length ws == 0) ≡ is_empty (frames (reverse ws) (reverse vs))
 nothing ws vs m = ap (λ n. n == 0) (sym (length-reverse ws)) ∙ nothing_by (reverse ws) (reverse vs) m
 
--- a looser operator on top isn't taken
+-- a looser operator on top isn't popped
 settled-between : (j : ℕ) (o : Operator) (ws : List PendingOp) (vs : List Value) → precedence o < j → IsSettled j (frames (Binary o ∷ ws) vs)
 settled-between j o ws [] l = tt
 settled-between j o ws (a ∷ vs) l = l
@@ -69,12 +69,12 @@ pub settled-top : (old new : List PendingOp) (vs : List Value) (j : ℕ) (o : Op
 settled-top old new vs j o e l = subst (λ ws. IsSettled j (frames ws vs)) (sym (ap reverse e ∙ reverse-append new (Binary o ∷ []))) (settled-between j o (reverse new) vs l)
 
 module _ (m : Meaning Value) where
-  -- what is meant so far goes on in the state that the next token makes
+  -- the meaning so far continues in the state that the next token makes
   pub goes-on : (all : Option Value) (o : Option Value) (s : List (Frame Value)) (q : ParseState Value) (text : List ℕ) (t : Token) (rest : List ℕ) → all ≡ reads m (parse_state o s) text → parse_state o s ≡ q →
       found t rest ≡ next_token text → all ≡ reads m (step m q t) rest
   goes-on all o s q text t rest e f h = e ∙ ap (λ p. reads m p text) f ∙ reads-found m q text t rest (sym h)
 
-  -- what is meant so far is what the state means where the text ends, and nothing where it can't be read
+  -- the meaning so far is that of the state if the text ends, and nothing if the text is unreadable
   pub ends : (all : Option Value) (q : ParseState Value) (text : List ℕ) → all ≡ reads m q text → at_end ≡ next_token text → finish m q ≡ all
   ends all q text e h = sym (e ∙ reads-on m q text ∙ ap (reads_on m q) (sym h))
 

@@ -1,37 +1,42 @@
--- DefinedOperands: what stands after `defined`, and what comes next.
--- ud_model, specs/aids/Parsing.antt, says what a text means in a state. A name that is read after `defined` means the same there: the
--- state that asks for it comes to the state that has its value, after fewer bytes.
+-- DefinedOperands: the name after `defined`, and what follows.
+-- `ud_model.specs.aids.Parsing` defines what a text means in a state. A name that is read after
+-- `defined` means the same there: the state that asks for it comes to the state that has its
+-- value, after fewer bytes.
 --
---   ReadsDefined m text r           r is a name after `defined` and what follows it; or there is none
---   ReadsDefinedInParens m text r   r is a name after `defined (` and what follows the parenthesis; or there is none
+--   ReadsDefined m text r           `r` is the value of a `defined` and what follows; or nothing
+--   ReadsDefinedInParens m text r   `r` is the value of a `defined (` and what follows the
+--                                   parenthesis; or nothing
 use Rattle.std.specs.Prelude.{◌≡◌, ℕ, ◌<◌, false, List, length, Option, Some, None}
 use Rattle.ud_model.specs.conditions.Tokens.{name, closing, NextToken, found}
 use Rattle.ud_model.specs.aids.Parsing.{Meaning, Frame, ParseState, has, asks, asks_inside, reads}
 
--- what comes next, if it is a name without arguments or a closing parenthesis
+-- `plain_name next`: the name and what follows it, if the next token is a name without arguments
 abbrev pub plain_name : NextToken → Option (List ℕ × List ℕ)
 plain_name (found (name n false) rest) = Some (n, rest)
 plain_name _ = None
 
+-- `after_paren next`: what follows the next token, if that is a closing parenthesis
 abbrev pub after_paren : NextToken → Option (List ℕ)
 after_paren (found closing rest) = Some rest
 after_paren _ = None
 
 module _ {A : Type 0} (m : Meaning A) (start : List (Frame A) → ParseState A) where
-  -- the value is that of a `defined`
+  -- `Asked m start text v rest`: in each state `start s`, `text` means what the shorter `rest`
+  -- means after the operand `v`
   pub record Asked (text : List ℕ) (v : A) (rest : List ℕ) : Type 0 where
     pub same : (s : List (Frame A)) → reads m (start s) text ≡ reads m (has v s) rest
     pub shorter : length rest < length text
 
-  -- a value and what follows it; or no expression goes on so
+  -- `ReadsValueOrNothing m start text r`: `r` is a value and what follows it; or `r` is nothing,
+  -- and no expression continues so
   abbrev pub ReadsValueOrNothing : List ℕ → Option (A × List ℕ) → Type 0
   ReadsValueOrNothing text None = (s : List (Frame A)) → reads m (start s) text ≡ None
   ReadsValueOrNothing text (Some r) = Asked text r.0 r.1
 
--- after `defined`
+-- `ReadsDefined m text r`: `ReadsValueOrNothing` after `defined`
 abbrev pub ReadsDefined : {A : Type 0} → Meaning A → List ℕ → Option (A × List ℕ) → Type 0
 ReadsDefined m = ReadsValueOrNothing m asks
 
--- after `defined (`
+-- `ReadsDefinedInParens m text r`: `ReadsValueOrNothing` after `defined (`
 abbrev pub ReadsDefinedInParens : {A : Type 0} → Meaning A → List ℕ → Option (A × List ℕ) → Type 0
 ReadsDefinedInParens m = ReadsValueOrNothing m asks_inside

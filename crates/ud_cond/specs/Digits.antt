@@ -1,12 +1,13 @@
--- Digits: constants of one digit, as most are.
+-- Digits: constants of one digit, the common case.
 --
---   IsOneDigit w z   the word is a constant without a `u`, of this number, and begins neither as a name nor with a `-`
+--   IsOneDigit w z   the word is a constant without a `u`, of the number `z`
 use Rattle.std.specs.Prelude.{◌≡◌, ℕ, ℤ, List, false, Some}
 use Rattle.ud_model.specs.text.Bytes.{is_identifier}
 use Rattle.ud_model.specs.conditions.Constants.{starts_with_byte, constant_parts, constant_sign}
 use Rattle.ud_model.specs.conditions.Values.{constant_value}
 
--- the word is a constant without a `u`, of this number, and begins neither as a name nor with a `-`
+-- `IsOneDigit w z`: the word is a constant without a `u`, of the number `z`, and begins neither as
+-- a name nor with a `-`
 pub record IsOneDigit (w : List ℕ) (z : ℤ) : Type 0 where
   pub sign : constant_sign (constant_parts w) ≡ Some false
   pub value : constant_value w ≡ Some z

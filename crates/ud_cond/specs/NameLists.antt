@@ -1,32 +1,34 @@
 -- NameLists: the names of a text, token by token.
--- ud_model, specs/conditions/Names.antt, says what the names of a tree are. A text that has a tree has the same ones, in the order of
--- its tokens.
+-- `ud_model.specs.conditions.Names` defines the names of a tree. A text that has a tree has the
+-- same names, in the order of its tokens.
 --
---   name_in_token t      the name that a token is, if it is one
---   names_in_text text   the names of a text, where it is tokens to its end
---   Named                names that are listed: one alone, and then those of a text
+--   name_in_token t              the name that a token is, if it is one
+--   names_in_text text           the names of a text that consists of tokens
+--   names_remaining alone text   one name, if there is one, and then those of a text
 use Rattle.std.specs.Prelude.{ℕ, List, [], ◌∷◌, ◌++◌, Option, Some, None}
 use Rattle.std.specs.Option.{option_to_list}
 use Rattle.ud_model.specs.conditions.Tokens.{Token, name}
 use Rattle.ud_model.specs.aids.Parsing.{tokens_of}
 
--- the name that a token is, if it is one
+-- `name_in_token t`: the name that the token is, if it is one
 abbrev pub name_in_token : Token → Option (List ℕ)
 name_in_token (name n arguments) = Some n
 name_in_token _ = None
 
+-- `names_in_tokens ts`: the names among the tokens, in order
 abbrev pub names_in_tokens : List Token → List (List ℕ)
 names_in_tokens [] = []
 names_in_tokens (t ∷ ts) = option_to_list (name_in_token t) ++ names_in_tokens ts
 
+-- `names_in_all tokens`: the names among the tokens, or none without tokens
 abbrev pub names_in_all : Option (List Token) → List (List ℕ)
 names_in_all None = []
 names_in_all (Some ts) = names_in_tokens ts
 
--- the names of a text, where it is tokens to its end
+-- `names_in_text text`: the names of the text if it consists of tokens, else none
 abbrev pub names_in_text : List ℕ → List (List ℕ)
 names_in_text text = names_in_all (tokens_of text)
 
--- a name alone, if there is one, and then those of a text
+-- `names_remaining alone text`: the name `alone`, if there is one, and then those of the text
 abbrev pub names_remaining : Option (List ℕ) → List ℕ → List (List ℕ)
 names_remaining alone text = option_to_list alone ++ names_in_text text

@@ -1,8 +1,8 @@
--- TwoSlots: what waits while an expression is read in which few operators wait.
--- ud_model, specs/aids/Parsing.antt, says what waits as a list; here it is held in two places.
+-- TwoSlots: what is pending in an expression with few pending operators, as two slots.
+-- `ud_model.specs.aids.Parsing` has what is pending as one list of frames.
 --
---   pending_in p s       what is held in a place, before what waits longer
---   pending_in_slots f   what is held in both places
+--   pending_in p s       what is pending in a slot, before the frames that are pending longer
+--   pending_in_slots f   what is pending in both slots
 use Rattle.std.specs.Prelude.{List, [], ◌∷◌, Option, Some, None}
 use Rattle.ud_model.specs.aids.Parsing.{Frame, left}
 use Rattle.ud_model.specs.declared.operator.Operator.{Operator}
@@ -10,15 +10,15 @@ use Rattle.ud_cond.specs.declared.values.Value.{Value}
 use Rattle.ud_cond.specs.declared.fast_path.PendingSlot.{PendingSlot}
 use Rattle.ud_cond.specs.declared.fast_path.TwoSlots.{TwoSlots}
 
--- an operand and its operator, if there is one, before what waits longer
+-- `pending_by o a s`: the operator with its left operand `a`, if there is an operator, before `s`
 abbrev pub pending_by : Option Operator → Value → List (Frame Value) → List (Frame Value)
 pending_by None a s = s
 pending_by (Some o) a s = left o a ∷ s
 
--- what is held in a place, before what waits longer
+-- `pending_in p s`: what is pending in the slot, before the frames `s`, which are pending longer
 abbrev pub pending_in : PendingSlot → List (Frame Value) → List (Frame Value)
 pending_in p s = pending_by p.operator p.operand s
 
--- what is held in both places
+-- `pending_in_slots f`: what is pending in both slots
 abbrev pub pending_in_slots : TwoSlots → List (Frame Value)
 pending_in_slots f = pending_in f.inner (pending_in f.outer [])

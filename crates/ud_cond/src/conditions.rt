@@ -1,4 +1,7 @@
-//! What the table decides of a directive.
+//! The conditions of directives, as the table decides them.
+//!
+//! An expression is evaluated with signed numbers first, on the fast path if possible. If the
+//! expression has a `u`, its value is the one with 0 as the least number.
 
 ghost use Rattle.std.specs.Prelude.{◌≡◌, ◌≤◌, List, length, option_map, true};
 ghost use Rattle.ud_model.specs.text.Bytes.{are_word_bytes, is_identifier};
@@ -16,25 +19,26 @@ use crate::values::{Scope, Value};
 use ud_model::bytes::{are_white, is_digit, skip_white, word_len};
 use ud_model::{Cond, Kind, Role, Test};
 
-/// How expressions are valued.
+/// The options for the values of expressions.
 #[derive(Clone, Copy, Debug, PartialEq, Eq)]
 pub struct Rules {
-    /// Those that name no symbol of the table are valued too, and aren't unknown (`-k`).
+    /// `true` if expressions without a symbol of the table have values too, and aren't unknown
+    /// (`-k`).
     pub constants: bool,
-    /// `&&` and `||` are unknown where an operand is (`-K`).
+    /// `true` if `&&` and `||` are unknown whenever an operand is (`-K`).
     pub strict: bool,
 }
 
-/// What is decided of a directive.
+/// The decision on a directive.
 #[derive(Clone, Copy, Debug, PartialEq, Eq)]
 pub struct Answer {
-    /// Its condition.
+    /// The condition of the directive.
     pub cond: Cond,
-    /// Whether its section is plain text.
+    /// `true` if the section of the directive is plain text.
     pub ignoring: bool,
 }
 
-/// What a value decides.
+/// Returns the condition that a value decides.
 fn cond_of_value(rules: Rules, value: Value) -> Cond
     ensures { result ≡ cond_of_value (as_rules rules) value }
 {
@@ -48,7 +52,8 @@ fn cond_of_value(rules: Rules, value: Value) -> Cond
     }
 }
 
-/// What is decided of the text of an `#if` or `#elif`: most are rows without a `u`.
+/// Returns the condition of the text of an `#if` or `#elif`. Most texts suit the fast path and
+/// have no `u`.
 #[inline(never)]
 fn expression_cond(text: &[u8], symbols: &Symbols, rules: Rules) -> Cond
     requires fits { length text.now ≤ LINE_BYTES }
@@ -67,7 +72,7 @@ fn expression_cond(text: &[u8], symbols: &Symbols, rules: Rules) -> Cond
     general_expression_cond(text, symbols, rules)
 }
 
-/// The same of any text.
+/// Returns the condition of any text of an `#if` or `#elif`, without the fast path.
 #[cold]
 #[inline(never)]
 fn general_expression_cond(text: &[u8], symbols: &Symbols, rules: Rules) -> Cond
@@ -98,7 +103,7 @@ fn general_expression_cond(text: &[u8], symbols: &Symbols, rules: Rules) -> Cond
     }
 }
 
-/// The one identifier that a text is but for white space around it.
+/// Returns the one identifier that a text is, but for white space around it.
 pub(crate) fn sole_name(text: &[u8]) -> Option<&[u8]>
     ensures { option_map (λ n. n.now) result ≡ spec.sole_name text.now }
 {
@@ -112,7 +117,7 @@ pub(crate) fn sole_name(text: &[u8]) -> Option<&[u8]>
     }
 }
 
-/// Whether a run of word bytes is an identifier.
+/// Returns whether a run of word bytes is an identifier.
 fn is_name_word(word: &[u8]) -> bool
     requires { are_word_bytes word.now ≡ true }
     ensures { result ≡ is_identifier word.now }
@@ -123,7 +128,7 @@ fn is_name_word(word: &[u8]) -> bool
     }
 }
 
-/// What is decided of the text of an `#ifdef`.
+/// Returns the decision on the text of an `#ifdef`.
 #[inline(never)]
 fn ifdef_answer(text: &[u8], symbols: &Symbols) -> Answer
     ensures { as_decision result ≡ spec.ifdef_decision (spec.sole_name text.now) symbols.now }
@@ -148,7 +153,7 @@ fn ifdef_answer(text: &[u8], symbols: &Symbols) -> Answer
     }
 }
 
-/// The other way round.
+/// Returns the opposite condition. Unknown stays unknown.
 fn negate(cond: Cond) -> Cond
     ensures { result ≡ spec.negate cond }
 {
@@ -159,7 +164,7 @@ fn negate(cond: Cond) -> Cond
     }
 }
 
-/// What is decided of a text by what makes its condition true.
+/// Returns the decision on a text by the test that makes its condition true.
 #[inline(always)]
 fn condition_by_test(test: Test, text: &[u8], symbols: &Symbols, rules: Rules) -> Answer
     requires fits { length text.now ≤ LINE_BYTES }
@@ -186,7 +191,8 @@ fn condition_by_test(test: Test, text: &[u8], symbols: &Symbols, rules: Rules) -
     }
 }
 
-/// What is decided by these very rows. Only a directive that begins a section makes it plain text.
+/// Returns the decision by the rows of `symbols`. Only a directive that begins a section makes
+/// the section plain text.
 #[inline(always)]
 fn condition_by_kind(kind: Kind, text: &[u8], symbols: &Symbols, rules: Rules) -> Answer
     requires fits { length text.now ≤ LINE_BYTES }
@@ -199,12 +205,14 @@ fn condition_by_kind(kind: Kind, text: &[u8], symbols: &Symbols, rules: Rules) -
     }
 }
 
-/// The condition of a directive that no continuation cuts, and whether its section is plain text.
+/// Returns the condition of a directive that no continuation cuts, and whether its section is
+/// plain text.
 ///
-/// `text` is what follows the keyword on its masked line, at most `LINE_BYTES`. The answer is that of the list of calls
-/// that `symbols` stands for. Text that isn't understood is unknown, and so are `#else` and `#endif`. Takes no memory.
+/// `text` is what follows the keyword on its masked line, at most `LINE_BYTES`. The result is that
+/// of the list of calls that `symbols` represents. Text that isn't understood is unknown, and so
+/// are `#else` and `#endif`. Takes no memory.
 ///
-/// C11 6.10.1; unifdef(1), `-D`, `-U`, `-iD`, `-iU`, `-k` and `-K`.
+/// (C11 6.10.1; unifdef(1), `-D`, `-U`, `-iD`, `-iU`, `-k` and `-K`)
 #[inline(always)]
 pub fn condition(kind: Kind, text: &[u8], symbols: &Symbols, rules: Rules) -> Answer
     requires fits { length text.now ≤ LINE_BYTES }

@@ -1,6 +1,6 @@
-//! Integer constants, and the numbers that they are.
+//! Integer constants and their values.
 //!
-//! What a constant is stands in ud_model, specs/conditions/Constants.antt (C11 6.4.4.1).
+//! `ud_model.specs.conditions.Constants` defines what a constant is (C11 6.4.4.1).
 
 ghost use Rattle.std.specs.Prelude.{◌≡◌, ◌≤◌, ◌<◌, length, map, IfSome};
 ghost use Rattle.std.specs.List.{prefix_len};
@@ -15,22 +15,22 @@ use ud_model::bytes::is_digit;
 /// The base of a constant.
 #[derive(Clone, Copy)]
 enum Base {
-    /// 8
+    /// Base 8.
     Octal,
-    /// 10
+    /// Base 10.
     Decimal,
-    /// 16
+    /// Base 16.
     Hexadecimal,
 }
 
-/// A word as the digits of a base and what follows them.
+/// A word, split into the digits of a base and what follows them.
 #[derive(Clone, Copy)]
 struct ConstantParts<'a> {
-    /// The base.
+    /// The base of the digits.
     base: Base,
     /// The digits.
     digits: &'a [u8],
-    /// What follows the digits.
+    /// The bytes after the digits.
     suffix: &'a [u8],
 }
 
@@ -40,10 +40,10 @@ const UNSIGNED: [&[u8]; 18] = [
     b"LU", b"llu", b"llU", b"LLu", b"LLU",
 ];
 
-/// The suffixes without one; the first is nothing.
+/// The suffixes without a `u` or `U`; the first is empty.
 const SIGNED: [&[u8]; 5] = [b"", b"l", b"L", b"ll", b"LL"];
 
-/// Whether a byte is a digit of a base.
+/// Returns whether a byte is a digit of a base.
 fn is_digit_of(base: Base, byte: u8) -> bool
     ensures { result ≡ is_digit_of base byte }
 {
@@ -54,7 +54,7 @@ fn is_digit_of(base: Base, byte: u8) -> bool
     }
 }
 
-/// How many digits of a base stand in front.
+/// Returns the number of leading digits of a base.
 fn digits_len(base: Base, text: &[u8]) -> usize
     ensures value { result ≡ prefix_len (is_digit_of base) text.now }
     ensures within { result ≤ length text.now }
@@ -66,7 +66,7 @@ fn digits_len(base: Base, text: &[u8]) -> usize
     count
 }
 
-/// The digits of a base in front, and what follows them.
+/// Splits a text after its leading digits of a base.
 fn split_digits(base: Base, text: &[u8]) -> ConstantParts<'_>
     ensures { as_parts result ≡ spec.split_digits (is_digit_of base) (base_of base) text.now }
 {
@@ -78,7 +78,7 @@ fn split_digits(base: Base, text: &[u8]) -> ConstantParts<'_>
     }
 }
 
-/// Whether `0x` or `0X` stands in front.
+/// Returns whether a word begins with `0x` or `0X`.
 fn has_hex_prefix(word: &[u8]) -> bool
     ensures { result ≡ spec.has_hex_prefix word.now }
 {
@@ -89,7 +89,7 @@ fn has_hex_prefix(word: &[u8]) -> bool
     starts_with_byte(b'x', rest) || starts_with_byte(b'X', rest)
 }
 
-/// The parts of a word.
+/// Splits a word into the parts of a constant.
 fn constant_parts(word: &[u8]) -> ConstantParts<'_>
     ensures { as_parts result ≡ spec.constant_parts word.now }
 {
@@ -102,7 +102,7 @@ fn constant_parts(word: &[u8]) -> ConstantParts<'_>
     }
 }
 
-/// Whether a text is one of these.
+/// Returns whether a text is one of `words`.
 fn is_one_of_texts(mut words: &[&[u8]], text: &[u8]) -> bool
     ensures { result ≡ spec.is_one_of_texts (map (λ w. w.now) words.entry.now) text.now }
 {
@@ -115,7 +115,7 @@ fn is_one_of_texts(mut words: &[&[u8]], text: &[u8]) -> bool
     false
 }
 
-/// Whether a suffix has a `u`, if it is a suffix.
+/// Returns whether a suffix has a `u`, or `None` if the text isn't a suffix.
 #[tactic(auto, unfolding(ud_model::specs::conditions::Constants::suffix_sign))]
 fn suffix_sign(suffix: &[u8]) -> Option<bool>
     ensures { result ≡ spec.suffix_sign suffix.now }
@@ -131,7 +131,7 @@ fn suffix_sign(suffix: &[u8]) -> Option<bool>
     }
 }
 
-/// Whether a word is a constant with a `u`; `None` where it is no constant.
+/// Returns whether a constant has a `u`, or `None` if the word isn't a constant.
 fn constant_sign(word: &[u8]) -> Option<bool>
     ensures { result ≡ spec.constant_sign (spec.constant_parts word.now) }
 {
@@ -143,7 +143,7 @@ fn constant_sign(word: &[u8]) -> Option<bool>
     }
 }
 
-/// Whether a word is an integer constant.
+/// Returns whether a word is an integer constant.
 #[inline(always)]
 pub(crate) fn is_constant(word: &[u8]) -> bool
     ensures { result ≡ spec.is_constant word.now }
@@ -154,14 +154,14 @@ pub(crate) fn is_constant(word: &[u8]) -> bool
     constant_sign(word).is_some()
 }
 
-/// Whether a word is an integer constant with a `u` or `U`.
+/// Returns whether a word is an integer constant with a `u` or `U`.
 pub(crate) fn has_u(word: &[u8]) -> bool
     ensures { result ≡ spec.has_u word.now }
 {
     constant_sign(word).unwrap_or(false)
 }
 
-/// The number that a digit is.
+/// Returns the value of a digit.
 fn digit_value(digit: u8) -> u8
     ensures { result ≡ spec.digit_value digit }
 {
@@ -174,7 +174,7 @@ fn digit_value(digit: u8) -> u8
     }
 }
 
-/// The number of a base, from 1 on.
+/// Returns a base as a number.
 fn radix(base: Base) -> u64
     ensures { result ≡ base_of base }
 {
@@ -185,7 +185,7 @@ fn radix(base: Base) -> u64
     }
 }
 
-/// The number that digits of a base are; `None` where it is above 2^63-1.
+/// Returns the number that digits of a base spell, or `None` if it is above 2^63-1.
 fn number(base: Base, digits: &[u8]) -> Option<i64>
     ensures { result ≡ limited (spec.append_digits (base_of base) 0 digits.now) }
 {
@@ -209,7 +209,7 @@ fn number(base: Base, digits: &[u8]) -> Option<i64>
     }
 }
 
-/// The number of a word that is one digit, as most constants are.
+/// Returns the value of a one-digit constant, the common case.
 #[inline(always)]
 pub(crate) fn single_digit_value(word: &[u8]) -> Option<i64>
     ensures { IfSome result (IsOneDigit word.now) }
@@ -225,7 +225,7 @@ pub(crate) fn single_digit_value(word: &[u8]) -> Option<i64>
     }
 }
 
-/// The number that a word's digits are; `None` where it is above 2^63-1.
+/// Returns the number that a word's digits spell, or `None` if it is above 2^63-1.
 pub(crate) fn constant_value(word: &[u8]) -> Option<i64>
     ensures { result ≡ constant_value word.now }
 {

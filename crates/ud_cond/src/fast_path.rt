@@ -1,7 +1,8 @@
-//! What a row of operands is worth, read without stacks.
+//! The fast path: evaluates an expression that needs at most two pending operators.
 //!
-//! Most expressions have no parentheses but those after `defined`, and few operators wait in them. Such a one is read with
-//! what waits in two places. `parsing` reads every other one, from its front on.
+//! Most expressions have no parentheses but those after `defined`, and few pending operators.
+//! Such an expression is read with two slots and no stacks. `parsing` reads every other one, from
+//! its beginning.
 
 ghost use Rattle.std.specs.Prelude.{◌≡◌, ◌∷◌, [], List, IfSome, IsTrue, Some, false};
 ghost use Rattle.ud_model.specs.conditions.Tokens as tokens;
@@ -19,25 +20,25 @@ use crate::values::{NO_VALUE, Scope, Value, apply_binary, apply_unary, constant,
 use ud_model::Operator;
 use ud_model::bytes::skip_white;
 
-/// A place for a left operand and its operator, which waits for the right one.
+/// A slot for an operator and its left operand, which are pending until the right one comes.
 #[derive(Clone, Copy)]
 pub(crate) struct PendingSlot {
-    /// The operator, if one waits.
+    /// The pending operator, if any.
     operator: Option<Operator>,
-    /// What its operand is worth.
+    /// The value of its left operand.
     operand: Value,
 }
 
-/// What waits while a row is read.
+/// The two slots of the operators that are pending.
 #[derive(Clone, Copy)]
 pub(crate) struct TwoSlots {
-    /// What takes its right operand first.
+    /// The operator that takes its right operand first.
     inner: PendingSlot,
-    /// What takes its right operand then.
+    /// The operator that takes its right operand second.
     outer: PendingSlot,
 }
 
-/// Copies what is worth, part by part: a copy as a whole would copy what lies between the parts too.
+/// Copies a value field by field. A copy as a whole would also copy the bytes between the fields.
 #[inline(always)]
 fn copy_value(to: &mut Value, from: &Value)
     ensures { to.new ≡ from.now }
@@ -49,7 +50,7 @@ fn copy_value(to: &mut Value, from: &Value)
 }
 
 impl PendingSlot {
-    /// An operator waits here with its left operand.
+    /// Fills the slot with an operator and its left operand.
     #[inline(always)]
     fn set(&mut self, operator: Operator, operand: &Value)
         ensures { (s : List (Frame Value)) → pending_in self.new s ≡ left operator operand.now ∷ s }
@@ -58,8 +59,8 @@ impl PendingSlot {
         copy_value(&mut self.operand, operand);
     }
 
-    /// Whether the place is empty then: the operator that waits here takes its operands, of which this is the right one, if
-    /// it is of a level or tighter.
+    /// Applies the pending operator to `value` if it binds at least as tightly as `least`. Returns
+    /// whether the slot is now empty.
     #[inline(always)]
     fn apply_pending(&mut self, scope: &Scope<'_>, least: u8, value: &mut Value) -> bool
         ensures yes { IsTrue result → (s : List (Frame Value)) →
@@ -92,7 +93,7 @@ impl PendingSlot {
 }
 
 impl TwoSlots {
-    /// Whether nothing waits.
+    /// Returns whether nothing is pending.
     #[inline(always)]
     fn is_empty(&self) -> bool
         ensures { IsTrue result → pending_in_slots self.now ≡ [] }
@@ -100,7 +101,8 @@ impl TwoSlots {
         self.inner.operator.is_none() && self.outer.operator.is_none()
     }
 
-    /// The operators of a level or tighter take their operands, of which this is the last.
+    /// Applies the pending operators that bind at least as tightly as `least`, with `value` as
+    /// their last operand.
     #[inline(always)]
     fn reduce(&mut self, scope: &Scope<'_>, least: u8, value: &mut Value)
         ensures { spec.reduce (value_meaning_in scope.now) least value.old
@@ -112,7 +114,7 @@ impl TwoSlots {
         self.outer.apply_pending(scope, least, value);
     }
 
-    /// An operator waits with its left operand, if there is a place for it.
+    /// Pushes an operator with its left operand. Returns whether a slot was free.
     #[inline(always)]
     fn push(&mut self, operator: Operator, operand: &Value) -> bool
         ensures { IsTrue result → pending_in_slots self.new ≡ left operator operand.now ∷
@@ -130,7 +132,7 @@ impl TwoSlots {
         true
     }
 
-    /// Reads an operator after an operand, if it stands between two and there is a place for it.
+    /// Reads an operator after an operand. Returns `false` if it isn't binary or no slot is free.
     #[inline(always)]
     fn read_operator(&mut self, scope: &Scope<'_>, value: &mut Value, operator: Operator) -> bool
         ensures { IsTrue result → spec.step (value_meaning_in scope.now)
@@ -146,7 +148,7 @@ impl TwoSlots {
     }
 }
 
-/// Whether a `!` stands in front, and what follows it; the text without white space in front where none does.
+/// Skips white space and a `!`. Returns whether there was a `!`, and the rest of the text.
 #[inline(always)]
 #[tactic(auto, unfolding(ud_model::specs::conditions::Tokens::next_token))]
 fn skip_not(text: &[u8]) -> (bool, &[u8])
@@ -166,7 +168,7 @@ fn skip_not(text: &[u8]) -> (bool, &[u8])
     }
 }
 
-/// Whether a `(` stands in front, and what follows it; the text without white space in front where none does.
+/// Skips white space and a `(`. Returns whether there was a `(`, and the rest of the text.
 #[inline(always)]
 #[tactic(auto, unfolding(ud_model::specs::conditions::Tokens::next_token))]
 fn skip_open_paren(text: &[u8]) -> (bool, &[u8])
@@ -180,7 +182,7 @@ fn skip_open_paren(text: &[u8]) -> (bool, &[u8])
     }
 }
 
-/// What follows a `)` in front.
+/// Skips white space and a `)`. Returns `None` if there is no `)`.
 #[inline(always)]
 #[tactic(auto, unfolding(ud_model::specs::conditions::Tokens::next_token))]
 fn skip_close_paren(text: &[u8]) -> Option<&[u8]>
@@ -192,7 +194,7 @@ fn skip_close_paren(text: &[u8]) -> Option<&[u8]>
     }
 }
 
-/// A name without arguments in front, and what follows it.
+/// Parses a leading name without arguments. Returns the name and what follows it.
 #[inline(always)]
 fn leading_name(text: &[u8]) -> Option<(&[u8], &[u8])>
     ensures { IfSome result (λ r. token_of text.now ≡
@@ -204,7 +206,7 @@ fn leading_name(text: &[u8]) -> Option<(&[u8], &[u8])>
     }
 }
 
-/// Reads the name after `defined`, in parentheses or not: what the `defined` is worth then, and what follows.
+/// Evaluates a `defined` by the name after it, in parentheses or not. Returns what follows.
 #[inline(always)]
 fn defined_operand<'a>(scope: &Scope<'_>, text: &'a [u8], value: &mut Value) -> Option<&'a [u8]>
     ensures { IfSome result (λ rest. Asked (value_meaning_in scope.now) spec.asks text.now value.new
@@ -219,7 +221,7 @@ fn defined_operand<'a>(scope: &Scope<'_>, text: &'a [u8], value: &mut Value) -> 
     skip_close_paren(end)
 }
 
-/// Reads the operand in front if no operator stands before it: what it is worth then, and what follows it.
+/// Evaluates the leading operand if no operator stands before it. Returns what follows it.
 #[inline(always)]
 fn primary_operand<'a>(scope: &Scope<'_>, text: &'a [u8], value: &mut Value) -> Option<&'a [u8]>
     ensures { IfSome result (λ rest. Asked (value_meaning_in scope.now) spec.needs text.now
@@ -243,7 +245,7 @@ fn primary_operand<'a>(scope: &Scope<'_>, text: &'a [u8], value: &mut Value) -> 
     }
 }
 
-/// Reads the operand in front, after one `!` at most: what it is worth then, and what follows it.
+/// Evaluates the leading operand after at most one `!`. Returns what follows it.
 #[inline(always)]
 fn operand<'a>(scope: &Scope<'_>, text: &'a [u8], value: &mut Value) -> Option<&'a [u8]>
     ensures { IfSome result (λ rest. Asked (value_meaning_in scope.now) spec.needs text.now
@@ -258,7 +260,7 @@ fn operand<'a>(scope: &Scope<'_>, text: &'a [u8], value: &mut Value) -> Option<&
     Some(rest)
 }
 
-/// What the expression of a text is worth, where it is a row of operands between which few operators wait.
+/// Evaluates an expression if it is a sequence of operands with few pending operators.
 #[inline(always)]
 pub(crate) fn evaluate_fast(scope: &Scope<'_>, text: &[u8]) -> Option<Value>
     ensures { IfSome result (λ v. Some v ≡

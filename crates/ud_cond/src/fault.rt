@@ -1,13 +1,13 @@
-//! What keeps a symbol out of the table, as data.
+//! The faults that keep a symbol out of the table, as data.
 
 use std::alloc::AllocError;
 
-/// Why a call on the table of symbols was refused.
+/// The reason why a call on the table of symbols failed.
 #[derive(Clone, Copy, Debug, PartialEq, Eq)]
 pub enum SymbolFault {
     /// The name isn't an identifier, or is `defined`.
     BadName,
-    /// Memory for the name or its value was refused.
+    /// Memory for the name or its value couldn't be allocated.
     OutOfMemory,
 }
 

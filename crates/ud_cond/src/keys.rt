@@ -3,10 +3,10 @@
 ghost use Rattle.std.specs.Prelude.{◌≡◌, slice_index, IsTrue, bytes_eq, true};
 ghost use Rattle.ud_cond.specs.Keys as spec;
 
-/// How many bytes of a name its key is told by.
+/// The number of bytes of a name that its key is made of.
 pub(crate) const KEY_BYTES: usize = 8;
 
-/// The key of a name: its last bytes as one number. Names often begin alike.
+/// Returns the key of a name: its last bytes as one number, since names often begin alike.
 #[inline(always)]
 pub(crate) fn key_of(name: &[u8]) -> u64
     ensures { result ≡ spec.key_of name.now }
@@ -14,7 +14,7 @@ pub(crate) fn key_of(name: &[u8]) -> u64
     key_in(&name[name.len().saturating_sub(KEY_BYTES)..])
 }
 
-/// The first bytes of a text as one number; bytes that it hasn't are 0.
+/// Returns the first bytes of a text as one number. Missing bytes count as 0.
 #[inline(always)]
 fn key_in(bytes: &[u8]) -> u64
     ensures { result ≡ spec.key_in bytes.now }
@@ -25,7 +25,9 @@ fn key_in(bytes: &[u8]) -> u64
     }
 }
 
-/// Whether two names with one key are the same. Those of few bytes are told by the first ones too.
+/// Returns whether two names with the same key are equal.
+///
+/// For names of at most twice `KEY_BYTES` bytes, a comparison of the first bytes suffices.
 #[inline(always)]
 pub(crate) fn is_same(a: &[u8], b: &[u8]) -> bool
     requires { spec.key_of a.now ≡ spec.key_of b.now }
@@ -43,7 +45,7 @@ pub(crate) fn is_same(a: &[u8], b: &[u8]) -> bool
     is_same_text(a, b)
 }
 
-/// Whether two texts are the same.
+/// Returns whether two texts are equal.
 #[inline(never)]
 fn is_same_text(a: &[u8], b: &[u8]) -> bool
     ensures { result ≡ bytes_eq a.now b.now }
@@ -51,7 +53,7 @@ fn is_same_text(a: &[u8], b: &[u8]) -> bool
     a == b
 }
 
-/// The first bytes of a text, where each may be there or not.
+/// Returns the first bytes of a text as one number, if the text may be shorter than a key.
 fn byte_by_byte(bytes: &[u8]) -> u64
     ensures { result ≡ spec.key_in bytes.now }
 {
@@ -67,7 +69,7 @@ fn byte_by_byte(bytes: &[u8]) -> u64
     ])
 }
 
-/// A byte of a text; 0 if it has fewer.
+/// Returns a byte of a text, or 0 if the text is shorter.
 fn byte_at(bytes: &[u8], i: usize) -> u8
     ensures { result ≡ slice_index bytes.now i }
 {

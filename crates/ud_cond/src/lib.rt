@@ -1,9 +1,11 @@
-//! Symbols, and what they decide of a condition.
+//! The table of symbols, and the conditions that it decides.
 //!
-//! What a list of calls says of a name stands in ud_model, specs/conditions/Table.antt; what a condition is, in specs/conditions/Conditions.antt.
-//! `specs/SymbolTable.antt` says what a `Symbols` stands for and how it is sorted, `specs/NameFilters.antt` which names it tells at once
-//! that it doesn't list, `specs/Evaluation.antt` what is kept of an expression while `fast_path` or `parsing` reads it, and
-//! `specs/TwoSlots.antt` and `specs/Stacks.antt` what waits meanwhile.
+//! `ud_model.specs.conditions.Table` defines what a list of calls says of a name, and
+//! `ud_model.specs.conditions.Conditions` what a condition is.
+//! `specs.SymbolTable` defines what a `Symbols` represents and how its rows are sorted,
+//! `specs.NameFilters` which names are known to be unlisted without a search,
+//! `specs.Evaluation` the value that `fast_path` or `parsing` keeps of an expression, and
+//! `specs.TwoSlots` and `specs.Stacks` the operators that are pending meanwhile.
 #![tactic(auto)]
 
 mod conditions;

@@ -1,4 +1,4 @@
-//! The names of a directive's text.
+//! The names in the text of a directive.
 
 ghost use Rattle.std.specs.Prelude.{◌≡◌, ◌≤◌, length, is_some, option_map, None};
 ghost use Rattle.ud_model.specs.aids.Parsing.{expression_of};
@@ -12,7 +12,7 @@ use crate::parsing::evaluate;
 use crate::values::Scope;
 use ud_model::{Kind, Test};
 
-/// Whether a text is one expression.
+/// Returns whether a text is one expression.
 fn is_expression(text: &[u8]) -> bool
     requires fits { length text.now ≤ LINE_BYTES }
     ensures { result ≡ is_some (expression_of text.now) }
@@ -25,7 +25,7 @@ fn is_expression(text: &[u8]) -> bool
     evaluate(&scope, text).is_some()
 }
 
-/// The names of an expression; none where the text isn't one.
+/// Returns the names of an expression; none if the text isn't one.
 fn expression_names(text: &[u8]) -> Names<'_>
     requires fits { length text.now ≤ LINE_BYTES }
     ensures { result ≡ names_in_tree (expression_of text.now) }
@@ -37,7 +37,7 @@ fn expression_names(text: &[u8]) -> Names<'_>
     }
 }
 
-/// The one name that a text is but for white space around it.
+/// Returns the one name that a text is, but for white space around it; else none.
 fn single_name(text: &[u8]) -> Names<'_>
     ensures { result ≡ name_alone (sole_name text.now) }
 {
@@ -47,14 +47,15 @@ fn single_name(text: &[u8]) -> Names<'_>
     }
 }
 
-/// The names of a directive that no continuation cuts, in order and with repeats: of an `#if` or `#elif` those of its
-/// operands and of each `defined`, but none inside of arguments; of an `#ifdef`, `#ifndef`, `#elifdef` or `#elifndef` its
-/// one name.
+/// Returns the names of a directive that no continuation cuts, in order and with repeats.
 ///
-/// `text` is what follows the keyword on its masked line, at most `LINE_BYTES`. Text that isn't understood has no names,
-/// and neither have `#else` and `#endif`. Takes no memory.
+/// An `#if` or `#elif` has the names of its operands and of each `defined`, but none inside
+/// arguments. An `#ifdef`, `#ifndef`, `#elifdef` or `#elifndef` has its one name. Text that isn't
+/// understood has no names, and neither have `#else` and `#endif`.
 ///
-/// unifdef(1), `-s` and `-S`.
+/// `text` is what follows the keyword on its masked line, at most `LINE_BYTES`. Takes no memory.
+///
+/// (unifdef(1), `-s` and `-S`)
 pub fn names(kind: Kind, text: &[u8]) -> Names<'_>
     requires fits { length text.now ≤ LINE_BYTES }
     ensures { result ≡ names_of kind text.now }

@@ -1,34 +1,35 @@
-//! A quick test by which most names that the table doesn't list are told.
+//! A filter that rejects most unlisted names without a search.
 
 ghost use Rattle.std.specs.Prelude.{◌≡◌, ◌<◌, ℕ, true};
 ghost use Rattle.ud_cond.specs.NameFilters as spec;
 
-/// How many marks there are.
+/// The number of slots.
 pub(crate) const FILTER_SLOTS: usize = 2048;
 
-/// By this number a key is multiplied: it is odd, and its bits are spread, so that all bytes of a key count in the bits in
-/// the middle of the product.
+/// The number that a key is multiplied by. It is odd and its bits are spread, so all bytes of
+/// a key count in the middle bits of the product.
 const HASH_MULTIPLIER: u64 = 0x9e37_79b9_7f4a_7c15;
 
-/// The bits of the product below those that tell the mark.
+/// The number of bits of the product below those that select the slot.
 const LOW_BITS: u32 = 52;
 
-/// Which marks were noted. A name's mark is told by its key, so several names have the same.
+/// A filter of names (a Bloom filter with one hash). A name's key selects its slot, so several
+/// names share one.
 #[derive(Drop)]
 pub(crate) struct NameFilter {
-    /// Whether each mark was noted.
+    /// For each slot, `true` if a key of the slot was inserted.
     slots: [bool; FILTER_SLOTS],
 }
 
 impl NameFilter {
-    /// No mark was noted.
+    /// Returns an empty filter.
     pub(crate) fn new() -> NameFilter {
         NameFilter {
             slots: [false; FILTER_SLOTS],
         }
     }
 
-    /// Whether the mark of a key was noted.
+    /// Returns whether the slot of `key` is set.
     #[inline(always)]
     pub(crate) fn may_contain(&self, key: u64) -> bool
         ensures { result ≡ spec.slot_is_set self.now.slots key }
@@ -36,7 +37,7 @@ impl NameFilter {
         self.slots[slot_of(key)]
     }
 
-    /// Notes the mark of a key.
+    /// Sets the slot of `key`.
     pub(crate) fn insert(&mut self, key: u64)
         ensures inserted { spec.slot_is_set self.new.slots key ≡ true }
         ensures others_kept { (other : ℕ) → spec.slot_is_set self.old.slots other ≡ true →
@@ -46,7 +47,7 @@ impl NameFilter {
     }
 }
 
-/// The mark of a key.
+/// Returns the slot of a key.
 #[inline(always)]
 pub(crate) fn slot_of(key: u64) -> usize
     ensures value { result ≡ spec.slot_of key }

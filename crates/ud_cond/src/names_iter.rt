@@ -1,4 +1,4 @@
-//! Names, one at a time.
+//! An iterator over names.
 
 ghost use Rattle.std.specs.Prelude.{◌≡◌, List, ℕ, is_some, option_map, true, IfNone, IfSome, []};
 ghost use Rattle.std.specs.Prelude.{◌∷◌, Some, None};
@@ -10,12 +10,12 @@ ghost use Rattle.ud_cond.specs.CondViews.{as_token};
 use crate::tokens::{NextToken, Token, next_token};
 use std::marker::Model;
 
-/// The names of a condition, in order and with repeats.
+/// An iterator over the names of a condition, in order and with repeats.
 #[derive(Drop)]
 pub struct Names<'a> {
     /// A name that comes before the others.
     alone: Option<&'a [u8]>,
-    /// A text that is tokens to its end, whose names come then.
+    /// A text that consists of tokens. Its names come next.
     rest: &'a [u8],
 }
 
@@ -32,7 +32,7 @@ impl<'a> Model for Names<'a> {
 }
 
 impl<'a> Names<'a> {
-    /// No names.
+    /// Returns an iterator over no names.
     #[tactic(auto, unfolding(ud_model::specs::aids::Parsing::tokens_of, ud_model::specs::conditions::Tokens::next_token))]
     pub(crate) fn none() -> Names<'a>
         ensures { result ≡ [] }
@@ -43,7 +43,7 @@ impl<'a> Names<'a> {
         }
     }
 
-    /// One name.
+    /// Returns an iterator over one name.
     #[tactic(auto, unfolding(ud_model::specs::aids::Parsing::tokens_of, ud_model::specs::conditions::Tokens::next_token))]
     pub(crate) fn one(name: &'a [u8]) -> Names<'a>
         ensures { result ≡ name.now ∷ [] }
@@ -54,7 +54,7 @@ impl<'a> Names<'a> {
         }
     }
 
-    /// The names of a text that is tokens to its end.
+    /// Returns an iterator over the names of a text that consists of tokens.
     pub(crate) fn of_text(text: &'a [u8]) -> Names<'a>
         requires { is_some (tokens_of text.now) ≡ true }
         ensures { result ≡ names_in_text text.now }
@@ -84,7 +84,7 @@ impl<'a> Iterator for Names<'a> {
     }
 }
 
-/// The name that a token is, if it is one.
+/// Returns the name that a token is, if it is one.
 fn name_in(token: Token<'_>) -> Option<&[u8]>
     ensures { option_map (λ n. n.now) result ≡ name_in_token (as_token token.entry) }
 {
@@ -94,7 +94,7 @@ fn name_in(token: Token<'_>) -> Option<&[u8]>
     }
 }
 
-/// The first name of a text that is tokens to its end, and the text after it.
+/// Returns the first name of a text that consists of tokens, and the text after the name.
 fn next_name(text: &[u8]) -> Option<(&[u8], &[u8])>
     requires { is_some (tokens_of text.now) ≡ true }
     ensures none { IfNone result (names_in_text text.now ≡ []) }

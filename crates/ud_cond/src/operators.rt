@@ -1,11 +1,11 @@
-//! Where operators stand, and how tightly they hold their operands (C11 6.5).
+//! The precedence of operators, and which of them are prefix operators (C11 6.5).
 
 ghost use Rattle.std.specs.Prelude.{◌≡◌, ◌≤◌};
 ghost use Rattle.ud_model.specs.conditions.Expressions as trees;
 
 use ud_model::Operator;
 
-/// The level of an operator between two operands, 1 being the loosest; 0 where it stands between none.
+/// Returns the precedence of a binary operator, 1 being the loosest; 0 if `operator` isn't binary.
 pub(crate) fn precedence(operator: Operator) -> u8
     ensures value { result ≡ trees.precedence operator }
     ensures bound { result ≤ 9 }
@@ -24,7 +24,7 @@ pub(crate) fn precedence(operator: Operator) -> u8
     }
 }
 
-/// Whether an operator may stand before its one operand.
+/// Returns whether an operator can be a prefix operator.
 pub(crate) fn is_prefix(operator: Operator) -> bool
     ensures { result ≡ trees.is_prefix operator }
 {

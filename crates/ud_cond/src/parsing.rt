@@ -1,8 +1,9 @@
-//! What an expression is worth, read token by token over two stacks of fixed size.
+//! The evaluation of any expression, token by token over two stacks of fixed size.
 //!
-//! No tree is built and no memory is taken. ud_model, specs/aids/Parsing.antt, says what a text means in a state; what waits in
-//! it are the stacks, and an operand has come or has to come. A stack of the longest line is costly to clear, so a short
-//! text is read with short stacks.
+//! No tree is built and no memory is taken. `ud_model.specs.aids.Parsing` defines what a text
+//! means in a state. A state is the stacks, which are what is pending in it, and an operand, if
+//! one has come. A stack for the longest line is costly to clear, so a short text is read with
+//! short stacks.
 
 ghost use Rattle.std.specs.Prelude.{◌≡◌, ◌≤◌, ◌+◌, option_map, length, IfSome, IfNone, None, []};
 ghost use Rattle.ud_model.specs.conditions.Tokens.{next_token as token_of};
@@ -20,40 +21,40 @@ use crate::tokens::{NextToken, Token, next_token};
 use crate::values::{NO_VALUE, Scope, Value, constant, defined, named};
 use ud_model::LINE_BYTES;
 
-/// The most bytes of a very short text.
+/// The most bytes of a tiny text.
 const TINY_TEXT_BYTES: usize = 32;
 
-/// The most operands that wait in a very short text.
+/// The most operands that are pending in a tiny text.
 const TINY_TEXT_OPERANDS: usize = TINY_TEXT_BYTES / 2;
 
 /// The most bytes of a short text.
 const SHORT_TEXT_BYTES: usize = 64;
 
-/// The most operands that wait in a short text.
+/// The most operands that are pending in a short text.
 const SHORT_TEXT_OPERANDS: usize = SHORT_TEXT_BYTES / 2;
 
-/// The most bytes of a longer text.
+/// The most bytes of a text of medium length.
 const MEDIUM_TEXT_BYTES: usize = 128;
 
-/// The most operands that wait in a longer text.
+/// The most operands that are pending in a text of medium length.
 const MEDIUM_TEXT_OPERANDS: usize = MEDIUM_TEXT_BYTES / 2;
 
 /// The most bytes of a long text.
 const LONG_TEXT_BYTES: usize = 1024;
 
-/// The most operands that wait in a long text.
+/// The most operands that are pending in a long text.
 const LONG_TEXT_OPERANDS: usize = LONG_TEXT_BYTES / 2;
 
 /// The most bytes of a very long text.
 const VERY_LONG_TEXT_BYTES: usize = 8192;
 
-/// The most operands that wait in a very long text.
+/// The most operands that are pending in a very long text.
 const VERY_LONG_TEXT_OPERANDS: usize = VERY_LONG_TEXT_BYTES / 2;
 
-/// The most operands that wait in a line.
+/// The most operands that are pending in a line.
 const LINE_OPERANDS: usize = LINE_BYTES / 2;
 
-/// A name without arguments in front, and what follows it.
+/// Parses a leading name without arguments. Returns the name and what follows it.
 fn plain_name(text: &[u8]) -> Option<(&[u8], &[u8])>
     ensures { option_map (λ r. (r.0.now, r.1.now)) result ≡ asking.plain_name (token_of text.now) }
 {
@@ -63,7 +64,7 @@ fn plain_name(text: &[u8]) -> Option<(&[u8], &[u8])>
     }
 }
 
-/// What follows a `)` in front.
+/// Returns what follows a leading `)`.
 fn after_paren(text: &[u8]) -> Option<&[u8]>
     ensures { option_map (λ r. r.now) result ≡ asking.after_paren (token_of text.now) }
 {
@@ -73,7 +74,8 @@ fn after_paren(text: &[u8]) -> Option<&[u8]>
     }
 }
 
-/// What a `defined` is worth by the name that is to stand after a `(`, and what follows the `)` after the name.
+/// Evaluates a `defined` by the name that must follow its `(`. Returns the value, and what follows
+/// the `)` after the name.
 fn defined_in_parens<'a>(scope: &Scope<'_>, inside: &'a [u8]) -> Option<(Value, &'a [u8])>
     ensures { ReadsDefinedInParens (value_meaning_in scope.now) inside.now
         (option_map (λ r. (r.0, r.1.now)) result) }
@@ -85,7 +87,8 @@ fn defined_in_parens<'a>(scope: &Scope<'_>, inside: &'a [u8]) -> Option<(Value, 
     Some((value, rest))
 }
 
-/// What a `defined` is worth by the name after it, in parentheses or not, and what follows the name.
+/// Evaluates a `defined` by the name after it, in parentheses or not. Returns the value, and what
+/// follows.
 fn defined_operand<'a>(scope: &Scope<'_>, text: &'a [u8]) -> Option<(Value, &'a [u8])>
     ensures { ReadsDefined (value_meaning_in scope.now) text.now
         (option_map (λ r. (r.0, r.1.now)) result) }
@@ -111,8 +114,10 @@ fn defined_operand<'a>(scope: &Scope<'_>, text: &'a [u8]) -> Option<(Value, &'a 
     }
 }
 
-/// Reads a token where an operand has to come: the operand that has come then, if one has, and what follows it; `None` if
-/// no expression goes on so.
+/// Reads a token where an operand has to come.
+///
+/// Returns the operand that has come then, if one has, and what follows it. Returns `None` if no
+/// expression continues so.
 fn read_operand<'a, const BYTES: usize, const OPERANDS: usize>(
     scope: &Scope<'_>,
     stacks: &mut Stacks<BYTES, OPERANDS>,
@@ -160,7 +165,9 @@ fn read_operand<'a, const BYTES: usize, const OPERANDS: usize>(
     }
 }
 
-/// Reads a token after an operand: the operand that has come then, if one has; `None` if no expression goes on so.
+/// Reads a token after an operand.
+///
+/// Returns the operand that has come then, if one has, or `None` if no expression continues so.
 fn read_operator<const BYTES: usize, const OPERANDS: usize>(
     scope: &Scope<'_>,
     stacks: &mut Stacks<BYTES, OPERANDS>,
@@ -200,7 +207,7 @@ fn read_operator<const BYTES: usize, const OPERANDS: usize>(
     }
 }
 
-/// What a whole expression is worth at its end.
+/// Returns the value of a whole expression at its end.
 fn finish<const BYTES: usize, const OPERANDS: usize>(
     scope: &Scope<'_>,
     stacks: &mut Stacks<BYTES, OPERANDS>,
@@ -212,7 +219,7 @@ fn finish<const BYTES: usize, const OPERANDS: usize>(
     if stacks.is_empty() { Some(value) } else { None }
 }
 
-/// What the expression of a text of at most `BYTES` bytes is worth; `None` where the text isn't one expression.
+/// Evaluates a text of at most `BYTES` bytes. Returns `None` if the text isn't one expression.
 #[inline(never)]
 fn evaluate_with_stacks<const BYTES: usize, const OPERANDS: usize>(
     scope: &Scope<'_>,
@@ -244,7 +251,7 @@ fn evaluate_with_stacks<const BYTES: usize, const OPERANDS: usize>(
     }
 }
 
-/// What the expression of a text is worth; `None` where the text isn't one expression.
+/// Evaluates a text. Returns `None` if the text isn't one expression.
 #[inline(never)]
 pub(crate) fn evaluate(scope: &Scope<'_>, text: &[u8]) -> Option<Value>
     requires fits { length text.now ≤ LINE_BYTES }

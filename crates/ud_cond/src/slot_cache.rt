@@ -1,29 +1,31 @@
-//! Where rows stand, by the keys of their names.
+//! A cache from the keys of names to the positions of their rows.
 
 use crate::name_filter::{FILTER_SLOTS, slot_of};
 
-/// Where rows were said to stand. Two keys with the same mark share a place here, so what is told is only worth a try.
+/// A direct-mapped cache from a name's key to the position of its row. Keys may share a slot, so
+/// an entry may be stale: check the row.
 #[derive(Drop)]
 pub(crate) struct SlotCache {
-    /// What was told last of each mark.
+    /// The position that was last set for each slot.
     positions: [u16; FILTER_SLOTS],
 }
 
 impl SlotCache {
-    /// Nothing was told, so each row may stand first.
+    /// Returns a cache in which nothing was set: each row may be the first.
     pub(crate) fn new() -> SlotCache {
         SlotCache {
             positions: [0; FILTER_SLOTS],
         }
     }
 
-    /// Where the row of a name with this key may stand.
+    /// Returns the position at which the row of a name with this key may be.
     #[inline(always)]
     pub(crate) fn get(&self, key: u64) -> usize {
         usize::from(self.positions[slot_of(key)])
     }
 
-    /// Tells where the row of a name with this key stands; the greatest place that can be told stands for those beyond it.
+    /// Sets the position of the row of a name with this key. A position above the greatest `u16` is
+    /// cached as the greatest one.
     pub(crate) fn set(&mut self, key: u64, place: usize) {
         self.positions[slot_of(key)] = u16::try_from(place).unwrap_or(u16::MAX);
     }

@@ -1,7 +1,8 @@
-//! What waits while an expression is read, on two stacks of fixed size: operators, and their left operands.
+//! Two stacks of fixed size for what is pending in an expression: operators, and left operands.
 //!
-//! Each parenthesis and prefix operator that waits has a byte of the text, and each left operand with its operator has two.
-//! So a stack of as many operators as the text has bytes, and one of half as many operands, suffice.
+//! Each pending parenthesis and prefix operator has a byte of the text, and each left operand
+//! with its operator has two. So it suffices to have as many operators as the text has bytes,
+//! and half as many operands.
 
 ghost use Rattle.std.specs.Prelude.{◌≡◌, ◌≤◌, ◌+◌, ◌∷◌, [], IfSome, IfNone, IsTrue, false};
 ghost use Rattle.ud_model.specs.aids.Parsing.{left, before, paren, reduce};
@@ -15,12 +16,12 @@ use arrayvec::ArrayVec;
 use std::marker::Model;
 use ud_model::Operator;
 
-/// What waits on the stack of operators.
+/// An entry of the operator stack.
 #[derive(Clone, Copy)]
 pub(crate) enum PendingOp {
     /// An open parenthesis.
     Opening,
-    /// An operator whose left operand waits on the other stack.
+    /// An operator whose left operand is pending on the other stack.
     Binary(Operator),
     /// An operator before its one operand.
     Prefix(Operator),
@@ -32,18 +33,18 @@ impl Default for PendingOp {
     }
 }
 
-/// A left operand, in no more room than its number and facts take.
+/// A left operand that takes no more memory than its number and facts.
 #[derive(Default, Drop)]
 struct PackedValue {
-    /// Its number, if that is known.
+    /// The number, if it is known.
     number: i64,
-    /// Whether the number is known.
+    /// `true` if the number is known.
     is_known: bool,
-    /// A constant in it, or one at which the value of a symbol in it ends, has a `u`.
+    /// `true` if a constant in the operand, or one to which a symbol in it resolves, has a `u`.
     has_u: bool,
-    /// A symbol of the table stands in it.
+    /// `true` if the operand names a symbol of the table.
     is_listed: bool,
-    /// An undefined symbol with arguments stands in it.
+    /// `true` if the operand has an undefined symbol with arguments.
     calls_undefined: bool,
 }
 
@@ -63,7 +64,7 @@ impl Model for PackedValue {
 }
 
 impl PackedValue {
-    /// A value as it waits.
+    /// Packs a value.
     fn of(value: Value) -> PackedValue
         ensures { result ≡ value }
     {
@@ -76,7 +77,7 @@ impl PackedValue {
         }
     }
 
-    /// The value that waits.
+    /// Returns the packed value.
     fn value(&self) -> Value
         ensures { result ≡ self.now }
     {
@@ -93,10 +94,10 @@ impl PackedValue {
     }
 }
 
-/// What waits while a text of at most `BYTES` bytes is read.
+/// The stacks for a text of at most `BYTES` bytes.
 #[derive(Drop)]
 pub(crate) struct Stacks<const BYTES: usize, const OPERANDS: usize> {
-    /// Operators and parentheses; the last one is the innermost.
+    /// The pending operators and parentheses; the last one is the innermost.
     operators: ArrayVec<PendingOp, BYTES>,
     /// The left operands of those operators that have one.
     operands: ArrayVec<PackedValue, OPERANDS>,
@@ -118,7 +119,7 @@ impl<const BYTES: usize, const OPERANDS: usize> Model for Stacks<BYTES, OPERANDS
 }
 
 impl<const BYTES: usize, const OPERANDS: usize> Stacks<BYTES, OPERANDS> {
-    /// Nothing waits.
+    /// Returns empty stacks.
     pub(crate) fn new() -> Self
         requires { spec.Suffice BYTES OPERANDS }
         ensures { result ≡ [] }
@@ -129,14 +130,14 @@ impl<const BYTES: usize, const OPERANDS: usize> Stacks<BYTES, OPERANDS> {
         }
     }
 
-    /// Whether nothing waits.
+    /// Returns whether nothing is pending.
     pub(crate) fn is_empty(&self) -> bool
         ensures { result ≡ spec.is_empty self.now }
     {
         self.operators.is_empty()
     }
 
-    /// An operator waits with its left operand.
+    /// Pushes a binary operator with its left operand.
     pub(crate) fn push_binary(&mut self, operator: Operator, operand: Value)
         requires { weight self.old + 2 ≤ BYTES }
         ensures { self.new ≡ left operator operand ∷ self.old }
@@ -145,7 +146,7 @@ impl<const BYTES: usize, const OPERANDS: usize> Stacks<BYTES, OPERANDS> {
         self.operands.push(PackedValue::of(operand));
     }
 
-    /// An operator waits before its operand.
+    /// Pushes a prefix operator.
     pub(crate) fn push_prefix(&mut self, operator: Operator)
         requires { weight self.old + 1 ≤ BYTES }
         ensures { self.new ≡ before operator ∷ self.old }
@@ -153,7 +154,7 @@ impl<const BYTES: usize, const OPERANDS: usize> Stacks<BYTES, OPERANDS> {
         self.operators.push(PendingOp::Prefix(operator));
     }
 
-    /// A parenthesis waits for its end.
+    /// Pushes an open parenthesis.
     pub(crate) fn push_paren(&mut self)
         requires { weight self.old + 1 ≤ BYTES }
         ensures { self.new ≡ paren ∷ self.old }
@@ -161,7 +162,7 @@ impl<const BYTES: usize, const OPERANDS: usize> Stacks<BYTES, OPERANDS> {
         self.operators.push(PendingOp::Opening);
     }
 
-    /// Takes the innermost parenthesis, if nothing waits inside.
+    /// Pops the innermost parenthesis, if nothing is pending inside. Returns whether it was popped.
     pub(crate) fn pop_paren(&mut self) -> bool
         ensures yes { IsTrue result → self.old ≡ paren ∷ self.new }
         ensures no { result ≡ false → spec.IsNoParen self.old }
@@ -176,7 +177,8 @@ impl<const BYTES: usize, const OPERANDS: usize> Stacks<BYTES, OPERANDS> {
         }
     }
 
-    /// Takes the innermost operator, with its left operand if it has one, if it is of this level or tighter.
+    /// Pops the innermost operator if it binds at least as tightly as `least`, with its left
+    /// operand if it has one.
     fn pop_operator(&mut self, least: u8) -> Option<(Operator, Option<Value>)>
         ensures none { IfNone result (self.new ≡ self.old × spec.IsSettled least self.old) }
         ensures some { IfSome result (λ t. self.old ≡ spec.popped t.0 t.1 ∷ self.new ×
@@ -200,7 +202,8 @@ impl<const BYTES: usize, const OPERANDS: usize> Stacks<BYTES, OPERANDS> {
         }
     }
 
-    /// The operators of a level or tighter take their operands, of which this is the last.
+    /// Applies the pending operators that bind at least as tightly as `least`, with `last` as their
+    /// last operand.
     pub(crate) fn reduce(&mut self, scope: &Scope<'_>, least: u8, last: Value) -> Value
         ensures value { reduce (value_meaning_in scope.now) least last self.old ≡
             (result, self.new) }

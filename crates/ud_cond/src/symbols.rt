@@ -1,8 +1,8 @@
 //! The table of symbols.
 //!
-//! It has one row a name, sorted by the names' keys, which are numbers, and then by the names: a name is found by halving, and
-//! a later call for it changes its row.
-//! Memory is taken before anything changes, so a refused call leaves the table as it was.
+//! Each name has one row. The rows are sorted by the names' keys, which are numbers, and then by
+//! the names. A binary search finds a name, and a later call for a name changes its row.
+//! Memory is taken before anything changes, so a failed call leaves the table as it was.
 
 ghost use Rattle.std.specs.Prelude.{◌≡◌, ◌++◌, ◌∷◌, [], List, option_map, OnOk, OnErr, IfOk, IfErr};
 ghost use Rattle.std.specs.Prelude.{IsErrOf, Some, None, ◌↔◌, false, true, IsTrue, length};
@@ -25,25 +25,25 @@ use std::cmp::Ordering;
 use std::marker::Model;
 use ud_model::bytes::{is_identifier, is_name};
 
-/// What the table says of a name.
+/// The entry of a name: how it is defined, and whether its sections are plain text.
 #[derive(Clone, Copy, Debug, PartialEq, Eq)]
 pub struct Entry<'a> {
-    /// The value that it is defined with; `None` where it is undefined.
+    /// The value of the name; `None` if the name is undefined.
     pub value: Option<&'a [u8]>,
-    /// Whether the sections that it controls are plain text.
+    /// `true` if the sections that the name controls are plain text.
     pub ignoring: bool,
 }
 
-/// A name, and what is said of it.
+/// A row: a name and its entry.
 #[derive(Drop)]
 struct Row {
     /// The name.
     symbol: Vec<u8>,
-    /// Its key.
+    /// The key of the name.
     number: u64,
-    /// The value that it is defined with; `None` where it is undefined.
+    /// The value of the name; `None` if the name is undefined.
     text: Option<Vec<u8>>,
-    /// Whether the sections that it controls are plain text.
+    /// `true` if the sections that the name controls are plain text.
     ignores: bool,
 }
 
@@ -61,14 +61,14 @@ impl Model for Row {
 }
 
 impl Row {
-    /// The key of the row's name.
+    /// Returns the key of the row's name.
     fn key(&self) -> u64
         ensures { result ≡ spec.key_of self.now.name }
     {
         self.number
     }
 
-    /// Whether the row names it, which has this key.
+    /// Returns whether the row is that of `name`, whose key is `key`.
     #[inline(always)]
     fn has_key_and_name(&self, key: u64, name: &[u8]) -> bool
         requires { key ≡ spec.key_of name.now }
@@ -77,14 +77,14 @@ impl Row {
         self.number == key && is_same(self.symbol.as_slice(), name)
     }
 
-    /// Whether the row names it.
+    /// Returns whether the row is that of `name`.
     fn has_name(&self, name: &[u8]) -> bool
         ensures { result ≡ bytes_eq self.now.name name.now }
     {
         self.symbol.as_slice() == name
     }
 
-    /// How the row's name stands to a name with this key.
+    /// Compares the row's name with `name`, whose key is `key`.
     fn compare(&self, key: u64, name: &[u8]) -> Ordering
         requires { key ≡ spec.key_of name.now }
         ensures { result ≡ name_cmp self.now.name name.now }
@@ -95,7 +95,7 @@ impl Row {
         }
     }
 
-    /// How the row's name stands to a name with the same key.
+    /// Compares the row's name with a name that has the same key.
     fn compare_same_key(&self, name: &[u8]) -> Ordering
         ensures { result ≡ same_key_cmp self.now.name name.now }
     {
@@ -105,7 +105,7 @@ impl Row {
         }
     }
 
-    /// What the row says of its name.
+    /// Returns the entry of the row's name.
     fn entry(&self) -> Entry<'_>
         ensures { as_entry result ≡ self.now.entry }
     {
@@ -119,16 +119,16 @@ impl Row {
     }
 }
 
-/// What is said of names: of several calls for a name, the last one counts (unifdef(1)).
+/// The table of symbols. Of several calls for a name, the last one counts (unifdef(1)).
 #[derive(Drop)]
 pub struct Symbols {
-    /// Where memory comes from.
+    /// The allocator that memory comes from.
     alloc: Global,
-    /// The rows, one a name, by their keys, and those of one key by their lengths and bytes.
+    /// The rows, one a name, sorted by key; rows with the same key by length, then by bytes.
     rows: Vec<Row>,
-    /// The marks of their names.
+    /// The filter of the rows' names.
     filter: NameFilter,
-    /// Where rows stand, to be tried before they are searched.
+    /// The positions of rows, to be tried before a search.
     cache: SlotCache,
 }
 
@@ -146,7 +146,7 @@ impl Model for Symbols {
 }
 
 impl Symbols {
-    /// The table that says nothing of any name. It takes no memory; what it takes later comes from `alloc`.
+    /// Returns an empty table. Takes no memory; later calls take theirs from `alloc`.
     pub fn new(alloc: Global) -> Symbols
         ensures value { result ≡ [] }
         ensures represents { TableRepresents result [] }
@@ -159,11 +159,13 @@ impl Symbols {
         }
     }
 
-    /// Says of a name that it is defined with a value, which may be empty, and whether its sections are plain text.
+    /// Defines `name` as `value`, which may be empty.
+    ///
+    /// If `ignoring`, the sections that `name` controls are plain text.
     ///
     /// # Errors
-    /// In this order: `BadName` where the name isn't an identifier or is `defined` (C11 6.10.8p4), before memory is
-    /// taken; `OutOfMemory` if memory is refused. The table stays as it was.
+    /// First `BadName` if `name` isn't an identifier or is `defined` (C11 6.10.8p4), before memory
+    /// is taken. Then `OutOfMemory` if an allocation fails. The table stays as it was.
     pub fn define(&mut self, name: &[u8], value: &[u8], ignoring: bool) -> Result<(), SymbolFault>
         ensures ok { OnOk result
             (SetsEntry self.old self.new
@@ -177,11 +179,13 @@ impl Symbols {
         self.update(name, Some(value), ignoring)
     }
 
-    /// Says of a name that it is undefined, and whether its sections are plain text.
+    /// Undefines `name`.
+    ///
+    /// If `ignoring`, the sections that `name` controls are plain text.
     ///
     /// # Errors
-    /// In this order: `BadName` where the name isn't an identifier or is `defined` (C11 6.10.8p4), before memory is
-    /// taken; `OutOfMemory` if memory is refused. The table stays as it was.
+    /// First `BadName` if `name` isn't an identifier or is `defined` (C11 6.10.8p4), before memory
+    /// is taken. Then `OutOfMemory` if an allocation fails. The table stays as it was.
     pub fn undefine(&mut self, name: &[u8], ignoring: bool) -> Result<(), SymbolFault>
         ensures ok { OnOk result
             (SetsEntry self.old self.new (argument_for name.now None ignoring)) }
@@ -193,7 +197,7 @@ impl Symbols {
         self.update(name, None, ignoring)
     }
 
-    /// What the last accepted call for a name said of it; `None` if no call named it.
+    /// Returns the entry that the last accepted call for `name` set, or `None` if no call named it.
     #[inline(always)]
     pub fn find(&self, name: &[u8]) -> Option<Entry<'_>>
         ensures value { option_map as_entry result ≡ entry_in self.now name.now }
@@ -210,23 +214,24 @@ impl Symbols {
         }
     }
 
-    /// How many rows there are.
+    /// Returns the number of rows.
     fn count(&self) -> usize
         ensures { result ≡ length self.now }
     {
         self.rows.len()
     }
 
-    /// The text as which a name is defined.
+    /// Returns the text as which `name` is defined.
     fn defined_text(&self, name: &[u8]) -> Option<&[u8]>
         ensures { option_map (λ v. v.now) result ≡ ends.defined_text self.now name.now }
     {
         self.find(name)?.value
     }
 
-    /// The text at which the value of a name ends: the first that is no identifier, from name to name. There is none
-    /// where a name on the way isn't defined, or where the way takes more steps than there are rows, since it then is a
-    /// cycle.
+    /// Resolves `name`: follows it from name to name to the first text that is no identifier.
+    ///
+    /// Returns `None` if a name on the way isn't defined, or if the way has more steps than there
+    /// are rows: such a way is a cycle.
     pub(crate) fn resolve<'a>(&'a self, name: &'a [u8]) -> Option<&'a [u8]>
         ensures { option_map (λ v. v.now) result ≡ ends.resolve self.now name.now }
     {
@@ -242,7 +247,8 @@ impl Symbols {
         None
     }
 
-    /// The place of the row of a name with this key, or the one at which it would stand. Most rows stand where it is told.
+    /// Returns the position of the row of `name`, whose key is `key`, or else the position at which
+    /// to insert it. Tries the cached position first, at which most rows are.
     #[inline(always)]
     fn position(&self, key: u64, name: &[u8]) -> Result<usize, usize>
         requires keyed { key ≡ spec.key_of name.now }
@@ -256,7 +262,7 @@ impl Symbols {
         self.binary_search(key, name)
     }
 
-    /// The same by halving. Most names have a key of their own.
+    /// Finds the position as `position` does, by a binary search. Most names have their own key.
     #[inline(never)]
     fn binary_search(&self, key: u64, name: &[u8]) -> Result<usize, usize>
         requires keyed { key ≡ spec.key_of name.now }
@@ -274,7 +280,7 @@ impl Symbols {
         }
     }
 
-    /// The same, where rows of other names have the same key.
+    /// Finds the position as `position` does, if rows of other names have the same key.
     #[inline(never)]
     fn binary_search_same_key(&self, key: u64, name: &[u8]) -> Result<usize, usize>
         requires keyed { key ≡ spec.key_of name.now }
@@ -284,7 +290,7 @@ impl Symbols {
         self.rows.binary_search_by(|row| row.compare(key, name))
     }
 
-    /// Says of a name that it has this value, or that it is undefined.
+    /// Defines `name` as `value`, or undefines it if `value` is `None`.
     fn update(
         &mut self,
         name: &[u8],
@@ -303,7 +309,7 @@ impl Symbols {
         self.insert_or_replace(name, value, ignoring)
     }
 
-    /// Changes the row of a name, or adds one.
+    /// Changes the row of `name`, or inserts one.
     fn insert_or_replace(
         &mut self,
         name: &[u8],
@@ -338,7 +344,7 @@ impl Symbols {
         }
     }
 
-    /// Adds a row at the place of its name.
+    /// Inserts a row at the position of its name.
     fn insert_at(&mut self, i: usize, key: u64, row: Row) -> Result<(), SymbolFault>
         requires gap { IsGapFor self.old i row.name }
         requires keyed { key ≡ spec.key_of row.name }
@@ -356,14 +362,14 @@ impl Symbols {
     }
 }
 
-/// Tells where each row stands from this place on.
+/// Caches the position of each row from `from` on.
 fn cache_positions_from(cache: &mut SlotCache, rows: &[Row], from: usize) {
     for i in from..rows.len() {
         cache.set(rows[i].key(), i);
     }
 }
 
-/// A value in memory of its own.
+/// Copies a value into memory of its own.
 fn try_clone(alloc: Global, value: Option<&[u8]>) -> Result<Option<Vec<u8>>, SymbolFault>
     ensures ok { IfOk result (λ c. option_map (λ v. v.items) c ≡
         option_map (λ v. v.now) value.entry) }

@@ -1,6 +1,6 @@
-//! The token at the front of a text.
+//! The leading token of a text.
 //!
-//! What the tokens of an expression are stands in ud_model, specs/conditions/Tokens.antt (C11 6.4).
+//! `ud_model.specs.conditions.Tokens` defines the tokens of an expression (C11 6.4).
 
 ghost use Rattle.std.specs.Prelude.{◌≡◌, drop, length, option_map, slice_index, ◌-◌, bytes_eq};
 ghost use Rattle.std.specs.Prelude.{codes};
@@ -18,44 +18,44 @@ use ud_model::bytes::{is_digit, is_word_byte, skip_white, word_len};
 pub(crate) enum Token<'a> {
     /// An integer constant.
     Number(&'a [u8]),
-    /// An identifier other than `defined`, and whether arguments stand after it.
+    /// An identifier other than `defined`, and whether arguments follow it.
     Name(&'a [u8], bool),
-    /// `defined`
+    /// The word `defined`.
     Defined,
     /// An operator.
     Operator(Operator),
-    /// `(`
+    /// An opening parenthesis.
     Opening,
-    /// `)`
+    /// A closing parenthesis.
     Closing,
 }
 
-/// What stands at the front of a text.
+/// The beginning of a text: its first token, if any.
 #[derive(Clone, Copy)]
 pub(crate) enum NextToken<'a> {
     /// White space alone.
     AtEnd,
-    /// No token.
+    /// Text that begins with no token.
     Unreadable,
     /// A token, and the text after it.
     Found(Token<'a>, &'a [u8]),
 }
 
-/// Whether a text begins with a byte.
+/// Returns whether a text begins with a byte.
 pub(crate) fn starts_with_byte(byte: u8, text: &[u8]) -> bool
     ensures { result ≡ texts.starts_with_byte byte text.now }
 {
     text.first() == Some(&byte)
 }
 
-/// A text without the bytes in front, as many as it has at most.
+/// Returns a text without its first `count` bytes, or without any if it has fewer.
 pub(crate) fn skip_bytes(count: usize, text: &[u8]) -> &[u8]
     ensures { result.now ≡ drop count text.now }
 {
     text.get(count..).unwrap_or(&[])
 }
 
-/// What stands after the `)` that closes a parenthesis, of which what is inside comes first.
+/// Returns what follows the `)` that closes a parenthesis. `text` begins inside the parenthesis.
 fn after_matching_paren(text: &[u8]) -> Option<&[u8]>
     ensures { option_map (λ rest. rest.now) result ≡ spec.after_matching_paren 0 text.now }
 {
@@ -75,7 +75,7 @@ fn after_matching_paren(text: &[u8]) -> Option<&[u8]>
     None
 }
 
-/// A name, and the arguments after it if a `(` comes next.
+/// Returns the token of a name, with the arguments after it if a `(` comes next.
 #[inline(always)]
 fn name_token<'a>(word: &'a [u8], rest: &'a [u8]) -> NextToken<'a>
     ensures { as_next result ≡ spec.name_token word.now rest.now }
@@ -90,7 +90,8 @@ fn name_token<'a>(word: &'a [u8], rest: &'a [u8]) -> NextToken<'a>
     }
 }
 
-/// Whether a word ends in `e` or `E`, and a sign follows: C reads both as one token (C11 6.4.8).
+/// Returns whether a word ends in `e` or `E` and a sign follows. C reads both as one token
+/// (C11 6.4.8).
 fn has_exponent_sign(word: &[u8], rest: &[u8]) -> bool
     ensures { result ≡ spec.has_exponent_sign word.now rest.now }
 {
@@ -98,7 +99,7 @@ fn has_exponent_sign(word: &[u8], rest: &[u8]) -> bool
         && (starts_with_byte(b'+', rest) || starts_with_byte(b'-', rest))
 }
 
-/// Whether a word begins with a digit.
+/// Returns whether a word begins with a digit.
 fn begins_with_digit(word: &[u8]) -> bool
     ensures { result ≡ bytes.is_digit (slice_index word.now 0) }
 {
@@ -108,7 +109,7 @@ fn begins_with_digit(word: &[u8]) -> bool
     }
 }
 
-/// Whether a word is `defined`.
+/// Returns whether a word is `defined`.
 #[inline(always)]
 fn is_defined(word: &[u8]) -> bool
     ensures { result ≡ bytes_eq word.now (codes "defined") }
@@ -116,7 +117,7 @@ fn is_defined(word: &[u8]) -> bool
     matches!(word, b"defined")
 }
 
-/// The token of a word, which is a constant where it begins with a digit.
+/// Returns the token of a word, which is a constant if it begins with a digit.
 #[inline(always)]
 fn word_token<'a>(word: &'a [u8], rest: &'a [u8]) -> NextToken<'a>
     ensures { as_next result ≡ spec.word_token word.now rest.now }
@@ -134,7 +135,7 @@ fn word_token<'a>(word: &'a [u8], rest: &'a [u8]) -> NextToken<'a>
     }
 }
 
-/// The operator of two bytes where the second one follows, else the one of one byte.
+/// Returns the operator of two bytes if the second one follows, else the operator of one byte.
 #[inline(always)]
 fn one_or_two_bytes<'a>(
     second: u8,
@@ -151,7 +152,7 @@ fn one_or_two_bytes<'a>(
     }
 }
 
-/// An operator of one byte.
+/// Returns an operator as the token, with the text after it.
 #[inline(always)]
 fn single(operator: Operator, rest: &[u8]) -> NextToken<'_>
     ensures { as_next result ≡ spec.found (spec.operator operator) rest.now }
@@ -159,7 +160,7 @@ fn single(operator: Operator, rest: &[u8]) -> NextToken<'_>
     NextToken::Found(Token::Operator(operator), rest)
 }
 
-/// The token that begins with a byte that is in no word.
+/// Returns the token that begins with `byte`, which is in no word.
 #[inline(always)]
 fn punctuator(byte: u8, rest: &[u8]) -> NextToken<'_>
     ensures { as_next result ≡ spec.punctuator byte rest.now }
@@ -184,7 +185,7 @@ fn punctuator(byte: u8, rest: &[u8]) -> NextToken<'_>
     }
 }
 
-/// The token at the front of a text, and the text after it.
+/// Returns the leading token of a text, and the text after it.
 #[tactic(auto, unfolding(ud_model::specs::conditions::Tokens::next_token))]
 #[inline(always)]
 pub(crate) fn next_token(text: &[u8]) -> NextToken<'_>

@@ -1,6 +1,7 @@
-//! What an expression is worth, part by part.
+//! The values of the parts of an expression.
 //!
-//! Numbers are those of ud_model, specs/conditions/Values.antt (C11 6.10.1p4 and 6.5); `specs/Evaluation.antt` says what is kept beside them.
+//! `ud_model.specs.conditions.Values` defines the numbers (C11 6.10.1p4 and 6.5), and
+//! `specs.Evaluation` the facts that are kept beside them.
 
 ghost use Rattle.std.specs.Prelude.{◌≡◌, Some, option_and_then, option_map};
 ghost use Rattle.ud_model.specs.conditions.Table.{entry_in};
@@ -16,32 +17,32 @@ use crate::symbols::{Entry, Symbols};
 use ud_model::Operator;
 use ud_model::bytes::is_identifier;
 
-/// What a part of an expression is worth.
+/// The value of a part of an expression.
 #[derive(Clone, Copy)]
 pub(crate) struct Value {
-    /// Its number; `None` where it is unknown.
+    /// The number; `None` if it is unknown.
     pub(crate) number: Option<i64>,
-    /// A constant in it, or one at which the value of a symbol in it ends, has a `u`.
+    /// `true` if a constant in the part, or one to which a symbol in the part resolves, has a `u`.
     pub(crate) unsigned: bool,
-    /// A symbol of the table stands in it.
+    /// `true` if the part names a symbol of the table.
     pub(crate) listed: bool,
-    /// An undefined symbol with arguments stands in it.
+    /// `true` if the part has an undefined symbol with arguments.
     pub(crate) calls_undefined: bool,
 }
 
-/// What decides the values of an expression.
+/// The context in which an expression is evaluated.
 #[derive(Clone, Copy)]
 pub(crate) struct Scope<'a> {
-    /// What is said of names; nothing without a table.
+    /// The table; without one, no name has an entry.
     pub(crate) symbols: Option<&'a Symbols>,
-    /// `&&` and `||` are unknown where an operand is.
+    /// `true` if `&&` and `||` are unknown whenever an operand is.
     pub(crate) strict: bool,
-    /// A `u` stands in the expression, so its least number is 0.
+    /// `true` if the expression has a `u`, so its least number is 0.
     pub(crate) unsigned: bool,
 }
 
 impl Scope<'_> {
-    /// What is said of a name.
+    /// Returns the entry of a name.
     #[inline(always)]
     fn find(&self, name: &[u8]) -> Option<Entry<'_>>
         ensures { option_map as_entry result ≡ entry_in (table_in self.now) name.now }
@@ -49,7 +50,7 @@ impl Scope<'_> {
         self.symbols?.find(name)
     }
 
-    /// The text at which the value of a name ends that is defined as this text.
+    /// Resolves `name`, which is defined as `text`.
     fn resolve_from<'a>(&'a self, name: &'a [u8], text: &'a [u8]) -> Option<&'a [u8]>
         requires { defined_text (table_in self.now) name.now ≡ Some text.now }
         ensures { option_map (λ v. v.now) result ≡ resolve (table_in self.now) name.now }
@@ -61,7 +62,7 @@ impl Scope<'_> {
         }
     }
 
-    /// The text at which the value of a name ends.
+    /// Resolves `name`: returns the text at which its value ends.
     #[tactic(auto, unfolding(ud_model::specs::conditions::Symbols::resolve))]
     fn resolve<'a>(&'a self, name: &'a [u8]) -> Option<&'a [u8]>
         ensures { option_map (λ v. v.now) result ≡ resolve (table_in self.now) name.now }
@@ -70,7 +71,7 @@ impl Scope<'_> {
     }
 }
 
-/// What is worth nothing yet.
+/// A value before it is set: nothing is known of it.
 pub(crate) const NO_VALUE: Value = Value {
     number: None,
     unsigned: false,
@@ -78,7 +79,7 @@ pub(crate) const NO_VALUE: Value = Value {
     calls_undefined: false,
 };
 
-/// Values a constant.
+/// Evaluates a constant into `value`.
 #[inline(always)]
 pub(crate) fn constant(word: &[u8], value: &mut Value)
     ensures { value.new ≡ constant_value_of word.now }
@@ -95,7 +96,7 @@ pub(crate) fn constant(word: &[u8], value: &mut Value)
     value.unsigned = has_u(word);
 }
 
-/// The value of the text at which a symbol's value ends: a constant, or a `-` and a constant.
+/// Returns the number of the text to which a symbol resolves: a constant, or a `-` and a constant.
 fn text_value(unsigned: bool, text: &[u8]) -> Option<i64>
     ensures { result ≡ spec.text_value unsigned text.now }
 {
@@ -116,7 +117,7 @@ fn text_value(unsigned: bool, text: &[u8]) -> Option<i64>
     }
 }
 
-/// Whether the constant of such a text has a `u`.
+/// Returns whether the constant of such a text has a `u`.
 fn text_has_u(text: &[u8]) -> bool
     ensures { result ≡ spec.text_has_u text.now }
 {
@@ -126,7 +127,7 @@ fn text_has_u(text: &[u8]) -> bool
     }
 }
 
-/// Values a name that is defined as this text.
+/// Evaluates a name that is defined as `text` into `value`.
 #[tactic(auto, unfolding(ud_model::specs::conditions::Values::name_has_u))]
 #[inline(always)]
 fn defined_as(scope: &Scope<'_>, name: &[u8], text: &[u8], value: &mut Value)
@@ -153,7 +154,7 @@ fn defined_as(scope: &Scope<'_>, name: &[u8], text: &[u8], value: &mut Value)
     }
 }
 
-/// Values a name with or without arguments.
+/// Evaluates a name with or without arguments into `value`.
 #[inline(always)]
 pub(crate) fn named(scope: &Scope<'_>, name: &[u8], arguments: bool, value: &mut Value)
     ensures { value.new ≡ name_value_of (table_in scope.now) scope.now.unsigned name.now arguments }
@@ -177,7 +178,7 @@ pub(crate) fn named(scope: &Scope<'_>, name: &[u8], arguments: bool, value: &mut
     }
 }
 
-/// Values `defined` and a name.
+/// Evaluates `defined` and a name into `value`.
 #[tactic(auto, unfolding(ud_model::specs::conditions::Values::defined_value))]
 #[inline(always)]
 pub(crate) fn defined(scope: &Scope<'_>, name: &[u8], value: &mut Value)
@@ -197,7 +198,7 @@ pub(crate) fn defined(scope: &Scope<'_>, name: &[u8], value: &mut Value)
     }
 }
 
-/// A number, if it isn't below the least one.
+/// Returns `number`, or `None` if it is below the least number.
 fn fit(unsigned: bool, number: i64) -> Option<i64>
     ensures { result ≡ spec.fit unsigned number }
 {
@@ -208,21 +209,21 @@ fn fit(unsigned: bool, number: i64) -> Option<i64>
     }
 }
 
-/// A number that may be above the greatest one, or below the least.
+/// Returns the result of a checked operation as `fit` does; `None` if there is no result.
 fn fit_checked(unsigned: bool, number: Option<i64>) -> Option<i64>
     ensures { result ≡ option_and_then (spec.fit unsigned) number }
 {
     fit(unsigned, number?)
 }
 
-/// 1 where something holds, else 0.
+/// Returns 1 if `holds`, else 0.
 fn truth(holds: bool) -> i64
     ensures { result ≡ spec.truth holds }
 {
     if holds { 1 } else { 0 }
 }
 
-/// The remainder of a division whose quotient is a number.
+/// Returns the remainder of `a` by `b`, if the quotient is a number too.
 #[tactic(auto, unfolding(ud_model::specs::conditions::Values::apply_binary_known))]
 fn remainder(unsigned: bool, a: i64, b: i64) -> Option<i64>
     ensures { result ≡ spec.apply_binary_known unsigned Operator.Remainder a b }
@@ -231,7 +232,7 @@ fn remainder(unsigned: bool, a: i64, b: i64) -> Option<i64>
     fit_checked(unsigned, a.checked_rem(b))
 }
 
-/// Two known operands and an operator.
+/// Applies a binary operator to two known operands.
 #[tactic(auto, unfolding(ud_model::specs::conditions::Values::apply_binary_known))]
 #[inline(never)]
 fn apply_binary_known(unsigned: bool, operator: Operator, a: i64, b: i64) -> Option<i64>
@@ -258,7 +259,7 @@ fn apply_binary_known(unsigned: bool, operator: Operator, a: i64, b: i64) -> Opt
     }
 }
 
-/// What one known operand decides, whatever the other is.
+/// Returns the number that one known operand decides, whatever the other one is.
 fn short_circuits(strict: bool, operator: Operator, a: i64) -> Option<i64>
     ensures { result ≡ spec.short_circuits strict operator a }
 {
@@ -272,7 +273,7 @@ fn short_circuits(strict: bool, operator: Operator, a: i64) -> Option<i64>
     }
 }
 
-/// Two operands and an operator.
+/// Applies a binary operator to two operands.
 #[inline(always)]
 pub(crate) fn apply_binary(
     strict: bool,
@@ -290,7 +291,7 @@ pub(crate) fn apply_binary(
     }
 }
 
-/// An operator before a known operand.
+/// Applies a prefix operator to a known operand.
 #[tactic(auto, unfolding(ud_model::specs::conditions::Values::apply_unary_known))]
 fn apply_unary_known(unsigned: bool, operator: Operator, a: i64) -> Option<i64>
     ensures { result ≡ spec.apply_unary_known unsigned operator a }
@@ -303,14 +304,14 @@ fn apply_unary_known(unsigned: bool, operator: Operator, a: i64) -> Option<i64>
     }
 }
 
-/// An operator before one operand.
+/// Applies a prefix operator to its operand.
 pub(crate) fn apply_unary(unsigned: bool, operator: Operator, a: Option<i64>) -> Option<i64>
     ensures { result ≡ spec.apply_unary unsigned operator a }
 {
     apply_unary_known(unsigned, operator, a?)
 }
 
-/// What an operator before an operand is worth.
+/// Returns the value of a prefix operator and its operand.
 #[inline(always)]
 pub(crate) fn unary(scope: &Scope<'_>, operator: Operator, a: Value) -> Value
     ensures { result ≡ unary_value_of scope.now.unsigned operator a }
@@ -323,7 +324,7 @@ pub(crate) fn unary(scope: &Scope<'_>, operator: Operator, a: Value) -> Value
     }
 }
 
-/// What two operands and an operator are worth.
+/// Returns the value of two operands and the operator between them.
 #[inline(always)]
 pub(crate) fn binary(scope: &Scope<'_>, operator: Operator, a: Value, b: Value) -> Value
     ensures { result ≡ binary_value_of scope.now.strict scope.now.unsigned operator a b }

@@ -9,7 +9,7 @@ use Rattle.ud_cond.proofs.ReadingLemmas.{reads_on, reads-on, reads-found}
 use Rattle.ud_cond.proofs.fast_path.evaluate_fast.Goals as goal
 use Rattle.ud_cond.proofs.fast_path.evaluate_fast.Goals.{Else-not-read_operator}
 
--- the operator is the token in front
+-- the operator is the leading token
 front : (c : Else-not-read_operator) → next_token c.in_ok-behind.behind.now ≡ found (operator c.in-Operator.operator) c.in-Found.end.now
 front c = sym (ap (λ t. found (as_token t) c.in-Found.end.now) (sym c.in-Operator.is) ∙ c.in-Found.ensures)
 

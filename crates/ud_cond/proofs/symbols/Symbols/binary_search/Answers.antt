@@ -6,7 +6,7 @@ use Rattle.ud_cond.specs.Keys.{key_of}
 use Rattle.ud_cond.proofs.SortedLemmas.{gap-keys}
 use Rattle.ud_cond.proofs.symbols.Symbols.binary_search.Goals as goal
 
--- the closure gives a row's key, and the slice is the table's rows
+-- the closure returns a row's key, and the slice is the table's rows
 pub returns-in-Err-clause-absent : goal.returns-in-Err-clause-absent
 returns-in-Err-clause-absent c =
     let by_key = c.in-Err.ensures.position (λ a. key_of a.name) (always_returns_same _ (λ a r. r ≡ key_of a.0.now.name) _ (λ a r f called. search rules)) in

@@ -10,7 +10,7 @@ use Rattle.ud_cond.proofs.SortedLemmas.{last-row, none-at_all}
 use Rattle.ud_cond.proofs.symbols.Symbols.find.Goals as goal
 use Rattle.ud_cond.proofs.symbols.Symbols.find.Goals.{After-entry, In-Err, Then-not-may_contain}
 
--- the entry of the row is what the table says
+-- the entry of the row is the table's entry
 found : (c : After-entry) → Some (as_entry c.entry.result) ≡ entry_in c.args.self.now c.args.name.now
 found c =
     let row : IsRowOf c.self.inside.rows.items c.in-Ok.i c.args.name.now = subst (λ rows. IsRowOf rows c.in-Ok.i c.args.name.now) (sym c.self.view_is) c.in-Ok.ensures.found in
@@ -19,11 +19,11 @@ found c =
     ∙ sym (entry_from-last None c.self.inside.rows.items c.in-Ok.i c.args.name.now (last-row c.self.inside.rows.items c.self.invariant.0 c.in-Ok.i c.args.name.now row))
     ∙ ap (λ rows. entry_in rows c.args.name.now) c.self.view_is
 
--- where no row names it, the table says nothing of it
+-- a name without a row has no entry
 missed : (c : In-Err) → None ≡ entry_in c.args.self.now c.args.name.now
 missed c = sym (entry_from-none None c.args.self.now c.args.name.now (none-at_all c.args.self.now c.in-Err.field-0 c.args.name.now c.in-Err.ensures.absent))
 
--- where its mark wasn't noted, no row names it
+-- a name whose slot isn't set has no row
 unmarked : (c : Then-not-may_contain) → None ≡ entry_in c.args.self.now c.args.name.now
 unmarked c =
     let none = none-unmarked c.self.inside.filter.slots c.self.inside.rows.items c.args.name.now c.self.invariant.1 (ap (slot_is_set c.self.inside.filter.slots) (sym c.key_of-key.ensures) ∙ sym c.may_contain.ensures ∙ c.if-not-may_contain.true) in
