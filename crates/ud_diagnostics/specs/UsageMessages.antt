@@ -1,7 +1,7 @@
--- The messages of what the code tells of the words of a command line.
+-- UsageMessages: the messages of faults of the arguments.
 --
---   usage_text u                                  the message of this fault of the words, or of want of memory
---   ReportsUsage gs fault failed old new status   of what is given, at fault so, this was said, and this status given back
+--   usage_text u                                  the message of this fault, or of lack of memory
+--   ReportsUsage gs fault failed old new status   the fault was reported, with this status
 use Rattle.std.specs.Prelude.{◌≡◌, ◌⊎◌, ℕ, List, Bool, Option}
 use Rattle.ud_model.specs.answer.CommandLine.{ParsedArg, UsageFault, unknown_option}
 use Rattle.ud_model.specs.answer.CommandLine.{missing_argument, bad_symbol_in, bad_mode_in}
@@ -14,6 +14,7 @@ use Rattle.ud_args.specs.declared.usage.Usage.TheVariants.{BadSymbol, BadMode, T
 use Rattle.ud_args.specs.declared.usage.Usage.TheVariants.{OutOfMemory}
 use Rattle.ud_io.specs.Watched.{AppendsAllOrPrefix}
 
+-- `usage_text u`: the message of this fault of the arguments, or the message of lack of memory.
 abbrev pub usage_text : Usage → List ℕ
 usage_text (UnknownOption letter) = usage_message (unknown_option letter)
 usage_text (MissingArgument letter) = usage_message (missing_argument letter)
@@ -22,7 +23,9 @@ usage_text (BadMode word) = usage_message (bad_mode_in word)
 usage_text TooManyFiles = usage_message too_many_files
 usage_text OutOfMemory = out_of_memory
 
--- the status is 2, and the fault's message was said; or a symbol stands before the fault, and memory for it was refused
+-- `ReportsUsage gs fault failed old new status`: `status` is 2, and the message of `fault` was
+-- appended, or a prefix of it if `failed`. Or memory for a symbol before the fault couldn't be
+-- allocated, and the message of that was.
 pub record ReportsUsage (gs : List ParsedArg) (fault : UsageFault) (failed : Bool)
     (old new : Option (List ℕ)) (status : ℕ) : Type 0 where
   pub message : AppendsAllOrPrefix failed old new (usage_message fault) ⊎

@@ -1,4 +1,4 @@
-//! How it all ends: the status, and the message that goes with it.
+//! The end of a run: exit status and message.
 
 ghost use Rattle.std.specs.Prelude.{◌≡◌, false};
 ghost use Rattle.ud_model.specs.answer.Answer.{status_by, status_under};
@@ -14,8 +14,8 @@ use ud_model::{ExitMode, Listing, Settings};
 /// The status of a fault, of any kind.
 pub const EXIT_TROUBLE: u8 = 2;
 
-/// How a run ended that answered this, after its output was flushed or couldn't be: a failed flush is a failed write,
-/// and changes no fault.
+/// Returns the result of the run after the flush: a failed flush is `Write`, unless the run has
+/// failed already.
 pub fn final_result(ran: Result<bool, RunFault>, flushed: bool) -> Result<bool, RunFault>
     ensures { result ≡ final_result ran flushed }
 {
@@ -25,7 +25,7 @@ pub fn final_result(ran: Result<bool, RunFault>, flushed: bool) -> Result<bool, 
     }
 }
 
-/// Writes the message of how a run ended, if it has one, and answers the status.
+/// Writes the message of a run's fault, if there is one, and returns the exit status.
 pub fn report_result<E: Write>(
     err: &mut Watched<E>,
     name: &[u8],
@@ -46,7 +46,8 @@ pub fn report_result<E: Write>(
     }
 }
 
-/// The status of a text without a fault: where names are listed it is 0 in every mode.
+/// Returns the status of a text without a fault. If names are listed, the status is 0 in every
+/// mode.
 fn status_under(settings: Settings, differs: bool) -> u8
     ensures { result ≡ status_under settings.listing settings.exit_mode differs }
 {
@@ -56,7 +57,7 @@ fn status_under(settings: Settings, differs: bool) -> u8
     }
 }
 
-/// The status of a text that is printed.
+/// Returns the status of a text that is printed.
 fn status_by(mode: ExitMode, differs: bool) -> u8
     ensures { result ≡ status_by mode differs }
 {

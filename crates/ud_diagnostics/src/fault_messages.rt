@@ -1,4 +1,4 @@
-//! The text of each fault, which ends in a line feed, and goes to the error stream alone.
+//! The message of each fault, which ends in a newline, and is written only to the error stream.
 
 ghost use Rattle.std.specs.Prelude.{◌≡◌, false};
 ghost use Rattle.ud_model.specs.answer.Messages.{about, about_line, message_of};
@@ -16,7 +16,7 @@ use ud_io::Watched;
 use ud_sections::SectionFault;
 use ud_text::TextFault;
 
-/// Says why a run ended. If a write fails, a front of the message is written.
+/// Reports why a run ended. If a write fails, a prefix of the message was written.
 pub(crate) fn report_fault<E: Write>(err: &mut Watched<E>, name: &[u8], fault: RunFault)
     requires not_failed { err.old.failed ≡ false }
     ensures { AppendsAllOrPrefix err.new.failed (E.contents err.old.inner)
@@ -30,7 +30,7 @@ pub(crate) fn report_fault<E: Write>(err: &mut Watched<E>, name: &[u8], fault: R
     }
 }
 
-/// Says which limit the text passes, and in which line.
+/// Reports which limit the text exceeds, and on which line.
 fn report_limit<E: Write>(err: &mut Watched<E>, name: &[u8], fault: TextFault)
     requires not_failed { err.old.failed ≡ false }
     ensures { AppendsAllOrPrefix err.new.failed (E.contents err.old.inner)
@@ -42,7 +42,7 @@ fn report_limit<E: Write>(err: &mut Watched<E>, name: &[u8], fault: TextFault)
     }
 }
 
-/// Says which line is faulty among the sections, and why, or what the text ends in.
+/// Reports which line is faulty among the sections, and why, or what the text ends in.
 fn report_section<E: Write>(err: &mut Watched<E>, name: &[u8], fault: SectionFault)
     requires not_failed { err.old.failed ≡ false }
     ensures { AppendsAllOrPrefix err.new.failed (E.contents err.old.inner)
@@ -71,7 +71,7 @@ fn report_section<E: Write>(err: &mut Watched<E>, name: &[u8], fault: SectionFau
     }
 }
 
-/// Says something of a line of the text.
+/// Writes a message about a line of the text.
 fn report_at<E: Write>(err: &mut Watched<E>, name: &[u8], line: u32, text: &[u8])
     requires not_failed { err.old.failed ≡ false }
     ensures { AppendsAllOrPrefix err.new.failed (E.contents err.old.inner)
@@ -86,7 +86,7 @@ fn report_at<E: Write>(err: &mut Watched<E>, name: &[u8], line: u32, text: &[u8]
     );
 }
 
-/// Says that the text ends in a section whose first directive stands in the line `if_line`.
+/// Reports that the text ends in a section whose first directive is on line `if_line`.
 fn report_premature_eof<E: Write>(err: &mut Watched<E>, name: &[u8], line: u32, if_line: u32)
     requires not_failed { err.old.failed ≡ false }
     ensures { AppendsAllOrPrefix err.new.failed (E.contents err.old.inner)
@@ -111,7 +111,7 @@ fn report_premature_eof<E: Write>(err: &mut Watched<E>, name: &[u8], line: u32, 
     );
 }
 
-/// Says something of the input.
+/// Writes a message about the input.
 fn report_on<E: Write>(err: &mut Watched<E>, name: &[u8], text: &[u8])
     requires not_failed { err.old.failed ≡ false }
     ensures { AppendsAllOrPrefix err.new.failed (E.contents err.old.inner)

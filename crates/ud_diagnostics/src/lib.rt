@@ -1,7 +1,8 @@
-//! What is said of a run of unifdef(1), and its status.
+//! The messages of unifdef(1), and the exit status.
 //!
-//! `report_usage` says what is wrong with the words; `final_result` is how a run ended whose output was flushed, or couldn't be, and
-//! `report_result` says what is wrong with it and answers the status. The texts of the messages stand in ud_model,
+//! `report_usage` reports a fault of the arguments. `final_result` is the result of a run after its
+//! output was flushed, or after the flush failed; `report_result` reports its fault, if any, and
+//! returns the exit status. The texts of the messages are defined in ud_model,
 //! specs/answer/Messages.antt and CommandLine.antt.
 #![tactic(auto)]
 

@@ -1,4 +1,4 @@
-//! The message of what is wrong with the words of a command line.
+//! The message of a fault of the arguments.
 
 ghost use Rattle.std.specs.Prelude.{◌≡◌, ◌++◌, false, codes, decimal, encode_utf8};
 ghost use Rattle.ud_io.specs.Watched.{AppendsAllOrPrefix};
@@ -10,7 +10,8 @@ use std::io::Write;
 use ud_args::Usage;
 use ud_io::{Watched, write_all};
 
-/// Says what is wrong with the words, or that memory was refused. If a write fails, a front of the message is written.
+/// Reports a fault of the arguments, or that memory couldn't be allocated. If a write fails, a
+/// prefix of the message was written.
 pub fn report_usage<E: Write>(err: &mut Watched<E>, usage: Usage)
     requires not_failed { err.old.failed ≡ false }
     ensures { AppendsAllOrPrefix err.new.failed (E.contents err.old.inner)
@@ -35,7 +36,7 @@ pub fn report_usage<E: Write>(err: &mut Watched<E>, usage: Usage)
     }
 }
 
-/// Says something of a letter, which stands between two texts.
+/// Writes a message with a letter between two texts.
 fn report_letter<E: Write>(err: &mut Watched<E>, before: &[u8], letter: char, behind: &[u8])
     requires not_failed { err.old.failed ≡ false }
     ensures { AppendsAllOrPrefix err.new.failed (E.contents err.old.inner)
@@ -47,7 +48,7 @@ fn report_letter<E: Write>(err: &mut Watched<E>, before: &[u8], letter: char, be
     write_parts(err, &[before, bytes, behind]);
 }
 
-/// Says something of a word, whose number stands after the text.
+/// Writes a message that ends in the number of an argument, after `text`.
 fn report_number<E: Write>(err: &mut Watched<E>, text: &[u8], word: usize)
     requires not_failed { err.old.failed ≡ false }
     ensures { AppendsAllOrPrefix err.new.failed (E.contents err.old.inner)

@@ -1,4 +1,4 @@
-//! Writing a message's parts.
+//! Writing the parts of a message.
 
 ghost use Rattle.std.specs.Prelude.{◌≡◌, false, not};
 ghost use Rattle.std.specs.List.{flat_map};
@@ -7,10 +7,10 @@ ghost use Rattle.ud_io.specs.Watched.{AppendsAllOrPrefix};
 use std::io::Write;
 use ud_io::{Watched, write_all};
 
-/// Writes these parts in turn, each whole; an empty one takes no call.
+/// Writes all of `parts`, in order. An empty part makes no call.
 ///
 /// # Errors
-/// `false` if a write fails: a front of the parts' bytes is written, and `out` has failed.
+/// `false` if a write fails. A prefix of the parts' bytes was written, and `out` is fused.
 pub(crate) fn write_parts<W: Write>(out: &mut Watched<W>, parts: &[&[u8]]) -> bool
     requires not_failed { out.old.failed ≡ false }
     ensures written { AppendsAllOrPrefix out.new.failed (W.contents out.old.inner)

@@ -9,11 +9,11 @@ use Rattle.std.proofs.KnownBytes.{Appends-nil, Appends-trans}
 use Rattle.ud_io.specs.Watched.{AppendsPrefix, AppendsAllOrPrefix}
 use Rattle.ud_io.specs.Buffering.{AppendsAllBut, AppendsAllButOrPrefix}
 
--- at first nothing is appended
+-- at first, nothing is appended
 pub appends_all_but_none : (a : Option (List ℕ)) (bytes : List ℕ) → AppendsAllBut a a bytes bytes
 appends_all_but_none a bytes = record { front = []; joined = refl; appended = Appends-nil a }
 
--- then the front of the rest is appended
+-- then a prefix of the rest is appended
 pub appends_all_but_part : (a b c : Option (List ℕ)) (bytes part rest : List ℕ) → AppendsAllBut a b bytes (part ++ rest) → Appends b c part → AppendsAllBut a c bytes rest
 appends_all_but_part a b c bytes part rest s p = record {
   front = s.front ++ part;
@@ -21,17 +21,17 @@ appends_all_but_part a b c bytes part rest s p = record {
   appended = Appends-trans a b c s.front part s.appended p;
 }
 
--- then the first n bytes of the rest are appended
+-- then the first `n` bytes of the rest are appended
 pub appends_all_but_bytes : (a b c : Option (List ℕ)) (bytes rest : List ℕ) (n : ℕ) → AppendsAllBut a b bytes rest → Appends b c (take n rest) → AppendsAllBut a c bytes (drop n rest)
 appends_all_but_bytes a b c bytes rest n s p =
     appends_all_but_part a b c bytes (take n rest) (drop n rest) (subst (λ r. AppendsAllBut a b bytes r) (sym (take-append-drop n rest)) s) p
 
--- if no rest is left, all is appended
+-- if the rest is empty, all is appended
 pub appends_all_but_all : (a b : Option (List ℕ)) (bytes rest : List ℕ) → AppendsAllBut a b bytes rest → rest ≡ [] → Appends a b bytes
 appends_all_but_all a b bytes rest s e =
     subst (λ x. Appends a b x) (sym (s.joined ∙ ap (λ r. s.front ++ r) e ∙ append-nil s.front)) s.appended
 
--- a front of the rest's front ends a front of all
+-- if a prefix of the next part was appended, a prefix of all was
 pub appends_all_but_prefix : (a b c : Option (List ℕ)) (bytes part rest : List ℕ) → AppendsAllBut a b bytes (part ++ rest) → AppendsPrefix b c part → AppendsPrefix a c bytes
 appends_all_but_prefix a b c bytes part rest s (front, back, joined, p) = (
   s.front ++ front,
@@ -40,53 +40,49 @@ appends_all_but_prefix a b c bytes part rest s (front, back, joined, p) = (
   Appends-trans a b c s.front front s.appended p,
 )
 
--- what was appended stays so while what is held stays
+-- appended bytes stay appended while the contents stay
 pub appends_kept : (a b c : Option (List ℕ)) (x : List ℕ) → Appends a b x → Keeps b c → Appends a c x
 appends_kept None b c x p q = tt
 appends_kept (Some u) None c x p q = absurd p
 appends_kept (Some u) (Some v) None x p q = absurd q
 appends_kept (Some u) (Some v) (Some w) x p q = q ∙ p
 
--- if nothing more is appended, what was is a front
+-- if nothing more is appended, a prefix was
 pub prefix_if_nothing_more : (a b c : Option (List ℕ)) (bytes rest : List ℕ) → AppendsAllBut a b bytes rest → Keeps b c → AppendsPrefix a c bytes
 prefix_if_nothing_more a b c bytes rest s k = (s.front, rest, s.joined, appends_kept a b c s.front s.appended k)
 
--- the words of a failure
 pub prefix_of_failed : (failed : Bool) (a b : Option (List ℕ)) (bytes : List ℕ) → failed ≡ true → AppendsPrefix a b bytes → AppendsAllOrPrefix failed a b bytes
 prefix_of_failed true a b bytes e h = h
 prefix_of_failed false a b bytes e h = cc
 
--- the words of a success
 pub all_of_working : (failed : Bool) (a b : Option (List ℕ)) (bytes : List ℕ) → failed ≡ false → Appends a b bytes → AppendsAllOrPrefix failed a b bytes
 all_of_working true a b bytes e h = cc
 all_of_working false a b bytes e h = h
 
--- the same bytes are said
 pub all_or_prefix_same : (failed : Bool) (a b : Option (List ℕ)) (x y : List ℕ) → x ≡ y → AppendsAllOrPrefix failed a b x → AppendsAllOrPrefix failed a b y
 all_or_prefix_same failed a b x y e h = subst (λ z. AppendsAllOrPrefix failed a b z) e h
 
--- the rest after the first n bytes, as a range gives it
+-- the rest after the first `n` bytes, as a range gives it
 pub range_from : (rest : List ℕ) (n : ℕ) → take (length rest - n) (drop n rest) ≡ drop n rest
 range_from rest n = grind (arith, common_steps)
 
--- what a failed writer said is a front
 pub failed_appends_prefix : (failed : Bool) (a b : Option (List ℕ)) (bytes : List ℕ) → failed ≡ true → AppendsAllOrPrefix failed a b bytes → AppendsPrefix a b bytes
 failed_appends_prefix true a b bytes e h = h
 failed_appends_prefix false a b bytes e h = cc
 
--- what a working writer said is all
 pub working_appends_all : (failed : Bool) (a b : Option (List ℕ)) (bytes : List ℕ) → failed ≡ false → AppendsAllOrPrefix failed a b bytes → Appends a b bytes
 working_appends_all true a b bytes e h = cc
 working_appends_all false a b bytes e h = h
 
--- the bytes of the parts from an index on are those of the part there, and those of the parts after it
+-- the bytes of the parts from an index on are those of the part there, and those of the parts after
+-- it
 pub flat_map-drop : {X : Type 0} (f : X → List ℕ) (xs : List X) (i : ℕ) (d : X) → i < length xs
     → flat_map f (drop i xs) ≡ f (get_or xs i d) ++ flat_map f (drop (i + 1) xs)
 flat_map-drop f xs i d h =
     let at : drop i xs ≡ get_or xs i d ∷ drop (i + 1) xs = rw add-one (drop-cons xs i d h) in
     ap (flat_map f) at
 
--- a part more is appended
+-- one more part is appended
 pub parts_sent : {X : Type 0} (f : X → List ℕ) (xs : List X) (i : ℕ) (d : X) (failed : Bool) (a b c : Option (List ℕ)) → i < length xs
     → AppendsAllBut a b (flat_map f xs) (flat_map f (drop i xs)) → failed ≡ false → AppendsAllOrPrefix failed b c (f (get_or xs i d))
     → AppendsAllBut a c (flat_map f xs) (flat_map f (drop (i + 1) xs))
@@ -115,29 +111,28 @@ suffix_nil (b ∷ bs) y e = cc
 pub appends_all_but_empty : (a b : Option (List ℕ)) (bytes rest : List ℕ) → AppendsAllBut a b bytes rest → bytes ≡ [] → rest ≡ []
 appends_all_but_empty a b bytes rest s e = suffix_nil s.front rest (sym s.joined ∙ e)
 
--- a list without elements has no length
+-- an empty list has length 0
 pub empty_len : (rest : List ℕ) → rest ≡ [] → false ≡ (length rest == 0) → ⊥
 empty_len [] e h = absurd cc
 empty_len (b ∷ bs) e h = absurd cc
 
--- parts without bytes are empty, each of them
+-- if the parts have no bytes, each part is empty
 pub parts_empty : {X : Type 0} (f : X → List ℕ) (xs : List X) (i : ℕ) (d : X) (a b : Option (List ℕ)) → i < length xs
     → AppendsAllBut a b (flat_map f xs) (flat_map f (drop i xs)) → flat_map f xs ≡ [] → f (get_or xs i d) ≡ []
 parts_empty f xs i d a b h s e =
     prefix_nil (f (get_or xs i d)) (flat_map f (drop (i + 1) xs))
     (sym (flat_map-drop f xs i d h) ∙ appends_all_but_empty a b (flat_map f xs) (flat_map f (drop i xs)) s e)
 
--- a front of the first bytes is a front of all
 pub prefix_of_first : (a b : Option (List ℕ)) (x y : List ℕ) → AppendsPrefix a b x → AppendsPrefix a b (x ++ y)
 prefix_of_first a b x y h = appends_all_but_prefix a a b (x ++ y) x y (appends_all_but_none a (x ++ y)) h
 
--- after the first bytes a front of the others was appended
+-- after the first bytes, a prefix of the second bytes was appended
 pub prefix_of_second : (a b c : Option (List ℕ)) (x y : List ℕ) → Appends a b x → AppendsPrefix b c y → AppendsPrefix a c (x ++ y)
 prefix_of_second a b c x y h k =
     appends_all_but_prefix a b c (x ++ y) y []
     (subst (λ r. AppendsAllBut a b (x ++ y) r) (sym (append-nil y)) (appends_all_but_part a a b (x ++ y) x y (appends_all_but_none a (x ++ y)) h)) k
 
--- more bytes follow those that are left
+-- more bytes follow the rest
 pub appends_all_but_then : (a b c : Option (List ℕ)) (bytes rest more left : List ℕ) → AppendsAllBut a b bytes rest → AppendsAllBut b c (rest ++ more) left → AppendsAllBut a c (bytes ++ more) left
 appends_all_but_then a b c bytes rest more left s t = record {
   front = s.front ++ t.front;
@@ -146,7 +141,7 @@ appends_all_but_then a b c bytes rest more left s t = record {
   appended = Appends-trans a b c s.front t.front s.appended t.appended;
 }
 
--- a write fails among what was left and the bytes that follow
+-- a write fails within the rest or the bytes that follow it
 pub appends_all_but_then_front : (a b c : Option (List ℕ)) (bytes rest more : List ℕ) → AppendsAllBut a b bytes rest → AppendsPrefix b c (rest ++ more) → AppendsPrefix a c (bytes ++ more)
 appends_all_but_then_front a b c bytes rest more s (front, back, joined, p) = (
   s.front ++ front,
@@ -155,32 +150,30 @@ appends_all_but_then_front a b c bytes rest more s (front, back, joined, p) = (
   Appends-trans a b c s.front front s.appended p,
 )
 
--- what is put follows what was left
+-- new bytes are buffered or written after the rest
 pub buffered_then : (done : Bool) (a b c : Option (List ℕ)) (bytes rest more left : List ℕ) → AppendsAllBut a b bytes rest → AppendsAllButOrPrefix done b c (rest ++ more) left → AppendsAllButOrPrefix done a c (bytes ++ more) left
 buffered_then true a b c bytes rest more left s t = appends_all_but_then a b c bytes rest more left s t
 buffered_then false a b c bytes rest more left s t = appends_all_but_then_front a b c bytes rest more s t
 
--- nothing was written, and the bytes are gathered
+-- nothing was written, and the bytes are buffered
 pub buffered_only : (a : Option (List ℕ)) (bytes rest : List ℕ) → rest ≡ bytes → AppendsAllButOrPrefix true a a bytes rest
 buffered_only a bytes rest e = subst (λ x. AppendsAllBut a a bytes x) (sym e) (appends_all_but_none a bytes)
 
--- bytes are written after all before them
+-- bytes are written after all bytes before them
 pub buffered_written : (done failed : Bool) (a b : Option (List ℕ)) (bytes : List ℕ) → failed ≡ not done → AppendsAllOrPrefix failed a b bytes → AppendsAllButOrPrefix done a b bytes []
 buffered_written true failed a b bytes e h =
     appends_all_but_part a a b bytes bytes [] (subst (λ x. AppendsAllBut a a bytes x) (sym (append-nil bytes)) (appends_all_but_none a bytes)) (working_appends_all failed a b bytes e h)
 buffered_written false failed a b bytes e h = failed_appends_prefix failed a b bytes e h
 
--- if it wasn't refused, this was put
 pub buffered_done : (done : Bool) (a b : Option (List ℕ)) (bytes rest : List ℕ) → done ≡ true → AppendsAllButOrPrefix done a b bytes rest → AppendsAllBut a b bytes rest
 buffered_done true a b bytes rest e h = h
 buffered_done false a b bytes rest e h = cc
 
--- if it was refused, a front was appended
 pub buffered_failed : (done : Bool) (a b : Option (List ℕ)) (bytes rest : List ℕ) → done ≡ false → AppendsAllButOrPrefix done a b bytes rest → AppendsPrefix a b bytes
 buffered_failed true a b bytes rest e h = cc
 buffered_failed false a b bytes rest e h = h
 
--- bytes are written after all those that were gathered
+-- bytes are written after all those that were buffered
 pub buffered_after : (done failed : Bool) (a b c : Option (List ℕ)) (old all rest bytes left : List ℕ) → all ≡ old → rest ≡ [] → left ≡ [] →
     AppendsAllBut a b all rest → failed ≡ not done → AppendsAllOrPrefix failed b c bytes → AppendsAllButOrPrefix done a c (old ++ bytes) left
 buffered_after done failed a b c old all rest bytes left e f g s h said =
@@ -204,14 +197,14 @@ parts_from f xs i d old h =
     ∙ append_assoc old (flat_map f (take i xs)) (flat_map f (drop i xs))
     ∙ ap (λ x. old ++ x) (sym (flat_map-append f (take i xs) (drop i xs)) ∙ ap (flat_map f) (take-append-drop i xs))
 
--- a part more is put
+-- one more part is buffered or written
 pub parts_buffered : {X : Type 0} (f : X → List ℕ) (xs : List X) (i : ℕ) (d : X) (a b c : Option (List ℕ)) (old rest left : List ℕ) → i < length xs →
     AppendsAllBut a b (old ++ flat_map f (take i xs)) rest → AppendsAllBut b c (rest ++ f (get_or xs i d)) left → AppendsAllBut a c (old ++ flat_map f (take (i + 1) xs)) left
 parts_buffered f xs i d a b c old rest left h s t =
     subst (λ x. AppendsAllBut a c x left) (append_assoc old (flat_map f (take i xs)) (f (get_or xs i d)) ∙ ap (λ x. old ++ x) (sym (flat_map-take f xs i d h)))
     (appends_all_but_then a b c (old ++ flat_map f (take i xs)) rest (f (get_or xs i d)) left s t)
 
--- a write fails among the parts
+-- a write fails within the parts
 pub parts_write_failed : {X : Type 0} (f : X → List ℕ) (xs : List X) (i : ℕ) (d : X) (a b c : Option (List ℕ)) (old rest : List ℕ) → i < length xs →
     AppendsAllBut a b (old ++ flat_map f (take i xs)) rest → AppendsPrefix b c (rest ++ f (get_or xs i d)) → AppendsPrefix a c (old ++ flat_map f xs)
 parts_write_failed f xs i d a b c old rest h s t =
@@ -219,24 +212,24 @@ parts_write_failed f xs i d a b c old rest h s t =
     (prefix_of_first a c ((old ++ flat_map f (take i xs)) ++ f (get_or xs i d)) (flat_map f (drop (i + 1) xs))
     (appends_all_but_then_front a b c (old ++ flat_map f (take i xs)) rest (f (get_or xs i d)) s t))
 
--- a write fails within the run before a line
+-- a write fails within the pending bytes before a line
 pub pending_failed : (a b : Option (List ℕ)) (old run piece : List ℕ) → AppendsPrefix a b (old ++ run) → AppendsPrefix a b (old ++ (run ++ piece))
 pending_failed a b old run piece h = subst (λ x. AppendsPrefix a b x) (append_assoc old run piece) (prefix_of_first a b (old ++ run) piece h)
 
--- or within its piece
+-- a write fails within the line's piece, after the pending bytes
 pub parts_failed_after : (a b c : Option (List ℕ)) (old run mid parts piece : List ℕ) → parts ≡ piece →
     AppendsAllBut a b (old ++ run) mid → AppendsPrefix b c (mid ++ parts) → AppendsPrefix a c (old ++ (run ++ piece))
 parts_failed_after a b c old run mid parts piece e s h =
     subst (λ x. AppendsPrefix a c x) (append_assoc old run piece)
     (appends_all_but_then_front a b c (old ++ run) mid piece s (subst (λ x. AppendsPrefix b c (mid ++ x)) e h))
 
--- its piece is put after the run
+-- the line's piece is appended after the pending bytes
 pub parts_after : (a b c : Option (List ℕ)) (old run mid new parts piece : List ℕ) → parts ≡ piece →
     AppendsAllBut a b (old ++ run) mid → AppendsAllBut b c (mid ++ parts) new → AppendsAllBut a c (old ++ (run ++ piece)) new
 parts_after a b c old run mid new parts piece e s h =
     subst (λ x. AppendsAllBut a c x new) (append_assoc old run piece) (appends_all_but_then a b c (old ++ run) mid piece new s (subst (λ x. AppendsAllBut b c (mid ++ x) new) e h))
 
--- what was put is written out
+-- the buffered bytes are written out
 pub buffered_flushed : (done : Bool) (a b c : Option (List ℕ)) (bytes all mid rest : List ℕ) → all ≡ bytes → AppendsAllBut a b all mid → AppendsAllButOrPrefix done b c mid rest →
     (done ≡ true → rest ≡ []) → AppendsAllButOrPrefix done a c bytes []
 buffered_flushed true a b c bytes all mid rest e s t none =

@@ -1,6 +1,7 @@
-//! Readers and writers that remember a failure, and writing all of some bytes.
+//! Readers and writers that record a failure, and writing all of some bytes.
 //!
-//! `specs/Watched.antt` says what one call of a stream reads or writes, and `specs/Buffering.antt` what is on its way to a writer.
+//! `specs/Watched.antt` defines what one call reads or writes, and `specs/Buffering.antt` which
+//! bytes are still on their way to a writer.
 #![tactic(auto)]
 
 mod watched;

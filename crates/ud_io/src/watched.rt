@@ -1,7 +1,7 @@
-//! Readers and writers that remember a failure.
+//! Readers and writers that record a failure.
 //!
-//! A call that fails is remembered for good, so that the end of a run can tell whether each byte was read and
-//! written. No call is made again on its own, also not an interrupted one.
+//! A recorded failure stays, so that a run can decide at its end whether every byte was read and
+//! written. No failed call is repeated by itself, not even an interrupted one.
 
 ghost use Rattle.std.specs.Prelude.{◌≡◌, true, false, is_none, not};
 ghost use Rattle.std.specs.Io.KnownBytes.{Keeps};
@@ -10,12 +10,12 @@ ghost use Rattle.ud_io.specs.Watched.{ReadsOnce, WritesOnce};
 use std::io::{Read, Write};
 use std::marker::Model;
 
-/// A reader or a writer, and whether a call of it has failed.
+/// A reader or a writer that records whether a call of it has failed.
 #[derive(Drop)]
 pub struct Watched<T> {
-    /// What is watched.
+    /// The wrapped reader or writer.
     inner: T,
-    /// Whether a call has failed; once true it stays so.
+    /// A call has failed. Once true, it stays true.
     failed: bool,
 }
 
@@ -28,7 +28,7 @@ impl<T> Model for Watched<T> {
 }
 
 impl<T> Watched<T> {
-    /// Watches a reader or a writer, of which no call has failed.
+    /// Wraps a reader or a writer of which no call has failed.
     pub fn new(inner: T) -> Watched<T>
         ensures inner { result.inner ≡ inner }
         ensures failed { result.failed ≡ false }
@@ -39,14 +39,14 @@ impl<T> Watched<T> {
         }
     }
 
-    /// What is watched.
+    /// Returns the wrapped reader or writer.
     pub fn inner(&self) -> &T
         ensures { result.now ≡ self.now.inner }
     {
         &self.inner
     }
 
-    /// Whether a call has failed.
+    /// Returns whether a call has failed.
     pub fn failed(&self) -> bool
         ensures { result ≡ self.now.failed }
     {
@@ -55,14 +55,14 @@ impl<T> Watched<T> {
 }
 
 impl<R: Read> Watched<R> {
-    /// Calls the reader's `read` once, for up to as many bytes as `buf` has, which may be none.
+    /// Reads once, up to `buf.len()` bytes, which may be 0.
     ///
-    /// The answer counts the bytes that were read, which are the first of `buf`. It is 0 at the reader's end, and
-    /// where `buf` is empty.
+    /// Returns how many bytes of `buf` were filled: 0 at the end of the input, or if `buf` is
+    /// empty.
     ///
     /// # Errors
-    /// `None` where the reader's call fails, also where it was interrupted. It has given no byte, what `buf` holds
-    /// is open, and the reader has failed for good.
+    /// `None` if the read fails, even by an interruption. Nothing was read, `buf` may have changed,
+    /// and the reader is fused.
     pub fn read(&mut self, buf: &mut [u8]) -> Option<usize>
         requires not_failed { self.old.failed ≡ false }
         ensures once { ReadsOnce (R.remaining self.old.inner) (R.remaining self.new.inner) result
@@ -80,13 +80,13 @@ impl<R: Read> Watched<R> {
 }
 
 impl<W: Write> Watched<W> {
-    /// Calls the writer's `write` once, with bytes of which there may be none.
+    /// Writes a prefix of `bytes` by one call of the writer, even if `bytes` is empty.
     ///
-    /// The answer counts the bytes that the writer took, which are the first ones. It is 0 only if there are none.
+    /// Returns the length of that prefix, which is 0 only if `bytes` is empty.
     ///
     /// # Errors
-    /// `None` where the writer's call fails, also where it was interrupted, and where the writer takes none of at
-    /// least one byte. No byte was written, and the writer has failed for good.
+    /// `None` if the write fails, even by an interruption, or if the writer takes none of at least
+    /// one byte. Nothing was written, and the writer is fused.
     pub fn write(&mut self, bytes: &[u8]) -> Option<usize>
         requires not_failed { self.old.failed ≡ false }
         ensures once { WritesOnce (W.contents self.old.inner) (W.contents self.new.inner) result
@@ -102,10 +102,10 @@ impl<W: Write> Watched<W> {
         }
     }
 
-    /// Calls the writer's `flush` once, also where the writer has failed. What was written stays.
+    /// Flushes once, even if the writer has failed. What was written stays written.
     ///
     /// # Errors
-    /// `false` where the writer's call fails, also where it was interrupted. The writer has then failed for good.
+    /// `false` if the flush fails, even by an interruption. The writer is then fused.
     pub fn flush(&mut self) -> bool
         ensures unchanged { Keeps (W.contents self.old.inner) (W.contents self.new.inner) }
         ensures failed { self.old.failed ≡ false → self.new.failed ≡ not result }

@@ -6,10 +6,10 @@ ghost use Rattle.ud_io.specs.Watched.{AppendsAllOrPrefix};
 use crate::watched::Watched;
 use std::io::Write;
 
-/// Writes all of these bytes, in as many calls as the writer needs, and none if there are no bytes.
+/// Writes all of `bytes`, in as many calls as the writer needs. Makes no call if `bytes` is empty.
 ///
 /// # Errors
-/// `false` if a write fails: a front of the bytes is written, and `out` has failed.
+/// `false` if a write fails. A prefix of `bytes` was written, and `out` is fused.
 pub fn write_all<W: Write>(out: &mut Watched<W>, bytes: &[u8]) -> bool
     requires not_failed { out.old.failed ≡ false }
     ensures written { AppendsAllOrPrefix out.new.failed (W.contents out.old.inner)

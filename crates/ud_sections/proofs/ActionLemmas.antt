@@ -1,4 +1,4 @@
--- ActionLemmas: what a line does to the open sections of a text, and which mark it has.
+-- ActionLemmas: how a line changes the open sections of a text, and which mark it has.
 use Rattle.std.proofs.Common.{◌≡◌, ◌≤◌, ℕ, suc, ◌+◌, ◌-◌, List, [], ◌∷◌, ◌++◌, length, slice_get, Bool, true, false, not, ◌&&◌, ◌||◌, Option, Some, None, refl, sym, ◌∙◌, ap, ap₂, append_assoc, append-nil, length-append, arith, take}
 use Rattle.std.proofs.Math.Seq.{take-append_seam}
 use Rattle.ud_model.specs.declared.cond.Cond.{Cond}
@@ -28,7 +28,7 @@ use Rattle.ud_sections.proofs.SectionStateLemmas.{phase-last, opener_mark, endif
 abbrev pub mark_of : Action → Mark
 mark_of a = record { kept = a.kept; verdict = a.verdict }
 
--- the group that a head opens is kept if its phase says so
+-- the group that a head opens is kept if its section's state is
 pub kept_inside : (kept : Bool) (h : Head Reading) → is_kept_in (section_state_after (new_state kept) (conds_of_head h)) ≡ (kept && is_inside_kept h)
 kept_inside kept (if_head o) = kept_last kept [] o.cond
 kept_inside kept (elif_head es o) = kept_last kept (conds_of_elifs es) o.cond
@@ -40,14 +40,14 @@ groups_complete kept (if_head o) b = refl
 groups_complete kept (elif_head es o) b = refl
 groups_complete kept (else_head es l) b = refl
 
--- with one level more around them
+-- inside one more open section
 changes_under : (c : StackOp) (l : OpenSection) (old new : List OpenSection) → Applies c old new → Applies c (l ∷ old) (l ∷ new)
 changes_under Stay l old new e = ap (λ ls. l ∷ ls) e
 changes_under (Push k) l old new e = ap (λ ls. l ∷ ls) e
 changes_under (Replace k) l old new (outer, last, e, f) = (l ∷ outer, last, ap (λ ls. l ∷ ls) e, ap (λ ls. l ∷ ls) f)
 changes_under Pop l old new (last, e) = (last, ap (λ ls. l ∷ ls) e)
 
--- a line is added: what becomes of it, its mark, and what it does to the open sections
+-- a line is added: its action, its mark, and its change of the open sections
 pub record Moved (p kept plain : Bool) (d : Option OpenSection) (t u : Tree Reading) (x : Item Reading) : Type 0 where
   pub action : Action
   pub is_act : act p (section_at d kept plain t) (item_kind x) (line_of x).number ≡ Some action
@@ -93,7 +93,7 @@ module _ (p : Bool) where
     changes = ([], section_of kept plain h, refl, ap (λ l. l ∷ []) level);
   }
 
-  -- what one line more does
+  -- the effect of one more line
   pub moves : (kept plain : Bool) (d : Option OpenSection) {t u : Tree Reading} {x : Item Reading} → kept_at d ≡ kept → plain_at p d ≡ plain →
       Adds t x u → Moved p kept plain d t u x
   moves kept plain d e f (adds_text {b = b} {l = l}) = record {
@@ -132,7 +132,7 @@ module _ (p : Bool) where
         changes = changes_under m.action.change (section_of kept plain h) _ _ m.changes;
       }
 
-  -- a line of which something becomes is added
+  -- a line with an action is added
   pub takes : (kept plain : Bool) (t : Tree Reading) (x : Item Reading) (a : Action) →
       act p (section_at None kept plain t) (item_kind x) (line_of x).number ≡ Some a → (u : Tree Reading) × Adds t x u
   takes kept plain (closed ns) (text_line r) a e = (_, adds_text)
@@ -154,12 +154,12 @@ module _ (p : Bool) where
       takes (kept && is_inside_kept h) (plain || (opener_of_head h).ignoring) (open_section ms k t) x a e in
       (open_section ns h s.0, adds_under s.1)
 
--- there are as many levels as open sections
+-- the number of open sections is the depth
 pub depth_levels : (kept plain : Bool) (t : Tree Reading) → length (open_sections_of kept plain t) ≡ depth t
 depth_levels kept plain (closed ns) = refl
 depth_levels kept plain (open_section ns h t) = ap suc (depth_levels (kept && is_inside_kept h) (plain || (opener_of_head h).ignoring) t)
 
--- the last level is that of the innermost section
+-- the last open section is the innermost one
 pub last_levels : (d : Option OpenSection) (kept plain : Bool) (t : Tree Reading) → last_or d (open_sections_of kept plain t) ≡ section_at d kept plain t
 last_levels d kept plain (closed ns) = refl
 last_levels d kept plain (open_section ns h t) =
@@ -185,7 +185,7 @@ or_assoc : (a b c : Bool) → ((a || b) || c) ≡ (a || (b || c))
 or_assoc true b c = refl
 or_assoc false b c = refl
 
--- the innermost section tells whether the next line is plain
+-- the innermost section decides whether the next line is plain
 pub plain_inside : (p plain : Bool) (d : Option OpenSection) (kept : Bool) (t : Tree Reading) → plain_at p d ≡ plain →
     plain_at p (section_at d kept plain t) ≡ (plain || is_ignoring t)
 plain_inside p plain d kept (closed ns) e = e ∙ or_false plain
@@ -233,14 +233,14 @@ end_opener true n o = refl
 end_opener false n None = refl
 end_opener false n (Some o) = refl
 
--- what the end of the text says
+-- the check of the end of the text
 pub end_is : (c : Bool) (n : ℕ) (p : Bool) (t : Tree Reading) → end_fault_of (end_in c n (section_at None true p t)) ≡ end_by c n (innermost t)
 end_is c n p t =
     end_level c n (section_at None true p t)
     ∙ ap (end_by_line c n) (if_line_at None None true p t refl ∙ ap line_of_opener (sym (innermost_is t)))
     ∙ sym (end_opener c n (innermost t))
 
--- a change opens at most one section, and only if it says so
+-- a change opens at most one section, and only if `opens_section` is true
 pub changes_depth : (c : StackOp) (old new : List OpenSection) → Applies c old new → opens_section c ≡ false → length new ≤ length old
 changes_depth Stay old new e n = rw e (omega arith)
 changes_depth (Push l) old new e n = cc
@@ -259,7 +259,7 @@ front_of ls l =
     let e : length (ls ++ l ∷ []) - 1 ≡ length ls = omega (arith, k) in
     rw e (take-append_seam ls (l ∷ []))
 
--- what the change makes of the old ones
+-- the change of the old open sections gives the new ones
 pub changed_is : (c : StackOp) (old new : List OpenSection) → Applies c old new → applied c old ≡ new
 changed_is Stay old new e = sym e
 changed_is (Push l) old new e = sym e

@@ -1,4 +1,4 @@
--- CheckLemmas: what a judgement of a line says of the line after sound ones.
+-- CheckLemmas: what the check of a line means for the line after sound ones.
 use Rattle.std.proofs.Common.{◌≡◌, ◌≢◌, ℕ, suc, ◌<◌, ◌≤◌, ◌==◌, [], ◌∷◌, ◌++◌, length, Bool, true, false, ◌&&◌, if◌then◌else◌, Option, Some, None, Ok, Err, refl, sym, ◌∙◌, ap, subst, arith}
 use Rattle.std.proofs.lemmas.Bool.{eqb-true}
 use Rattle.ud_model.specs.text.Scans.{Reading, is_spanning}
@@ -24,7 +24,7 @@ use Rattle.ud_sections.specs.ClassifiedLines.{item_kind}
 use Rattle.ud_sections.proofs.LineFaults.{is_cut_item, out_of_place_fault, too_deep_fault, spoiled_fault, clear_line}
 use Rattle.ud_sections.proofs.ActionLemmas.{mark_of, Moved, moves, takes, depth_levels, changes_depth, changes_deeper}
 
--- what stands before the line after a text
+-- the context of the line after a text
 abbrev pub before_next : Bool → Tree Reading → LineContext
 before_next p t = record {
   enclosing = record { section = section_at None true p t; plain = p };
@@ -32,7 +32,7 @@ before_next p t = record {
   removed = ends_removed (marks t);
 }
 
--- this is kept of the item's line
+-- the classified line of the item
 pub record IsSeen (x : Item Reading) (s : ClassifiedLine) : Type 0 where
   pub kind : s.kind ≡ item_kind x
   pub spans : s.spans ≡ is_spanning (reading_of x).scan
@@ -53,7 +53,7 @@ directive_shape (elif_line o) = refl
 directive_shape (else_line r) = refl
 directive_shape (endif_line r) = refl
 
--- the line is added, and this becomes of it
+-- the line is added, with this action
 pub record Taken (p : Bool) (t : Tree Reading) (x : Item Reading) (a : Action) : Type 0 where
   pub tree : Tree Reading
   pub lines_are : lines tree ≡ lines t ++ x ∷ []
@@ -175,10 +175,10 @@ module _ (p : Bool) (t : Tree Reading) (x : Item Reading) where
     acts_alike : act p (section_at None true p t) (item_kind x) (line_of x).number ≡ act p (section_at None true p t) s.kind (line_of x).number
     acts_alike = ap (λ k. act p (section_at None true p t) k (line_of x).number) (sym seen.kind)
 
-    -- a line of which an action is told is sound
+    -- a line with an action is sound
     pub judged_well : (a : Action) → checked_by (before_next p t) s (line_of x).number ≡ Ok a → Follows p t x a
     judged_well a e = well_at (act p (section_at None true p t) s.kind (line_of x).number) a acts_alike e
 
-    -- a line of which a fault is told has this fault
+    -- a line with a fault by the check has this fault
     pub judged_ill : (f : SectionFault) → checked_by (before_next p t) s (line_of x).number ≡ Err f → FaultOf (lines t) x (fault_of f)
     judged_ill f e = ill_at (act p (section_at None true p t) s.kind (line_of x).number) f acts_alike e

@@ -27,7 +27,7 @@ module _ (xs : List (Item Reading)) (x : Item Reading) (w : IsWithinLimits (line
     (λ h. let n : length (text_of (line_of x)) ≤ LINE_BYTES = w.bytes_fit in omega (arith, h, n), others),
   )
 
-  -- and if no keyword is cut in it, not in the third
+  -- if no keyword is cut in it, the line isn't faulty in the third way either
   within_clear : (cs : List Case) → is_cut_item x ≡ false → NoneHolds xs x cs → NoneHolds xs x (past_last ∷ too_long ∷ cut ∷ cs)
   within_clear cs whole others = within_first (cut ∷ cs) (λ h. not_true (is_cut_item x) whole h, others)
 
@@ -35,7 +35,7 @@ module _ (xs : List (Item Reading)) (x : Item Reading) (w : IsWithinLimits (line
   pub cut_fault : is_cut_item x ≡ true → FaultOf xs x (obfuscated (line_of x).number)
   cut_fault h = record { which = cut; holds = h; first = within_first [] tt; named = refl }
 
-  -- a directive that no tree takes has the fault of its name
+  -- a directive that no tree accepts has the fault of its name
   pub out_of_place_fault : (t : Tree Reading) (f : Fault) → is_cut_item x ≡ false → lines t ≡ xs →
       ((u : Tree Reading) → lines u ≡ xs ++ x ∷ [] → ⊥) → misplaced_fault x ≡ Some f → FaultOf xs x f
   out_of_place_fault t f h e refuses named = record {
@@ -51,7 +51,7 @@ module _ (xs : List (Item Reading)) (x : Item Reading) (w : IsWithinLimits (line
         let q : j.0 ≡ u = unique j.0 u (j.1 ∙ sym e) in
         let k : OPEN_SECTIONS < depth u = subst (λ v. OPEN_SECTIONS < depth v) q j.2 in omega (arith, k, d)
 
-    -- a directive that opens a section too many
+    -- a directive that opens one section too many
     pub too_deep_fault : OPEN_SECTIONS < depth u → FaultOf xs x (too_many_levels (line_of x).number)
     too_deep_fault d = record {
       which = too_deep;
@@ -70,7 +70,8 @@ module _ (xs : List (Item Reading)) (x : Item Reading) (w : IsWithinLimits (line
       named = refl;
     }
 
-    -- a line isn't faulty if it and the lines before have a tree that isn't too deep, and it isn't spoiled
+    -- a line isn't faulty if it and the lines before have a tree that isn't too deep, and it isn't
+    -- obfuscated
     pub clear_line : (before : List Mark) (m : Mark) → depth u ≤ OPEN_SECTIONS → marks u ≡ before ++ m ∷ [] →
         is_obfuscated before x m ≡ false → NoneHolds xs x cases
     clear_line before m d k s = within_clear (out_of_place ∷ too_deep ∷ obfuscated_case ∷ []) whole (

@@ -1,4 +1,5 @@
--- Listing: the depth of a line's names, by how many sections are open after the line.
+-- ListingLemmas: the depth of a line's names, by the number of sections that are open after the
+-- line.
 use Rattle.std.proofs.Common.{◌≡◌, ℕ, suc, ◌+◌, [], ◌∷◌, ◌++◌, Bool, true, false, refl, append_assoc, append-nil, arith}
 use Rattle.ud_model.specs.text.Scans.{Reading}
 use Rattle.ud_model.specs.sections.Tree.{Item, Nodes, Head, Tree, text_line, if_line, elif_line, else_line, endif_line, if_head, elif_head, else_head, depth}
@@ -19,7 +20,8 @@ groups_complete n (if_head o) b = refl
 groups_complete n (elif_head es o) b = refl
 groups_complete n (else_head es l) b = refl
 
--- a line more has one level more; that of a directive with a condition is one less than sections are then open
+-- One more line has one more level. That of a directive with a condition is one less than the
+-- number of sections that are open then.
 pub record LevelsGrow (n : ℕ) (t u : Tree Reading) (x : Item Reading) : Type 0 where
   pub level : ℕ
   pub levels_are : levels_from n u ≡ levels_from n t ++ level ∷ []

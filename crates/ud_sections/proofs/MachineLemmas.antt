@@ -1,4 +1,4 @@
--- Standing: what a machine stands for once it has read a line, or a run of text lines; and what it then tells.
+-- MachineLemmas: what a machine represents after a line or text lines, and what it then returns.
 use Rattle.std.proofs.Common.{◌≡◌, ◌≤◌, List, [], ◌∷◌, ◌++◌, length, map, Bool, true, ◌||◌, None, refl, sym, ◌∙◌, ap, ap₂, subst, append_assoc, append-nil, arith}
 use Rattle.ud_model.specs.text.Lines.{Line}
 use Rattle.ud_model.specs.text.Scans.{Reading}
@@ -23,19 +23,19 @@ use Rattle.ud_sections.proofs.ActionLemmas.{mark_of, innermost_level, depth_leve
 use Rattle.ud_sections.proofs.CheckLemmas.{Taken, taken}
 use Rattle.ud_sections.proofs.TransitionLemmas.{TurnsWell, shallow_by, ends_removed_last, last_number_last}
 
--- the innermost section tells the mode
+-- the innermost section gives the mode
 pub plain_is : (m : Machine) (o : Options) (xs : List (Item Reading)) (t : Tree Reading) → MachineRepresents m o xs t →
     plain_at m.settings.plain (innermost_of m.open_sections.items) ≡ (o.settings.plain || is_ignoring t)
 plain_is m o xs t h =
     rw (h.settings, h.sections, innermost_level o.settings.plain t) (plain_inside o.settings.plain o.settings.plain None true t refl)
 
--- what the end of the text says
+-- the check of the end of the text
 pub ends_well : (m : Machine) (o : Options) (xs : List (Item Reading)) (t : Tree Reading) → MachineRepresents m o xs t → (c : Bool) → c ≡ ends_in_comment xs →
     end_fault_of (end_in c m.last (innermost_of m.open_sections.items)) ≡ end_fault xs t
 ends_well m o xs t h c e =
     rw (e, h.last, h.sections, innermost_level o.settings.plain t) (end_is (ends_in_comment xs) (last_number xs) o.settings.plain t)
 
--- with the line's turn
+-- a machine after the line's transition
 pub reads_line : (m new : Machine) (o : Options) (xs : List (Item Reading)) (t : Tree Reading) (l : Line) (turn : Transition) → MachineRepresents m o xs t →
     TurnsWell o xs t l turn → new.settings ≡ m.settings → new.open_sections.items ≡ applied turn.change m.open_sections.items →
     new.removed ≡ is_removed turn.step.verdict → new.last ≡ l.number → StepsLine new o xs t l turn.step
@@ -57,14 +57,14 @@ reads_line m new o xs t l turn h w settings sections removed last = record {
   judged_so = w.judged_so;
 }
 
--- so many text lines more
+-- text lines were added
 record MoreText (o : Options) (xs : List (Item Reading)) (t : Tree Reading) (rs : List Reading) (kept : Bool) : Type 0 where
   pub tree : Tree Reading
   pub sound : AreFaultless o (xs ++ map text_line rs) tree
   pub marks_are : marks tree ≡ marks t ++ map (λ r. mark_of (text_action kept)) rs
   pub same : open_sections_of true o.settings.plain tree ≡ open_sections_of true o.settings.plain t
 
--- what the levels tell of the place
+-- the place is kept, by the open sections
 abbrev place_of : Options → Tree Reading → Bool
 place_of o t = kept_at (section_at None true o.settings.plain t)
 
@@ -142,7 +142,7 @@ ends_removed_run ms k r [] = ends_removed_last ms k
 ends_removed_run ms k r (q ∷ rs) =
     ap ends_removed (sym (append_assoc ms (k ∷ []) (map (λ v. k) (q ∷ rs)))) ∙ ends_removed_run (ms ++ k ∷ []) k q rs
 
--- with a run of text lines
+-- a machine after text lines
 pub reads_text : (m new : Machine) (o : Options) (xs : List (Item Reading)) (t : Tree Reading) (r : Reading) (rs : List Reading) (verdict : Verdict) → MachineRepresents m o xs t →
     length m.open_sections.items ≤ OPEN_SECTIONS → AreTextLines o (mode_after o t) xs (r ∷ rs) →
     verdict ≡ (text_action (kept_at (innermost_of m.open_sections.items))).verdict → new.settings ≡ m.settings → new.open_sections.items ≡ m.open_sections.items →

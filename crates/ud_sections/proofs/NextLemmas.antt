@@ -1,4 +1,4 @@
--- Next: what a scanner and a list of lines have of the item that comes next.
+-- NextLemmas: what a scanner and a list of lines have of the item that comes next.
 use Rattle.std.proofs.Common.{◌≡◌, List, [], ◌∷◌, ◌++◌, map, refl, ◌∙◌, ap}
 use Rattle.std.proofs.lemmas.List.{map-append}
 use Rattle.ud_model.specs.text.Lines.{Line}
@@ -10,19 +10,19 @@ use Rattle.ud_model.specs.sections.Faults.{ends_in_comment}
 use Rattle.ud_model.proofs.sections.Soundness.{reading_of-item_of, reading_of-next}
 use Rattle.ud_text.specs.ScannerState.{ends_in_block}
 
--- the readings are one more
+-- there is one more reading
 pub readings_more : (o : Options) (xs : List (Item Reading)) (t : Tree Reading) (l : Line) →
     map reading_of (xs ++ next_item o xs t l ∷ []) ≡ map reading_of xs ++ next_reading (map reading_of xs) (mode_after o t) l ∷ []
 readings_more o xs t l =
     map-append reading_of xs (next_item o xs t l ∷ [])
     ∙ ap (λ r. map reading_of xs ++ r ∷ []) (reading_of-item_of o (read_after xs (mode_after o t) l))
 
--- the lines are one more
+-- there is one more line
 pub lines_more : (o : Options) (xs : List (Item Reading)) (t : Tree Reading) (l : Line) →
     map line_of (xs ++ next_item o xs t l ∷ []) ≡ map line_of xs ++ l ∷ []
 lines_more o xs t l = map-append line_of xs (next_item o xs t l ∷ []) ∙ ap (λ k. map line_of xs ++ k ∷ []) (reading_of-next o xs t l)
 
--- the scanner tells whether the text ends in a block comment
+-- the scanner knows whether the text ends in a block comment
 pub block_is_comment : (xs : List (Item Reading)) → ends_in_block (map reading_of xs) ≡ ends_in_comment xs
 block_is_comment [] = refl
 block_is_comment (x ∷ []) = refl

@@ -1,4 +1,4 @@
--- What stands after the `#` of a line is no longer than the line.
+-- ParseLemmas: what follows the `#` of a line is no longer than the line.
 use Rattle.std.proofs.Common.{◌≡◌, ◌≤◌, ◌==◌, ◌+◌, ◌-◌, ℕ, List, [], ◌∷◌, length, take, drop, Bool, true, false, Some, None, if◌then◌else◌, ap, arith}
 use Rattle.std.proofs.lemmas.List.{length-drop, length-take-le}
 use Rattle.ud_model.specs.text.Bytes.{skip_white}
@@ -13,7 +13,7 @@ sign_within : (bytes rest : List ℕ) → skip_hash bytes ≡ Some rest → leng
 sign_within [] rest e = absurd cc
 sign_within (b ∷ bs) rest e = one_sign (b == 35) b bs rest e
 
--- without the white space in front, too
+-- nor is it without its leading white space
 pub length-skip_hash_if_fresh : (masked behind rest : List ℕ) → skip_hash_if_fresh masked ≡ Some behind → rest ≡ skip_white behind → length rest ≤ length masked
 length-skip_hash_if_fresh masked behind rest e is =
     let sign = sign_within (skip_white masked) behind e in

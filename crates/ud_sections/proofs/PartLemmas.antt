@@ -1,4 +1,5 @@
--- Parts that are compared with a line, part by part: what is left of both is equal where they are.
+-- PartLemmas: a line is compared with its parts, part by part: it equals them if the rests are
+-- equal.
 use Rattle.std.proofs.Common.{◌≡◌, ◌∙◌, ◌≤◌, ◌+◌, ◌⊎◌, inl, inr, ℕ, List, [], ◌∷◌, ◌++◌, length, take, drop, get_or, min, Bool, true, false, ◌&&◌, nat_eq, bytes_eq, arith, nat_le, length-append, Bor, zero, suc, add-one, refl, sym, ap, ap₂, subst, append_assoc, take-append-drop}
 use Rattle.std.specs.List.{flat_map}
 use Rattle.std.proofs.lemmas.List.{take-append-le, length-take}
@@ -9,7 +10,7 @@ use Rattle.std.proofs.Math.Seq.{take-append_seam, drop-length}
 same_byte : (b : ℕ) → nat_eq b b ≡ true
 same_byte b = grind (arith)
 
--- texts that begin alike are equal where their rests are
+-- texts with one prefix are equal if their rests are
 same_front : (x a b : List ℕ) → bytes_eq (x ++ a) (x ++ b) ≡ bytes_eq a b
 same_front [] a b = refl
 same_front (c ∷ x) a b = ap (λ (t : Bool). t && bytes_eq (x ++ a) (x ++ b)) (same_byte c) ∙ same_front x a b
@@ -18,7 +19,7 @@ not_true : (r : Bool) → (r ≡ true → ⊥) → r ≡ false
 not_true true h = absurd (h refl)
 not_true false h = refl
 
--- a text that doesn't begin so isn't one that does
+-- a text without a prefix doesn't equal one that begins with it
 other_front : (x more y : List ℕ) → bytes_eq (take (length x) y) x ≡ false → bytes_eq (x ++ more) y ≡ false
 other_front x more y h =
     not_true (bytes_eq (x ++ more) y) (λ e.
@@ -26,7 +27,8 @@ other_front x more y h =
     let front : take (length x) y ≡ x = ap (take (length x)) (sym same) ∙ take-append_seam x more in
     cc (h, (bytes_eq-Decides (take (length x) y) x).1 front))
 
--- A part is split where a body ends: its front lies in the body, and where something is after it the body has no more.
+-- A part is split where a body ends: its prefix is in the body, and if something follows, the body
+-- has no more.
 pub record Split (p body front back : List ℕ) : Type 0 where
   pub whole : p ≡ front ++ back
   pub within : length front ≤ length body
@@ -57,19 +59,19 @@ no_rest : (x r s : List ℕ) → s ≡ x ++ r → length s ≡ length x → r �
 no_rest x [] s e h = refl
 no_rest x (c ∷ r) s e h = let k : length s ≡ length x + length (c ∷ r) = ap length e ∙ length-append x (c ∷ r) in absurd (omega (arith, k, h))
 
--- what is left of a part and of a line, whose bodies begin alike
+-- the rests of a part and of a line whose bodies have one prefix
 in_body : (front back more b ending : List ℕ) → (back ≡ []) ⊎ (b ≡ []) →
     bytes_eq ((front ++ back) ++ more) ((front ++ b) ++ ending) ≡ bytes_eq (back ++ more) (b ++ ending)
 in_body front back more b ending ends =
     ap₂ (λ (x y : List ℕ). bytes_eq x y) (append_assoc front back more) (append_assoc front b ending) ∙ same_front front (back ++ more) (b ++ ending)
 
--- what is left of a part and of a line, whose endings begin alike, too
+-- the rests of a part and of a line whose endings have one prefix, too
 in_ending : (back more b e : List ℕ) → (back ≡ []) ⊎ (b ≡ []) → bytes_eq (back ++ more) (b ++ (back ++ e)) ≡ bytes_eq more (b ++ e)
 in_ending back more b e (inl none) = subst (λ (x : List ℕ). bytes_eq (x ++ more) (b ++ (x ++ e)) ≡ bytes_eq more (b ++ e)) (sym none) refl
 in_ending back more b e (inr none) = subst (λ (x : List ℕ). bytes_eq (back ++ more) (x ++ (back ++ e)) ≡ bytes_eq more (x ++ e)) (sym none) (same_front back more e)
 
 module _ (p more body ending front back : List ℕ) (split : Split p body front back) where
-  -- the body doesn't begin as the part does
+  -- the body doesn't begin with the part's prefix
   pub other_body : bytes_eq (take (length front) body) front ≡ false → bytes_eq (p ++ more) (body ++ ending) ≡ false
   other_body h =
       ap (λ (x : List ℕ). bytes_eq x (body ++ ending)) (ap (λ (x : List ℕ). x ++ more) split.whole ∙ append_assoc front back more)
@@ -89,7 +91,7 @@ module _ (p more body ending front back : List ℕ) (split : Split p body front 
         ap₂ (λ (x y : List ℕ). bytes_eq (x ++ more) (y ++ ending)) split.whole (stripped body front b is rest)
         ∙ in_body front back more b ending ends
 
-    -- the ending doesn't begin as the rest of the part does
+    -- the ending doesn't begin with the rest of the part
     pub other_ending : bytes_eq (take (length back) ending) back ≡ false → bytes_eq (p ++ more) (body ++ ending) ≡ false
     other_ending h = behind_body ∙ by_end ends
       where
@@ -97,7 +99,7 @@ module _ (p more body ending front back : List ℕ) (split : Split p body front 
         by_end (inl none) = absurd (cc (subst (λ (x : List ℕ). bytes_eq (take (length x) ending) x ≡ false) none h))
         by_end (inr none) = subst (λ (x : List ℕ). bytes_eq (back ++ more) (x ++ ending) ≡ false) (sym none) (other_front back more ending h)
 
-    -- with the part and what it stands for left out, the rests are compared
+    -- without the part and what it equals, the rests are compared
     pub next_part : (e : List ℕ) → bytes_eq (take (length back) ending) back ≡ true → e ≡ drop (length back) ending →
         bytes_eq (p ++ more) (body ++ ending) ≡ bytes_eq more (b ++ e)
     next_part e same last =
@@ -111,7 +113,7 @@ no_part = record { ref_ptr = (0, 0); now = [] }
 abbrev pub bytes_of : List (Bor (List ℕ)) → List ℕ
 bytes_of ps = flat_map (λ (p : Bor (List ℕ)). p.now) ps
 
--- so many parts, empty ones if there are no more
+-- the first parts of this number, and empty ones if there are no more
 abbrev firsts : ℕ → List (Bor (List ℕ)) → List (Bor (List ℕ))
 firsts zero ps = []
 firsts (suc k) [] = no_part ∷ firsts k []

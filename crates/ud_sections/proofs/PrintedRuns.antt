@@ -1,4 +1,5 @@
--- What is printed of the next line by its verdict, and of many text lines by what is printed of one.
+-- PrintedRuns: the output for the next line by its verdict, and for many text lines by that for
+-- one.
 use Rattle.std.proofs.Common.{◌≡◌, ◌∙◌, ℕ, List, [], ◌∷◌, ◌++◌, Bool, true, false, if◌then◌else◌, map, refl, sym, ap, ap₂, subst, append_assoc, append-nil}
 use Rattle.ud_model.specs.text.Lines.{Line, text_of}
 use Rattle.ud_model.specs.answer.Printing.{Judged, last_removed, piece_by, piece_after, complement_verdict, complemented}
@@ -13,7 +14,7 @@ use Rattle.ud_sections.specs.declared.line_output.LineOutput.TheVariants.{Whole,
 use Rattle.ud_sections.proofs.RenumberLemmas.{removed_piece, following_piece}
 
 module _ (given : List Judged → Type 0) (piece : List Judged → Judged → List ℕ) (verdict : Verdict) (own : Line → List ℕ) (one : PrintsOne given piece verdict own) where
-  -- if it is printed of one line after whatever lines, so it is of all
+  -- what is printed for one line after any lines is printed for each of many
   pub each_of : PrintsEach given piece verdict own
   each_of before [] h = (refl, subst given (sym (append-nil before)) h)
   each_of before (l ∷ ls) h =
@@ -30,7 +31,7 @@ kept_one removed e before j h v = (
   e ∙ sym (ap is_removed v) ∙ sym (last_removed-more before j),
 )
 
--- after a removed line, nothing is printed of a removed one
+-- after a removed line, nothing is printed for a removed one
 pub removed_one : (removed : Bool) → removed ≡ true → PrintsOne (λ before. removed ≡ last_removed before) (piece_after renumber_style) Remove (λ l. [])
 removed_one removed e before j h v = (
   sym (removed_piece before j (ap is_removed v)) ∙ ap (λ w. if is_removed w then [] else piece_by w j.keyword j.line) v,
@@ -50,7 +51,8 @@ module _ (given : List Judged → Type 0) (piece : List Judged → Judged → Li
         subst given (sym (map_more before (j ∷ []))) k.1,
       )
 
-  -- what a printer leaves of lines with the other verdict, its complement does of lines with this one
+  -- the complement prints for lines with this verdict what the printer prints for lines with the
+  -- other one
   pub complement_leaves : (verdict other : Verdict) (left : LineOutput) → other ≡ complement_verdict verdict → GivesLineOutput given piece other left →
       GivesLineOutput (λ bs. given (map complemented bs)) (λ bs j. piece (map complemented bs) (complemented j)) verdict left
   complement_leaves verdict other Whole e h = complement_one verdict other text_of e h

@@ -1,4 +1,4 @@
--- What is printed of a line with numbers put in, by whether it is numbered.
+-- RenumberLemmas: the output for a line with numbers inserted, by whether the line is numbered.
 use Rattle.std.proofs.Common.{◌≡◌, ◌∙◌, List, ℕ, [], ◌++◌, Bool, true, false, not, ◌&&◌, if◌then◌else◌, refl, sym, ap, ap₂}
 use Rattle.ud_model.specs.answer.Printing.{Judged, last_removed, number_line, piece_by, piece_after}
 use Rattle.ud_model.specs.sections.Pruning.{is_removed}
@@ -15,7 +15,7 @@ nothing_removed ToIf s l = refl
 nothing_removed ToElse s l = refl
 nothing_removed ToEndif s l = refl
 
--- what a line's step leaves of it, if nothing is left of a removed one
+-- the output for a line by its step, if none is printed for a removed one
 abbrev pub left_of : Judged → List ℕ
 left_of j = if is_removed j.verdict then [] else piece_by j.verdict j.keyword j.line
 
@@ -33,7 +33,7 @@ removed_piece before j e = by_last (last_removed before) refl
     by_last true h = by_number before j true true h e
     by_last false h = by_number before j false true h e
 
--- after a line that isn't removed none is numbered
+-- after a line that isn't removed, none is numbered
 pub following_piece : (before : List Judged) (j : Judged) → last_removed before ≡ false → left_of j ≡ piece_after renumber_style before j
 following_piece before j h = by_gone (is_removed j.verdict) refl
   where

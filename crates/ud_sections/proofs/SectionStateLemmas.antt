@@ -1,4 +1,4 @@
--- Phases: the table by phases is the table of verdicts by the groups so far.
+-- SectionStateLemmas: the table by states is the table of verdicts by the groups so far.
 use Rattle.std.proofs.Common.{◌≡◌, List, [], ◌∷◌, ◌++◌, Bool, true, false, not, ◌&&◌, if◌then◌else◌, refl, ◌∙◌, ap}
 use Rattle.ud_model.specs.declared.cond.Cond.{Cond}
 use Rattle.ud_model.specs.declared.cond.Cond.TheVariants.{Yes, No, Unknown}
@@ -9,13 +9,14 @@ use Rattle.ud_sections.specs.declared.section_state.SectionState.{SectionState}
 use Rattle.ud_sections.specs.declared.section_state.SectionState.TheVariants.{InRemoved, NoneKept, LastUnknown, LastFalse, AfterTrue}
 use Rattle.ud_sections.specs.SectionStates.{new_state, next_section_state, section_state_after, opener_verdict_in, endif_verdict_in, is_kept_in, is_in_removed}
 
--- the phase goes by the groups, one after another
+-- the state follows the groups, one after another
 pub phase-last : (p : SectionState) (cs : List Cond) (c : Cond) → section_state_after p (cs ++ c ∷ []) ≡ next_section_state (section_state_after p cs) c
 phase-last p [] c = refl
 phase-last p (d ∷ cs) c = phase-last (next_section_state p d) cs c
 
--- what a phase says is what the table says by five facts: whether the section gives way with a group of this condition,
--- whether it gives way, no group is kept, some is true, and the last one is the first true one
+-- A state gives the verdicts that the table gives by five facts. They are whether the section gives
+-- way with a group of this condition, and whether it gives way without one. The others are whether
+-- no group is kept, whether some is true, and whether the last one is the first true one.
 pub record Agrees (p : SectionState) (goes_with : Cond → Bool) (goes none some ends : Bool) : Type 0 where
   pub lives : is_in_removed p ≡ false
   pub opener : (part : Part) (c : Cond) → opener_verdict_in p part c ≡ (
@@ -88,7 +89,7 @@ seek_opener part Yes = refl
 seek_opener part No = refl
 seek_opener part Unknown = refl
 
--- the phase of a section in a kept place agrees with the conditions of its groups
+-- the state of a section in a kept place agrees with the conditions of its groups
 pub agrees : (cs : List Cond) →
     Agrees (section_state_after NoneKept cs) (λ c. gives_way (cs ++ c ∷ [])) (gives_way cs) (all_false cs) (any_true cs) (ends_with_first_true cs)
 agrees [] = record { lives = refl; opener = seek_opener; endif = refl; kept = kept_seek }
@@ -97,26 +98,24 @@ agrees (Unknown ∷ cs) = live_agrees cs
 agrees (Yes ∷ []) = record { lives = refl; opener = λ part c. refl; endif = refl; kept = kept_never }
 agrees (Yes ∷ d ∷ cs) = rw (over-stays cs) (over_agrees (λ c. true) true (λ c. refl))
 
--- a section in a removed place stays so
+-- a section in a removed place stays there
 dead-stays : (cs : List Cond) → section_state_after InRemoved cs ≡ InRemoved
 dead-stays [] = refl
 dead-stays (c ∷ cs) = dead-stays cs
 
--- an opener's mark
 pub opener_mark : (kept : Bool) (cs : List Cond) (part : Part) (c : Cond) →
     marked kept (verdict_so_far cs part c)
     ≡ record { kept = not (is_in_removed (section_state_after (new_state kept) cs)); verdict = opener_verdict_in (section_state_after (new_state kept) cs) part c }
 opener_mark true cs part c = rw ((agrees cs).lives, (agrees cs).opener part c) refl
 opener_mark false cs part c = rw (dead-stays cs) refl
 
--- the mark of an `#endif`
 pub endif_mark : (kept : Bool) (cs : List Cond) →
     marked kept (endif_verdict cs)
     ≡ record { kept = not (is_in_removed (section_state_after (new_state kept) cs)); verdict = endif_verdict_in (section_state_after (new_state kept) cs) }
 endif_mark true cs = rw ((agrees cs).lives, (agrees cs).endif) refl
 endif_mark false cs = rw (dead-stays cs) refl
 
--- whether the last group is kept
+-- the state gives whether the last group is kept
 pub kept_last : (kept : Bool) (cs : List Cond) (c : Cond) → is_kept_in (section_state_after (new_state kept) (cs ++ c ∷ [])) ≡ (kept && is_kept cs c)
 kept_last true cs c = ap is_kept_in (phase-last NoneKept cs c) ∙ (agrees cs).kept c
 kept_last false cs c = ap is_kept_in (dead-stays (cs ++ c ∷ []))

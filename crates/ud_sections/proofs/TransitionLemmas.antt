@@ -1,4 +1,4 @@
--- Turns: what the machine answers to the line that comes next.
+-- TransitionLemmas: the machine's transition for the line that comes next.
 use Rattle.std.proofs.Common.{◌≡◌, ◌≤◌, List, [], ◌∷◌, ◌++◌, length, true, false, Result, Ok, Err, refl, sym, ◌∙◌, ap, ap₂, subst, arith}
 use Rattle.ud_model.specs.text.Lines.{Line}
 use Rattle.ud_model.specs.text.Scans.{Scan, Reading, is_spanning}
@@ -42,7 +42,7 @@ shape_of_role r ElifGroup d = refl
 shape_of_role r ElseGroup d = refl
 shape_of_role r EndifLine d = refl
 
--- what is seen of a line that carries this
+-- the classified line of a line that carries this
 pub record SeenOn (o : Options) (r : Reading) (c : Content) (s : ClassifiedLine) : Type 0 where
   pub seen : IsSeen (item_by o r c) s
   pub whole : is_cut c ≡ false
@@ -72,7 +72,7 @@ module _ (o : Options) (r : Reading) where
   seen_ill text f e = cc
   seen_ill (directive d) f e = cc
 
--- the line is sound, and this is its turn
+-- the line is sound, and this is its transition
 pub record TurnsWell (o : Options) (xs : List (Item Reading)) (t : Tree Reading) (l : Line) (turn : Transition) : Type 0 where
   pub tree : Tree Reading
   pub lines_are : lines tree ≡ xs ++ next_item o xs t l ∷ []
@@ -82,7 +82,7 @@ pub record TurnsWell (o : Options) (xs : List (Item Reading)) (t : Tree Reading)
   pub changes : Applies turn.change (open_sections_of true o.settings.plain t) (open_sections_of true o.settings.plain tree)
   pub judged_so : record { line = l; verdict = turn.step.verdict; keyword = as_span turn.step.keyword } ≡ judged_line (next_item o xs t l) mark
 
--- a machine keeps what stands before the line
+-- a machine keeps the context of the line
 pub before_is : (m : Machine) (o : Options) (xs : List (Item Reading)) (t : Tree Reading) → MachineRepresents m o xs t →
     context_of m ≡ before_next o.settings.plain t
 before_is m o xs t h =
@@ -159,7 +159,7 @@ module _ (o : Options) (xs : List (Item Reading)) (t : Tree Reading) (l : Line) 
       (subst (λ n. FaultOf xs (next_item o xs t l) (obfuscated n)) (sym number_is)
       (cut_fault xs (next_item o xs t l) within_item (ap is_cut carried_item ∙ seen_ill o (read_after xs (mode_after o t) l) carried cut seen)))
 
--- what the machine is asked for the line that comes next
+-- the transition of the machine for the line that comes next
 abbrev pub asked : Machine → Options → Scan → Line → Result Transition SectionFault
 asked m o scan l = transition_of (context_of m) l.number (classified scan o.table (rules_of m.settings) (content_of scan))
 
@@ -179,17 +179,17 @@ shallow_by m o xs t h fits =
 
 module _ (m : Machine) (o : Options) (xs : List (Item Reading)) (t : Tree Reading) (scan : Scan) (l : Line) (table : List Argument)
     (h : MachineRepresents m o xs t) (next : ComesNext o xs t scan l table) (w : IsWithinLimits l) (fits : length m.open_sections.items ≤ OPEN_SECTIONS) where
-  -- a line whose turn is told is sound
+  -- a line with a transition is sound
   pub turns_well : (turn : Transition) → asked m o scan l ≡ Ok turn → TurnsWell o xs t l turn
   turns_well turn e =
       well_at o xs t l (sound_lines h.sound) w (shallow_by m o xs t h fits) _ refl turn (asked_is m o xs t scan l table h next ∙ e)
 
-  -- a line of which a fault is told has this fault
+  -- a line with a fault by the machine has this fault
   pub turns_ill : (f : SectionFault) → asked m o scan l ≡ Err f → FaultOf xs (next_item o xs t l) (fault_of f)
   turns_ill f e =
       ill_at o xs t l (sound_lines h.sound) w (shallow_by m o xs t h fits) _ refl f (asked_is m o xs t scan l table h next ∙ e)
 
--- a text line is told the verdict of its place
+-- the transition of a text line has the verdict of its place
 pub text_turn : (m : Machine) (o : Options) (scan : Scan) (l : Line) → content_of scan ≡ text →
     asked m o scan l ≡ Ok (record {
       step = record { verdict = (text_action (kept_at (innermost_of m.open_sections.items))).verdict; keyword = record { at = 0; len = 0 } };

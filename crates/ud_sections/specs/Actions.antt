@@ -1,8 +1,9 @@
--- Actions: what becomes of a line, by the innermost open section.
+-- Actions: the action of a line, by the innermost open section.
 --
---   act plain section shape n   what becomes of a line of this shape and number; nothing if it is a directive out of
---                               its place; `plain` tells that text outside of all sections is plain
---   Applies change old new      the change makes the new open sections of the old ones
+--   act plain section kind n   the action of a line of this kind and number, or `None`
+--   Applies change old new     the change makes `new` of the open sections `old`
+--
+-- `plain` is whether text outside all sections is plain, and `section` is the innermost open one.
 use Rattle.std.specs.Prelude.{◌≡◌, ℕ, List, [], ◌∷◌, ◌++◌, Bool, true, not, ◌||◌, if◌then◌else◌}
 use Rattle.std.specs.Prelude.{Option, Some, None}
 use Rattle.ud_model.specs.declared.cond.Cond.{Cond}
@@ -19,21 +20,22 @@ use Rattle.ud_sections.specs.SectionStates.{opener_verdict_in, endif_verdict_in,
 use Rattle.ud_sections.specs.SectionStates.{is_in_removed, new_state}
 use Rattle.ud_sections.specs.OpenSections.{new_section, section_with_group}
 
--- the place is kept
+-- `kept_at section`: the text in `section` is in a kept place; outside all sections it is.
 abbrev pub kept_at : Option OpenSection → Bool
 kept_at None = true
 kept_at (Some l) = is_kept_in l.state
 
--- the next line is read as plain text
+-- `plain_at plain section`: the next line in `section` is read as plain text.
 abbrev pub plain_at : Bool → Option OpenSection → Bool
 plain_at plain None = plain
 plain_at plain (Some l) = l.ignoring
 
--- a text line stays if its place is kept, and changes nothing
+-- `text_action kept`: a text line stays if its place is kept, and changes nothing.
 abbrev pub text_action : Bool → Action
 text_action kept = record { verdict = if kept then Keep else Remove; kept = kept; change = Stay }
 
--- a first directive opens a section; its verdict is that of the first opener of a section in this place
+-- `if_action kept plain c ignoring n`: a section's first directive, on line `n`, opens it. The
+-- verdict is that of the first opener of a section in this place.
 abbrev pub if_action : Bool → Bool → Cond → Bool → ℕ → Action
 if_action kept plain c ignoring n = record {
   verdict = opener_verdict_in (new_state kept) table.an_if c;
@@ -41,7 +43,7 @@ if_action kept plain c ignoring n = record {
   change = Push (section_with_group (new_section kept (plain || ignoring) n) table.an_if c);
 }
 
--- another opener of the section; there is none after an `#else`
+-- `opener_action l part c`: the action of another opener of the section `l`; none after an `#else`.
 abbrev pub opener_action : OpenSection → table.Part → Cond → Option Action
 opener_action l part c =
     if l.else_seen then None
@@ -52,7 +54,7 @@ opener_action l part c =
       change = Replace (section_with_group l part c);
     })
 
--- the section's `#endif`
+-- `endif_action l`: the action of the `#endif` of the section `l`.
 abbrev pub endif_action : OpenSection → Action
 endif_action l = record {
   verdict = endif_verdict_in l.state;
@@ -60,7 +62,8 @@ endif_action l = record {
   change = Pop;
 }
 
--- what becomes of a line of this shape
+-- `act plain section kind n`: the action of a line of this kind and number, or `None` if it is a
+-- misplaced directive.
 abbrev pub act : Bool → Option OpenSection → LineKind → ℕ → Option Action
 act plain section Text n = Some (text_action (kept_at section))
 act plain section (If c ignoring) n =
@@ -72,7 +75,7 @@ act plain (Some l) (Elif c) n = opener_action l table.an_elif c
 act plain (Some l) Else n = opener_action l table.an_else Yes
 act plain (Some l) Endif n = Some (endif_action l)
 
--- the change makes the new open sections of the old ones
+-- `Applies change old new`: the change makes the open sections `new` of `old`.
 abbrev pub Applies : StackOp → List OpenSection → List OpenSection → Type 0
 Applies Stay old new = new ≡ old
 Applies (Push l) old new = new ≡ old ++ l ∷ []

@@ -1,7 +1,7 @@
--- Checking: what the machine answers to a line, by the open sections and by the line before.
+-- Checking: the machine's check of a line, by the open sections and the line before.
 --
---   checked_by before seen n   what becomes of a line of number n of which this is kept, or why it is faulty
---   is_obfuscated_by removed seen a a directive over several lines would have to be edited or removed
+--   checked_by before s n             the action of the line `s` of number `n`, or its fault
+--   is_obfuscated_by removed s a      a directive over several lines would be edited or removed
 use Rattle.std.specs.Prelude.{ℕ, ◌==◌, Bool, true, false, not, ◌&&◌, ◌||◌, if◌then◌else◌, Option}
 use Rattle.std.specs.Prelude.{Some, None, Result, Ok, Err}
 use Rattle.ud_model.specs.sections.Faults.{keeps_rest}
@@ -20,7 +20,7 @@ use Rattle.ud_sections.specs.declared.line_kind.LineKind.{LineKind}
 use Rattle.ud_sections.specs.declared.line_kind.LineKind.TheVariants.{Text, If, Elif, Else, Endif}
 use Rattle.ud_sections.specs.Actions.{act}
 
--- a line of this shape is a directive
+-- `is_directive_kind kind`: a line of this kind is a directive.
 abbrev pub is_directive_kind : LineKind → Bool
 is_directive_kind Text = false
 is_directive_kind (If c ignoring) = true
@@ -28,20 +28,21 @@ is_directive_kind (Elif c) = true
 is_directive_kind Else = true
 is_directive_kind Endif = true
 
--- a section is opened
+-- `opens_section change`: the change opens a section.
 abbrev pub opens_section : StackOp → Bool
 opens_section Stay = false
 opens_section (Push l) = true
 opens_section (Replace l) = false
 opens_section Pop = false
 
--- a directive spans lines and would have to be edited or removed; `removed` tells that the line before is
+-- `is_obfuscated_by removed s a`: `s` is a directive that spans lines and would have to be edited
+-- or removed. `removed` is whether the line before is removed.
 abbrev pub is_obfuscated_by : Bool → ClassifiedLine → Action → Bool
 is_obfuscated_by removed s a =
     is_directive_kind s.kind && s.spans && a.kept &&
     (not (keeps_rest a.verdict) || (s.joins_before && removed))
 
--- the fault of a directive out of its place
+-- `misplaced_fault_by kind n`: the fault of a misplaced directive of this kind on line `n`.
 abbrev pub misplaced_fault_by : LineKind → ℕ → SectionFault
 misplaced_fault_by Text n = InappropriateEndif n
 misplaced_fault_by (If c ignoring) n = InappropriateEndif n
@@ -49,7 +50,8 @@ misplaced_fault_by (Elif c) n = InappropriateElif n
 misplaced_fault_by Else n = InappropriateElse n
 misplaced_fault_by Endif n = InappropriateEndif n
 
--- one section too many comes first, then a directive that is spoiled
+-- `checked_action before s n action`: the action, or the first fault. The order is a misplaced
+-- directive (`action` is `None`), one section too many, an obfuscated directive.
 abbrev pub checked_action : LineContext → ClassifiedLine → ℕ → Option Action →
     Result Action SectionFault
 checked_action b s n None = Err (misplaced_fault_by s.kind n)
@@ -58,6 +60,6 @@ checked_action b s n (Some a) =
     else if is_obfuscated_by b.removed s a then Err (Obfuscated n)
     else Ok a
 
--- the same, with what becomes of the line in its place
+-- `checked_by before s n`: the check of the line `s` of number `n`, by its action after `before`.
 abbrev pub checked_by : LineContext → ClassifiedLine → ℕ → Result Action SectionFault
 checked_by b s n = checked_action b s n (act b.enclosing.plain b.enclosing.section s.kind n)

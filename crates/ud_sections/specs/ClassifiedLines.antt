@@ -1,8 +1,8 @@
--- ClassifiedLines: what is kept of a line while it is judged.
+-- ClassifiedLines: what decides a line among the sections.
 --
---   line_kind_in role d             what a directive with this role is among the sections, with what is decided of it
---   classified scan table rules c   what is kept of the line with this scan, which carries this
---   item_kind x                     what an item is among the sections
+--   line_kind_in role d             the kind of a directive with this role and decision
+--   classified scan table rules c   the classified line of a scan that carries `c`
+--   item_kind x                     the kind of an item
 use Rattle.std.specs.Prelude.{List, Result, Ok, Err}
 use Rattle.ud_model.specs.text.Scans.{Scan, Reading, is_spanning}
 use Rattle.ud_model.specs.sections.Directives.{Content, cut_keyword, directive, text, role_of}
@@ -18,18 +18,18 @@ use Rattle.ud_sections.specs.declared.line_kind.LineKind.{LineKind}
 use Rattle.ud_sections.specs.declared.line_kind.LineKind.TheVariants.{Text, If, Elif, Else, Endif}
 use Rattle.ud_sections.specs.declared.step.Span.{Span}
 
--- what a directive with this role is among the sections
+-- `line_kind_in role d`: the kind of a directive with this role, with what is decided of it.
 abbrev pub line_kind_in : Role → Decision → LineKind
 line_kind_in IfGroup d = If d.cond d.ignoring
 line_kind_in ElifGroup d = Elif d.cond
 line_kind_in ElseGroup d = Else
 line_kind_in EndifLine d = Endif
 
--- a place in a body, as the program has it
+-- `span_of s`: a span of the definitions, as the program has it.
 abbrev pub span_of : TextSpan → Span
 span_of s = record { at = s.at; len = s.len }
 
--- what is kept of a line with this scan
+-- `classified_with scan keyword kind`: the classified line with this scan, keyword and kind.
 abbrev pub classified_with : Scan → TextSpan → LineKind → ClassifiedLine
 classified_with scan keyword shape =
     record {
@@ -40,7 +40,8 @@ classified_with scan keyword shape =
           scan.joins_before;
     }
 
--- what is kept of a line that carries this; nothing if its keyword is cut
+-- `classified scan table rules content`: the classified line with this scan and content, or an
+-- error if its keyword is cut.
 abbrev pub classified : Scan → List Argument → Rules → Content → Result ClassifiedLine Cut
 classified scan table rules cut_keyword = Err (record {})
 classified scan table rules text = Ok (classified_with scan (record { at = 0; len = 0 }) Text)
@@ -48,7 +49,7 @@ classified scan table rules (directive d) =
     Ok (classified_with scan d.keyword
     (line_kind_in (role_of d.kind) (decision_on scan d table rules)))
 
--- what an item is among the sections
+-- `item_kind x`: the kind of an item among the sections.
 abbrev pub item_kind : Item Reading → LineKind
 item_kind (text_line r) = Text
 item_kind (if_line o) = If o.cond o.ignoring

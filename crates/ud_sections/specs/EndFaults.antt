@@ -1,10 +1,11 @@
--- EndFaults: what the machine answers to the end of the text.
+-- EndFaults: the machine's check of the end of a text.
 use Rattle.std.specs.Prelude.{ℕ, Bool, true, false, Option, Some, None, Result, Ok, Err}
 use Rattle.ud_sections.specs.declared.fault.SectionFault.{SectionFault}
 use Rattle.ud_sections.specs.declared.fault.SectionFault.TheVariants.{PrematureEof, EofInComment}
 use Rattle.ud_sections.specs.declared.open_section.OpenSection.{OpenSection}
 
--- an open comment first, then an open section
+-- `end_in in_comment n section`: the check of a text that ends after line `n` in `section`. An open
+-- comment comes first, then an open section.
 abbrev pub end_in : Bool → ℕ → Option OpenSection → Result (Unit {0}) SectionFault
 end_in true n section = Err (EofInComment n)
 end_in false n (Some l) = Err (PrematureEof n l.if_line)

@@ -1,14 +1,14 @@
--- Keywords: the keyword that stands in front of bytes.
+-- Keywords: the keyword that a text begins with.
 --
---   IsLeadingKeyword keyword rest   the first word of these bytes is this keyword
+--   IsLeadingKeyword keyword rest   the first word of `rest` is `keyword`
 --
--- Example: of `if x` it is `if`, which has two bytes, and the space and `x` follow it.
+-- Example: `if x` begins with `if`, which has two bytes, and the space and `x` follow it.
 use Rattle.std.specs.Prelude.{◌≡◌, ◌≤◌, ℕ, List, length, drop, Some}
 use Rattle.ud_model.specs.text.Bytes.{leading_word, skip_word}
 use Rattle.ud_model.specs.sections.Directives.{kind_of}
 use Rattle.ud_sections.specs.declared.keywords.Keyword.{Keyword}
 
--- the first word of these bytes is this keyword
+-- `IsLeadingKeyword keyword rest`: the first word of `rest` is `keyword`.
 pub record IsLeadingKeyword (keyword : Keyword) (rest : List ℕ) : Type 0 where
   pub bound : keyword.len ≤ length rest
   pub len_is : keyword.len ≡ length (leading_word rest)

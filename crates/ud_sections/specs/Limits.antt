@@ -3,7 +3,7 @@ use Rattle.std.specs.Prelude.{◌≤◌, length}
 use Rattle.ud_model.specs.text.Lines.{Line, text_of}
 use Rattle.ud_model.specs.declared.limits.TheConstants.{LINE_BYTES, TEXT_LINES}
 
--- a line within the limits
+-- `IsWithinLimits l`: the number and the length of the line `l` are within the limits.
 pub record IsWithinLimits (l : Line) : Type 0 where
   pub number_fits : l.number ≤ TEXT_LINES
   pub bytes_fit : length (text_of l) ≤ LINE_BYTES

@@ -1,16 +1,19 @@
--- MachineState: what a machine stands for.
+-- MachineState: what a machine represents.
 --
---   MachineRepresents m o xs t      the machine has read these items, under these options; t is their tree
---   ComesNext o xs t scan l table   the line l comes next, with this scan; the table says what the options say
---   StepsLine m o xs t l step       the machine has read the line too, and this step is its own
---   AreTextLines o mode xs rs       these lines are text, as they are read in this mode after these items
---   machine_fault m                 what the machine has refused, if it has
---   fault_of f                      a fault of the program as the definitions have it
+--   MachineRepresents m o xs t      the machine has read the items `xs` under these options
+--   ComesNext o xs t scan l table   the line `l` with this scan comes next
+--   StepsLine m o xs t l step       the machine has read `l` too, with this step
+--   AreTextLines o mode xs rs       the lines `rs` after the items `xs` are text
+--   StepsText m o xs t rs verdict   the machine has read these text lines too
+--   machine_fault m                 the fault of the machine, if it has one
+--   machine_with_fault m f          the machine with this fault
+--   fault_of f                      a fault of the program, as the definitions have it
+--   end_fault_of result             the fault at the end of a text, if it has one
 --
--- `MachineRepresents` says that none of the lines is faulty, so the items are those of the definitions. It stays if a line is
--- refused: it then speaks of the lines before that one.
+-- `MachineRepresents` implies that no line is faulty, so the items are those of the definitions. If
+-- a line is faulty, the machine still represents the lines before that one.
 --
--- Example: a machine that has read `#if X` alone has one section open, and the line was no text.
+-- Example: a machine that has read only `#if X` has one open section, and that line wasn't text.
 use Rattle.std.specs.Prelude.{◌≡◌, List, [], ◌∷◌, ◌++◌, map, true, Option, Some, None, Result, Ok}
 use Rattle.std.specs.Prelude.{Err}
 use Rattle.ud_model.specs.text.Lines.{Line}
@@ -41,7 +44,8 @@ use Rattle.ud_sections.specs.StepViews.{as_span}
 use Rattle.ud_sections.specs.OpenSections.{open_sections_of}
 use Rattle.ud_sections.specs.Limits.{IsWithinLimits}
 
--- none of these lines is faulty, t is their tree, and this is what the machine keeps of them
+-- `MachineRepresents m o xs t`: the machine `m` has read the items `xs` under the options `o`. None
+-- of their lines is faulty, and `t` is their tree.
 pub record MachineRepresents (m : Machine) (o : Options) (xs : List (Item Reading))
     (t : Tree Reading) : Type 0 where
   pub settings : m.settings ≡ o.settings
@@ -50,13 +54,15 @@ pub record MachineRepresents (m : Machine) (o : Options) (xs : List (Item Readin
   pub removed : m.removed ≡ ends_removed (marks t)
   pub last : m.last ≡ last_number xs
 
--- the line is read in the mode that the items give, with this scan, and the table says of every name what the options do
+-- `ComesNext o xs t scan l table`: `l` comes after `xs`, and `scan` is its scan in the mode that
+-- these give. `table` gives every name the meaning that the options give it.
 pub record ComesNext (o : Options) (xs : List (Item Reading)) (t : Tree Reading) (scan : Scan)
     (l : Line) (table : List Argument) : Type 0 where
   pub seen : scan ≡ scan_after (map reading_of xs) (mode_after o t) l
   pub stands : TableRepresents table o.table
 
--- the items are one more, whose mark is the last one; the step has its verdict, and the place of its keyword
+-- `StepsLine m o xs t l step`: the machine has read `l` after `xs`. The step has the verdict of its
+-- mark, which is the last one, and the span of its keyword.
 pub record StepsLine (m : Machine) (o : Options) (xs : List (Item Reading)) (t : Tree Reading)
     (l : Line) (step : Step) : Type 0 where
   pub tree : Tree Reading
@@ -66,14 +72,16 @@ pub record StepsLine (m : Machine) (o : Options) (xs : List (Item Reading)) (t :
   pub judged_so : record { line = l; verdict = step.verdict; keyword = as_span step.keyword } ≡
       judged_line (next_item o xs t l) mark
 
--- these lines are text within the limits, as they are read in this mode, one after another, after these items
+-- `AreTextLines o mode xs rs`: the lines `rs` are text within the limits, as they are read in this
+-- mode, one after another, after the items `xs`.
 abbrev pub AreTextLines : Options → Mode → List (Item Reading) → List Reading → Type 0
 AreTextLines o mode xs [] = Unit {0}
 AreTextLines o mode xs (r ∷ rs) =
     (r ≡ read_after xs mode r.line) × (content_of r.scan ≡ text) × IsWithinLimits r.line ×
     AreTextLines o mode (xs ++ text_line r ∷ []) rs
 
--- the items are so many text lines more, each with this verdict
+-- `StepsText m o xs t rs verdict`: the machine has read the text lines `rs` after `xs`, each with
+-- this verdict.
 pub record StepsText (m : Machine) (o : Options) (xs : List (Item Reading)) (t : Tree Reading)
     (rs : List Reading) (verdict : Verdict) : Type 0 where
   pub tree : Tree Reading
@@ -82,15 +90,15 @@ pub record StepsText (m : Machine) (o : Options) (xs : List (Item Reading)) (t :
   pub marks_are : marks tree ≡ marks t ++ map (λ r. mark) rs
   pub verdict_is : verdict ≡ mark.verdict
 
--- what the machine has refused, if it has
+-- `machine_fault m`: the fault after which the machine is fused, if it has one.
 abbrev pub machine_fault : Machine → Option SectionFault
 machine_fault m = m.fault
 
--- the machine once it has refused a line
+-- `machine_with_fault m f`: the machine after a line with this fault.
 abbrev pub machine_with_fault : Machine → SectionFault → Machine
 machine_with_fault m f = record m { fault = Some f }
 
--- a fault as the definitions have it
+-- `fault_of f`: a fault of the program, as the definitions have it.
 abbrev pub fault_of : SectionFault → Fault
 fault_of (InappropriateElif n) = inappropriate_elif n
 fault_of (InappropriateElse n) = inappropriate_else n
@@ -100,7 +108,7 @@ fault_of (Obfuscated n) = obfuscated n
 fault_of (PrematureEof n if_line) = premature_eof n if_line
 fault_of (EofInComment n) = eof_in_comment n
 
--- what an answer to the end of a text tells
+-- `end_fault_of result`: the fault at the end of a text, if `result` is an error.
 abbrev pub end_fault_of : Result (Unit {0}) SectionFault → Option Fault
 end_fault_of (Ok _) = None
 end_fault_of (Err f) = Some (fault_of f)

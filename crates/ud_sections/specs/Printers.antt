@@ -1,9 +1,10 @@
--- Printers: what the printer that the options ask for stands for, and what it prints.
+-- Printers: what the printer for the options represents, and what it prints.
 --
---   printer_represents printer before   it was given these lines
---   printer_piece printer before j      what it prints of a line after these
+--   printer_represents printer before   the printer got the lines `before`
+--   printer_piece printer before j      what it prints for the line `j` after these
 --
--- Example: for `-c -n` it is the complement of `Renumber`, and stands for lines where that stands for their complements.
+-- Example: for `-c -n` it is the complement of `Renumber`. It represents lines if its `Renumber`
+-- represents their complements.
 use Rattle.std.specs.Prelude.{List, ℕ, map}
 use Rattle.ud_model.specs.answer.Printing.{Judged, plain_style, piece_after, complemented}
 use Rattle.ud_sections.specs.Styles.{blank_style, renumber_style, delete_represents}
@@ -14,7 +15,7 @@ use Rattle.ud_sections.specs.declared.printer.Printer.TheVariants.{ComplementDel
 use Rattle.ud_sections.specs.declared.printer.Printer.TheVariants.{ComplementBlanks}
 use Rattle.ud_sections.specs.declared.printer.Printer.TheVariants.{ComplementRenumbers}
 
--- the printer was given these lines
+-- `printer_represents printer before`: the printer got the lines `before`.
 abbrev pub printer_represents : Printer → List Judged → Type 0
 printer_represents (Deletes p) before = delete_represents p before
 printer_represents (Blanks p) before = blank_represents p before
@@ -26,7 +27,7 @@ printer_represents (ComplementBlanks c) before =
 printer_represents (ComplementRenumbers c) before =
     renumber_represents (inner_of c) (map complemented before)
 
--- what the printer prints of a line after these
+-- `printer_piece printer before j`: the output of the printer for the line `j` after `before`.
 abbrev pub printer_piece : Printer → List Judged → Judged → List ℕ
 printer_piece (Deletes p) before j = piece_after plain_style before j
 printer_piece (Blanks p) before j = piece_after blank_style before j

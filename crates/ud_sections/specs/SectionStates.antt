@@ -1,14 +1,16 @@
--- SectionStates: how far an open section is among its groups, by the conditions of these.
+-- SectionStates: the state of an open section, by the conditions of its groups so far.
 --
---   section_state_after p cs     the phase after groups with these conditions, p being the one before them
---   opener_verdict_in p part c   the verdict of the next opener; next_section_state p c is the phase after it
+--   section_state_after p cs     the state after groups with the conditions `cs`, from `p` on
+--   next_section_state p c       the state after one more group
+--   opener_verdict_in p part c   the verdict of the next opener
 --   endif_verdict_in p           the verdict of the `#endif`
 --   is_kept_in p                 the last group is kept
---   is_in_removed p              the section lies in a removed place
+--   is_in_removed p              the section is in a removed place
 --
--- A section in a kept place begins with Seek, one in a removed place with Dead. An `#else` counts as true.
+-- A section in a kept place begins with NoneKept, one in a removed place with InRemoved. An `#else`
+-- counts as true.
 --
--- Example: of unknown, true, unknown the phases are Live, Last, Over.
+-- Example: for unknown, true, unknown the states are LastUnknown, LastTrue, AfterTrue.
 use Rattle.std.specs.Prelude.{List, [], ◌∷◌, Bool, true, false}
 use Rattle.ud_model.specs.declared.cond.Cond.{Cond}
 use Rattle.ud_model.specs.declared.cond.Cond.TheVariants.{Yes, No, Unknown}
@@ -23,18 +25,19 @@ use Rattle.ud_sections.specs.declared.section_state.SectionState.TheVariants.{On
 use Rattle.ud_sections.specs.declared.section_state.SectionState.TheVariants.{LastFalse, LastTrue}
 use Rattle.ud_sections.specs.declared.section_state.SectionState.TheVariants.{AfterTrue}
 
--- what opens a group, in the words of the definitions
+-- `part_of part`: a directive that opens a group, as the definitions have it.
 abbrev pub part_of : Part → table.Part
 part_of AnIf = table.an_if
 part_of AnElif = table.an_elif
 part_of AnElse = table.an_else
 
--- before the first group
+-- `new_state kept`: the state before the first group; `kept` is whether the section is in a kept
+-- place.
 abbrev pub new_state : Bool → SectionState
 new_state true = NoneKept
 new_state false = InRemoved
 
--- the phase after the next group
+-- `next_section_state p c`: the state after the next group, with the condition `c`.
 abbrev pub next_section_state : SectionState → Cond → SectionState
 next_section_state InRemoved c = InRemoved
 next_section_state NoneKept Yes = OnlyTrue
@@ -50,12 +53,12 @@ next_section_state LastFalse Unknown = LastUnknown
 next_section_state LastTrue c = AfterTrue
 next_section_state AfterTrue c = AfterTrue
 
--- the phase after groups with these conditions
+-- `section_state_after p cs`: the state after `p` and groups with the conditions `cs`.
 abbrev pub section_state_after : SectionState → List Cond → SectionState
 section_state_after p [] = p
 section_state_after p (c ∷ cs) = section_state_after (next_section_state p c) cs
 
--- the verdict of the next group's opener
+-- `opener_verdict_in p part c`: the verdict of the next group's opener.
 abbrev pub opener_verdict_in : SectionState → table.Part → Cond → Verdict
 opener_verdict_in InRemoved part c = Remove
 opener_verdict_in NoneKept part Yes = Remove
@@ -67,7 +70,7 @@ opener_verdict_in LastFalse part c = table.later_verdict part c
 opener_verdict_in LastTrue part c = ToEndif
 opener_verdict_in AfterTrue part c = Remove
 
--- the verdict of the `#endif`
+-- `endif_verdict_in p`: the verdict of the `#endif`.
 abbrev pub endif_verdict_in : SectionState → Verdict
 endif_verdict_in InRemoved = Remove
 endif_verdict_in NoneKept = Remove
@@ -77,7 +80,7 @@ endif_verdict_in LastFalse = Keep
 endif_verdict_in LastTrue = Keep
 endif_verdict_in AfterTrue = Remove
 
--- the last group is kept
+-- `is_kept_in p`: the last group is kept.
 abbrev pub is_kept_in : SectionState → Bool
 is_kept_in InRemoved = false
 is_kept_in NoneKept = false
@@ -87,7 +90,7 @@ is_kept_in LastFalse = false
 is_kept_in LastTrue = true
 is_kept_in AfterTrue = false
 
--- the section lies in a removed place
+-- `is_in_removed p`: the section is in a removed place.
 abbrev pub is_in_removed : SectionState → Bool
 is_in_removed InRemoved = true
 is_in_removed NoneKept = false

@@ -4,11 +4,11 @@ use Rattle.ud_sections.specs.declared.open_section.OpenSection.{OpenSection}
 use Rattle.ud_sections.specs.declared.open_section.StackOp.{StackOp}
 use Rattle.ud_sections.specs.declared.open_section.StackOp.TheVariants.{Stay, Push, Replace, Pop}
 
--- the innermost one
+-- `innermost_of ls`: the innermost of the open sections `ls`, which is the last one.
 abbrev pub innermost_of : List OpenSection → Option OpenSection
 innermost_of ls = slice_get ls (length ls - 1)
 
--- the open sections after a change, the innermost one last
+-- `applied change old`: the open sections after a change of `old`, the innermost one last.
 abbrev pub applied : StackOp → List OpenSection → List OpenSection
 applied Stay old = old
 applied (Push l) old = old ++ l ∷ []

@@ -1,8 +1,8 @@
--- Transitions: what the machine answers to the next line.
+-- Transitions: the transition of the machine for the next line.
 --
---   context_of m                  what stands before the line
---   text_verdict m                what becomes of the line, if it is text
---   transition_of before n seen   what becomes of a line of number n of which this is kept; one whose keyword is cut is faulty
+--   context_of m               the context of the next line
+--   text_verdict m             the verdict of the next line, if it is text
+--   transition_of before n s   the transition of the classified line `s` of number `n`
 use Rattle.std.specs.Prelude.{ℕ, length, Result, Ok, Err}
 use Rattle.ud_model.specs.declared.verdict.Verdict.{Verdict}
 use Rattle.ud_sections.specs.declared.fault.SectionFault.{SectionFault}
@@ -18,7 +18,7 @@ use Rattle.ud_sections.specs.Actions.{kept_at, text_action}
 use Rattle.ud_sections.specs.StackOps.{innermost_of}
 use Rattle.ud_sections.specs.Checking.{checked_by}
 
--- what stands before the next line
+-- `context_of m`: the context of the next line, which is what the lines before it decide.
 abbrev pub context_of : Machine → LineContext
 context_of m = record {
   enclosing = record { section = innermost_of m.open_sections.items; plain = m.settings.plain };
@@ -26,17 +26,19 @@ context_of m = record {
   removed = m.removed;
 }
 
--- a text line is kept or removed by the innermost open section
+-- `text_verdict m`: a text line is kept or removed by the innermost open section.
 abbrev pub text_verdict : Machine → Verdict
 text_verdict m = (text_action (kept_at (innermost_of m.open_sections.items))).verdict
 
--- with the place of the keyword
+-- `transition_with keyword result`: the transition with this action and the keyword's span, or the
+-- same fault.
 abbrev pub transition_with : Span → Result Action SectionFault → Result Transition SectionFault
 transition_with keyword (Ok a) =
     Ok (record { step = record { verdict = a.verdict; keyword = keyword }; change = a.change })
 transition_with keyword (Err f) = Err f
 
--- what becomes of a line, and what it does to the open sections; a cut keyword is a fault
+-- `transition_of before n classified`: the step of a line of number `n`, and its change of the open
+-- sections. A cut keyword is a fault.
 abbrev pub transition_of : LineContext → ℕ → Result ClassifiedLine Cut →
     Result Transition SectionFault
 transition_of before n (Ok seen) = transition_with seen.keyword (checked_by before seen n)

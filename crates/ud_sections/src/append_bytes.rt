@@ -1,10 +1,10 @@
-//! Bytes one after another, in an array that has room for them.
+//! Appending bytes to an array with enough capacity.
 
 ghost use Rattle.std.specs.Prelude.{◌≡◌, ◌+◌, ◌≤◌, ◌++◌, length};
 
 use arrayvec::ArrayVec;
 
-/// Appends bytes for which there is room.
+/// Appends `more`, which fits.
 pub(crate) fn append<const ROOM: usize>(bytes: &mut ArrayVec<u8, ROOM>, more: &[u8])
     requires { length bytes.old.items + length more.now ≤ ROOM }
     ensures { bytes.new.items ≡ bytes.old.items ++ more.now }

@@ -1,4 +1,4 @@
-//! Printing removed lines as blank ones.
+//! A printer that blanks removed lines.
 
 use crate::line_output::LineOutput;
 use crate::pieces::Pieces;
@@ -7,7 +7,7 @@ use crate::step::Step;
 use ud_model::Verdict;
 use ud_text::Line;
 
-/// A printer by which of a removed line its ending is left (unifdef(1), `-b`).
+/// A printer that prints only the ending of a removed line (unifdef(1), `-b`).
 #[derive(Drop)]
 pub struct Blank;
 
@@ -15,7 +15,7 @@ impl Blank {
     ghost use Rattle.std.specs.Prelude.{[]};
     ghost use Rattle.ud_sections.specs.Styles.{blank_represents};
 
-    /// The printer at the beginning of a text.
+    /// Creates the printer at the beginning of a text.
     pub fn new() -> Blank
         ensures { blank_represents result [] }
     {

@@ -1,12 +1,12 @@
-//! What is printed of a run of text lines.
+//! The output for many text lines at once.
 
-/// What is printed of the next lines, as many as come, if all of them are text with one verdict.
+/// The output for the next lines, as many as come, if all of them are text with one verdict.
 #[derive(Clone, Copy, Debug, PartialEq, Eq)]
 pub enum BulkOutput {
-    /// Each of them as it is.
+    /// Each line as it is.
     Copied,
     /// Nothing.
     Dropped,
-    /// It isn't known of all of them: they are to be given one by one.
+    /// The verdict doesn't decide all of them: the lines are to be passed one by one.
     OneByOne,
 }

@@ -1,4 +1,4 @@
-//! The judgement of a line, by the open sections and by the line before.
+//! The check of a line against the open sections and the line before.
 
 ghost use Rattle.std.specs.Prelude.{◌≡◌};
 ghost use Rattle.ud_model.specs.sections.Faults.{keeps_rest};
@@ -11,22 +11,25 @@ use crate::line_kind::LineKind;
 use crate::open_section::{Action, Enclosing, StackOp};
 use ud_model::{OPEN_SECTIONS, Verdict};
 
-/// What stands before a line.
+/// The context of a line: what the lines before it decide.
 #[derive(Clone, Copy)]
 pub(crate) struct LineContext {
-    /// The open sections, as far as a line asks of them.
+    /// The position of the line among the sections.
     pub enclosing: Enclosing,
-    /// How many sections are open.
+    /// The number of open sections.
     pub depth: usize,
     /// The line before is removed.
     pub removed: bool,
 }
 
-/// What becomes of a line of this number after these, its keyword left out.
+/// Checks a line against the open sections, and returns its action.
 ///
 /// # Errors
-/// The first of the cases in which the line is faulty: it is a directive out of its place, it opens one section too
-/// many, or it is a directive that spans lines and would have to be edited or removed.
+/// The line is faulty. The first of these cases decides:
+///
+/// - It is a misplaced directive.
+/// - It opens one section too many.
+/// - It is a directive that spans lines and would have to be edited or removed.
 #[inline(always)]
 pub(crate) fn check_line(
     before: LineContext,
@@ -47,7 +50,7 @@ pub(crate) fn check_line(
     Ok(action)
 }
 
-/// Whether a section is opened.
+/// Returns whether a change opens a section.
 fn opens_section(change: StackOp) -> bool
     ensures { result ≡ opens_section change }
 {
@@ -57,7 +60,8 @@ fn opens_section(change: StackOp) -> bool
     }
 }
 
-/// Whether a directive spans lines and would have to be edited or removed; `removed` tells that the line before it is.
+/// Returns whether the line is a directive that spans lines and would have to be edited or removed.
+/// `removed` is whether the line before it is removed.
 fn is_obfuscated(removed: bool, seen: ClassifiedLine, action: Action) -> bool
     ensures { result ≡ is_obfuscated_by removed seen action }
 {
@@ -67,7 +71,7 @@ fn is_obfuscated(removed: bool, seen: ClassifiedLine, action: Action) -> bool
         && (!keeps_rest(action.verdict) || (seen.joins_before && removed))
 }
 
-/// Whether the line is a directive.
+/// Returns whether a line of this kind is a directive.
 fn is_directive(shape: LineKind) -> bool
     ensures { result ≡ is_directive_kind shape }
 {
@@ -77,7 +81,8 @@ fn is_directive(shape: LineKind) -> bool
     }
 }
 
-/// Whether what follows the keyword stays, and so does what the directive is joined to.
+/// Returns whether a directive with this verdict keeps what follows its keyword, and what it is
+/// joined to.
 fn keeps_rest(verdict: Verdict) -> bool
     ensures { result ≡ keeps_rest verdict }
 {
@@ -87,7 +92,7 @@ fn keeps_rest(verdict: Verdict) -> bool
     }
 }
 
-/// The fault of a directive out of its place; text and `#if` are nowhere out of place.
+/// Returns the fault of a misplaced directive. Text and `#if` are never misplaced.
 fn misplaced_fault(shape: LineKind, line: u32) -> SectionFault
     ensures { result ≡ misplaced_fault_by shape line }
 {

@@ -1,4 +1,4 @@
-//! What is kept of a line while it is judged.
+//! The classification of a line: what decides it among the sections.
 
 ghost use Rattle.std.specs.Prelude.{◌≡◌, ◌≤◌, ◌+◌, List, length, IfOk, Some};
 ghost use Rattle.ud_model.specs.text.Scans.{is_spanning};
@@ -21,20 +21,21 @@ use ud_cond::{Answer, Rules, Symbols, condition};
 use ud_model::{Cond, Role, Settings};
 use ud_text::Scan;
 
-/// What is kept of a line while it is judged.
+/// A classified line.
 #[derive(Clone, Copy)]
 pub(crate) struct ClassifiedLine {
-    /// What it is among the sections.
+    /// The kind of the line among the sections.
     pub kind: LineKind,
-    /// Where the keyword of its directive lies; 0 and 0 for a text line.
+    /// The span of its directive's keyword; 0 and 0 for a text line.
     pub keyword: Span,
-    /// It joins a neighbour.
+    /// The line joins a neighbour.
     pub spans: bool,
-    /// The line before joins it.
+    /// The line before joins this one.
     pub joins_before: bool,
 }
 
-/// What is kept of a line with this scan, of which this follows the `#`, with what the symbols decide of its condition.
+/// Classifies a line, with what the symbols decide of its condition. `behind` follows the `#` of
+/// the line.
 ///
 /// # Errors
 /// The keyword of its directive can't be known.
@@ -65,15 +66,15 @@ pub(crate) fn classify<'a>(
     })
 }
 
-/// Whether the line joins a neighbour.
+/// Returns whether the line joins a neighbour.
 fn joins_a_neighbor(scan: &Scan<'_>) -> bool
     ensures { result ≡ is_spanning (as_scan scan.now) }
 {
     scan.joins_before || scan.joins_after
 }
 
-/// What the symbols decide of a line's directive: a broken one is undecided, and one that joins the next line opens no
-/// section that is plain text.
+/// Returns what the symbols decide of a line's directive. A broken directive is undecided. One that
+/// joins the next line opens no section that is plain text.
 #[inline(always)]
 fn condition_on(
     scan: &Scan<'_>,
@@ -99,7 +100,7 @@ fn condition_on(
     }
 }
 
-/// How the settings have expressions valued.
+/// Returns the rules by which the settings have expressions evaluated.
 fn rules_of(settings: Settings) -> Rules
     ensures { as_rules result ≡ rules_of settings }
 {
@@ -109,7 +110,8 @@ fn rules_of(settings: Settings) -> Rules
     }
 }
 
-/// What a line's directive is among the sections, with what the symbols decide of it. Only a condition is looked at.
+/// Returns the kind of a line's directive among the sections, with what the symbols decide of it.
+/// Only a condition is evaluated.
 #[inline(always)]
 fn line_kind_of(
     scan: &Scan<'_>,

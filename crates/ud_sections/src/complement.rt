@@ -1,4 +1,4 @@
-//! Printing what would be removed.
+//! A printer of the lines that would be removed.
 
 ghost use Rattle.std.specs.Prelude.{◌≡◌};
 ghost use Rattle.ud_model.specs.answer.Printing.{complement_verdict};
@@ -10,7 +10,7 @@ use crate::step::Step;
 use ud_model::Verdict;
 use ud_text::Line;
 
-/// A printer by which lines that would be removed are kept, and the other way round (unifdef(1), `-c`).
+/// A printer that keeps the lines that would be removed, and removes all others (unifdef(1), `-c`).
 #[derive(Drop)]
 pub struct Complement<S> {
     inner: S,
@@ -20,7 +20,7 @@ impl<S: Show> Complement<S> {
     ghost use Rattle.std.specs.Prelude.{◌≡◌};
     ghost use Rattle.ud_sections.specs.Styles.{inner_of};
 
-    /// The complement of a printer at the beginning of a text.
+    /// Creates the complement of a printer that is at the beginning of a text.
     pub fn new(inner: S) -> Complement<S>
         ensures { inner_of result ≡ inner }
     {
@@ -50,7 +50,7 @@ impl<S: Show> Show for Complement<S> {
     }
 }
 
-/// What becomes of a line under the complement.
+/// Returns the verdict of a line under the complement.
 #[inline(always)]
 fn complement_of(verdict: Verdict) -> Verdict
     ensures { result ≡ complement_verdict verdict }

@@ -1,4 +1,4 @@
-//! Printing what is kept.
+//! A printer of the kept lines.
 
 use crate::line_output::LineOutput;
 use crate::pieces::Pieces;
@@ -7,7 +7,7 @@ use crate::step::Step;
 use ud_model::Verdict;
 use ud_text::Line;
 
-/// A printer by which removed lines are deleted (unifdef(1), without options).
+/// A printer that deletes removed lines (unifdef(1), without options).
 #[derive(Drop)]
 pub struct Delete;
 
@@ -15,7 +15,7 @@ impl Delete {
     ghost use Rattle.std.specs.Prelude.{[]};
     ghost use Rattle.ud_sections.specs.Styles.{delete_represents};
 
-    /// The printer at the beginning of a text.
+    /// Creates the printer at the beginning of a text.
     pub fn new() -> Delete
         ensures { delete_represents result [] }
     {

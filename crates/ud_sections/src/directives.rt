@@ -1,4 +1,4 @@
-//! What is found on a line.
+//! The directive of a line, as it is parsed.
 
 use crate::step::Span;
 use ud_model::Kind;
@@ -6,9 +6,9 @@ use ud_model::Kind;
 /// A directive on a line (C11 6.10).
 #[derive(Clone, Copy, Debug, PartialEq, Eq)]
 pub struct Directive<'a> {
-    /// Which directive it is.
+    /// The kind of directive.
     pub kind: Kind,
-    /// Where its keyword lies in the line's body.
+    /// The span of its keyword in the line's body.
     pub keyword: Span,
     /// The masked bytes after the keyword.
     pub after: &'a [u8],
@@ -16,6 +16,6 @@ pub struct Directive<'a> {
     pub broken: bool,
 }
 
-/// The keyword of a line's directive can't be known, since it may go on after a continuation.
+/// The error that the keyword of a directive can't be known, since a continuation may split it.
 #[derive(Clone, Copy, Debug, PartialEq, Eq)]
 pub struct Cut;

@@ -1,6 +1,6 @@
-//! What is wrong with the sections of a text, as data. A line is meant by its number, from 1.
+//! The faults of the sections of a text, as data. Lines are numbered from 1.
 
-/// Why a text has no right sections.
+/// A fault of the sections of a text.
 #[derive(Clone, Copy, Debug, PartialEq, Eq)]
 pub enum SectionFault {
     /// An `#elif`, `#elifdef` or `#elifndef` outside a section, or after its `#else`.
@@ -18,12 +18,13 @@ pub enum SectionFault {
         /// The number of its line.
         line: u32,
     },
-    /// One section more is opened than may be open at a time.
+    /// One more section is opened than may be open at once.
     TooManyLevels {
         /// The number of the line that opens it.
         line: u32,
     },
-    /// A directive that goes on in another line would have to be removed or edited, or its keyword is cut.
+    /// A directive that continues on another line would have to be removed or edited, or its
+    /// keyword is cut.
     Obfuscated {
         /// The number of the directive's line.
         line: u32,

@@ -8,16 +8,16 @@ ghost use Rattle.ud_sections.specs.Keywords.{IsLeadingKeyword};
 use ud_model::Kind;
 use ud_model::bytes::{is_word_byte, word_len};
 
-/// A keyword.
+/// A keyword that a text begins with.
 #[derive(Clone, Copy)]
 pub(crate) struct Keyword {
     /// The kind of its directive.
     pub(crate) kind: Kind,
-    /// How many bytes it has.
+    /// Its length in bytes.
     pub(crate) len: usize,
 }
 
-/// Each keyword.
+/// All keywords.
 const KEYWORDS: [&[u8]; 8] = [
     b"if",
     b"ifdef",
@@ -29,7 +29,7 @@ const KEYWORDS: [&[u8]; 8] = [
     b"endif",
 ];
 
-/// The keyword in front of these bytes, if their first word is one.
+/// Returns the keyword that `rest` begins with, if its first word is one.
 #[inline(always)]
 pub(crate) fn leading_keyword(rest: &[u8]) -> Option<Keyword>
     ensures some { IfSome result (λ k. IsLeadingKeyword k rest.now) }
@@ -43,8 +43,8 @@ pub(crate) fn leading_keyword(rest: &[u8]) -> Option<Keyword>
     Some(Keyword { kind, len })
 }
 
-/// The keyword in front of these bytes, if it is one of those that most directives have. It is found byte by byte, and its
-/// end isn't searched.
+/// Returns the keyword that `rest` begins with, if it is one of those that most directives have.
+/// Compares byte by byte, without a search for the end of the word.
 #[inline(always)]
 fn common_keyword(rest: &[u8]) -> Option<Keyword>
     ensures { IfSome result (λ k. IsLeadingKeyword k rest.now) }
@@ -60,7 +60,7 @@ fn common_keyword(rest: &[u8]) -> Option<Keyword>
     }
 }
 
-/// The keyword of this kind and length, if no word goes on after it.
+/// Returns the keyword of this kind and length, unless the word continues in `after`.
 #[inline(always)]
 fn whole_keyword(kind: Kind, len: usize, after: &[u8]) -> Option<Keyword>
     ensures { IfSome result (λ k. (k ≡ record { kind = kind; len = len }) ×
@@ -72,8 +72,9 @@ fn whole_keyword(kind: Kind, len: usize, after: &[u8]) -> Option<Keyword>
     }
 }
 
-/// The kind of directive of a keyword, if the word is one. Each arm asks for the length first, then for the bytes from the
-/// first one on, so a word is compared with no keyword of another length.
+/// Returns the kind of directive of a keyword, or `None` if the word is no keyword. Each arm
+/// compares the length first, then the bytes from the first one on. So a word is compared with no
+/// keyword of another length.
 fn kind_of(word: &[u8]) -> Option<Kind>
     ensures { result ≡ kind_of word.now }
 {
@@ -90,7 +91,7 @@ fn kind_of(word: &[u8]) -> Option<Kind>
     }
 }
 
-/// Whether a word is a front of a keyword, or a whole one.
+/// Returns whether a word is a prefix of a keyword, or a whole one.
 pub(crate) fn is_prefix_of_keyword(word: &[u8]) -> bool
     ensures { result ≡ is_prefix_of_keyword word.now }
 {

@@ -1,7 +1,11 @@
-//! What stands between the scan of a line and what is printed of it.
+//! The sections of a text: from the scan of a line to its output.
 //!
-//! The definitions are those of ud_model: specs/answer/Printing.antt says what is printed. `specs/StepViews.antt` says which
-//! line of the definitions a line and its step are.
+//! `directive` parses the directive of a scanned line. A `Machine` decides each line by the open
+//! sections, and a printer (`Show`) returns what to print for it. A `Lister` gives the names of
+//! conditions instead of the text.
+//!
+//! The definitions are those of ud_model; `Printing` of its specs/answer defines the output.
+//! `specs/StepViews.antt` defines which line of the definitions a line and its step represent.
 #![tactic(auto)]
 
 mod append_bytes;

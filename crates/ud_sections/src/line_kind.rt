@@ -1,8 +1,8 @@
-//! What a line is among the sections.
+//! The kinds of lines among the sections.
 
 use ud_model::Cond;
 
-/// What a line is among the sections, with what is decided of its condition.
+/// The kind of a line among the sections, with what the symbols decide of its condition.
 #[derive(Clone, Copy)]
 pub(crate) enum LineKind {
     /// A text line.

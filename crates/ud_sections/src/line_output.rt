@@ -1,14 +1,14 @@
-//! What is left of a line.
+//! The output for a line, by its verdict.
 
-/// What is printed of a line, as far as its verdict tells.
+/// The output for a line, as far as its verdict decides that.
 #[derive(Clone, Copy, Debug, PartialEq, Eq)]
 pub enum LineOutput {
     /// The line as it is.
     Whole,
     /// Nothing.
     Nothing,
-    /// Its ending.
+    /// The line's ending.
     Ending,
-    /// The verdict doesn't tell: the line is to be given.
+    /// The verdict doesn't decide: the line is to be passed.
     Parts,
 }

@@ -1,4 +1,4 @@
-//! Names of conditions, in place of the text.
+//! A lister of the names of conditions, which are printed instead of the text.
 
 ghost use Rattle.std.specs.Prelude.{◌≡◌, ◌+◌, ◌≤◌, ◌++◌, length, Bool};
 ghost use Rattle.ud_model.specs.answer.Listing.{depth_prefix};
@@ -12,16 +12,16 @@ use ud_cond::{Names, names};
 use ud_model::Kind;
 use ud_text::Scan;
 
-/// The most bytes before a name: twenty digits and a space.
+/// The maximum length of a name's prefix: twenty digits and a space.
 const PREFIX_BYTES: usize = 21;
 
-/// What lists the names of a text's conditions (unifdef(1), `-s` and `-S`). It tells the names of a line, and what
-/// stands before each of them.
+/// A lister of the names in a text's conditions (unifdef(1), `-s` and `-S`). It returns the names
+/// of a line, and the prefix of each.
 #[derive(Drop)]
 pub struct Lister {
-    /// Whether each name stands after its depth.
+    /// Each name follows its depth.
     depths: bool,
-    /// What stood before the last name.
+    /// The prefix of the last name.
     text: ArrayVec<u8, PREFIX_BYTES>,
 }
 
@@ -41,7 +41,7 @@ impl Lister {
     ghost use Rattle.ud_text.specs.LineViews.{as_scan};
     ghost use Rattle.ud_sections.specs.ListerBorrows.{StaysSame};
 
-    /// What lists names, each after its depth, or by itself.
+    /// Creates a lister. Each name follows its depth if `depths`, and else has no prefix.
     pub fn new(depths: bool) -> Lister
         ensures { result ≡ depths }
     {
@@ -51,9 +51,11 @@ impl Lister {
         }
     }
 
-    /// The names of a line that is seen so, in order and with repeats, where it is a directive with a condition (an `#if`,
-    /// `#ifdef`, `#ifndef`, `#elif`, `#elifdef` or `#elifndef`) that no continuation cuts, and its text is understood; no
-    /// names where it is not. The masked line has at most `LINE_BYTES`, as each has that `Scanner::read` gives. Takes no
+    /// Returns the names in the condition of a scanned line, in order and with repeats.
+    ///
+    /// Only a directive with a condition has names: an `#if`, `#ifdef`, `#ifndef`, `#elif`,
+    /// `#elifdef` or `#elifndef` that no continuation cuts, and whose text is understood. The
+    /// masked line has at most `LINE_BYTES`, like each that `Scanner::read` returns. Allocates no
     /// memory.
     pub fn names<'a>(scan: &Scan<'a>) -> Names<'a>
         requires fits { length scan.now.masked.now ≤ LINE_BYTES }
@@ -65,8 +67,8 @@ impl Lister {
         }
     }
 
-    /// What stands before a name with so many sections around its directive's own: nothing, or the depth in decimal
-    /// and a space.
+    /// Returns the prefix of a name: nothing, or `depth` in decimal and a space. `depth` is the
+    /// number of sections around its directive's own.
     pub fn prefix(&mut self, depth: usize) -> &[u8]
         ensures text { result.now ≡ depth_prefix self.old depth }
         ensures* unchanged { sem 𝓛 (StaysSame self.entry) }
@@ -76,7 +78,7 @@ impl Lister {
     }
 }
 
-/// Writes what stands before a name of this depth, in place of what was written before.
+/// Replaces `text` by the prefix of a name of this depth.
 fn write_prefix(text: &mut ArrayVec<u8, PREFIX_BYTES>, depths: bool, depth: usize)
     ensures { text.new.items ≡ depth_prefix depths depth }
 {

@@ -1,8 +1,10 @@
-//! What decides the lines of a text, one after another.
+//! A machine that decides the lines of a text in order.
 //!
-//! A machine holds no line and takes no memory. Of each open section it keeps how far it is among its groups; of the lines
-//! only whether the last one is removed, and its number. What a line does is decided by `check`, after all its faults;
-//! then the open sections change. `specs/MachineState.antt` says what a machine stands for: a list of lines and their tree.
+//! A machine buffers no line and allocates no memory. For each open section it keeps a
+//! `SectionState` and a few facts; of the lines only the last one's number, and whether that line
+//! was removed. The module `check` decides a line, after all its faults, and only then do the open
+//! sections change. `specs/MachineState.antt` defines what a machine represents: a list of lines
+//! and their tree.
 
 ghost use Rattle.std.specs.Prelude.{◌≡◌, ◌≤◌, ◌<◌, ◌+◌, ◌∷◌, [], ◌++◌, List, length, map, IsTrue};
 ghost use Rattle.std.specs.Prelude.{IfOk, IfErr, OnOk, OnErr, None, Some};
@@ -33,27 +35,27 @@ use ud_cond::Symbols;
 use ud_model::{Mode, OPEN_SECTIONS, Settings, Verdict};
 use ud_text::{Line, Scan};
 
-/// What becomes of a line, and what it does to the open sections.
+/// The step of a line, and the line's change of the open sections.
 #[derive(Clone, Copy)]
 struct Transition {
-    /// What becomes of it.
+    /// The step.
     step: Step,
-    /// What it does to the open sections.
+    /// The change of the open sections.
     change: StackOp,
 }
 
-/// Decides the lines of a text in order: whether each is kept, removed, or kept as another directive.
+/// A machine that decides lines in order: each is kept, removed, or kept as another directive.
 #[derive(Drop)]
 pub struct Machine {
-    /// How the words have lines read.
+    /// The settings by which lines are read.
     settings: Settings,
-    /// What is kept of the open sections, the outermost first.
+    /// The open sections, the outermost first.
     open_sections: ArrayVec<OpenSection, OPEN_SECTIONS>,
-    /// The last line is removed.
+    /// The last line was removed.
     removed: bool,
-    /// The number of the last line; 0 if none is read.
+    /// The number of the last line, 0 before the first one.
     last: u32,
-    /// What was refused, for good.
+    /// The error of a failed `step`, after which the machine is fused.
     fault: Option<SectionFault>,
 }
 
@@ -66,7 +68,7 @@ impl Machine {
     ghost use Rattle.ud_sections.specs.ClassifiedLines.{classified};
     ghost use Rattle.ud_sections.specs.EndFaults.{end_in};
 
-    /// Has read no line.
+    /// Creates a machine that has read no line.
     pub fn new(settings: Settings) -> Machine
         ensures represents { (o : Options) → o.settings ≡ settings →
             MachineRepresents result o [] (closed nothing) }
@@ -81,7 +83,7 @@ impl Machine {
         }
     }
 
-    /// The mode in which the next line is to be read.
+    /// Returns the mode in which the next line is to be scanned.
     pub fn mode(&self) -> Mode
         ensures { (o : Options) → (xs : List (Item Reading)) → (t : Tree Reading) →
             MachineRepresents self.now o xs t → result ≡ mode_after o t }
@@ -93,7 +95,7 @@ impl Machine {
         }
     }
 
-    /// How many sections are open; at most `OPEN_SECTIONS`.
+    /// Returns the number of open sections, at most `OPEN_SECTIONS`.
     pub fn depth(&self) -> usize
         ensures value { (o : Options) → (xs : List (Item Reading)) → (t : Tree Reading) →
             MachineRepresents self.now o xs t → result ≡ depth t }
@@ -102,7 +104,7 @@ impl Machine {
         self.open_sections.len()
     }
 
-    /// The verdict of the next line, if it is text.
+    /// Returns the verdict of the next line, if that line is text.
     pub fn text_verdict(&self) -> Verdict
         ensures value { result ≡ text_verdict self.now }
         ensures fits { array_vec_len self.now.open_sections ≤ OPEN_SECTIONS }
@@ -110,15 +112,21 @@ impl Machine {
         self.enclosing().text_action().verdict
     }
 
-    /// Reads the next line, and tells what becomes of it. Lines that follow never count.
+    /// Decides the next line. Later lines never change the decision.
     ///
-    /// The scan is that of the line after the lines before it, read in the mode that `mode` gives. The line's number and
-    /// its length are within the limits of a text, and `symbols` says the same of every name at each call.
+    /// `scan` is the scan of the line after the lines before it, in the mode that `mode` returns.
+    /// The line's number and length are within the limits of a text. `symbols` must give the same
+    /// result for every name at each call.
     ///
     /// # Errors
-    /// The line is faulty; the first of these cases counts. The keyword of its directive can't be known; it is a directive
-    /// out of its place; it opens one section too many; it is a directive that spans lines and would have to be edited or
-    /// removed. The open sections stay as they are, and every later `step` and `finish` answers the same.
+    /// The line is faulty. The first of these cases decides:
+    ///
+    /// - The keyword of its directive can't be known.
+    /// - It is a misplaced directive.
+    /// - It opens one section too many.
+    /// - It is a directive that spans lines and would have to be edited or removed.
+    ///
+    /// The open sections are unchanged, and every later `step` and `finish` returns the same error.
     #[inline(always)]
     pub fn step(
         &mut self,
@@ -169,10 +177,11 @@ impl Machine {
         }
     }
 
-    /// What the end of the text says; `in_comment` tells that the text ends in a block comment.
+    /// Checks the end of the text. `in_comment` is whether the text ends in a block comment.
     ///
     /// # Errors
-    /// What `step` refused, again; else the text ends in a block comment, or else in a section.
+    /// The error of a failed `step`, again. Else the text ends in a block comment, or else in a
+    /// section.
     pub fn finish(&self, in_comment: bool) -> Result<(), SectionFault>
         ensures value { (o : Options) → (xs : List (Item Reading)) → (t : Tree Reading) →
             MachineRepresents self.now o xs t →
@@ -186,7 +195,8 @@ impl Machine {
         self.end_fault(in_comment)
     }
 
-    /// Reads all lines up to the one with this number, which are text, one at least, and tells the verdict of them all.
+    /// Reads all lines up to the one of number `last`, at least one, and all of them text. Returns
+    /// the verdict of them all.
     pub fn step_text(&mut self, last: u32) -> Verdict
         ensures value { (o : Options) → (xs : List (Item Reading)) → (t : Tree Reading) →
             MachineRepresents self.old o xs t →
@@ -199,7 +209,7 @@ impl Machine {
         self.note_text(last)
     }
 
-    /// Reads text lines, the last of which has this number, and tells their verdict.
+    /// Records text lines, of which the last has number `last`, and returns their verdict.
     fn note_text(&mut self, last: u32) -> Verdict
         ensures value { result ≡ text_verdict self.old }
         ensures rest { self.new ≡ record self.old { removed = is_removed result; last = last } }
@@ -211,7 +221,7 @@ impl Machine {
         verdict
     }
 
-    /// Where the next line stands.
+    /// Returns the position of the next line among the sections.
     fn enclosing(&self) -> Enclosing
         ensures place { result ≡ record {
           section = innermost_of self.now.open_sections.items;
@@ -225,7 +235,8 @@ impl Machine {
         }
     }
 
-    /// What becomes of the next line, of which this follows the `#`, and what it does to the open sections.
+    /// Returns the step of the next line and its change of the open sections. `behind` follows the
+    /// `#` of the line.
     #[inline(always)]
     fn transition<'a>(
         &self,
@@ -265,7 +276,7 @@ impl Machine {
         })
     }
 
-    /// What the end of the text says to the open sections.
+    /// Checks the end of the text, by the innermost open section.
     fn end_fault(&self, in_comment: bool) -> Result<(), SectionFault>
         ensures { result ≡ end_in in_comment self.now.last
             (innermost_of self.now.open_sections.items) }
@@ -284,7 +295,7 @@ impl Machine {
     }
 }
 
-/// Does to the open sections what a line does.
+/// Applies a line's change to the open sections.
 #[inline(always)]
 fn apply(open_sections: &mut ArrayVec<OpenSection, OPEN_SECTIONS>, change: StackOp)
     requires fits { array_vec_len open_sections.old ≤ OPEN_SECTIONS }

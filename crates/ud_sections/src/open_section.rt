@@ -1,4 +1,4 @@
-//! The open sections, and what a line does to them.
+//! The open sections, and how a line changes them.
 
 ghost use Rattle.std.specs.Prelude.{◌≡◌};
 ghost use Rattle.ud_sections.specs.SectionStates.{part_of, opener_verdict_in};
@@ -10,44 +10,44 @@ use crate::line_kind::LineKind;
 use crate::section_state::{Part, SectionState};
 use ud_model::{Cond, Verdict};
 
-/// What is kept of an open section.
+/// An open section.
 #[derive(Clone, Copy)]
 pub(crate) struct OpenSection {
-    /// How far it is among its groups.
+    /// The state that its groups so far have led to.
     pub state: SectionState,
     /// Its last group is opened by an `#else`.
     pub else_seen: bool,
-    /// It, or a section around it, is plain text.
+    /// The section, or one around it, is plain text.
     pub ignoring: bool,
-    /// The line of its first directive.
+    /// The number of the line with its first directive.
     pub if_line: u32,
 }
 
-/// What a line does to the open sections.
+/// A line's change of the open sections.
 #[derive(Clone, Copy)]
 pub(crate) enum StackOp {
-    /// Nothing.
+    /// No change.
     Stay,
-    /// It opens a section.
+    /// The line opens this section.
     Push(OpenSection),
-    /// It opens another group of the innermost one.
+    /// The line opens another group of the innermost section, which is this one then.
     Replace(OpenSection),
-    /// It ends the innermost one.
+    /// The line ends the innermost section.
     Pop,
 }
 
-/// What becomes of a line.
+/// The verdict of a line, and the line's change of the open sections.
 #[derive(Clone, Copy)]
 pub(crate) struct Action {
-    /// Its verdict.
+    /// The verdict.
     pub verdict: Verdict,
-    /// The line, or of a directive its section, lies in a kept place.
+    /// The line, or the section of a directive, is in a kept place.
     pub kept: bool,
-    /// What it does to the open sections.
+    /// The change of the open sections.
     pub change: StackOp,
 }
 
-/// Where a line stands.
+/// The position of a line among the sections.
 #[derive(Clone, Copy)]
 pub(crate) struct Enclosing {
     /// The innermost open section.
@@ -68,7 +68,7 @@ impl Default for OpenSection {
 }
 
 impl OpenSection {
-    /// A section before its first group.
+    /// Creates a section before its first group.
     fn new(kept: bool, ignoring: bool, if_line: u32) -> OpenSection
         ensures { result ≡ new_section kept ignoring if_line }
     {
@@ -80,7 +80,7 @@ impl OpenSection {
         }
     }
 
-    /// What becomes of the next group's opener, and the section after it.
+    /// Returns the verdict of the next group's opener, and the section after that opener.
     #[inline(always)]
     fn with_group(self, part: Part, cond: Cond) -> (Verdict, OpenSection)
         ensures verdict { result.0 ≡ opener_verdict_in self.state (part_of part) cond }
@@ -96,7 +96,7 @@ impl OpenSection {
         (verdict, level)
     }
 
-    /// What becomes of another opener; none may follow an `#else`.
+    /// Returns the action of another opener, or `None` after an `#else`.
     #[inline(always)]
     fn opener_action(self, part: Part, cond: Cond) -> Option<Action>
         ensures { result ≡ opener_action self (part_of part) cond }
@@ -112,7 +112,7 @@ impl OpenSection {
         })
     }
 
-    /// What becomes of the section's `#endif`.
+    /// Returns the action of the section's `#endif`.
     #[inline(always)]
     fn endif_action(self) -> Action
         ensures { result ≡ endif_action self }
@@ -126,7 +126,7 @@ impl OpenSection {
 }
 
 impl Enclosing {
-    /// Whether the place is kept.
+    /// Returns whether the position is in a kept place.
     pub(crate) fn is_kept(self) -> bool
         ensures { result ≡ kept_at self.section }
     {
@@ -136,7 +136,7 @@ impl Enclosing {
         }
     }
 
-    /// Whether the next line is read as plain text.
+    /// Returns whether the next line is read as plain text.
     pub(crate) fn is_plain(self) -> bool
         ensures { result ≡ plain_at self.plain self.section }
     {
@@ -146,7 +146,7 @@ impl Enclosing {
         }
     }
 
-    /// What becomes of a text line.
+    /// Returns the action of a text line.
     #[inline(always)]
     pub(crate) fn text_action(self) -> Action
         ensures { result ≡ text_action (kept_at self.section) }
@@ -159,7 +159,7 @@ impl Enclosing {
         }
     }
 
-    /// What becomes of a section's first directive.
+    /// Returns the action of a section's first directive.
     #[inline(always)]
     fn if_action(self, cond: Cond, ignoring: bool, number: u32) -> Action
         ensures { result ≡ if_action (kept_at self.section) (plain_at self.plain self.section) cond
@@ -175,7 +175,8 @@ impl Enclosing {
         }
     }
 
-    /// What becomes of a line of this shape and number; `None` if it is a directive out of its place.
+    /// Returns the action of a line of this kind and number, or `None` if it is a misplaced
+    /// directive.
     #[inline(always)]
     pub(crate) fn action_for(self, shape: LineKind, number: u32) -> Option<Action>
         ensures { result ≡ act self.plain self.section shape number }

@@ -1,4 +1,4 @@
-//! The directive that a line carries.
+//! Parsing the directive of a line.
 
 ghost use Rattle.std.specs.Prelude.{◌≡◌, ◌+◌, length, IfOk, IfNone, IfSome, MatchOption, Some};
 ghost use Rattle.std.specs.Prelude.{None};
@@ -17,12 +17,14 @@ use ud_model::CommentAt;
 use ud_model::bytes::{are_word_bytes, skip_white};
 use ud_text::Scan;
 
-/// The directive of a line that is seen so: the line is fresh, and its masked bytes are white space, `#`, white space,
-/// and a longest run of word bytes that is one of the keywords (C11 6.10, C23 6.10). `None` where it is a text line.
+/// Parses the directive of a scanned line, or returns `None` if it is a text line.
+///
+/// A line with a directive is fresh. Its masked bytes are white space, `#`, white space, and a
+/// longest run of word bytes that is one of the keywords (C11 6.10, C23 6.10).
 ///
 /// # Errors
-/// The line goes on, and its keyword can't be known: after the `#` there is only white space, or a continuation cuts
-/// the line after a single `/` or after what may become a keyword.
+/// The line is continued, and its keyword can't be known. After the `#` there is only white space,
+/// or a continuation cuts the line after a single `/` or after what may become a keyword.
 pub fn directive<'a>(scan: &Scan<'a>) -> Result<Option<Directive<'a>>, Cut>
     ensures value { content_found result ≡ content_of (as_scan scan.now) }
     ensures places { IfOk result (λ found. IfSome found (λ d.
@@ -34,8 +36,8 @@ pub fn directive<'a>(scan: &Scan<'a>) -> Result<Option<Directive<'a>>, Cut>
     }
 }
 
-/// What follows the `#` of a line, unless it is seen at once to be text: it isn't fresh, or its first byte that isn't white
-/// space is no `#`.
+/// Returns what follows the `#` of a line, or `None` if the line is certainly text. Such a line
+/// isn't fresh, or its first byte that isn't white space is no `#`.
 #[inline(always)]
 pub(crate) fn after_hash<'a>(scan: &Scan<'a>) -> Option<&'a [u8]>
     ensures none { IfNone result (content_of (as_scan scan.now) ≡ text) }
@@ -49,10 +51,10 @@ pub(crate) fn after_hash<'a>(scan: &Scan<'a>) -> Option<&'a [u8]>
     }
 }
 
-/// The directive of a line of which this follows the `#`.
+/// Parses the directive of a line. `behind` follows the `#` of the line.
 ///
 /// # Errors
-/// As `directive`.
+/// The errors of `directive`.
 #[inline(always)]
 pub(crate) fn directive_after_hash<'a>(
     scan: &Scan<'a>,
@@ -69,7 +71,7 @@ pub(crate) fn directive_after_hash<'a>(
     Ok(parse_after_hash(scan, behind))
 }
 
-/// The bytes after the `#` that comes first but for white space, if one does.
+/// Returns what follows the `#`, if one comes first but for white space.
 fn skip_hash(masked: &[u8]) -> Option<&[u8]>
     ensures { MatchOption result (skip_hash_if_fresh masked.now ≡ None)
         (λ rest. skip_hash_if_fresh masked.now ≡ Some rest.now) }
@@ -80,7 +82,7 @@ fn skip_hash(masked: &[u8]) -> Option<&[u8]>
     }
 }
 
-/// Whether after the `#` of a line its keyword can't be known.
+/// Returns whether a continuation may split the keyword after `#`.
 #[inline(always)]
 fn has_split_keyword(scan: &Scan<'_>, behind: &[u8]) -> bool
     ensures { result ≡ has_split_keyword (as_scan scan.now) (Some behind.now) }
@@ -91,8 +93,8 @@ fn has_split_keyword(scan: &Scan<'_>, behind: &[u8]) -> bool
         && may_split_keyword(is_continued_outside_comment(scan), skip_white(behind))
 }
 
-/// Whether the keyword can't be known of which these bytes are all that the line has, where a continuation cuts the line
-/// outside comments or not.
+/// Returns whether the keyword can't be known if the line has no more of it than `rest`. `cut_off`
+/// is whether a continuation cuts the line outside comments.
 #[inline(never)]
 fn may_split_keyword(cut_off: bool, rest: &[u8]) -> bool
     ensures { (scan : LineScan) → cut_off ≡ is_continued_outside_comment scan →
@@ -101,14 +103,14 @@ fn may_split_keyword(cut_off: bool, rest: &[u8]) -> bool
     rest.is_empty() || cut_off && (rest == b"/".as_slice() || is_keyword_prefix(rest))
 }
 
-/// Whether a continuation cuts the line outside comments.
+/// Returns whether a continuation cuts the line outside comments.
 fn is_continued_outside_comment(scan: &Scan<'_>) -> bool
     ensures { result ≡ is_continued_outside_comment (as_scan scan.now) }
 {
     scan.spliced && scan.comment == CommentAt::Outside
 }
 
-/// Whether a text is a nonempty run of word bytes that begins a keyword.
+/// Returns whether `text` is a nonempty run of word bytes that begins a keyword.
 fn is_keyword_prefix(text: &[u8]) -> bool
     ensures { result ≡ is_keyword_prefix text.now }
 {
@@ -118,7 +120,7 @@ fn is_keyword_prefix(text: &[u8]) -> bool
     }
 }
 
-/// The directive whose keyword stands after the `#` of a line, where the line is fresh.
+/// Parses the directive whose keyword follows the `#` of a line, if the line is fresh.
 #[inline(always)]
 fn parse_after_hash<'a>(scan: &Scan<'a>, behind: &'a [u8]) -> Option<Directive<'a>>
     requires { skip_hash_if_fresh scan.now.masked.now ≡ Some behind.now }

@@ -1,4 +1,4 @@
-//! The parts of what is printed of a line.
+//! The parts of the output for a line.
 
 ghost use Rattle.std.specs.Prelude.{◌≡◌, ◌≤◌, bytes_eq};
 ghost use Rattle.std.specs.List.{flat_map};
@@ -10,20 +10,21 @@ use crate::step::Step;
 use ud_model::Verdict;
 use ud_text::Line;
 
-/// What is printed of a line: at most five parts, to be written one after the other.
+/// The output for a line: at most five parts, to be written one after the other.
 ///
-/// The parts are lent by the line and by the printer.
+/// The parts are borrowed from the line and from the printer.
 #[derive(Drop)]
 pub struct Pieces<'a> {
-    /// The parts; the first `count` of them count.
+    /// The parts, of which only the first `count` are used.
     slices: [&'a [u8]; 5],
     count: usize,
     same: bool,
     ghost few: { count ≤ 5 },
 }
 
-/// What stands in place of a keyword of this length in a directive that becomes the first one of its section: `ifdef` for
-/// `elifdef`, `ifndef` for `elifndef`, else `if`, each with two spaces for the bytes that are lost.
+/// Returns what replaces a keyword of this length in a directive that becomes the first one of its
+/// section. It is `ifdef` for `elifdef`, `ifndef` for `elifndef`, and else `if`, each with two
+/// spaces for the bytes that are lost.
 fn opener_keyword<'a>(len: usize) -> &'a [u8]
     ensures { result.now ≡ opener_keyword len }
 {
@@ -41,7 +42,7 @@ impl<'a> Pieces<'a> {
     ghost use Rattle.ud_sections.specs.PieceParts.{concatenated, count_of, is_unchanged};
     ghost use Rattle.ud_sections.specs.StepViews.{as_span, HoldsKeyword};
 
-    /// The first `count` of these parts, printed in place of a line.
+    /// Creates the output for `line` from the first `count` of `slices`.
     #[inline(always)]
     fn new(slices: [&'a [u8]; 5], count: usize, line: &Line<'_>) -> Pieces<'a>
         requires few { count ≤ 5 }
@@ -58,7 +59,7 @@ impl<'a> Pieces<'a> {
         }
     }
 
-    /// A line as it is.
+    /// Creates the output for a line that is printed as it is.
     #[inline(always)]
     fn whole(line: &Line<'a>) -> Pieces<'a>
         ensures parts { concatenated result ≡ text_of (as_line line.now) }
@@ -73,7 +74,8 @@ impl<'a> Pieces<'a> {
         }
     }
 
-    /// What a line's step leaves of it by itself, with `blank` in place of a line that is removed.
+    /// Creates the output for a line by its step alone, with `blank` in place of a line that is
+    /// removed.
     #[inline(always)]
     pub(crate) fn for_line(line: &Line<'a>, step: Step, blank: &'a [u8]) -> Pieces<'a>
         requires keyword { HoldsKeyword step line.now }
@@ -103,7 +105,8 @@ impl<'a> Pieces<'a> {
         }
     }
 
-    /// These parts after another one, printed in place of a line. There must be room for it.
+    /// Prepends `first` to these parts, which are at most four. The result is printed in place of
+    /// `line`.
     pub(crate) fn prepend(self, first: &'a [u8], line: &Line<'_>) -> Pieces<'a>
         requires has_space { count_of self ≤ 4 }
         ensures parts { concatenated result ≡ first.now ++ concatenated self.entry }
@@ -115,7 +118,7 @@ impl<'a> Pieces<'a> {
         Pieces::new([first, a, b, c, d], self.count + 1, line)
     }
 
-    /// The parts, in order; at most five. Some may be empty.
+    /// Returns the parts in order, at most five. Some may be empty.
     pub fn parts(&self) -> &[&'a [u8]]
         ensures joined { flat_map (λ s. s.now) result.now ≡ concatenated self.now }
         ensures few { length result.now ≤ 5 }
@@ -123,7 +126,7 @@ impl<'a> Pieces<'a> {
         &self.slices[..self.count]
     }
 
-    /// Whether the parts joined are the line itself.
+    /// Returns whether the concatenated parts are the line itself.
     pub fn same(&self) -> bool
         ensures { result ≡ is_unchanged self.now }
     {
@@ -131,7 +134,7 @@ impl<'a> Pieces<'a> {
     }
 }
 
-/// Whether these parts joined are a line with its ending.
+/// Returns whether the concatenated parts are a line with its ending.
 #[inline(always)]
 fn equals_line(parts: &[&[u8]], line: &Line<'_>) -> bool
     ensures { result ≡ bytes_eq (flat_map (λ p. p.now) parts.now) (text_of (as_line line.now)) }

@@ -14,17 +14,17 @@ use ud_text::Line;
 /// One of the printers.
 #[derive(Drop)]
 pub enum Printer {
-    /// Removed lines are deleted.
+    /// Deletes removed lines.
     Deletes(Delete),
-    /// Removed lines are blanked.
+    /// Blanks removed lines.
     Blanks(Blank),
-    /// Removed lines are deleted, and numbers are put in.
+    /// Deletes removed lines, and inserts line numbers.
     Renumbers(Renumber),
-    /// Removed lines alone are printed.
+    /// Prints only removed lines.
     ComplementDeletes(Complement<Delete>),
-    /// Lines that would be kept are blanked.
+    /// Blanks lines that would be kept.
     ComplementBlanks(Complement<Blank>),
-    /// Removed lines alone are printed, and numbers are put in.
+    /// Prints only removed lines, and inserts line numbers.
     ComplementRenumbers(Complement<Renumber>),
 }
 
@@ -33,7 +33,8 @@ impl Printer {
     ghost use Rattle.ud_model.specs.answer.Printing.{Judged, piece_after, style_of};
     ghost use Rattle.ud_sections.specs.Printers.{printer_represents, printer_piece};
 
-    /// The printer for these settings, at the beginning of a text. Where removed lines are blanked, none is numbered.
+    /// Returns the printer for these settings, at the beginning of a text. If removed lines are
+    /// blanked, no line is numbered.
     pub fn of(settings: &Settings) -> Printer
         ensures represents { printer_represents result [] }
         ensures piece { (before : List Judged) → (j : Judged) →

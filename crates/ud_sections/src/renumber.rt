@@ -1,4 +1,4 @@
-//! Printing the numbers of lines after removed ones.
+//! A printer that numbers the lines after removed ones.
 
 ghost use Rattle.std.specs.Prelude.{◌≡◌, ◌+◌, ◌≤◌, ◌++◌, length};
 ghost use Rattle.ud_model.specs.answer.Printing.{number_line};
@@ -14,16 +14,16 @@ use itoa::Buffer;
 use ud_model::Verdict;
 use ud_text::Line;
 
-/// The most bytes of a `#line` directive: its keyword, a space, ten digits and an ending.
+/// The maximum length of a `#line` directive: its keyword, a space, ten digits and an ending.
 const NUMBER_LINE_BYTES: usize = 18;
 
-/// A printer by which removed lines are deleted, and a line after them has a `#line` with its own number in front
-/// (unifdef(1), `-n`; C11 6.10.4).
+/// A printer that deletes removed lines, and prints a `#line` with its own number before a line
+/// after them (unifdef(1), `-n`; C11 6.10.4).
 #[derive(Drop)]
 pub struct Renumber {
-    /// Whether the line before is removed.
+    /// The line before is removed.
     removed: bool,
-    /// The `#line` that was printed last.
+    /// The last `#line` that was printed.
     number_line: ArrayVec<u8, NUMBER_LINE_BYTES>,
 }
 
@@ -31,7 +31,7 @@ impl Renumber {
     ghost use Rattle.std.specs.Prelude.{[]};
     ghost use Rattle.ud_sections.specs.Styles.{renumber_represents};
 
-    /// The printer at the beginning of a text.
+    /// Creates the printer at the beginning of a text.
     pub fn new() -> Renumber
         ensures { renumber_represents result [] }
     {
@@ -75,7 +75,7 @@ impl Show for Renumber {
     }
 }
 
-/// Writes the `#line` that stands in front of a line after removed ones, in place of what was written before.
+/// Replaces `bytes` by the `#line` that precedes a line after removed ones.
 fn write_number_line(bytes: &mut ArrayVec<u8, NUMBER_LINE_BYTES>, line: &Line<'_>)
     ensures { bytes.new.items ≡ number_line (as_line line.now) }
 {

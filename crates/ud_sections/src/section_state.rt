@@ -1,4 +1,6 @@
-//! How far an open section is among its groups.
+//! The state of a section: what the conditions of its groups so far decide.
+//!
+//! `SectionState::next_group` is the table by which unifdef edits a section's directives.
 
 ghost use Rattle.std.specs.Prelude.{◌≡◌};
 ghost use Rattle.ud_model.specs.sections.Pruning.{first_kept_verdict, first_true_verdict};
@@ -8,7 +10,7 @@ ghost use Rattle.ud_sections.specs.SectionStates.{is_in_removed};
 
 use ud_model::{Cond, Verdict};
 
-/// What opens a group.
+/// A directive that opens a group.
 #[derive(Clone, Copy, PartialEq, Eq)]
 pub(crate) enum Part {
     /// `#if`, `#ifdef` or `#ifndef`.
@@ -19,27 +21,29 @@ pub(crate) enum Part {
     AnElse,
 }
 
-/// What the conditions of a section's groups so far tell of its last group and of what follows.
+/// The state of a section: what the conditions of its groups so far decide of its last group and of
+/// those that follow.
 #[derive(Clone, Copy, PartialEq, Eq)]
 pub(crate) enum SectionState {
-    /// The section lies in a removed place.
+    /// The section is in a removed place.
     InRemoved,
-    /// Each group is false.
+    /// All groups are false.
     NoneKept,
-    /// The first group that isn't false is the last one, and it is true: the directives go.
+    /// The last group is true, and all groups before it are false. The directives are removed.
     OnlyTrue,
-    /// An unknown group is kept, no true one has come, and the last group is unknown.
+    /// No group is true, and the last one is unknown, and so kept.
     LastUnknown,
-    /// As `LastUnknown`, but the last group is false.
+    /// No group is true, an earlier one is unknown, and so kept, and the last one is false.
     LastFalse,
-    /// After an unknown group the last one is the first that is true.
+    /// After an unknown group, the last one is the first that is true.
     LastTrue,
-    /// The first true group is past.
+    /// The first true group has ended.
     AfterTrue,
 }
 
 impl SectionState {
-    /// Before the first group of a section in a place that is kept or not.
+    /// Returns the state before the first group of a section. `kept` is whether the section is in a
+    /// kept place.
     pub(crate) fn new(kept: bool) -> SectionState
         ensures { result ≡ new_state kept }
     {
@@ -50,7 +54,7 @@ impl SectionState {
         }
     }
 
-    /// The table of a section: what becomes of the next group's opener, and the phase after it.
+    /// Returns the verdict of the next group's opener, and the state after it.
     #[inline(always)]
     pub(crate) fn next_group(self, part: Part, cond: Cond) -> (Verdict, SectionState)
         ensures verdict { result.0 ≡ opener_verdict_in self (part_of part) cond }
@@ -76,7 +80,7 @@ impl SectionState {
         }
     }
 
-    /// What becomes of the section's `#endif`.
+    /// Returns the verdict of the section's `#endif`.
     pub(crate) fn endif_verdict(self) -> Verdict
         ensures { result ≡ endif_verdict_in self }
     {
@@ -90,7 +94,7 @@ impl SectionState {
         }
     }
 
-    /// Whether the last group is kept.
+    /// Returns whether the last group is kept.
     pub(crate) fn is_kept(self) -> bool
         ensures { result ≡ is_kept_in self }
     {
@@ -103,7 +107,7 @@ impl SectionState {
         }
     }
 
-    /// Whether the section lies in a removed place.
+    /// Returns whether the section is in a removed place.
     pub(crate) fn is_in_removed(self) -> bool
         ensures { result ≡ is_in_removed self }
     {
@@ -111,7 +115,7 @@ impl SectionState {
     }
 }
 
-/// The verdict of the first kept opener.
+/// Returns the verdict of the first kept opener.
 fn first_kept_verdict(part: Part) -> Verdict
     ensures { result ≡ first_kept_verdict (part_of part) }
 {
@@ -121,7 +125,7 @@ fn first_kept_verdict(part: Part) -> Verdict
     }
 }
 
-/// The verdict of the opener of the first true group, if a group before it is kept.
+/// Returns the verdict of the opener of the first true group, if a group before it is kept.
 fn first_true_verdict(part: Part) -> Verdict
     ensures { result ≡ first_true_verdict (part_of part) }
 {

@@ -1,4 +1,7 @@
-//! Printers.
+//! The trait of printers.
+//!
+//! A new printer implements `Show`: its definition as `piece`, what it represents as `represents`,
+//! and `pieces`. A `line_output` of its own lets callers print lines without passing them.
 
 ghost use Rattle.std.specs.Prelude.{◌≡◌, List, [], ◌∷◌, ◌++◌, bytes_eq, ℕ};
 ghost use Rattle.std.specs.Borrow.{sem};
@@ -17,18 +20,20 @@ use crate::step::Step;
 use ud_model::Verdict;
 use ud_text::Line;
 
-/// A printer: it is given the lines of a text in order, each with its step, and says what is printed of each.
+/// A printer: gets each line in order with its step, and returns what to print for it.
 ///
-/// The law: over any list of lines and steps, the pieces of each line are those that the printer's definition gives
-/// from that list. A printer stands for the lines that it was given so far, and `pieces` adds one.
+/// The law: for any list of lines and steps, the pieces of each line are those that the printer's
+/// definition gives for that list. A printer represents the lines that it got so far, and `pieces`
+/// adds one.
 pub trait Show: Drop {
-    /// The printer was given these lines.
+    /// The printer has got these lines.
     ghost represents: { Self → List Judged → Type 0 };
 
-    /// The printer's definition: what is printed of a line after others. It never changes.
+    /// The printer's definition: the output for a line after others. It never changes.
     ghost piece: { Self → List Judged → Judged → List ℕ };
 
-    /// What is printed of the next line. A directive that is edited has its keyword in the line's body.
+    /// Returns what to print for the next line. A directive that is edited has its keyword in the
+    /// line's body.
     fn pieces<'a>(&'a mut self, line: &Line<'a>, step: Step) -> Pieces<'a>
         requires keyword { HoldsKeyword step line.now }
         ensures parts { (before : List Judged) → represents self.old before →
@@ -41,8 +46,8 @@ pub trait Show: Drop {
             × ((before : List Judged) (j : Judged) →
             piece new before j ≡ piece self.entry.now before j))) };
 
-    /// What is printed of the next line, if it has this verdict. If that is told, the line needn't be given then: the printer
-    /// stands for it too, as it is.
+    /// Returns what to print for the next line if it has this verdict. If the result is not
+    /// `Parts`, the line needn't be passed: the printer represents it too, unchanged.
     fn line_output(&self, verdict: Verdict) -> LineOutput
         ensures line_output { GivesLineOutput (represents self.now) (piece self.now) verdict
             result }
@@ -50,8 +55,9 @@ pub trait Show: Drop {
         LineOutput::Parts
     }
 
-    /// What is printed of the next lines, as many as come, if all of them are text with this verdict. They needn't be
-    /// given then: the printer stands for them as it is.
+    /// Returns what to print for any number of next lines if all of them are text with this
+    /// verdict. If the result is not `OneByOne`, the lines needn't be passed: the printer
+    /// represents them too, unchanged.
     fn bulk_output(&self, verdict: Verdict) -> BulkOutput
         ensures bulk_output { GivesBulkOutput (represents self.now) (piece self.now) verdict
             result }

@@ -1,21 +1,21 @@
-//! What becomes of a line, and where its directive stands.
+//! The decision on a line, and the span of its keyword.
 
 use ud_model::Verdict;
 
-/// A place in a line's body, in bytes.
+/// A range of bytes in a line's body.
 #[derive(Clone, Copy, Debug, PartialEq, Eq)]
 pub struct Span {
-    /// How many bytes stand before it.
+    /// The number of bytes before it.
     pub at: usize,
-    /// How many bytes it has.
+    /// Its length in bytes.
     pub len: usize,
 }
 
-/// What becomes of a line.
+/// The decision on a line.
 #[derive(Clone, Copy, Debug, PartialEq, Eq)]
 pub struct Step {
-    /// Whether the line is kept, removed, or kept as another directive.
+    /// The verdict: the line is kept, removed, or kept as another directive.
     pub verdict: Verdict,
-    /// Where the keyword of its directive lies in its body; 0 and 0 for a text line.
+    /// The span of its directive's keyword in the body; 0 and 0 for a text line.
     pub keyword: Span,
 }

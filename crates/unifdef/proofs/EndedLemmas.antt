@@ -1,4 +1,4 @@
--- Ended: from how a run went to how the tool ended.
+-- EndedLemmas: from how a run ended to how the tool ended.
 use Rattle.std.proofs.Common.{◌≡◌, ℕ, List, Bool, true, false, not, ◌||◌, Option, Result, Ok, Err, refl}
 use Rattle.std.specs.Io.KnownBytes.{Keeps}
 use Rattle.ud_model.specs.text.Lines.{Line}
@@ -26,7 +26,7 @@ module _ (o : Options) (given : List ℕ) (left uo um un : Option (List ℕ)) (k
   found_kept : (f : Fault) → StoppedAtFault o given left uo um f → StoppedAtFault o given left uo un f
   found_kept f h = record { outcome = h.outcome; runs = h.runs; fault = h.fault; appended = appends_kept uo um un h.outcome.output h.appended keeps }
 
-  -- what was written stays so after a flush
+  -- what was written stays written after a flush
   ends_kept : (r : Result Bool RunFault) → EndsWith o given left uo um r → EndsWith o given left uo un r
   ends_kept (Ok differs) h = (
     h.0,
@@ -37,7 +37,7 @@ module _ (o : Options) (given : List ℕ) (left uo um un : Option (List ℕ)) (k
   ends_kept (Err Read) h = record { outcome = h.outcome; runs = h.runs; right = h.right; appended = appends_kept uo um un h.outcome.output h.appended keeps }
   ends_kept (Err Write) h = cut_kept h
 
--- how a run went stays so after a flush
+-- the end of a run is the same after a flush
 pub flushed_went : (o : Options) (read_old read_new uo um un : Option (List ℕ)) (r : Result Bool RunFault) → RunEnded o read_old read_new uo um r → Keeps um un → RunEnded o read_old read_new uo un r
 flushed_went o read_old read_new uo um un r w keeps = record {
   given = w.given;
@@ -45,7 +45,7 @@ flushed_went o read_old read_new uo um un r w keeps = record {
   ends = ends_kept o w.given read_new uo um un keeps r w.ends;
 }
 
--- a reader has failed exactly if a read error is answered
+-- a reader has failed exactly if the run returned a read error
 pub read_told : (failed : Bool) (r : Result Bool RunFault) → (failed ≡ true → r ≡ Err Read) → (r ≡ Err Read → failed ≡ true) → failed ≡ is_read_error r
 read_told failed (Err Read) only if_so = if_so refl
 read_told true (Ok differs) only if_so = let no = only refl in cc
@@ -57,7 +57,7 @@ read_told false (Err (Text f)) only if_so = refl
 read_told false (Err (Section f)) only if_so = refl
 read_told false (Err Write) only if_so = refl
 
--- the output has failed before the flush exactly if a write error is answered
+-- the output has failed before the flush exactly if the run returned a write error
 wrote_told : (failed : Bool) (r : Result Bool RunFault) → (failed ≡ true → r ≡ Err Write) → (r ≡ Err Write → failed ≡ true) → failed ≡ is_write_error r
 wrote_told failed (Err Write) only if_so = if_so refl
 wrote_told true (Ok differs) only if_so = let no = only refl in cc
@@ -73,7 +73,7 @@ after_flush : (mid wrote new flushed : Bool) → mid ≡ wrote → (mid ≡ fals
 after_flush mid true new flushed e fails again = again e
 after_flush mid false new flushed e fails again = fails e
 
--- after the flush it has failed exactly if a write failed, or the flush
+-- after the flush, the output has failed exactly if a write failed, or the flush
 pub write_told : (mid new flushed : Bool) (r : Result Bool RunFault) → (mid ≡ true → r ≡ Err Write) → (r ≡ Err Write → mid ≡ true) →
     (mid ≡ false → new ≡ not flushed) → (mid ≡ true → new ≡ true) → new ≡ (is_write_error r || not flushed)
 write_told mid new flushed r only if_so fails again = after_flush mid (is_write_error r) new flushed (wrote_told mid r only if_so) fails again

@@ -1,4 +1,4 @@
--- Headline: from what a run answered to the answer of the definitions.
+-- HeadlineLemmas: from the result of a run to the definitions' answer.
 use Rattle.std.proofs.Common.{◌≡◌, ℕ, List, ◌++◌, Bool, true, false, not, Option, Some, None, Result, Ok, Err, refl, sym, ◌∙◌, ap, subst, ◌⊎◌, inl, inr}
 use Rattle.std.specs.Prelude.{IfSome}
 use Rattle.std.proofs.lemmas.Option.{IfSome_then, none-some}
@@ -24,7 +24,7 @@ use Rattle.ud_diagnostics.specs.UsageMessages.{usage_text}
 use Rattle.ud_diagnostics.specs.RunMessages.{final_result, result_message, result_status}
 use Rattle.unifdef.proofs.RefusalLemmas.{TellsFault, tells-IsUsageOf}
 
--- what is told of how a run ended is what the definitions tell of its outcome
+-- the message and the status of the end of a run are those of its outcome
 record TellsOutcome (name : List ℕ) (s : Settings) (ended : Result Bool RunFault) (r : Outcome) : Type 0 where
   message : result_message name ended ≡ message_or_none name r.fault
   status : result_status s ended ≡ status_of s r.differs r.fault
@@ -45,7 +45,7 @@ tells_outcome name s (Err (Section f)) r h = record {
 tells_outcome name s (Err Read) r h = absurd (h.1 h.0)
 tells_outcome name s (Err Write) r h = absurd (h.1 h.0)
 
--- a run that ended so gave the answer of the definitions
+-- a run with this end gave the definitions' answer
 pub run_answers : (args : List (List ℕ)) (input : List ℕ) (ended : Result Bool RunFault) (uo um un : Option (List ℕ)) (e : Bool) (eo en : Option (List ℕ)) (s : ℕ) →
     usage_fault args ≡ None → RunAnswers (options_of args) input uo um ended → Keeps um un →
     AppendsAllOrPrefix e eo en (result_message (display_name args) ended) → s ≡ result_status (options_of args).settings ended →
@@ -61,19 +61,19 @@ run_answers args input ended uo um un e eo en s right r keeps said status =
       },
     )
 
--- a flush that leaves a stream that hasn't failed has changed no answer
+-- a flush after which the stream hasn't failed changes no result
 flushed_well : (mid new flushed : Bool) (answer : Result Bool RunFault) → (mid ≡ false → new ≡ not flushed) → mid ≡ false → new ≡ false → final_result answer flushed ≡ answer
 flushed_well mid new true (Ok differs) after works stays = refl
 flushed_well mid new true (Err f) after works stays = refl
 flushed_well mid new false (Ok differs) after works stays = let clash : true ≡ false = sym (after works) ∙ stays in cc
 flushed_well mid new false (Err f) after works stays = refl
 
--- if the stream hasn't failed after a flush, it hadn't before
+-- if the stream hasn't failed after a flush, it hadn't failed before
 worked : (mid new : Bool) → (mid ≡ true → new ≡ true) → new ≡ false → mid ≡ false
 worked true new again stays = let clash : true ≡ false = sym (again refl) ∙ stays in cc
 worked false new again stays = refl
 
--- the output was flushed, and neither reading nor writing failed: the answer is that of the definitions
+-- if the output was flushed, and no read and no write failed, the answer is that of the definitions
 pub flushed_answers : (args : List (List ℕ)) (before : Option (List ℕ)) (answer : Result Bool RunFault) (mid new flushed : Bool) (uo um un : Option (List ℕ)) (e : Bool) (eo en : Option (List ℕ)) (s : ℕ) →
     usage_fault args ≡ None → (mid ≡ false → IfSome before (λ input. RunAnswers (options_of args) input uo um answer)) → Keeps um un →
     (mid ≡ false → new ≡ not flushed) → (mid ≡ true → new ≡ true) → new ≡ false →
@@ -87,7 +87,7 @@ flushed_answers args before answer mid new flushed uo um un e eo en s right ran_
     (subst (λ (a : Result Bool RunFault). AppendsAllOrPrefix e eo en (result_message (display_name args) a)) same said)
     (status ∙ ap (result_status (options_of args).settings) same))
 
--- what was kept up with stays so after a flush
+-- the output lags no more after a flush
 pub flushed_kept_up : (o : Options) (read_old read_new uo um un : Option (List ℕ)) → LagsOneRead o read_old read_new uo um → Keeps um un → LagsOneRead o read_old read_new uo un
 flushed_kept_up o read_old read_new uo um un k keeps = record {
   given = k.given;
@@ -99,7 +99,8 @@ flushed_kept_up o read_old read_new uo um un k keeps = record {
   appended = appends_kept uo um un (k.outcome.output ++ k.more) k.appended keeps;
 }
 
--- a failed write, or a failed flush after a run without a fault, ends in a write error; after a fault the fault stays
+-- A failed write ends in a write error, and so does a failed flush after a run without a fault.
+-- After a fault, the fault stays.
 data EndsFailed (answer : Result Bool RunFault) (mid flushed : Bool) : Type 0 where
   by_write : final_result answer flushed ≡ Err Write → EndsFailed answer mid flushed
   by_fault : mid ≡ false → final_result answer flushed ≡ answer → EndsFailed answer mid flushed
@@ -110,7 +111,7 @@ ends_failed (Err f) false new flushed wrote after fails = by_fault refl refl
 ends_failed (Ok differs) false new true wrote after fails = let clash : true ≡ false = sym fails ∙ after refl in cc
 ends_failed (Ok differs) false new false wrote after fails = by_write refl
 
--- if writing or the flush failed, that is told, or the fault before it
+-- if a write or the flush failed, that is reported, or the fault before it
 pub failed_told : (args : List (List ℕ)) (before : Option (List ℕ)) (answer : Result Bool RunFault) (mid new flushed : Bool) (uo um un : Option (List ℕ)) (e : Bool) (eo en : Option (List ℕ)) (s : ℕ) →
     usage_fault args ≡ None → (mid ≡ false → IfSome before (λ input. RunAnswers (options_of args) input uo um answer)) → Keeps um un →
     (mid ≡ true → answer ≡ Err Write) → (mid ≡ false → new ≡ not flushed) → new ≡ true →
@@ -132,7 +133,7 @@ failed_told args before answer mid new flushed uo um un e eo en s right ran_so k
         (subst (λ (a : Result Bool RunFault). AppendsAllOrPrefix e eo en (result_message (display_name args) a)) same said)
         (status ∙ ap (result_status (options_of args).settings) same)))
 
--- and its status is 2
+-- after a failed write or flush, the status is 2
 pub failed_status : (s : Settings) (answer : Result Bool RunFault) (mid new flushed : Bool) →
     (mid ≡ true → answer ≡ Err Write) → (mid ≡ false → new ≡ not flushed) → new ≡ true → result_status s (final_result answer flushed) ≡ 2
 failed_status s answer true new flushed wrote after fails = ap (λ (a : Result Bool RunFault). result_status s (final_result a flushed)) (wrote refl)
@@ -140,7 +141,8 @@ failed_status s (Err f) false new flushed wrote after fails = refl
 failed_status s (Ok differs) false new true wrote after fails = let clash : true ≡ false = sym fails ∙ after refl in cc
 failed_status s (Ok differs) false new false wrote after fails = refl
 
--- memory for a symbol was refused, and so it was told; nothing is read, and nothing written to `out`
+-- memory for a symbol couldn't be allocated, and that was reported: nothing is read, and nothing
+-- written to `out`
 memory_refused : {R W : Type 0} (args : List (List ℕ)) (u : Usage) (reader : WatchedState R) (out : WatchedState W) (uo : Option (List ℕ)) (e : Bool) (eo en : Option (List ℕ)) (s : ℕ) →
     StoresSymbol (parsed_args args) → usage_text u ≡ memory_answer.message → AppendsAllOrPrefix e eo en (usage_text u) → s ≡ 2 →
     FailsForMemory args reader reader out out (streams uo eo) (streams uo en) e s
@@ -155,7 +157,7 @@ memory_refused args u reader out uo e eo en s asked text said status = record {
   };
 }
 
--- so it is if the words are refused and have no fault
+-- if arguments without a fault are rejected, memory for a symbol couldn't be allocated
 pub lacks_memory : {R W : Type 0} (args : List (List ℕ)) (u : Usage) (reader : WatchedState R) (out : WatchedState W) (uo : Option (List ℕ)) (e : Bool) (eo en : Option (List ℕ)) (s : ℕ) →
     usage_fault args ≡ None → IsUsageOf (parsed_args args) u → AppendsAllOrPrefix e eo en (usage_text u) → s ≡ 2 →
     FailsForMemory args reader reader out out (streams uo eo) (streams uo en) e s
@@ -166,7 +168,8 @@ lacks_memory args u reader out uo e eo en s right wrong said status = by_case (t
     by_case (inl t) = absurd (none-some t.told (sym right ∙ t.is))
     by_case (inr t) = memory_refused args u reader out uo e eo en s t.0 t.1 said status
 
--- the words have a fault, or memory for a symbol was refused; nothing is read, and nothing written to `out`
+-- rejected arguments have a fault, or memory for a symbol couldn't be allocated: nothing is read,
+-- and nothing written to `out`
 pub usage_answers : {R W : Type 0} (args : List (List ℕ)) (u : Usage) (reader : WatchedState R) (out : WatchedState W) (before uo : Option (List ℕ)) (e : Bool) (eo en : Option (List ℕ)) (s : ℕ) →
     IsUsageOf (parsed_args args) u → AppendsAllOrPrefix e eo en (usage_text u) → s ≡ 2 →
     IfSome before (λ input. AnswersSpec args input (streams uo eo) (streams uo en) e s

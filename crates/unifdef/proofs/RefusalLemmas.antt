@@ -1,4 +1,4 @@
--- What is told of the words of a command line, and what it tells.
+-- Faults of the arguments, and the messages that report them.
 use Rattle.std.proofs.Common.{◌≡◌, ◌⊎◌, ◌∙◌, inl, inr, refl, sym, ap, subst, ℕ, List, Bool, true, false, Option, Some, None}
 use Rattle.std.specs.Prelude.{IfSome, IsSome}
 use Rattle.std.proofs.lemmas.Option.{none-some, same_Some}
@@ -11,13 +11,14 @@ use Rattle.ud_args.specs.ParsedSettings.{IsUsageOf}
 use Rattle.ud_args.specs.declared.usage.Usage.{Usage}
 use Rattle.ud_args.specs.declared.usage.Usage.TheVariants.{UnknownOption, MissingArgument, BadSymbol, BadMode, TooManyFiles, OutOfMemory}
 
--- the words have this fault, and the text is its message
+-- the arguments have this fault, and the text is its message
 pub record TellsFault (fault : Option UsageFault) (u : Usage) : Type 0 where
   pub told : UsageFault
   pub is : fault ≡ Some told
   pub text : usage_text u ≡ usage_message told
 
--- what a plan answers is a fault of the words, told by its message, or memory for a symbol was refused
+-- an error of `plan` is a fault of the arguments with its message, or memory for a symbol couldn't
+-- be allocated
 pub tells-IsUsageOf : (gs : List ParsedArg) (u : Usage) → IsUsageOf gs u → TellsFault (first_fault gs) u ⊎ (StoresSymbol gs × (usage_text u ≡ out_of_memory))
 tells-IsUsageOf gs (UnknownOption letter) h = inl (record { told = unknown_option letter; is = h; text = refl })
 tells-IsUsageOf gs (MissingArgument letter) h = inl (record { told = missing_argument letter; is = h; text = refl })
@@ -26,7 +27,7 @@ tells-IsUsageOf gs (BadMode word) h = inl (record { told = bad_mode_in word; is 
 tells-IsUsageOf gs TooManyFiles h = inl (record { told = too_many_files; is = h; text = refl })
 tells-IsUsageOf gs OutOfMemory h = inr (h, refl)
 
--- at the first fault of what is given the refusal tells that fault, or that memory for a symbol was refused
+-- the first fault of the arguments is reported, or that memory for a symbol couldn't be allocated
 pub tells_usage : (gs : List ParsedArg) (u : Usage) (first : Option UsageFault) (e : Bool) (eo en : Option (List ℕ)) (s : ℕ) →
     first_fault gs ≡ first → IsUsageOf gs u → AppendsAllOrPrefix e eo en (usage_text u) → s ≡ 2 → IfSome first (λ fault. ReportsUsage gs fault e eo en s)
 tells_usage gs u None e eo en s is wrong said status = tt
@@ -38,17 +39,16 @@ tells_usage gs u (Some fault) e eo en s is wrong said status = by_case (tells-Is
         record { message = inl (subst (λ (x : List ℕ). AppendsAllOrPrefix e eo en x) (t.text ∙ ap usage_message same) said); answered = status }
     by_case (inr t) = record { message = inr (t.0, subst (λ (x : List ℕ). AppendsAllOrPrefix e eo en x) t.1 said); answered = status }
 
--- where there is no fault, none has to be told
+-- without a fault, none has to be reported
 pub none_told : {X : Type 0} (o : Option X) (P : X → Type 0) → o ≡ None → IfSome o P
 none_told None P e = tt
 none_told (Some x) P e = absurd (none-some x (sym e))
 
--- where there is no fault, there isn't one
+-- without a fault, none is found
 pub none_found : {X : Type 0} (o : Option X) → o ≡ None → IsSome o → ⊥
 none_found None e found = cc
 none_found (Some x) e found = none-some x (sym e)
 
--- what works hasn't failed
 pub works_fails : (failed : Bool) → failed ≡ false → failed ≡ true → ⊥
 works_fails true works fails = cc
 works_fails false works fails = cc

@@ -1,7 +1,7 @@
 -- ToolEnded: how the tool ended, whatever failed.
 --
---   is_read_error r, is_write_error r   a run answered this because a read failed, or a write
---   ToolEnded words .. status           so the run went, its output was flushed or couldn't be, and this was told of it and given back
+--   is_read_error r, is_write_error r   the run returned `r` since a read, or a write, failed
+--   ToolEnded args .. status            the end of a run and its flush, as it was reported
 use Rattle.std.specs.Prelude.{◌≡◌, ℕ, List, Bool, true, false, not, ◌||◌, Option, Result, Ok, Err}
 use Rattle.ud_model.specs.answer.CommandLine.{options_of, display_name}
 use Rattle.ud_engine.specs.declared.fault.RunFault.{RunFault}
@@ -11,7 +11,7 @@ use Rattle.ud_io.specs.Watched.{AppendsAllOrPrefix}
 use Rattle.unifdef.specs.ToolAnswer.{Streams}
 use Rattle.ud_diagnostics.specs.RunMessages.{final_result, result_message, result_status}
 
--- a read failed
+-- `is_read_error r`: the run returned `r` because a read failed.
 abbrev pub is_read_error : Result Bool RunFault → Bool
 is_read_error (Ok differs) = false
 is_read_error (Err (Text f)) = false
@@ -19,7 +19,7 @@ is_read_error (Err (Section f)) = false
 is_read_error (Err Read) = true
 is_read_error (Err Write) = false
 
--- a write failed
+-- `is_write_error r`: the run returned `r` because a write failed.
 abbrev pub is_write_error : Result Bool RunFault → Bool
 is_write_error (Ok differs) = false
 is_write_error (Err (Text f)) = false
@@ -27,8 +27,11 @@ is_write_error (Err (Section f)) = false
 is_write_error (Err Read) = false
 is_write_error (Err Write) = true
 
--- A run went so, and its output was flushed, or couldn't be: a failed flush is a failed write if the run had no fault, and changes
--- nothing else. The reader failed if a read did, and the output if a write or the flush did. This was told of it, and given back.
+-- `ToolEnded args reader_failed out_failed read_old read_new before after err_failed status`: a run
+-- of `args` ended with `ran`, and then its output was flushed, or the flush failed. A failed flush
+-- is a failed write if the run had no fault, and changes nothing else. The reader has failed if a
+-- read did, and the output if a write or the flush did. The message and the status are those of
+-- this end.
 pub record ToolEnded (args : List (List ℕ)) (reader_failed out_failed : Bool)
     (read_old read_new : Option (List ℕ)) (before after : Streams)
     (err_failed : Bool) (status : ℕ) : Type 0 where

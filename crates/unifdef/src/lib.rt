@@ -1,17 +1,20 @@
-//! The tool as a library: unifdef(1) over a reader and two writers.
+//! unifdef(1) as a library, over a reader and two writers.
 //!
-//! `tool` is the whole of it. Its words are read by ud_args, and ud_engine runs over the text and writes what is left of
-//! it; ud_diagnostics tells what is wrong with either, and how it all ends.
-//! What ud_args and ud_engine offer to callers that hold a text in pieces is offered here too:
+//! `tool` is the whole tool. ud_args parses its arguments, ud_engine processes the text and writes
+//! the output, and ud_diagnostics reports errors and returns the exit status. For callers that have
+//! a text in chunks, this crate also exports parts of ud_args and ud_engine:
 //!
-//! - `plan` reads words, and refuses them as the program does (`Usage`); `input_of` tells which of them names the input.
-//! - `run` feeds a whole reader to the engine of a `Plan`, and writes what is left to a writer. Its answer is whether some
-//!   line is printed otherwise than it is, or why it ended early (`RunFault`).
-//! - `Engine` is fed piece by piece, and prints by any `Show` of ud_sections. After each `feed` what is left of the whole
-//!   lines so far is written.
-//! - `Watched` holds a reader or a writer, and remembers whether a call of it has failed.
+//! - `plan` parses arguments, and fails where the program does (`Usage`). `input_of` returns which
+//!   argument names the input.
+//! - `run` feeds a whole reader to the engine of a `Plan`, and writes the output to a writer. The
+//!   result is whether some line is printed otherwise than it is, or why the run ended early
+//!   (`RunFault`).
+//! - `Engine` is fed chunk by chunk, and prints by any `Show` of ud_sections. Each `feed` writes
+//!   the output for the whole lines so far before it returns.
+//! - `Watched` wraps a reader or a writer, and records whether a call of it has failed.
 //!
-//! None of them takes memory but `plan`, and with it `tool`: that of the symbols. docs/LIBRARY.md has examples.
+//! Only `plan`, and with it `tool`, needs memory: that of the symbols. docs/LIBRARY.md has
+//! examples.
 #![tactic(auto)]
 
 mod running;

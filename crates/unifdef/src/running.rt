@@ -1,4 +1,4 @@
-//! The tool: words, a text, what is left of it, and what is said of it.
+//! The tool: from arguments and an input to an output, a message and an exit status.
 
 ghost use Rattle.std.specs.Prelude.{◌≡◌, ◌⊎◌, map, string_bytes, false, true, None, IfSome, IsSome};
 ghost use Rattle.ud_model.specs.answer.CommandLine.{parsed_args, usage_fault, options_of};
@@ -16,23 +16,32 @@ use ud_args::{display_name, plan};
 use ud_diagnostics::{EXIT_TROUBLE, final_result, report_result, report_usage};
 use ud_engine::{Watched, run};
 
-/// Runs unifdef(1): reads the words, and the text from `reader`; prints what is left of it to `out`, and what is wrong
-/// with either to `err`; and answers the status.
+/// Runs unifdef(1): parses `args`, reads the text from `reader`, writes the output to `out` and
+/// errors to `err`, and returns the exit status.
 ///
-/// The words don't include the program's name; the operand's file is the caller's to open (`input_of`), and messages
-/// call the input by the operand, or `stdin`. Lines are told from 1, words too. Memory is taken for the symbols of the
-/// words alone. Of the text one line is held, of at most `LINE_BYTES`, and what its at most `OPEN_SECTIONS` open sections say;
-/// what is left of it is written piece by piece, as `run` of ud_engine does.
+/// `args` excludes the program's name. The operand's file is the caller's to open (`input_of`).
+/// Messages name the input by the operand, or `stdin`. Lines and arguments count from 1.
 ///
-/// If memory isn't refused and neither `reader` nor `out` fails, what is appended to `out` and to `err` and the
-/// status are those of the one answer of the definitions (ud_model, specs/answer/Answer.antt). `out` is flushed once at the end
-/// of a run.
+/// Only the symbols of the arguments need memory. Of the text, one line of at most `LINE_BYTES` is
+/// buffered, and the state of at most `OPEN_SECTIONS` open sections. The output is written chunk by
+/// chunk, as `run` of ud_engine does.
+///
+/// The definitions give exactly one answer to the arguments and an input (ud_model,
+/// `Answer.IsAnswer`). If memory suffices and neither `reader` nor `out` fails, the bytes appended
+/// to `out` and `err` and the exit status are those of that answer. `out` is flushed once, at the
+/// end of a run.
 ///
 /// # Errors
-/// The status is 2, and `err` has one message, in all these cases: a fault of the words, or memory for a symbol is refused,
-/// and nothing is read or written to `out`; a fault of the text, after what is left of the lines before; a read fails,
-/// after what is left of the whole lines that came before; a write fails; the flush fails after a run without a fault.
-/// If `err` fails, the message may be cut, and the status stays.
+/// The status is 2, and `err` gets one message, in each of these cases:
+///
+/// - The arguments have a fault, or memory for a symbol can't be allocated. Nothing was read, and
+///   nothing was written to `out`.
+/// - The text has a fault. The output for the lines before it was written.
+/// - A read fails. The output for the whole lines that came before was written.
+/// - A write fails.
+/// - The flush fails after a run without a fault.
+///
+/// If `err` fails, the message may be truncated, and the status is unchanged.
 pub fn tool<R: Read, W: Write, E: Write>(
     alloc: Global,
     args: &[String],
@@ -43,8 +52,8 @@ pub fn tool<R: Read, W: Write, E: Write>(
     requires reader { reader.old.failed ≡ false }
     requires out { out.old.failed ≡ false }
     requires err { err.old.failed ≡ false }
-    // If neither reading nor writing fails, this is the definition's answer, or memory for a symbol was refused, before
-    // anything was read or written.
+    // If no read and no write fails, the result is the definitions' answer. Or memory for a symbol
+    // couldn't be allocated, before anything was read or written.
     ensures answer { let before : Streams =
         streams (W.contents out.old.inner) (E.contents err.old.inner) in
         let after : Streams = streams (W.contents out.new.inner) (E.contents err.new.inner) in
@@ -53,7 +62,7 @@ pub fn tool<R: Read, W: Write, E: Write>(
         AnswersSpec (map string_bytes args.now) input before after err.new.failed result
         ⊎ FailsForMemory (map string_bytes args.now) reader.old reader.new out.old out.new before
         after err.new.failed result) }
-    // However the run ends, what is left of all that came before the last piece is written.
+    // However the run ends, the output for all that came before the last read is written.
     ensures lag { let before : Streams =
         streams (W.contents out.old.inner) (E.contents err.old.inner) in
         let after : Streams = streams (W.contents out.new.inner) (E.contents err.new.inner) in
@@ -63,8 +72,8 @@ pub fn tool<R: Read, W: Write, E: Write>(
         (W.contents out.old.inner) (W.contents out.new.inner)
         ⊎ FailsForMemory (map string_bytes args.now) reader.old reader.new out.old out.new before
         after err.new.failed result }
-    // However it ends, with streams that tell their bytes or don't: what was written goes with what was read, and the message and
-    // the status with why it ended.
+    // However the run ends, and whether or not the streams report their contents: the output goes
+    // with what was read, and the message and the status with why the run ended.
     ensures ended { let before : Streams =
         streams (W.contents out.old.inner) (E.contents err.old.inner) in
         let after : Streams = streams (W.contents out.new.inner) (E.contents err.new.inner) in
@@ -74,17 +83,17 @@ pub fn tool<R: Read, W: Write, E: Write>(
         before after err.new.failed result
         ⊎ FailsForMemory (map string_bytes args.now) reader.old reader.new out.old out.new before
         after err.new.failed result }
-    // At a fault of the words nothing is read, nothing is done with `out`, and the fault is told, or that memory for a
-    // symbol before it was refused.
+    // If the arguments have a fault, nothing is read, and nothing is done with `out`. That fault is
+    // reported, or that memory for a symbol before it couldn't be allocated.
     ensures untouched { IsSome (usage_fault (map string_bytes args.now)) →
         (reader.new ≡ reader.old) × (out.new ≡ out.old) }
     ensures refused { IfSome (usage_fault (map string_bytes args.now)) (λ fault.
         ReportsUsage (parsed_args (map string_bytes args.now)) fault err.new.failed
         (E.contents err.old.inner) (E.contents err.new.inner) result) }
-    // A failing read or write has status 2.
+    // If a read or a write fails, the status is 2.
     ensures read_fails { reader.new.failed ≡ true → result ≡ 2 }
     ensures write_fails { out.new.failed ≡ true → result ≡ 2 }
-    // And it is told; only if the flush alone failed, after a fault, that fault is.
+    // That failure is reported. Only if the flush alone failed, after a fault, that fault is.
     ensures read_told { reader.new.failed ≡ true →
         AppendsAllOrPrefix err.new.failed (E.contents err.old.inner) (E.contents err.new.inner)
         (read_error (display_name (map string_bytes args.now))) }

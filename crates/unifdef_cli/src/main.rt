@@ -1,7 +1,7 @@
 //! unifdef(1): removes preprocessor conditionals from C source.
 //!
-//! The tool itself is the library `unifdef`; this program hands it its words, the file that they name or standard input,
-//! and the standard streams.
+//! The tool itself is the library `unifdef`. This program passes it the arguments, the file that
+//! they name or standard input, and the standard streams.
 #![tactic(auto)]
 
 use std::alloc::AllocError;
@@ -11,7 +11,7 @@ use std::process::ExitCode;
 use std::{env, io};
 use unifdef::{Watched, input_of, tool};
 
-/// The status of a fault.
+/// The exit status of a fault.
 const TROUBLE: u8 = 2;
 
 fn main(rt: HostRuntime) -> ExitCode {
@@ -31,7 +31,7 @@ fn main(rt: HostRuntime) -> ExitCode {
     }
 }
 
-/// The file that the words name, if they name one.
+/// Returns the name of the input file, if the arguments name one.
 fn file_name(words: &[String]) -> Option<&str> {
     let place = input_of(words)?;
     Some(words.get(place)?.as_str())
@@ -45,7 +45,7 @@ fn run<R: Read + Drop>(rt: &HostRuntime, words: &[String], reader: R) -> ExitCod
     ExitCode::from(tool(rt.alloc(), words, &mut reader, &mut out, &mut err))
 }
 
-/// The words after the program's name.
+/// Returns the arguments after the program's name.
 fn words(rt: &HostRuntime) -> io::Result<Vec<String>> {
     let mut words = Vec::new(rt.alloc());
     for word in env::args(rt)?.skip(1) {

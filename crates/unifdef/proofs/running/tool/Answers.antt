@@ -11,14 +11,14 @@ use Rattle.unifdef.proofs.RefusalLemmas.{tells_usage, none_told, none_found, wor
 use Rattle.unifdef.proofs.running.tool.Goals as goal
 use Rattle.unifdef.proofs.running.tool.Given.{Over}
 
--- what was told is of the words' input, and of how the run and the flush ended
+-- the message names the input of the arguments, and reports how the run and the flush ended
 message_is : (g : Over) (c : goal.After-drop-plan-inside g) →
     AppendsAllOrPrefix c.report_result.new.err.failed (g.E.Write.contents c.args.err.now.inner) (g.E.Write.contents c.report_result.new.err.inner)
     (result_message (display_name (map string_bytes c.args.args.now)) (final_result c.run-ran.result c.flush-flushed.result))
 message_is g c =
     all_or_prefix_same c.report_result.new.err.failed _ _ _ _ (ap₂ result_message (c.display_name.ensures c.in-Ok.ensures.ok.right) c.final_result-ended.ensures) c.report_result.ensures.message
 
--- and so is the status
+-- the status is that of this end, too
 status_is : (g : Over) (c : goal.After-drop-plan-inside g) →
     c.report_result.result ≡ result_status (options_of (map string_bytes c.args.args.now)).settings (final_result c.run-ran.result c.flush-flushed.result)
 status_is g c = c.report_result.ensures.status ∙ ap₂ result_status (c.settings.ensures ∙ c.in-Ok.ensures.ok.said) c.final_result-ended.ensures
@@ -64,7 +64,7 @@ returns-in-Ok-clause-write_told g c = λ fails read_works.
     (c.run-ran.ensures.ran (options_of (map string_bytes c.args.args.now)) (sym c.in-Ok.ensures.ok.said) c.in-Ok.ensures.ok.stands read_works)
     c.flush-flushed.ensures.unchanged c.run-ran.ensures.write_fails.0 c.flush-flushed.ensures.failed fails (message_is g c) (status_is g c)
 
--- a run whose read failed has status 2, and that is told
+-- a failed read has status 2, and is reported
 pub returns-in-Ok-clause-read_fails : goal.returns-in-Ok-clause-read_fails
 returns-in-Ok-clause-read_fails g c = λ fails.
     status_is g c
@@ -84,14 +84,14 @@ returns-in-Ok-clause-write_fails g c = λ fails.
     ∙ failed_status (options_of (map string_bytes c.args.args.now)).settings c.run-ran.result c.run-ran.new.out.failed c.flush-flushed.new.self.failed
     c.flush-flushed.result c.run-ran.ensures.write_fails.0 c.flush-flushed.ensures.failed fails
 
--- the words of a plan have no fault
+-- the arguments of a plan have no fault
 pub returns-in-Ok-clause-untouched : goal.returns-in-Ok-clause-untouched
 returns-in-Ok-clause-untouched g c = λ wrong. absurd (none_found (usage_fault (map string_bytes c.args.args.now)) c.in-Ok.ensures.ok.right wrong)
 
 pub returns-in-Ok-clause-refused : goal.returns-in-Ok-clause-refused
 returns-in-Ok-clause-refused g c = none_told (usage_fault (map string_bytes c.args.args.now)) _ c.in-Ok.ensures.ok.right
 
--- words without a fault are refused only if memory is
+-- if arguments without a fault are rejected, memory couldn't be allocated
 pub returns-in-Err-clause-lag : goal.returns-in-Err-clause-lag
 returns-in-Err-clause-lag g c = λ right.
     inr (lacks_memory (map string_bytes c.args.args.now) c.in-Err.fault c.args.reader.now c.args.out.now _ _ _ _ 2 right c.in-Err.ensures.err c.report_usage.ensures refl)
@@ -100,7 +100,7 @@ pub returns-in-Err-clause-ended : goal.returns-in-Err-clause-ended
 returns-in-Err-clause-ended g c = λ right.
     inr (lacks_memory (map string_bytes c.args.args.now) c.in-Err.fault c.args.reader.now c.args.out.now _ _ _ _ 2 right c.in-Err.ensures.err c.report_usage.ensures refl)
 
--- at a fault of the words nothing was done with the streams but to tell it
+-- at a fault of the arguments, the streams are only used to report it
 pub returns-in-Err-clause-untouched : goal.returns-in-Err-clause-untouched
 returns-in-Err-clause-untouched g c = λ wrong. (refl, refl)
 

@@ -5,7 +5,7 @@ use Rattle.ud_sections.proofs.TransitionLemmas.{turns_well, turns_ill, text_turn
 use Rattle.ud_sections.proofs.MachineLemmas.{reads_line}
 use Rattle.ud_sections.proofs.machine.Machine.step.Goals as goal
 
--- a line that is seen at once to be text
+-- a line that is certainly text, without a look at its keyword
 pub returns-in_default-after_hash-clause-represents : goal.returns-in_default-after_hash-clause-represents
 returns-in_default-after_hash-clause-represents c = λ o xs t h next.
     let told = text_turn c.args.self.now o (as_scan c.args.scan.now) (as_line c.args.line.now) c.in_default-after_hash.ensures.none in
