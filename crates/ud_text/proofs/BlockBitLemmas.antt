@@ -1,4 +1,4 @@
--- Rows: what is left of a row's bits tells the next byte that may matter.
+-- Blocks: the next significant byte by the remaining bits of a block.
 use Rattle.std.proofs.Common.{◌≡◌, ℕ, zero, suc, ◌+◌, ◌-◌, ◌*◌, ◌/◌, ◌^◌, ◌<◌, ◌≤◌, Bool, true, false, not, cond, List, [], ◌∷◌, map, length, take, drop, min, refl, sym, ap, ◌∙◌, inl, inr, arith}
 use Rattle.std.specs.Int.{w64, trailing_zeros}
 use Rattle.std.specs.List.{position_or_len, drop-map}
@@ -19,7 +19,7 @@ half : (b : Bool) (n : ℕ) → (cond b 1 0 + 2 * n) / 2 ≡ n
 half true n = omega arith
 half false n = omega arith
 
--- bits shifted out are those of the first bytes
+-- the bits shifted out are those of the first bytes
 mask_rest : (ms : List Bool) (k : ℕ) → mask_l ms / 2 ^ k ≡ mask_l (drop k ms)
 mask_rest ms zero = div-one (mask_l ms)
 mask_rest [] (suc k) = zero-div (2 ^ suc k) ∙ ap mask_l (sym (drop-nil (suc k)))
@@ -27,7 +27,7 @@ mask_rest (m ∷ ms) (suc k) =
     ap (λ (n : ℕ). mask_l (m ∷ ms) / n) (pow-suc 2 k ∙ mul_comm (2 ^ k) 2) ∙ sym (div-div-eq-div-mul (mask_l (m ∷ ms)) 2 (2 ^ k))
     ∙ ap (λ (n : ℕ). n / 2 ^ k) (half m (mask_l ms)) ∙ mask_rest ms k
 
--- what is left of the bits of a row are those of its bytes from a place on
+-- the remaining bits of a block are those of its bytes from a position on
 pub rest_bits : (bytes : List ℕ) (begin at : ℕ) → begin ≤ at → at ≤ begin + 64 →
     significant_bits (take 64 (drop begin bytes)) / 2 ^ (at - begin) ≡ significant_bits (take (begin + 64 - at) (drop at bytes))
 rest_bits bytes begin at h k =
@@ -54,7 +54,7 @@ module _ (bytes : List ℕ) (at n : ℕ) (few : n ≤ 64) (room : at + n ≤ len
   among : position_or_len is_significant (take n (drop at bytes)) ≡ min n (position_or_len is_significant (drop at bytes))
   among = search_take is_significant n (drop at bytes)
 
-  -- the lowest bit tells the first byte that may matter
+  -- the lowest bit is that of the first significant byte
   pub row_found : (bits ≡ 0 → ⊥) → at + trailing_zeros w64 bits ≡ at + position_or_len is_significant (drop at bytes)
   row_found some =
       let set : 0 < significant_bits (take n (drop at bytes)) = omega (arith, some, is) in
@@ -69,13 +69,13 @@ module _ (bytes : List ℕ) (at n : ℕ) (few : n ≤ 64) (room : at + n ≤ len
         | inr h ↦ let z : significant_bits (take n (drop at bytes)) ≡ 0 = none_set (take n (drop at bytes)) (omega (arith, long, h, e)) in absurd (omega (arith, z, set))
       ]
 
-  -- no bit tells that there is none
+  -- there is no significant byte, if no bit is set
   pub row_empty : bits ≡ 0 → n ≤ position_or_len is_significant (drop at bytes)
   row_empty none =
       let all : position_or_len is_significant (take n (drop at bytes)) ≡ length (take n (drop at bytes)) = leading_from_mask_l is_significant (take n (drop at bytes)) (sym is ∙ none) in
       omega (arith, all, among, long)
 
--- the first byte that may matter is found after bytes that don't
+-- the first significant byte comes after bytes that aren't significant
 pub row_later : (bytes : List ℕ) (at n : ℕ) → n ≤ position_or_len is_significant (drop at bytes) →
     at + position_or_len is_significant (drop at bytes) ≡ at + n + position_or_len is_significant (drop (at + n) bytes)
 row_later bytes at n h =
@@ -83,7 +83,7 @@ row_later bytes at n h =
     let f : position_or_len is_significant (drop n (drop at bytes)) ≡ position_or_len is_significant (drop (at + n) bytes) = ap (λ (l : List ℕ). position_or_len is_significant l) (sym (drop_both bytes at n)) in
     omega (arith, e, f)
 
--- a place that is found lies within the bytes, or at their end
+-- a position that is found lies within the bytes, or at their end
 pub row_bound : (bytes : List ℕ) (at next : ℕ) → at ≤ length bytes → next ≡ at + position_or_len is_significant (drop at bytes) → next ≤ length bytes
 row_bound bytes at next h e = omega (arith, e, search_bound is_significant (drop at bytes) (position_or_len is_significant (drop at bytes)) refl, length-drop at bytes)
 
@@ -92,12 +92,12 @@ module _ (bytes : List ℕ) (begin at bits : ℕ) (is : bits ≡ significant_bit
   left : bits / 2 ^ (at - begin) ≡ significant_bits (take (begin + 64 - at) (drop at bytes))
   left = ap (λ (n : ℕ). n / 2 ^ (at - begin)) is ∙ rest_bits bytes begin at low (omega arith)
 
-  -- the lowest bit that is left of a row
+  -- the lowest of the remaining bits of a block
   pub left_found : (bits / 2 ^ (at - begin) ≡ 0 → ⊥) →
       at + trailing_zeros w64 (bits / 2 ^ (at - begin)) ≡ at + position_or_len is_significant (drop at bytes)
   left_found some = row_found bytes at (begin + 64 - at) (omega arith) (omega arith) (bits / 2 ^ (at - begin)) left some
 
-  -- none is left: what comes next stands after the row
+  -- what comes next lies after the block, if no bit remains
   pub left_empty : bits / 2 ^ (at - begin) ≡ 0 → begin + 64 + position_or_len is_significant (drop (begin + 64) bytes) ≡ at + position_or_len is_significant (drop at bytes)
   left_empty none =
       let there : at + (begin + 64 - at) ≡ begin + 64 = omega arith in

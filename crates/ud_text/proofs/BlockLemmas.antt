@@ -1,4 +1,4 @@
--- Blocks: bytes in a block comment, their line feeds among them.
+-- Blocks: bytes in a block comment, newlines included.
 use Rattle.std.proofs.Common.{◌≡◌, ℕ, ◌+◌, ◌<◌, ◌≤◌, ◌==◌, List, [], ◌∷◌, ◌++◌, length, take, drop, Bool, true, false, not, ◌&&◌, ◌||◌, if◌then◌else◌, refl, sym, ◌∙◌, ap, subst, append_assoc, arith, length-append, ne_eqb}
 use Rattle.std.proofs.lemmas.List.{take-append-drop, length-take-le}
 use Rattle.ud_model.specs.text.Lines.{NoNewline}
@@ -12,12 +12,13 @@ use Rattle.ud_text.specs.BulkLexemes.{after_feed, NoStarPair, at_start, LastLine
 use Rattle.ud_text.specs.Progress.{ReadTo, ReadOutside}
 use Rattle.ud_model.specs.text.Bytes.{slash, number_sign, newline, carriage_return, star, backslash}
 
--- the star that stands before
+-- `star_before starred bytes`: the bytes, after a star if `starred`
 abbrev pub star_before : Bool → List ℕ → List ℕ
 star_before true bytes = star ∷ bytes
 star_before false bytes = bytes
 
--- the bytes lead from in a block comment to in it, after a star or not
+-- `BlockSpan starred white bytes`: the bytes lead from in a block comment to in it, after a star or
+-- not
 pub record BlockSpan (starred white : Bool) (bytes : List ℕ) : Type 0 where
   pub now : Bool
   pub leads : bulk_state_after (inside_state starred white) bytes ≡ inside_state now white
@@ -72,7 +73,7 @@ pair_star b bytes h = by_star (b == star) refl bytes h
     by_star true e (x ∷ bytes) h = (ap (λ (s : Bool). s && ((x == slash) || (x == backslash))) (sym e) ∙ h.0, h.1)
     by_star false e (x ∷ bytes) h = h.1
 
--- bytes without a star before a slash or a backslash do
+-- bytes without a star pair lead from in a block comment to in it
 pub block_on : (bytes : List ℕ) (starred white : Bool) → NoStarPair (star_before starred bytes) → BlockSpan starred white bytes
 block_on [] starred white h = record { now = starred; leads = refl; quiet = tt }
 block_on (b ∷ bytes) starred white h =
@@ -105,7 +106,7 @@ closing_keeps : (starred white : Bool) → NoNewlineInBlock (inside_state starre
 closing_keeps true white = (refl, (refl, tt))
 closing_keeps false white = (refl, (refl, tt))
 
--- nor has a front of the bytes such a pair
+-- a prefix of bytes without a star pair has none
 pub pair_front : (p q : List ℕ) → NoStarPair (p ++ q) → NoStarPair p
 pair_front [] q h = tt
 pair_front (a ∷ []) q h = tt
@@ -114,11 +115,11 @@ pair_front (a ∷ b ∷ p) q h = (h.0, pair_front (b ∷ p) q h.1)
 module _ {start : BulkState} {bytes : List ℕ} {line : ℕ} {kept : BulkState} {at : ℕ} {u : Bool}
     (r : ReadTo start bytes line kept at (block_state u)) (count : ℕ) (fits : count ≤ length (drop at bytes))
     (free : NoStarPair (take count (drop at bytes))) where
-  -- such bytes, from a place in a block comment
+  -- such bytes, from a position in a block comment
   pub on : BlockSpan false u (take count (drop at bytes))
   on = block_on (take count (drop at bytes)) false u free
 
-  -- they lie on one line
+  -- the bytes lie on one line
   pub block_same : NoNewline (take count (drop at bytes)) → ReadTo start bytes line kept (at + count) (inside_state on.now u)
   unfolding on
   block_same h = read_on r count (take count (drop at bytes)) refl fits on.quiet (keeps_one_line (take count (drop at bytes)) (block_state u) h) (inside_state on.now u) on.leads
@@ -164,7 +165,7 @@ module _ {start : BulkState} {bytes : List ℕ} {line : ℕ} {kept : BulkState} 
             ∙ ap (λ (l : List ℕ). bulk_state_after (block_state u) l) (sym split) ∙ on.leads;
       }
 
-  -- they end on a later line, which is the last one then
+  -- the bytes end on a later line, which is the last one then
   pub block_later : (n : ℕ) → LastLineStarts (take count (drop at bytes)) n → 0 < n → ReadTo start bytes (at + n) (block_state u) (at + count) (inside_state on.now u)
   block_later n h z = later_at n (take n (take count (drop at bytes))) h.begins refl h.one_line h.within z
 
@@ -175,7 +176,7 @@ pub block_closed : {start : BulkState} {bytes : List ℕ} {line : ℕ} {kept : B
 block_closed starred u r h e = read_base u
     (read_on r 2 (star ∷ slash ∷ []) e h (closing_quiet starred u) (closing_keeps starred u) (code_state u) (closing starred u))
 
--- the two bytes that open one
+-- the two bytes that open a block comment
 pub block_opened : {start : BulkState} {bytes : List ℕ} {line : ℕ} {kept : BulkState} {at : ℕ} (u : Bool) →
     ReadTo start bytes line kept at (code_state u) → 2 ≤ length (drop at bytes) → slash ∷ star ∷ [] ≡ take 2 (drop at bytes) →
     ReadTo start bytes line kept (at + 2) (block_state u)

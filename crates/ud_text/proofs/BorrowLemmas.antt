@@ -1,4 +1,5 @@
--- Borrowing: a line in front of a piece, cut into its body and its ending, is the next line of the text.
+-- Borrowing: a line at the beginning of a chunk, split into its body and its ending, is the next
+-- line of the text.
 use Rattle.std.proofs.Common.{◌≡◌, ◌==◌, ℕ, suc, ◌+◌, ◌<◌, Bool, true, false, not, None, List, [], ◌∷◌, ◌++◌, length, take, refl, sym, ◌∙◌, ap, subst, min, inl, inr, arith}
 use Rattle.std.proofs.lemmas.Bool.{eqb-true, cases_lt}
 use Rattle.std.proofs.lemmas.List.{take-take, length-append}
@@ -12,20 +13,22 @@ use Rattle.ud_text.proofs.NewlineLemmas.{up_to_newline-once, whole_newlineless, 
 use Rattle.ud_text.proofs.MaskLemmas.{no_feed-take}
 use Rattle.ud_text.proofs.LinesLemmas.{represent_take, represent_clear}
 
--- where there is no byte, there are none
+-- there are no bytes, if their number is 0
 pub none_held : (bytes : List ℕ) (empty : Bool) → empty ≡ (length bytes == 0) → not empty ≡ false → bytes ≡ []
 none_held [] empty e h = refl
 none_held (b ∷ bytes) true e h = let k : suc (length bytes) ≡ 0 = eqb-true (suc (length bytes)) 0 (sym e) in cc
 none_held (b ∷ bytes) false e h = cc
 
--- where the front of a piece has no line feed or is too long, each whole line in front of it is too long
+-- each whole line at the beginning of a chunk is too long, if the prefix up to the first newline
+-- has none or is too long
 pub none_fits : (chunk : List ℕ) (used other : ℕ) (whole : Bool) → UpToNewline chunk used whole → (whole ≡ true → LINE_BYTES < used) →
     UpToNewline chunk other true → LINE_BYTES < other
 none_fits chunk used other whole a long b =
     let once : (whole ≡ true) × (used ≡ other) = up_to_newline-once chunk used other whole true a b in
     subst (λ (n : ℕ). LINE_BYTES < n) once.1 (long once.0)
 
--- where no line feed stands in so much as a line may have, each whole line in front is too long
+-- each whole line at the beginning is too long, if there is no newline in as many bytes as a line
+-- may have
 pub none_here : (rest : List ℕ) (size : ℕ) → size ≡ min (length rest) LINE_BYTES → NoNewline (take size rest) → (used : ℕ) → UpToNewline rest used true → LINE_BYTES < used
 none_here rest size e none used to =
     elim (cases_lt LINE_BYTES used) [
@@ -35,13 +38,13 @@ none_here rest size e none used to =
           absurd (newline_at_end line.0 (subst NoNewline (take-take used size rest (omega (arith, e, to.within)) ∙ line.2) (no_feed-take used (take size rest) none)))
     ]
 
--- no line stands in front of nothing
+-- no line comes at the beginning of nothing
 pub none_after : (rest : List ℕ) → length rest ≡ 0 → (used : ℕ) → UpToNewline rest used true → LINE_BYTES < used
 none_after rest e used to =
     let line : (front : List ℕ) × NoNewline front × (take used rest ≡ front ++ 10 ∷ []) = to.line refl in
     absurd (omega (arith, e, ap length line.2, length-append line.0 (10 ∷ []), length-take used rest))
 
--- the first line of a piece is whole
+-- the first line of a chunk is whole
 first_whole : (chunk line : List ℕ) → IsFirstLine chunk line → IsWhole line
 first_whole chunk line f =
     let to : (front : List ℕ) × NoNewline front × (take (length line) chunk ≡ front ++ 10 ∷ []) = f.front.line refl in
@@ -51,25 +54,25 @@ first_whole chunk line f =
 joined_is : (body ending line : List ℕ) (n : ℕ) → IsLineOf body ending n (line_at n line) → body ++ ending ≡ line
 joined_is body ending line n e = ap text_of e ∙ text_of-line_at n line
 
--- the line is that of the piece's front
+-- the line is that of the chunk's prefix
 pub borrowed_value : (chunk body ending line : List ℕ) (n : ℕ) → IsFirstLine chunk line → IsLineOf body ending n (line_at n line) →
     IsLineOf body ending n (line_at n (take (length (body ++ ending)) chunk))
 borrowed_value chunk body ending line n f e =
     e ∙ ap (line_at n) (f.bytes ∙ ap (λ (l : List ℕ). take (length l) chunk) (sym (joined_is body ending line n e)))
 
--- its bytes are the piece's front
+-- the line's bytes are the chunk's prefix
 pub borrowed_bytes : (chunk body ending line : List ℕ) (n : ℕ) → IsFirstLine chunk line → IsLineOf body ending n (line_at n line) →
     body ++ ending ≡ take (length (body ++ ending)) chunk
 borrowed_bytes chunk body ending line n f e =
     let same : body ++ ending ≡ line = joined_is body ending line n e in
     same ∙ (f.bytes ∙ ap (λ (l : List ℕ). take (length l) chunk) (sym same))
 
--- no line feed stands in its body
+-- no newline is in the line's body
 pub borrowed_no_newline : (chunk body ending line : List ℕ) (n : ℕ) → IsFirstLine chunk line → IsLineOf body ending n (line_at n line) → NoNewline body
 borrowed_no_newline chunk body ending line n f e =
     subst NoNewline (ap (λ (l : Line). l.body) (sym e)) (whole_newlineless n line (first_whole chunk line f))
 
--- it could be lent
+-- the line can be borrowed
 pub can_borrow : (lines : LinesState) (chunk body ending line : List ℕ) (n : ℕ) → lines.held ≡ [] → lines.fault ≡ None → lines.before < lines.last_line →
     IsFirstLine chunk line → IsLineOf body ending n (line_at n line) → CanBorrow lines chunk (length (body ++ ending))
 can_borrow lines chunk body ending line n unheld unrefused numbered f e =
@@ -81,7 +84,7 @@ can_borrow lines chunk body ending line n unheld unrefused numbered f e =
       numbered = numbered;
     })
 
--- a line that is taken and given up leaves nothing held, as before
+-- after a line that is taken and consumed nothing is buffered, as before
 consumed_line : (lines : LinesState) (text chunk : List ℕ) (used : ℕ) → lines.held ≡ [] → lines.whole ≡ false → UpToNewline chunk used true → LinesRepresent lines text →
     LinesRepresent (record lines { before = lines.before + 1 }) (text ++ take used chunk)
 consumed_line lines text chunk used unheld part to h =
@@ -89,7 +92,7 @@ consumed_line lines text chunk used unheld part to h =
     (subst (λ (whole : Bool). LinesRepresent (record lines { held = []; whole = whole; before = lines.before + 1 }) (text ++ take used chunk)) (sym part)
     (represent_clear (record lines { held = lines.held ++ take used chunk; whole = true }) (text ++ take used chunk) refl (represent_take lines text chunk used true part to h)))
 
--- with it one line more is taken and given up
+-- one more line is taken and consumed with the borrowed one
 pub represent_borrowed : (lines : LinesState) (text chunk body ending line : List ℕ) (n : ℕ) → lines.held ≡ [] → lines.whole ≡ false →
     IsFirstLine chunk line → IsLineOf body ending n (line_at n line) → LinesRepresent lines text → LinesRepresent (record lines { before = lines.before + 1 }) (text ++ (body ++ ending))
 represent_borrowed lines text chunk body ending line n unheld part f e h =

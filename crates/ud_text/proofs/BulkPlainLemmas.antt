@@ -1,4 +1,4 @@
--- Plain text: runs of bytes without one that may matter, and where lines begin.
+-- Plain text: runs of bytes without a significant one, and the beginnings of lines.
 use Rattle.std.proofs.Common.{◌≡◌, ℕ, zero, suc, ◌+◌, ◌<◌, ◌==◌, List, [], ◌∷◌, ◌++◌, length, take, drop, get_or, Bool, true, false, not, cond, ◌&&◌, ◌||◌, if◌then◌else◌, refl, sym, ◌∙◌, ap, subst, arith, one-add}
 use Rattle.std.specs.List.{position_or_len}
 use Rattle.std.proofs.lemmas.Bool.{eqb-true}
@@ -19,11 +19,11 @@ no_feed_back s zero none = subst NoNewline (take_all (length s) s (omega arith))
 no_feed_back [] (suc n) none = tt
 no_feed_back (b ∷ bs) (suc n) none = no_feed_back bs n (λ k low high. none (suc k) (omega arith) (omega arith))
 
--- if no line feed is found, the last line begins at the start
+-- the last line begins at the start, if no newline is found
 pub last_begins-none : (s : List ℕ) → Nowhere (Passes (is_byte newline) s) 0 (length s) → LastLineStarts s 0
 last_begins-none s h = record { within = omega arith; begins = at_start; one_line = no_feed_back s 0 h }
 
--- the last line feed that a search finds stands before the last line
+-- the last newline that a search finds comes before the last line
 pub last_begins-found : (s : List ℕ) (k : ℕ) → NoneAfter (Passes (is_byte newline) s) 0 (length s) k → Passes (is_byte newline) s k → LastLineStarts s (k + 1)
 last_begins-found s k h is = record {
   within = (let l : k < length s = h.high in omega arith);
@@ -31,7 +31,7 @@ last_begins-found s k h is = record {
   one_line = no_feed_back s (k + 1) h.after;
 }
 
--- bytes after which a line begins end with a line feed, or are none
+-- bytes after which a line begins end with a newline, or are none
 pub begins_ends : (bytes : List ℕ) → IsLineStart bytes → AreWholeLines bytes
 unfolding split_lines
 begins_ends _ at_start = refl
@@ -44,7 +44,7 @@ or4 false true c d e = cc
 or4 false false true d e = cc
 or4 false false false true e = cc
 
--- what a byte is not that may not matter
+-- the bytes that an insignificant byte isn't
 pub not_special : (b : ℕ) → is_significant b ≡ false → ((b == slash) ≡ false) × (is_quote b ≡ false) × ((b == backslash) ≡ false) × ((b == number_sign) ≡ false)
 not_special b e = or4 (b == slash) (is_quote b) (b == backslash) (b == number_sign) e
 
@@ -83,7 +83,7 @@ plain_read (b ∷ bytes) white h =
       no_comment = (refl, subst (λ (w : LexState). NoComment w bytes) (ap (λ (s : BulkState). s.state) there) more.no_comment);
     }
 
--- the bytes before the first special one have none
+-- the bytes before the first significant one have none
 pub no_special_before : (bytes : List ℕ) → NoSignificant (take (position_or_len is_significant bytes) bytes)
 no_special_before [] = tt
 no_special_before (b ∷ bytes) = by_special (is_significant b) (position_or_len is_significant bytes) refl (no_special_before bytes)

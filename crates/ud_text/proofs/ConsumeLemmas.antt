@@ -1,4 +1,4 @@
--- Skipping: whole lines at once are taken and given up.
+-- Consuming: whole lines are taken and consumed at once.
 use Rattle.std.proofs.Common.{◌≡◌, ℕ, ◌+◌, ◌-◌, ◌<◌, ◌≤◌, Bool, true, false, cond, if◌then◌else◌, List, [], ◌∷◌, ◌++◌, length, take, drop, refl, sym, ◌∙◌, ap, ap₂, subst, take_all, arith}
 use Rattle.std.specs.List.{count_by, concat}
 use Rattle.std.proofs.lemmas.List.{length-append, take-take}
@@ -20,7 +20,7 @@ put_length : (b : ℕ) (ls : List (List ℕ)) (r : List ℕ) → length (prepend
 put_length b [] r = refl
 put_length b (l ∷ ls) r = refl
 
--- so many whole lines are there as line feeds
+-- there are as many whole lines as newlines
 pub lines_counted : (bytes : List ℕ) → length (whole_lines bytes) ≡ count_by is_newline bytes
 unfolding split_lines
 lines_counted = is_count_by (λ bytes. length (whole_lines bytes)) is_newline refl (λ b bytes. by_test b (split_lines bytes).whole (split_lines bytes).rest (is_newline b))
@@ -30,25 +30,25 @@ lines_counted = is_count_by (λ bytes. length (whole_lines bytes)) is_newline re
     by_test b ls r true = omega arith
     by_test b ls r false = put_length b ls r
 
--- the line feeds of bytes, and of so many after them
+-- the newlines of a prefix, and of the next `n` bytes
 pub counted_more : (bytes : List ℕ) (at n count more : ℕ) → count ≡ count_by is_newline (take at bytes) → more ≡ count_by is_newline (take n (drop at bytes)) →
     count + more ≡ count_by is_newline (take (at + n) bytes)
 counted_more bytes at n count more e f =
     ap₂ (λ (x y : ℕ). x + y) e f ∙ sym (sum_by-append (λ b. cond (is_newline b) 1 0) (take at bytes) (take n (drop at bytes)))
     ∙ ap (count_by is_newline) (sym (take-add at n bytes))
 
--- the line feeds of bytes, and of all that come after them, are those of the whole lines
+-- the newlines of a prefix, and of the rest, are as many as the whole lines
 pub counted_all : (bytes : List ℕ) (at count more : ℕ) → count ≡ count_by is_newline (take at bytes) →
     more ≡ count_by is_newline (take (length bytes - at) (drop at bytes)) → count + more ≡ length (whole_lines bytes)
 counted_all bytes at count more e f =
     counted_more bytes at (length bytes - at) count more e f
     ∙ ap (count_by is_newline) (take_all (at + (length bytes - at)) bytes (omega arith)) ∙ sym (lines_counted bytes)
 
--- no more lines are there than bytes
+-- there are no more lines than bytes
 pub lines_few : (bytes : List ℕ) → length (whole_lines bytes) ≤ length bytes
 lines_few bytes = omega (arith, lines_counted bytes, count_by-le-length is_newline bytes)
 
--- the lines of bytes that others end a line before
+-- the lines of bytes that follow whole lines
 pub lines_joined : (front rest : List ℕ) → AreWholeLines front → whole_lines (front ++ rest) ≡ whole_lines front ++ whole_lines rest
 lines_joined front rest ends =
     ap (λ (q : SplitLines). q.whole) (split_lines-append front rest) ∙ ap (λ (r : List ℕ). whole_lines front ++ whole_lines (r ++ rest)) ends
@@ -72,12 +72,13 @@ all_short : (ls : List (List ℕ)) → length (concat ls) ≤ LINE_BYTES → Eac
 all_short [] h = tt
 all_short (l ∷ ls) h = (omega (arith, length-append l (concat ls)), all_short ls (omega (arith, length-append l (concat ls))))
 
--- the lines of bytes that are no more than a line may have
+-- the lines of at most `LINE_BYTES` bytes fit
 pub short_fit : (bytes : List ℕ) → length bytes ≤ LINE_BYTES → EachFits (whole_lines bytes)
 short_fit bytes h =
     all_short (whole_lines bytes) (omega (arith, ap length (parts_joined bytes), length-append (concat (whole_lines bytes)) (partial_line bytes)))
 
--- whole lines in front of a window, after whole lines, are whole lines too; they fit if the window has no more than a line may
+-- whole lines at the beginning of a window that follows whole lines are whole lines with these;
+-- they fit if the window has at most `LINE_BYTES` bytes
 module _ (piece : List ℕ) (at count size : ℕ) (window : List ℕ) (is : window ≡ take size (drop at piece)) (short : size ≤ LINE_BYTES)
     (last : LastLineStarts window count) (ends : AreWholeLines (take at piece)) where
   few : length window ≤ size
@@ -98,12 +99,12 @@ module _ (piece : List ℕ) (at count size : ℕ) (window : List ℕ) (is : wind
       (subst EachFits (sym (lines_joined (take at piece) (take count window) ends))
       (fits_append (whole_lines (take at piece)) (whole_lines (take count window)) fits own))
 
--- where no byte is held, the line isn't whole
+-- the line isn't whole, if no byte is buffered
 pub not_whole : (whole : Bool) (held : List ℕ) → (whole ≡ true → 0 < length held) → held ≡ [] → whole ≡ false
 not_whole true held some none = absurd (omega (arith, some refl, ap length none))
 not_whole false held some none = refl
 
--- with the lines that are skipped, as many more are taken and given up
+-- as many more lines are taken and consumed as the bytes have
 pub represent_consumed : (lines : LinesState) (text bytes : List ℕ) → CanConsume lines bytes → LinesRepresent lines text →
     LinesRepresent (record lines { before = lines.before + length (whole_lines bytes) }) (text ++ bytes)
 represent_consumed lines text bytes can h = record {
@@ -116,7 +117,7 @@ represent_consumed lines text bytes can h = record {
   count = ap (λ (n : ℕ). n + length (whole_lines bytes)) h.count ∙ sym (length-append h.consumed (whole_lines bytes));
 }
 
--- of lines that can be skipped, the first ones can
+-- the first of lines that can be consumed can be consumed
 pub can_consume_front : (lines : LinesState) (front rest : List ℕ) → AreWholeLines front → CanConsume lines (front ++ rest) → CanConsume lines front
 can_consume_front lines front rest ends can =
     let all = lines_joined front rest ends in
@@ -129,7 +130,7 @@ can_consume_front lines front rest ends can =
       numbered = omega (arith, can.numbered, ap length all, length-append (whole_lines front) (whole_lines rest));
     }
 
--- and then the others
+-- the other lines can be consumed after the first ones
 pub can_consume_rest : (lines : LinesState) (front rest : List ℕ) → AreWholeLines front → CanConsume lines (front ++ rest) →
     CanConsume (record lines { before = lines.before + length (whole_lines front) }) rest
 can_consume_rest lines front rest ends can =

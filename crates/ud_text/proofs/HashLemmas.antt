@@ -16,7 +16,7 @@ use Rattle.ud_text.proofs.ScannerLemmas.{represents_plain}
 use Rattle.ud_text.proofs.BulkPlainLemmas.{begins_ends}
 use Rattle.ud_text.proofs.QuietLineLemmas.{ended_lines}
 
--- bytes among which a search finds no `#` have none
+-- bytes have no `#`, if a search finds none among them
 pub no_hash_front : (s : List ℕ) (n : ℕ) → Nowhere (Passes (is_byte 35) s) 0 n → NoHash (take n s)
 no_hash_front s zero none = tt
 no_hash_front [] (suc n) none = tt
@@ -29,7 +29,7 @@ no_hash_front (b ∷ bs) (suc n) none = (
     by_test true e = absurd (none 0 (omega arith) (omega arith) e)
     by_test false e = e
 
--- nor has a front of bytes without a `#`
+-- a prefix of bytes without a `#` has none
 pub no_hash_take : (n : ℕ) (s : List ℕ) → NoHash s → NoHash (take n s)
 no_hash_take zero s h = tt
 no_hash_take (suc n) [] h = tt
@@ -52,12 +52,12 @@ no_past_sign (b ∷ bs) h = by_white (is_white b) (no_past_sign bs h.1)
     by_white true e = e
     by_white false e = ap (λ (t : Bool). if t then Some bs else None) h.0
 
--- so the line is text as it stands
+-- a line without a `#` is text in plain mode
 plain_text : (l : Line) → NoHash l.body → content_of (plain_scan l) ≡ text
 plain_text l h =
     ap (λ (r : Option (List ℕ)). if has_split_keyword (plain_scan l) r then cut_keyword else content_after_hash (plain_scan l) r) (no_past_sign l.body h)
 
--- and all such lines are
+-- all lines without a `#` are text in plain mode
 pub hashless_text : (ls : List (List ℕ)) (n : ℕ) (before : List Reading) → NoHash (concat ls) → HaveNoDirective Plain before (numbered_from n ls)
 hashless_text [] n before h = tt
 hashless_text (l ∷ ls) n before h = (
@@ -65,12 +65,12 @@ hashless_text (l ∷ ls) n before h = (
   hashless_text ls (suc n) (before ++ next_reading before Plain (line_at n l) ∷ []) (no_hash_rest l (concat ls) h),
 )
 
--- nothing is carried over lines in plain mode
+-- the initial state is carried over lines in plain mode
 plain_carried : (l : List ℕ) (ls : List (List ℕ)) (n : ℕ) (before : List Reading) → ScannerRepresents initial_scanner_state (readings_after before (lines_in_mode Plain n (l ∷ ls)))
 plain_carried l [] n before = represents_plain before (line_at n l)
 plain_carried l (k ∷ ls) n before = plain_carried k ls (suc n) (before ++ next_reading before Plain (line_at n l) ∷ [])
 
--- whole lines without a `#` are passed
+-- whole lines without a `#` are skipped
 pub passes_hashless : (old : ScannerState) (bytes : List ℕ) → AreWholeLines bytes → NoHash bytes → 0 < length bytes → SkipsText Plain old initial_scanner_state bytes
 passes_hashless old bytes ends none some = record {
   stands = λ n before h. by_lines (whole_lines bytes) (ended_lines bytes ends) n before;
@@ -81,7 +81,7 @@ passes_hashless old bytes ends none some = record {
     by_lines [] e n before = absurd (let z = ap length e in omega (arith, z, some))
     by_lines (l ∷ ls) e n before = plain_carried l ls n before
 
--- the lines before the last one of a front
+-- the lines before the last one of a prefix
 pub hashless_ends : (bytes front : List ℕ) (n : ℕ) → front ≡ take (length front) bytes → LastLineStarts front n → AreWholeLines (take n bytes)
 hashless_ends bytes front n e last = subst AreWholeLines (front_of bytes front n e last.within) (begins_ends (take n front) last.begins)
   where

@@ -1,4 +1,4 @@
--- Spans: where a slash, a backslash, a `#`, a literal and a line comment lead.
+-- Lexemes: where a slash, a backslash, a `#`, a literal and a line comment lead.
 use Rattle.std.proofs.Common.{◌≡◌, ℕ, ◌==◌, List, [], ◌∷◌, ◌++◌, Bool, true, false, not, ◌&&◌, ◌||◌, if◌then◌else◌, ◌⊎◌, inl, inr, refl, sym, ◌∙◌, ap, subst, ne_eqb, suc, zero, length, get_or, arith}
 use Rattle.std.proofs.lemmas.Bool.{eqb-true}
 use Rattle.ud_model.specs.text.Bytes.{is_quote, slash, number_sign, newline, carriage_return, star, backslash}
@@ -10,14 +10,15 @@ use Rattle.ud_model.specs.text.Lines.{NoNewline}
 use Rattle.ud_text.specs.BulkLexemes.{NoSignificant, LineLexeme, NoComment, CodeLexeme, is_significant, may_splice}
 use Rattle.std.proofs.Math.Bool.{and-false}
 
--- two runs without a comment, one after another
+-- two runs without a comment, one after the other, have none
 pub NoComment-append : (s : BulkState) (p q : List ℕ) → NoComment s.state p → NoComment (bulk_state_after s p).state q → NoComment s.state (p ++ q)
 NoComment-append s [] q h k = k
 NoComment-append s (b ∷ p) q h k = (h.0, NoComment-append (next_bulk_state s b) p q h.1 k)
 
--- bytes that lead from outside comments and literals into a literal with this quote
+-- `LiteralFront white quote bytes`: the bytes lead from outside comments and literals into a
+-- literal with this quote
 pub record LiteralFront (white : Bool) (quote : ℕ) (bytes : List ℕ) : Type 0 where
-  -- of no weight: no line feed follows before the quote that closes the literal
+  -- of no weight: no newline follows before the quote that closes the literal
   pub spliced : Bool
   pub leads : bulk_state_after (code_state white) bytes ≡ record { state = in_literal quote; white = false; spliced = spliced }
   pub quiet : HasNoStop (code_state white) bytes
@@ -90,7 +91,7 @@ stops_white p c b rest e = rw e (by_sign (b == number_sign) p)
     by_sign true p = ap (λ (o : Bool). o && not (is_other_word rest)) (and-false (shows_hash p))
     by_sign false p = refl
 
--- one byte more of a literal
+-- one more byte of a literal
 pub literal_byte : (white : Bool) (q : ℕ) (bytes : List ℕ) (b : ℕ) → LiteralFront white q bytes → (b == newline) ≡ false → (b == q) ≡ false → (b == backslash) ≡ false →
     LiteralFront white q (bytes ++ b ∷ [])
 literal_byte white q bytes b r e f g =
@@ -103,7 +104,7 @@ literal_byte white q bytes b r e f g =
       no_comment = NoComment-append (code_state white) bytes (b ∷ []) r.no_comment (subst (λ (s : BulkState). NoComment s.state (b ∷ [])) (sym r.leads) (refl, tt));
     }
 
--- a backslash of a literal, and the byte that it takes along
+-- a backslash of a literal, and the byte that it escapes
 pub literal_pair : (white : Bool) (q : ℕ) (bytes : List ℕ) (b : ℕ) → LiteralFront white q bytes → is_quote q ≡ true → (b == newline) ≡ false →
     LiteralFront white q (bytes ++ backslash ∷ b ∷ [])
 literal_pair white q bytes b r k e =
@@ -151,11 +152,11 @@ literal_closed white q bytes r k = by_quote (q == 34) (q == 39) refl refl k
     by_quote false true f g h = closed 39 (eqb-true q 39 g) refl refl refl refl
     by_quote false false f g h = cc
 
--- a state in a line comment
+-- `line_comment white spliced`: a state in a line comment
 abbrev pub line_comment : Bool → Bool → BulkState
 line_comment white spliced = record { state = in_line; white = white; spliced = spliced }
 
--- whether a line feed after these bytes would be spliced, outside block comments
+-- `spliced_by spliced bytes`: a newline after these bytes would be spliced, outside block comments
 unfoldable pub spliced_by : Bool → List ℕ → Bool
 spliced_by spliced [] = spliced
 spliced_by spliced (b ∷ bytes) = spliced_by (spliced_after in_line spliced b) bytes
@@ -221,7 +222,7 @@ line_on (b ∷ bytes) white c h =
     by_sign true = refl
     by_sign false = refl
 
--- a line comment with its line feed
+-- a line comment with its newline
 pub line_comment_read : (bytes : List ℕ) (white : Bool) → NoNewline bytes → spliced_by false (slash ∷ slash ∷ bytes) ≡ false →
     LineLexeme white (slash ∷ slash ∷ (bytes ++ newline ∷ []))
 unfolding spliced_by

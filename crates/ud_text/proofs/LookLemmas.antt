@@ -1,4 +1,4 @@
--- Looks: looking back over white space tells whether the logical line is white.
+-- Looks: looking back over white space shows whether the logical line is white.
 use Rattle.std.proofs.Common.{◌≡◌, ℕ, ◌==◌, List, [], ◌∷◌, ◌++◌, Bool, true, false, ◌&&◌, ◌||◌, if◌then◌else◌, ◌⊎◌, inl, inr, refl, sym, ◌∙◌, ap, subst}
 use Rattle.std.proofs.lemmas.Bool.{eqb-true}
 use Rattle.ud_model.specs.text.Bytes.{is_quote, is_white, are_white, slash, newline, carriage_return, star, backslash}
@@ -9,7 +9,7 @@ use Rattle.ud_text.proofs.TextLemmas.{Class, class_of, a_slash, a_sign, a_white,
 use Rattle.ud_text.specs.BulkLexemes.{black, NoComment, all_white, IsWhiteAfter, new_line}
 use Rattle.std.proofs.Math.Bool.{and-false}
 
--- a place outside comments
+-- `outside w`: the lexer state `w` is outside comments
 abbrev pub outside : LexState → Bool
 outside in_text = true
 outside at_slash = true
@@ -133,7 +133,8 @@ black_on (b ∷ bytes) s e h =
     let w : (is_white b ≡ true) × (are_white bytes ≡ true) = white_tests b bytes h in
     black_on bytes (next_bulk_state s b) (ap (λ (v : Bool). stays_white s.state v b) e ∙ white_false s.state b (white_parts b w.0).2) w.1
 
--- after a byte that isn't white the line isn't white, unless the byte is a slash, which may begin a comment
+-- after a byte that isn't white the line isn't white, unless the byte is a slash, which may begin a
+-- comment
 black_step : (w : LexState) (white : Bool) (b : ℕ) → outside w ≡ true → opens_comment w b ≡ false → is_white b ≡ false → (b == newline) ≡ false →
     (stays_white w white b ≡ false) ⊎ (next_state w b ≡ at_slash)
 black_step in_text white b o f w i = by_slash (b == slash) refl
@@ -154,7 +155,7 @@ black_step in_line white b o f w i = cc
 black_step (in_literal q) white b o f w i = inl (rw (i, w) (and-false white))
 black_step (at_backslash q) white b o f w i = inl (rw (i, w) (and-false white))
 
--- white space after a slash makes it a byte of the line
+-- white space after a slash makes the slash a byte of the line
 slash_on : (bytes : List ℕ) (s : BulkState) (u : Bool) → s.state ≡ at_slash → are_white bytes ≡ true → bulk_state_after s bytes ≡ code_state u → u ≡ false
 slash_on [] s u p h e = let q : at_slash ≡ in_text = sym p ∙ ap (λ (t : BulkState). t.state) e in cc
 slash_on (b ∷ bytes) s u p h e =
@@ -162,12 +163,12 @@ slash_on (b ∷ bytes) s u p h e =
     let n : ((b == slash) ≡ false) × (is_quote b ≡ false) × ((b == newline) ≡ false) × ((b == star) ≡ false) × ((b == backslash) ≡ false) = white_parts b w.0 in
     sym (ap (λ (t : BulkState). t.white) e) ∙ black_on bytes (next_bulk_state s b) (ap (λ (v : LexState). stays_white v s.white b) p ∙ rw (n.3, n.0, n.2) refl) w.1
 
--- white space leaves a line white or not, as it is
+-- white space leaves a line as it is, white or not
 white_stays : (plain : List ℕ) (base : Bool) → are_white plain ≡ true → (bulk_state_after (code_state base) plain).white ≡ base
 white_stays plain true w = ap (λ (s : BulkState). s.white) (white_on plain w)
 white_stays plain false w = black_on plain (code_state false) refl w
 
--- what is seen by looking back is so
+-- looking back finds whether the line is white
 pub shows_white : (plain : List ℕ) (base v now : Bool) → NoComment in_text plain → bulk_state_after (code_state base) plain ≡ code_state now →
     IsWhiteAfter plain base v → now ≡ v
 shows_white plain base _ now c e (all_white w) = ap (λ (s : BulkState). s.white) (sym e) ∙ white_stays plain base w

@@ -1,4 +1,4 @@
--- Runs: bytes that leave the place as it is, and how a text is shown with them.
+-- Masking: bytes that leave the lexer's state unchanged, and how a text is shown with them.
 use Rattle.std.proofs.Common.{◌≡◌, ℕ, zero, suc, ◌+◌, ◌-◌, ◌<◌, ◌≤◌, ◌==◌, List, [], ◌∷◌, ◌++◌, length, take, drop, replicate, get_or, Bool, true, false, not, cond, ◌&&◌, ◌||◌, if◌then◌else◌, Option, Some, None, unwrap_or, is_some, refl, sym, ◌∙◌, ap, subst, append_assoc, append-nil, arith, ne_eqb, one-add}
 use Rattle.std.specs.List.{position_or_len}
 use Rattle.std.proofs.lemmas.List.{take_more, take_all, take_rest, length-take-le, drop-take, take-take, take-append-drop}
@@ -10,7 +10,7 @@ use Rattle.ud_model.specs.aids.LexStates.{LexState, in_text, at_slash, in_litera
 use Rattle.ud_model.proofs.text.LexStateLemmas.{Masks-step, blank_last-last}
 use Rattle.ud_model.proofs.text.ScanLemmas.{Masks-start}
 
--- facts of how a text is shown, under other names of the same things
+-- how a text is shown, under other names of the same values
 pub Masks-same : {n : ℕ} {t u : List ℕ} {w x : LexState} {b c : Bool} {m k : List ℕ} → t ≡ u → w ≡ x → b ≡ c → m ≡ k → Masks n t w b m → Masks n u x c k
 Masks-same {n} {t} {u} {w} {x} {b} {c} {m} {k} e f g h r =
     subst (λ (s : List ℕ). Masks n s x c k) e
@@ -18,7 +18,7 @@ Masks-same {n} {t} {u} {w} {x} {b} {c} {m} {k} e f g h r =
     (subst (λ (v : Bool). Masks n t w v k) g
     (subst (λ (l : List ℕ). Masks n t w b l) h r)))
 
--- bytes of which the last is left out, if there is one, and a space put in its place
+-- the last byte, if there is one, is replaced by a space
 pub blanked : (old rest new : List ℕ) (last : Option ℕ) → old ≡ rest ++ option_to_list last → is_some last ≡ true → new ≡ rest ++ space ∷ [] → new ≡ blank_last old
 blanked old rest new None e s p = cc
 blanked old rest new (Some y) e s p = p ∙ sym (blank_last-last rest y) ∙ sym (ap blank_last e)
@@ -31,12 +31,12 @@ one_more n text w v white now_white b old blanked new o m e f g h i =
     Masks-same refl (sym h) (sym i)
     (sym (g ∙ ap (λ (l : List ℕ). l ++ masked_byte w b ∷ []) (f ∙ ap (λ (t : Bool). if t then blank_last old else old) e))) (Masks-step b m)
 
--- none of these bytes is a mark
+-- `NoMark bytes`: none of the bytes is a mark
 abbrev pub NoMark : List ℕ → Type 0
 NoMark [] = Unit {0}
 NoMark (b ∷ bytes) = (is_mark b ≡ false) × NoMark bytes
 
--- none of these bytes is a star
+-- `NoStar bytes`: none of the bytes is a star
 abbrev pub NoStar : List ℕ → Type 0
 NoStar [] = Unit {0}
 NoStar (b ∷ bytes) = ((b == star) ≡ false) × NoStar bytes
@@ -77,7 +77,7 @@ and_true : (a : Bool) → a ≡ (a && true)
 and_true true = refl
 and_true false = refl
 
--- a run of bytes outside comments and literals is shown as it is
+-- a run of bytes outside comments and literals is shown unchanged
 pub Masks-text : {n : ℕ} (bytes text : List ℕ) (white : Bool) (masked : List ℕ) → NoMark bytes → NoNewline bytes →
     Masks n text in_text white masked → Masks n (text ++ bytes) in_text (white && are_white bytes) (masked ++ bytes)
 Masks-text [] text white masked p q m = Masks-same (sym (append-nil text)) refl (and_true white) (sym (append-nil masked)) m
@@ -113,7 +113,7 @@ Masks-line {n} (b ∷ bytes) text {white} masked p m =
     by_feed false e k = k
     by_feed true e k = cc
 
--- the bytes in front of the first mark have none
+-- the bytes before the first mark have none
 pub no_mark_before : (bytes : List ℕ) → NoMark (take (position_or_len is_mark bytes) bytes)
 no_mark_before [] = tt
 no_mark_before (b ∷ bytes) = by_mark (is_mark b) (position_or_len is_mark bytes) refl (no_mark_before bytes)
@@ -122,7 +122,7 @@ no_mark_before (b ∷ bytes) = by_mark (is_mark b) (position_or_len is_mark byte
     by_mark true n e h = tt
     by_mark false n e h = let P : ℕ → Type 0 = λ k. NoMark (take k (b ∷ bytes)) in subst P (sym (one-add n)) (e, h)
 
--- the bytes in front of some place have no star if none stands before that
+-- a prefix has no star, if none is at any of its positions
 pub no_star_before : (bytes : List ℕ) (k : ℕ) → ((j : ℕ) → j < k → (get_or bytes j 0 == star) ≡ true → ⊥) → NoStar (take k bytes)
 no_star_before bytes zero none = tt
 no_star_before [] (suc k) none = tt
@@ -133,7 +133,7 @@ no_star_before (b ∷ bytes) (suc k) none =
     no_star true f = absurd (f refl)
     no_star false f = refl
 
--- the bytes in front of the first star have none
+-- the bytes before the first star have none
 pub no_star_front : (bytes : List ℕ) (r : Option ℕ) → IsFirstByte (is_byte star) bytes r → NoStar (take (unwrap_or r (length bytes)) bytes)
 no_star_front bytes None h = no_star_before bytes (length bytes) (λ j l. h j (omega arith) l)
 no_star_front bytes (Some k) h = no_star_before bytes k (λ j l. h.0.before j (omega arith) l)
@@ -143,19 +143,19 @@ pub first_star-bound : (bytes : List ℕ) (r : Option ℕ) → IsFirstByte (is_b
 first_star-bound bytes None h = omega arith
 first_star-bound bytes (Some k) h = let l : k < length bytes = h.0.high in omega arith
 
--- bytes without a line feed have none in front
+-- a prefix of bytes without a newline has none
 pub no_feed-take : (k : ℕ) (bytes : List ℕ) → NoNewline bytes → NoNewline (take k bytes)
 no_feed-take zero bytes h = tt
 no_feed-take (suc k) [] h = tt
 no_feed-take (suc k) (b ∷ bytes) h = (h.0, no_feed-take k bytes h.1)
 
--- bytes without a line feed have none after
+-- the rest of bytes without a newline has none
 pub no_feed-drop : (k : ℕ) (bytes : List ℕ) → NoNewline bytes → NoNewline (drop k bytes)
 no_feed-drop zero bytes h = h
 no_feed-drop (suc k) [] h = tt
 no_feed-drop (suc k) (b ∷ bytes) h = no_feed-drop k bytes h.1
 
--- a front of bytes, and a front of what follows, are a longer front
+-- a prefix of bytes, and a prefix of the rest, are a longer prefix
 pub take_run : (bytes : List ℕ) (at count : ℕ) → take at bytes ++ take count (take (length bytes - at) (drop at bytes)) ≡ take (at + count) bytes
 take_run bytes at count =
     ap (λ (l : List ℕ). take at bytes ++ take count l) (take_rest bytes at)
@@ -163,7 +163,7 @@ take_run bytes at count =
     ∙ ap (λ (l : List ℕ). l ++ drop at (take (at + count) bytes)) (sym (take-take at (at + count) bytes (omega arith)))
     ∙ take-append-drop at (take (at + count) bytes)
 
--- the text as it is shown with a front of the bytes that follow, and a front of what follows those
+-- the text as it is shown with a prefix of the bytes that follow, and a prefix of the rest
 pub run_read : {n : ℕ} (text bytes : List ℕ) (at count : ℕ) {w : LexState} {white : Bool} {masked : List ℕ} →
     Masks n ((text ++ take at bytes) ++ take count (take (length bytes - at) (drop at bytes))) w white masked →
     Masks n (text ++ take (at + count) bytes) w white masked
@@ -171,13 +171,13 @@ run_read text bytes at count m =
     Masks-same (append_assoc text (take at bytes) (take count (take (length bytes - at) (drop at bytes)))
     ∙ ap (λ (l : List ℕ). text ++ l) (take_run bytes at count)) refl refl refl m
 
--- the text as it is shown with a front of the bytes that follow, and one more
+-- the text as it is shown with a prefix of the bytes that follow, and one more byte
 pub byte_read : {n : ℕ} (text bytes : List ℕ) (at : ℕ) {w : LexState} {white : Bool} {masked : List ℕ} → at < length bytes →
     Masks n ((text ++ take at bytes) ++ get_or bytes at 0 ∷ []) w white masked → Masks n (text ++ take (at + 1) bytes) w white masked
 byte_read text bytes at h m =
     Masks-same (append_assoc text (take at bytes) (get_or bytes at 0 ∷ []) ∙ ap (λ (l : List ℕ). text ++ l) (sym (take_more bytes at 0 h))) refl refl refl m
 
--- the text as it is shown with the bytes in front of the first mark
+-- the text as it is shown with the bytes before the first mark
 pub text_run : {n : ℕ} (text rest old new : List ℕ) {w : LexState} {white : Bool} (now_white : Bool) (count : ℕ) →
     Masks n text w white old → w ≡ in_text → count ≡ position_or_len is_mark rest → NoNewline rest → new ≡ old ++ take count rest →
     now_white ≡ (white && are_white (take count rest)) → Masks n (text ++ take count rest) in_text now_white new
@@ -186,7 +186,7 @@ text_run text rest old new {w} {white} now_white count m e f h p q =
     Masks-same refl refl (sym q) (sym p)
     (Masks-text (take count rest) text white old none (no_feed-take count rest h) (Masks-same refl e refl refl m))
 
--- the text as it is shown with the bytes in front of the first star
+-- the text as it is shown with the bytes before the first star
 pub block_run : {n : ℕ} (text rest old new : List ℕ) {w : LexState} {white : Bool} (r : Option ℕ) (count : ℕ) →
     Masks n text w white old → w ≡ in_block → IsFirstByte (is_byte 42) rest r → count ≡ unwrap_or r (length rest) →
     new ≡ old ++ replicate count 32 → Masks n (text ++ take count rest) w white new
@@ -203,17 +203,17 @@ line_run text rest old new {w} m e h p =
     Masks-same (ap (λ (l : List ℕ). text ++ l) (sym (take_all (length rest) rest (omega arith)))) (sym e) refl (sym p)
     (Masks-line rest text old h (Masks-same refl e refl refl m))
 
--- a line that is white before bytes is white after them where they are
+-- after white bytes a line is white if it is white before them
 pub and_at_true : (a b : Bool) → b ≡ true → a ≡ (a && b)
 and_at_true true b e = sym e
 and_at_true false b e = refl
 
--- where the bytes aren't white, it isn't
+-- after bytes that aren't white a line isn't white
 pub and_at_false : (a b : Bool) → b ≡ false → b ≡ (a && b)
 and_at_false false b e = e
 and_at_false true b e = refl
 
--- bytes without a mark are shown as they stand
+-- bytes without a mark are shown unchanged
 pub plain_run : (text bytes : List ℕ) {w : LexState} {white : Bool} (now_white : Bool) (count : ℕ) →
     LexesTo text w white → w ≡ in_text → count ≡ position_or_len is_mark bytes → count ≡ length bytes → NoNewline bytes →
     now_white ≡ (white && are_white bytes) → Masks (length text) (text ++ bytes) in_text now_white bytes

@@ -1,4 +1,4 @@
--- Names: a name that is no keyword, by the bytes in front.
+-- Names: a word that is no keyword, by the first bytes.
 use Rattle.std.proofs.Common.{◌≡◌, ℕ, suc, ◌+◌, ◌-◌, ◌≤◌, ◌==◌, List, [], ◌∷◌, length, take, get_or, Bool, true, false, if◌then◌else◌, refl, sym, ◌∙◌, ap, ap₂, subst, arith}
 use Rattle.std.proofs.lemmas.Bool.{eqb-true}
 use Rattle.ud_model.specs.text.Bytes.{is_white, is_word_byte, skip_white, slash, backslash, number_sign}
@@ -13,17 +13,17 @@ never p n b e f = by_eq (b == n) refl
     by_eq true g = let h : p n ≡ true = subst (λ (m : ℕ). p m ≡ true) (eqb-true b n g) f in cc
     by_eq false g = refl
 
--- white space matters nowhere by itself
+-- white space is insignificant
 white_special : (b : ℕ) → is_white b ≡ true → is_significant b ≡ false
 white_special b w =
     rw (never is_white slash b refl w, never is_white 34 b refl w, never is_white 39 b refl w, never is_white backslash b refl w, never is_white number_sign b refl w) refl
 
--- nor does a byte of a word
+-- a byte of a word is insignificant
 word_special : (b : ℕ) → is_word_byte b ≡ true → is_significant b ≡ false
 word_special b w =
     rw (never is_word_byte slash b refl w, never is_word_byte 34 b refl w, never is_word_byte 39 b refl w, never is_word_byte backslash b refl w, never is_word_byte number_sign b refl w) refl
 
--- no more bytes are left after white space
+-- after white space there are no more bytes than with it
 pub past_white_short : (bytes : List ℕ) → length (skip_white bytes) ≤ length bytes
 past_white_short [] = omega arith
 past_white_short (x ∷ bytes) = by_white (is_white x) (past_white_short bytes)
@@ -32,7 +32,7 @@ past_white_short (x ∷ bytes) = by_white (is_white x) (past_white_short bytes)
     by_white true h = omega arith
     by_white false h = omega arith
 
--- white space in front of a name that is no keyword
+-- white space before a word that is no keyword
 pub name_front : (bytes : List ℕ) (a b : ℕ) (more : List ℕ) (n : ℕ) → skip_white bytes ≡ a ∷ b ∷ more → n + length (a ∷ b ∷ more) ≡ length bytes + 2 →
     is_no_keyword a b ≡ true → is_significant b ≡ false → NoSignificant (take n bytes) × (is_other_word (take n bytes) ≡ true)
 name_front [] a b more n e f o s = cc
@@ -63,11 +63,11 @@ name_front (x ∷ bytes) a b more n e f o s = by_white (is_white x) refl e (λ m
         let long : length (a ∷ b ∷ more) ≤ length bytes = subst (λ (l : List ℕ). length l ≤ length bytes) g (past_white_short bytes) in
         later n (n - 1) (omega arith) w (rest (n - 1) g (omega arith))
 
--- what is left after white space is no longer
+-- after white space there are no more bytes than with it, for the word after it
 pub past_white_within : (bytes word : List ℕ) → word ≡ skip_white bytes → length word ≤ length bytes
 past_white_within bytes word e = subst (λ (l : List ℕ). length l ≤ length bytes) (sym e) (past_white_short bytes)
 
--- the same, for the word after the white space
+-- white space before a word that is no keyword, for the word after it
 pub name_in_front : (bytes word : List ℕ) → word ≡ skip_white bytes → 2 ≤ length word → is_no_keyword (get_or word 0 0) (get_or word 1 0) ≡ true →
     is_significant (get_or word 1 0) ≡ false → NoSignificant (take (length bytes - length word + 2) bytes) × (is_other_word (take (length bytes - length word + 2) bytes) ≡ true)
 name_in_front bytes [] e h o s = absurd (omega arith)

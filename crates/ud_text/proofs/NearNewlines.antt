@@ -1,11 +1,11 @@
--- Near feeds: a line feed that is found among the first bytes is the first one.
+-- Near newlines: a newline that is found among the first bytes is the first one.
 use Rattle.std.proofs.Common.{◌≡◌, ℕ, zero, suc, ◌+◌, ◌<◌, ◌≤◌, ◌||◌, nat_eq, not, cond, Bool, true, false, List, [], ◌∷◌, length, take, refl, sym, ◌∙◌, ap, subst, arith}
 use Rattle.std.proofs.lemmas.Bool.{eq-eqb, eqb-true}
 use Rattle.std.specs.List.{position_or_len}
 use Rattle.ud_text.specs.LinesState.{UpToNewline}
 use Rattle.ud_text.specs.Searches.{is_one_of}
 
--- the line feed, five times
+-- `feeds`: the newline, five times
 abbrev pub feeds : List ℕ
 feeds = 10 ∷ 10 ∷ 10 ∷ 10 ∷ 10 ∷ []
 
@@ -13,7 +13,7 @@ one_of_five : (x t : Bool) → (x || x || x || x || x) ≡ t → x ≡ t
 one_of_five true t e = e
 one_of_five false t e = e
 
--- one more byte, which is no line feed
+-- one more byte, which is no newline
 later : (b : ℕ) (s : List ℕ) (used : ℕ) → nat_eq b 10 ≡ false → UpToNewline s used true → UpToNewline (b ∷ s) (suc used) true
 later b s used other to = record {
   within = let w : used ≤ length s = to.within in omega arith;
@@ -23,7 +23,7 @@ later b s used other to = record {
       (b ∷ found.0, ((λ is. absurd (let no : true ≡ false = sym (eq-eqb b 10 is) ∙ other in cc)), found.1), ap (λ l. b ∷ l) found.2);
 }
 
--- a line feed in front
+-- a newline as the first byte
 here : (b : ℕ) (s : List ℕ) → nat_eq b 10 ≡ true → UpToNewline (b ∷ s) 1 true
 here b s is = record {
   within = omega arith;
@@ -35,7 +35,7 @@ one_byte : (t : Bool) (b : ℕ) (s : List ℕ) (k n at : ℕ) → nat_eq b 10 �
 one_byte true b s k n at is e below rest = subst (λ u. UpToNewline (b ∷ s) u true) {x = 1} (omega arith) (here b s is)
 one_byte false b s k n at other e below rest = subst (λ u. UpToNewline (b ∷ s) u true) {x = suc (k + 1)} (omega arith) (later b s (k + 1) other (rest (omega arith)))
 
--- the first line feed among the first bytes
+-- the first newline among the first bytes
 pub near_found : (n : ℕ) (s : List ℕ) (at : ℕ) → at ≡ position_or_len (is_one_of feeds) (take n s) → at < n → n ≤ length s → UpToNewline s (at + 1) true
 near_found zero s at e below fits = absurd (omega arith)
 near_found (suc n) [] at e below fits = absurd (omega arith)

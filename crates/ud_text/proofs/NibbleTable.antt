@@ -1,4 +1,4 @@
--- The table by low halves: it tells the bytes that may matter, and no others.
+-- The table by low nibbles: it finds the significant bytes, and no others.
 use Rattle.std.proofs.Common.{◌≡◌, ℕ, ◌+◌, ◌*◌, ◌/◌, ◌^◌, ◌<◌, Bool, true, cond, eqb, List, [], ◌∷◌, map, length, take, get_or, replicate, bit_and, ◌-◌, refl, sym, ap, ap₂, ◌∙◌, arith, w8}
 use Rattle.std.proofs.lemmas.Bool.{eqb-true}
 use Rattle.std.proofs.lemmas.List.{get_or-map, length-map, ext_get_or}
@@ -10,13 +10,13 @@ use Rattle.ud_text.specs.declared.blocks.TheConstants.{BY_LOW_NIBBLE}
 use Rattle.ud_text.proofs.SimdLemmas.{lane}
 use Rattle.ud_text.proofs.SignificantLemmas.{AreBytes, all_below, one_below, agree, agree_same}
 
--- the low halves are places in the table
+-- the low nibbles are positions in the table
 pub low_ok : (v : List ℕ) → length v ≡ 64 → SwzOk w8 16 64 0 (zip2 bit_and v (replicate 64 15))
 low_ok v long =
     SwzOk-from_below w8 16 4 64 0 (zip2 bit_and v (replicate 64 15)) refl (omega (arith, length-zip2 bit_and v (replicate 64 15) long))
     (Each1-zip2 bit_and (λ j. j < 16) v (replicate 64 15) (Each2-splat (λ a b. bit_and a b < 16) v 64 15 (Each1-all (λ a. bit_and a 15 < 16) (λ a. omega (arith, and_le_r a 15)) v)))
 
--- the byte that a low half tells
+-- `told_by b`: the byte of the table for the low nibble of `b`
 abbrev pub told_by : ℕ → ℕ
 told_by b = get_or (take 16 BY_LOW_NIBBLE) (bit_and b 15) 0
 
@@ -24,7 +24,7 @@ copies : all_below (λ i. all_below (λ j. eqb (get_or BY_LOW_NIBBLE (16 * ((0 +
 unfolding all_below
 copies = refl
 
--- the table as it is read at each low half
+-- the table as it is read at each low nibble
 told : (v js : List ℕ) → length v ≡ 64 → js ≡ map (λ x. bit_and x 15) v → swz_l w8 16 BY_LOW_NIBBLE 0 js ≡ map told_by v
 told v js long e =
     let size : length js ≡ 64 = ap length e ∙ length-map v (λ x. bit_and x 15) ∙ long in
@@ -39,11 +39,11 @@ told v js long e =
     ∙ eqb-true _ _ (one_below (λ j. eqb (get_or BY_LOW_NIBBLE (16 * ((0 + i) / 16) + j) 0) (get_or (take 16 BY_LOW_NIBBLE) j 0)) 16 row (get_or js i 0) below)
     ∙ ap (λ (k : ℕ). get_or (take 16 BY_LOW_NIBBLE) k 0) is ∙ sym (get_or-map told_by v i 0 0 within))
 
--- a byte is the one that its low half tells
+-- `is_told b`: the byte is the table's for its low nibble
 abbrev pub is_told : ℕ → Bool
 is_told b = eqb b (told_by b)
 
--- so are the bytes that may matter, and no others
+-- the table has the significant bytes for their low nibbles, and no others
 told_special : (b : ℕ) → b < 256 → is_told b ≡ is_significant b
 unfolding agree all_below
 told_special b h = agree_same (is_told b) (is_significant b) (one_below (λ x. agree (is_told x) (is_significant x)) 256 refl b h)
@@ -57,7 +57,7 @@ map_id : (xs : List ℕ) → xs ≡ map (λ x. x) xs
 map_id [] = refl
 map_id (x ∷ xs) = ap (λ (l : List ℕ). x ∷ l) (map_id xs)
 
--- the lanes that equal the bytes that are told
+-- the lanes that equal the table's bytes for their low nibbles
 pub lanes_told : (v : List ℕ) → length v ≡ 64 →
     zip2 (λ a b. cond (eqb a b) (2 ^ 8 - 1) 0) v (swz_l w8 16 BY_LOW_NIBBLE 0 (zip2 bit_and v (replicate 64 15))) ≡ map (λ x. lane (is_told x)) v
 lanes_told v long =

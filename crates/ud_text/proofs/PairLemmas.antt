@@ -1,4 +1,4 @@
--- Pairs: from the comparisons of many bytes, each with the next one, to the first pair.
+-- Pairs: from the comparisons of many bytes, each with the next one, to the first star pair.
 use Rattle.std.proofs.Common.{◌≡◌, ℕ, zero, suc, ◌+◌, ◌-◌, ◌<◌, ◌≤◌, Bool, true, false, not, ◌&&◌, List, [], ◌∷◌, map, length, take, drop, get_or, bit_and, refl, sym, ap, ap₂, ◌∙◌, subst, arith, add-one, take_all}
 use Rattle.std.specs.List.{position_or_len}
 use Rattle.std.proofs.lemmas.List.{drop-drop}
@@ -8,7 +8,7 @@ use Rattle.ud_text.specs.Searches.{pairs_of, is_found}
 use Rattle.ud_text.specs.BulkLexemes.{is_star_pair, NoStarPair}
 use Rattle.ud_text.proofs.SimdLemmas.{lane, lane_and}
 
--- the lanes in which a test passes, and another one in the second vector
+-- the lanes in which one test passes, and another one in the second vector
 pub lanes_and : (p q : ℕ → Bool) (v w : List ℕ) {xs ys : List ℕ} → xs ≡ map (λ x. lane (p x)) v → ys ≡ map (λ y. lane (q y)) w →
     zip2 bit_and xs ys ≡ map (λ t. lane (is_found t)) (zip2 (λ a b. p a && q b) v w)
 lanes_and p q v w e f = ap₂ (zip2 bit_and) e f ∙ each v w
@@ -18,13 +18,13 @@ lanes_and p q v w e f = ap₂ (zip2 bit_and) e f ∙ each v w
     each (x ∷ xs) [] = refl
     each (x ∷ xs) (y ∷ ys) = ap₂ ◌∷◌ (lane_and (p x) (q y)) (each xs ys)
 
--- each byte has a next one but the last
+-- each byte but the last has a next one
 pub length-pairs_of : (bytes : List ℕ) → length (pairs_of bytes) ≡ length bytes - 1
 length-pairs_of [] = omega arith
 length-pairs_of (a ∷ []) = omega arith
 length-pairs_of (a ∷ b ∷ bytes) = omega (arith, length-pairs_of (b ∷ bytes))
 
--- the pairs of bytes that others stand before
+-- the pairs from a position on
 pairs_of-drop : (at : ℕ) (bytes : List ℕ) → drop at (pairs_of bytes) ≡ pairs_of (drop at bytes)
 pairs_of-drop zero bytes = refl
 pairs_of-drop (suc at) [] = refl
@@ -41,13 +41,13 @@ zip-pairs (suc n) [] = refl
 zip-pairs (suc n) (a ∷ []) = refl
 zip-pairs (suc n) (a ∷ b ∷ bytes) = ap (λ (l : List Bool). is_star_pair a b ∷ l) (zip-pairs n (b ∷ bytes))
 
--- the pairs of so many bytes with the next ones, from a place on
+-- the pairs of `n` bytes with the next ones, from a position on
 pub zip-pairs_at : (n at : ℕ) (bytes : List ℕ) → zip2 is_star_pair (take n (drop at bytes)) (take n (drop (at + 1) bytes)) ≡ take n (drop at (pairs_of bytes))
 zip-pairs_at n at bytes =
     ap (λ (l : List ℕ). zip2 is_star_pair (take n (drop at bytes)) (take n l)) (sym (drop-drop 1 at bytes))
     ∙ zip-pairs n (drop at bytes) ∙ ap (take n) (sym (pairs_of-drop at bytes))
 
--- the pair at a place
+-- the pair at a position
 pub get_or-pairs_of : (bytes : List ℕ) (k : ℕ) → k + 1 < length bytes → get_or (pairs_of bytes) k false ≡ is_star_pair (get_or bytes k 0) (get_or bytes (k + 1) 0)
 get_or-pairs_of [] k h = absurd (omega arith)
 get_or-pairs_of (a ∷ []) k h = absurd (omega arith)
@@ -56,7 +56,8 @@ get_or-pairs_of (a ∷ b ∷ bytes) (suc k) h =
     let more : suc (k + 1) ≡ suc k + 1 = omega arith in
     get_or-pairs_of (b ∷ bytes) k (omega arith) ∙ ap (λ (n : ℕ). is_star_pair (get_or (b ∷ bytes) k 0) (get_or (a ∷ b ∷ bytes) n 0)) more
 
--- a place before which no pair stands, and at which one does or no byte is next, is the first pair's
+-- the first pair is at a position before which there is none, and at which there is one or no next
+-- byte
 pub first_pair_is : (bytes : List ℕ) (at : ℕ) → at ≤ length bytes - 1 → ((k : ℕ) → k < at → is_star_pair (get_or bytes k 0) (get_or bytes (k + 1) 0) ≡ false) →
     (at + 1 < length bytes → is_star_pair (get_or bytes at 0) (get_or bytes (at + 1) 0) ≡ true) → at ≡ position_or_len is_found (pairs_of bytes)
 first_pair_is bytes at h before found =
@@ -84,11 +85,11 @@ module _ (bytes : List ℕ) (at : ℕ) (is : at ≡ position_or_len is_found (pa
   front n h = none_before bytes n (λ k low high.
       sym (get_or-pairs_of bytes k high) ∙ fails_before_first is_found (pairs_of bytes) k false (omega (arith, is)))
 
-  -- no pair stands before the first one
+  -- no pair comes before the first one
   pub before_first_pair : NoStarPair (take (at + 1) bytes)
   before_first_pair = subst (λ (n : ℕ). NoStarPair (take n bytes)) (sym (add-one at)) (front at (omega arith))
 
-  -- where no byte is next, there is no pair
+  -- there is no pair, if there is no next byte
   pub no_pair : length bytes ≤ at + 1 → NoStarPair (take (length bytes + 1) bytes)
   no_pair h =
       subst NoStarPair (take_all (at + 1) bytes h ∙ sym (take_all (length bytes + 1) bytes (omega arith))) before_first_pair

@@ -1,4 +1,4 @@
--- Progress: from what is known up to a place to what is known further on.
+-- Progress: from what is known up to a position to what is known further on.
 use Rattle.std.proofs.Common.{◌≡◌, ℕ, ◌+◌, ◌-◌, ◌<◌, ◌≤◌, List, [], ◌∷◌, ◌++◌, length, take, drop, Bool, true, false, refl, sym, ◌∙◌, ap, subst, append_assoc, append-nil, arith, length-append}
 use Rattle.std.proofs.lemmas.List.{take-append-drop, length-take-le}
 use Rattle.ud_model.specs.text.Scanning.{is_block}
@@ -19,7 +19,7 @@ drop_front p q n e = ap (λ (k : ℕ). drop k (p ++ q)) e ∙ drop-append_seam p
 take_front : (p q : List ℕ) (n : ℕ) → n ≡ length p → take n (p ++ q) ≡ p
 take_front p q n e = ap (λ (k : ℕ). take k (p ++ q)) e ∙ take-append_seam p q
 
--- a line begins after bytes that end with a line feed, whatever stands before them
+-- a line begins after bytes that end with a newline, whatever comes before them
 pub begins-append : (p q : List ℕ) → IsLineStart (q ++ newline ∷ []) → IsLineStart (p ++ (q ++ newline ∷ []))
 begins-append p q h = subst IsLineStart (append_assoc p q (newline ∷ [])) (after_feed (p ++ q))
 
@@ -37,17 +37,17 @@ feed_open s e = by_place s.state e
 
 module _ {start : BulkState} {bytes : List ℕ} {line : ℕ} {kept : BulkState} {at : ℕ} {now : BulkState}
     (r : ReadTo start bytes line kept at now) where
-  -- the bytes from the place on
+  -- the bytes from the position on
   pub rest_of : drop at bytes ≡ r.rest
   rest_of = ap (λ (l : List ℕ). drop at l) (r.is ∙ sym (append_assoc r.front r.mid r.rest))
       ∙ drop_front (r.front ++ r.mid) r.rest at (r.at_is ∙ sym (length-append r.front r.mid))
 
-  -- the bytes from the beginning of the line up to the place
+  -- the bytes from the beginning of the line up to the position
   pub mid_of : take (at - line) (drop line bytes) ≡ r.mid
   mid_of = ap (λ (l : List ℕ). take (at - line) l) (ap (λ (l : List ℕ). drop line l) r.is ∙ drop_front r.front (r.mid ++ r.rest) line r.line_is)
       ∙ take_front r.mid r.rest (at - line) (let e : at ≡ length r.front + length r.mid = r.at_is in let f : line ≡ length r.front = r.line_is in omega arith)
 
-  -- the lines before that beginning are passed
+  -- the lines before that beginning are skipped
   pub passed_of : Skipped start (take line bytes) kept
   passed_of = subst (λ (l : List ℕ). Skipped start l kept)
       (sym (ap (λ (l : List ℕ). take line l) r.is ∙ take_front r.front (r.mid ++ r.rest) line r.line_is)) r.passed
@@ -73,7 +73,7 @@ module _ {start : BulkState} {bytes : List ℕ} {line : ℕ} {kept : BulkState} 
     leads = bulk_state_after-append kept r.mid run ∙ ap (λ (s : BulkState). bulk_state_after s run) r.leads ∙ there;
   }
 
-  -- the same, said from the beginning of a later line
+  -- what is read, from the beginning of a later line
   settled_at : (n : ℕ) (m : List ℕ) → IsLineStart m → m ≡ take n r.mid → n ≤ length r.mid → 0 < n → ReadTo start bytes (line + n) (code_state true) at now
   settled_at n _ at_start e h k = absurd (let f : 0 ≡ n = ap length e ∙ length-take-le n r.mid h in omega arith)
   settled_at n _ (after_feed x) e h k =
@@ -102,7 +102,7 @@ module _ {start : BulkState} {bytes : List ℕ} {line : ℕ} {kept : BulkState} 
         leads = ap (λ (t : BulkState). bulk_state_after t y) (sym there) ∙ sym (bulk_state_after-append kept (x ++ newline ∷ []) y) ∙ ap (λ (l : List ℕ). bulk_state_after kept l) (sym split) ∙ r.leads;
       }
 
-  -- and from the beginning of the last line
+  -- what is read, from the beginning of the last line
   pub settled : (n : ℕ) → LastLineStarts (take (at - line) (drop line bytes)) n → 0 < n → ReadTo start bytes (line + n) (code_state true) at now
   unfolding mid_of
   settled n h k =
@@ -165,7 +165,7 @@ read_start bytes white = record {
   no_comment = tt;
 }
 
--- the place itself is a base
+-- the position itself is a base
 pub read_base : {start : BulkState} {bytes : List ℕ} {line : ℕ} {kept : BulkState} {at : ℕ} (begins : Bool) →
     ReadTo start bytes line kept at (code_state begins) → ReadOutside start bytes line kept at begins at
 read_base begins r = record {
@@ -181,7 +181,7 @@ read_base begins r = record {
 
 module _ {start : BulkState} {bytes : List ℕ} {line : ℕ} {kept : BulkState} {base : ℕ} {begins : Bool} {at : ℕ}
     (r : ReadOutside start bytes line kept base begins at) where
-  -- where the bytes after the base lead
+  -- the state to which the bytes after the base lead
   pub plain_leads : bulk_state_after (code_state begins) r.plain ≡ code_state r.now_white
   plain_leads = ap (λ (s : BulkState). bulk_state_after s r.plain) (sym r.base_leads) ∙ sym (bulk_state_after-append kept r.before r.plain)
       ∙ ap (λ (l : List ℕ). bulk_state_after kept l) (sym r.mid_is) ∙ r.so_far.leads
@@ -213,7 +213,7 @@ module _ {start : BulkState} {bytes : List ℕ} {line : ℕ} {kept : BulkState} 
         (subst (λ (x : BulkState). NoComment x.state (take k (drop at bytes))) (sym plain_leads) t.no_comment);
   }
 
-  -- further bytes are read up to the beginning of a line, if there is a new base
+  -- further bytes are read up to the beginning of a line, with a new base
   pub read_line : (k : ℕ) → k ≤ length (drop at bytes) → LineLexeme r.now_white (take k (drop at bytes)) → ReadOutside start bytes line kept (at + k) true (at + k)
   read_line k h t = read_base true
       (read_on r.so_far k (take k (drop at bytes)) refl h t.quiet t.no_feed (code_state true) t.leads)

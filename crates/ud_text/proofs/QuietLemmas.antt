@@ -1,20 +1,20 @@
--- Quiet: bytes that are read quietly, one run after another, and cut at a line feed.
+-- Quiet runs: bytes that are read without a stop, one run after another, and cut at a newline.
 use Rattle.std.proofs.Common.{◌≡◌, ℕ, ◌==◌, List, [], ◌∷◌, ◌++◌, Bool, true, false, not, ◌&&◌, if◌then◌else◌, refl, sym, ◌∙◌, ap}
 use Rattle.ud_model.specs.text.Bytes.{is_white, skip_white, newline, number_sign}
 use Rattle.ud_text.specs.BulkStates.{next_bulk_state, stops_bulk, NoNewlineInBlock, bulk_state_after, BulkState, shows_hash, HasNoStop, is_other_word, starts_with_no_keyword}
 use Rattle.ud_model.proofs.text.ScanLaws.{place_after, white_after}
 
--- bytes lead on from where those before them lead
+-- bytes lead on from the state to which the bytes before them lead
 pub bulk_state_after-append : (s : BulkState) (p q : List ℕ) → bulk_state_after s (p ++ q) ≡ bulk_state_after (bulk_state_after s p) q
 bulk_state_after-append s [] q = refl
 bulk_state_after-append s (b ∷ p) q = bulk_state_after-append (next_bulk_state s b) p q
 
--- the place that bytes lead to
+-- the lexer's state to which bytes lead
 pub bulk_state_after-place : (s : BulkState) (p : List ℕ) → (bulk_state_after s p).state ≡ place_after s.state p
 bulk_state_after-place s [] = refl
 bulk_state_after-place s (b ∷ p) = bulk_state_after-place (next_bulk_state s b) p
 
--- whether the line is white then
+-- bytes lead to a white line or not
 pub bulk_state_after-white : (s : BulkState) (p : List ℕ) → (bulk_state_after s p).white ≡ white_after s.state s.white p
 bulk_state_after-white s [] = refl
 bulk_state_after-white s (b ∷ p) = bulk_state_after-white (next_bulk_state s b) p
@@ -24,7 +24,7 @@ starts_with_no_keyword-append [] q e = cc
 starts_with_no_keyword-append (a ∷ []) q e = cc
 starts_with_no_keyword-append (a ∷ b ∷ p) q e = e
 
--- a name that is no keyword stays one with further bytes
+-- a word that is no keyword stays one with further bytes
 other-append : (p q : List ℕ) → is_other_word p ≡ true → is_other_word (p ++ q) ≡ true
 other-append [] q e = cc
 other-append (a ∷ p) q e = by_white (other-append p q) (is_white a) e
@@ -45,7 +45,7 @@ stops_bulk-append s b p q e = by_tests (b == newline) (b == number_sign) (shows_
     by_tests false true true true true i h = ap not (other-append p q i)
     by_tests false true true true false i h = cc
 
--- one quiet run after another is a quiet run
+-- two runs without a stop, one after the other, have none
 pub HasNoStop-append : (s : BulkState) (p q : List ℕ) → HasNoStop s p → HasNoStop (bulk_state_after s p) q → HasNoStop s (p ++ q)
 HasNoStop-append s [] q h k = k
 HasNoStop-append s (b ∷ p) q h k = (stops_bulk-append s b p q h.0, HasNoStop-append (next_bulk_state s b) p q h.1 k)
@@ -63,24 +63,24 @@ other-feed (a ∷ p) q = by_white (other-feed p q) (is_white a)
     by_white more true = more
     by_white more false = rest_is p
 
--- a quiet run up to a line feed is quiet by itself, and so is what follows: nothing after a line feed counts
+-- a run without a stop has none up to a newline, and none after it: nothing after a newline counts
 pub HasNoStop-feed : (s : BulkState) (p q : List ℕ) → HasNoStop s (p ++ newline ∷ q) → HasNoStop s (p ++ newline ∷ []) × HasNoStop (bulk_state_after s (p ++ newline ∷ [])) q
 HasNoStop-feed s [] q h = ((h.0, tt), h.1)
 HasNoStop-feed s (b ∷ p) q h =
     let more : HasNoStop (next_bulk_state s b) (p ++ newline ∷ []) × HasNoStop (bulk_state_after (next_bulk_state s b) (p ++ newline ∷ [])) q = HasNoStop-feed (next_bulk_state s b) p q h.1 in
     ((ap (λ (o : Bool). if b == newline then s.spliced else if b == number_sign then shows_hash s.state && s.white && not o else false) (sym (other-feed p q)) ∙ h.0, more.0), more.1)
 
--- what follows the front of a quiet run is quiet
+-- what follows a prefix of a run without a stop has none
 pub HasNoStop-rest : (s : BulkState) (p q : List ℕ) → HasNoStop s (p ++ q) → HasNoStop (bulk_state_after s p) q
 HasNoStop-rest s [] q h = h
 HasNoStop-rest s (b ∷ p) q h = HasNoStop-rest (next_bulk_state s b) p q h.1
 
--- the same of runs in which no line feed stands in a block comment
+-- two runs without a newline in a block comment, one after the other, have none
 pub NoNewlineInBlock-append : (s : BulkState) (p q : List ℕ) → NoNewlineInBlock s p → NoNewlineInBlock (bulk_state_after s p) q → NoNewlineInBlock s (p ++ q)
 NoNewlineInBlock-append s [] q h k = k
 NoNewlineInBlock-append s (b ∷ p) q h k = (h.0, NoNewlineInBlock-append (next_bulk_state s b) p q h.1 k)
 
--- and of what follows the front of one
+-- what follows a prefix of a run without a newline in a block comment has none
 pub NoNewlineInBlock-rest : (s : BulkState) (p q : List ℕ) → NoNewlineInBlock s (p ++ q) → NoNewlineInBlock (bulk_state_after s p) q
 NoNewlineInBlock-rest s [] q h = h
 NoNewlineInBlock-rest s (b ∷ p) q h = NoNewlineInBlock-rest (next_bulk_state s b) p q h.1

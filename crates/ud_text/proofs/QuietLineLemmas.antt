@@ -1,4 +1,5 @@
--- Quiet lines: a whole line that is read quietly is text, and what is carried from it; many of them at once.
+-- Quiet lines: a whole line that is read without a stop is text, and what is carried from it; many
+-- of them at once.
 use Rattle.std.proofs.Common.{◌≡◌, ◌≤◌, ℕ, suc, ◌+◌, ◌-◌, ◌==◌, nat_eq, List, [], ◌∷◌, ◌++◌, length, take, Bool, true, false, not, ◌&&◌, ◌||◌, if◌then◌else◌, refl, sym, ◌∙◌, ap, subst, append_assoc, append-nil, arith, length-append}
 use Rattle.std.specs.List.{concat, ends_with}
 use Rattle.std.proofs.lemmas.Bool.Decides.{Decides-eqb}
@@ -28,14 +29,14 @@ use Rattle.ud_text.proofs.TextLemmas.{Unsigned, text_not_fresh, text_unsigned, u
 use Rattle.ud_model.specs.text.Bytes.{newline, carriage_return, backslash}
 use Rattle.std.proofs.Math.Bool.{or-false}
 
--- what follows a line's content, by whether the line is spliced
+-- `IsTail spliced tail`: what follows a line's content, by whether the line is spliced
 pub data IsTail : Bool → List ℕ → Type 0 where
   feed : IsTail false (newline ∷ [])
   return_feed : IsTail false (carriage_return ∷ newline ∷ [])
   splice_feed : IsTail true (backslash ∷ newline ∷ [])
   splice_return_feed : IsTail true (backslash ∷ carriage_return ∷ newline ∷ [])
 
--- a whole line is its content and a tail
+-- `Shape line bytes`: a whole line is its content and a tail
 pub record Shape (line : Line) (bytes : List ℕ) : Type 0 where
   pub tail : List ℕ
   pub is : bytes ≡ content line ++ tail
@@ -43,7 +44,7 @@ pub record Shape (line : Line) (bytes : List ℕ) : Type 0 where
   pub closes : stays_open line ≡ is_spliced line
   pub one_line : NoNewline (content line)
 
--- the ending of a whole line
+-- `IsFeed bytes`: the ending of a whole line
 pub data IsFeed : List ℕ → Type 0 where
   one : IsFeed (newline ∷ [])
   two : IsFeed (carriage_return ∷ newline ∷ [])
@@ -91,7 +92,7 @@ tail_kind true _ two = splice_return_feed
 tail_kind false _ one = feed
 tail_kind false _ two = return_feed
 
--- each whole line is so made up
+-- each whole line is a content and a tail
 pub shape_of : (n : ℕ) (l : List ℕ) → IsWhole l → Shape (line_at n l) l
 shape_of n l whole =
     let line : Line = line_at n l in
@@ -149,7 +150,8 @@ feed_white in_line white e = refl
 feed_white (in_literal q) white e = refl
 feed_white (at_backslash q) white e = refl
 
--- the state after a line is that of the definitions, by where its content leaves off and whether it is spliced
+-- `Leads v white spliced now`: the state after a line is that of the definitions, by the state
+-- after its content and whether it is spliced
 pub record Leads (v : LexState) (white : Bool) (spliced : Bool) (now : BulkState) : Type 0 where
   pub state : now.state ≡ state_after_line spliced v
   pub white_is : now.white ≡ white_after_line spliced v white
@@ -196,7 +198,8 @@ tail_names _ _ return_feed = (refl, refl)
 tail_names _ _ splice_feed = (refl, refl)
 tail_names _ _ splice_return_feed = (refl, refl)
 
--- a line that is read quietly is text, and leaves this state
+-- `QuietLine w white before line now`: a line that is read without a stop is text, and leads to the
+-- state `now`
 pub record QuietLine (w : LexState) (white : Bool) (before : List Reading) (line : Line) (now : BulkState) : Type 0 where
   pub stands : ScannerRepresents (scanner_state_at now.state now.white) (before ++ next_reading before C line ∷ [])
   pub is_text : content_of (scan_after before C line) ≡ text
@@ -241,7 +244,7 @@ module _ (w : LexState) (white : Bool) (before : List Reading) (line : Line) (ca
   sign (in_literal r) tail e o f n q = cc
   sign (at_backslash r) tail e o f n q = cc
 
-  -- the line is text, if its content is read quietly and no word goes on after it
+  -- the line is text, if its content is read without a stop and no word continues after it
   pub line_is_text : (tail : List ℕ) → can_start w ≡ true → NoNewline (content line) → is_other_word tail ≡ false → NoWord tail →
       HasNoStop (line_state w white) (content line ++ tail) → content_of (scan_after before C line) ≡ text
   line_is_text tail at o f n q = ap content_of seen ∙ by_white white refl
@@ -286,7 +289,7 @@ module _ (w : LexState) (white : Bool) (before : List Reading) (line : Line) (by
       (scanner_state_at (bulk_state_after (line_state w white) bytes).state (bulk_state_after (line_state w white) bytes).white) carried (shown w white before line carried) place_now white_now
       (joins_now (is_spliced line) (bulk_state_after (line_state w white) bytes).state (bulk_state_after (line_state w white) bytes).white led.in_comment led.begins_white)
 
-  -- the line is text, and carries on
+  -- the line is text, and the state after it is carried
   pub line_read : QuietLine w white before line (bulk_state_after (line_state w white) bytes)
   line_read = record {
     stands = line_stands;
@@ -298,12 +301,13 @@ module _ (w : LexState) (white : Bool) (before : List Reading) (line : Line) (by
     };
   }
 
--- lines that are read quietly are text, and leave this state
+-- `QuietLines before n ls now`: lines that are read without a stop are text, and lead to the state
+-- `now`
 pub record QuietLines (before : List Reading) (n : ℕ) (ls : List (List ℕ)) (now : BulkState) : Type 0 where
   pub stands : ScannerRepresents (scanner_state_at now.state now.white) (readings_after before (lines_in_mode C n ls))
   pub texts : HaveNoDirective C before (numbered_from n ls)
 
--- lines that are read quietly, one after another
+-- lines that are read without a stop, one after another
 pub lines_read : (ls : List (List ℕ)) (n : ℕ) (w : LexState) (white : Bool) (before : List Reading) → AreWhole ls → can_start w ≡ true →
     HasNoStop (line_state w white) (concat ls) → ScannerRepresents (scanner_state_at w white) before → QuietLines before n ls (bulk_state_after (line_state w white) (concat ls))
 lines_read [] n w white before whole at quiet carried = record { stands = carried; texts = tt }
@@ -337,11 +341,11 @@ pub passes_none : (mode : Mode) (c : ScannerState) → SkipsText mode c c []
 unfolding split_lines
 passes_none mode c = record { stands = λ n before h. h; texts = λ n before h. tt }
 
--- no lines lead nowhere else
+-- no lines lead to the same state
 pub passed_none : (start : BulkState) → AtLine start → Skipped start [] start
 passed_none start at = record { ends = begins_ends [] at_start; passes = passes_none C (scanner_state_at start.state start.white); at_line = at }
 
--- a line begins after a line feed
+-- a line begins after a newline
 feed_at_line : (s : BulkState) → AtLine (next_bulk_state s newline)
 feed_at_line s = record { is = refl; starts = starts_after s.state }
 
@@ -362,7 +366,7 @@ quiet_passes w white bytes at ends quiet =
       texts = λ n before h. (lines_read ls n w white before (are_whole bytes) at on h).texts;
     }
 
--- whole lines that are read quietly are passed
+-- whole lines that are read without a stop are skipped
 pub passed_quiet : (start : BulkState) (bytes : List ℕ) → AtLine start → IsLineStart bytes → HasNoStop start bytes → Skipped start bytes (bulk_state_after start bytes)
 passed_quiet start bytes at b quiet = record {
   ends = begins_ends bytes b;
@@ -389,7 +393,7 @@ texts_append mode n before (l ∷ ls) ms h k =
           (subst (λ (m : ℕ). HaveNoDirective mode (readings_after before (lines_in_mode mode n (l ∷ ls))) (numbered_from m ms)) e k),
     )
 
--- lines are passed one after another
+-- lines are skipped one after another
 pub passes_append : (mode : Mode) (old mid new : ScannerState) (p q : List ℕ) → AreWholeLines p → SkipsText mode old mid p → SkipsText mode mid new q →
     SkipsText mode old new (p ++ q)
 passes_append mode old mid new p q ends h k =
@@ -412,7 +416,7 @@ Skipped-append {start} {now} {later} p q h k = record {
   at_line = k.at_line;
 }
 
--- the same, as the program carries it
+-- lines are skipped in the states that the program carries
 pub passes_run : (w : LexState) (white j : Bool) (bytes : List ℕ) (now : LexState) (now_white k : Bool) → j ≡ continues_line w white → k ≡ continues_line now now_white →
     Skipped (line_state w white) bytes (line_state now now_white) →
     SkipsText C (record { state = w; white = white; joins = j }) (record { state = now; white = now_white; joins = k }) bytes

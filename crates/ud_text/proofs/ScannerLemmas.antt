@@ -1,4 +1,4 @@
--- Carries: what is carried over a line, and what is seen of the line by it.
+-- Scanner states: what is carried over a line, and the line's scan by it.
 use Rattle.std.proofs.Common.{◌≡◌, ℕ, ◌-◌, List, [], ◌∷◌, ◌++◌, length, take, map, Bool, true, false, ◌||◌, if◌then◌else◌, refl, sym, ◌∙◌, ap}
 use Rattle.ud_model.specs.text.Lines.{Line, NoNewline}
 use Rattle.ud_model.specs.text.Scans.{Scan, Reading}
@@ -18,13 +18,13 @@ use Rattle.ud_model.proofs.text.ScanLemmas.{LexesTo-same, LexesTo-close, kind_at
 use Rattle.ud_text.specs.ScannerState.{ScannerState, ScannerRepresents, initial_scanner_state, ends_in_block}
 use Rattle.ud_text.proofs.MaskLemmas.{no_feed-take}
 
--- whether the last of readings with one more ends in a block comment
+-- readings with one more end in a block comment if and only if that one does
 pub ends_in_block_last : (before : List Reading) (r : Reading) → ends_in_block (before ++ r ∷ []) ≡ is_in_block r.scan.comment
 ends_in_block_last [] r = refl
 ends_in_block_last (q ∷ []) r = refl
 ends_in_block_last (q ∷ p ∷ before) r = ends_in_block_last (p ∷ before) r
 
--- a line's comment state is that of a block comment where the line ends in one
+-- a line's comment is a block comment, if the line ends in one
 pub block_at : (spliced : Bool) (k : LexemeKind) → is_in_block (comment_at spliced k) ≡ is_block k
 block_at spliced block_comment = refl
 block_at true line_comment = refl
@@ -32,7 +32,7 @@ block_at false line_comment = refl
 block_at spliced literal = refl
 block_at spliced single = refl
 
--- nothing is carried where the run has no lines
+-- the initial state represents a C run without lines
 pub represents_none : (before : List Reading) → c_run_of before ≡ [] → ends_in_block before ≡ false → ScannerRepresents initial_scanner_state before
 unfolding joins
 represents_none before e f = record {
@@ -41,14 +41,15 @@ represents_none before e f = record {
   block_is = sym f;
 }
 
--- nothing is carried over a line in plain mode
+-- the initial state is carried over a line in plain mode
 pub represents_plain : (before : List Reading) (line : Line) → ScannerRepresents initial_scanner_state (before ++ next_reading before Plain line ∷ [])
 represents_plain before line =
     represents_none (before ++ next_reading before Plain line ∷ []) (run_of_last before (next_reading before Plain line))
     (ends_in_block_last before (next_reading before Plain line))
 
 module _ (carry : ScannerState) (before : List Reading) (line : Line) (masked : List ℕ) (v : LexState) (white : Bool) where
-  -- what is seen of a line in C mode, by what is carried and by the place at which the line's content leaves off
+  -- the scan of a line in C mode, by the carried state and by the lexer's state after the line's
+  -- content
   pub scan_carried : ScannerRepresents carry before → Masks (length (spliced_text (c_run_of before))) (spliced_text (c_run_of before) ++ content line) v white masked →
       scan_after_run (c_run_of before) line ≡ record {
         masked = masked;
@@ -60,7 +61,7 @@ module _ (carry : ScannerState) (before : List Reading) (line : Line) (masked : 
       }
   scan_carried h m = scan_behind_is (c_run_of before) line masked carry.state v carry.white white carry.joins h.reads h.joins_is m
 
-  -- what is carried over a line in C mode
+  -- the state that is carried over a line in C mode
   pub represents_code : (left : ScannerState) → ScannerRepresents carry before → Masks (length (spliced_text (c_run_of before))) (spliced_text (c_run_of before) ++ content line) v white masked →
       left.state ≡ state_after_line (stays_open line) v → left.white ≡ white_after_line (stays_open line) v white →
       left.joins ≡ (is_spliced line || is_block (kind_in_state left.state)) → ScannerRepresents left (before ++ next_reading before C line ∷ [])
@@ -84,7 +85,7 @@ pub same_parts : {m n : List ℕ} {f g b c a d s t : Bool} {k l : CommentAt} →
     (record { masked = n; fresh = g; joins_before = c; joins_after = d; spliced = t; comment = l })
 same_parts e f g h i j = cc
 
--- the content of a line has no line feed where its body has none
+-- the content of a line has no newline, if the body has none
 pub no_newline-content : (line : Line) → NoNewline line.body → NoNewline (content line)
 no_newline-content line h = by_splice (is_spliced line)
   where
@@ -92,7 +93,7 @@ no_newline-content line h = by_splice (is_spliced line)
     by_splice true = no_feed-take (length line.body - 1) line.body h
     by_splice false = h
 
--- what is carried decides what is seen of the next line
+-- the carried state decides the scan of the next line
 pub same_scans : (carry : ScannerState) (before others : List Reading) (m : Mode) (line : Line) → ScannerRepresents carry before → ScannerRepresents carry others →
     scan_after before m line ≡ scan_after others m line
 same_scans carry before others Plain line h k = refl
@@ -100,7 +101,7 @@ same_scans carry before others C line h k =
     scan_after_run-from (c_run_of before) line carry.state carry.white carry.joins h.reads h.joins_is
     ∙ sym (scan_after_run-from (c_run_of others) line carry.state carry.white carry.joins k.reads k.joins_is)
 
--- whether lines end in a block comment is said alike of items and of their readings
+-- items and their readings agree whether the last line ends in a block comment
 pub ends_in_comment-readings : (xs : List (Item Reading)) → ends_in_block (map reading_of xs) ≡ ends_in_comment xs
 ends_in_comment-readings [] = refl
 ends_in_comment-readings (x ∷ []) = refl

@@ -1,4 +1,4 @@
--- Special bytes: three tests find the five of them.
+-- Significant bytes: three tests find the five of them.
 use Rattle.std.proofs.Common.{◌≡◌, ℕ, zero, suc, ◌-◌, ◌^◌, ◌<◌, eqb, Bool, true, false, not, cond, if◌then◌else◌, ◌||◌, ◌&&◌, List, [], ◌∷◌, map, length, take, drop, get_or, replicate, bit_or, refl, sym, ap, ap₂, ◌∙◌, arith}
 use Rattle.std.proofs.lemmas.Bool.{eqb-true, eq-eqb}
 use Rattle.std.proofs.lemmas.Simd.{zip2_splat, map-map}
@@ -8,11 +8,12 @@ use Rattle.ud_text.specs.Blocks.{significant_bits}
 use Rattle.ud_text.specs.BulkLexemes.{is_significant}
 use Rattle.ud_text.proofs.SimdLemmas.{lane}
 
--- the tests: a `"` is a `#` without the lowest bit, and a `'` a `/` without the bit of 8
+-- `is_found_special b`: one of three tests finds `b`: a `"` is a `#` without the lowest bit, and a
+-- `'` a `/` without the bit of 8
 abbrev pub is_found_special : ℕ → Bool
 is_found_special b = (eqb (bit_or b 1) 35 || eqb (bit_or b 8) 47) || eqb b 92
 
--- two tests have the same outcome
+-- `agree a b`: two tests have the same outcome
 unfoldable pub agree : Bool → Bool → Bool
 agree a b = if a then b else not b
 
@@ -23,7 +24,7 @@ agree_same true false e = cc
 agree_same false true e = cc
 agree_same false false e = refl
 
--- a test is passed by all numbers below this one
+-- `all_below p n`: all numbers below `n` pass the test
 unfoldable pub all_below : (ℕ → Bool) → ℕ → Bool
 all_below p zero = true
 all_below p (suc n) = p n && all_below p n
@@ -33,7 +34,7 @@ both true true e = (refl, refl)
 both true false e = cc
 both false b e = cc
 
--- so any of them passes it
+-- each number below `n` passes the test, if all do
 pub one_below : (p : ℕ → Bool) (n : ℕ) → all_below p n ≡ true → (b : ℕ) → b < n → p b ≡ true
 unfolding all_below
 one_below p zero e b h = absurd (omega (arith, h))
@@ -43,12 +44,12 @@ one_below p (suc n) e b h = by_test (eqb b n) refl (λ k. one_below p n (both (p
     by_test true f lower = ap p (eqb-true b n f) ∙ (both (p n) (all_below p n) e).0
     by_test false f lower = lower (let k : (b ≡ n → ⊥) = λ s. (let e : true ≡ false = sym (eq-eqb b n s) ∙ f in cc) in omega (arith, h, k))
 
--- they find the special bytes, and no others
+-- the three tests find the significant bytes, and no others
 special_found : (b : ℕ) → b < 256 → is_found_special b ≡ is_significant b
 unfolding agree all_below
 special_found b h = agree_same (is_found_special b) (is_significant b) (one_below (λ x. agree (is_found_special x) (is_significant x)) 256 refl b h)
 
--- each of these is a byte
+-- `AreBytes bytes`: each number is a byte
 unfoldable pub AreBytes : List ℕ → Type 0
 AreBytes [] = Unit {0}
 AreBytes (b ∷ bs) = (b < 256) × AreBytes bs
@@ -75,11 +76,11 @@ unfolding AreBytes
 map_found [] h = refl
 map_found (b ∷ bs) h = ap₂ (λ (t : Bool) (ts : List Bool). t ∷ ts) (special_found b h.0) (map_found bs h.1)
 
--- a row of bytes is one
+-- the bytes of a block are bytes
 pub row_bytes : (bs : List ℕ) (at n : ℕ) → ((i : ℕ) → get_or bs i 0 < 256) → AreBytes (take n (drop at bs))
 row_bytes bs at n h = bytes_take n (drop at bs) (bytes_drop at bs (are_bytes bs h))
 
--- the three tests find the special bytes of a row
+-- the three tests find the significant bytes of a block
 pub bits_row : (bs : List ℕ) (at n : ℕ) → ((i : ℕ) → get_or bs i 0 < 256) → mask_l (map is_found_special (take n (drop at bs))) ≡ significant_bits (take n (drop at bs))
 bits_row bs at n h = ap mask_l (map_found (take n (drop at bs)) (row_bytes bs at n h))
 

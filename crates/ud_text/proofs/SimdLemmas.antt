@@ -9,7 +9,7 @@ use Rattle.ud_model.specs.text.Bytes.{slash, star, backslash, number_sign, is_ma
 use Rattle.ud_text.specs.Searches.{is_one_of, lowest_set_bit}
 use Rattle.ud_text.specs.BulkLexemes.{is_significant}
 
--- what a comparison gives in a lane: all bits or none
+-- `lane t`: the lane that a comparison returns: all bits or none
 abbrev pub lane : Bool → ℕ
 lane t = cond t 255 0
 
@@ -59,17 +59,17 @@ lane_bits {X} p v n z long few lanes =
     ∙ map_same (λ (x : X). top 7 (lane (p x))) p (λ x. lane_top (p x)) v in
     ap (λ (l : List Bool). mask_l l % 2 ^ 64) tops ∙ mask_l-mod (map p v) 64 (omega (arith, length-map v p, long))
 
--- the lowest bit tells the first lane that passes
+-- the lowest bit is that of the first lane that passes
 pub lowest_lane : {X : Type 0} (p : X → Bool) (v : List X) (n r : ℕ) (z : List ℕ) → length v ≡ n → n ≤ 64 → z ≡ map (λ x. lane (p x)) v →
     r ≡ lowest_set_bit (mask_l (map (top 7) z) % 2 ^ 64) n → r ≡ position_or_len p v
 lowest_lane {X} p v n r z long few lanes found =
     found ∙ ap (λ (m : ℕ). lowest_set_bit m n) (lane_bits p v n z long few lanes) ∙ first_set_mask_l p v n long few
 
--- a search finds a place within the bytes, or their end
+-- a search finds a position within the bytes, or their end
 pub search_bound : {X : Type 0} (p : X → Bool) (xs : List X) (at : ℕ) → at ≡ position_or_len p xs → at ≤ length xs
 search_bound p xs at e = omega (arith, e, prefix_len-le-length (λ x. not (p x)) xs)
 
--- a search over a front of bytes finds the first, if it is among them
+-- a search over a prefix finds the first byte, if the byte is in the prefix
 pub search_take : {X : Type 0} (p : X → Bool) (n : ℕ) (xs : List X) → position_or_len p (take n xs) ≡ min n (position_or_len p xs)
 search_take p zero xs = omega arith
 search_take p (suc n) [] = omega arith
@@ -79,7 +79,7 @@ search_take p (suc n) (x ∷ xs) = next (p x) (position_or_len p (take n xs)) (p
     next true s m e = omega arith
     next false s m e = omega arith
 
--- a search goes on after bytes among which there is none
+-- a search continues after bytes that don't pass
 pub search_drop : {X : Type 0} (p : X → Bool) (at : ℕ) (xs : List X) → at ≤ position_or_len p xs → position_or_len p xs ≡ at + position_or_len p (drop at xs)
 search_drop p zero xs h = omega arith
 search_drop p (suc at) [] h = absurd (omega arith)
@@ -93,7 +93,7 @@ module _ {X : Type 0} (p : X → Bool) (n : ℕ) (xs : List X) (at count : ℕ) 
   among : count ≡ min n (position_or_len p (drop at xs))
   among = found ∙ search_take p n (drop at xs)
 
-  -- so many lanes have none
+  -- at most `n` lanes come before the first
   pub among_bound : count ≤ n
   among_bound = omega (arith, among)
 
@@ -101,11 +101,11 @@ module _ {X : Type 0} (p : X → Bool) (n : ℕ) (xs : List X) (at count : ℕ) 
   pub first_here : at ≤ position_or_len p xs → count < n → at + count ≡ position_or_len p xs
   first_here h k = omega (arith, among, search_drop p at xs h)
 
-  -- the first is after them
+  -- the first is after these lanes
   pub first_later : at ≤ position_or_len p xs → n ≤ count → at + n ≤ position_or_len p xs
   first_later h k = omega (arith, among, search_drop p at xs h)
 
-  -- the last lanes tell where the first is, or that there is none
+  -- the last lanes show where the first is, or that there is none
   pub first_at_last : n ≤ length xs → at ≡ length xs - n → at ≤ position_or_len p xs → at + count ≡ position_or_len p xs
   first_at_last h e k =
       let bound : position_or_len p (drop at xs) ≤ length (drop at xs) = prefix_len-le-length (λ x. not (p x)) (drop at xs) in
@@ -126,7 +126,7 @@ specials_are : (a b c d e : Bool) → ((((a || b) || c) || d) || e) ≡ (((a || 
 specials_are true b c d e = refl
 specials_are false b c d e = refl
 
--- the special bytes are five
+-- the significant bytes are five
 pub search_specials : (bytes : List ℕ) → position_or_len (is_one_of (slash ∷ 34 ∷ 39 ∷ backslash ∷ number_sign ∷ [])) bytes ≡ position_or_len is_significant bytes
 search_specials bytes =
     search_same (is_one_of (slash ∷ 34 ∷ 39 ∷ backslash ∷ number_sign ∷ [])) is_significant

@@ -26,14 +26,14 @@ end_of xs ys n e =
     let there : length (xs ++ ys) - n ≡ length xs = omega (arith, e, length-append xs ys) in
     ap (λ (k : ℕ). drop k (xs ++ ys)) there ∙ drop-append_seam xs ys
 
--- and what stands before it
+-- the beginning of two lists joined
 front_of : (xs ys : List ℕ) (n : ℕ) → n ≡ length ys → take (length (xs ++ ys) - n) (xs ++ ys) ≡ xs
 front_of xs ys n e =
     let there : length (xs ++ ys) - n ≡ length xs = omega (arith, e, length-append xs ys) in
     ap (λ (k : ℕ). take k (xs ++ ys)) there ∙ take-append_seam xs ys
 
 module _ (cont : List ℕ) (n : ℕ) where
-  -- a line of this content that ends in a splice
+  -- `IsJoined l`: a line of this content that ends in a splice
   pub record IsJoined (l : List ℕ) : Type 0 where
     pub spliced : is_spliced (line_at n l) ≡ true
     pub content_is : content (line_at n l) ≡ cont
@@ -86,7 +86,7 @@ module _ (cont : List ℕ) (n : ℕ) where
   joined_by _ splice_feed = joined_feed
   joined_by _ splice_return_feed = joined_return
 
--- a splice ends the only line of bytes without a line feed
+-- a splice ends the only line of bytes without a newline
 one_line : (cont s : List ℕ) → NoNewline cont → IsSplice s → split_lines (cont ++ s) ≡ record { whole = (cont ++ s) ∷ []; rest = [] }
 unfolding split_lines
 one_line cont _ none splice_feed =
@@ -127,7 +127,7 @@ module _ (w : LexState) (white : Bool) (cont : List ℕ) (at : can_start w ≡ t
       tt,
     )
 
-  -- one line that a splice joins to the next is passed
+  -- one line that a splice joins to the next is skipped
   spliced_passes : SkipsText C (scanner_state_at w white) (scanner_state_at in_text false) (cont ++ s)
   spliced_passes =
       let is : whole_lines (cont ++ s) ≡ (cont ++ s) ∷ [] = ap (λ (q : SplitLines). q.whole) (one_line cont s none splice) in
@@ -139,7 +139,7 @@ module _ (w : LexState) (white : Bool) (cont : List ℕ) (at : can_start w ≡ t
   pub passed_line : Skipped (line_state w white) (cont ++ s) (code_state false)
   passed_line = record { ends = ap (λ (q : SplitLines). q.rest) (one_line cont s none splice); passes = spliced_passes; at_line = record { is = refl; starts = refl } }
 
--- bytes as their whole lines and the last line
+-- `Cut bytes`: bytes as their whole lines and the last line
 record Cut (bytes : List ℕ) : Type 0 where
   pub lines : List ℕ
   pub last : List ℕ
@@ -175,7 +175,8 @@ quiet_front : (s : BulkState) (p q : List ℕ) → IsLineStart p → HasNoStop s
 quiet_front s _ q at_start h = (tt, h)
 quiet_front s _ q (after_feed front) h = HasNoStop-feed s front q (subst (λ (x : List ℕ). HasNoStop s x) (append_assoc front (newline ∷ []) q) h)
 
--- lines that are read quietly up to a splice on a logical line that isn't white are passed with it
+-- lines that are read without a stop, up to a splice on a logical line that isn't white, are
+-- skipped with the splice
 pub passed_splice : (start : BulkState) (bytes s : List ℕ) → AtLine start → HasNoStop start bytes → bulk_state_after start bytes ≡ code_state false → IsSplice s →
     Skipped start (bytes ++ s) (code_state false)
 passed_splice start bytes s at quiet leads splice =

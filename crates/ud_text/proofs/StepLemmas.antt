@@ -1,4 +1,4 @@
--- Steps: what one step of the program reads, in the places and slices that it has.
+-- Steps: what one step of the program reads, by the positions and slices that the step has.
 use Rattle.std.proofs.Common.{◌≡◌, ℕ, zero, suc, ◌+◌, ◌-◌, ◌<◌, ◌≤◌, ◌==◌, List, [], ◌∷◌, ◌++◌, length, take, drop, get_or, Bool, true, false, ◌&&◌, ◌||◌, ◌⊎◌, inl, inr, refl, sym, ◌∙◌, ap, ap₂, subst, append_assoc, arith, add-one}
 use Rattle.std.specs.List.{position_or_len}
 use Rattle.std.proofs.lemmas.Bool.{eqb-true}
@@ -28,17 +28,17 @@ take_two (a ∷ b ∷ l) h = refl
 two_are : (l : List ℕ) (a b : ℕ) → 2 ≤ length l → get_or l 0 0 ≡ a → get_or l 1 0 ≡ b → take 2 l ≡ a ∷ b ∷ []
 two_are l a b h e f = take_two l h ∙ ap₂ (λ (x y : ℕ). x ∷ y ∷ []) e f
 
--- a slash that begins no comment, and the byte after it, are in front
+-- the bytes begin with a slash that begins no comment, and the byte after it
 pub slash_spans : (l : List ℕ) (b : ℕ) → 2 ≤ length l → get_or l 0 0 ≡ slash → b ≡ get_or l 1 0 → is_significant b ≡ false → (b == star) ≡ false →
     (white : Bool) → CodeLexeme white (take 2 l)
 slash_spans l b h e i f g white = subst (λ (x : List ℕ). CodeLexeme white x) (sym (two_are l slash b h e (sym i))) (slash_read b white f g)
 
--- a backslash that belongs to no splice, and the byte after it, are in front
+-- the bytes begin with a backslash that belongs to no splice, and the byte after it
 pub backslash_spans : (l : List ℕ) (b : ℕ) → 2 ≤ length l → get_or l 0 0 ≡ backslash → b ≡ get_or l 1 0 → is_significant b ≡ false →
     (b == newline) ≡ false → (b == carriage_return) ≡ false → (white : Bool) → CodeLexeme white (take 2 l)
 backslash_spans l b h e i f g k white = subst (λ (x : List ℕ). CodeLexeme white x) (sym (two_are l backslash b h e (sym i))) (backslash_read b white f g k)
 
--- one byte more of a literal
+-- one more byte of a literal
 pub literal_more : (l : List ℕ) (q at : ℕ) → at < length l → (get_or l at 0 == newline) ≡ false → (get_or l at 0 == q) ≡ false → (get_or l at 0 == backslash) ≡ false →
     (white : Bool) → LiteralFront white q (take at l) → LiteralFront white q (take (at + 1) l)
 literal_more l q at h e f g white r =
@@ -50,7 +50,7 @@ take_more_two l at h =
     ap (λ (n : ℕ). take n l) two ∙ take_more l (at + 1) 0 h ∙ ap (λ (x : List ℕ). x ++ get_or l (at + 1) 0 ∷ []) (take_more l at 0 (omega arith))
     ∙ append_assoc (take at l) (get_or l at 0 ∷ []) (get_or l (at + 1) 0 ∷ [])
 
--- a backslash of a literal, and the byte that it takes along
+-- a backslash of a literal, and the byte that it escapes
 pub literal_two : (l : List ℕ) (q at : ℕ) → at + 1 < length l → is_quote q ≡ true → (get_or l at 0 == backslash) ≡ true → (get_or l (at + 1) 0 == newline) ≡ false →
     (white : Bool) → LiteralFront white q (take at l) → LiteralFront white q (take (at + 2) l)
 literal_two l q at h k e f white r =
@@ -77,7 +77,7 @@ second_passes false true c h f g = refl
 second_passes false false true h f g = cc
 second_passes false false false h f g = cc
 
--- what a search in a literal stops at: the quote, a backslash or a line feed
+-- `ends_run q b`: a search in a literal stops at `b`: the quote `q`, a backslash or a newline
 abbrev pub ends_run : ℕ → ℕ → Bool
 ends_run q b = is_one_of (q ∷ backslash ∷ newline ∷ newline ∷ newline ∷ []) b
 
@@ -97,11 +97,11 @@ module _ (l : List ℕ) (q at count : ℕ) (is : count ≡ position_or_len (ends
       subst (λ (n : ℕ). LiteralFront white q (take n l)) next
       (literal_more l q (at + j) inside none.2 none.0 none.1 white (run_more white r j (omega arith)))
 
-  -- the bytes of a literal up to which none ends it or takes a byte along
+  -- the bytes of a literal up to the first that ends it or escapes the next byte
   pub literal_run : (white : Bool) → LiteralFront white q (take at l) → LiteralFront white q (take (at + count) l)
   literal_run white r = run_more white r count (omega arith)
 
-  -- where neither the quote nor a line feed stands after them, a backslash does
+  -- a backslash comes next, if neither the quote nor a newline does
   pub literal_backslash : at + count < length l → (get_or l (at + count) 0 == newline) ≡ false → (get_or l (at + count) 0 == q) ≡ false →
       (get_or l (at + count) 0 == backslash) ≡ true
   literal_backslash h f g =
@@ -116,7 +116,7 @@ pub feed_there : (l : List ℕ) (k : ℕ) → (get_or (take (length l - 2) (drop
 feed_there l k e =
     sym (get_or-drop 2 l k 0) ∙ ap (λ (x : List ℕ). get_or x k 0) (sym (take_rest l 2)) ∙ eqb-true (get_or (take (length l - 2) (drop 2 l)) k 0) newline e
 
--- a line comment is in front, up to its line feed
+-- the bytes begin with a line comment, up to its newline
 pub comment_spans : (l : List ℕ) (k : ℕ) → take 2 l ≡ slash ∷ slash ∷ [] → NoNewline (take k (drop 2 l)) → k < length (drop 2 l) → get_or l (2 + k) 0 ≡ newline →
     may_splice (get_or l k 0) (get_or l (k + 1) 0) ≡ false → (white : Bool) → LineLexeme white (take (2 + k + 1) l)
 comment_spans [] k e f h g m white = absurd (omega arith)
@@ -153,14 +153,14 @@ pair_more_suc (a ∷ []) at h f e = absurd (omega arith)
 pair_more_suc (a ∷ b ∷ l) zero h f e = (e, tt)
 pair_more_suc (a ∷ b ∷ l) (suc at) h f e = (f.0, pair_more_suc (b ∷ l) at (omega arith) f.1 e)
 
--- one byte more that makes no pair with the one before it
+-- one more byte, which makes no pair with the one before it
 pub pair_more : (l : List ℕ) (at : ℕ) → at + 1 < length l → NoStarPair (take (at + 1) l) → is_star_pair (get_or l at 0) (get_or l (at + 1) 0) ≡ false → NoStarPair (take (at + 1 + 1) l)
 pair_more l at h f e =
     let two : suc (suc at) ≡ at + 1 + 1 = omega arith in
     subst (λ (n : ℕ). NoStarPair (take n l)) two
     (pair_more_suc l at (omega arith) (subst (λ (n : ℕ). NoStarPair (take n l)) (add-one at) f) (ap (λ (n : ℕ). is_star_pair (get_or l at 0) (get_or l n 0)) (sym (add-one at)) ∙ e))
 
--- a byte that isn't white, and white space after it, tell whether the line is white
+-- a byte that isn't white, and white space after it, decide whether the line is white
 pub shows_found : (bytes : List ℕ) (at : ℕ) (begins : Bool) → 0 < at → at ≤ length bytes → are_white (drop at bytes) ≡ true →
     is_white (get_or bytes (at - 1) 0) ≡ false → IsWhiteAfter bytes begins (get_or bytes (at - 1) 0 == newline)
 shows_found bytes at begins z h w k = by_feed (get_or bytes (at - 1) 0 == newline) refl
@@ -175,7 +175,7 @@ shows_found bytes at begins z h w k = by_feed (get_or bytes (at - 1) 0 == newlin
     by_feed true e = new_line (take (at - 1) bytes) (drop at bytes) (split ∙ ap (λ (n : ℕ). take (at - 1) bytes ++ n ∷ drop at bytes) (eqb-true (get_or bytes (at - 1) 0) newline e)) w
     by_feed false e = black (take (at - 1) bytes) (get_or bytes (at - 1) 0) (drop at bytes) split k e w
 
--- bytes that are left out in two goes
+-- dropping bytes twice is dropping them at once
 pub drop_both : (l : List ℕ) (n m : ℕ) → drop (n + m) l ≡ drop m (drop n l)
 drop_both l zero m = let e : 0 + m ≡ m = omega arith in ap (λ (k : ℕ). drop k l) e
 drop_both [] (suc n) m = drop-nil (suc n + m) ∙ sym (drop-nil m)
@@ -199,21 +199,21 @@ pair_is a b e = by_star (a == star) refl e
 
 module _ {start : BulkState} {bytes : List ℕ} {line : ℕ} {kept : BulkState} {base : ℕ} {begins : Bool} {at : ℕ}
     (r : ReadOutside start bytes line kept base begins at) where
-  -- a span outside comments
+  -- a run of bytes outside comments
   pub text_step_read : (k : ℕ) → k ≤ length (take (length bytes - at) (drop at bytes)) →
       ((u : Bool) → CodeLexeme u (take k (take (length bytes - at) (drop at bytes)))) → ReadOutside start bytes line kept base begins (at + k)
   text_step_read k h t =
       read_text r k (subst (λ (l : List ℕ). k ≤ length l) (take_rest bytes at) h)
       (subst (λ (l : List ℕ). CodeLexeme r.now_white (take k l)) (take_rest bytes at) (t r.now_white))
 
-  -- a span up to the beginning of a line
+  -- a run of bytes up to the beginning of a line
   pub line_step_read : (k : ℕ) → k ≤ length (take (length bytes - at) (drop at bytes)) →
       ((u : Bool) → LineLexeme u (take k (take (length bytes - at) (drop at bytes)))) → ReadOutside start bytes line kept (at + k) true (at + k)
   line_step_read k h t =
       read_line r k (subst (λ (l : List ℕ). k ≤ length l) (take_rest bytes at) h)
       (subst (λ (l : List ℕ). LineLexeme r.now_white (take k l)) (take_rest bytes at) (t r.now_white))
 
-  -- plain text up to the next byte that may matter
+  -- plain text up to the next significant byte
   pub plain_step_read : (next : ℕ) → next ≡ at + position_or_len is_significant (drop at bytes) → ReadOutside start bytes line kept base begins next
   plain_step_read next e =
       let k : ℕ = position_or_len is_significant (drop at bytes) in
@@ -221,7 +221,7 @@ module _ {start : BulkState} {bytes : List ℕ} {line : ℕ} {kept : BulkState} 
       (read_text r (position_or_len is_significant (drop at bytes)) (position_or_len-bound is_significant (drop at bytes))
       (plain_read (take (position_or_len is_significant (drop at bytes)) (drop at bytes)) r.now_white (no_special_before (drop at bytes))))
 
-  -- what is seen by looking back as far as the base is so
+  -- looking back as far as the base finds whether the line is white
   pub looked : (v : Bool) → IsWhiteAfter (take (at - base) (drop base bytes)) begins v → r.now_white ≡ v
   looked v h = shows_white r.plain begins v r.now_white r.no_comment (plain_leads r) (subst (λ (l : List ℕ). IsWhiteAfter l begins v) (plain_of r) h)
 
@@ -236,7 +236,7 @@ module _ {start : BulkState} {bytes : List ℕ} {line : ℕ} {kept : BulkState} 
       ReadOutside start bytes (at + k) (code_state false) (at + k) false (at + k)
   splice_step_read seen k h s = read_base false (read_splice r.so_far (ap (λ (u : Bool). code_state u) (looked false seen)) k h s)
 
-  -- a `#` that belongs to no directive, and so many plain bytes after it
+  -- a `#` that belongs to no directive, and the plain bytes after it
   pub sign_step_read : take 1 (drop at bytes) ≡ number_sign ∷ [] → (k : ℕ) → k ≤ length (drop (at + 1) bytes) → NoSignificant (take k (drop (at + 1) bytes)) →
       (is_other_word (take k (drop (at + 1) bytes)) ≡ true) ⊎ IsWhiteAfter (take (at - base) (drop base bytes)) begins false →
       ReadOutside start bytes line kept base begins (at + 1 + k)
@@ -260,7 +260,7 @@ module _ {start : BulkState} {bytes : List ℕ} {line : ℕ} {kept : BulkState} 
       fits [] k e h = cc
       fits (a ∷ l) k e h = omega arith
 
-  -- and the `#` alone
+  -- the `#` alone
   pub sign_alone_read : take 1 (drop at bytes) ≡ number_sign ∷ [] → IsWhiteAfter (take (at - base) (drop base bytes)) begins false → ReadOutside start bytes line kept base begins (at + 1)
   sign_alone_read first seen =
       let there : at + 1 + 0 ≡ at + 1 = omega arith in
@@ -311,7 +311,7 @@ start_block bytes w white e =
     subst (λ (v : LexState). ReadTo (line_state v white) bytes 0 (line_state v white) 0 (block_state white)) (sym e)
     (read_none (block_state white) bytes (record { is = refl; starts = refl }))
 
--- bytes that are all white, after which the line is white if it is before them
+-- after bytes that are all white, the line is white if it is white before them
 pub all_before : (bytes : List ℕ) (at : ℕ) (begins : Bool) → at ≡ 0 → are_white (drop at bytes) ≡ true → IsWhiteAfter bytes begins begins
 all_before bytes at begins e w = all_white (subst (λ (n : ℕ). are_white (drop n bytes) ≡ true) e w)
 

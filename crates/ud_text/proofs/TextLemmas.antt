@@ -1,4 +1,4 @@
--- Text: what is shown of a line that is read quietly has no `#` that belongs to a directive.
+-- Text: a line that is read without a stop shows no `#` that belongs to a directive.
 use Rattle.std.proofs.Common.{◌≡◌, ℕ, ◌==◌, List, [], ◌∷◌, ◌++◌, Bool, true, false, not, ◌&&◌, ◌||◌, if◌then◌else◌, refl, sym, ◌∙◌, ap, ap₂, subst, ne_eqb, Option, Some, None, bytes_eq}
 use Rattle.std.proofs.lemmas.Bool.{eqb-true, not-true}
 use Rattle.std.proofs.Math.Bool.{and-false}
@@ -11,11 +11,12 @@ use Rattle.ud_model.specs.declared.kind.Kind.{Kind}
 use Rattle.ud_text.specs.BulkStates.{next_bulk_state, letter_f, BulkState, letter_i, starts_with_no_keyword, letter_e, spliced_after, is_no_keyword, is_other_word, letter_l, letter_n, HasNoStop}
 use Rattle.ud_model.proofs.text.ScanLaws.{masked_after}
 
--- the word is a front of a keyword, or a single slash: what follows it might make a directive
+-- `is_unsure word`: the word is a prefix of a keyword, or a single slash: what follows it might
+-- make a directive
 abbrev pub is_unsure : List ℕ → Bool
 is_unsure word = bytes_eq word (slash ∷ []) || is_keyword_prefix word
 
--- no keyword stands in front of these bytes, nor a front of one, but a byte does
+-- `IsOther bytes`: the bytes begin with no keyword, nor with a prefix of one, but with a byte
 pub record IsOther (bytes : List ℕ) : Type 0 where
   pub first : ℕ
   pub more : List ℕ
@@ -23,12 +24,12 @@ pub record IsOther (bytes : List ℕ) : Type 0 where
   pub none : kind_of (leading_word (first ∷ more)) ≡ None
   pub sure : is_unsure (first ∷ more) ≡ false
 
--- no `#` comes first, or another name follows it
+-- `Unsigned rest`: no `#` comes first, or another name follows it
 pub data Unsigned : Option (List ℕ) → Type 0 where
   no_sign : Unsigned None
   other_sign : (rest : List ℕ) → IsOther rest → Unsigned (Some rest)
 
--- a scan that isn't fresh, and so can carry no directive, is text
+-- a scan that isn't fresh, and so can have no directive, is text
 pub text_not_fresh : (scan : Scan) → scan.fresh ≡ false → content_of scan ≡ text
 text_not_fresh scan e = by_sign (skip_hash_if_fresh scan.masked) scan.fresh e
   where
@@ -38,7 +39,7 @@ text_not_fresh scan e = by_sign (skip_hash_if_fresh scan.masked) scan.fresh e
     by_sign (Some rest) true h = cc
     by_sign (Some rest) false h = refl
 
--- a scan without such a `#` is text, also where a continuation cuts it off
+-- a scan without such a `#` is text, also if a continuation cuts it off
 pub text_unsigned : (scan : Scan) → Unsigned (skip_hash_if_fresh scan.masked) → content_of scan ≡ text
 text_unsigned scan u = by_sign (skip_hash_if_fresh scan.masked) u
   where
@@ -61,7 +62,7 @@ text_unsigned scan u = by_sign (skip_hash_if_fresh scan.masked) u
         (kind_of (leading_word (skip_white rest))) (stays (skip_white rest) i.first i.more i.is i.sure)
         (ap (λ (w : List ℕ). kind_of (leading_word w)) i.is ∙ i.none)
 
--- what is shown doesn't begin with a slash that waits for the next byte
+-- `Settled w masked`: what is shown doesn't begin with a slash that waits for the next byte
 abbrev pub Settled : LexState → List ℕ → Type 0
 Settled at_slash [] = ⊥
 Settled at_slash (x ∷ m) = Unit {0}
@@ -115,7 +116,7 @@ black_first x m w bytes h e f = subst (λ (l : List ℕ). Unsigned (skip_hash_if
     by_tests true s g k = cc
     by_tests false s g k = subst Unsigned (sym (ap (λ (o : Bool). if o then Some (masked_after w m bytes) else None) f)) no_sign
 
--- white space in front doesn't count
+-- leading white space doesn't count
 pub white_first : (x : ℕ) (m : List ℕ) (w : LexState) (bytes : List ℕ) → Settled w m → is_white x ≡ true →
     Unsigned (skip_hash_if_fresh (masked_after w m bytes)) → Unsigned (skip_hash_if_fresh (masked_after w (x ∷ m) bytes))
 white_first x m w bytes h e u = subst (λ (l : List ℕ). Unsigned (skip_hash_if_fresh l)) (sym (front_stays x m w bytes h)) (by_white (is_white x) e)
@@ -124,7 +125,7 @@ white_first x m w bytes h e u = subst (λ (l : List ℕ). Unsigned (skip_hash_if
     by_white true g = u
     by_white false g = cc
 
--- the classes of bytes that count here
+-- `Class b`: the classes of bytes that count here
 pub data Class : ℕ → Type 0 where
   a_slash : Class slash
   a_sign : Class number_sign
@@ -132,7 +133,7 @@ pub data Class : ℕ → Type 0 where
   a_quote : (b : ℕ) → is_quote b ≡ true → is_white b ≡ false → (b == slash) ≡ false → (b == number_sign) ≡ false → (b == newline) ≡ false → is_word_byte b ≡ false → Class b
   another : (b : ℕ) → is_white b ≡ false → (b == slash) ≡ false → is_quote b ≡ false → (b == number_sign) ≡ false → Class b
 
--- each byte is of one of them
+-- each byte is of one class
 pub class_of : (b : ℕ) → Class b
 class_of b = by_slash (b == slash) refl
   where
@@ -173,7 +174,7 @@ next_plain b e f = by_tests (b == slash) (is_quote b) e f
     by_tests false true g h = cc
     by_tests false false g h = refl
 
--- a byte of no meaning is shown as it is
+-- a byte of no meaning is shown unchanged
 shown_plain : (b : ℕ) (bytes : List ℕ) → (b == slash) ≡ false → is_quote b ≡ false → masked_after in_text [] (b ∷ bytes) ≡ b ∷ masked_after in_text [] bytes
 shown_plain b bytes e f =
     ap (λ (w : LexState). masked_after w (b ∷ []) bytes) (next_plain b e f) ∙ front_stays b [] in_text bytes tt
@@ -234,7 +235,7 @@ front_i b w e = rw e refl
 front_e : (b : ℕ) (w : List ℕ) → (b == letter_l) ≡ false → (b == letter_n) ≡ false → is_prefix_of_keyword (letter_e ∷ b ∷ w) ≡ false
 front_e b w e f = rw (e, f) refl
 
--- nor is it a front of one
+-- a word that begins with two such bytes is no prefix of a keyword
 other_front : (b c : ℕ) (w v : List ℕ) → is_no_keyword b c ≡ true → (is_word_byte c ≡ true → w ≡ c ∷ v) → is_prefix_of_keyword (b ∷ w) ≡ false
 other_front b c w v e f = by_i (b == letter_i) refl
   where
@@ -260,12 +261,12 @@ other_front b c w v e f = by_i (b == letter_i) refl
 no_slash : (b : ℕ) (w : List ℕ) → (b == slash) ≡ false → bytes_eq (b ∷ w) (slash ∷ []) ≡ false
 no_slash b w e = rw e refl
 
--- so what follows it makes no directive
+-- what follows a word that begins with two such bytes makes no directive
 other_sure : (b c : ℕ) (w v : List ℕ) → is_no_keyword b c ≡ true → (b == slash) ≡ false → (is_word_byte c ≡ true → w ≡ c ∷ v) → is_unsure (b ∷ w) ≡ false
 other_sure b c w v e f g =
     ap₂ (λ (s t : Bool). s || (are_word_bytes (b ∷ w) && t)) (no_slash b w f) (other_front b c w v e g) ∙ and-false (are_word_bytes (b ∷ w))
 
--- no byte of a word comes first
+-- `NoWord bytes`: no byte of a word comes first
 abbrev pub NoWord : List ℕ → Type 0
 NoWord [] = Unit {0}
 NoWord (b ∷ bytes) = is_word_byte b ≡ false
@@ -273,7 +274,7 @@ NoWord (b ∷ bytes) = is_word_byte b ≡ false
 word_front : (b : ℕ) (w : List ℕ) → is_word_byte b ≡ true → leading_word (b ∷ w) ≡ b ∷ leading_word w
 word_front b w e = rw e refl
 
--- its first byte is one of a word
+-- the first of two such bytes is one of a word
 pub is_no_keyword-first : (b c : ℕ) → is_no_keyword b c ≡ true → is_word_byte b ≡ true
 is_no_keyword-first b c e =
     (and_parts (is_word_byte b)
@@ -307,7 +308,7 @@ word_shown b (c ∷ bytes) tail e n =
 white_other : (b : ℕ) (bytes : List ℕ) → is_white b ≡ true → IsOther bytes → IsOther (b ∷ bytes)
 white_other b bytes w i = record { first = i.first; more = i.more; is = rw w i.is; none = i.none; sure = i.sure }
 
--- a name that is no keyword is shown as it is
+-- a name that is no keyword is shown unchanged
 name_shown : (bytes tail : List ℕ) → is_other_word (bytes ++ tail) ≡ true → is_other_word tail ≡ false → NoWord tail →
     IsOther (masked_after in_text [] bytes)
 name_shown [] tail e f n = cc
@@ -332,7 +333,7 @@ name_shown (b ∷ bytes) tail e f n = by_class b (class_of b) e (λ g. name_show
     by_class _ (another b w e f s) g more =
         subst IsOther (sym (shown_plain b bytes e f)) (word_shown b bytes tail (black b w g) n)
 
--- a place outside literals
+-- `NotLiteral w`: the lexer state `w` is outside literals
 abbrev pub NotLiteral : LexState → Type 0
 NotLiteral in_text = Unit {0}
 NotLiteral at_slash = Unit {0}
@@ -342,7 +343,7 @@ NotLiteral in_line = Unit {0}
 NotLiteral (in_literal q) = ⊥
 NotLiteral (at_backslash q) = ⊥
 
--- what is shown of the last byte, if it waits for the next one
+-- `pending w`: the last byte as it is shown, if it waits for the next one
 abbrev pub pending : LexState → List ℕ
 pending at_slash = slash ∷ []
 pending in_text = []
@@ -352,7 +353,7 @@ pending in_line = []
 pending (in_literal q) = []
 pending (at_backslash q) = []
 
--- the state at this place on a line that is white so far
+-- `white_at w c`: the state in the lexer state `w` on a line that is white so far
 abbrev pub white_at : LexState → Bool → BulkState
 white_at w c = record { state = w; white = true; spliced = c }
 
@@ -439,7 +440,7 @@ module _ (bytes tail : List ℕ) (later : (w : LexState) (c : Bool) → NotLiter
       by_feed true e k = cc
       by_feed false e k = spaces in_line refl tt (later in_line _ tt k)
 
--- what is shown of a line that is read quietly begins with no `#`, but perhaps with one before another name
+-- what is shown of a line without a stop begins with no `#`, unless another name follows it
 pub unsigned : (bytes tail : List ℕ) (w : LexState) (c : Bool) → NotLiteral w → NoNewline bytes → HasNoStop (white_at w c) (bytes ++ tail) →
     is_other_word tail ≡ false → NoWord tail → Unsigned (skip_hash_if_fresh (masked_after w (pending w) bytes))
 unsigned [] tail in_text c l o h f n = no_sign

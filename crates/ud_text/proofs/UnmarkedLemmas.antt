@@ -1,4 +1,4 @@
--- Lines in C mode that have no mark, after a text that leaves off outside comments and literals.
+-- Lines in C mode without a mark, after a text that ends outside comments and literals.
 use Rattle.std.proofs.Common.{◌≡◌, ℕ, ◌-◌, nat_eq, List, [], ◌∷◌, ◌++◌, length, take, Bool, true, false, not, ◌&&◌, ◌||◌, if◌then◌else◌, refl, sym, ◌∙◌, ap, subst, arith}
 use Rattle.std.specs.List.{ends_with, position_or_len}
 use Rattle.std.proofs.lemmas.Bool.Decides.{Decides-eqb}
@@ -56,7 +56,7 @@ module _ (scan_state : ScannerState) (before : List Reading) (line : Line) (h : 
       subst (λ (l : List ℕ). Masks (length (spliced_text (c_run_of before))) (spliced_text (c_run_of before) ++ l) in_text white line.body) content_is
       (plain_run (spliced_text (c_run_of before)) line.body white count h.reads state first whole one_line refl)
 
-  -- nothing is carried over it
+  -- the initial state is carried over the line
   pub unmarked_carries : (left : ScannerState) → left ≡ initial_scanner_state → ScannerRepresents left (before ++ next_reading before C line ∷ [])
   unmarked_carries left e =
       subst (λ (k : ScannerState). ScannerRepresents k (before ++ next_reading before C line ∷ [])) (sym e)
@@ -64,7 +64,7 @@ module _ (scan_state : ScannerState) (before : List Reading) (line : Line) (h : 
       (ap (λ (s : Bool). state_after_line s in_text) (sym stays_is)) (ap (λ (s : Bool). white_after_line s in_text white) (sym stays_is))
       (ap (λ (s : Bool). s || is_block (kind_in_state in_text)) (sym spliced_is)))
 
-  -- and it is seen as it stands
+  -- the line is masked unchanged
   pub unmarked_scan : (fresh joins : Bool) → fresh ≡ scan_state.white → joins ≡ scan_state.joins →
       record { masked = line.body; fresh = fresh; joins_before = joins; joins_after = false; spliced = false; comment = Outside } ≡ scan_after before C line
   unmarked_scan fresh joins f j =

@@ -1,9 +1,9 @@
--- LineViews: lines, scans and places of the program as the definitions have them.
+-- LineViews: lines, scans and lexer states of the program as the definitions have them.
 --
---   as_line line         the line with its body, its ending and its number
---   as_scan scan         the scan
---   lex_state_of place   where a text leaves off
---   shown_in lent m      the masked bytes: those that are lent or, if none are, these
+--   as_line line               the line with its body, its ending and its number
+--   as_scan scan               the scan
+--   lex_state_of state         the lexer's state
+--   shown_in borrowed masked   the masked bytes: the borrowed ones or, if there are none, `masked`
 --
 -- Example: the scan of a line in plain mode, as `as_scan` gives it, is `plain_scan` of the line.
 use Rattle.std.specs.Prelude.{ℕ, List, Option, Some, None}
@@ -18,11 +18,11 @@ use Rattle.ud_text.specs.declared.lexer.LexState.{LexState}
 use Rattle.ud_text.specs.declared.lexer.LexState.TheVariants.{Text, Slash, Block, Star, ToLineEnd}
 use Rattle.ud_text.specs.declared.lexer.LexState.TheVariants.{Literal, Backslash}
 
--- a line with its body, its ending and its number
+-- `as_line line`: the line with its body, its ending and its number
 abbrev pub as_line : Line → TextLine
 as_line line = record { body = line.body.now; ending = line.ending.now; number = line.number }
 
--- a scan
+-- `as_scan scan`: the scan with the values of its fields
 abbrev pub as_scan : Scan → LineScan
 as_scan scan = record {
   masked = scan.masked.now;
@@ -33,7 +33,7 @@ as_scan scan = record {
   comment = scan.comment;
 }
 
--- where a text leaves off
+-- `lex_state_of state`: the lexer's state
 abbrev pub lex_state_of : LexState → TextPlace
 lex_state_of Text = in_text
 lex_state_of Slash = at_slash
@@ -43,7 +43,8 @@ lex_state_of ToLineEnd = in_line
 lex_state_of (Literal quote) = in_literal quote
 lex_state_of (Backslash quote) = at_backslash quote
 
--- the masked bytes of a line: those that are lent or, if none are, these
+-- `shown_in borrowed masked`: the masked bytes of a line: the borrowed ones or, if there are none,
+-- `masked`
 abbrev pub shown_in : Option (Bor (List ℕ)) → List ℕ → List ℕ
 shown_in None masked = masked
 shown_in (Some bytes) masked = bytes.now

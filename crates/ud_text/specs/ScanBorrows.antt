@@ -1,9 +1,10 @@
--- ScanBorrows: what a scanner stands for once the scan that it lends is given back.
+-- ScanBorrows: what a scanner represents once the borrow of the scan that it returned has ended.
 --
---   ScansLine scanner mode line        the scanner stands for one reading more: the line in this mode, with its scan
---   ScansShortLine scanner mode line   the same of a scanner of short lines
+--   ScansLine scanner mode line        the scanner represents one more reading: the line in this
+--                                      mode, with its scan
+--   ScansShortLine scanner mode line   as `ScansLine`, for a scanner of short lines
 --
--- Example: a new scanner that has read a line stands for that line's reading alone.
+-- Example: a new scanner that has read a line represents that line's reading alone.
 use Rattle.std.specs.Prelude.{List, [], ◌∷◌, ◌++◌}
 use Rattle.std.specs.Borrow.{MutBor, Fml}
 use Rattle.std.specs.Io.BufRead.{Rests}
@@ -15,13 +16,14 @@ use Rattle.ud_text.specs.ScannerState.{ScannerState, ScannerRepresents}
 use Rattle.ud_text.specs.contracts.scanner.Scanner.{the_row}
 use Rattle.ud_text.specs.contracts.short_scanner.ShortScanner.{the_row as short_row}
 
--- for all readings that the scanner stands for, it stands for these and the line's
+-- `ScansLine scanner mode line`: if the scanner represents some readings, it then represents these
+-- and the line's
 abbrev pub ScansLine : MutBor ScannerState → Mode → TextLine → Fml
 ScansLine scanner mode line =
     Rests the_row scanner (λ new. (before : List Reading) → ScannerRepresents scanner.now before →
     ScannerRepresents new (before ++ next_reading before mode line ∷ []))
 
--- the same of a scanner of short lines
+-- `ScansShortLine scanner mode line`: as `ScansLine`, for a scanner of short lines
 abbrev pub ScansShortLine : MutBor ScannerState → Mode → TextLine → Fml
 ScansShortLine scanner mode line =
     Rests short_row scanner (λ new. (before : List Reading) → ScannerRepresents scanner.now before →

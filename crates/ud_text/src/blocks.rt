@@ -1,6 +1,7 @@
-//! Rows of 64 bytes, looked at once for all the bytes in them that may matter.
+//! Blocks of 64 bytes, of which all significant bytes are found at once.
 //!
-//! A stop costs no further look at the bytes of its row: the row is kept, and what is left of its bits tells the next one.
+//! The bit mask of the current block is kept. So the next significant byte of a block costs one bit
+//! scan, and no further look at its bytes.
 
 ghost use Rattle.std.specs.Prelude.{◌≡◌, ◌≤◌, ◌+◌, length, take, drop};
 ghost use Rattle.std.specs.List.{position_or_len};
@@ -10,27 +11,28 @@ ghost use Rattle.ud_text.specs.Blocks.{IsBlock, significant_bits};
 use crate::searching::find_significant;
 use std::simd::prelude::*;
 
-/// How many bytes a row has.
+/// The number of bytes of a block.
 const BLOCK_BYTES: usize = 64;
 
-/// For each low half of a byte the byte with it that may matter, of which there is one at most; else a byte with another
-/// low half. The 16 of them stand four times, once for each part of a row.
+/// The significant byte of each low nibble, of which there is at most one. A nibble without one has
+/// a byte with another low nibble, which never matches. The 16 entries are repeated four times,
+/// once for each part of a block.
 const BY_LOW_NIBBLE: [u8; BLOCK_BYTES] = [
     1, 0, b'"', b'#', 0, 0, 0, b'\'', 0, 0, 0, 0, b'\\', 0, 0, b'/', 1, 0, b'"', b'#', 0, 0, 0,
     b'\'', 0, 0, 0, 0, b'\\', 0, 0, b'/', 1, 0, b'"', b'#', 0, 0, 0, b'\'', 0, 0, 0, 0, b'\\', 0,
     0, b'/', 1, 0, b'"', b'#', 0, 0, 0, b'\'', 0, 0, 0, 0, b'\\', 0, 0, b'/',
 ];
 
-/// Which of the bytes of a row may matter outside comments and literals.
+/// The significant bytes of a block, as a bit mask.
 #[derive(Clone, Copy)]
 pub(crate) struct Block {
-    /// Where the row begins. At the end of the bytes there is none.
+    /// The position of the block's first byte. At the end of the bytes there is no block.
     begin: usize,
-    /// A bit for each of its bytes, the lowest for the first.
+    /// A bit for each byte of the block, the lowest for the first.
     bits: u64,
 }
 
-/// No row of these bytes is looked at.
+/// Returns no block: an empty one at the end of `bytes`.
 pub(crate) fn no_block(bytes: &[u8]) -> Block
     ensures { IsBlock result bytes.now }
 {
@@ -40,7 +42,8 @@ pub(crate) fn no_block(bytes: &[u8]) -> Block
     }
 }
 
-/// A bit for each byte of the row from a place on that may matter, the lowest for the first.
+/// Returns the bit mask of the significant bytes in the block from `at` on, the lowest bit for the
+/// first byte.
 #[inline(always)]
 fn block_bits(bytes: &[u8], at: usize) -> u64
     requires { at + BLOCK_BYTES ≤ length bytes.now }
@@ -51,7 +54,8 @@ fn block_bits(bytes: &[u8], at: usize) -> u64
     lanes.simd_eq(told).to_bitmask()
 }
 
-/// The place of the first byte from here on that may matter, and its row. The number of bytes if there is none.
+/// Returns the position of the first significant byte from `begin` on, and its block. The position
+/// is `bytes.len()` if there is none. The last bytes, if they fill no block, have none.
 #[inline(always)]
 fn significant_from(bytes: &[u8], begin: usize) -> (usize, Block)
     requires within { begin ≤ length bytes.now }
@@ -70,7 +74,9 @@ fn significant_from(bytes: &[u8], begin: usize) -> (usize, Block)
     (at + find_significant(&bytes[at..]), no_block(bytes))
 }
 
-/// The same, where a row was looked at before.
+/// Returns the position of the first significant byte from `at` on, and its block, as
+/// `significant_from` does. `row` is the block found before: its bits are used again if `at` lies
+/// in it.
 #[inline(always)]
 pub(crate) fn next_significant(bytes: &[u8], row: Block, at: usize) -> (usize, Block)
     requires within { at ≤ length bytes.now }

@@ -1,9 +1,12 @@
-//! Many whole lines at once, in C mode, that are all text.
+//! Skips many whole text lines at once in C mode.
 //!
-//! The bytes are read from one that may matter to the next: outside comments and literals these are `/`, quotes,
-//! backslashes and `#`; in a block comment, a star before a slash or a backslash. At anything unusual the reading stops at
-//! the beginning of that line, so each way to go on is a step of its own, and a step that isn't sure need not go on.
-//! A new kind of span needs a function in lexeme_lengths.rt and its lemma.
+//! The bytes are read from one significant byte to the next. Outside comments and literals these
+//! are `/`, quotes, backslashes and `#`; in a block comment, a star before a slash or a backslash.
+//! At anything unusual the reading stops at the beginning of that line: a step returns `Err` with
+//! that beginning. So each way to continue is a step of its own, and a step that isn't sure may
+//! stop.
+//!
+//! A new kind of lexeme needs a function in lexeme_lengths.rt and its lemma.
 
 ghost use Rattle.std.specs.Prelude.{◌≡◌, ◌≤◌, ◌<◌, ◌+◌, Bool, [], ◌∷◌, length, take, drop, true};
 ghost use Rattle.std.specs.Prelude.{IfOk, IfErr, MatchResult};
@@ -24,26 +27,28 @@ use crate::searching::{find_star_pair, last_line_start};
 /// The beginning of a line.
 #[derive(Clone, Copy)]
 pub(crate) struct LineStart {
-    /// Where it is; the lines before it are text.
+    /// The position of the line's first byte. The lines before it are text.
     pub(crate) at: usize,
-    /// How far the text is read there.
+    /// The lexer at that position.
     pub(crate) lexer: Lexer,
 }
 
-/// How far the lines are read: up to `at`, which lies outside comments and literals.
+/// The progress of a skip. The bytes before `at` are read, and `at` lies outside comments and
+/// literals.
 #[derive(Clone, Copy)]
 struct Progress {
-    /// The beginning of a line; each line begun after it begins outside comments.
+    /// The beginning of a line. Each line begun after it begins outside comments.
     line: LineStart,
-    /// No comment begins from this place on.
+    /// A position from which on no comment begins.
     base: usize,
-    /// Whether the logical line is white at that place.
+    /// The logical line is white at `base`.
     begins: bool,
-    /// The bytes before this place are read.
+    /// The position up to which the bytes are read.
     at: usize,
 }
 
-/// The last line that begins up to this place. Each line begun after `line` begins a logical line outside comments.
+/// Returns the last line that begins at or before `at`. Each line begun after `line` begins a
+/// logical line outside comments.
 fn last_line(lines: &[u8], line: LineStart, at: usize) -> LineStart
     requires order { line.at ≤ at }
     requires within { at ≤ length lines.now }
@@ -66,8 +71,8 @@ fn last_line(lines: &[u8], line: LineStart, at: usize) -> LineStart
     }
 }
 
-/// The last line that begins up to so many bytes after a place in a block comment. `white` tells whether the logical line
-/// is white before the comment.
+/// Returns the last line that begins at most `count` bytes after `at`, a position in a block
+/// comment. `white`: the logical line is white before the comment.
 fn last_line_in_block(
     lines: &[u8],
     line: LineStart,
@@ -97,7 +102,8 @@ fn last_line_in_block(
     }
 }
 
-/// Reads from a place in a block comment past its end. Stops if the bytes don't end it, or a splice may.
+/// Skips the rest of the block comment in which `at` lies. Stops if `lines` doesn't close the
+/// comment, or if a splice may stand between its star and its slash.
 fn skip_to_block_end(
     lines: &[u8],
     line: LineStart,
@@ -130,7 +136,7 @@ fn skip_to_block_end(
     Err(last)
 }
 
-/// Reads a block comment.
+/// Skips a block comment.
 fn block_step(lines: &[u8], p: Progress) -> Result<Progress, LineStart>
     requires order { InOrder p lines.now }
     requires some { 2 ≤ length (drop p.at lines.now) }
@@ -147,7 +153,7 @@ fn block_step(lines: &[u8], p: Progress) -> Result<Progress, LineStart>
     }
 }
 
-/// Reads a line comment with its line feed.
+/// Skips a line comment with its newline.
 fn comment_step(lines: &[u8], p: Progress) -> Result<Progress, LineStart>
     requires order { InOrder p lines.now }
     requires some { 2 ≤ length (drop p.at lines.now) }
@@ -167,7 +173,8 @@ fn comment_step(lines: &[u8], p: Progress) -> Result<Progress, LineStart>
     }
 }
 
-/// Reads a `#` that belongs to no directive, by the name after it or by what stands before it on its logical line.
+/// Skips a `#` that belongs to no directive: a word that is no keyword follows, or the logical line
+/// isn't white before it.
 fn hash_step(lines: &[u8], p: Progress) -> Result<Progress, LineStart>
     requires order { InOrder p lines.now }
     requires some { 1 ≤ length (drop p.at lines.now) }
@@ -188,7 +195,7 @@ fn hash_step(lines: &[u8], p: Progress) -> Result<Progress, LineStart>
     Ok(Progress { at: after, ..p })
 }
 
-/// Reads what a slash, a backslash or a quote begins.
+/// Skips what a slash, a backslash or a quote begins.
 fn text_step(lines: &[u8], p: Progress) -> Result<Progress, LineStart>
     requires order { InOrder p lines.now }
     requires some { p.at < length lines.now }
@@ -205,7 +212,8 @@ fn text_step(lines: &[u8], p: Progress) -> Result<Progress, LineStart>
     }
 }
 
-/// Reads a splice of so many bytes: the next line goes on with the logical line. Stops if that is white so far.
+/// Skips a splice of `count` bytes: the next line continues the logical line. Stops if the logical
+/// line is white so far.
 fn splice_step(lines: &[u8], p: Progress, count: usize) -> Result<Progress, LineStart>
     requires order { InOrder p lines.now }
     requires some { (0 < count) × (count ≤ length (drop p.at lines.now)) }
@@ -229,7 +237,7 @@ fn splice_step(lines: &[u8], p: Progress, count: usize) -> Result<Progress, Line
     })
 }
 
-/// Reads what begins with a byte that may matter.
+/// Skips what a significant byte begins.
 fn significant_step(lines: &[u8], p: Progress) -> Result<Progress, LineStart>
     requires order { InOrder p lines.now }
     requires some { p.at < length lines.now }
@@ -251,7 +259,7 @@ fn significant_step(lines: &[u8], p: Progress) -> Result<Progress, LineStart>
     }
 }
 
-/// Reads plain text, up to the next byte that may matter.
+/// Skips plain text, up to the next significant byte.
 #[inline(always)]
 fn plain_step(lines: &[u8], row: Block, p: Progress) -> (Block, Progress)
     requires order { InOrder p lines.now }
@@ -266,7 +274,7 @@ fn plain_step(lines: &[u8], row: Block, p: Progress) -> (Block, Progress)
     (row, Progress { at, ..p })
 }
 
-/// Reads on as far as all lines are seen to be text. Answers the beginning of the line at which it stops.
+/// Skips text lines from `begun` on. Returns the beginning of the line at which the skip stops.
 fn skip_text_from(lines: &[u8], begun: Progress) -> LineStart
     requires order { InOrder begun lines.now }
     ensures bound { result.at ≤ length lines.now }
@@ -289,8 +297,8 @@ fn skip_text_from(lines: &[u8], begun: Progress) -> LineStart
     last_line(lines, p.line, p.at)
 }
 
-/// Reads as many of these lines as are seen to be text, from what the lines before them leave. Answers the beginning of
-/// the first line that isn't read.
+/// Skips text lines, the first of which begins where `lexer` is. Returns the beginning of the first
+/// line that isn't skipped.
 pub(crate) fn skip_text_lines(lexer: Lexer, lines: &[u8]) -> LineStart
     requires starts { can_start (lex_state_of lexer.state) ≡ true }
     ensures bound { result.at ≤ length lines.now }

@@ -1,4 +1,6 @@
-//! Many whole lines at once, in plain mode, that are all text.
+//! Skips many whole text lines at once in plain mode.
+//!
+//! A line without a `#` is text in plain mode.
 
 ghost use Rattle.std.specs.Prelude.{◌≡◌, ◌≤◌, length, take};
 ghost use Rattle.ud_text.specs.BulkScanning.{AreWholeLines};
@@ -7,7 +9,7 @@ ghost use Rattle.ud_text.specs.BulkLexemes.{NoHash};
 use crate::searching::last_line_start;
 use memchr::memchr;
 
-/// The bytes before the first `#`.
+/// Returns the bytes before the first `#`, or all of them.
 fn before_hash(bytes: &[u8]) -> &[u8]
     ensures front { result.now ≡ take (length result.now) bytes.now }
     ensures bound { length result.now ≤ length bytes.now }
@@ -19,7 +21,7 @@ fn before_hash(bytes: &[u8]) -> &[u8]
     }
 }
 
-/// How many bytes in front are whole lines that have no `#`, so that each is text as it stands. The first line that has one
+/// Returns the length of the leading whole lines that have no `#`. The first line that has one
 /// isn't counted, nor what follows it.
 pub(crate) fn lines_without_hash(lines: &[u8]) -> usize
     ensures bound { result ≤ length lines.now }

@@ -1,6 +1,6 @@
-//! What makes a text unfit, as data. A line is meant by its number, from 1.
+//! The error of a text that exceeds a limit. Lines are numbered from 1.
 
-/// A limit that a text passes.
+/// A limit that a text exceeds.
 #[derive(Clone, Copy, Debug, PartialEq, Eq)]
 pub enum TextFault {
     /// A byte came for the line after the last one that the text may have.
@@ -8,7 +8,7 @@ pub enum TextFault {
         /// The number of that line.
         line: u32,
     },
-    /// One byte more came than a line may have with its ending.
+    /// A byte more came than a line may have, its ending counted.
     LineTooLong {
         /// The number of that line.
         line: u32,

@@ -1,6 +1,7 @@
-//! Whether a `#` may belong to a directive, by the bytes before it and after it.
+//! Decides whether a `#` may belong to a directive, by the bytes before it and after it.
 //!
-//! It doesn't if a word that is no keyword follows, nor if its logical line isn't white before it (C11 6.10).
+//! The `#` belongs to none if a word that is no keyword follows, or if its logical line isn't white
+//! before it (C11 6.10).
 
 ghost use Rattle.std.specs.Prelude.{◌≡◌, ◌≤◌, ◌<◌, ◌-◌, length, take, drop, slice_index, true};
 ghost use Rattle.std.specs.Prelude.{false, IfSome};
@@ -11,7 +12,8 @@ ghost use Rattle.ud_text.specs.BulkLexemes.{IsWhiteAfter, NoSignificant};
 use crate::searching::is_significant;
 use ud_model::bytes::{is_white, is_word_byte, skip_white};
 
-/// Whether a word begins with the first of these bytes, and no keyword does, or with both of them.
+/// Returns whether these bytes show that a word begins that is no keyword. The first byte is
+/// enough, unless it is `i` or `e`, with which the keywords begin.
 fn is_no_keyword(first: u8, second: u8) -> bool
     ensures { result ≡ is_no_keyword first second }
 {
@@ -25,8 +27,8 @@ fn is_no_keyword(first: u8, second: u8) -> bool
     }
 }
 
-/// So many bytes in front that tell that a word that is no keyword comes first, but for white space. None of them may
-/// matter by itself.
+/// Returns how many leading bytes show that the first word is no keyword: the white space before
+/// the word, and two of its bytes. None of these bytes is significant.
 pub(crate) fn other_word_len(bytes: &[u8]) -> Option<usize>
     ensures bound { IfSome result (λ n. n ≤ length bytes.now) }
     ensures plain { IfSome result (λ n. NoSignificant (take n bytes.now)) }
@@ -42,7 +44,7 @@ pub(crate) fn other_word_len(bytes: &[u8]) -> Option<usize>
     None
 }
 
-/// Where the white space at the end of these bytes begins.
+/// Returns the position at which the trailing white space begins.
 fn trailing_white_start(bytes: &[u8]) -> usize
     ensures bound { result ≤ length bytes.now }
     ensures white { are_white (drop result bytes.now) ≡ true }
@@ -50,7 +52,7 @@ fn trailing_white_start(bytes: &[u8]) -> usize
 {
     let mut at = bytes.len();
     while at > 0 {
-        // Mostly it's a space.
+        // The byte is mostly a space.
         let byte = bytes[at - 1];
         if byte != b' ' && !is_white(byte) {
             return at;
@@ -60,8 +62,8 @@ fn trailing_white_start(bytes: &[u8]) -> usize
     at
 }
 
-/// Whether the logical line is white after these bytes, which have no comment. `begins` tells whether it is white before
-/// them.
+/// Returns whether the logical line is white after `bytes`, which have no comment. `begins`: the
+/// logical line is white before them.
 pub(crate) fn is_line_white_after(bytes: &[u8], begins: bool) -> bool
     ensures { IsWhiteAfter bytes.now begins result }
 {

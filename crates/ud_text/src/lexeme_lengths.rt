@@ -1,7 +1,7 @@
-//! Spans of bytes outside block comments that are read in one go, each begun by a byte that may matter.
+//! Lengths of what is read in one go outside block comments, each begun by a significant byte.
 //!
-//! A span ends on the line on which it begins. If its end isn't seen in the bytes, or a backslash may belong to a splice,
-//! there is no answer: the line is then read by itself.
+//! A lexeme ends on the line on which it begins. The result is `None` if its end isn't among the
+//! bytes, or if a backslash may belong to a splice: the line is then read by itself.
 
 ghost use Rattle.std.specs.Prelude.{◌≡◌, ◌≤◌, ◌<◌, Bool, [], ◌∷◌, length, take, slice_index, true};
 ghost use Rattle.std.specs.Prelude.{false, IfSome, OnSome};
@@ -13,7 +13,7 @@ use crate::searching::is_significant;
 use crate::simd::find_near;
 use memchr::memchr;
 
-/// The second byte, if it can't matter by itself outside comments and literals.
+/// Returns the second byte, if it is insignificant outside comments and literals.
 fn insignificant_second(rest: &[u8]) -> Option<u8>
     ensures within { OnSome result (2 ≤ length rest.now) }
     ensures second { IfSome result (λ byte. byte ≡ slice_index rest.now 1) }
@@ -29,7 +29,8 @@ fn insignificant_second(rest: &[u8]) -> Option<u8>
     Some(byte)
 }
 
-/// A slash that begins no comment, with the byte after it. No answer if that byte may matter by itself.
+/// Returns 2 for a slash and an insignificant byte, which together begin no comment. `None` if the
+/// byte after the slash is significant.
 fn slash_len(rest: &[u8]) -> Option<usize>
     requires first { slice_index rest.now 0 ≡ slash }
     ensures bound { IfSome result (λ n. (0 < n) × (n ≤ length rest.now)) }
@@ -44,7 +45,8 @@ fn slash_len(rest: &[u8]) -> Option<usize>
     Some(2)
 }
 
-/// A backslash that belongs to no splice, with the byte after it. No answer if that byte may matter by itself.
+/// Returns 2 for a backslash and an insignificant byte, which together begin no splice. `None` if
+/// the byte after the backslash is significant.
 fn backslash_len(rest: &[u8]) -> Option<usize>
     requires first { slice_index rest.now 0 ≡ backslash }
     ensures bound { IfSome result (λ n. (0 < n) × (n ≤ length rest.now)) }
@@ -62,7 +64,8 @@ fn backslash_len(rest: &[u8]) -> Option<usize>
     Some(2)
 }
 
-/// How many bytes a splice in front has: a backslash and the ending that it deletes (C11 5.1.1.2, phase 2).
+/// Returns the length of a leading splice: a backslash and the ending that it deletes (C11 5.1.1.2,
+/// phase 2).
 pub(crate) fn splice_len(rest: &[u8]) -> Option<usize>
     ensures bound { IfSome result (λ n. (0 < n) × (n ≤ length rest.now)) }
     ensures splice { IfSome result (λ n. IsSplice (take n rest.now)) }
@@ -76,7 +79,8 @@ pub(crate) fn splice_len(rest: &[u8]) -> Option<usize>
     }
 }
 
-/// A literal with this quote, up to the quote that closes it (C11 6.4.4.4 and 6.4.5). No answer if its line ends before.
+/// Returns the length of a literal with this quote, up to the quote that closes it. `None` if its
+/// line ends before (C11 6.4.4.4 and 6.4.5).
 fn literal_len(rest: &[u8], quote: u8) -> Option<usize>
     requires some { 0 < length rest.now }
     requires first { slice_index rest.now 0 ≡ quote }
@@ -107,7 +111,7 @@ fn literal_len(rest: &[u8], quote: u8) -> Option<usize>
     None
 }
 
-/// What is read in one go outside comments, begun by a slash, a backslash or a quote.
+/// Returns the length of what a slash, a backslash or a quote begins outside comments.
 pub(crate) fn lexeme_len(rest: &[u8]) -> Option<usize>
     requires some { 0 < length rest.now }
     ensures bound { IfSome result (λ n. (0 < n) × (n ≤ length rest.now)) }
@@ -122,14 +126,15 @@ pub(crate) fn lexeme_len(rest: &[u8]) -> Option<usize>
     }
 }
 
-/// Whether a splice may end with a line feed after these two bytes, and what stands before them.
+/// Returns whether a newline may end a splice, if these two bytes come directly before it.
 fn may_splice(first: u8, second: u8) -> bool
     ensures { result ≡ may_splice first second }
 {
     second == b'\\' || second == b'\r' && (first == b'\\' || first == b'\r')
 }
 
-/// A line comment with its line feed (C11 6.4.9). No answer if a backslash may join the next line to it.
+/// Returns the length of a line comment with its newline. `None` if a backslash may join the next
+/// line to it (C11 6.4.9).
 pub(crate) fn line_comment_len(rest: &[u8]) -> Option<usize>
     requires some { 2 ≤ length rest.now }
     requires first { take 2 rest.now ≡ slash ∷ slash ∷ [] }

@@ -1,8 +1,8 @@
-//! One line in C mode: the bytes of its comments as spaces.
+//! The lexer of a line in C mode, which masks comments: their bytes are shown as spaces.
 //!
-//! The text is read a byte at a time, and where it leaves off is carried from byte to byte. A slash is shown as it is
-//! until the next byte tells that it begins a comment. Runs of bytes outside comments and literals, and within comments,
-//! are taken at once: they leave the place as it is.
+//! The text is read a byte at a time, and the state after it is carried from byte to byte. A slash
+//! is shown as a slash until the next byte begins a comment with it. Runs of bytes that leave the
+//! state unchanged are read at once: outside comments and literals, and within comments.
 
 ghost use Rattle.std.specs.Prelude.{◌≡◌, ◌≤◌, ◌<◌, ◌+◌, ◌&&◌, ℕ, List, [], ◌∷◌, ◌++◌, length, take};
 ghost use Rattle.std.specs.Prelude.{replicate};
@@ -19,7 +19,7 @@ use arrayvec::ArrayVec;
 use memchr::memchr;
 use ud_model::bytes::{are_white, is_white};
 
-/// Where the joined text leaves off.
+/// The lexer's state after the spliced text so far.
 #[derive(Clone, Copy)]
 pub(crate) enum LexState {
     /// Outside comments and literals.
@@ -34,21 +34,21 @@ pub(crate) enum LexState {
     ToLineEnd,
     /// In a literal with this quote.
     Literal(u8),
-    /// In a literal with this quote, after a backslash that takes the next byte along.
+    /// In a literal with this quote, after a backslash that escapes the next byte.
     Backslash(u8),
 }
 
-/// How far the text is read.
+/// The lexer after the text so far.
 #[derive(Clone, Copy)]
 pub(crate) struct Lexer {
-    /// Where the text leaves off.
+    /// The state after the text.
     pub(crate) state: LexState,
-    /// Whether all that is shown of its last logical line is white space, but for a slash at its end that may begin
-    /// a comment.
+    /// All that is shown of the text's last logical line is white space, but for a slash at its end
+    /// that may begin a comment.
     pub(crate) white: bool,
 }
 
-/// Where a text that leaves off outside comments and literals leaves off with one more byte.
+/// Returns the state after `byte` outside comments and literals.
 fn state_after_code(byte: u8) -> LexState
     ensures { lex_state_of result ≡ next_state (lex_state_of LexState.Text) byte }
 {
@@ -59,7 +59,7 @@ fn state_after_code(byte: u8) -> LexState
     }
 }
 
-/// The same of a text that leaves off in a literal.
+/// Returns the state after `byte` in a literal.
 fn state_after_literal(quote: u8, byte: u8) -> LexState
     ensures { lex_state_of result ≡ next_state (lex_state_of (LexState.Literal quote)) byte }
 {
@@ -72,7 +72,7 @@ fn state_after_literal(quote: u8, byte: u8) -> LexState
     }
 }
 
-/// Where a text leaves off with one more byte.
+/// Returns the state after `byte`.
 pub(crate) fn next_state(state: LexState, byte: u8) -> LexState
     ensures { lex_state_of result ≡ next_state (lex_state_of state) byte }
 {
@@ -98,7 +98,7 @@ pub(crate) fn next_state(state: LexState, byte: u8) -> LexState
     }
 }
 
-/// Whether a byte makes the slash before it the beginning of a comment.
+/// Returns whether `byte` begins a comment with the slash before it.
 pub(crate) fn opens_comment(state: LexState, byte: u8) -> bool
     ensures { result ≡ opens_comment (lex_state_of state) byte }
 {
@@ -108,7 +108,7 @@ pub(crate) fn opens_comment(state: LexState, byte: u8) -> bool
     }
 }
 
-/// What a byte is shown as, as long as nothing follows it.
+/// Returns the byte that shows `byte`, as long as nothing follows it.
 fn masked_byte(state: LexState, byte: u8) -> u8
     ensures { result ≡ masked_byte (lex_state_of state) byte }
 {
@@ -120,7 +120,7 @@ fn masked_byte(state: LexState, byte: u8) -> u8
     }
 }
 
-/// Whether the line is white with a byte, where it is white or not without it.
+/// Returns whether the line is still white after `byte`. `white`: the line is white before it.
 pub(crate) fn stays_white(state: LexState, white: bool, byte: u8) -> bool
     ensures { result ≡ stays_white (lex_state_of state) white byte }
 {
@@ -133,14 +133,14 @@ pub(crate) fn stays_white(state: LexState, white: bool, byte: u8) -> bool
     }
 }
 
-/// Whether the text leaves off in a block comment.
+/// Returns whether the text so far ends in a block comment.
 pub(crate) fn is_in_block_comment(state: LexState) -> bool
     ensures { result ≡ is_block (kind_in_state (lex_state_of state)) }
 {
     matches!(state, LexState::Block | LexState::Star)
 }
 
-/// Makes the last byte a space.
+/// Replaces the last byte by a space.
 fn blank_last<const ROOM: usize>(masked: &mut ArrayVec<u8, ROOM>)
     requires { array_vec_len masked.old ≤ ROOM }
     ensures items { masked.new.items ≡ blank_last masked.old.items }
@@ -151,7 +151,7 @@ fn blank_last<const ROOM: usize>(masked: &mut ArrayVec<u8, ROOM>)
     }
 }
 
-/// Reads one more byte, and puts it at the end as it is shown.
+/// Reads one more byte, and appends it as it is shown.
 fn mask_byte<const ROOM: usize>(lexer: Lexer, byte: u8, masked: &mut ArrayVec<u8, ROOM>) -> Lexer
     requires { array_vec_len masked.old < ROOM }
     ensures masks { (n : ℕ) → (text : List ℕ) →
@@ -169,7 +169,7 @@ fn mask_byte<const ROOM: usize>(lexer: Lexer, byte: u8, masked: &mut ArrayVec<u8
     }
 }
 
-/// Puts bytes at the end.
+/// Appends `bytes`.
 fn append<const ROOM: usize>(bytes: &[u8], masked: &mut ArrayVec<u8, ROOM>)
     requires { array_vec_len masked.old + length bytes.now ≤ ROOM }
     ensures { masked.new.items ≡ masked.old.items ++ bytes.now }
@@ -177,7 +177,7 @@ fn append<const ROOM: usize>(bytes: &[u8], masked: &mut ArrayVec<u8, ROOM>)
     let _ = masked.try_extend_from_slice(bytes);
 }
 
-/// Puts so many spaces at the end.
+/// Appends `count` spaces.
 fn append_spaces<const ROOM: usize>(count: usize, masked: &mut ArrayVec<u8, ROOM>)
     requires { array_vec_len masked.old + count ≤ ROOM }
     ensures { masked.new.items ≡ masked.old.items ++ replicate count 32 }
@@ -187,8 +187,9 @@ fn append_spaces<const ROOM: usize>(count: usize, masked: &mut ArrayVec<u8, ROOM
     }
 }
 
-/// Reads the bytes in front that leave the place as it is, where that is outside comments and literals or in a comment, and
-/// none elsewhere. Answers how many they are.
+/// Reads leading bytes that leave the state unchanged, outside comments and literals or in a
+/// comment, and appends them as they are shown. Reads none in another state. Returns the lexer
+/// after them, and their number.
 fn mask_uniform<const ROOM: usize>(
     lexer: Lexer,
     rest: &[u8],
@@ -230,7 +231,7 @@ fn mask_uniform<const ROOM: usize>(
     }
 }
 
-/// Reads the content of a line, and puts it into `masked` as it is shown.
+/// Reads the content of a line, and appends it to `masked` as it is shown.
 #[inline(never)]
 fn mask_content<const ROOM: usize>(
     lexer: Lexer,
@@ -259,8 +260,9 @@ fn mask_content<const ROOM: usize>(
     inside
 }
 
-/// Reads the content of a line. If the text leaves off outside comments and literals before it, and no mark stands in it,
-/// it is shown as it stands, and lent; else it is put into `masked` as it is shown.
+/// Reads the content of a line. The content is shown unchanged, and borrowed, if the text before it
+/// ends outside comments and literals and it has no mark. Otherwise it is appended to `masked` as
+/// it is shown.
 #[inline(always)]
 pub(crate) fn mask_or_borrow<'a, const ROOM: usize>(
     lexer: Lexer,
@@ -285,7 +287,8 @@ pub(crate) fn mask_or_borrow<'a, const ROOM: usize>(
     (mask_content(lexer, content, masked), None)
 }
 
-/// Whether a line is fresh that goes on with these bytes.
+/// Returns whether a line with this content is fresh: only white space precedes it on its logical
+/// line.
 pub(crate) fn is_fresh(lexer: Lexer, content: &[u8]) -> bool
     ensures { result ≡ fresh_at (lex_state_of lexer.state) lexer.white content.now }
 {

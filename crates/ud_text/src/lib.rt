@@ -1,8 +1,9 @@
-//! The lines of a text, from bytes that come in pieces, and what is seen of them.
+//! Lines of a text from chunks of bytes, and the scan of each line.
 //!
-//! What a line is stands in ud_model, specs/text/Lines.antt, and what is seen of it in specs/text/Scanning.antt.
-//! `specs/LinesState.antt` says what a `Lines` stands for, `specs/ScannerState.antt` what a `Scanner` carries, and
-//! `specs/BulkScanning.antt` what it is to pass many lines at once.
+//! Lines and scans are defined in ud_model (`text.Lines`, `text.Scanning`).
+//! `LinesState.LinesRepresent` relates a `Lines` to its text, and `ScannerState.ScannerRepresents`
+//! a `Scanner` to its readings. `BulkScanning.SkipsText` relates a scanner to the many lines that
+//! it skips at once.
 #![tactic(auto)]
 
 mod blocks;

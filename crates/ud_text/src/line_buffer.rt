@@ -1,4 +1,4 @@
-//! Room for the bytes of a line that comes in pieces.
+//! Buffers for a line whose bytes come in chunks.
 
 ghost use Rattle.std.specs.Prelude.{◌≡◌, ◌+◌, ◌<◌, ◌≤◌, List, ℕ, [], ◌++◌, length, true, false};
 ghost use Rattle.ud_model.specs.declared.limits.TheConstants.{LINE_BYTES};
@@ -7,47 +7,46 @@ ghost use Rattle.ud_text.specs.declared.line_buffer.TheConstants.{SHORT_LINE_BUF
 use arrayvec::ArrayVec;
 use ud_model::LINE_BYTES;
 
-/// The most bytes that a short room holds.
+/// The capacity of a short buffer.
 pub const SHORT_LINE_BUFFER_BYTES: usize = 8_192;
 
-/// Room for the bytes of one line.
+/// A buffer for the bytes of one line.
 ///
-/// A room holds no more than `LINE_BYTES` bytes, and some hold fewer. Room is a type's own, since all of it is cleared
-/// when a function is entered that has it among its locals.
+/// A buffer has at most `LINE_BYTES` bytes, and some have fewer. A buffer is a type's own, since
+/// all of it is cleared when a function is entered that has it among its locals.
 pub trait LineBuffer: Drop {
-    /// What it holds.
+    /// The buffered bytes.
     ghost items: { Self → List ℕ };
 
-    /// How many bytes it has room for.
+    /// The number of bytes that fit.
     const CAPACITY: usize;
 
-    /// The same, in clauses.
+    /// The capacity in clauses.
     ghost CAPACITY: { ℕ };
 
-    /// Room in which nothing is held.
+    /// Returns an empty buffer.
     fn new() -> Self
         ensures { items result ≡ [] };
 
-    /// Puts these bytes after those that are held, if all of them fit. If they don't, nothing changes, and the answer is
-    /// `false`.
+    /// Appends `bytes` if all of them fit. Otherwise changes nothing, and returns `false`.
     fn try_append(&mut self, bytes: &[u8]) -> bool
         ensures fits { result ≡ true → items self.new ≡ items self.old ++ bytes.now }
         ensures line { result ≡ true → length (items self.new) ≤ LINE_BYTES }
         ensures full { result ≡ false →
             (CAPACITY < length (items self.old) + length bytes.now) × (self.new ≡ self.old) };
 
-    /// The bytes that are held.
+    /// Returns the buffered bytes.
     fn as_slice(&self) -> &[u8]
         ensures value { result.now ≡ items self.now }
         ensures bound { length result.now ≤ CAPACITY }
         ensures line { length result.now ≤ LINE_BYTES };
 
-    /// Gives up the bytes that are held.
+    /// Discards the buffered bytes.
     fn clear(&mut self)
         ensures { items self.new ≡ [] };
 }
 
-/// Room for a line of any length that a line may have.
+/// A buffer for a line of any length that a line may have.
 #[derive(Drop)]
 pub struct LongLineBuffer {
     line: ArrayVec<u8, LINE_BYTES>,
@@ -79,7 +78,7 @@ impl LineBuffer for LongLineBuffer {
     }
 }
 
-/// Room for a line of ordinary length.
+/// A buffer for a line of ordinary length.
 #[derive(Drop)]
 pub struct ShortLineBuffer {
     bytes: ArrayVec<u8, SHORT_LINE_BUFFER_BYTES>,

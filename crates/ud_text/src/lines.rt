@@ -1,9 +1,11 @@
-//! Lines of a text, from bytes that come in pieces.
+//! Lines of a text from chunks of bytes.
 //!
-//! One line is held at a time, at most `LINE_BYTES` bytes with its ending, in a `LineBuffer`. However the bytes are cut into pieces,
-//! the lines are those of the definitions (ud_model, specs/text/Lines.antt). States: nothing held; part of a line; a
-//! whole line, until `clear`; closed; refused, for good. Lines that stand whole in a piece needn't be held: `whole_in`
-//! lends one, and `consume` gives up many at once.
+//! One line is buffered at a time, at most `LINE_BYTES` bytes with its ending, in a `LineBuffer`.
+//! However the bytes are cut into chunks, the lines are those of the definitions (ud_model,
+//! `text.Lines`). The states are: nothing is buffered; part of a line; a whole line, until `clear`;
+//! closed; fused after an error. A whole line of a chunk needn't be buffered: `whole_in` borrows
+//! one, and `consume` consumes many at once.
+//!
 //! A new way in which a line may end needs another `lines_of` and another `up_to_newline`.
 
 ghost use Rattle.std.specs.Prelude.{◌≡◌, ℕ, suc, ◌+◌, ◌<◌, ◌≤◌, ◌↔◌, List, [], ◌∷◌, ◌++◌, length};
@@ -26,30 +28,31 @@ use memchr::memchr;
 use std::marker::Model;
 use ud_model::{LINE_BYTES, TEXT_LINES};
 
-/// How many bytes are searched for a line feed at once.
+/// The number of bytes that are searched for a newline at once.
 const NEAR_WINDOW_BYTES: usize = 32;
 
-/// What was taken of a piece.
+/// The prefix that was taken of a chunk.
 #[derive(Clone, Copy, Debug, PartialEq, Eq)]
 pub struct Taken {
-    /// How many bytes were taken: those up to the piece's first line feed, which is the last of them, or all.
+    /// The number of bytes taken: those up to the chunk's first newline, that one included, or all.
     pub used: usize,
-    /// Whether the last byte taken is a line feed, so that a whole line is held.
+    /// The last byte taken is a newline, so a whole line is buffered.
     pub whole: bool,
 }
 
-/// The line at the end of the bytes taken so far, held in a room of its own.
+/// The line at the end of the bytes taken so far, in a buffer of its own.
 #[derive(Drop)]
 pub struct Lines<H: LineBuffer = LongLineBuffer> {
     /// The bytes of the line so far, with its ending.
     buffer: H,
-    /// Whether the line has its line feed, which is then the last byte held.
+    /// The line has its newline, which is then the last buffered byte.
     is_whole: bool,
-    /// How many lines were given up before the line that is held; at most `last`, and below it where a byte is held.
+    /// The number of lines consumed before the buffered one; at most `last`, and less if a byte is
+    /// buffered.
     consumed: u32,
-    /// Whether the text has ended.
+    /// The text has ended.
     is_closed: bool,
-    /// What was refused, for good.
+    /// The error after which the lines are fused.
     fault: Option<TextFault>,
     /// The number of the last line that the text may have, at most `TEXT_LINES`.
     last: u32,
@@ -77,8 +80,8 @@ impl<H: LineBuffer> Model for Lines<H> {
 }
 
 impl Lines<LongLineBuffer> {
-    /// The lines of a text of which no byte was taken. It may have `last_line` lines, from 1 to `TEXT_LINES`. There is room for
-    /// a line of any length.
+    /// Returns the lines of a text of which no byte was taken. The text may have `last_line` lines,
+    /// from 1 to `TEXT_LINES`. The buffer takes a line of any length.
     pub fn new(last_line: u32) -> Lines<LongLineBuffer>
         requires low { 1 ≤ last_line }
         requires high { last_line ≤ TEXT_LINES }
@@ -97,7 +100,8 @@ impl Lines<LongLineBuffer> {
 }
 
 impl<H: LineBuffer> Lines<H> {
-    /// The lines of a text of which no byte was taken, in a room of this type. Else as `new`.
+    /// Returns the lines of a text of which no byte was taken, as `new` does, in a buffer of this
+    /// type.
     pub fn with_buffer(last_line: u32) -> Lines<H>
         requires low { 1 ≤ last_line }
         requires high { last_line ≤ TEXT_LINES }
@@ -121,19 +125,21 @@ impl<H: LineBuffer> Lines<H> {
         }
     }
 
-    /// Takes the next bytes of the text, up to and including the first line feed, or the whole piece.
+    /// Appends `chunk` to the line up to its first newline, that one included.
     ///
-    /// `chunk` may have any bytes; of an empty one nothing is taken. It may have any length in a room for a line of any
-    /// length; in another one it has to fit beside what is held. No whole line may be held, and
-    /// the text may not have ended. If the answer is `whole`, a line is complete: read it with `line`, then
-    /// `clear`. The rest of the piece is the next one to be taken.
+    /// `chunk` may have any bytes; nothing is taken of an empty one. If the buffer takes a line of
+    /// any length, `chunk` may have any length. Otherwise `chunk` has to fit after the buffered
+    /// bytes. No whole line may be buffered, and the text may not have ended. If the result is
+    /// `whole`, the line is complete: read it with `line`, then call `clear`. The rest of the chunk
+    /// is the next one to be taken.
     ///
     /// # Errors
-    /// In this order: `TooManyLines` at the first byte of a line after the last one that the text may have;
-    /// `LineTooLong` at the first byte of a line after `LINE_BYTES`, its ending counted. No byte of the piece is kept, and
-    /// every later `take` and `end_line` answers the same, also for an empty piece.
+    /// In this order: `TooManyLines` at the first byte of a line after the last one that the text
+    /// may have; `LineTooLong` at the first byte of a line after `LINE_BYTES`, its ending counted.
+    /// No byte of the chunk is buffered. Every later `take` and `close` returns the same error,
+    /// also for an empty chunk.
     ///
-    /// Lines are those of POSIX XBD 3.206; the last may lack its line feed.
+    /// Lines are those of POSIX XBD 3.206; the last may lack its newline.
     pub fn take(&mut self, chunk: &[u8]) -> Result<Taken, TextFault>
         requires no_whole_line { self.old.whole ≡ false }
         requires not_closed { self.old.closed ≡ false }
@@ -185,12 +191,14 @@ impl<H: LineBuffer> Lines<H> {
         Ok(taken)
     }
 
-    /// The next line, borrowed from the piece, if it stands whole in front of it; it counts as given up.
+    /// Returns the next line, borrowed from `chunk`, if `chunk` begins with a whole line. The line
+    /// is consumed.
     ///
-    /// `chunk` may have any length and any bytes. No whole line may be held, and the text may not have ended. There is
-    /// no answer, and nothing changes, if bytes of the line are held, if a fault was refused, if the piece has no line
-    /// feed, or if the line passes a limit: `take` then takes the piece or tells the fault. The rest of the piece, after
-    /// the line's body and ending, is the next one to be taken.
+    /// `chunk` may have any length and any bytes. No whole line may be buffered, and the text may
+    /// not have ended. The result is `None`, and nothing changes, in four cases: bytes of the line
+    /// are buffered, an earlier call failed, `chunk` has no newline, or the line exceeds a limit.
+    /// Then `take` takes the chunk or returns the error. The rest of the chunk, after the line's
+    /// body and ending, is the next one to be taken.
     ///
     /// Lines are those of POSIX XBD 3.206.
     pub fn whole_in<'a>(&mut self, chunk: &'a [u8]) -> Option<Line<'a>>
@@ -231,11 +239,12 @@ impl<H: LineBuffer> Lines<H> {
         })
     }
 
-    /// How many bytes in front of the piece are whole lines that `consume` may give up at once.
+    /// Returns the length of a prefix of `chunk`, whole lines that `consume` accepts.
     ///
-    /// `chunk` may have any length and any bytes. The answer is 0 if bytes of a line are held, if a fault was refused, or
-    /// if the text might have too many lines, as when it has no more left than the piece has bytes. Else these are all lines
-    /// up to the first that is too long or isn't whole. Of the next line `whole_in` and `take` tell more.
+    /// `chunk` may have any length and any bytes. The result is 0 if bytes of a line are buffered,
+    /// if an earlier call failed, or if the text might have too many lines. That can be only if
+    /// fewer lines may come than `chunk` has bytes. Otherwise the prefix has all lines up to the
+    /// first that is too long or isn't whole. For that line, call `whole_in` or `take`.
     pub fn whole_lines_len(&self, chunk: &[u8]) -> usize
         ensures bound { result ≤ length chunk.now }
         ensures whole_lines { 0 < result → CanConsume self.now (take result chunk.now) }
@@ -253,8 +262,8 @@ impl<H: LineBuffer> Lines<H> {
         count
     }
 
-    /// Takes these whole lines and gives them up. Answers the number of the last line that was given up. `whole_lines_len` tells
-    /// which lines may be skipped.
+    /// Consumes these whole lines. Returns the number of the last line consumed. `whole_lines_len`
+    /// returns which lines may be consumed.
     pub fn consume(&mut self, lines: &[u8]) -> u32
         requires whole_lines { CanConsume self.old lines.now }
         requires not_closed { self.old.closed ≡ false }
@@ -271,8 +280,8 @@ impl<H: LineBuffer> Lines<H> {
         self.consumed
     }
 
-    /// How many bytes may be taken at once, at most `most`: as many as fit beside what is held, or all of them if there is room for a
-    /// line of any length.
+    /// Returns how many more bytes fit, at most `most`. A buffer for a line of any length takes all
+    /// of them.
     pub fn remaining_capacity(&self, most: usize) -> usize
         ensures bound { result ≤ most }
         ensures fits { HasCapacity H.CAPACITY self.now result }
@@ -284,7 +293,7 @@ impl<H: LineBuffer> Lines<H> {
         most.min(H::CAPACITY - self.buffer.as_slice().len())
     }
 
-    /// The same lines, in a room for a line of any length.
+    /// Converts into the lines with a buffer for a line of any length.
     pub fn into_long(self) -> Lines<LongLineBuffer>
         ensures { result ≡ self }
     {
@@ -300,7 +309,7 @@ impl<H: LineBuffer> Lines<H> {
         }
     }
 
-    /// How many bytes of the line are held, its ending counted; at most `LINE_BYTES`.
+    /// Returns how many bytes of the line are buffered, its ending counted.
     pub fn held(&self) -> usize
         ensures value { result ≡ length self.now.held }
         ensures bound { result ≤ LINE_BYTES }
@@ -308,8 +317,8 @@ impl<H: LineBuffer> Lines<H> {
         self.buffer.as_slice().len()
     }
 
-    /// The line that is held: a whole one, or, where `end_line` has answered `true`, the last one of the text, which
-    /// lacks its line feed.
+    /// Returns the buffered line: a whole one or, if `close` has returned `true`, the last one of
+    /// the text, which lacks its newline.
     pub fn line(&self) -> Line<'_>
         requires complete { IsComplete self.now }
         ensures value { as_line result ≡ line_at (suc self.now.before) self.now.held }
@@ -329,7 +338,7 @@ impl<H: LineBuffer> Lines<H> {
         }
     }
 
-    /// Gives up the whole line that is held, so that the next one can be taken.
+    /// Discards the buffered whole line. The next `take` starts the next one.
     pub fn clear(&mut self)
         requires whole { self.old.whole ≡ true }
         ensures value { self.new ≡ record self.old {
@@ -346,12 +355,13 @@ impl<H: LineBuffer> Lines<H> {
         self.consumed += 1;
     }
 
-    /// Ends the text. No whole line may be held, and the text may not have ended before.
+    /// Ends the text. No whole line may be buffered, and the text may not have ended before.
     ///
-    /// The answer is `true` where bytes are held: they are the text's last line, which `line` then reads.
+    /// Returns `true` if bytes are buffered: they are the text's last line, which `line` then
+    /// returns.
     ///
     /// # Errors
-    /// What `take` refused, again. Nothing changes.
+    /// The error that `take` has returned, again. Nothing changes.
     pub fn close(&mut self) -> Result<bool, TextFault>
         requires no_whole_line { self.old.whole ≡ false }
         requires not_closed { self.old.closed ≡ false }
@@ -369,7 +379,7 @@ impl<H: LineBuffer> Lines<H> {
         Ok(!self.buffer.as_slice().is_empty())
     }
 
-    /// Forgets the text, whatever was taken of it, and stands before another one, which may have as many lines.
+    /// Resets to the beginning of a new text with the same limit, whatever was taken before.
     pub fn reset(&mut self)
         ensures value { self.new ≡ record {
           held = [];
@@ -389,7 +399,8 @@ impl<H: LineBuffer> Lines<H> {
     }
 }
 
-/// The place of the first line feed, if one is among the first bytes. Of lines of code and of directives most are so short.
+/// Returns the position of the first newline, if one is near the beginning. Most lines of code and
+/// of directives are that short.
 #[inline(always)]
 fn find_newline_near(chunk: &[u8]) -> Option<usize>
     ensures { IfSome result (λ at. UpToNewline chunk.now (at + 1) true) }
@@ -405,7 +416,7 @@ fn find_newline_near(chunk: &[u8]) -> Option<usize>
     }
 }
 
-/// The place of the first line feed, if there is one.
+/// Returns the position of the first newline, if any.
 #[inline(always)]
 fn find_newline(chunk: &[u8]) -> Option<usize>
     ensures found { IfSome result (λ at. UpToNewline chunk.now (at + 1) true) }
@@ -417,7 +428,8 @@ fn find_newline(chunk: &[u8]) -> Option<usize>
     }
 }
 
-/// How many bytes stand in front of the piece up to its first line feed, that one counted, or all if there is none.
+/// Returns the number of bytes up to the first newline, that one included, or of all if there is
+/// none.
 #[inline(always)]
 fn up_to_newline(chunk: &[u8]) -> Taken
     ensures { UpToNewline chunk.now result.used result.whole }
@@ -434,8 +446,8 @@ fn up_to_newline(chunk: &[u8]) -> Taken
     }
 }
 
-/// The whole line in front of the piece, with its ending. No answer if the piece has no line feed, or if the line has more
-/// than `LINE_BYTES`.
+/// Returns the first line of `chunk` with its ending. `None` if `chunk` has no newline, or if the
+/// line has more than `LINE_BYTES`.
 fn first_line(chunk: &[u8]) -> Option<&[u8]>
     ensures some { IfSome result (λ line. IsFirstLine chunk.now line.now) }
     ensures none { IfNone result ((used : ℕ) → UpToNewline chunk.now used true →
@@ -449,7 +461,7 @@ fn first_line(chunk: &[u8]) -> Option<&[u8]>
     }
 }
 
-/// A line as its body and its ending.
+/// Splits a line into its body and its ending.
 fn split_ending(line: &[u8]) -> (&[u8], &[u8])
     ensures value { (number : ℕ) →
         IsLineOf result.0.now result.1.now number (line_at number line.now) }

@@ -1,4 +1,4 @@
-//! Line feeds: how many lines they end, and how far the lines go that fit.
+//! Counts newlines, and finds how far the whole lines go that fit.
 
 ghost use Rattle.std.specs.Prelude.{◌≡◌, ◌≤◌, ◌<◌, ◌+◌, ℕ, length, take, drop, true};
 ghost use Rattle.std.specs.List.{count_by};
@@ -12,7 +12,7 @@ use std::simd::Simd;
 use std::simd::prelude::*;
 use ud_model::LINE_BYTES;
 
-/// How many of the `N` bytes from a place on are line feeds.
+/// Returns how many of the `N` bytes from `at` on are newlines.
 #[inline(always)]
 fn newlines_in_lanes<const N: usize>(bytes: &[u8], at: usize) -> usize
     requires few { N ≤ 64 }
@@ -24,7 +24,7 @@ fn newlines_in_lanes<const N: usize>(bytes: &[u8], at: usize) -> usize
     lanes.simd_eq(Simd::splat(b'\n')).to_bitmask().count_ones() as usize
 }
 
-/// The same of a few bytes.
+/// Returns how many of a few bytes are newlines.
 fn newlines_one_by_one(bytes: &[u8]) -> usize
     ensures value { result ≡ count_by is_newline bytes.now }
     ensures bound { result ≤ length bytes.now }
@@ -32,16 +32,16 @@ fn newlines_one_by_one(bytes: &[u8]) -> usize
     bytes.iter().filter(|byte| **byte == b'\n').count()
 }
 
-/// Line feeds among bytes in front.
+/// The number of newlines in a prefix.
 #[derive(Clone, Copy)]
 struct NewlineCount {
-    /// How many line feeds.
+    /// The number of newlines.
     newlines: usize,
-    /// Among so many bytes.
+    /// The length of the prefix.
     at: usize,
 }
 
-/// How many line feeds are in front, `N` bytes after `N`, up to the last ones.
+/// Counts the newlines, `N` bytes after `N`. The last bytes, fewer than `N`, are left out.
 #[inline(always)]
 fn newlines_by_lanes<const N: usize>(bytes: &[u8]) -> NewlineCount
     requires some { 0 < N }
@@ -59,7 +59,7 @@ fn newlines_by_lanes<const N: usize>(bytes: &[u8]) -> NewlineCount
     NewlineCount { newlines, at }
 }
 
-/// How many whole lines these bytes have.
+/// Returns the number of whole lines.
 pub(crate) fn count_lines(bytes: &[u8]) -> usize
     ensures { result ≡ length (whole_lines bytes.now) }
 {
@@ -70,7 +70,8 @@ pub(crate) fn count_lines(bytes: &[u8]) -> usize
     front.newlines + more
 }
 
-/// How many bytes in front are whole lines of at most `LINE_BYTES` each. As many as there are.
+/// Returns the length of the longest prefix that consists of whole lines of at most `LINE_BYTES`
+/// each.
 pub(crate) fn whole_lines_len(chunk: &[u8]) -> usize
     ensures bound { result ≤ length chunk.now }
     ensures ends { AreWholeLines (take result chunk.now) }

@@ -1,8 +1,9 @@
-//! What is seen of a text's lines, each read in its mode.
+//! Scans the lines of a text, each in its mode.
 //!
-//! A scanner holds no line but the last one as it was shown, and not even that if it is shown as it stands: its bytes are
-//! then lent. Of the lines before, a scanner carries where their joined text leaves off, whether the last logical line is
-//! white, and whether the last line joins the next one.
+//! A scanner buffers no line but the last one as it is masked, and not even that one if it is
+//! masked unchanged: its bytes are then borrowed. Of the lines before, a scanner carries three
+//! things: the lexer's state after their spliced text, whether the last logical line is white, and
+//! whether the last line joins the next one.
 
 ghost use Rattle.std.specs.Prelude.{◌≡◌, ◌≤◌, ◌||◌, ℕ, List, [], ◌∷◌, ◌++◌, length, true, false};
 ghost use Rattle.std.specs.Prelude.{take, IfSome};
@@ -36,51 +37,53 @@ use arrayvec::ArrayVec;
 use std::marker::Model;
 use ud_model::{CommentAt, LINE_BYTES, Mode};
 
-/// What is carried from line to line.
+/// The state that is carried from line to line.
 #[derive(Clone, Copy)]
 pub(crate) struct ScanState {
-    /// How far the joined text is read. The text is that of the lines in C mode after the last one in plain mode.
+    /// The lexer after the spliced text: that of the lines in C mode after the last one in plain
+    /// mode.
     pub(crate) lexer: Lexer,
-    /// Whether the last of these lines joins the next one.
+    /// The last of these lines joins the next one.
     joins: bool,
 }
 
-/// What is seen of a line beside its masked bytes.
+/// The scan of a line without its masked bytes.
 #[derive(Clone, Copy)]
 pub(crate) struct LineFlags {
-    /// The masked bytes of its logical line on earlier lines are white space.
+    /// The masked bytes of the logical line on earlier lines are white space.
     pub(crate) fresh: bool,
-    /// The line before joins it.
+    /// The line before joins this one.
     pub(crate) joins_before: bool,
-    /// It joins the next line.
+    /// This line joins the next one.
     pub(crate) joins_after: bool,
-    /// It ends in a backslash that deletes its ending.
+    /// The line ends in a backslash that deletes its ending.
     pub(crate) spliced: bool,
-    /// What is unclosed at its end.
+    /// The comment that is unclosed at the line's end, if any.
     pub(crate) comment: CommentAt,
 }
 
-/// What a line leaves, and what is seen of it.
+/// A scanned line: the state after it, and its scan.
 #[derive(Clone, Copy)]
 pub(crate) struct ScannedLine<'a> {
-    /// What it leaves.
+    /// The state after the line.
     pub(crate) scan_state: ScanState,
-    /// What is seen of it beside its masked bytes.
+    /// The line's scan without its masked bytes.
     pub(crate) flags: LineFlags,
-    /// Its masked bytes if they are bytes of the line itself. Else they were put into the scanner.
+    /// The masked bytes, if they are bytes of the line itself. Otherwise they were appended to
+    /// `masked`.
     pub(crate) borrowed: Option<&'a [u8]>,
 }
 
-/// Reads the lines of a text in order, each in its mode.
+/// A scanner of the lines of a text, which come in order, each in its mode.
 #[derive(Drop)]
 pub struct Scanner {
-    /// What the lines so far leave.
+    /// The state after the lines so far.
     pub(crate) scan_state: ScanState,
-    /// The last line as it was shown, if its own bytes weren't lent.
+    /// The last line as it is masked, if its own bytes weren't borrowed.
     pub(crate) masked: ArrayVec<u8, LINE_BYTES>,
 }
 
-/// What is carried where the run has no lines.
+/// Returns the state of a C run without lines.
 pub(crate) fn initial_state() -> ScanState
     ensures { scanner_state_of result ≡ initial_scanner_state }
 {
@@ -93,14 +96,14 @@ pub(crate) fn initial_state() -> ScanState
     }
 }
 
-/// Whether the line ends in a backslash that deletes its ending.
+/// Returns whether the line ends in a backslash that deletes its ending.
 fn is_spliced(line: &Line<'_>) -> bool
     ensures { result ≡ is_spliced (as_line line.now) }
 {
     line.body.ends_with(b"\\") && !line.ending.is_empty()
 }
 
-/// The line's body without a splice's backslash.
+/// Returns the line's body without a splice's backslash.
 fn content<'a>(line: &Line<'a>, spliced: bool) -> &'a [u8]
     requires { spliced ≡ is_spliced (as_line line.now) }
     ensures { result.now ≡ content (as_line line.now) }
@@ -112,7 +115,7 @@ fn content<'a>(line: &Line<'a>, spliced: bool) -> &'a [u8]
     }
 }
 
-/// How far the text is read after the line's new-line, if it has one.
+/// Returns the lexer after the line's newline, if the spliced text has one there.
 fn end_line(line: &Line<'_>, spliced: bool, inside: Lexer) -> Lexer
     requires { spliced ≡ is_spliced (as_line line.now) }
     ensures state { lex_state_of result.state ≡
@@ -130,7 +133,7 @@ fn end_line(line: &Line<'_>, spliced: bool, inside: Lexer) -> Lexer
     }
 }
 
-/// What is unclosed at the end of a line whose text leaves off at this place.
+/// Returns the comment that is unclosed at the end of a line, if the lexer is in `state` there.
 fn comment_at(spliced: bool, state: LexState) -> CommentAt
     ensures { result ≡ comment_at spliced (kind_in_state (lex_state_of state)) }
 {
@@ -141,7 +144,7 @@ fn comment_at(spliced: bool, state: LexState) -> CommentAt
     }
 }
 
-/// Reads a line in C mode. Where its masked bytes aren't lent, they are put into `masked`.
+/// Scans a line in C mode. The masked bytes are appended to `masked`, unless they are borrowed.
 #[inline(always)]
 fn scan_code<'a, const ROOM: usize>(
     scan_state: ScanState,
@@ -182,8 +185,8 @@ fn scan_code<'a, const ROOM: usize>(
     }
 }
 
-/// Whether no mark stands in a line's body. Two directives that every other section ends with are told apart from the
-/// others by their bytes alone.
+/// Returns whether the body has no mark. `#endif` and `#else`, with one of which every other
+/// section ends, are known by their bytes alone.
 #[inline(always)]
 fn has_no_mark(body: &[u8]) -> bool
     ensures { result ≡ true → position_or_len is_mark body.now ≡ length body.now }
@@ -194,8 +197,9 @@ fn has_no_mark(body: &[u8]) -> bool
     }
 }
 
-/// Reads a line in C mode that is seen as it stands, and leaves nothing. No answer if that isn't seen at once: the text before
-/// it leaves off in a comment or a literal, a mark stands in it, or it has no ending.
+/// Scans a line in C mode that is masked unchanged, and after which the state is the initial one.
+/// Returns `None` if that isn't known at once: the text before the line ends in a comment or a
+/// literal, the line has a mark, or the line has no ending.
 #[inline(always)]
 fn scan_without_marks<'a>(scan_state: ScanState, line: &Line<'a>) -> Option<ScannedLine<'a>>
     requires one_line { NoNewline line.now.body.now }
@@ -231,7 +235,7 @@ fn scan_without_marks<'a>(scan_state: ScanState, line: &Line<'a>) -> Option<Scan
     })
 }
 
-/// Reads a line in plain mode, in which it is seen as it stands.
+/// Scans a line in plain mode, in which it is masked unchanged.
 #[inline(always)]
 fn scan_plain<'a>(line: &Line<'a>) -> ScannedLine<'a>
     ensures represents { (before : List Reading) →
@@ -259,7 +263,7 @@ fn scan_plain<'a>(line: &Line<'a>) -> ScannedLine<'a>
     }
 }
 
-/// Reads a line in its mode. Where its masked bytes aren't lent, they are put into `masked`.
+/// Scans a line in its mode. The masked bytes are appended to `masked`, unless they are borrowed.
 #[inline(always)]
 pub(crate) fn scan_line<'a, const ROOM: usize>(
     mode: Mode,
@@ -291,15 +295,17 @@ pub(crate) fn scan_line<'a, const ROOM: usize>(
     }
 }
 
-/// Whether the line before joins one that begins so: a block comment goes on, or a logical line that isn't white.
+/// Returns whether the line before joins one that begins with this lexer: a block comment
+/// continues, or a logical line that isn't white.
 fn continues_line(lexer: Lexer) -> bool
     ensures { result ≡ continues_line (lex_state_of lexer.state) lexer.white }
 {
     is_in_block_comment(lexer.state) || !lexer.white
 }
 
-/// Whether many lines can be read from here: the next one begins a logical line, or goes on with a block comment or with a
-/// logical line that isn't white, outside comments and literals.
+/// Returns whether many lines can be skipped from this state. The next line then begins a logical
+/// line, or continues a block comment or, outside comments and literals, a logical line that isn't
+/// white.
 fn can_skip_text(scan_state: ScanState) -> bool
     ensures starts { result ≡ true → can_start (lex_state_of scan_state.lexer.state) ≡ true }
     ensures joins { result ≡ true →
@@ -312,7 +318,7 @@ fn can_skip_text(scan_state: ScanState) -> bool
     }
 }
 
-/// Reads in C mode as many of these lines as are seen to be text. Answers how many bytes they have, and what they leave.
+/// Skips text lines in C mode. Returns how many bytes they have, and the state after them.
 fn skip_text_in_c_mode(scan_state: ScanState, lines: &[u8]) -> (usize, ScanState)
     ensures bound { result.0 ≤ length lines.now }
     ensures ends { AreWholeLines (take result.0 lines.now) }
@@ -331,7 +337,7 @@ fn skip_text_in_c_mode(scan_state: ScanState, lines: &[u8]) -> (usize, ScanState
     (next.at, left)
 }
 
-/// The same in plain mode.
+/// Skips text lines in plain mode. Returns how many bytes they have, and the state after them.
 fn skip_text_in_plain_mode(scan_state: ScanState, lines: &[u8]) -> (usize, ScanState)
     ensures bound { result.0 ≤ length lines.now }
     ensures ends { AreWholeLines (take result.0 lines.now) }
@@ -345,7 +351,7 @@ fn skip_text_in_plain_mode(scan_state: ScanState, lines: &[u8]) -> (usize, ScanS
     (count, initial_state())
 }
 
-/// The same in a mode.
+/// Skips text lines in a mode. Returns how many bytes they have, and the state after them.
 pub(crate) fn skip_text_in(mode: Mode, scan_state: ScanState, lines: &[u8]) -> (usize, ScanState)
     ensures bound { result.0 ≤ length lines.now }
     ensures ends { AreWholeLines (take result.0 lines.now) }
@@ -367,7 +373,7 @@ impl Model for Scanner {
 }
 
 impl Scanner {
-    /// Has read no line.
+    /// Returns a scanner that has read no line.
     pub fn new() -> Scanner
         ensures { ScannerRepresents result [] }
     {
@@ -377,11 +383,11 @@ impl Scanner {
         }
     }
 
-    /// Reads the next line of the text, and tells what is seen of it. Lines that follow never count.
+    /// Reads the next line of the text, and returns its scan. Later lines never change the scan.
     ///
-    /// The line's body has at most `LINE_BYTES`, none of which is a line feed. In plain mode the line is seen as it
-    /// stands, and the next line in C mode starts afresh. In C mode its masked bytes stand where they stand in the
-    /// body (C11 5.1.1.2, phases 2 and 3, and 6.4.9).
+    /// The line's body has at most `LINE_BYTES`, none of which is a newline. In plain mode the line
+    /// is masked unchanged, and the next line in C mode starts afresh. In C mode each masked byte
+    /// has the index that it has in the body (C11 5.1.1.2, phases 2 and 3, and 6.4.9).
     #[inline(always)]
     pub fn read<'s, 'a: 's>(&'s mut self, mode: Mode, line: &Line<'a>) -> Scan<'s>
         requires fits { length line.now.body.now ≤ LINE_BYTES }
@@ -407,14 +413,15 @@ impl Scanner {
         }
     }
 
-    /// Reads in this mode, all at once, as many of the next lines as it sees to be text. Answers how many bytes of `lines`
-    /// they have: 0, or up to the end of a line.
+    /// Skips text lines in this mode, many at once. Returns how many bytes of `lines` they have: 0,
+    /// or up to the end of a line.
     ///
-    /// `lines` may have any length and any bytes, and end in the middle of a line. Limits aren't looked at: a line may have
-    /// more than `LINE_BYTES`, and lines aren't counted. The scanner then stands for one more reading in this mode for each
-    /// of the lines up to there, as `read` would have it, whatever numbers they have; none of them carries a directive or a
-    /// cut keyword (C11 5.1.1.2, phases 2 and 3, 6.4.9 and 6.10). Nothing is said of how far it goes: if the answer is
-    /// less than all lines, the next one is to be read by `read`.
+    /// `lines` may have any length and any bytes, and may end in the middle of a line. Limits
+    /// aren't checked: a line may have more than `LINE_BYTES`, and lines aren't counted. The
+    /// scanner then represents one more reading in this mode for each skipped line, as after
+    /// `read`, whatever their numbers. No skipped line has a directive or a split keyword (C11
+    /// 5.1.1.2, phases 2 and 3, 6.4.9 and 6.10). How many lines are skipped isn't promised: if the
+    /// result is less than all lines, read the next one with `read`.
     pub fn skip_text(&mut self, mode: Mode, lines: &[u8]) -> usize
         ensures bound { result ≤ length lines.now }
         ensures ends { AreWholeLines (take result lines.now) }
@@ -425,7 +432,8 @@ impl Scanner {
         count
     }
 
-    /// Whether a block comment is unclosed at the end of the last line; false if no line is read.
+    /// Returns whether a block comment is unclosed at the end of the last line; `false` if no line
+    /// was read.
     pub fn in_comment(&self) -> bool
         ensures { (before : List Reading) → ScannerRepresents self.now before →
             result ≡ ends_in_block before }
@@ -434,8 +442,8 @@ impl Scanner {
     }
 }
 
-/// What is carried decides what is seen of the next line: where it stands for two lists of readings, each line is seen
-/// alike after both.
+/// States that the carried state decides the scan of the next line. If the state represents two
+/// lists of readings, each line has the same scan after both.
 pub fn law_same_scans()
     ensures { (scan_state : ScannerState) → (before : List Reading) → (others : List Reading) →
         (m : Mode) → (l : TextLine) → ScannerRepresents scan_state before →

@@ -12,15 +12,15 @@ use memchr::memrchr;
 use std::simd::Simd;
 use std::simd::prelude::*;
 
-/// Whether a byte may matter outside comments and literals.
+/// Returns whether `byte` is significant: it may matter outside comments and literals.
 pub(crate) fn is_significant(byte: u8) -> bool
     ensures { result ≡ is_significant byte }
 {
     matches!(byte, b'/' | b'"' | b'\'' | b'\\' | b'#')
 }
 
-/// The place of the first byte that may matter outside comments and literals: `/`, `"`, `'`, a backslash or `#`
-/// (C11 5.1.1.2, 6.4.4.4, 6.4.5, 6.4.9 and 6.10). The number of bytes if there is none.
+/// Returns the position of the first significant byte: `/`, `"`, `'`, a backslash or `#`. Returns
+/// `bytes.len()` if there is none (C11 5.1.1.2, 6.4.4.4, 6.4.5, 6.4.9 and 6.10).
 pub(crate) fn find_significant(bytes: &[u8]) -> usize
     ensures value { result ≡ position_or_len is_significant bytes.now }
     ensures bound { result ≤ length bytes.now }
@@ -34,14 +34,16 @@ pub(crate) fn find_significant(bytes: &[u8]) -> usize
     }
 }
 
-/// A bit for each of the `N` bytes from a place on that may matter, the lowest for the first.
+/// Returns the bit mask of the significant bytes among the `N` from `at` on, the lowest bit for the
+/// first byte.
 #[inline(always)]
 pub(crate) fn significant_bits<const N: usize>(bytes: &[u8], at: usize) -> u64
     requires few { N ≤ 64 }
     requires fits { at + N ≤ length bytes.now }
     ensures { result ≡ significant_bits (take N (drop at bytes.now)) }
 {
-    // A `"` is a `#` without the lowest bit, and a `'` a `/` without the bit of 8: three tests find five bytes.
+    // A `"` is a `#` without the lowest bit, and a `'` a `/` without the bit of 8: three tests find
+    // five bytes.
     let lanes = Simd::<u8, N>::from_slice(&bytes[at..]);
     let found = (lanes | Simd::splat(1)).simd_eq(Simd::splat(b'#'))
         | (lanes | Simd::splat(8)).simd_eq(Simd::splat(b'/'))
@@ -49,7 +51,8 @@ pub(crate) fn significant_bits<const N: usize>(bytes: &[u8], at: usize) -> u64
     found.to_bitmask()
 }
 
-/// How many of the `N` bytes from a place on stand before the first that may matter; all if none does.
+/// Returns how many of the `N` bytes from `at` on come before the first significant one; all if
+/// there is none.
 #[inline(always)]
 fn significant_in_lanes<const N: usize>(bytes: &[u8], at: usize) -> usize
     requires few { N ≤ 64 }
@@ -60,7 +63,8 @@ fn significant_in_lanes<const N: usize>(bytes: &[u8], at: usize) -> usize
     lowest_set_bit(significant_bits::<N>(bytes, at), N)
 }
 
-/// The place of the first byte that may matter, by `N` lanes. The number of bytes if there is none.
+/// Returns the position of the first significant byte, by `N` lanes. Returns `bytes.len()` if there
+/// is none.
 #[inline(always)]
 fn significant_by_lanes<const N: usize>(bytes: &[u8]) -> usize
     requires some { 0 < N }
@@ -80,14 +84,15 @@ fn significant_by_lanes<const N: usize>(bytes: &[u8]) -> usize
     last + significant_in_lanes::<N>(bytes, last)
 }
 
-/// Whether two bytes are a star before a slash or a backslash.
+/// Returns whether two bytes are a star pair: a star before a slash or a backslash.
 fn is_star_pair(first: u8, second: u8) -> bool
     ensures { result ≡ is_star_pair first second }
 {
     first == b'*' && (second == b'/' || second == b'\\')
 }
 
-/// How many of the `N` bytes from a place on stand before the first that makes a pair with the next; all if none does.
+/// Returns how many of the `N` bytes from `at` on come before the first star pair; all if none of
+/// them begins one.
 #[inline(always)]
 fn star_pair_in_lanes<const N: usize>(bytes: &[u8], at: usize) -> usize
     requires few { N ≤ 64 }
@@ -102,7 +107,8 @@ fn star_pair_in_lanes<const N: usize>(bytes: &[u8], at: usize) -> usize
     lowest_set_bit(found.to_bitmask(), N)
 }
 
-/// How many bytes stand before the first pair, by `N` lanes; all but the last if there is none.
+/// Returns how many bytes come before the first star pair, by `N` lanes; all but the last if there
+/// is none.
 #[inline(always)]
 fn star_pair_by_lanes<const N: usize>(bytes: &[u8]) -> usize
     requires some { 0 < N }
@@ -122,7 +128,8 @@ fn star_pair_by_lanes<const N: usize>(bytes: &[u8]) -> usize
     last + star_pair_in_lanes::<N>(bytes, last)
 }
 
-/// The same, one by one.
+/// Returns how many bytes come before the first star pair, one by one; all but the last if there is
+/// none.
 fn star_pair_one_by_one(bytes: &[u8]) -> usize
     ensures { result ≡ position_or_len is_found (pairs_of bytes.now) }
 {
@@ -136,7 +143,7 @@ fn star_pair_one_by_one(bytes: &[u8]) -> usize
     at
 }
 
-/// How many bytes stand before the first pair; all but the last if there is none.
+/// Returns how many bytes come before the first star pair; all but the last if there is none.
 fn star_pair_offset(bytes: &[u8]) -> usize
     ensures value { result ≡ position_or_len is_found (pairs_of bytes.now) }
     ensures bound { result ≤ length bytes.now - 1 }
@@ -150,8 +157,9 @@ fn star_pair_offset(bytes: &[u8]) -> usize
     }
 }
 
-/// The place of the first star before a slash, which closes a block comment, or before a backslash, by which a splice may
-/// stand between the two (C11 6.4.9). The number of bytes if there is none.
+/// Returns the position of the first star pair, or `bytes.len()` if there is none. A star before a
+/// slash closes a block comment. A star before a backslash may do so, since a splice may stand
+/// between star and slash (C11 6.4.9).
 pub(crate) fn find_star_pair(bytes: &[u8]) -> usize
     ensures bound { result ≤ length bytes.now }
     ensures before { NoStarPair (take (result + 1) bytes.now) }
@@ -167,7 +175,7 @@ pub(crate) fn find_star_pair(bytes: &[u8]) -> usize
     }
 }
 
-/// The beginning of the last line of these bytes; their end if they end with a line feed.
+/// Returns the beginning of the last line; the end of the bytes if they end with a newline.
 pub(crate) fn last_line_start(bytes: &[u8]) -> usize
     ensures { LastLineStarts bytes.now result }
 {

@@ -1,7 +1,8 @@
 //! A scanner of lines that aren't long.
 //!
-//! A `Scanner` has room for the longest line, which is cleared when it is made. A short one has little room, and stands for
-//! the same readings: at a long line a `Scanner` goes on from it, and it goes on from there.
+//! A `Scanner` has a buffer for the longest line, which is cleared when it is made. A short one has
+//! a small buffer, and represents the same readings: at a long line a `Scanner` continues from it,
+//! and it continues from there.
 
 ghost use Rattle.std.specs.Prelude.{◌≡◌, ◌≤◌, List, [], length, take};
 ghost use Rattle.std.specs.Borrow.{sem};
@@ -24,12 +25,12 @@ use ud_model::Mode;
 /// The most bytes of a short line's body.
 pub const SHORT_LINE_BYTES: usize = 4096;
 
-/// Reads the lines of a text in order, each in its mode, as a `Scanner` does.
+/// A scanner of the lines of a text, in order and each in its mode, as a `Scanner` is one.
 #[derive(Drop)]
 pub struct ShortScanner {
-    /// What the lines so far leave.
+    /// The state after the lines so far.
     scan_state: ScanState,
-    /// The last line as it was shown, if its own bytes weren't lent.
+    /// The last line as it is masked, if its own bytes weren't borrowed.
     masked: ArrayVec<u8, SHORT_LINE_BYTES>,
 }
 
@@ -42,7 +43,7 @@ impl Model for ShortScanner {
 }
 
 impl ShortScanner {
-    /// Has read no line.
+    /// Returns a scanner that has read no line.
     pub fn new() -> ShortScanner
         ensures { ScannerRepresents result [] }
     {
@@ -78,7 +79,7 @@ impl ShortScanner {
         }
     }
 
-    /// Reads many lines at once, long ones too, as `Scanner::skip_text` does.
+    /// Skips text lines, long ones too, as `Scanner::skip_text` does.
     pub fn skip_text(&mut self, mode: Mode, lines: &[u8]) -> usize
         ensures bound { result ≤ length lines.now }
         ensures ends { AreWholeLines (take result lines.now) }
@@ -89,7 +90,8 @@ impl ShortScanner {
         count
     }
 
-    /// Whether a block comment is unclosed at the end of the last line; false if no line is read.
+    /// Returns whether a block comment is unclosed at the end of the last line; `false` if no line
+    /// was read.
     pub fn in_comment(&self) -> bool
         ensures { (before : List Reading) → ScannerRepresents self.now before →
             result ≡ ends_in_block before }
@@ -97,7 +99,7 @@ impl ShortScanner {
         is_in_block_comment(self.scan_state.lexer.state)
     }
 
-    /// A scanner that stands where this one does, for a long line.
+    /// Returns a scanner in the same state, for a long line.
     pub fn to_scanner(&self) -> Scanner
         ensures { result ≡ self.now }
     {
@@ -107,7 +109,7 @@ impl ShortScanner {
         }
     }
 
-    /// Goes on where a scanner stands.
+    /// Copies the state of a scanner.
     pub fn copy_state_of(&mut self, scanner: &Scanner)
         ensures { self.new ≡ scanner.now }
     {

@@ -1,7 +1,8 @@
 //! Searches over many bytes at a time.
 //!
-//! Each answers what a search byte by byte would. So many lanes are compared at once; at the end the last of them overlap
-//! those before. How many lanes a search takes is a choice of speed alone: a search for what is near takes few.
+//! Each returns what a search byte by byte would return. So many lanes are compared at once; at the
+//! end the last of them overlap those before. The number of lanes is a choice of speed alone: a
+//! search for a byte that is near takes few.
 
 ghost use Rattle.std.specs.Prelude.{◌≡◌, ◌≤◌, ◌<◌, ◌+◌, length, take, drop};
 ghost use Rattle.std.specs.List.{position_or_len};
@@ -10,17 +11,17 @@ ghost use Rattle.ud_text.specs.Searches.{is_one_of, lowest_set_bit};
 use std::simd::Simd;
 use std::simd::prelude::*;
 
-/// Five bytes that are searched for. One of them may stand there more than once.
+/// Five bytes to search for. One of them may be listed more than once.
 pub(crate) type ByteSet = [u8; 5];
 
-/// Whether a byte is one of these.
+/// Returns whether `byte` is one of `set`.
 fn is_one_of(byte: u8, set: ByteSet) -> bool
     ensures { result ≡ is_one_of set byte }
 {
     byte == set[0] || byte == set[1] || byte == set[2] || byte == set[3] || byte == set[4]
 }
 
-/// The place of the lowest bit that is set, or `simd` if none is.
+/// Returns the position of the lowest set bit, or `lanes` if none is set.
 #[inline(always)]
 pub(crate) fn lowest_set_bit(bits: u64, lanes: usize) -> usize
     ensures { result ≡ lowest_set_bit bits lanes }
@@ -32,7 +33,8 @@ pub(crate) fn lowest_set_bit(bits: u64, lanes: usize) -> usize
     }
 }
 
-/// How many of the `N` bytes from a place on stand before the first of these bytes; all if there is none.
+/// Returns how many of the `N` bytes from `at` on come before the first one of `set`; all if there
+/// is none.
 #[inline(always)]
 pub(crate) fn find_in_lanes<const N: usize>(bytes: &[u8], at: usize, set: ByteSet) -> usize
     requires few { N ≤ 64 }
@@ -49,7 +51,8 @@ pub(crate) fn find_in_lanes<const N: usize>(bytes: &[u8], at: usize, set: ByteSe
     lowest_set_bit(found.to_bitmask(), N)
 }
 
-/// The place of the first of these bytes, by `N` lanes. The number of bytes if there is none.
+/// Returns the position of the first byte of `set`, by `N` lanes. Returns `bytes.len()` if there is
+/// none.
 #[inline(always)]
 fn find_by_lanes<const N: usize>(bytes: &[u8], set: ByteSet) -> usize
     requires some { 0 < N }
@@ -69,7 +72,8 @@ fn find_by_lanes<const N: usize>(bytes: &[u8], set: ByteSet) -> usize
     last + find_in_lanes::<N>(bytes, last, set)
 }
 
-/// The place of the first of these bytes, where one is near. The number of bytes if there is none.
+/// Returns the position of the first byte of `set`, or `bytes.len()` if there is none. Few lanes
+/// are taken, for a byte that is near.
 #[inline(always)]
 pub(crate) fn find_near(bytes: &[u8], set: ByteSet) -> usize
     ensures value { result ≡ position_or_len (is_one_of set) bytes.now }

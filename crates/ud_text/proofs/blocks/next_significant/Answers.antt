@@ -1,4 +1,4 @@
--- What is left of the row, or the bytes after it.
+-- By the rest of the block, or by the bytes after it.
 use Rattle.std.proofs.Common.{◌∙◌, arith}
 use Rattle.ud_text.proofs.BlockBitLemmas.{left_found, left_empty, row_bound}
 use Rattle.ud_text.proofs.blocks.next_significant.Goals as goal

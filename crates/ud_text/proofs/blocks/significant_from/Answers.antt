@@ -1,4 +1,4 @@
--- The lowest bit of a row, or a search among the last bytes.
+-- The lowest bit of a block, or a search among the last bytes.
 use Rattle.std.proofs.Common.{◌∙◌, sym, arith}
 use Rattle.ud_text.proofs.BlockBitLemmas.{row_found, row_empty, row_later}
 use Rattle.ud_text.proofs.blocks.significant_from.Goals as goal

@@ -1,4 +1,4 @@
--- None of the bytes from the beginning up to the place may matter.
+-- None of the bytes from `begin` up to `at` is significant.
 use Rattle.std.proofs.Common.{◌≡◌, ◌≤◌, ◌+◌, ◌-◌, length, drop}
 use Rattle.std.specs.List.{position_or_len}
 use Rattle.ud_text.specs.BulkLexemes.{is_significant}

@@ -1,4 +1,4 @@
--- What looking back shows is so.
+-- By looking back.
 use Rattle.ud_text.specs.BulkStates.{code_state}
 use Rattle.ud_text.proofs.ProgressLemmas.{passed_of}
 use Rattle.ud_text.proofs.StepLemmas.{block_begun}

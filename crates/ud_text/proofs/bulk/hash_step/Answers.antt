@@ -1,4 +1,4 @@
--- A name that is no keyword, or a line that is not white.
+-- A word that is no keyword, or a line that isn't white.
 use Rattle.std.proofs.Common.{inl, subst, List, ℕ, take, ◌+◌, ◌≤◌, ◌≡◌, length, true}
 use Rattle.std.proofs.lemmas.List.{take_rest}
 use Rattle.ud_text.specs.BulkStates.{code_state, is_other_word}

@@ -1,4 +1,4 @@
--- By the last line feed.
+-- By the last newline.
 
 use Rattle.ud_text.proofs.ProgressLemmas.{settled}
 use Rattle.std.proofs.Math.Nat.{pos_of_ne-zero}

@@ -1,4 +1,4 @@
--- By the last line feed.
+-- By the last newline.
 use Rattle.ud_text.proofs.StepLemmas.{held_same, held_later}
 use Rattle.std.proofs.Math.Nat.{pos_of_ne-zero}
 use Rattle.ud_text.proofs.bulk.last_line_in_block.Goals as goal

@@ -1,4 +1,4 @@
--- Up to the first byte that may matter.
+-- Up to the first significant byte.
 use Rattle.ud_text.proofs.StepLemmas.{plain_step_read}
 use Rattle.ud_text.proofs.bulk.plain_step.Goals as goal
 

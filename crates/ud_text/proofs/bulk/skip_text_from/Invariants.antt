@@ -1,4 +1,4 @@
--- The bytes up to the place are read.
+-- The bytes up to `p.at` are read.
 use Rattle.std.proofs.Common.{◌-◌, length}
 use Rattle.ud_text.specs.Progress.{InOrder, ReadBy}
 use Rattle.ud_text.specs.Blocks.{IsBlock}

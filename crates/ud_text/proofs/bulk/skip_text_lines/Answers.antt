@@ -1,4 +1,4 @@
--- By where the text leaves off.
+-- By the lexer's state.
 use Rattle.std.proofs.Common.{ap}
 use Rattle.ud_text.specs.LineViews.{lex_state_of}
 use Rattle.ud_text.proofs.StepLemmas.{start_read, start_block}

@@ -1,4 +1,4 @@
--- The span is read; without one, the lines before the last one that begins are passed.
+-- The lexeme is read; without one, the lines before the last one that begins are skipped.
 use Rattle.ud_text.specs.BulkStates.{code_state}
 use Rattle.ud_text.proofs.StepLemmas.{text_step_read}
 use Rattle.ud_text.proofs.ProgressLemmas.{passed_of}

@@ -1,4 +1,4 @@
--- The white space in front, and two bytes of the word.
+-- The leading white space, and two bytes of the word.
 use Rattle.std.proofs.Common.{◌≤◌, ◌∙◌, length, sym, arith}
 use Rattle.ud_text.proofs.NameLemmas.{name_in_front, past_white_within}
 use Rattle.ud_text.proofs.hash_sign.other_word_len.Goals as goal

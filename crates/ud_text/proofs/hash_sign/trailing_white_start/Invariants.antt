@@ -1,4 +1,4 @@
--- The bytes from the place on are white.
+-- The bytes from `at` on are white.
 use Rattle.std.proofs.Common.{◌≡◌, ◌≤◌, length, drop, true}
 use Rattle.ud_model.specs.text.Bytes.{are_white}
 use Rattle.ud_text.proofs.hash_sign.trailing_white_start.Given as goal

@@ -1,4 +1,4 @@
--- The two bytes in front.
+-- The first two bytes.
 use Rattle.std.proofs.Common.{ne_eqb}
 use Rattle.ud_text.proofs.StepLemmas.{backslash_spans}
 use Rattle.ud_text.proofs.lexeme_lengths.backslash_len.Goals as goal

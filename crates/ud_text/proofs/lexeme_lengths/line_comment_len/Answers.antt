@@ -1,4 +1,4 @@
--- Up to the first line feed, before which no splice begins.
+-- Up to the first newline, before which no splice begins.
 use Rattle.std.proofs.Common.{◌-◌, ◌<◌, ◌∙◌, length, take, drop, subst, sym, List, ℕ}
 use Rattle.std.proofs.lemmas.List.{take_rest}
 use Rattle.ud_model.specs.text.Lines.{NoNewline}

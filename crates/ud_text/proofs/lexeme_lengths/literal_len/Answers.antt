@@ -1,4 +1,4 @@
--- Bytes up to one that ends the literal or takes a byte along, and then that one.
+-- Bytes up to one that ends the literal or escapes the next byte, and then that one.
 use Rattle.std.proofs.Common.{◌+◌, arith, ne_eqb, eq-eqb}
 use Rattle.ud_text.proofs.StepLemmas.{literal_run, literal_backslash, literal_two, literal_ends}
 use Rattle.ud_text.proofs.lexeme_lengths.literal_len.Goals as goal

@@ -1,4 +1,4 @@
--- The literal is read up to the place.
+-- The literal is read up to `at`.
 use Rattle.std.proofs.Common.{◌≤◌, ◌-◌, length, take, Bool}
 use Rattle.ud_text.proofs.LexemeLemmas.{LiteralFront}
 use Rattle.ud_text.proofs.lexeme_lengths.literal_len.Given as goal

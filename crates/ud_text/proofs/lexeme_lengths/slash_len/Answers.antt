@@ -1,4 +1,4 @@
--- The two bytes in front.
+-- The first two bytes.
 use Rattle.std.proofs.Common.{ne_eqb}
 use Rattle.ud_text.proofs.StepLemmas.{slash_spans}
 use Rattle.ud_text.proofs.lexeme_lengths.slash_len.Goals as goal

@@ -1,4 +1,4 @@
--- The bytes in front are a backslash and an ending.
+-- The first bytes are a backslash and an ending.
 use Rattle.std.proofs.Common.{◌≡◌, ◌∷◌, [], take, sym, subst, rules}
 use Rattle.ud_text.specs.BulkLexemes.{IsSplice, splice_feed, splice_return_feed}
 use Rattle.ud_model.specs.text.Bytes.{backslash, carriage_return, newline}

@@ -1,4 +1,4 @@
--- So many spaces stand after what was there.
+-- The spaces so far were appended.
 use Rattle.std.proofs.Common.{◌≡◌, ◌++◌, replicate}
 use Rattle.ud_text.proofs.lexer.append_spaces.Given as goal
 

@@ -1,4 +1,4 @@
--- What is taken away at the end is put back as a space.
+-- The last byte is removed, and a space appended.
 use Rattle.std.proofs.Common.{sym, ◌∙◌}
 use Rattle.ud_text.proofs.MaskLemmas.{blanked}
 use Rattle.ud_text.proofs.lexer.blank_last.Goals as goal

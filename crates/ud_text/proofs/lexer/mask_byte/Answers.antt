@@ -1,4 +1,4 @@
--- One more byte, and a space in place of the slash before it where it opens a comment.
+-- One more byte, and a space in place of the slash before it if the byte begins a comment.
 use Rattle.std.proofs.Common.{sym, ◌∙◌, ap, true, false, ℕ, ◌++◌, ◌∷◌, []}
 use Rattle.arrayvec.specs.ArrayVec.{ArrayVec}
 use Rattle.ud_text.specs.LineViews.{lex_state_of}

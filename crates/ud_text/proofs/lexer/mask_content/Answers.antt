@@ -1,4 +1,4 @@
--- A run and a byte more are read.
+-- A run and one more byte are read.
 use Rattle.std.proofs.Common.{◌+◌, ◌++◌, sym, ap, refl, append-nil, arith, take_all, length, length-drop, rules}
 use Rattle.ud_model.proofs.text.ScanLemmas.{Masks-start}
 use Rattle.ud_text.proofs.MaskLemmas.{Masks-same, run_read, byte_read, no_feed-take, no_feed-drop}

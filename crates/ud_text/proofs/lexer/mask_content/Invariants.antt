@@ -1,4 +1,4 @@
--- The content in front of the place is shown.
+-- The content before `at` is shown.
 use Rattle.std.proofs.Common.{◌≡◌, ◌≤◌, ◌-◌, ℕ, List, ◌++◌, length, take}
 use Rattle.ud_model.specs.aids.LexStates.{LexesTo, Masks}
 use Rattle.ud_text.specs.LineViews.{lex_state_of}

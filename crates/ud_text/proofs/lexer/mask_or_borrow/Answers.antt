@@ -1,4 +1,4 @@
--- Content without a mark is shown as it stands.
+-- Content without a mark is shown unchanged.
 use Rattle.std.proofs.Common.{◌≡◌, ◌∙◌, sym, ap, ◌&&◌}
 use Rattle.ud_model.specs.text.Bytes.{are_white}
 use Rattle.ud_text.specs.LineViews.{lex_state_of}

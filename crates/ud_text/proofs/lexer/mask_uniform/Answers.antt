@@ -1,4 +1,4 @@
--- Runs of bytes that leave the place as it is.
+-- Runs of bytes that leave the state unchanged.
 use Rattle.std.proofs.Common.{sym, ◌∙◌, ap}
 use Rattle.ud_text.specs.LineViews.{lex_state_of}
 use Rattle.ud_text.proofs.MaskLemmas.{and_at_true, and_at_false, text_run, block_run, line_run}

@@ -1,4 +1,4 @@
--- What a search of all bytes finds.
+-- By a search of all bytes.
 use Rattle.std.proofs.Common.{ℕ, ◌+◌, List, length, Option, Some, None, IfSome, IfNone, true, false}
 use Rattle.memchr.specs.Find.{IsFirstByte, is_byte}
 use Rattle.ud_text.specs.LinesState.{UpToNewline}

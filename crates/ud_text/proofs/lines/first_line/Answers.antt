@@ -1,4 +1,4 @@
--- The front of a piece is found once.
+-- A chunk has one prefix up to its first newline.
 use Rattle.std.proofs.Common.{◌<◌, ◌≡◌, true}
 use Rattle.ud_model.specs.declared.limits.TheConstants.{LINE_BYTES}
 use Rattle.ud_text.proofs.BorrowLemmas.{none_fits}

@@ -1,4 +1,4 @@
--- The line feeds in front, those that come after them, and those of the last bytes.
+-- The newlines of the first bytes, of those after them, and of the last ones.
 use Rattle.std.proofs.Common.{◌∙◌, ◌-◌, ◌+◌, length, take, drop}
 use Rattle.ud_text.proofs.ConsumeLemmas.{counted_all, lines_counted}
 use Rattle.ud_text.proofs.newlines.count_lines.Goals as goal

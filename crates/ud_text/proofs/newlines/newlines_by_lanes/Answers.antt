@@ -1,4 +1,4 @@
--- The line feeds in front, and those that come after them.
+-- The newlines before `at`, and those of the next lanes.
 use Rattle.std.proofs.Common.{arith}
 use Rattle.ud_text.proofs.ConsumeLemmas.{counted_more}
 use Rattle.ud_text.proofs.newlines.newlines_by_lanes.Goals as goal

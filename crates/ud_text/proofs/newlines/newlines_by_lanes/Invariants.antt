@@ -1,4 +1,4 @@
--- The line feeds in front are counted.
+-- The newlines before `at` are counted.
 use Rattle.std.proofs.Common.{◌≡◌, ◌≤◌, ◌-◌, length, take}
 use Rattle.std.specs.List.{count_by}
 use Rattle.ud_text.specs.Consuming.{is_newline}

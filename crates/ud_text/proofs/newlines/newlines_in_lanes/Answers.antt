@@ -1,4 +1,4 @@
--- So many bits are set as lanes are line feeds.
+-- The number of set bits is that of the newlines among the lanes.
 use Rattle.std.proofs.Common.{◌≡◌, ◌∙◌, ℕ, eqb, ap, length, take, drop, w8, arith}
 use Rattle.std.specs.Int.RustNames.{count_ones}
 use Rattle.std.proofs.lemmas.Simd.{length-chunk, bitmask_splat, ones-mask_l}

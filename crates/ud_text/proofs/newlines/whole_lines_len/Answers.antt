@@ -1,4 +1,4 @@
--- Whole lines in front of the next window.
+-- Whole lines at the beginning of the next window.
 use Rattle.std.proofs.Common.{◌≡◌, ◌≤◌, ◌<◌, ◌-◌, ℕ, List, true, length, ap, subst, take, drop, arith}
 use Rattle.std.proofs.Math.ListN.{length-drop}
 use Rattle.ud_model.specs.text.Lines.{NoNewline}

@@ -1,4 +1,4 @@
--- The bytes in front are whole lines that fit.
+-- The bytes before `at` are whole lines that fit.
 use Rattle.std.proofs.Common.{◌≤◌, ◌-◌, length, take}
 use Rattle.ud_model.specs.text.Lines.{whole_lines}
 use Rattle.ud_text.specs.BulkScanning.{AreWholeLines}

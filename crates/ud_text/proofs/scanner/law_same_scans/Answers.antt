@@ -1,4 +1,4 @@
--- Both scans are seen from the place that is carried.
+-- Both scans follow from the carried state.
 use Rattle.ud_text.proofs.ScannerLemmas.{same_scans}
 use Rattle.ud_text.proofs.scanner.law_same_scans.Goals as goal
 

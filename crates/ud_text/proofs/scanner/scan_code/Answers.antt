@@ -1,4 +1,4 @@
--- What is carried over the line, and what is seen of it, by the place at which its content leaves off.
+-- The state carried over the line, and the line's scan, by the lexer's state after its content.
 use Rattle.std.proofs.Common.{rules, ◌≡◌, ◌∙◌, sym, ap, ap₂, refl, subst, List, ℕ, Bool, true, false, ◌||◌, ◌++◌, length}
 use Rattle.ud_model.specs.text.Lines.{NoNewline}
 use Rattle.ud_model.specs.text.Scans.{Reading}
@@ -16,7 +16,7 @@ pub mask_or_borrow-requires : goal.mask_or_borrow-requires
 mask_or_borrow-requires g c =
     (search rules, (c.requires.empty, (search rules, subst NoNewline (sym c.content-bytes.ensures) (no_newline-content (as_line c.args.line.now) c.requires.one_line))))
 
--- how the content is shown after the joined text of the run
+-- how the content is shown after the spliced text of the C run
 shown_content : (g : Over) (c : After-comment_at g) (before : List Reading) → ScannerRepresents (scanner_state_of c.args.scan_state) before →
     Masks (length (spliced_text (c_run_of before))) (spliced_text (c_run_of before) ++ content (as_line c.args.line.now)) (lex_state_of c.mask_or_borrow.result.0.state)
     c.mask_or_borrow.result.0.white (shown_in c.mask_or_borrow.result.1 c.mask_or_borrow.new.masked.items)

@@ -1,4 +1,4 @@
--- Nothing is carried over the line.
+-- The initial state is carried over the line.
 use Rattle.std.proofs.Common.{◌++◌, ◌∷◌, [], sym, subst}
 use Rattle.ud_model.specs.text.Scanning.{next_reading}
 use Rattle.ud_model.specs.declared.kind.Mode.TheVariants.{Plain}

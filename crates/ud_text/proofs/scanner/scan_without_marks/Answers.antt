@@ -1,4 +1,4 @@
--- What is carried over the line, and what is seen of it.
+-- The state carried over the line, and the line's scan.
 use Rattle.std.proofs.Common.{length, ◌∙◌, sym, ap, refl}
 use Rattle.ud_text.specs.LineViews.{as_line, lex_state_of}
 use Rattle.ud_text.specs.ScannerState.{scanner_state_of}

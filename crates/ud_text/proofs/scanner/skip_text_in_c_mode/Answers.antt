@@ -1,4 +1,4 @@
--- By the run of bytes.
+-- By the bytes that are skipped.
 use Rattle.std.proofs.Common.{take, refl}
 use Rattle.ud_model.specs.declared.kind.Mode.TheVariants.{C}
 use Rattle.ud_text.specs.ScannerState.{scanner_state_of}

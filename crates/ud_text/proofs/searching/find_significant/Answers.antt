@@ -1,4 +1,4 @@
--- Of a few bytes each is looked at.
+-- Few bytes are searched one by one.
 use Rattle.std.proofs.Common.{◌∙◌}
 use Rattle.ud_text.specs.BulkLexemes.{is_significant}
 use Rattle.ud_text.proofs.SimdLemmas.{search_specials, search_bound}

@@ -1,4 +1,4 @@
--- By the place of the first pair.
+-- By the position of the first pair.
 use Rattle.ud_text.proofs.PairLemmas.{before_first_pair, no_pair, at_first_pair}
 use Rattle.ud_text.proofs.searching.find_star_pair.Goals as goal
 

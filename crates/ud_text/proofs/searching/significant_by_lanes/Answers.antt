@@ -1,4 +1,4 @@
--- The first that may matter is among these lanes, or after them.
+-- The first significant byte is among these lanes, or after them.
 use Rattle.std.proofs.Common.{refl, arith}
 use Rattle.ud_text.specs.BulkLexemes.{is_significant}
 use Rattle.ud_text.proofs.SimdLemmas.{first_here, first_later, first_at_last}

@@ -1,4 +1,4 @@
--- None of the bytes in front may matter.
+-- None of the bytes before `at` is significant.
 use Rattle.std.proofs.Common.{◌≤◌, ◌-◌, length}
 use Rattle.std.specs.List.{position_or_len}
 use Rattle.ud_text.specs.BulkLexemes.{is_significant}

@@ -1,4 +1,4 @@
--- The lowest bit is that of the first lane that may matter.
+-- The lowest bit is that of the first significant lane.
 use Rattle.std.proofs.Common.{◌≡◌, ◌∙◌, ℕ, length, take, drop, ap}
 use Rattle.std.proofs.lemmas.Simd.{length-chunk, first_set_mask_l}
 use Rattle.ud_text.specs.Searches.{lowest_set_bit}

@@ -1,4 +1,4 @@
--- No pair stands in front.
+-- No pair begins before `at`.
 use Rattle.std.proofs.Common.{◌≤◌, ◌-◌, length}
 use Rattle.std.specs.List.{position_or_len}
 use Rattle.ud_text.specs.Searches.{pairs_of, is_found}

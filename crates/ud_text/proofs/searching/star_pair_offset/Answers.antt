@@ -1,4 +1,4 @@
--- The first pair stands before the last byte.
+-- The first pair begins before the last byte.
 use Rattle.ud_text.proofs.PairLemmas.{pair_bound}
 use Rattle.ud_text.proofs.searching.star_pair_offset.Goals as goal
 

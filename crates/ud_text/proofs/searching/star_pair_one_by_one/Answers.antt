@@ -1,4 +1,4 @@
--- No pair stands before the place, and at it stands one or no byte is next.
+-- No pair begins before `at`; one begins at it, or there is no next byte.
 use Rattle.std.proofs.Common.{◌∙◌, sym, arith}
 use Rattle.ud_text.proofs.PairLemmas.{first_pair_is}
 use Rattle.ud_text.proofs.searching.star_pair_one_by_one.Goals as goal

@@ -1,4 +1,4 @@
--- No pair stands in front.
+-- No pair begins before `at`.
 use Rattle.std.proofs.Common.{◌≡◌, ◌≤◌, ◌<◌, ◌-◌, ◌+◌, ℕ, false, length, get_or}
 use Rattle.ud_text.specs.BulkLexemes.{is_star_pair}
 use Rattle.ud_text.proofs.searching.star_pair_one_by_one.Given as goal

@@ -1,4 +1,4 @@
--- None of the bytes stands in front.
+-- None of the bytes is before `at`.
 use Rattle.std.proofs.Common.{◌≤◌, ◌-◌, length}
 use Rattle.std.specs.List.{position_or_len}
 use Rattle.ud_text.specs.Searches.{is_one_of}

@@ -1,4 +1,4 @@
--- Of a few bytes each is looked at.
+-- Few bytes are searched one by one.
 use Rattle.std.proofs.Common.{rules, tests, ◌≡◌, ◌∙◌, length, unwrap_or, ap}
 use Rattle.std.specs.List.{position_or_len}
 use Rattle.std.proofs.lemmas.Iterator.{YieldsList-from_slice}

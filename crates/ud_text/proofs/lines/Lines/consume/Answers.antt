@@ -1,4 +1,4 @@
--- The lines are taken and given up.
+-- The lines are taken and consumed.
 use Rattle.std.proofs.Common.{◌+◌, ℕ, ◌++◌, sym, subst}
 use Rattle.ud_text.specs.LinesState.{LinesState, LinesRepresent}
 use Rattle.ud_text.specs.Consuming.{CanConsume}

@@ -1,4 +1,4 @@
--- The line is that of the piece's front, and is taken and given up at once.
+-- The line is that of the chunk's prefix, and is taken and consumed at once.
 use Rattle.std.proofs.Common.{rules, arith, Option, Some, IfNone, take, ◌≡◌, suc, ◌+◌, [], ◌++◌, length, None, false, add-one, sym, ◌∙◌, ap, subst}
 use Rattle.ud_model.specs.text.Lines.{line_at}
 use Rattle.ud_text.specs.LinesState.{LinesState, LinesRepresent, IsLineOf}

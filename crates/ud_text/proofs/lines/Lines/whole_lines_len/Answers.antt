@@ -1,4 +1,4 @@
--- The lines are whole and fit, and no more than their bytes.
+-- The lines are whole and fit, and there are no more of them than bytes.
 use Rattle.std.proofs.Common.{rules, ◌≡◌, [], None, take, sym, ◌∙◌, subst, arith}
 use Rattle.std.proofs.Math.ListN.{length-take}
 use Rattle.ud_text.specs.LinesState.{LinesState}

@@ -1,4 +1,4 @@
--- Nothing is carried, which stands for no readings.
+-- The initial state represents no readings.
 use Rattle.std.proofs.Common.{[], sym, refl, subst}
 use Rattle.ud_text.specs.ScannerState.{ScannerState, ScannerRepresents}
 use Rattle.ud_text.proofs.ScannerLemmas.{represents_none}
