@@ -1,8 +1,9 @@
 //! Decides the texts of `#if` lines again and again, to be timed.
 //!
-//! The words are `conditions` or `bytes`, how often the texts are gone over, and names, each of which is defined as 1.
-//! The texts come from the standard input, one a line. With `bytes` each text is searched for a byte that it hasn't.
-//! What was found is counted and printed, so that no call is left out.
+//! The arguments are `conditions` or `bytes`, the number of passes over the texts, and names, each
+//! of which is defined as 1. The texts come from standard input, one a line. With `bytes`, each
+//! text is searched for a byte that it doesn't have. The results are counted and printed, so that
+//! no call is optimized out.
 #![tactic(auto)]
 
 use memchr::memchr;
@@ -12,7 +13,7 @@ use std::{env, io};
 use ud_cond::{Rules, SymbolFault, Symbols, condition};
 use ud_model::{Cond, Kind, LINE_BYTES};
 
-/// How many texts were decided each way. A count that is too large wraps.
+/// The number of texts decided each way. A count that is too large wraps.
 #[derive(Clone, Copy)]
 struct Tally {
     yes: u64,
@@ -61,12 +62,12 @@ fn main(rt: HostRuntime) -> io::Result<()> {
     )
 }
 
-/// The words after the first two.
+/// Returns the arguments after the first two.
 fn names_in(words: &[String]) -> &[String] {
     if words.len() < 2 { &[] } else { &words[2..] }
 }
 
-/// The table that defines each of these names as 1.
+/// Returns the table that defines each of these names as 1.
 fn table(alloc: Global, names: &[String]) -> Result<Symbols, SymbolFault> {
     let mut symbols = Symbols::new(alloc);
     for name in names {
@@ -75,7 +76,7 @@ fn table(alloc: Global, names: &[String]) -> Result<Symbols, SymbolFault> {
     Ok(symbols)
 }
 
-/// Decides each text so many times.
+/// Decides each text `passes` times.
 fn decide(texts: &[u8], passes: u32, symbols: &Symbols) -> Tally {
     let rules = Rules {
         constants: false,
@@ -96,7 +97,7 @@ fn decide(texts: &[u8], passes: u32, symbols: &Symbols) -> Tally {
     tally
 }
 
-/// Searches each text so many times; one with a NUL byte counts as yes.
+/// Searches each text `passes` times. A text with a NUL byte counts as yes.
 fn search(texts: &[u8], passes: u32) -> Tally {
     let mut tally = Tally {
         yes: 0,

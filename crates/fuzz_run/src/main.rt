@@ -1,7 +1,8 @@
-//! Holds the tool against the reference on hostile words and texts.
+//! Compares the tool with the reference on hostile arguments and texts.
 //!
-//! The words are the first seed and how many seeds are gone through from there. At a case that both answer differently the
-//! seed is printed, and the smallest words and text to which the case could be cut down, and the status is 1.
+//! The arguments are the first seed and the number of seeds to try from there. At a case that the
+//! two answer differently, it prints the seed and the smallest arguments and text to which the case
+//! shrinks. The exit status is then 1.
 #![tactic(auto)]
 
 use fuzz_texts::{Case, agree, case_of, smallest};
@@ -25,12 +26,12 @@ fn main(rt: HostRuntime) -> io::Result<()> {
     println!(rt; "{count} cases from seed {first} on: no mismatch")
 }
 
-/// The number that a word is, if it is one.
+/// Returns the number that an argument is, if it is one.
 fn number_at(words: &[String], at: usize) -> Option<u64> {
     words.get(at)?.as_str().parse::<u64>().ok()
 }
 
-/// Prints the seed of a case, and what the case could be cut down to.
+/// Prints the seed of a case, and the case that it shrinks to.
 fn report(rt: &impl Print, alloc: Global, case: Case) -> io::Result<()> {
     println!(rt; "mismatch at seed {}", case.seed)?;
     let case = smallest(alloc, case)?;

@@ -1,4 +1,4 @@
-//! A case: words and a text.
+//! A case: arguments and a text.
 
 use crate::random::Random;
 use crate::sections::write_text;
@@ -6,7 +6,7 @@ use crate::words::words_of;
 use crate::writer::Writer;
 use std::alloc::{AllocError, Global};
 
-/// Words and a text, and the seed of the pieces in which the tool reads it.
+/// The arguments, the text, and the seed of the chunks in which the tool reads it.
 #[derive(Drop)]
 pub struct Case {
     pub words: Vec<String>,
@@ -14,10 +14,10 @@ pub struct Case {
     pub seed: u64,
 }
 
-/// The case of a seed.
+/// Returns the case of a seed.
 ///
 /// # Errors
-/// Memory is refused.
+/// Fails if memory runs out.
 pub fn case_of(alloc: Global, seed: u64) -> Result<Case, AllocError> {
     let mut random = Random::new(seed);
     let words = words_of(alloc, &mut random)?;

@@ -1,4 +1,4 @@
-//! The tool held against the reference.
+//! Comparing the tool with the reference.
 
 use crate::case::Case;
 use crate::pieces::Pieces;
@@ -6,10 +6,10 @@ use ref_unifdef::{Answer, answer_to};
 use std::alloc::{AllocError, Global};
 use unifdef::{Watched, tool};
 
-/// Whether the tool, which reads the case's text in pieces, has the answer of the reference.
+/// Returns whether the tool, which reads the case's text in chunks, gives the reference's answer.
 ///
 /// # Errors
-/// Memory is refused.
+/// Fails if memory runs out.
 pub fn agree(alloc: Global, case: &Case) -> Result<bool, AllocError> {
     let expected = answer_to(alloc, case.words.as_slice(), case.text.as_slice())?;
     let given = run(alloc, case)?;
@@ -20,7 +20,7 @@ pub fn agree(alloc: Global, case: &Case) -> Result<bool, AllocError> {
     )
 }
 
-/// The answer of the tool.
+/// Returns the answer of the tool.
 fn run(alloc: Global, case: &Case) -> Result<Answer, AllocError> {
     let mut reader = Watched::new(Pieces::new(case.text.as_slice(), case.seed));
     let mut out = Watched::new(Vec::<u8>::new(alloc));

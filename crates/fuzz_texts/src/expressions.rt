@@ -43,12 +43,12 @@ const OPERATORS: [&[u8]; 21] = [
     b" - ", b"*", b"/", b"%", b"<<", b"?", b",",
 ];
 
-/// What may stand between two tokens: white space, comments and splices.
+/// The bytes that may come between two tokens: white space, comments and splices.
 const GAPS: [&[u8]; 9] = [
     b" ", b"\t", b"\x0b", b"/**/", b"/* A */", b"\\\n", b"\\\r\n", b"/*\n*/", b"\0",
 ];
 
-/// Writes an expression of at most so many operands.
+/// Writes an expression of at most `most` operands.
 pub(crate) fn write_expression(writer: &mut Writer, most: usize) -> Result<(), AllocError> {
     for at in 0..1 + writer.random.below(most.max(1)) {
         if at > 0 {
@@ -59,7 +59,7 @@ pub(crate) fn write_expression(writer: &mut Writer, most: usize) -> Result<(), A
     Ok(())
 }
 
-/// Writes an operand, at times in parentheses or after a prefix.
+/// Writes an operand, sometimes in parentheses or after a prefix.
 fn write_operand(writer: &mut Writer) -> Result<(), AllocError> {
     if writer.one_in(6) {
         writer.put_one(&PREFIXES)?;

@@ -1,9 +1,11 @@
-//! Hostile words and texts, made from a seed, and the tool held against the reference on them.
+//! Hostile arguments and texts from a seed, on which the tool is compared with the reference.
 //!
-//! `case_of` makes the case of a seed: words, and a text dense in what hurts: splices, comments and quotes that are cut,
-//! carriage returns and NUL bytes, cut keywords, sections that nest up to the limit and past it, plain sections, lines at
-//! the limit, long expressions. `agree` feeds it to the tool in pieces of random sizes. `smallest` cuts a case down that
-//! the tool and the reference answer differently. Contracts say here what safety needs, and nothing of the meaning.
+//! `case_of` makes the case of a seed: arguments, and a text dense in what hurts. That is splices,
+//! comments and quotes that are cut, carriage returns and NUL bytes, and cut keywords; sections
+//! that nest up to the limit and past it, plain sections, lines at the limit, and long expressions.
+//! `agree` feeds the case to the tool in chunks of random sizes. `smallest` shrinks a case that the
+//! tool and the reference answer differently. Contracts state here what safety needs, and nothing
+//! of the meaning.
 #![tactic(auto)]
 
 mod case;

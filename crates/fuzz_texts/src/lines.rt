@@ -61,7 +61,7 @@ const CALM: [&[u8]; 8] = [
     b"#define A 1",
 ];
 
-/// What may stand before a `#`.
+/// The bytes that may come before a `#`.
 const LEADS: [&[u8]; 10] = [
     b" ",
     b"\t \x0c",
@@ -75,7 +75,7 @@ const LEADS: [&[u8]; 10] = [
     b"\r",
 ];
 
-/// What may stand after a `#`, or after a keyword.
+/// The bytes that may come after a `#` or a keyword.
 const GAPS: [&[u8]; 10] = [
     b" ",
     b"  ",
@@ -89,7 +89,7 @@ const GAPS: [&[u8]; 10] = [
     b"(",
 ];
 
-/// What may stand after a directive.
+/// The bytes that may come after a directive.
 const TRAILS: [&[u8]; 14] = [
     b" ",
     b" // c",
@@ -125,17 +125,17 @@ const NAMES: [&[u8]; 6] = [b"A", b"A", b"B", b"B", b"C", b"X"];
 
 const ODD_NAMES: [&[u8]; 6] = [b"", b"defined", b"A B", b"1A", b"A/**/", b"A // c"];
 
-/// With what a long line is filled.
+/// The bytes that fill a long line.
 const FILLS: [&[u8]; 8] = [b"a", b" ", b"/", b"*", b"\\", b"+A", b"\0", b"||X"];
 
-/// What a directive does to the sections.
+/// The effect of a directive on the sections.
 #[derive(Clone, Copy)]
 pub(crate) enum Turn {
     Opens,
     Parts,
     PartsLast,
     Closes,
-    /// It isn't among those that unifdef acts on, or its keyword is cut.
+    /// None: unifdef doesn't act on the directive, or its keyword is cut.
     Nothing,
 }
 
@@ -186,7 +186,7 @@ pub(crate) fn write_directive(writer: &mut Writer, turn: Turn) -> Result<(), All
     write_ending(writer)
 }
 
-/// Writes what opens a section, after its `#`.
+/// Writes the opener of a section, after its `#`.
 fn write_opener(writer: &mut Writer) -> Result<(), AllocError> {
     if writer.one_in(3) {
         writer.put(b"if")?;
@@ -198,7 +198,7 @@ fn write_opener(writer: &mut Writer) -> Result<(), AllocError> {
     write_name(writer)
 }
 
-/// Writes what opens a further group by a condition, after its `#`.
+/// Writes the opener of a further group with a condition, after its `#`.
 fn write_further_opener(writer: &mut Writer) -> Result<(), AllocError> {
     if writer.one_in(3) {
         writer.put_one(&[b"elifdef", b"elifndef"])?;
@@ -208,7 +208,7 @@ fn write_further_opener(writer: &mut Writer) -> Result<(), AllocError> {
     write_expression(writer, 3)
 }
 
-/// Writes what follows a keyword that asks for a name.
+/// Writes the name after a keyword that asks for one.
 fn write_name(writer: &mut Writer) -> Result<(), AllocError> {
     writer.put_odd(&GAPS)?;
     writer.put(b" ")?;
@@ -219,7 +219,8 @@ fn write_name(writer: &mut Writer) -> Result<(), AllocError> {
     }
 }
 
-/// Writes a line that has about as many bytes as a line may have, its ending counted; or a shorter one in parentheses.
+/// Writes a line of about as many bytes as a line may have, its ending included; or a shorter one
+/// in parentheses.
 pub(crate) fn write_long_line(writer: &mut Writer) -> Result<(), AllocError> {
     let before = writer.text.len();
     writer.put_one(&[b"", b"#if A", b"#if X", b"/*", b"//", b"\"", b"#ifdef A //"])?;

@@ -1,12 +1,12 @@
-//! A reader over memory that gives pieces of random sizes.
+//! A reader over memory that returns chunks of random sizes.
 
 use crate::random::Random;
 use std::io::{self, Read};
 
-/// The most bytes of a piece are one of these.
+/// The greatest chunk sizes, of which one is drawn for a text.
 const SIZES: [usize; 6] = [1, 2, 5, 64, 1000, 10_000];
 
-/// Gives its bytes in pieces, and then ends.
+/// A reader that returns its bytes in chunks, and then ends.
 #[derive(Drop)]
 pub struct Pieces<'a> {
     bytes: &'a [u8],
@@ -15,7 +15,7 @@ pub struct Pieces<'a> {
 }
 
 impl<'a> Pieces<'a> {
-    /// Gives these bytes, in pieces that come from the seed.
+    /// Returns a reader of `bytes`, whose chunks come from the seed.
     pub fn new(bytes: &'a [u8], seed: u64) -> Pieces<'a> {
         let mut random = Random::new(seed);
         let most = SIZES[random.below(SIZES.len())];

@@ -1,4 +1,4 @@
-//! Numbers that look random and come from a seed.
+//! Pseudorandom numbers from a seed.
 
 ghost use Rattle.std.specs.Prelude.{◌<◌, length};
 
@@ -9,12 +9,12 @@ pub struct Random {
 }
 
 impl Random {
-    /// The source of this seed.
+    /// Returns the source for this seed.
     pub fn new(seed: u64) -> Random {
         Random { state: seed }
     }
 
-    /// The next number.
+    /// Returns the next number.
     pub fn next(&mut self) -> u64 {
         self.state = self.state.wrapping_add(0x9E37_79B9_7F4A_7C15);
         let mixed = (self.state ^ (self.state >> 30)).wrapping_mul(0xBF58_476D_1CE4_E5B9);
@@ -22,7 +22,7 @@ impl Random {
         mixed ^ (mixed >> 31)
     }
 
-    /// A number below this one, which is above 0.
+    /// Returns a number below `bound`, which is above 0.
     pub fn below(&mut self, bound: usize) -> usize
         requires { 0 < bound }
         ensures { result < bound }
@@ -30,14 +30,14 @@ impl Random {
         (self.next() % bound as u64) as usize
     }
 
-    /// Whether one of so many chances has come; `chances` is above 0.
+    /// Returns whether a chance of one in `chances`, which is above 0, has come.
     pub fn one_in(&mut self, chances: usize) -> bool
         requires { 0 < chances }
     {
         self.below(chances) == 0
     }
 
-    /// One of these texts.
+    /// Returns one of these texts.
     pub fn pick<'a>(&mut self, texts: &[&'a [u8]]) -> &'a [u8]
         requires { 0 < length texts.now }
     {

@@ -24,7 +24,8 @@ pub(crate) fn write_text(writer: &mut Writer) -> Result<(), AllocError> {
     }
 }
 
-/// Writes about as many openers as there may be open sections, lines, and what closes the sections.
+/// Writes about as many openers as there may be open sections, then lines, and mostly closes the
+/// sections.
 fn write_deep(writer: &mut Writer) -> Result<(), AllocError> {
     for _ in 0..OPEN_SECTIONS - 4 + writer.random.below(6) {
         write_directive(writer, Turn::Opens)?;
@@ -32,7 +33,7 @@ fn write_deep(writer: &mut Writer) -> Result<(), AllocError> {
     write_lines(writer)
 }
 
-/// Writes lines, among them directives that mostly stand in their place, and mostly closes the sections.
+/// Writes lines, among them directives that are mostly well placed, and mostly closes the sections.
 fn write_lines(writer: &mut Writer) -> Result<(), AllocError> {
     for _ in 0..writer.random.below(24) {
         write_some_line(writer)?;

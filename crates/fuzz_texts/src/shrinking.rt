@@ -1,4 +1,4 @@
-//! Cutting a case down that the tool and the reference answer differently.
+//! Shrinking a case that the tool and the reference answer differently.
 
 ghost use Rattle.std.specs.Prelude.{◌<◌};
 
@@ -6,14 +6,14 @@ use crate::case::Case;
 use crate::comparing::agree;
 use std::alloc::{AllocError, Global};
 
-/// How many bytes are left out at once, in turn.
+/// The numbers of bytes that are left out at once, in turn.
 const RUNS: [usize; 10] = [4096, 512, 64, 16, 8, 4, 2, 1, 2, 1];
 
-/// A case that comes of this one by leaving out words and bytes, and that the tool and the reference still answer
-/// differently; the case itself if they answer it alike.
+/// Shrinks a case, by leaving out arguments and bytes, while the tool and the reference answer it
+/// differently. Returns the case itself if they answer it alike.
 ///
 /// # Errors
-/// Memory is refused.
+/// Fails if memory runs out.
 pub fn smallest(alloc: Global, case: Case) -> Result<Case, AllocError> {
     let mut best = without_words(alloc, case)?;
     for size in RUNS {
@@ -22,7 +22,7 @@ pub fn smallest(alloc: Global, case: Case) -> Result<Case, AllocError> {
     Ok(best)
 }
 
-/// Leaves out each word that may be, the last one first.
+/// Leaves out each argument that can be left out, the last one first.
 fn without_words(alloc: Global, case: Case) -> Result<Case, AllocError> {
     let mut best = case;
     for at in (0..best.words.len()).rev() {
@@ -38,7 +38,7 @@ fn without_words(alloc: Global, case: Case) -> Result<Case, AllocError> {
     Ok(best)
 }
 
-/// All words but the one in this place.
+/// Returns all arguments but the one at `left_out`.
 fn other_words(
     alloc: Global,
     words: &[String],
@@ -53,7 +53,7 @@ fn other_words(
     Ok(others)
 }
 
-/// Leaves out each run of so many bytes that may be, the last one first.
+/// Leaves out each run of `size` bytes that can be left out, the last one first.
 fn without_runs(alloc: Global, case: Case, size: usize) -> Result<Case, AllocError> {
     let mut best = case;
     for run in (0..=best.text.len() / size.max(1)).rev() {
@@ -69,7 +69,7 @@ fn without_runs(alloc: Global, case: Case, size: usize) -> Result<Case, AllocErr
     Ok(best)
 }
 
-/// The bytes of a text without those of a run.
+/// Returns the bytes of a text without a run of `size` bytes.
 fn without_run(alloc: Global, text: &[u8], at: usize, size: usize) -> Result<Vec<u8>, AllocError> {
     let (front, rest) = text.split_at(at.min(text.len()));
     let mut left = Vec::from_slice(alloc, front)?;

@@ -1,9 +1,9 @@
-//! Words of a command line.
+//! Arguments of a command line.
 
 use crate::random::Random;
 use std::alloc::{AllocError, Global};
 
-/// What says something of a symbol, each of one word.
+/// Arguments that define or undefine a symbol, each a single word.
 const SYMBOLS: [&str; 26] = [
     "-DA",
     "-UA",
@@ -38,7 +38,7 @@ const FLAGS: [&str; 16] = [
     "-x2",
 ];
 
-/// Words that are wrong, or that need others around them.
+/// Arguments that are faulty, or that need others around them.
 const ODD: [&str; 14] = [
     "-",
     "--",
@@ -56,7 +56,7 @@ const ODD: [&str; 14] = [
     "-i",
 ];
 
-/// A few words: what is said of one symbol at least, flags at times, and something odd seldom.
+/// Returns a few arguments: at least one for a symbol, sometimes flags, and seldom something odd.
 pub(crate) fn words_of(alloc: Global, random: &mut Random) -> Result<Vec<String>, AllocError> {
     let mut words = Vec::new(alloc);
     for _ in 0..1 + random.below(4) {

@@ -1,11 +1,11 @@
-//! What writes a text from random numbers.
+//! A writer of texts from random numbers.
 
 ghost use Rattle.std.specs.Prelude.{◌<◌, length};
 
 use crate::random::Random;
 use std::alloc::{AllocError, Global};
 
-/// How seldom something odd is written: one of these is drawn for a text.
+/// The rarity of something odd: one of these is drawn for a text.
 const CHANCES: [usize; 5] = [3, 10, 30, 100, 10_000];
 
 /// A text that is being written.
@@ -15,12 +15,12 @@ pub(crate) struct Writer {
     pub text: Vec<u8>,
     /// The sections that are open, and whether each has its `#else`.
     pub sections: Vec<bool>,
-    /// One of so many chances to be odd is taken.
+    /// The text is odd at one of this many chances.
     chances: usize,
 }
 
 impl Writer {
-    /// Has written nothing.
+    /// Returns a writer of an empty text.
     pub(crate) fn new(alloc: Global, mut random: Random) -> Writer {
         let chances = CHANCES[random.below(CHANCES.len())];
         Writer {
@@ -31,12 +31,12 @@ impl Writer {
         }
     }
 
-    /// Writes bytes.
+    /// Appends bytes.
     pub(crate) fn put(&mut self, bytes: &[u8]) -> Result<(), AllocError> {
         self.text.extend_from_slice(bytes)
     }
 
-    /// Writes one of these texts.
+    /// Appends one of these texts.
     pub(crate) fn put_one(&mut self, texts: &[&[u8]]) -> Result<(), AllocError>
         requires { 0 < length texts.now }
     {
@@ -44,7 +44,7 @@ impl Writer {
         self.put(text)
     }
 
-    /// Writes one of these texts if the chance to be odd is taken.
+    /// Appends one of these texts if it is time to be odd.
     pub(crate) fn put_odd(&mut self, texts: &[&[u8]]) -> Result<(), AllocError>
         requires { 0 < length texts.now }
     {
@@ -54,12 +54,12 @@ impl Writer {
         Ok(())
     }
 
-    /// Whether the chance to be odd is taken.
+    /// Returns whether it is time to be odd.
     pub(crate) fn is_odd(&mut self) -> bool {
         self.random.one_in(self.chances.max(1))
     }
 
-    /// Whether one of so many chances has come.
+    /// Returns whether a chance of one in `chances` has come.
     pub(crate) fn one_in(&mut self, chances: usize) -> bool
         requires { 0 < chances }
     {

@@ -1,6 +1,7 @@
-//! The reference as a program: holds all of standard input, and answers it as `ref_unifdef` does.
+//! The reference as a program: reads all of standard input, and answers as `ref_unifdef` does.
 //!
-//! It takes the words of unifdef(1). An operand is the name that messages have for the input, and isn't opened.
+//! It takes the arguments of unifdef(1). An operand is the input's name in messages, and isn't
+//! opened.
 #![tactic(auto)]
 
 use ref_unifdef::answer_to;

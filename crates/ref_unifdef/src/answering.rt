@@ -1,4 +1,4 @@
-//! The answer to words and a text.
+//! The answer to a command line and a text.
 
 use crate::messages::{Fault, FaultyLine, message, refusal};
 use crate::printing::print;
@@ -10,24 +10,24 @@ use ud_args::{Plan, display_name, plan};
 use ud_model::{ExitMode, Listing, Settings};
 use ud_text::Scanner;
 
-/// The status of a fault.
+/// The exit status after a fault.
 const TROUBLE: u8 = 2;
 
-/// What is written, what is said, and the status.
+/// The output, the message and the exit status of a run.
 #[derive(Drop)]
 pub struct Answer {
-    /// What is left of the text, or the names in it.
+    /// The output for the text, or the names in it.
     pub output: Vec<u8>,
-    /// What is wrong with the words or the text, with its line feed; empty if nothing is.
+    /// The message of a fault, with its newline; empty if there is none.
     pub message: Vec<u8>,
     /// The exit status.
     pub status: u8,
 }
 
-/// Answers these words, without the program's name, and this text, as unifdef(1) does.
+/// Returns the answer of unifdef(1) to these arguments, without the program's name, and this text.
 ///
 /// # Errors
-/// Memory is refused.
+/// Fails if memory runs out.
 pub fn answer_to(alloc: Global, words: &[String], text: &[u8]) -> Result<Answer, AllocError> {
     match plan(alloc, words) {
         Ok(plan) => run(alloc, &plan, display_name(words), text),
@@ -39,7 +39,7 @@ pub fn answer_to(alloc: Global, words: &[String], text: &[u8]) -> Result<Answer,
     }
 }
 
-/// Answers what was planned, and a text of this name.
+/// Returns the answer of a planned run over a text of this name.
 fn run(alloc: Global, plan: &Plan, name: &[u8], text: &[u8]) -> Result<Answer, AllocError> {
     let settings = plan.settings();
     let mut reader = Reader {
@@ -75,7 +75,7 @@ fn run(alloc: Global, plan: &Plan, name: &[u8], text: &[u8]) -> Result<Answer, A
     })
 }
 
-/// The status of a text without a fault.
+/// Returns the exit status for a text without a fault.
 fn status_by(settings: Settings, differs: bool) -> u8 {
     match (settings.listing, settings.exit_mode) {
         (Listing::Off, ExitMode::Zero) => u8::from(differs),

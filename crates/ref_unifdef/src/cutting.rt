@@ -6,7 +6,7 @@ ghost use Rattle.ud_model.specs.text.Lines.{NoNewline};
 use memchr::memchr;
 use ud_text::Line;
 
-/// The first line of a text that isn't empty, which has this number, and the text after it.
+/// Returns the first line of a nonempty text, with this number, and the text after it.
 pub(crate) fn cut_line(text: &[u8], number: u32) -> (Line<'_>, &[u8])
     requires some { 0 < length text.now }
     ensures one_line { NoNewline result.0.body.now }

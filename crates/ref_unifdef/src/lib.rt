@@ -1,8 +1,9 @@
-//! unifdef(1) over a text that is held whole: the plain program with which tests compare the tool.
+//! unifdef(1) over a whole text in memory: the plain program with which tests compare the tool.
 //!
-//! `reading` cuts the text into lines and nests them into the tree of its sections; `pruning` gives each line its mark, by
-//! the table of verdicts over each section as a whole; `printing` prints what is left, or the names. Nothing is decided
-//! before the text is read. Contracts say here what safety needs, and nothing of the meaning.
+//! `reading` cuts the text into lines and nests them into the tree of its sections. `pruning` gives
+//! each line its mark, by the table of verdicts over each section as a whole. `printing` prints the
+//! output, or lists the names. Nothing is decided before the text is read. Contracts state here
+//! what safety needs, and nothing of the meaning.
 #![tactic(auto)]
 
 mod answering;

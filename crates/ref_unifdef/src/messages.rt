@@ -1,9 +1,9 @@
-//! Faults and their messages, each of which ends in a line feed.
+//! Faults and their messages, each of which ends in a newline.
 
 use std::alloc::{AllocError, Global};
 use ud_args::Usage;
 
-/// Why a line is faulty.
+/// The reason why a line is faulty.
 #[derive(Clone, Copy)]
 pub(crate) enum Fault {
     TooManyLines,
@@ -14,7 +14,7 @@ pub(crate) enum Fault {
     InappropriateEndif,
     TooManyLevels,
     EofInComment,
-    /// The text ends in a section, whose first directive stands in this line.
+    /// The text ends in a section, whose first directive is on line `if_line`.
     PrematureEof { if_line: u32 },
 }
 
@@ -25,7 +25,7 @@ pub(crate) struct FaultyLine {
     pub fault: Fault,
 }
 
-/// The message of a fault in the input of this name.
+/// Returns the message of a fault in the input of this name.
 pub(crate) fn message(
     alloc: Global,
     name: &[u8],
@@ -41,7 +41,7 @@ pub(crate) fn message(
     Ok(message)
 }
 
-/// What is said of a fault.
+/// Returns the part of the message after the line's number.
 fn text_of(alloc: Global, fault: Fault) -> Result<String, AllocError> {
     let text = match fault {
         Fault::TooManyLines => "Too many lines",
@@ -59,7 +59,7 @@ fn text_of(alloc: Global, fault: Fault) -> Result<String, AllocError> {
     String::from_str(alloc, text)
 }
 
-/// The message of what is wrong with the words.
+/// Returns the message of a fault in the arguments.
 pub(crate) fn refusal(alloc: Global, usage: Usage) -> Result<Vec<u8>, AllocError> {
     let text = match usage {
         Usage::UnknownOption { letter } => {

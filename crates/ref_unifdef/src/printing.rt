@@ -1,4 +1,4 @@
-//! Printing what is left of a text, or the names in it.
+//! Printing the output for a text, or the names in it.
 
 use crate::pruning::Mark;
 use crate::seeing::Row;
@@ -7,14 +7,14 @@ use ud_model::{Listing, Settings};
 use ud_sections::{Printer, Show, Step};
 use ud_text::Line;
 
-/// What is printed of lines, and whether some line differs from what is printed of it.
+/// The output for lines, and whether the output for some line differs from it.
 #[derive(Drop)]
 pub(crate) struct Printed {
     pub output: Vec<u8>,
     pub differs: bool,
 }
 
-/// Prints lines by their marks, or lists the names on them. Where names are listed no line differs.
+/// Prints lines by their marks, or lists the names on them. If names are listed, no line differs.
 pub(crate) fn print(
     alloc: Global,
     rows: &[Row<'_>],
@@ -37,7 +37,7 @@ pub(crate) fn print(
     Ok(printed)
 }
 
-/// Prints a line, and answers whether what is printed is the line itself.
+/// Prints a line. Returns whether the output is the line itself.
 fn print_row(
     output: &mut Vec<u8>,
     printer: &mut Printer,

@@ -4,20 +4,21 @@ use crate::tree::{Group, Node, Section};
 use std::alloc::AllocError;
 use ud_model::{Cond, Role, Verdict};
 
-/// What becomes of a line, and whether the line, or of a directive its section, stands in a kept place.
+/// The verdict of a line, and whether the group around it is kept. Around a directive, that is the
+/// group around its section.
 #[derive(Clone, Copy)]
 pub(crate) struct Mark {
     pub verdict: Verdict,
     pub kept: bool,
 }
 
-/// The mark of a line with this verdict; outside kept places every line goes.
+/// Returns the mark of a line with this verdict. Outside kept groups, every line is removed.
 fn marked(kept: bool, verdict: Verdict) -> Mark {
     let verdict = if kept { verdict } else { Verdict::Remove };
     Mark { verdict, kept }
 }
 
-/// Gives each line of a place its mark, after those of the lines before.
+/// Appends the mark of each line of `nodes`.
 #[cycle(pruning)]
 pub(crate) fn prune(nodes: &[Node], kept: bool, marks: &mut Vec<Mark>) -> Result<(), AllocError> {
     for node in nodes {
@@ -29,7 +30,7 @@ pub(crate) fn prune(nodes: &[Node], kept: bool, marks: &mut Vec<Mark>) -> Result
     Ok(())
 }
 
-/// Gives each line of a section its mark.
+/// Appends the mark of each line of a section.
 #[cycle(pruning)]
 fn prune_section(section: &Section, kept: bool, marks: &mut Vec<Mark>) -> Result<(), AllocError> {
     let table = Table::of(section.groups.as_slice());
@@ -47,19 +48,20 @@ fn prune_section(section: &Section, kept: bool, marks: &mut Vec<Mark>) -> Result
     Ok(())
 }
 
-/// What the table asks of all groups of a section. Groups are told by their places in it, from 0.
+/// The facts about all groups of a section that the table of verdicts asks for. Groups count from
+/// 0.
 #[derive(Clone, Copy)]
 struct Table {
     /// The first group that isn't false.
     first_kept: Option<usize>,
     /// The first true group.
     first_true: Option<usize>,
-    /// The group after that one, if there is one.
+    /// The group after the first true one, if any.
     next: Option<usize>,
 }
 
 impl Table {
-    /// The table of a section with these groups.
+    /// Returns the table of a section with these groups.
     fn of(groups: &[Group]) -> Table {
         let first_true = groups.iter().position(|g| g.cond == Cond::Yes);
         Table {
@@ -71,17 +73,18 @@ impl Table {
         }
     }
 
-    /// Whether a group is kept: it isn't false, and doesn't come after the first true one.
+    /// Returns whether a group is kept: it isn't false, and doesn't come after the first true one.
     fn keeps(self, at: usize, group: &Group) -> bool {
         group.cond != Cond::No && self.first_true.is_none_or(|first| at <= first)
     }
 
-    /// Whether all directives of the section go: no group is kept, or the first kept one is true.
+    /// Returns whether all directives of the section are removed: no group is kept, or the first
+    /// kept one is true.
     fn gives_way(self) -> bool {
         self.first_kept == self.first_true
     }
 
-    /// The verdict of a group's opener.
+    /// Returns the verdict of a group's opener.
     fn opener_verdict(self, at: usize, group: &Group) -> Verdict {
         let is_elif = group.role == Some(Role::ElifGroup);
         if self.gives_way() {
@@ -99,7 +102,7 @@ impl Table {
         }
     }
 
-    /// The verdict of the section's `#endif`.
+    /// Returns the verdict of the section's `#endif`.
     fn endif_verdict(self) -> Verdict {
         if self.gives_way() || self.next.is_some() {
             Verdict::Remove

@@ -1,4 +1,5 @@
-//! Reading a text: a recursion over its places and sections, which reads each line in the mode of its place.
+//! Reading a text: a recursion over its groups and sections, which reads each line in the mode of
+//! its group.
 
 ghost use Rattle.std.specs.Prelude.{◌≡◌, ◌<◌, ◌≤◌, length, IfOk, IfSome, OnOk};
 ghost use Rattle.ud_model.specs.text.Lines.{NoNewline};
@@ -13,13 +14,13 @@ use ud_cond::Symbols;
 use ud_model::{LINE_BYTES, Mode, OPEN_SECTIONS, Role, Settings, TEXT_LINES};
 use ud_text::{Line, Scanner};
 
-/// What reads a text.
+/// The state of reading a text.
 #[derive(Drop)]
 pub(crate) struct Reader<'a> {
     pub alloc: Global,
     pub settings: Settings,
     pub symbols: &'a Symbols,
-    /// What is left of the text.
+    /// The rest of the text.
     pub rest: &'a [u8],
     pub scanner: Scanner,
     /// The lines that were read and aren't faulty, in order.
@@ -32,7 +33,7 @@ pub(crate) struct Reader<'a> {
     pub open: Option<u32>,
 }
 
-/// What stands in a place, and the directive that ends it, if one does.
+/// The nodes of a group or of the whole text, and the directive that ends it, if any.
 #[derive(Drop)]
 struct Place<'a> {
     nodes: Vec<Node>,
@@ -40,8 +41,9 @@ struct Place<'a> {
 }
 
 impl<'a> Reader<'a> {
-    /// Reads the text, up to its end or its first fault, and nests the lines before that. At the end an open comment comes
-    /// before an open section.
+    /// Reads the text up to its end or its first fault, and nests the lines before that.
+    ///
+    /// At the end, an open comment comes before an open section.
     pub(crate) fn read(&mut self) -> Result<Vec<Node>, AllocError> {
         let mode = if self.settings.plain {
             Mode::Plain
@@ -61,14 +63,15 @@ impl<'a> Reader<'a> {
         Ok(nodes)
     }
 
-    /// A line is faulty. The first fault counts.
+    /// Records the fault of a line. The first fault counts.
     fn refuse(&mut self, line: u32, fault: Fault)
         ensures { self.new.rest ≡ self.old.rest }
     {
         self.fault = self.fault.or(Some(FaultyLine { line, fault }));
     }
 
-    /// The next line of the text; `None` at its end, after a fault, and if the line breaks a limit.
+    /// Returns the next line of the text; `None` at its end, after a fault, and if the line breaks
+    /// a limit.
     fn next_line(&mut self) -> Option<Line<'a>>
         ensures one_line { IfSome result (λ line. NoNewline line.body.now) }
         ensures fits { IfSome result (λ line. length line.body.now ≤ LINE_BYTES) }
@@ -93,7 +96,8 @@ impl<'a> Reader<'a> {
         Some(line)
     }
 
-    /// Reads the next line in this mode, in so many open sections; `None` at the end of the text and at a fault.
+    /// Reads the next line in this mode, with `level` open sections. Returns `None` at the end of
+    /// the text and at a fault.
     fn next(&mut self, mode: Mode, level: usize) -> Result<Option<Row<'a>>, AllocError>
         ensures left { length self.new.rest.now ≤ length self.old.rest.now }
         ensures shorter { IfOk result (λ row. IfSome row
@@ -111,7 +115,8 @@ impl<'a> Reader<'a> {
         Ok(Some(row))
     }
 
-    /// Reads a place in so many open sections, up to a directive that ends its group, to the end of the text or to a fault.
+    /// Reads nodes with `level` open sections, up to a directive that ends their group, to the end
+    /// of the text or to a fault.
     #[cycle(reading)]
     fn place(&mut self, mode: Mode, level: usize) -> Result<Place<'a>, AllocError>
         requires { level ≤ OPEN_SECTIONS }
@@ -187,7 +192,7 @@ impl<'a> Reader<'a> {
     }
 }
 
-/// The fault of a directive out of its place.
+/// Returns the fault of a misplaced directive.
 fn misplaced(role: Option<Role>) -> Fault {
     match role {
         Some(Role::ElifGroup) => Fault::InappropriateElif,

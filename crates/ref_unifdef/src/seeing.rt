@@ -1,4 +1,4 @@
-//! What is kept of a line that was read.
+//! The properties of a line that are kept once the line is read.
 
 ghost use Rattle.std.specs.Prelude.{◌+◌, ◌≤◌, length};
 ghost use Rattle.ud_model.specs.declared.limits.TheConstants.{LINE_BYTES};
@@ -9,37 +9,37 @@ use ud_model::{Cond, Listing, Role, Settings};
 use ud_sections::{Cut, Directive, Lister, Span, directive};
 use ud_text::{Line, Scan};
 
-/// A line of the text, and what was seen of it.
+/// A line of the text, with its properties.
 #[derive(Drop)]
 pub(crate) struct Row<'a> {
     pub line: Line<'a>,
-    /// What its directive is in its section, if it carries one.
+    /// The role of its directive in the section, if the line has one.
     pub role: Option<Role>,
-    /// What is decided of its condition; that of an `#else` is true.
+    /// The value of its condition; true for an `#else`.
     pub cond: Cond,
-    /// It opens a section that is plain text.
+    /// True if the line opens a section that is plain text.
     pub ignoring: bool,
-    /// Where its keyword lies in its body; 0 and 0 for a text line.
+    /// The span of its keyword in the body; 0 and 0 for a text line.
     pub keyword: Span,
-    /// It joins the line before or the line after.
+    /// True if the line is joined to the line before or after.
     pub spans: bool,
-    /// The line before joins it.
+    /// True if the line is joined to the line before.
     pub joins_before: bool,
-    /// What a listing prints of it.
+    /// The output of a listing for the line.
     pub names: Vec<u8>,
     ghost held: { keyword.at + keyword.len ≤ length line.body.now },
 }
 
-/// What is known of a condition of which nothing is known.
+/// The answer for a condition of which nothing is known.
 const UNDECIDED: Answer = Answer {
     cond: Cond::Unknown,
     ignoring: false,
 };
 
-/// What is kept of a line with this scan, and these names on it.
+/// Returns the row of a line with this scan and these names.
 ///
 /// # Errors
-/// The keyword of its directive can't be known.
+/// Fails if the keyword of its directive can't be known.
 pub(crate) fn see<'a>(
     line: Line<'a>,
     scan: &Scan<'_>,
@@ -70,8 +70,10 @@ pub(crate) fn see<'a>(
     })
 }
 
-/// What is decided of a directive. An `#else` is true; of a directive that a continuation cuts nothing is known, and one
-/// that joins the next line opens no plain section.
+/// Decides the condition of a directive.
+///
+/// An `#else` is true, and a directive that a continuation cuts is unknown. A directive that joins
+/// the next line opens no plain section.
 fn decide(scan: &Scan<'_>, found: &Directive<'_>, symbols: &Symbols, settings: Settings) -> Answer
     requires fits { length found.now.after.now ≤ LINE_BYTES }
 {
@@ -95,7 +97,7 @@ fn decide(scan: &Scan<'_>, found: &Directive<'_>, symbols: &Symbols, settings: S
     }
 }
 
-/// What a listing prints of a line with this scan, in so many open sections.
+/// Returns what a listing prints for a line with this scan, in `level` open sections.
 pub(crate) fn list(
     alloc: Global,
     scan: &Scan<'_>,

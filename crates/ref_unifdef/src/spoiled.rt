@@ -4,7 +4,7 @@ use crate::pruning::Mark;
 use crate::seeing::Row;
 use ud_model::Verdict;
 
-/// The line of the first directive that spans lines and would have to be changed.
+/// Returns the line of the first directive that spans lines and would have to be changed.
 pub(crate) fn first_spoiled(rows: &[Row<'_>], marks: &[Mark]) -> Option<u32> {
     let mut removed = false;
     for (row, mark) in rows.iter().zip(marks) {
@@ -16,7 +16,7 @@ pub(crate) fn first_spoiled(rows: &[Row<'_>], marks: &[Mark]) -> Option<u32> {
     None
 }
 
-/// Whether a line is such a directive; `removed` tells that the line before it goes.
+/// Returns whether a line is such a directive. `removed`: the line before it is removed.
 fn is_spoiled(row: &Row<'_>, mark: Mark, removed: bool) -> bool {
     let stays = match mark.verdict {
         Verdict::Keep | Verdict::ToIf => !(row.joins_before && removed),

@@ -1,4 +1,4 @@
-//! The tree of a text (C11 6.10). A walk over it meets the lines of the text in their order.
+//! The tree of a text (C11 6.10). A walk over it visits the lines of the text in order.
 
 use ud_model::{Cond, Role};
 
@@ -10,7 +10,7 @@ pub(crate) enum Node {
     Section(Section),
 }
 
-/// A section; at the end of the text, and at a fault, it may lack its `#endif`.
+/// A section. At the end of the text and at a fault, it may lack its `#endif`.
 #[cycle(tree)]
 #[derive(Drop)]
 pub(crate) struct Section {
@@ -18,7 +18,8 @@ pub(crate) struct Section {
     pub is_closed: bool,
 }
 
-/// A group of a section: its opener, with what is decided of the condition, and the nodes after it.
+/// A group of a section: its opener, with the value of the condition, and the nodes after the
+/// opener.
 #[cycle(tree)]
 #[derive(Drop)]
 pub(crate) struct Group {

@@ -1,22 +1,23 @@
-//! A reader and a writer over memory that count their calls, of which one may be interrupted.
+//! A reader and a writer over memory that count their calls, one of which may be interrupted.
 
 use crate::sink::Sink;
 use crate::source::Source;
 use std::alloc::Global;
 use std::io::{self, ErrorKind, Read, Write};
 
-/// Gives what its source gives, but for the call that is interrupted; the calls after that one work.
+/// A reader of its source's bytes, one of whose calls may be interrupted. The calls after that one
+/// work.
 #[derive(Drop)]
 pub struct CountedSource<'a> {
     pub source: Source<'a>,
-    /// How many calls of `read` were made.
+    /// The number of calls of `read`.
     pub reads: usize,
-    /// The number of the call that is interrupted, counted from 1; at 0 none is.
+    /// The number of the call that is interrupted, counted from 1; 0 if none is.
     pub interrupted: usize,
 }
 
 impl<'a> CountedSource<'a> {
-    /// Gives these bytes, at most so many a call; no call is interrupted.
+    /// Returns a reader of `bytes`, at most `step` a call, none of whose calls is interrupted.
     pub fn of(bytes: &'a [u8], step: usize) -> CountedSource<'a> {
         let source = Source {
             step,
@@ -40,22 +41,23 @@ impl Read for CountedSource<'_> {
     }
 }
 
-/// Takes what its sink takes, but for the calls that are interrupted; the calls after those work.
+/// A writer to its sink, some of whose calls may be interrupted. The calls after those work.
 #[derive(Drop)]
 pub struct CountedSink {
     pub sink: Sink,
-    /// How many calls of `write` were made.
+    /// The number of calls of `write`.
     pub writes: usize,
-    /// How many calls of `flush` were made.
+    /// The number of calls of `flush`.
     pub flushes: usize,
-    /// The number of the write that is interrupted, counted from 1; at 0 none is.
+    /// The number of the write that is interrupted, counted from 1; 0 if none is.
     pub interrupted: usize,
-    /// Whether the first flush is interrupted.
+    /// True if the first flush is interrupted.
     pub first_flush_fails: bool,
 }
 
 impl CountedSink {
-    /// Takes all bytes, at most so many a call; no call is interrupted.
+    /// Returns a writer that accepts all bytes, at most `step` a call, and none of whose calls is
+    /// interrupted.
     pub fn of(alloc: Global, step: usize) -> CountedSink {
         let sink = Sink {
             step,

@@ -1,6 +1,7 @@
-//! What tests and runs share: words with an input, and readers and writers over memory that count their calls and fail.
+//! Shared by tests and runs: arguments with an input, and readers and writers over memory that
+//! count their calls and fail.
 //!
-//! Contracts say here what safety needs, and nothing of the bytes.
+//! Contracts state here what safety needs, and nothing of the bytes.
 #![tactic(auto)]
 
 mod counted;

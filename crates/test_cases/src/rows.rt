@@ -1,8 +1,8 @@
-//! Words with an input, whose answers are worked out.
+//! Arguments with an input, whose answers are worked out.
 
 use std::alloc::{AllocError, Global};
 
-/// Words, parted by spaces, and an input.
+/// Arguments, separated by spaces, and an input.
 pub const ROWS: [(&str, &[u8]); 49] = [
     ("-DA", b""),
     ("-DA", b"#ifdef A\nx\n#else\ny\n#endif\n"),
@@ -67,10 +67,10 @@ pub const ROWS: [(&str, &[u8]); 49] = [
     ("-s -DA", b"#ifdef A\n#if A + A\n#endif\n#endif\n"),
 ];
 
-/// The text so many times.
+/// Returns the text repeated `count` times.
 ///
 /// # Errors
-/// Memory is refused.
+/// Fails if memory runs out.
 pub fn repeated(alloc: Global, text: &[u8], count: usize) -> Result<Vec<u8>, AllocError> {
     let mut whole = Vec::new(alloc);
     for _ in 0..count {
@@ -79,20 +79,20 @@ pub fn repeated(alloc: Global, text: &[u8], count: usize) -> Result<Vec<u8>, All
     Ok(whole)
 }
 
-/// A text that opens so many sections, and closes them.
+/// Returns a text that opens `depth` sections, and closes them.
 ///
 /// # Errors
-/// Memory is refused.
+/// Fails if memory runs out.
 pub fn nested(alloc: Global, depth: usize) -> Result<Vec<u8>, AllocError> {
     let mut whole = repeated(alloc, b"#ifdef X\n", depth)?;
     whole.extend_from_slice(repeated(alloc, b"#endif\n", depth)?.as_slice())?;
     Ok(whole)
 }
 
-/// The words of a text, parted by spaces.
+/// Splits arguments at spaces.
 ///
 /// # Errors
-/// Memory is refused.
+/// Fails if memory runs out.
 pub fn parted(alloc: Global, words: &str) -> Result<Vec<String>, AllocError> {
     let mut owned = Vec::new(alloc);
     for word in words.split_whitespace() {

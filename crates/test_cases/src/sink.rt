@@ -1,21 +1,22 @@
-//! A writer over memory that takes a few bytes a call, and may have no room for all of them.
+//! A writer over memory that accepts a few bytes a call, and may run out of capacity.
 
 use std::alloc::Global;
 use std::io::{self, ErrorKind, Write};
 
-/// Takes `room` bytes in all, at most `step` a call, and then none, or fails; its flush may fail.
+/// A writer that accepts `room` bytes in all, at most `step` a call. Then it accepts none, or
+/// fails. Its flush may fail.
 #[derive(Drop)]
 pub struct Sink {
     pub taken: Vec<u8>,
     pub room: usize,
     pub step: usize,
-    /// Whether a write without room fails; else it takes 0 bytes.
+    /// True if a write fails once `room` is used up; else it accepts 0 bytes.
     pub refuses: bool,
     pub flush_fails: bool,
 }
 
 impl Sink {
-    /// Takes all bytes, however many come in a call.
+    /// Returns a writer that accepts all bytes, any number in a call.
     pub fn wide(alloc: Global) -> Sink {
         Sink {
             taken: Vec::new(alloc),

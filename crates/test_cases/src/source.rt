@@ -1,8 +1,8 @@
-//! A reader over memory that gives a few bytes a call, and may fail behind them.
+//! A reader over memory that returns a few bytes a call, and may fail after them.
 
 use std::io::{self, ErrorKind, Read};
 
-/// Gives its bytes, at most `step` a call, and then ends, or fails.
+/// A reader that returns its bytes, at most `step` a call, and then ends, or fails.
 #[derive(Drop)]
 pub struct Source<'a> {
     pub bytes: &'a [u8],
@@ -11,7 +11,7 @@ pub struct Source<'a> {
 }
 
 impl<'a> Source<'a> {
-    /// Gives as many bytes as are asked for, and then ends.
+    /// Returns a reader that returns as many bytes as are asked for, and then ends.
     pub fn whole(bytes: &'a [u8]) -> Source<'a> {
         Source {
             bytes,

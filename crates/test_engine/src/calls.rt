@@ -1,4 +1,5 @@
-//! How often a reader and a writer are called. The library says nothing of that, so no clause can.
+//! The number of calls of a reader and a writer. The library doesn't model calls, so no clause can
+//! count them.
 
 use crate::streaming::{READ_ERROR, Stream, USUAL, WRITE_ERROR, check_stream};
 use std::process::Abort;
@@ -151,7 +152,7 @@ fn an_interrupted_flush_is_not_made_again(rt: HostRuntime) -> Result<(), Fail> {
     Ok(())
 }
 
-/// Words with an input, and the output, the message and the status.
+/// Arguments with an input, and the output, the message and the exit status.
 const FLUSHED: [(&str, &[u8], &[u8], &str, u8); 5] = [
     ("-DA", b"", b"", "", 0),
     ("-DA", b"#ifdef A\nx\n#endif\n", b"x\n", "", 1),
@@ -166,7 +167,7 @@ const FLUSHED: [(&str, &[u8], &[u8], &str, u8); 5] = [
     ),
 ];
 
-/// Goes through these runs, where each call gives or takes at most so many bytes.
+/// Checks these runs, where each call reads or writes at most `step` bytes.
 fn check_flushed(rt: &(impl Abort + AllocGlobal), step: usize) -> Result<(), Fail> {
     for &(words, input, output, message, status) in &FLUSHED {
         let stream = Stream {

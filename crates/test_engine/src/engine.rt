@@ -1,4 +1,4 @@
-//! The engine fed piece by piece: when what is left is written, in how many writes, and what is answered.
+//! The engine fed chunk by chunk: when the output is written, in how many writes, and the results.
 
 use crate::feeding::{Ended, Fed, check, check_by, check_written, planned};
 use std::alloc::Global;
@@ -9,7 +9,7 @@ use ud_sections::{Blank, Complement, Delete, Printer, SectionFault};
 use ud_text::TextFault;
 use unifdef::{Engine, Plan, RunFault, Watched};
 
-/// A piece without a fault, and what is written by then, in how many writes.
+/// Returns a chunk without a fault, with the bytes and the number of writes up to its end.
 fn sound<'a>(piece: &'a [u8], written: &'a [u8], writes: usize) -> Fed<'a> {
     Fed {
         piece,
@@ -19,7 +19,8 @@ fn sound<'a>(piece: &'a [u8], written: &'a [u8], writes: usize) -> Fed<'a> {
     }
 }
 
-/// What an engine without a fault answers at the end, and what is written by then, in how many writes.
+/// Returns the end of an engine without a fault, with the bytes and the number of writes up to
+/// then.
 fn ended(differs: bool, written: &[u8], writes: usize) -> Ended<'_> {
     Ended {
         answer: Ok(differs),
@@ -43,15 +44,15 @@ fn a_line_is_written_once_it_has_ended(rt: HostRuntime) -> Result<(), Fail> {
     check(&rt, "-DA", pieces.as_slice(), ended(true, b"x\n", 1))
 }
 
-/// Words, a piece, what is left of it, and the answer at the end.
+/// Arguments, a chunk, the output for it, and the result at the end.
 #[rattlefmt::skip]
 const PIECES: &[(&str, &[u8], &[u8], Result<bool, RunFault>)] = &[
-    // Lines that stay, beside each other and apart.
+    // Lines that stay, adjacent and apart.
     ("-DA", b"a\nb\n#ifdef A\nc\n#endif\nd\n", b"a\nb\nc\nd\n", Ok(true)),
     // A line with another keyword.
     ("-UA", b"a\n#if A\n#elif X\nb\n#endif\n", b"a\n#if   X\nb\n#endif\n", Ok(true)),
     ("-DA", b"#if X\n#elif A\n#else\nb\n#endif\nc\n", b"#if X\n#else\n#endif\nc\n", Ok(true)),
-    // Parts around and in place of a line.
+    // Parts around a line, and in place of one.
     ("-n -UA", b"#ifdef A\nx\n#endif\ny\nz\n", b"#line 4\ny\nz\n", Ok(true)),
     ("-b -UA", b"#ifdef A\r\nx\n#endif\ny\n", b"\r\n\n\ny\n", Ok(true)),
     ("-c -UA", b"#ifdef A\nx\n#endif\ny\n", b"#ifdef A\nx\n#endif\n", Ok(true)),
@@ -106,7 +107,7 @@ fn nothing_left_makes_no_write(rt: HostRuntime) -> Result<(), Fail> {
     check(&rt, "-UA", &[removed], ended(true, b"", 0))
 }
 
-/// A piece that is refused, and what is written by then, in one write.
+/// Returns a chunk that fails, with the bytes written up to then, in one write.
 fn refused<'a>(piece: &'a [u8], fault: RunFault, written: &'a [u8]) -> Fed<'a> {
     Fed {
         piece,
@@ -116,7 +117,8 @@ fn refused<'a>(piece: &'a [u8], fault: RunFault, written: &'a [u8]) -> Fed<'a> {
     }
 }
 
-/// Feeds this text in one piece, which is refused, and more, which is refused in the same way; nothing more is written.
+/// Feeds this text in one chunk, which fails. Further chunks fail in the same way, and nothing more
+/// is written.
 fn check_refusal(
     rt: &(impl Abort + AllocGlobal),
     text: &[u8],
@@ -204,7 +206,7 @@ fn names_are_listed_whatever_the_printer(rt: HostRuntime) -> Result<(), Fail> {
     Ok(())
 }
 
-/// An output that takes 4 bytes; a write without room fails, or takes nothing.
+/// Returns an output that accepts 4 bytes. A further write fails, or accepts nothing.
 fn narrow(alloc: Global, refuses: bool) -> CountedSink {
     CountedSink {
         sink: Sink {
@@ -216,7 +218,8 @@ fn narrow(alloc: Global, refuses: bool) -> CountedSink {
     }
 }
 
-/// Feeds an engine two lines of which this output takes one and a part, and more, which is refused in the same way.
+/// Feeds an engine two lines, of which this output accepts one and a part. Further chunks fail in
+/// the same way.
 fn check_failing(rt: &impl Abort, plan: &Plan, sink: CountedSink) {
     let mut engine = Engine::new(plan, Printer::of(&plan.settings()));
     let mut out = Watched::new(sink);

@@ -1,4 +1,4 @@
-//! An engine that is fed piece by piece, held against what it has to answer and to write.
+//! An engine that is fed chunk by chunk, compared with its expected results and output.
 
 use std::alloc::Global;
 use std::process::Abort;
@@ -7,7 +7,7 @@ use test_cases::{CountedSink, parted};
 use ud_sections::{Printer, Show};
 use unifdef::{Engine, Plan, RunFault, Watched, plan};
 
-/// A piece of a text, what an engine that is fed it answers, and what is written by then, in how many writes.
+/// A chunk of a text, the result of feeding it, and the bytes and the number of writes up to then.
 #[derive(Clone, Copy)]
 pub(crate) struct Fed<'a> {
     pub piece: &'a [u8],
@@ -16,7 +16,7 @@ pub(crate) struct Fed<'a> {
     pub writes: usize,
 }
 
-/// What an engine answers at the end, and what is written by then, in how many writes.
+/// The result of an engine at the end, and the bytes and the number of writes up to then.
 #[derive(Clone, Copy)]
 pub(crate) struct Ended<'a> {
     pub answer: Result<bool, RunFault>,
@@ -24,13 +24,13 @@ pub(crate) struct Ended<'a> {
     pub writes: usize,
 }
 
-/// The plan of these words, parted by spaces, which have no fault.
+/// Returns the plan of these arguments, which are separated by spaces and have no fault.
 pub(crate) fn planned(rt: &impl Abort, alloc: Global, words: &str) -> Result<Plan, Fail> {
     let owned = parted(alloc, words)?;
     Ok(plan(alloc, owned.as_slice()).expect(rt, "the words have no fault"))
 }
 
-/// Feeds an engine that prints by this printer these pieces in turn, and ends it.
+/// Feeds these chunks in turn to an engine that prints by `show`, and ends it.
 pub(crate) fn check_by<S: Show>(
     rt: &impl Abort,
     alloc: Global,
@@ -51,7 +51,7 @@ pub(crate) fn check_by<S: Show>(
     check_written(rt, out.inner(), ended.written, ended.writes);
 }
 
-/// Feeds an engine that prints as these words say these pieces in turn, and ends it.
+/// Feeds these chunks in turn to an engine that prints as the arguments say, and ends it.
 pub(crate) fn check(
     rt: &(impl Abort + AllocGlobal),
     words: &str,
@@ -64,7 +64,7 @@ pub(crate) fn check(
     Ok(())
 }
 
-/// Compares what was written, and in how many writes.
+/// Compares the bytes written, and the number of writes.
 pub(crate) fn check_written(rt: &impl Abort, sink: &CountedSink, written: &[u8], writes: usize) {
     assert_eq!(rt; sink.sink.taken.as_slice(), written);
     assert_eq!(rt; sink.writes, writes);

@@ -1,5 +1,5 @@
-//! Tests of what the tool is made of above the lines: plans of words, the engine piece by piece, runs, and streams that fail;
-//! and of the tool run again on its own output.
+//! Tests of the parts of the tool above the lines: plans of arguments, the engine chunk by chunk,
+//! runs, and streams that fail. Also tests the tool on its own output.
 #![tactic(auto)]
 
 #[cfg(test)]

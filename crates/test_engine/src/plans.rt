@@ -1,4 +1,4 @@
-//! Command lines: what they say, and where they are faulty.
+//! Command lines: their settings and symbols, and their faults.
 
 use std::alloc::{AllocError, Global};
 use std::process::Abort;
@@ -7,7 +7,7 @@ use ud_cond::Entry;
 use ud_model::{ExitMode, Listing, Settings};
 use unifdef::{Plan, Usage, input_of, plan};
 
-/// Words that own their text.
+/// Returns owned arguments.
 fn owned(alloc: Global, words: &[&str]) -> Result<Vec<String>, AllocError> {
     let mut owned = Vec::new(alloc);
     for word in words {
@@ -16,13 +16,13 @@ fn owned(alloc: Global, words: &[&str]) -> Result<Vec<String>, AllocError> {
     Ok(owned)
 }
 
-/// The plan of words that have no fault.
+/// Returns the plan of arguments that have no fault.
 fn planned(rt: &(impl Abort + AllocGlobal), words: &[&str]) -> Result<Plan, Fail> {
     let words = owned(rt.alloc(), words)?;
     Ok(plan(rt.alloc(), words.as_slice()).expect(rt, "the words have no fault"))
 }
 
-/// Compares the settings that words say.
+/// Compares the settings of a command line.
 fn check_settings(
     rt: &(impl Abort + AllocGlobal),
     words: &[&str],
@@ -36,9 +36,9 @@ fn check_settings(
 fn the_words_say_the_settings(rt: HostRuntime) -> Result<(), Fail> {
     let usual = Settings::default();
     let cases: [(&[&str], Settings); 4] = [
-        // No words say nothing.
+        // Without arguments, the settings are the usual ones.
         (&[], usual),
-        // Letters stand in one word.
+        // Several letters may be in one argument.
         (
             &["-kbUA"],
             Settings {
@@ -47,7 +47,7 @@ fn the_words_say_the_settings(rt: HostRuntime) -> Result<(), Fail> {
                 ..usual
             },
         ),
-        // Flags stay as they were given.
+        // Flags are kept as they were given.
         (
             &["-Slns", "-ctK"],
             Settings {
@@ -74,14 +74,14 @@ fn the_words_say_the_settings(rt: HostRuntime) -> Result<(), Fail> {
     Ok(())
 }
 
-/// Words, and their exit mode: the last one counts.
+/// Arguments, and their exit mode: the last one counts.
 const MODES: &[(&[&str], ExitMode)] = &[
     (&["-x1", "-x0", "-DA"], ExitMode::Zero),
     (&["-x", "1", "-DA"], ExitMode::One),
     (&["-x0", "-tx2"], ExitMode::Two),
 ];
 
-/// Compares the exit mode that words say.
+/// Compares the exit mode of a command line.
 fn check_mode(rt: &(impl Abort + AllocGlobal), words: &[&str], mode: ExitMode) -> Result<(), Fail> {
     assert_eq!(rt; planned(rt, words)?.settings().exit_mode, mode);
     Ok(())
@@ -95,26 +95,26 @@ fn the_last_exit_mode_counts(rt: HostRuntime) -> Result<(), Fail> {
     Ok(())
 }
 
-/// Words whose symbols have values.
+/// Arguments whose symbols have values.
 const VALUES: &[&str] = &["-UA", "-D", "A=B", "-DB=3", "-DC="];
 
-/// Words whose symbols are ignoring.
+/// Arguments whose symbols are ignoring.
 const IGNORING: &[&str] = &["-i", "DA", "-siUB", "-iDC=a=b"];
 
-/// Words, a name, and what they say of it: its value, and whether it is ignoring.
+/// Arguments, a name, and its entry: its value, and whether it is ignoring.
 const SYMBOLS: &[(&[&str], &[u8], Option<&[u8]>, bool)] = &[
     (&["-kbUA"], b"A", None, false),
-    // An argument is the rest of its word or the next word.
+    // An option's argument is the rest of its word or the next word.
     (VALUES, b"A", Some(b"B"), false),
     (VALUES, b"B", Some(b"3"), false),
     (VALUES, b"C", Some(b""), false),
-    // An ignoring symbol is told.
+    // An ignoring symbol is reported.
     (IGNORING, b"A", Some(b"1"), true),
     (IGNORING, b"B", None, true),
     (IGNORING, b"C", Some(b"a=b"), true),
 ];
 
-/// Compares what words say of a name.
+/// Compares the entry of a name.
 fn check_symbol(
     rt: &(impl Abort + AllocGlobal),
     words: &[&str],
@@ -133,7 +133,7 @@ fn the_words_say_the_symbols(rt: HostRuntime) -> Result<(), Fail> {
     check_symbol(&rt, &[], b"A", None)
 }
 
-/// Words, the place of the operand, and of the one that names a file.
+/// Arguments, the index of the operand, and the index of the operand that names a file.
 const PLACES: &[(&[&str], Option<usize>, Option<usize>)] = &[
     (&[], None, None),
     (&["-DA"], None, None),
@@ -145,7 +145,7 @@ const PLACES: &[(&[&str], Option<usize>, Option<usize>)] = &[
     (&["-D", "A", ""], Some(2), Some(2)),
 ];
 
-/// Compares the place of the operand.
+/// Compares the index of the operand.
 fn check_operand(
     rt: &(impl Abort + AllocGlobal),
     words: &[&str],
@@ -155,7 +155,7 @@ fn check_operand(
     Ok(())
 }
 
-/// Compares the place of the operand that names a file.
+/// Compares the index of the operand that names a file.
 fn check_input(
     rt: &(impl Abort + AllocGlobal),
     words: &[&str],
@@ -175,21 +175,21 @@ fn the_operand_has_a_place(rt: HostRuntime) -> Result<(), Fail> {
     Ok(())
 }
 
-/// Words with a fault.
+/// Arguments with a fault.
 const FAULTS: &[(&[&str], Usage)] = &[
-    // A letter that is no option is told.
+    // A letter that is no option is reported.
     (&["-B"], Usage::UnknownOption { letter: 'B' }),
     (&["--x"], Usage::UnknownOption { letter: '-' }),
     (&["---"], Usage::UnknownOption { letter: '-' }),
     (&["-b-"], Usage::UnknownOption { letter: '-' }),
     (&["-té"], Usage::UnknownOption { letter: 'é' }),
     (&["-B", "-D"], Usage::UnknownOption { letter: 'B' }),
-    // An argument that is not there is told.
+    // A missing argument of an option is reported.
     (&["-D"], Usage::MissingArgument { letter: 'D' }),
     (&["-tD"], Usage::MissingArgument { letter: 'D' }),
     (&["-i"], Usage::MissingArgument { letter: 'i' }),
     (&["-DA", "-bx"], Usage::MissingArgument { letter: 'x' }),
-    // The word of a bad symbol is told.
+    // The argument of a bad symbol is reported.
     (&["-U", "1A"], Usage::BadSymbol { word: 2 }),
     (&["-iX"], Usage::BadSymbol { word: 1 }),
     (&["-iD", "A"], Usage::BadSymbol { word: 1 }),
@@ -200,13 +200,13 @@ const FAULTS: &[(&[&str], Usage)] = &[
     (&["-D=1"], Usage::BadSymbol { word: 1 }),
     (&["-UA=1"], Usage::BadSymbol { word: 1 }),
     (&["-D", "1A", "-B"], Usage::BadSymbol { word: 2 }),
-    // The word of a bad exit mode is told.
+    // The argument of a bad exit mode is reported.
     (&["-x3"], Usage::BadMode { word: 1 }),
     (&["-x0x"], Usage::BadMode { word: 1 }),
     (&["-x00"], Usage::BadMode { word: 1 }),
     (&["-x", "3"], Usage::BadMode { word: 2 }),
     (&["-x", ""], Usage::BadMode { word: 2 }),
-    // A second operand is told.
+    // A second operand is reported.
     (&["a", "b"], Usage::TooManyFiles),
     (&["-DA", "-", "-b"], Usage::TooManyFiles),
     (&["a", "--"], Usage::TooManyFiles),
@@ -214,7 +214,7 @@ const FAULTS: &[(&[&str], Usage)] = &[
     (&["--", "-b", "c"], Usage::TooManyFiles),
 ];
 
-/// Compares the fault of words.
+/// Compares the fault of a command line.
 fn check_fault(rt: &(impl Abort + AllocGlobal), words: &[&str], usage: Usage) -> Result<(), Fail> {
     let words = owned(rt.alloc(), words)?;
     let Err(fault) = plan(rt.alloc(), words.as_slice()) else {
@@ -224,7 +224,7 @@ fn check_fault(rt: &(impl Abort + AllocGlobal), words: &[&str], usage: Usage) ->
     Ok(())
 }
 
-/// Words with a fault name no file.
+/// Arguments with a fault name no file.
 #[test]
 fn the_first_fault_is_told(rt: HostRuntime) -> Result<(), Fail> {
     for &(words, usage) in FAULTS {

@@ -5,23 +5,23 @@ use std::test::Fail;
 use test_cases::{Sink, Source, nested, parted, repeated};
 use unifdef::{Watched, tool};
 
-/// Words with an input. The status of a run is 0 if it is copied, and else 1.
+/// Arguments with an input. The exit status of a run is 0 if the input is copied, and else 1.
 #[rattlefmt::skip]
 const ROWS: &[(&str, &[u8])] = &[
-    // Sections are read again as they are.
+    // Sections are copied in the second run.
     ("-DA", b""),
     ("-DA", b"#ifdef A\nx\n#else\ny\n#endif\n"),
     ("-DA -- -", b"x\n"),
     ("-UA", b"#if B\n1\n#elif defined(A)\n2\n#else\n3\n#endif"),
     ("-UB -DA", b"#ifdef B\n#ifdef A /* x\n*/\n#endif\n#endif\nz\n"),
-    // Edited directives are read again as they are.
+    // Edited directives are copied in the second run.
     ("-UA", b"#ifdef A\n1\n#elif X\n2\n#endif\n"),
     ("-UA", b"#ifdef A\n1\n#elif X && \\\nY\n2\n#endif\n"),
     ("-DA", b"#if X\n1\n#elif defined A /* t */\n2\n#elif Y\n3\n#else\n4\n#endif\n"),
     ("-DA", b"#ifdef X\n1\n#elifdef A\n2\n#else\n3\n#endif\n"),
     ("-UA", b"#ifdef A\n1\n#elifndef X\n2\n#endif\n"),
     ("-UA", b"#ifdef A\n1\n#elifdef X /* c\n*/\n2\n#endif\n"),
-    // Conditions are read again as they are.
+    // Conditions are copied in the second run.
     ("-DA", b"#if 0\nx\n#endif\n"),
     ("-k -DA", b"#if 0\nx\n#endif\n"),
     ("-DA", b"#if defined(A) || B / 0\nx\n#endif\n"),
@@ -34,13 +34,13 @@ const ROWS: &[(&str, &[u8])] = &[
     ("-DF=1 -UG", b"#if G(1) || F\nx\n#endif\n"),
     ("-DA=9223372036854775807", b"#if A + 1 > 0\nx\n#endif\n"),
     ("-DA=9223372036854775807", b"#if A > 0\nx\n#endif\n"),
-    // Comments and splices are read again as they are.
+    // Comments and splices are copied in the second run.
     ("-DA", b"/\\\n* c\n#ifdef A\n*\\\n/\n#ifdef A\nx\n#endif\n"),
     ("-DA", b"#if defined A && \\\nB\nx\n#endif\n"),
     ("-DA", b"char *s = \"/*\";\n#error don't\n#ifdef A\nx\n#endif\n"),
     ("-t -DA", b"/*\n#ifdef A\nx\n#endif\n"),
     ("-t -DA -UB", b"#ifdef C\nx\n#endif\n"),
-    // Numbered and blanked texts are read again as they are.
+    // Numbered and blanked texts are copied in the second run.
     ("-UA -n", b"a\r\n#ifdef A\r\nx\r\n#endif\r\nb\r\n"),
     ("-UA -n", b"#if A\n1\n#elif X\n2\n#endif"),
     ("-b -UA", b"#ifdef A\nx\n#endif"),
@@ -48,8 +48,10 @@ const ROWS: &[(&str, &[u8])] = &[
     ("-kbUA", b"#if 1\r\n#ifdef A\r\nx\r\n#endif\r\n#endif\r\n"),
 ];
 
-/// What is left of the input of these words, parted by spaces. Nothing is said, and the status is one of two: the first if
-/// the input is copied, and else the second.
+/// Returns the output for an input with these arguments, which are separated by spaces.
+///
+/// There is no message. The exit status is the first of `statuses` if the input is copied, and else
+/// the second.
 fn left(
     rt: &(impl Abort + AllocGlobal),
     words: &str,
@@ -73,7 +75,7 @@ fn left(
     Ok(output)
 }
 
-/// Compares what is left of an input with what is left of that.
+/// Compares the output for an input with the output for that output.
 fn check_twice(
     rt: &(impl Abort + AllocGlobal),
     words: &str,

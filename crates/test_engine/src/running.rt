@@ -1,4 +1,5 @@
-//! A run over a reader: what it writes, whether that is other bytes, and what a failed call leaves.
+//! A run over a reader: its output, whether that differs from the input, and the output after a
+//! failed call.
 
 use crate::feeding::planned;
 use std::process::Abort;
@@ -6,8 +7,9 @@ use std::test::Fail;
 use test_cases::{CountedSink, CountedSource};
 use unifdef::{RunFault, Watched, run};
 
-/// Runs over this source, and compares the answer and what is written; nothing is flushed. The write of this number fails;
-/// at 0 none does.
+/// Runs over this source, and compares the result and the bytes written. Nothing is flushed.
+///
+/// `failing_write` is the number of the write that fails; 0 if none does.
 fn check_run(
     rt: &(impl Abort + AllocGlobal),
     words: &str,
@@ -30,7 +32,7 @@ fn check_run(
     Ok(())
 }
 
-/// Words, a text, and what is left of it.
+/// Arguments, a text, and the output for it.
 #[rattlefmt::skip]
 const LEFT: &[(&str, &[u8], &[u8])] = &[
     ("-DA", b"", b""),

@@ -1,4 +1,5 @@
-//! Runs of the tool over a reader and a writer that give and take a few bytes at a time, fail, or are interrupted.
+//! Runs of the tool over a reader and a writer that read and write a few bytes at a time, fail, or
+//! are interrupted.
 
 use std::alloc::Global;
 use std::process::Abort;
@@ -10,40 +11,40 @@ pub(crate) const READ_ERROR: &str = "unifdef: stdin: Read error\n";
 
 pub(crate) const WRITE_ERROR: &str = "unifdef: stdin: Write error\n";
 
-/// Words and an input, how they come and go, and what is to be answered.
+/// Arguments and an input, the behavior of the streams, and the expected answer.
 #[derive(Clone, Copy)]
 pub(crate) struct Stream<'a> {
-    /// Parted by spaces.
+    /// The arguments, separated by spaces.
     pub words: &'a str,
     pub input: &'a [u8],
-    /// The most bytes that a read gives.
+    /// The most bytes of one read.
     pub read_bytes: usize,
-    /// Whether the reads behind the input fail.
+    /// True if the reads after the input fail.
     pub reads_fail: bool,
-    /// The number of the read that is interrupted, counted from 1; at 0 none is.
+    /// The number of the read that is interrupted, counted from 1; 0 if none is.
     pub interrupted_read: usize,
-    /// The most bytes that a write takes.
+    /// The most bytes of one write.
     pub write_bytes: usize,
-    /// The most bytes that all writes take.
+    /// The most bytes of all writes.
     pub room: usize,
-    /// Whether a write without room fails; else it takes 0 bytes.
+    /// True if a write fails once `room` is used up; else it accepts 0 bytes.
     pub refuses: bool,
-    /// The number of the write that is interrupted, counted from 1; at 0 none is.
+    /// The number of the write that is interrupted, counted from 1; 0 if none is.
     pub interrupted_write: usize,
-    /// Whether each flush fails.
+    /// True if each flush fails.
     pub flush_fails: bool,
-    /// Whether the first flush is interrupted.
+    /// True if the first flush is interrupted.
     pub interrupted_flush: bool,
     pub output: &'a [u8],
     pub message: &'a str,
     pub status: u8,
-    /// How many calls are made, where that is said.
+    /// The expected number of calls, if it is checked.
     pub reads: Option<usize>,
     pub writes: Option<usize>,
     pub flushes: Option<usize>,
 }
 
-/// Nothing comes, and nothing fails.
+/// An empty input, and streams that don't fail.
 pub(crate) const USUAL: Stream<'static> = Stream {
     words: "-DA",
     input: b"",
@@ -92,7 +93,7 @@ fn sink_of(alloc: Global, stream: Stream<'_>) -> CountedSink {
     }
 }
 
-/// Compares the answer, and how many calls are made. Tells how many bytes were read.
+/// Compares the answer, and the numbers of calls. Returns the number of bytes read.
 pub(crate) fn check_stream(
     rt: &(impl Abort + AllocGlobal),
     stream: Stream<'_>,
@@ -113,7 +114,7 @@ pub(crate) fn check_stream(
     Ok(stream.input.len().saturating_sub(left))
 }
 
-/// Compares how many calls were made, where that is said.
+/// Compares the number of calls with the expected one, if that is given.
 fn check_count(rt: &impl Abort, calls: usize, said: Option<usize>) {
     if let Some(count) = said {
         assert_eq!(rt; calls, count);

@@ -1,4 +1,4 @@
-//! Readers and writers that fail, or give and take a few bytes at a time.
+//! Readers and writers that fail, or that read and write a few bytes at a time.
 
 use crate::streaming::{READ_ERROR, Stream, USUAL, WRITE_ERROR, check_stream};
 use std::process::Abort;
@@ -6,10 +6,10 @@ use std::test::Fail;
 use test_cases::{Sink, parted};
 use unifdef::{Watched, tool};
 
-/// Six lines, of which the last lacks its line feed.
+/// Six lines, of which the last has no newline.
 const INPUT: &[u8] = b"/*\n*/\n#ifdef A\nx\r\n#endif\ny";
 
-/// What is left of them where `A` is defined.
+/// The output for `INPUT` if `A` is defined.
 const OUTPUT: &[u8] = b"/*\n*/\nx\r\ny";
 
 #[test]
@@ -53,7 +53,8 @@ fn a_failing_read_is_told_behind_the_whole_lines(rt: HostRuntime) -> Result<(), 
     Ok(())
 }
 
-/// Lets the read behind each front of the input fail that has no fewer bytes than these, and fewer than those.
+/// Lets the read after each prefix of the input fail whose length is at least `from` and below
+/// `to`.
 fn check_failing_reads(
     rt: &(impl Abort + AllocGlobal),
     from: usize,

@@ -1,5 +1,5 @@
-//! Watched readers and writers: each call is made once, and a failure is remembered. The library says nothing of how often a
-//! reader or a writer is called, so no clause can.
+//! Watched readers and writers: each call is made once, and a failure is remembered. The library
+//! doesn't model calls of a reader or a writer, so no clause can count them.
 
 use std::alloc::Global;
 use std::process::Abort;
@@ -7,13 +7,14 @@ use std::test::Fail;
 use test_cases::{CountedSink, CountedSource};
 use unifdef::Watched;
 
-/// Compares how many calls were made, and whether one failed.
+/// Compares the number of calls, and whether one failed.
 fn check(rt: &impl Abort, calls: usize, failed: bool, made: usize, fails: bool) {
     assert_eq!(rt; calls, made);
     assert_eq!(rt; failed, fails);
 }
 
-/// A writer that takes 2 bytes a call. The write of this number is interrupted, and the first flush, if that is said.
+/// Returns a writer that accepts 2 bytes a call. The write of number `failing_write` is
+/// interrupted, and the first flush too, if `flush_fails`.
 fn writer(alloc: Global, failing_write: usize, flush_fails: bool) -> Watched<CountedSink> {
     let mut sink = CountedSink::of(alloc, 2);
     sink.interrupted = failing_write;

@@ -5,10 +5,10 @@ use test_cases::Sink;
 use ud_sections::Printer;
 use unifdef::{Engine, Plan, RunFault, Watched, plan};
 
-/// The first room of the output at which an engine whose write has failed doesn't answer so again, or writes more.
+/// Finds the first capacity of the output at which an engine isn't fused after its write failed.
 ///
 /// # Errors
-/// Memory is refused.
+/// Fails if memory runs out.
 pub(crate) fn first_wrong_engine(
     alloc: Global,
     words: &[String],
@@ -26,7 +26,8 @@ pub(crate) fn first_wrong_engine(
     Ok(None)
 }
 
-/// Whether an engine whose write has failed answers so to all that follows, also over an output that works, and writes nothing.
+/// Returns whether an engine whose write has failed is fused: every further call fails alike and
+/// writes nothing, also with an output that works.
 fn refuses_for_good(alloc: Global, plan: &Plan, text: &[u8], room: usize) -> bool {
     let mut engine = Engine::new(plan, Printer::of(&plan.settings()));
     let mut out = Watched::new(Sink {

@@ -1,18 +1,21 @@
-//! What the tool answers if a read or a write fails, made from the reference's answers to whole texts.
+//! The tool's expected answer if a read or a write fails, made from the reference's answers to
+//! whole texts.
 
 use memchr::memrchr;
 use ref_unifdef::{Answer, answer_to};
 use std::alloc::{AllocError, Global};
 use ud_args::display_name;
 
-/// The status of a fault.
+/// The exit status after a fault.
 const TROUBLE: u8 = 2;
 
-/// The answer if the read after these bytes fails: a fault that they have as a text that goes on, or the whole lines' text and
-/// a read error.
+/// Returns the answer if the read after the bytes `given` fails.
+///
+/// That is a fault that they have as a text that goes on, or else the output for the whole lines
+/// and a read error.
 ///
 /// # Errors
-/// Memory is refused.
+/// Fails if memory runs out.
 pub(crate) fn after_bytes(
     alloc: Global,
     words: &[String],
@@ -29,10 +32,10 @@ pub(crate) fn after_bytes(
     failed(alloc, words, lines.output.as_slice(), b"Read error")
 }
 
-/// The answer if the output takes so many bytes, and then fails.
+/// Returns the answer if the output accepts `room` bytes, and then fails.
 ///
 /// # Errors
-/// Memory is refused.
+/// Fails if memory runs out.
 pub(crate) fn within_room(
     alloc: Global,
     words: &[String],
@@ -45,10 +48,10 @@ pub(crate) fn within_room(
     }
 }
 
-/// The answer if the flush fails at the end.
+/// Returns the answer if the flush at the end fails.
 ///
 /// # Errors
-/// Memory is refused.
+/// Fails if memory runs out.
 pub(crate) fn unflushed(
     alloc: Global,
     words: &[String],
@@ -60,7 +63,7 @@ pub(crate) fn unflushed(
     same(alloc, whole)
 }
 
-/// The whole lines of a text: its bytes up to the last line feed.
+/// Returns the whole lines of a text: its bytes up to the last newline.
 fn whole_lines(text: &[u8]) -> &[u8] {
     match memrchr(b'\n', text) {
         Some(at) => text.get(..=at).unwrap_or(text),
@@ -68,13 +71,13 @@ fn whole_lines(text: &[u8]) -> &[u8] {
     }
 }
 
-/// Whether a line of the text is faulty, and not its end alone.
+/// Returns whether a line of the text is faulty, and not just its end.
 fn has_faulty_line(answer: &Answer) -> bool {
     let message = answer.message.as_slice();
     !message.is_empty() && !message.windows(3).any(|part| part == b"EOF".as_slice())
 }
 
-/// The answer of a run that ends with this output, and tells that a call failed.
+/// Returns the answer of a run with this output that reports a failed call.
 fn failed(
     alloc: Global,
     words: &[String],
@@ -98,7 +101,7 @@ fn failed(
     })
 }
 
-/// The same answer.
+/// Returns a copy of an answer.
 fn same(alloc: Global, answer: &Answer) -> Result<Answer, AllocError> {
     Ok(Answer {
         output: Vec::from_slice(alloc, answer.output.as_slice())?,

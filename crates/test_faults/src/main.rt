@@ -1,8 +1,10 @@
-//! Runs the tool over the worked inputs with streams of which each call fails in turn, and holds it against the reference.
+//! Runs the tool over the worked inputs, with each call of its streams failing in turn, and
+//! compares it with the reference.
 //!
-//! What is expected is made of the reference's answers: after a failed read the text of the whole lines that came before, after
-//! a failed write a front of the text, and the message of the failed call; or the fault that comes before it. At the first run
-//! that is answered otherwise, its words, its input and the place are printed, and the status is 1.
+//! The expected answer is made from the reference's answers, with the message of the failed call.
+//! After a failed read, the output is that for the whole lines before; after a failed write, a
+//! prefix of the output. A fault before the failed call comes first. At the first mismatch, the
+//! arguments, the input and the position are printed, and the exit status is 1.
 #![tactic(auto)]
 
 mod engines;
@@ -19,10 +21,10 @@ use std::alloc::{AllocError, Global};
 use std::io;
 use test_cases::{ROWS, nested, parted, repeated};
 
-/// Of inputs at a limit only so many last places are looked at.
+/// The number of last positions that are tried for inputs at a limit.
 const LAST: usize = 8;
 
-/// At how many places reads and writes failed.
+/// The numbers of positions at which reads and writes failed.
 #[derive(Clone, Copy)]
 struct Places {
     reads: usize,
@@ -30,7 +32,7 @@ struct Places {
 }
 
 impl Places {
-    /// These, and the last ones of a text and of its output.
+    /// Adds the last positions of a text and of its output.
     fn and(
         self,
         alloc: Global,
@@ -81,7 +83,7 @@ fn main(rt: HostRuntime) -> io::Result<()> {
     )
 }
 
-/// Lets each read and each write fail in turn, at the last places, and the flush.
+/// Lets each read and each write fail in turn, at the last positions, and the flush.
 fn check(
     rt: &impl Print,
     alloc: Global,
@@ -104,7 +106,7 @@ fn check(
     Ok(())
 }
 
-/// Prints which call was answered otherwise than it is to be.
+/// Prints the call whose answer wasn't the expected one.
 fn report(
     rt: &impl Print,
     call: &str,

@@ -6,11 +6,13 @@ use ref_unifdef::Answer;
 use std::alloc::{AllocError, Global};
 use test_cases::{CountedSink, CountedSource, Source};
 
-/// The first place of the last ones at which a failing read isn't answered as it is to be: the text is read byte by byte up to
-/// there, and the next read fails or is interrupted; if no line is faulty before, no read is made after it.
+/// Finds the first of the last positions at which a failing read gives an unexpected answer.
+///
+/// The text is read byte by byte up to there, and the next read fails or is interrupted. If no line
+/// is faulty before, no read is made after that one.
 ///
 /// # Errors
-/// Memory is refused.
+/// Fails if memory runs out.
 pub(crate) fn first_wrong_read(
     alloc: Global,
     words: &[String],
@@ -31,7 +33,7 @@ pub(crate) fn first_wrong_read(
     Ok(None)
 }
 
-/// Gives these bytes, one a call, and then fails.
+/// Returns a reader of these bytes, one a call, which then fails.
 fn failing(given: &[u8]) -> CountedSource<'_> {
     CountedSource {
         source: Source {
@@ -44,7 +46,8 @@ fn failing(given: &[u8]) -> CountedSource<'_> {
     }
 }
 
-/// Gives so many bytes of a text, one a call, and is interrupted once; it would give the others then.
+/// Returns a reader of a text, one byte a call, which is interrupted once after `given` bytes. It
+/// would return the others then.
 fn interrupted(text: &[u8], given: usize) -> CountedSource<'_> {
     CountedSource {
         interrupted: given.saturating_add(1),
@@ -52,7 +55,8 @@ fn interrupted(text: &[u8], given: usize) -> CountedSource<'_> {
     }
 }
 
-/// Whether a run over so many bytes has the answer of a failing read, or of a fault before it, and has flushed once.
+/// Returns whether a run over `given` bytes has the answer of a failing read, or of a fault before
+/// it, and has flushed once.
 fn is_right(expected: &Answer, given: usize, run: &Ran) -> bool {
     let reads = given.saturating_add(1);
     let read_failed = expected.message.as_slice().ends_with(b": Read error\n");

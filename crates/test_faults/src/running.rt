@@ -1,11 +1,11 @@
-//! Runs of the tool over streams that fail, each held against what is expected of it.
+//! Runs of the tool over streams that fail, each compared with its expected answer.
 
 use ref_unifdef::Answer;
 use std::alloc::{AllocError, Global};
 use test_cases::{CountedSink, CountedSource};
 use unifdef::{Watched, tool};
 
-/// What a run did: its answer, and how often it called its reader and its output.
+/// The answer of a run, and the numbers of calls of its reader and its output.
 #[derive(Drop)]
 pub(crate) struct Ran {
     pub answer: Answer,
@@ -17,7 +17,7 @@ pub(crate) struct Ran {
 /// Runs the tool.
 ///
 /// # Errors
-/// Memory is refused.
+/// Fails if memory runs out.
 pub(crate) fn run(
     alloc: Global,
     words: &[String],
@@ -41,7 +41,7 @@ pub(crate) fn run(
     })
 }
 
-/// Whether two answers are the same.
+/// Returns whether two answers are equal.
 pub(crate) fn alike(one: &Answer, other: &Answer) -> bool {
     one.status == other.status
         && one.message.as_slice() == other.message.as_slice()

@@ -6,11 +6,11 @@ use ref_unifdef::{Answer, answer_to};
 use std::alloc::{AllocError, Global};
 use test_cases::{CountedSink, CountedSource, Sink};
 
-/// The first place of the last ones at which a failing write isn't answered as it is to be: the output takes the bytes up to
-/// there, and then fails, or takes none.
+/// Finds the first of the last positions at which a failing write gives an unexpected answer. The
+/// output accepts the bytes up to there, and then fails, or accepts none.
 ///
 /// # Errors
-/// Memory is refused.
+/// Fails if memory runs out.
 pub(crate) fn first_wrong_write(
     alloc: Global,
     words: &[String],
@@ -27,10 +27,10 @@ pub(crate) fn first_wrong_write(
     Ok(None)
 }
 
-/// Whether the flush, which fails, is told as it is to be.
+/// Returns whether a failing flush gives the expected answer.
 ///
 /// # Errors
-/// Memory is refused.
+/// Fails if memory runs out.
 pub(crate) fn tells_failed_flush(
     alloc: Global,
     words: &[String],
@@ -46,8 +46,10 @@ pub(crate) fn tells_failed_flush(
     Ok(alike(&run.answer, &expected) && run.flushes == 1)
 }
 
-/// Whether an output with this room is answered as it is to be: whether it takes all bytes at once or one a call, whether it
-/// then fails or takes none, and whether the text comes at once or byte by byte.
+/// Returns whether an output of capacity `room` gives the expected answer.
+///
+/// Outputs are tried that accept all bytes at once or one a call, and then fail or accept none. The
+/// text is read at once or byte by byte.
 fn is_right_at(
     alloc: Global,
     words: &[String],
@@ -80,8 +82,8 @@ fn is_right_at(
     is_right_interrupted(alloc, words, text, &expected, room)
 }
 
-/// Whether an output that takes one byte a call, and whose call after these many is interrupted, is answered so, and isn't
-/// called again.
+/// Returns whether an output gives the expected answer, and isn't called again, if its call after
+/// `taken` calls is interrupted. It accepts one byte a call.
 fn is_right_interrupted(
     alloc: Global,
     words: &[String],

@@ -1,7 +1,7 @@
-//! Says something of a symbol twice, and then of what is no name; and tells what was answered, and what the table says then.
+//! Defines a symbol twice and then a bad name; prints each result, and the symbol's entry after it.
 //!
-//! `faults/run.sh` runs it with each growth refused in turn. A refused call leaves the table as it was, and a bad name is told
-//! before any memory is taken.
+//! `tests/faults/run.sh` runs it with each allocation failing in turn. A failed call leaves the
+//! table unchanged. A bad name is reported before any memory is taken.
 #![tactic(auto)]
 
 use std::io;
@@ -20,7 +20,7 @@ fn main(rt: HostRuntime) -> io::Result<()> {
     tell(&rt, &symbols)
 }
 
-/// How a call was answered.
+/// Returns the text for a call's result.
 fn told(answer: Result<(), SymbolFault>) -> &'static str {
     match answer {
         Ok(()) => "taken",
@@ -29,7 +29,7 @@ fn told(answer: Result<(), SymbolFault>) -> &'static str {
     }
 }
 
-/// Prints what the table says of the name.
+/// Prints the table's entry for the name.
 fn tell(rt: &impl Print, symbols: &Symbols) -> io::Result<()> {
     let Some(entry) = symbols.find(b"A") else {
         return println!(rt; "A isn't listed");

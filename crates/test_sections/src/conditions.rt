@@ -10,16 +10,16 @@ use ud_model::{Cond, Kind, LINE_BYTES};
 /// Symbols whose values are symbols.
 const CHAIN: &str = "-DA=B -DB=-7 -DC=D -DD=C -DE=U -UU";
 
-/// Symbols whose values are read as constants, or are none.
+/// Symbols whose values are constants, or look like them.
 const NUMBERS: &str = "-DA=5 -DAe=3 -DB=defined -DC=0x10 -DD=-9223372036854775808";
 
-/// The same, where conditions are decided that name no symbol.
+/// The symbols of `NUMBERS`, with an option that decides conditions without a symbol.
 const CONSTANTS: &str = "-k -DA=5 -DAe=3 -DB=defined -DC=0x10 -DD=-9223372036854775808";
 
-/// Words that say the rules and the symbols, parted by spaces, an expression, and its condition.
+/// Arguments for the rules and the symbols, separated by spaces, an expression, and its condition.
 #[rattlefmt::skip]
 const EXPRESSIONS: &[(&str, &[u8], Cond)] = &[
-    // Expressions are valued.
+    // Expressions are evaluated.
     ("-DA=5", b"-A / 2 == -2", Cond::Yes),
     ("-DA=5", b"-A % 2 == -1", Cond::Yes),
     ("-DA=5", b"~A == -6", Cond::Yes),
@@ -39,7 +39,7 @@ const EXPRESSIONS: &[(&str, &[u8], Cond)] = &[
     // A known operand decides unless strict.
     ("-UA", b" A && X", Cond::No),
     ("-K -UA", b" A && X", Cond::Unknown),
-    // Constants are valued where they are asked for.
+    // Constants are evaluated if `-k` asks for them.
     ("-DA=5", b" 0", Cond::Unknown),
     ("-k -DA=5", b" 0", Cond::No),
     ("-k -DA=5", b" X && 0", Cond::No),
@@ -52,7 +52,7 @@ const EXPRESSIONS: &[(&str, &[u8], Cond)] = &[
     (CHAIN, b"defined C && defined(D)", Cond::Yes),
     (CHAIN, b"1 || U(1)", Cond::Unknown),
     (CHAIN, b"U == 0", Cond::Yes),
-    // Arguments are bytes up to their parenthesis.
+    // Arguments of a macro are the bytes up to their parenthesis.
     ("-DA=5", b"A (1, \"x\") == 5", Cond::Yes),
     ("-DA=5", b"A(0u) > -1", Cond::Yes),
     ("-DA=5", b"A(\")\") == 5", Cond::Unknown),
@@ -61,7 +61,7 @@ const EXPRESSIONS: &[(&str, &[u8], Cond)] = &[
     ("-DA=5", b"A(1", Cond::Unknown),
     ("-DA=5", b"defined A(1)", Cond::Unknown),
     ("-DA=5", b"defined(A)(1)", Cond::Unknown),
-    // A `u` anywhere raises the least number.
+    // A `u` anywhere makes the least number 0.
     ("-DA=5 -DB=-5u", b"-1 < A", Cond::Yes),
     ("-DA=5 -DB=-5u", b"-1 < A || 0u", Cond::Unknown),
     ("-DA=5 -DB=-5u", b"-1 < A || B", Cond::Unknown),
@@ -86,7 +86,7 @@ fn rules_of(plan: &Plan) -> Rules {
     }
 }
 
-/// Compares the condition of an `#if` and that of an `#elif`.
+/// Compares the condition of an `#if` and of an `#elif`.
 fn check(rt: &impl Abort, plan: &Plan, text: &[u8], cond: Cond) {
     assert!(rt; text.len() <= LINE_BYTES);
     for kind in [Kind::If, Kind::Elif] {
@@ -120,8 +120,8 @@ fn expressions_are_valued(rt: HostRuntime) -> Result<(), Fail> {
     Ok(())
 }
 
-/// What follows the keyword, the condition, and whether the section is plain text where `A` is defined and ignoring, and
-/// `U` is undefined.
+/// The bytes after the keyword, the condition, and whether the section is plain text. `A` is
+/// defined and ignoring, and `U` is undefined.
 const BY_NAME: &[(Kind, &[u8], Cond, bool)] = &[
     (Kind::Ifdef, b" A ", Cond::Yes, true),
     (Kind::Ifndef, b" A", Cond::No, true),
@@ -156,7 +156,7 @@ fn check_names(rt: &impl Abort, kind: Kind, text: &[u8], expected: &[&[u8]]) {
     assert!(rt; listed.next().is_none());
 }
 
-/// What follows the keyword, and its names.
+/// The bytes after the keyword, and the directive's names.
 const NAMES: &[(Kind, &[u8], &[&[u8]])] = &[
     (Kind::If, b" F(X) + defined(Y) > 0x1uL", &[b"F", b"Y"]),
     (Kind::Elif, b" A + (A)", &[b"A", b"A"]),
@@ -206,7 +206,7 @@ fn operators_are_read_to_the_longest_line(rt: HostRuntime) -> Result<(), Fail> {
     Ok(())
 }
 
-/// Texts around the sizes at which longer stacks are taken.
+/// Texts around the sizes at which longer stacks are used.
 #[test]
 fn texts_of_each_size_are_read(rt: HostRuntime) -> Result<(), Fail> {
     let plan = planned(&rt, rt.alloc(), "-DA=5")?;

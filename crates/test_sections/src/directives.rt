@@ -7,7 +7,7 @@ use ud_model::{Kind, LINE_BYTES, Mode};
 use ud_sections::{Cut, Directive, Lister, Span, directive};
 use ud_text::{Line, Scanner};
 
-/// Compares what a first line carries in C mode, that ends in a line feed.
+/// Compares the directive of a first line in C mode that ends in a newline.
 fn check(rt: &impl Abort, body: &[u8], expected: Result<Option<Directive<'_>>, Cut>) {
     assert!(rt; body.len() <= LINE_BYTES);
     assert!(rt; is_one_line(body));
@@ -91,7 +91,7 @@ const NAMES: &[(&[u8], &[&[u8]])] = &[
     (b"#if A /* c", &[b"A"]),
 ];
 
-/// Compares the names of a first line in C mode, that ends in a line feed.
+/// Compares the names of a first line in C mode that ends in a newline.
 fn check_names(rt: &impl Abort, body: &[u8], expected: &[&[u8]]) {
     assert!(rt; body.len() <= LINE_BYTES);
     assert!(rt; is_one_line(body));

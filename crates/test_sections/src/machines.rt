@@ -1,7 +1,8 @@
-//! What a machine decides of each line, where it refuses one, and what it answers afterwards.
+//! The decisions of a machine for each line, the lines that it rejects, and its results after a
+//! fault.
 //!
-//! Throughout `Y` is defined, `N` is undefined, and `X` isn't listed. A kept line is `k`, a removed one `-`, and an opener
-//! that becomes `#if`, `#else` or `#endif` is `i`, `e` or `n`.
+//! Throughout, `Y` is defined, `N` is undefined, and `X` isn't listed. A kept line is `k`, a
+//! removed one `-`, and an opener that becomes `#if`, `#else` or `#endif` is `i`, `e` or `n`.
 
 use crate::stepping::{Stepper, letter};
 use std::process::Abort;
@@ -11,10 +12,11 @@ use ud_sections::{SectionFault, Span};
 
 const WORDS: &str = "-DY -UN";
 
-/// Words by which sections of `N` and `I` are plain text.
+/// Arguments by which sections of `N` and `I` are plain text.
 const IGNORING: &str = "-iUN -iDI -DY";
 
-/// What may come next: text, a section, another group, the end; false, unknown and true, as far as they have a condition.
+/// The lines that may come next: text, a section, another group, the end. Those with a condition
+/// are false, unknown and true.
 const NEXT: [&[u8]; 9] = [
     b"x",
     b"#ifdef N",
@@ -27,11 +29,11 @@ const NEXT: [&[u8]; 9] = [
     b"#endif",
 ];
 
-/// Lines, and for each line that may come next what becomes of it, of a text line after it, and of an `#endif` after both;
-/// `!` is one that is out of its place.
+/// Lines, and for each next line three letters: for that line, for a text line after it, and for an
+/// `#endif` after both. `!` is a misplaced line.
 #[rattlefmt::skip]
 const PHASES: &[(&[&[u8]], [&str; 9])] = &[
-    // In a removed place.
+    // In a removed group.
     (&[b"#ifdef N", b"#if X"], ["---", "---", "---", "---", "---", "---", "---", "---", "---"]),
     // All groups are false so far.
     (&[b"#ifdef N"], ["---", "---", "---", "---", "---", "ikk", "-k-", "-k-", "-k!"]),
@@ -43,51 +45,52 @@ const PHASES: &[(&[&[u8]], [&str; 9])] = &[
     (&[b"#if X", b"#elif N"], ["--k", "---", "---", "---", "--k", "kkk", "ekk", "kkk", "kk!"]),
     // The first true group follows an unknown one.
     (&[b"#if X", b"#elif defined Y"], ["kkk", "---", "kkk", "-k-", "n--", "n--", "n--", "n--", "kk!"]),
-    // The first true group is past.
+    // The first true group has ended.
     (&[b"#if X", b"#elif defined Y", b"#elif X"], ["---", "---", "---", "---", "---", "---", "---", "---", "-k!"]),
-    // A group after a sole true one is over.
+    // A group after a sole true one has ended.
     (&[b"#ifdef Y", b"#elif X"], ["---", "---", "---", "---", "---", "---", "---", "---", "-k!"]),
 ];
 
-/// Words, lines, and what becomes of them.
+/// Arguments, lines, and the letters of the lines.
 #[rattlefmt::skip]
 const STEPS: &[(&str, &[&[u8]], &str)] = &[
-    // A cut keyword is refused everywhere.
+    // A cut keyword is a fault everywhere.
     (WORDS, &[b"# // c \\", b"#if\\"], "kk"),
-    // A directive over lines may only stay whole.
-    // It stays with its neighbours, its keyword alone is edited, or its place goes as a whole.
+    // A directive over lines may only stay whole. It stays with its neighbors, only its keyword is
+    // edited, or the whole group around it is removed.
     (WORDS, &[b"/* c", b"*/ #if X /*", b"*/"], "kkk"),
     (WORDS, &[b"#ifdef N", b"#elif X /*", b"*/"], "-ik"),
     (WORDS, &[b"#ifdef N", b"#if Y /*", b"*/", b"#endif"], "----"),
-    // What was open in plain text isn't carried on.
+    // A comment or literal open in plain text isn't carried on.
     (IGNORING, &[b"#ifdef I", b"/* a", b"#endif", b"#if X"], "-k-k"),
-    // In a removed place it is plain as well, and one that joins the next line never is.
+    // In a removed group it is plain too. A directive that joins the next line never makes it
+    // plain.
     (IGNORING, &[b"#ifdef N", b"#ifdef I", b"/*", b"#endif", b"#endif"], "-----"),
     (IGNORING, &[b"#if X", b"#ifdef N", b"#ifdef I // \\", b"", b"/*", b"*/"], "k-----"),
-    // Directives are found across splices.
-    // The line is fresh again once the slash before a splice turns out to begin a comment.
+    // Directives are found across splices. The line is fresh again once the slash before a splice
+    // turns out to begin a comment.
     (WORDS, &[b"/\\", b"* c */ #if X", b"#elif N"], "kk-"),
     (WORDS, &[b"/\\", b"\\", b"* c */ #if X", b"#elif N"], "kkk-"),
-    // A comment's opening star doesn't close it, and a star before a splice does.
+    // The star that opens a comment doesn't close it; a star before a splice does.
     (WORDS, &[b"/*\\", b"/", b"#endif", b"*/"], "kkkk"),
     (WORDS, &[b"/*", b"*\\", b"/ #if X", b"#elif N"], "kkk-"),
-    // A splice comes before an escape: the backslash left takes the quote after it.
+    // A splice comes before an escape: the backslash that remains escapes the quote after it.
     (WORDS, &[b"\"a\\\\", b"\" /* \"", b"#if X", b"#elif N"], "kkk-"),
     // An empty spliced line keeps the escape, and an empty line ends the literal.
     (WORDS, &[b"\"\\\\", b"\\", b"\" /*", b"#if X", b"#elif N"], "kkkk-"),
-    // A directive may stand on the second line of its logical line; there is one at most.
+    // A directive may be on the second line of its logical line; there is at most one.
     (WORDS, &[b"/* */ \\", b"#if X", b"#elif N"], "kk-"),
     (WORDS, &[b"#if X /*", b"*/ #endif", b"#endif"], "kkk"),
-    // A directive before a splice in a comment is valued.
+    // A directive before a splice in a comment is evaluated.
     (WORDS, &[b"#ifdef N", b"#elif X // c \\", b"d"], "-ik"),
-    // Where the splice cuts the condition itself, it is unknown.
+    // If the splice cuts the condition itself, the condition is unknown.
     (WORDS, &[b"#ifdef Y \\", b"", b"#elif N", b"x"], "kk--"),
 ];
 
-/// Words, lines of which the last is refused, its fault, and the depth and the mode by then.
+/// Arguments, lines of which the last is faulty, its fault, and the depth and the mode then.
 #[rattlefmt::skip]
 const REFUSALS: &[(&str, &[&[u8]], SectionFault, usize, Mode)] = &[
-    // A directive out of its place is refused.
+    // A misplaced directive is a fault.
     (WORDS, &[b"#elif Y"], SectionFault::InappropriateElif { line: 1 }, 0, Mode::C),
     (WORDS, &[b"#if X", b"#else", b"#elif X"], SectionFault::InappropriateElif { line: 3 }, 1, Mode::C),
     (WORDS, &[b"#ifdef N", b"#if X", b"#else", b"#elif Y"], SectionFault::InappropriateElif { line: 4 }, 2, Mode::C),
@@ -95,22 +98,22 @@ const REFUSALS: &[(&str, &[&[u8]], SectionFault, usize, Mode)] = &[
     (WORDS, &[b"#if X", b"#else", b"x", b"#else"], SectionFault::InappropriateElse { line: 4 }, 1, Mode::C),
     (WORDS, &[b"#if X", b"#endif", b"#endif"], SectionFault::InappropriateEndif { line: 3 }, 0, Mode::C),
     ("-t", &[b"#if X", b"#endif", b"#endif"], SectionFault::InappropriateEndif { line: 3 }, 0, Mode::Plain),
-    // After an opener became an endif the section is still open.
+    // After an opener became `#endif`, the section is still open.
     (WORDS, &[b"#if X", b"#elif defined Y", b"#else", b"#elif X"], SectionFault::InappropriateElif { line: 4 }, 1, Mode::C),
-    // A cut keyword is refused everywhere.
+    // A cut keyword is a fault everywhere.
     (WORDS, &[b"#if\\"], SectionFault::Obfuscated { line: 1 }, 0, Mode::C),
     (WORDS, &[b"#ifdef N", b"# /* c"], SectionFault::Obfuscated { line: 2 }, 1, Mode::C),
-    // A directive over lines may only stay whole.
-    // It would go, or lose what follows its keyword.
+    // A directive over lines may only stay whole. It would be removed, or lose what follows its
+    // keyword.
     (WORDS, &[b"#ifdef Y /* c"], SectionFault::Obfuscated { line: 1 }, 0, Mode::C),
     (WORDS, &[b"#if X", b"#elif defined Y // \\"], SectionFault::Obfuscated { line: 2 }, 1, Mode::C),
     (WORDS, &[b"#if X", b"#elif defined Y", b"#elif X /*"], SectionFault::Obfuscated { line: 3 }, 1, Mode::C),
-    // It stays, but what it is joined to goes.
+    // It stays, but the line that it is joined to is removed.
     (WORDS, &[b"#if X", b"1", b"#elif N", b"/* c", b"*/ #endif"], SectionFault::Obfuscated { line: 5 }, 1, Mode::C),
 ];
 
-/// Compares what becomes, after these lines, of a next line, of a text line after it, and of an `#endif` after both; `!` is
-/// one that is out of its place.
+/// Compares the letters, after these lines, of a next line, of a text line after it, and of an
+/// `#endif` after both. `!` is a misplaced line.
 fn check_after(
     rt: &(impl Abort + AllocGlobal),
     lines: &[&[u8]],
@@ -129,7 +132,7 @@ fn check_after(
     Ok(())
 }
 
-/// Compares what becomes, after these lines, of each line that may come next.
+/// Compares the letters, after these lines, for each line that may come next.
 fn check_phase(
     rt: &(impl Abort + AllocGlobal),
     lines: &[&[u8]],
@@ -149,7 +152,7 @@ fn a_section_goes_through_its_phases(rt: HostRuntime) -> Result<(), Fail> {
     Ok(())
 }
 
-/// Compares the letters of these lines under these words.
+/// Compares the letters of these lines under these arguments.
 fn check_steps(
     rt: &(impl Abort + AllocGlobal),
     words: &str,
@@ -171,7 +174,8 @@ fn each_line_has_its_verdict(rt: HostRuntime) -> Result<(), Fail> {
     Ok(())
 }
 
-/// Compares the fault of the last of these lines; afterwards every step and the end tell it, and mode and depth stay.
+/// Compares the fault of the last of these lines. Afterwards, every step and the end return the
+/// same fault, and mode and depth stay.
 fn check_refusal(
     rt: &(impl Abort + AllocGlobal),
     words: &str,
@@ -254,7 +258,7 @@ fn the_end_tells_an_open_comment_before_an_open_section(rt: HostRuntime) -> Resu
     Ok(())
 }
 
-/// Compares what becomes of the next lines, and the mode after them.
+/// Compares the letters of the next lines, and the mode after them.
 fn check_next(
     rt: &(impl Abort + AllocGlobal),
     stepper: &mut Stepper,

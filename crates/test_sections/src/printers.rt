@@ -1,4 +1,4 @@
-//! Printers: what each prints of lines with verdicts, called by what the trait says alone.
+//! Printers: the output of each for lines with verdicts. They are called through the trait alone.
 
 ghost use Rattle.std.specs.Prelude.{All, IsTrue};
 ghost use Rattle.ud_model.specs.text.Lines.{is_ending};
@@ -12,7 +12,7 @@ use ud_model::{Settings, Verdict};
 use ud_sections::{Blank, Complement, Delete, Printer, Renumber, Show, Span, Step};
 use ud_text::Line;
 
-/// Prints these lines, and compares what is printed, and whether each line is printed as it is.
+/// Prints these lines, and compares the output, and whether each line is printed unchanged.
 fn check<S: Show>(
     rt: &(impl Abort + AllocGlobal),
     mut show: S,
@@ -29,7 +29,7 @@ fn check<S: Show>(
     Ok(())
 }
 
-/// The printer of settings without options but for these.
+/// Returns the printer of settings without other options.
 fn printer(blank: bool, complement: bool, renumber: bool) -> Printer {
     let settings = Settings {
         blank,
@@ -40,7 +40,7 @@ fn printer(blank: bool, complement: bool, renumber: bool) -> Printer {
     Printer::of(&settings)
 }
 
-/// A line with this ending that is kept or removed as it is.
+/// Returns a line with this ending that is kept or removed unchanged.
 fn plain<'a>(body: &'a [u8], ending: &'a [u8], number: u32, kept: bool) -> Ruled<'a>
     requires { IsTrue (is_ending ending.now) }
     ensures { HoldsItsKeyword result }
@@ -49,7 +49,7 @@ fn plain<'a>(body: &'a [u8], ending: &'a [u8], number: u32, kept: bool) -> Ruled
     ruled(body, ending, number, verdict, Span { at: 0, len: 0 })
 }
 
-/// A line with this ending, its verdict and its keyword.
+/// Returns a line with this ending, its verdict and its keyword.
 fn ruled<'a>(
     body: &'a [u8],
     ending: &'a [u8],

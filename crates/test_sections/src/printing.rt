@@ -1,4 +1,4 @@
-//! Printing any lines by any printer, which is known by what the trait says alone.
+//! Printing any lines by any printer, of which only the trait's clauses are known.
 
 ghost use Rattle.std.specs.Prelude.{◌≡◌, [], ◌∷◌, ◌++◌, List, ℕ, map, not, bytes_eq, All, IfOk};
 ghost use Rattle.std.specs.Prelude.{OnOk};
@@ -30,10 +30,10 @@ fn append_parts(out: &mut Vec<u8>, parts: &[&[u8]]) -> Result<(), AllocError>
     Ok(())
 }
 
-/// Appends what a printer prints of the next line. Tells whether that is the line itself.
+/// Appends the printer's output for the next line. Returns whether the output is the line itself.
 ///
 /// # Errors
-/// Memory is refused; some parts may have been appended.
+/// Fails if memory runs out. Some parts may have been appended.
 fn print_next<S: Show>(
     show: &mut S,
     line: &Line<'_>,
@@ -62,10 +62,11 @@ fn print_next<S: Show>(
     Ok(same)
 }
 
-/// Appends what a printer prints of these lines, in order. Tells whether that is the lines themselves, line by line.
+/// Appends the printer's output for these lines, in order. Returns whether the output is the lines
+/// themselves, line by line.
 ///
 /// # Errors
-/// Memory is refused; a front of the pieces may have been appended.
+/// Fails if memory runs out. A prefix of the pieces may have been appended.
 pub(crate) fn print_all<S: Show>(
     show: &mut S,
     lines: &[Ruled<'_>],

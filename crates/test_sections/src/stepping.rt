@@ -1,4 +1,4 @@
-//! Lines read by a scanner and a machine, held against what becomes of them.
+//! Lines read by a scanner and a machine, compared with their expected verdicts.
 
 ghost use Rattle.std.specs.Prelude.{IsTrue};
 ghost use Rattle.ud_model.specs.text.Lines.{NoNewline};
@@ -12,7 +12,7 @@ use ud_model::{LINE_BYTES, Mode, Verdict};
 use ud_sections::{Machine, SectionFault, Step};
 use ud_text::{Line, Scanner};
 
-/// The plan of these words, parted by spaces, which have no fault.
+/// Returns the plan of these arguments, which are separated by spaces and have no fault.
 pub(crate) fn planned(rt: &impl Abort, alloc: Global, words: &str) -> Result<Plan, Fail> {
     let mut owned = Vec::new(alloc);
     for word in words.split_whitespace() {
@@ -21,7 +21,7 @@ pub(crate) fn planned(rt: &impl Abort, alloc: Global, words: &str) -> Result<Pla
     Ok(plan(alloc, owned.as_slice()).expect(rt, "the words have no fault"))
 }
 
-/// A machine with the scanner whose scans it is given, and the words' settings and symbols.
+/// A machine, the scanner whose scans it gets, and the settings and symbols of the arguments.
 #[derive(Drop)]
 pub(crate) struct Stepper {
     plan: Plan,
@@ -32,7 +32,7 @@ pub(crate) struct Stepper {
 }
 
 impl Stepper {
-    /// Under these words, parted by spaces; no line is read.
+    /// Returns a stepper before the first line, for arguments separated by spaces.
     pub(crate) fn new(rt: &impl Abort, alloc: Global, words: &str) -> Result<Stepper, Fail> {
         let plan = planned(rt, alloc, words)?;
         let machine = Machine::new(plan.settings());
@@ -44,7 +44,7 @@ impl Stepper {
         })
     }
 
-    /// Reads the next line, which has this body and ends in a line feed.
+    /// Reads the next line, which has this body and ends in a newline.
     pub(crate) fn step(&mut self, rt: &impl Abort, body: &[u8]) -> Result<Step, SectionFault> {
         assert!(rt; body.len() < LINE_BYTES);
         assert!(rt; is_one_line(body));
@@ -59,7 +59,7 @@ impl Stepper {
         self.machine.step(&scan, &line, self.plan.symbols())
     }
 
-    /// Reads these lines, none of which is faulty: the letters of their verdicts.
+    /// Reads these lines, none of which is faulty. Returns the letters of their verdicts.
     pub(crate) fn steps(
         &mut self,
         rt: &impl Abort,
@@ -74,7 +74,7 @@ impl Stepper {
         Ok(letters)
     }
 
-    /// What the end of the text says.
+    /// Checks the end of the text.
     pub(crate) fn finish(&self) -> Result<(), SectionFault> {
         self.machine.finish(self.scanner.in_comment())
     }
@@ -87,14 +87,14 @@ impl Stepper {
         self.machine.mode()
     }
 
-    /// Reads text lines up to this number at once.
+    /// Skips text lines up to this number.
     pub(crate) fn text(&mut self, last: u32) -> char {
         self.last = last;
         letter(self.machine.step_text(last))
     }
 }
 
-/// Whether no line feed stands among these bytes.
+/// Returns whether these bytes have no newline.
 pub(crate) fn is_one_line(body: &[u8]) -> bool
     ensures { IsTrue result → NoNewline body.now }
 {
@@ -104,7 +104,7 @@ pub(crate) fn is_one_line(body: &[u8]) -> bool
     }
 }
 
-/// A verdict in one letter.
+/// Returns the letter of a verdict.
 pub(crate) fn letter(verdict: Verdict) -> char {
     match verdict {
         Verdict::Keep => 'k',

@@ -4,7 +4,7 @@ use std::process::Abort;
 use std::test::Fail;
 use ud_cond::{Entry, SymbolFault, Symbols};
 
-/// Compares what a table says of a name: its value, and whether it is ignoring.
+/// Compares the table's entry for a name: its value, and whether it is ignoring.
 fn check(rt: &impl Abort, symbols: &Symbols, name: &[u8], value: Option<&[u8]>, ignoring: bool) {
     assert_eq!(rt; symbols.find(name), Some(Entry { value, ignoring }));
 }
@@ -35,7 +35,7 @@ fn a_bad_name_is_refused(rt: HostRuntime) -> Result<(), Fail> {
     Ok(())
 }
 
-/// A name for each number below 1,000.
+/// Returns a name for a number below 1,000.
 fn numbered(number: u16) -> [u8; 4] {
     let digit = |n: u16| b'0' + (n % 10) as u8;
     [b'N', digit(number / 100), digit(number / 10), digit(number)]

@@ -1,4 +1,4 @@
-//! Tests of ud_text: lines from pieces, scans, marks, and many lines at once.
+//! Tests of ud_text: lines from chunks, scans, marks, and skipping text lines.
 #![tactic(auto)]
 
 #[cfg(test)]

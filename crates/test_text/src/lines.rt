@@ -1,4 +1,4 @@
-//! Lines from bytes that come in pieces.
+//! Lines from bytes that come in chunks.
 
 ghost use Rattle.std.specs.Prelude.{◌≡◌, false, OnOk};
 
@@ -6,7 +6,7 @@ use std::process::Abort;
 use std::test::Fail;
 use ud_text::{Line, Lines, ShortLineBuffer, TextFault};
 
-/// A line that ends in a line feed.
+/// Returns a line that ends in a newline.
 fn fed(body: &[u8], number: u32) -> Line<'_> {
     Line {
         body,
@@ -15,12 +15,12 @@ fn fed(body: &[u8], number: u32) -> Line<'_> {
     }
 }
 
-/// Compares a line.
+/// Compares a line with the expected one.
 fn check_line(rt: &impl Abort, line: Line<'_>, expected: Line<'_>) {
     assert_eq!(rt; line, expected);
 }
 
-/// Takes bytes of which so many end a line, and gives that up.
+/// Takes bytes of which the first `used` end a line, and discards that line.
 fn take_line(
     rt: &impl Abort,
     lines: &mut Lines,
@@ -56,7 +56,7 @@ fn take_part(rt: &impl Abort, lines: &mut Lines, piece: &[u8]) -> Result<(), Fai
     Ok(())
 }
 
-/// Takes bytes, which is refused.
+/// Takes bytes, which fails.
 fn take_none(
     rt: &impl Abort,
     lines: &mut Lines,
@@ -74,7 +74,7 @@ fn take_none(
     Ok(())
 }
 
-/// Borrows a line from the piece.
+/// Borrows a line from the chunk.
 fn lend_line(
     rt: &impl Abort,
     lines: &mut Lines,
@@ -157,7 +157,7 @@ fn a_line_past_the_limit_is_refused_at_the_end_too(rt: HostRuntime) -> Result<()
     Ok(())
 }
 
-/// Passes if no line is lent.
+/// Passes if no line is borrowed.
 fn lend_none(lines: &mut Lines, piece: &[u8]) -> Result<(), Fail>
     requires part { lines.old.whole ≡ false }
     requires open { lines.old.closed ≡ false }
@@ -200,12 +200,12 @@ fn a_longer_line_is_refused_and_not_borrowed(rt: HostRuntime) -> Result<(), Fail
     lend_none(&mut lines, &piece)
 }
 
-/// Compares how many bytes in front are whole lines that can be skipped.
+/// Compares the length of the prefix of whole lines that can be consumed.
 fn check_run(rt: &impl Abort, lines: &Lines, piece: &[u8], count: usize) {
     assert_eq!(rt; lines.whole_lines_len(piece), count);
 }
 
-/// Skips the whole lines in front, which have so many bytes.
+/// Consumes the first `count` bytes, which are whole lines.
 fn skip_lines(rt: &impl Abort, lines: &mut Lines, piece: &[u8], count: usize) -> Result<(), Fail>
     requires part { lines.old.whole ≡ false }
     requires open { lines.old.closed ≡ false }

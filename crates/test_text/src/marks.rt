@@ -8,8 +8,8 @@ use ud_text::first_mark;
 /// The bytes at which a comment, a literal or a splice may begin or end.
 const MARKS: [u8; 5] = [b'/', b'*', b'"', b'\'', b'\\'];
 
-/// Passes if a mark is found at each place of so many bytes, whether others come after it or none, and if none is
-/// found where there is none.
+/// Passes if a mark is found at each position of `length` bytes, and if none is found where there
+/// is none.
 fn check_length(length: usize) -> Result<(), Fail>
     requires { length ≤ 300 }
 {
@@ -29,7 +29,7 @@ fn check_length(length: usize) -> Result<(), Fail>
     Ok(())
 }
 
-/// The same where marks stand from the place on.
+/// Passes if the first mark is found, where marks fill the bytes from each position on.
 fn check_marks_to_the_end(length: usize) -> Result<(), Fail>
     requires { length ≤ 300 }
 {

@@ -1,4 +1,5 @@
-//! Many lines at once: against the same lines read one by one, and how far it goes, of which no clause speaks.
+//! Skipping text lines: compared with reading the same lines one after another. Tests how far a
+//! skip goes, of which no clause speaks.
 
 ghost use Rattle.std.specs.Prelude.{◌≡◌, ◌<◌, ◌≤◌, length, take, IfOk};
 ghost use Rattle.ud_model.specs.text.Lines.{NoNewline};
@@ -10,7 +11,7 @@ use ud_model::{LINE_BYTES, Mode};
 use ud_sections::directive;
 use ud_text::{Line, Scanner};
 
-/// What the random texts are made of: all that may matter to a scanner, and some that doesn't.
+/// The parts of the random texts: all that may matter to a scanner, and some that doesn't.
 #[rattlefmt::skip]
 const PIECES: [&[u8]; 32] = [
     b"/*", b"*/", b"//", b"/", b"*", b"\"", b"\"s\"", b"'",
@@ -19,14 +20,14 @@ const PIECES: [&[u8]; 32] = [
     b"\\\n", b"\\\r\n", b"*\\\n/", b"\n", b"\n", b"\n", b"\r\n", b"/* c */",
 ];
 
-/// Numbers that look random, always the same ones.
+/// A source of pseudorandom numbers, the same in each run.
 #[derive(Drop)]
 struct Numbers {
     state: u64,
 }
 
 impl Numbers {
-    /// The next number, below this one.
+    /// Returns the next number, below `count`.
     fn below(&mut self, count: usize) -> usize
         requires { 0 < count }
         ensures { result < count }
@@ -39,7 +40,7 @@ impl Numbers {
     }
 }
 
-/// A text of so many pieces.
+/// Returns a text of `count` parts.
 fn random_text(alloc: Global, numbers: &mut Numbers, count: usize) -> Result<Vec<u8>, AllocError> {
     let mut text = Vec::new(alloc);
     for _ in 0..count {
@@ -48,7 +49,7 @@ fn random_text(alloc: Global, numbers: &mut Numbers, count: usize) -> Result<Vec
     Ok(text)
 }
 
-/// How many bytes stand before the ending of the first line.
+/// Returns the length of the first line without its ending.
 fn body_len(bytes: &[u8]) -> usize
     ensures bound { result ≤ length bytes.now }
     ensures one_line { NoNewline (take result bytes.now) }
@@ -66,7 +67,7 @@ fn body_len(bytes: &[u8]) -> usize
     at
 }
 
-/// The ending in front.
+/// Returns the length of the ending with which `bytes` begins.
 fn ending_len(bytes: &[u8]) -> usize
     ensures { result ≤ length bytes.now }
 {
@@ -79,7 +80,7 @@ fn ending_len(bytes: &[u8]) -> usize
     }
 }
 
-/// A line with an ending of so many bytes.
+/// Returns a line with an ending of `ending` bytes.
 fn line_with(body: &[u8], ending: usize) -> Line<'_>
     ensures { result.body.now ≡ body.now }
 {
@@ -103,7 +104,7 @@ fn line_with(body: &[u8], ending: usize) -> Line<'_>
     }
 }
 
-/// Reads the first line by both scanners, and compares what is seen of it. Answers how many bytes it has.
+/// Reads the first line by both scanners, and compares the scans. Returns the length of the line.
 fn read_alike(
     rt: &impl Abort,
     first: &mut Scanner,
@@ -129,7 +130,7 @@ fn read_alike(
     Ok(end + ending)
 }
 
-/// Reads these whole lines one by one, and sees that they are text. Answers how many they are.
+/// Reads these whole lines one after another, and checks that they are text. Returns their number.
 fn read_text(rt: &impl Abort, scanner: &mut Scanner, lines: &[u8]) -> Result<usize, Fail> {
     let mut rest = lines;
     let mut count: usize = 0;
@@ -154,8 +155,11 @@ fn read_text(rt: &impl Abort, scanner: &mut Scanner, lines: &[u8]) -> Result<usi
     Ok(count)
 }
 
-/// Reads a text in two ways, and compares what is seen: line by line, and by a pass wherever one goes on. Before each
-/// pass up to two lines are read that might be passed, so that passes begin anywhere. Answers how many lines are passed.
+/// Reads a text in two ways, and compares them: line by line, and with a skip wherever one goes
+/// further.
+///
+/// Before each skip, up to two lines are read that might be skipped, so that skips begin anywhere.
+/// Returns the number of lines that were skipped.
 fn walk(rt: &impl Abort, numbers: &mut Numbers, text: &[u8]) -> Result<usize, Fail> {
     let mut passing = Scanner::new();
     let mut reading = Scanner::new();
@@ -191,14 +195,14 @@ fn a_pass_sees_what_reading_sees(rt: HostRuntime) -> Result<(), Fail> {
     Ok(())
 }
 
-/// Passes these lines from the start of a text.
+/// Skips the lines that begin a text, and compares the length that was skipped.
 fn goes(rt: &impl Abort, lines: &[u8], count: usize) {
     assert_eq!(rt; Scanner::new().skip_text(Mode::C, lines), count);
 }
 
-/// Lines, and how many bytes of them are passed from the start of a text.
+/// Lines, and the number of bytes that are skipped from the start of a text.
 const PASSES: &[(&[u8], usize)] = &[
-    // A pass goes through text.
+    // A skip goes through text.
     (b"", 0),
     (b"a\nb\r\nc", 5),
     (b"a /* b\n * c\n */ d\ne\n", 20),
@@ -210,7 +214,7 @@ const PASSES: &[(&[u8], usize)] = &[
     (b"a\n/* b */ /* c */ d\n", 20),
     (b"/* b */ /* c\n */ #\\\n", 13),
     (b"// a \\b\n// \\ \r\nc\n", 17),
-    // A pass goes through splices.
+    // A skip goes through splices.
     (b"a\nb\\\nc\n", 7),
     (b"#define X \\\n  #x /* y */ \\\r\n  # z\nb\n", 36),
     (b"a \\\n", 4),
@@ -218,7 +222,7 @@ const PASSES: &[(&[u8], usize)] = &[
     (b"a /* b */\\\n# if X\n", 18),
     (b"#xy\\\n#else\n", 11),
     (b"a /* b\n*/ \\\n", 12),
-    // A pass stops at a splice that may matter.
+    // A skip stops at a splice that may matter.
     (b"a\n\\\n#if X\n", 2),
     (b"a\n \t\\\r\nb\n", 2),
     (b"a\n/* b */\\\n#if X\n", 2),
@@ -231,7 +235,7 @@ const PASSES: &[(&[u8], usize)] = &[
     (b"a\nb \\\r\r\nc\n", 2),
     (b"a\n#\\\nif\n", 2),
     (b"a\n#el\\\nse\n", 2),
-    // A pass stops at the line that may be none.
+    // A skip stops at a line that may not be text.
     (b"a\n#if X\nb\n", 2),
     (b"/* a\nb\n*/ #if\n", 7),
     (b"/* a\nb\nc", 7),
@@ -249,7 +253,7 @@ fn a_pass_goes_up_to_the_line_that_may_be_none(rt: HostRuntime) -> Result<(), Fa
     Ok(())
 }
 
-/// A line with so many bytes between its beginning and its end.
+/// Returns a line with `count` bytes between `begin` and `end`.
 fn spanning(alloc: Global, begin: &[u8], count: usize, end: &[u8]) -> Result<Vec<u8>, AllocError> {
     let mut line = Vec::new(alloc);
     line.extend_from_slice(begin)?;

@@ -1,11 +1,12 @@
-//! Words: what they make of the status, whose name messages have, and how faulty ones are told.
+//! Arguments: their effect on the exit status, the input's name in messages, and the messages for
+//! faulty ones.
 
 use crate::worked::{Copied, Fault, Row, check, check_copies, check_faults, check_rows};
 use std::test::Fail;
 
 /// Inputs that are copied.
 const COPIES: &[Copied<'_>] = &[
-    // The exit mode says what a change has for status.
+    // The exit mode decides the status of a change.
     ("-x2 -DA", b"x\n"),
     // Messages name the operand.
     ("-DA -- -", b"x\n"),
@@ -13,7 +14,7 @@ const COPIES: &[Copied<'_>] = &[
 
 /// Inputs without a fault.
 const ROWS: &[Row<'_>] = &[
-    // The exit mode says what a change has for status.
+    // The exit mode decides the status of a change.
     ("-x0 -DA", b"#ifdef A\nx\n#else\ny\n#endif\n", b"x\n", 1),
     ("-x1 -DA", b"#ifdef A\nx\n#else\ny\n#endif\n", b"x\n", 0),
     ("-x2 -DA", b"#ifdef A\nx\n#else\ny\n#endif\n", b"x\n", 0),
@@ -31,25 +32,25 @@ const FAULTS: &[Fault<'_>] = &[
     ("-DA -", b"#else\n", b"", "1: Inappropriate #else"),
 ];
 
-/// Words with a fault, and the message.
+/// Arguments with a fault, and the message.
 const REFUSALS: &[(&str, &str)] = &[
-    // An unknown option is told.
+    // An unknown option is reported.
     ("-B", "unifdef: Unknown option -B"),
     ("-B -DA", "unifdef: Unknown option -B"),
     ("--x", "unifdef: Unknown option --"),
     ("-té", "unifdef: Unknown option -é"),
-    // A missing argument is told.
+    // A missing argument is reported.
     ("-D", "unifdef: Option -D needs an argument"),
     ("-tD", "unifdef: Option -D needs an argument"),
-    // A bad symbol is told.
+    // A bad symbol is reported.
     ("-U 1A", "unifdef: Bad symbol in word 2"),
     ("-D 1A -B", "unifdef: Bad symbol in word 2"),
     ("-D -U", "unifdef: Bad symbol in word 2"),
     ("-iX", "unifdef: Bad symbol in word 1"),
-    // A bad exit mode is told.
+    // A bad exit mode is reported.
     ("-x3", "unifdef: Bad exit mode in word 1"),
     ("-x0x", "unifdef: Bad exit mode in word 1"),
-    // A second operand is told.
+    // A second operand is reported.
     ("a b", "unifdef: Too many files"),
     ("-DA - -b", "unifdef: Too many files"),
 ];

@@ -1,11 +1,11 @@
-//! `#elifdef` and `#elifndef`: their conditions, what becomes of them, and their faults.
+//! `#elifdef` and `#elifndef`: their conditions, their verdicts, and their faults.
 
 use crate::worked::{Copied, Fault, Row, check_copies, check_faults, check_rows};
 use std::test::Fail;
 
 /// Inputs that are copied.
 const COPIES: &[Copied<'_>] = &[
-    // An undecided one stays.
+    // An undecided `#elifdef` stays.
     ("-DA", b"#if X\n#elifdef Y\n#elifndef Z\n#endif\n"),
     ("-DA", b"#if X\n1\n#elifdef A B\n2\n#endif\n"),
     ("-DA", b"#if X\n1\n#elifdef\n2\n#elifndef 1\n#endif\n"),
@@ -25,14 +25,14 @@ const ROWS: &[Row<'_>] = &[
     ("-UA -UB", b"#ifdef A\na\n#elifdef B\nb\n#else\nc\n#endif\n", b"c\n", 1),
     ("-UA", b"#if X\n1\n#elifdef A\n2\n#else\n3\n#endif\n", b"#if X\n1\n#else\n3\n#endif\n", 1),
     ("-DA -UB", b"#if X\n1\n#elifndef A\n2\n#elifndef B\n3\n#endif\n", b"#if X\n1\n#else\n3\n#endif\n", 1),
-    // A true one becomes an else and the next the end.
+    // A true one becomes `#else`, and the next directive `#endif`.
     ("-DA", b"#ifdef X\n1\n#elifdef A\n2\n#else\n3\n#endif\n", b"#ifdef X\n1\n#else\n2\n#endif\n", 1),
     ("-DA", b"#if X\n1\n # elifdef A /* t */\n2\n#elifndef Y\n3\n#else\n4\n#endif\n", b"#if X\n1\n # else\n2\n#endif\n", 1),
-    // The first that is left begins the section.
+    // The first one that stays begins the section.
     ("-UA", b"#ifdef A\n1\n#elifndef X\n2\n#endif\n", b"#ifndef   X\n2\n#endif\n", 1),
     ("-UA", b"#ifdef A\n1\n#elifdef X\n2\n#elifndef Y\n3\n#endif\n", b"#ifdef   X\n2\n#elifndef Y\n3\n#endif\n", 1),
     ("-UA", b"#ifdef A\n1\n#elifdef A\n2\n # elifdef X // c\r\n3\n#endif", b" # ifdef   X // c\r\n3\n#endif", 1),
-    // A comment may hang off it.
+    // A comment may continue after it.
     ("-UA", b"#ifdef A\n1\n#elifdef X /* c\n*/\n2\n#endif\n", b"#ifdef   X /* c\n*/\n2\n#endif\n", 1),
     ("-UB -DA", b"#ifdef B\n#if X\n#elifndef A /* x\n*/\n#endif\n#endif\nz\n", b"z\n", 1),
     // It is blanked, numbered and complemented.
@@ -53,15 +53,15 @@ const ROWS: &[Row<'_>] = &[
 /// Inputs with a fault.
 #[rattlefmt::skip]
 const FAULTS: &[Fault<'_>] = &[
-    // A comment may hang off it.
+    // A comment may not continue after it if it would become `#else`.
     ("-DA", b"#if X\n1\n#elifdef A /* c\n*/\n2\n#endif\n", b"#if X\n1\n", "3: Obfuscated preprocessor control line"),
     // It never makes a section plain text.
     ("-iUN", b"#if X\n#elifdef N\n/* a\n#endif\nz\n", b"#if X\n", "5: EOF in comment"),
     ("-iDN", b"#if X\n#elifdef N\n/* a\n#endif\nz\n", b"#if X\n#else\n/* a\n#endif\nz\n", "5: EOF in comment"),
-    // Outside of a section it is inappropriate.
+    // Outside a section it is inappropriate.
     ("-DA", b"#elifdef A\n", b"", "1: Inappropriate #elif"),
     ("-DA", b"#elifndef A", b"", "1: Inappropriate #elif"),
-    // Behind an else it is inappropriate.
+    // After an `#else` it is inappropriate.
     ("-DA", b"#if X\n#else\n#elifdef A\n#endif\n", b"#if X\n#else\n", "3: Inappropriate #elif"),
     ("-UA", b"#ifdef A\n#if X\n#else\n#elifndef Y\n#endif\n#endif\n", b"", "4: Inappropriate #elif"),
     // Its keyword may not be cut.
@@ -70,7 +70,7 @@ const FAULTS: &[Fault<'_>] = &[
     ("-DA", b"# elifndef\\\n X\n", b"", "1: Obfuscated preprocessor control line"),
     ("-DA", b"#elifdef\\\r\n", b"", "1: Obfuscated preprocessor control line"),
     ("-UA", b"#ifdef A\n#elifd\\\nef X\n#endif\n", b"", "2: Obfuscated preprocessor control line"),
-    // A section that ends too early is told with its first line.
+    // A section that ends too early is reported with its first line.
     ("-DA", b"y\n#ifdef X\n#elifdef Y\n#elifndef Z\nx", b"y\n#ifdef X\n#elifdef Y\n#elifndef Z\nx", "5: Premature EOF (#if line 2)"),
 ];
 

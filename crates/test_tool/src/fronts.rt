@@ -1,5 +1,5 @@
-//! Fronts of the worked inputs: on each the tool, fed whole and in two pieces cut at each place, is held against the
-//! reference.
+//! Prefixes of the worked inputs. On each, the tool is fed whole and in two chunks cut at each
+//! position, and compared with the reference.
 
 use crate::worked::{Answer, check_tool};
 use ref_unifdef::answer_to;
@@ -8,10 +8,11 @@ use std::process::Abort;
 use std::test::Fail;
 use test_cases::{ROWS, nested, parted, repeated};
 
-/// Of inputs at a limit only so many last fronts are looked at, and of each only so many last cuts.
+/// The number of last prefixes, and of last cuts in each, that are tried for inputs at a limit.
 const LAST: usize = 8;
 
-/// Compares the tool's answers to a text, fed in two pieces that are cut at each of the last places, with the reference's.
+/// Compares the tool's answers to a text with the reference's. The text is fed in two chunks, cut
+/// at each of the last positions.
 fn check_cuts(
     rt: &(impl Abort + AllocGlobal),
     words: &[String],
@@ -28,7 +29,7 @@ fn check_cuts(
     Ok(())
 }
 
-/// Compares the answers to the last fronts of an input, the whole one among them.
+/// Compares the answers to the last prefixes of an input, the whole one among them.
 fn check_fronts(
     rt: &(impl Abort + AllocGlobal),
     words: &str,
@@ -42,7 +43,7 @@ fn check_fronts(
     Ok(())
 }
 
-/// Words with an input whose sections have conditions by name.
+/// Arguments with an input whose sections have conditions by name.
 const NAMED: [(&str, &[u8]); 4] = [
     ("-DA", b"#ifdef X\n1\n#elifdef A\n2\n#else\n3\n#endif\n"),
     ("-UA -n", b"#ifdef A\n1\n#elifndef X\n2\n#endif"),
@@ -94,7 +95,7 @@ fn fronts_of_the_deepest_sections_are_answered_as_by_the_reference(
     Ok(())
 }
 
-/// Of each line that comes more is held when the next bytes are read.
+/// From line to line, more bytes are buffered when the next chunk is read.
 #[test]
 fn lines_as_long_as_a_piece_are_answered_as_by_the_reference(rt: HostRuntime) -> Result<(), Fail> {
     let owned = parted(rt.alloc(), "-DA")?;

@@ -16,11 +16,11 @@ const ROWS: &[Row<'_>] = &[
     // An open comment ends with an ignoring section.
     ("-iUN", b"#ifndef N\nsee /* open\n#endif\nz\n", b"see /* open\nz\n", 1),
     ("-iUN", b"#ifndef N\na\n#else\n/* b\n#endif\nz\n", b"a\nz\n", 1),
-    // The last word says whether a symbol is ignoring.
+    // The last argument decides whether a symbol is ignoring.
     ("-UN -iUN", b"#ifndef N\nsee /* open\n#endif\nz\n", b"see /* open\nz\n", 1),
     // Sections inside an ignoring one are plain.
     ("-iUN", b"#ifndef N\n#ifdef X\n/* a\n#endif\n#endif\n#ifndef Y\nb\n#endif\n", b"#ifdef X\n/* a\n#endif\n#ifndef Y\nb\n#endif\n", 1),
-    // A section is plain in removed places too.
+    // A section is plain in removed groups too.
     ("-UB -iUN", b"#ifdef B\n#ifdef N\n/* a\n#endif\n#endif\nz\n", b"z\n", 1),
     // A directive that joins the next line is not ignoring.
     ("-UB -iUN", b"#ifdef B\n#ifndef N /* c\n*/\n/* a\n#endif\n*/\n#endif\n#endif\nz\n", b"z\n", 1),
@@ -30,7 +30,7 @@ const ROWS: &[Row<'_>] = &[
 /// Inputs with a fault.
 #[rattlefmt::skip]
 const FAULTS: &[Fault<'_>] = &[
-    // The last word says whether a symbol is ignoring.
+    // The last argument decides whether a symbol is ignoring.
     ("-UN", b"#ifndef N\nsee /* open\n#endif\nz\n", b"see /* open\n#endif\nz\n", "4: EOF in comment"),
     ("-iUN -UN", b"#ifndef N\nsee /* open\n#endif\nz\n", b"see /* open\n#endif\nz\n", "4: EOF in comment"),
 ];

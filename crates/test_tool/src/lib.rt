@@ -1,4 +1,5 @@
-//! Tests of the tool over memory: worked examples with their output, message and status, held against the reference too.
+//! Tests of the tool over memory: worked examples with their output, message and exit status. The
+//! reference is compared with them too.
 #![tactic(auto)]
 
 #[cfg(test)]

@@ -5,7 +5,7 @@ use std::process::Abort;
 use std::test::Fail;
 use test_cases::{nested, repeated};
 
-/// Compares the answer to a line of so many bytes and this ending, and to one that has a byte more.
+/// Compares the answers to a line of `count` bytes and this ending, and to a line of one byte more.
 fn check_longest(rt: &(impl Abort + AllocGlobal), count: usize, ending: &[u8]) -> Result<(), Fail> {
     let body = repeated(rt.alloc(), b"a", count)?;
     let longest = joined(rt.alloc(), &[body.as_slice(), ending])?;
@@ -48,7 +48,7 @@ fn sections_count_in_removed_places_too(rt: HostRuntime) -> Result<(), Fail> {
     check(&rt, "-UA", input.as_slice(), b"", message, 2)
 }
 
-/// Inputs that were refused when a line had 4,096 bytes and 64 sections could be open.
+/// Inputs that failed when a line had 4,096 bytes and 64 sections could be open.
 #[test]
 fn what_passed_the_earlier_limits_is_copied(rt: HostRuntime) -> Result<(), Fail> {
     let body = repeated(rt.alloc(), b"a", 4096)?;

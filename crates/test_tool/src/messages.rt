@@ -1,11 +1,11 @@
-//! What is said of a run, and its status.
+//! The message of a run, and its exit status.
 
 use std::process::Abort;
 use std::test::Fail;
 use ud_diagnostics::{EXIT_TROUBLE, final_result, report_result, report_usage};
 use unifdef::{RunFault, Usage, Watched, plan};
 
-/// Compares what was said, and the status.
+/// Compares the message and the status.
 fn check(rt: &impl Abort, said: &[u8], status: u8, message: &[u8], expected: u8) {
     assert!(rt; said == message);
     assert_eq!(rt; status, expected);

@@ -9,7 +9,7 @@ const COPIES: &[Copied<'_>] = &[
     ("-t -DA", b"#if\\\n#endif\n"),
     // An unlisted symbol decides nothing.
     ("-t -DA -UB", b"#ifdef C\nx\n#endif\n"),
-    // A comment behind the name leaves the section.
+    // A comment after the name leaves the section.
     ("-t -DA", b"#ifdef A /* c */\n#endif\n"),
 ];
 
@@ -26,7 +26,7 @@ const ROWS: &[Row<'_>] = &[
 
 /// Inputs with a fault.
 const FAULTS: &[Fault<'_>] = &[
-    // Faults are told in plain text too.
+    // Faults are reported in plain text too.
     ("-t", b"x\n#endif\n", b"x\n", "2: Inappropriate #endif"),
 ];
 

@@ -1,5 +1,5 @@
-//! Runs of lines: the tool, fed in pieces of each small size, held against the reference on texts whose stops stand at the
-//! borders of lanes; and what is printed of long runs.
+//! Runs of lines. The tool, fed in chunks of each small size, is compared with the reference on
+//! texts whose stops are at the borders of SIMD lanes. The output for long runs is checked too.
 
 use crate::worked::{Answer, check, check_tool, joined};
 use ref_unifdef::answer_to;
@@ -8,7 +8,7 @@ use std::process::Abort;
 use std::test::Fail;
 use test_cases::{Source, parted, repeated};
 
-/// What stops a run, and what only looks so, each to stand after some plain bytes of its line.
+/// Bytes that stop a run, and some that only seem to, each after some plain bytes of its line.
 const STOPS: [&[u8]; 26] = [
     b"/* c */",
     b"/* c\n * d\n */ e",
@@ -38,15 +38,16 @@ const STOPS: [&[u8]; 26] = [
     b"*/ *\\",
 ];
 
-/// The words of the runs, in turn.
+/// The arguments of the runs, in turn.
 const WORDS: [&str; 7] = ["", "-t", "-b", "-n", "-c", "-s", "-c -n"];
 
-/// How many plain bytes stand before each stop: about none, and about a border of 16, 32, 64 and 128 lanes.
+/// The numbers of plain bytes before each stop: about none, and about a border of 16, 32, 64 and
+/// 128 lanes.
 const LEADS: [usize; 17] = [
     0, 1, 2, 14, 15, 16, 17, 30, 31, 32, 33, 62, 63, 64, 65, 127, 128,
 ];
 
-/// All stops, each after so many plain bytes, in two sections of which one is removed.
+/// Returns all stops, each after `lead` plain bytes, in two sections of which one is removed.
 fn dense_text(alloc: Global, lead: usize) -> Result<Vec<u8>, AllocError> {
     let mut text = Vec::new(alloc);
     for section in [b"#ifdef A\n", b"#ifdef B\n"] {
@@ -65,7 +66,7 @@ fn dense_text(alloc: Global, lead: usize) -> Result<Vec<u8>, AllocError> {
     Ok(text)
 }
 
-/// Compares the tool's answer where it reads pieces of this size.
+/// Compares the tool's answer if it reads chunks of this size.
 fn check_pieces(
     rt: &(impl Abort + AllocGlobal),
     words: &[String],
@@ -82,8 +83,8 @@ fn check_pieces(
     Ok(())
 }
 
-/// Compares the answers to these words: the tool reads pieces of 8,192 bytes, and of each size from 1 to 70 bytes whose
-/// turn it is.
+/// Compares the answers to these arguments. The tool reads chunks of 8,192 bytes, and of each size
+/// from 1 to 70 bytes whose turn it is.
 fn check_turn(
     rt: &(impl Abort + AllocGlobal),
     words: &[String],
@@ -101,7 +102,7 @@ fn check_turn(
     Ok(())
 }
 
-/// Compares the answers to a text under each of the words.
+/// Compares the answers to a text with each of the arguments.
 fn check_sizes(
     rt: &(impl Abort + AllocGlobal),
     symbols: &str,

@@ -1,17 +1,17 @@
-//! Comments, literals and continuations, as they hide directives from the tool.
+//! Comments, literals and continuations, which hide directives from the tool.
 
 use crate::worked::{Copied, Row, check_copies, check_rows};
 use std::test::Fail;
 
 /// Inputs that are copied.
 const COPIES: &[Copied<'_>] = &[
-    // A directive may stand behind a comment across a splice.
+    // A directive may come after a comment across a splice.
     ("-DA", b"/\\\n* c */ #ifdef X\n#endif\n"),
     // A splice joins a directive to the text before it.
     ("-DA", b"\"a\\\n#ifdef A\n"),
     ("-DA", b"a\\\r\n#ifdef A\r\n"),
     ("-DA", b"// a\\\n#ifdef A\n"),
-    // A nul is an ordinary byte.
+    // A NUL is an ordinary byte.
     ("-DA", b"#ifdef A\0\n#endif\n"),
 ];
 
@@ -20,9 +20,9 @@ const COPIES: &[Copied<'_>] = &[
 const ROWS: &[Row<'_>] = &[
     // A comment may begin and end across splices.
     ("-DA", b"/\\\n* c\n#ifdef A\n*\\\n/\n#ifdef A\nx\n#endif\n", b"/\\\n* c\n#ifdef A\n*\\\n/\nx\n", 1),
-    // A directive over two lines goes with its group.
+    // A directive over two lines is removed with its group.
     ("-UB -DA", b"#ifdef B\n#ifdef A /* x\n*/\n#endif\n#endif\nz\n", b"z\n", 1),
-    // Quotes hide comments and end with their line.
+    // Quotes hide comments, and end with their line.
     ("-DA", b"char *s = \"/*\";\n#error don't\n#ifdef A\nx\n#endif\n", b"char *s = \"/*\";\n#error don't\nx\n", 1),
     ("-DA", b"\"/*\n#ifdef A\nx\n#endif\n", b"\"/*\nx\n", 1),
     // A backslash before a carriage return is no splice.

@@ -1,4 +1,4 @@
-//! Runs of the tool over memory, held against what they have to answer.
+//! Runs of the tool over memory, compared with their expected answers.
 
 use ref_unifdef::answer_to;
 use std::alloc::{AllocError, Global};
@@ -8,17 +8,18 @@ use std::test::Fail;
 use test_cases::{Sink, Source, parted};
 use unifdef::{Watched, tool};
 
-/// Words, parted by spaces, and an input that is copied.
+/// Arguments, separated by spaces, and an input that is copied.
 pub(crate) type Copied<'a> = (&'a str, &'a [u8]);
 
-/// Words, parted by spaces, an input without a fault, what is left of it, and the status.
+/// Arguments, separated by spaces, an input without a fault, the output for it, and the exit
+/// status.
 pub(crate) type Row<'a> = (&'a str, &'a [u8], &'a [u8], u8);
 
-/// Words, parted by spaces, an input with a fault, what is left of the lines before the fault, and what the message says
-/// after the name of standard input.
+/// Arguments, separated by spaces, an input with a fault, the output for the lines before the
+/// fault, and the message after the input's name.
 pub(crate) type Fault<'a> = (&'a str, &'a [u8], &'a [u8], &'a str);
 
-/// What a run writes, says and answers.
+/// The output, the message and the exit status of a run.
 #[derive(Clone, Copy, Debug, PartialEq, Eq)]
 pub(crate) struct Answer<'a> {
     pub output: &'a [u8],
@@ -27,7 +28,7 @@ pub(crate) struct Answer<'a> {
 }
 
 impl Answer<'_> {
-    /// That of the reference.
+    /// Returns the reference's answer.
     pub(crate) fn of(answer: &ref_unifdef::Answer) -> Answer<'_> {
         Answer {
             output: answer.output.as_slice(),
@@ -37,7 +38,7 @@ impl Answer<'_> {
     }
 }
 
-/// Compares the answer to each of these words and its input.
+/// Compares the answers to arguments and inputs that are copied.
 pub(crate) fn check_copies(
     rt: &(impl Abort + AllocGlobal),
     rows: &[Copied<'_>],
@@ -56,7 +57,7 @@ pub(crate) fn check_rows(rt: &(impl Abort + AllocGlobal), rows: &[Row<'_>]) -> R
     Ok(())
 }
 
-/// Compares the answer of each row, whose status is 2.
+/// Compares the answer of each row, whose exit status is 2.
 pub(crate) fn check_faults(
     rt: &(impl Abort + AllocGlobal),
     rows: &[Fault<'_>],
@@ -68,7 +69,7 @@ pub(crate) fn check_faults(
     Ok(())
 }
 
-/// Compares an answer that has the input for its output, and nothing to say.
+/// Compares an answer whose output is the input, without a message.
 pub(crate) fn check_copy(
     rt: &(impl Abort + AllocGlobal),
     words: &str,
@@ -77,9 +78,10 @@ pub(crate) fn check_copy(
     check(rt, words, input, input, "", 0)
 }
 
-/// Compares the answer to these words, parted by spaces, and this input: that of the reference, and the tool's where it
-/// reads the input in one piece, in pieces of two sizes, and byte by byte. The message lacks its line feed, and is empty
-/// where there is none.
+/// Compares the answers to these arguments and this input: the reference's, and the tool's. The
+/// tool reads the input in one chunk, in chunks of two sizes, and byte by byte.
+///
+/// `message` lacks its newline, and is empty if there is none.
 pub(crate) fn check(
     rt: &(impl Abort + AllocGlobal),
     words: &str,
@@ -107,7 +109,7 @@ pub(crate) fn check(
     Ok(())
 }
 
-/// Compares the tool's answer to what this reader gives, where each write takes at most so many bytes.
+/// Compares the tool's answer for this reader, if each write accepts at most `step` bytes.
 pub(crate) fn check_tool<R: Read + Drop>(
     rt: &(impl Abort + AllocGlobal),
     words: &[String],
@@ -145,7 +147,7 @@ fn check_reference(
     Ok(())
 }
 
-/// A message with its line feed; nothing where there is none.
+/// Returns a message with its newline; nothing if there is none.
 fn with_feed(alloc: Global, message: &str) -> Result<Vec<u8>, AllocError> {
     let mut bytes = Vec::new(alloc);
     if !message.is_empty() {
@@ -155,7 +157,7 @@ fn with_feed(alloc: Global, message: &str) -> Result<Vec<u8>, AllocError> {
     Ok(bytes)
 }
 
-/// These texts one after another.
+/// Returns these texts one after another.
 pub(crate) fn joined(alloc: Global, parts: &[&[u8]]) -> Result<Vec<u8>, AllocError> {
     let mut text = Vec::new(alloc);
     for part in parts {

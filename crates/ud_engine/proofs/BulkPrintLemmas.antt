@@ -1,4 +1,4 @@
--- What a printer of lines stands for once it has printed many text lines at once.
+-- The state of a line processor after many text lines at once.
 use Rattle.std.proofs.Common.{◌≡◌, ℕ, suc, ◌<◌, List, [], ◌∷◌, ◌++◌, length, map, Bool, true, false, not, bytes_eq, ◌||◌, None, refl, sym, ◌∙◌, ap, ap₂, subst, append_assoc, append-nil, arith}
 use Rattle.std.specs.List.{concat}
 use Rattle.std.proofs.lemmas.List.Folds.{concat-append}
@@ -31,7 +31,7 @@ judged_line-append (x ∷ xs) ys [] ns e = cc
 judged_line-append (x ∷ xs) ys (m ∷ ms) ns e =
     ap (λ js. judged_line x m ∷ js) (judged_line-append xs ys ms ns (let h : suc (length ms) ≡ suc (length xs) = e in omega (arith, h)))
 
--- the pieces of lines after others follow theirs
+-- The pieces of lines after others follow the pieces of those.
 pieces_by-append : (piece : List Judged → Judged → List ℕ) (before js ks : List Judged) →
     pieces_by piece before (js ++ ks) ≡ pieces_by piece before js ++ pieces_by piece (before ++ js) ks
 pieces_by-append piece before [] ks = ap (λ bs. pieces_by piece bs ks) (sym (append-nil before))
@@ -40,7 +40,7 @@ pieces_by-append piece before (j ∷ js) ks =
     (pieces_by-append piece (before ++ j ∷ []) js ks
     ∙ ap (λ bs. pieces_by piece (before ++ j ∷ []) js ++ pieces_by piece bs ks) (append_assoc before (j ∷ []) js))
 
--- one of them differs, or one of the others does
+-- Some line of both differs, if one of the first or one of the others does.
 differ-append : (piece : List Judged → Judged → List ℕ) (before js ks : List Judged) (ps : List (List ℕ)) →
     some_other (pieces_by piece before js ++ ps) (js ++ ks) ≡ (some_other (pieces_by piece before js) js || some_other ps ks)
 differ-append piece before [] ks ps = refl
@@ -57,12 +57,12 @@ pieces_by-same : (f g : List Judged → Judged → List ℕ) → ((before : List
 pieces_by-same f g e before [] = refl
 pieces_by-same f g e before (j ∷ js) = ap₂ (λ p ps. p ∷ ps) (e before j) (pieces_by-same f g e (before ++ j ∷ []) js)
 
--- lines that are printed as they are don't differ
+-- Copied lines don't differ.
 pub kept_same : (verdict : Verdict) (ls : List Line) → some_other (map text_of ls) (map (judged_text verdict) ls) ≡ false
 kept_same verdict [] = refl
 kept_same verdict (l ∷ ls) = ap₂ (λ b d. not b || d) ((bytes_eq-Decides (text_of l) (text_of l)).1 refl) (kept_same verdict ls)
 
--- whole lines of which nothing is printed do
+-- Dropped whole lines differ.
 pub dropped_differ : (verdict : Verdict) (n : ℕ) (bytes : List ℕ) → AreWholeLines bytes → 0 < length bytes →
     some_other (map (λ (l : Line). []) (numbered_from n (whole_lines bytes))) (map (judged_text verdict) (numbered_from n (whole_lines bytes))) ≡ true
 dropped_differ verdict n bytes ends some = by_lines (whole_lines bytes) (ended_lines bytes ends) (are_whole bytes)
@@ -79,11 +79,11 @@ dropped_differ verdict n bytes ends some = by_lines (whole_lines bytes) (ended_l
         (text_of-line_at n l ∙ whole.0.2)
         ∙ some_text whole.0.0 (some_other (map (λ (k : Line). []) (numbered_from (suc n) ls)) (map (judged_text verdict) (numbered_from (suc n) ls)))
 
--- what is printed of whole lines as they are
+-- The output for copied whole lines.
 pub kept_text : (n : ℕ) (bytes : List ℕ) → AreWholeLines bytes → concat (map text_of (numbered_from n (whole_lines bytes))) ≡ bytes
 kept_text n bytes ends = ap concat (map-numbered_from n (whole_lines bytes)) ∙ sym (ended_lines bytes ends)
 
--- or if nothing is printed of them
+-- The output for dropped lines.
 pub dropped_text : (ls : List Line) → concat (map (λ (l : Line). []) ls) ≡ []
 dropped_text [] = refl
 dropped_text (l ∷ ls) = dropped_text ls
@@ -98,7 +98,7 @@ or_some false = refl
 
 module _ {S : Type 0} (stands : S → List Judged → Type 0) (piece_of : S → List Judged → Judged → List ℕ) (o : Options)
     (piece : List Judged → Judged → List ℕ) (xs : List (Item Reading)) (t : Tree Reading) (p : LineProcessor S) (h : ProcessorRepresents stands piece_of p o piece xs t) where
-  -- no line is printed
+  -- No line is printed.
   pub prints_none : (n : ℕ) → PrintsBulk stands piece_of p o piece xs t (numbered_from n (whole_lines [])) []
   unfolding split_lines
   prints_none n = record {
@@ -109,7 +109,7 @@ module _ {S : Type 0} (stands : S → List Judged → Type 0) (piece_of : S → 
     is_more = ap (λ ys. text_by o.settings.listing piece ys t) (append-nil xs) ∙ sym (append-nil (text_by o.settings.listing piece xs t));
   }
 
-  -- of each of these lines this is printed
+  -- The output for each of these lines is `own`.
   pub prints_run : (q : LineProcessor S) (ls : List Line) (verdict : Verdict) (own : Line → List ℕ) (other : Bool) (more : List ℕ) → p.lister ≡ None → q.lister ≡ p.lister →
       q.printer ≡ p.printer → q.differs ≡ (p.differs || other) → DecidesBulk o q.decider xs t ls verdict → PrintsEach (stands p.printer) (piece_of p.printer) verdict own →
       some_other (map own ls) (map (judged_text verdict) ls) ≡ other → concat (map own ls) ≡ more → PrintsBulk stands piece_of q o piece xs t ls more
@@ -146,11 +146,11 @@ module _ {S : Type 0} (stands : S → List Judged → Type 0) (piece_of : S → 
             ∙ ap (λ x. concat (pieces_by piece [] before) ++ x) joined);
       }
 
--- no bytes have no lines
+-- No bytes have no lines.
 pub no_lines : (n : ℕ) → numbered_from n (whole_lines []) ≡ []
 unfolding split_lines
 no_lines n = refl
 
--- of which nothing is printed, and none differs
+-- No lines have no output, and none differs.
 pub none_other : (verdict : Verdict) (own : Line → List ℕ) (ls : List Line) → ls ≡ [] → some_other (map own ls) (map (judged_text verdict) ls) ≡ false
 none_other verdict own ls e = ap (λ ks. some_other (map own ks) (map (judged_text verdict) ks)) e

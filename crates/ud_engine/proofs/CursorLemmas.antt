@@ -1,4 +1,4 @@
--- Steps over many lines: what they leave of an engine.
+-- Steps over many lines: the engine's state after them.
 use Rattle.std.proofs.Common.{◌≡◌, ℕ, suc, ◌+◌, ◌-◌, ◌<◌, ◌≤◌, Bool, true, false, if◌then◌else◌, List, [], ◌++◌, length, take, drop, Option, refl, sym, ◌∙◌, ap, ap₂, subst, append_assoc, append-nil, arith}
 use Rattle.std.proofs.lemmas.List.{map-append, take-take}
 use Rattle.std.proofs.Math.ListN.{length-take, length-drop}
@@ -25,7 +25,7 @@ use Rattle.ud_io.proofs.BufferingLemmas.{appends_all_but_none}
 use Rattle.ud_engine.proofs.StepLemmas.{between_none, between_more}
 use Rattle.ud_engine.proofs.LinePartLemmas.{before_is, rest_is, split_lines-front_of}
 
--- lines that are skipped leave nothing that is held
+-- Skipped lines leave nothing buffered.
 pub open_skipped : (lines new : LinesState) (bytes : List ℕ) → new ≡ consumed lines bytes → IsOpen lines → IsOpen new
 open_skipped lines new bytes is h = record {
   part = ap (λ (k : LinesState). k.whole) is ∙ h.part;
@@ -35,7 +35,7 @@ open_skipped lines new bytes is h = record {
   no_newline = subst (λ (x : List ℕ). NoNewline x) (sym (ap (λ (k : LinesState). k.held) is)) h.no_newline;
 }
 
--- of the lines up to a place, those after the first ones can be skipped after these
+-- After the first of some lines that can be consumed, the others can be consumed.
 pub ready_after : (lines new : LinesState) (bytes : List ℕ) (at end whole : ℕ) → at ≤ end → end < whole → CanConsume lines (slice_between bytes at whole) →
     AreWholeLines (slice_between bytes at end) → new ≡ consumed lines (slice_between bytes at end) → CanConsume new (slice_between bytes end whole)
 ready_after lines new bytes at end whole ordered later can ends is =
@@ -43,7 +43,7 @@ ready_after lines new bytes at end whole ordered later can ends is =
     (can_consume_rest lines (slice_between bytes at end) (slice_between bytes end whole) ends
     (subst (CanConsume lines) (between_more bytes at end whole ordered (omega (arith, later))) can))
 
--- the front of a piece up to its first line feed is one line
+-- The prefix of a chunk up to its first newline is one line.
 pub one_line_front : (rest : List ℕ) (used : ℕ) → UpToNewline rest used true → (AreWholeLines (take used rest)) × (length (whole_lines (take used rest)) ≡ 1)
 unfolding split_lines
 one_line_front rest used to =
@@ -56,11 +56,11 @@ flag_small : (b : Bool) → (if b then 0 else 1) ≤ 1
 flag_small true = omega arith
 flag_small false = omega arith
 
--- after a line less is left to do
+-- After a line, less is left to do.
 pub line_done : (bytes : List ℕ) (r next : Cursor) → r.pos < next.pos → next.pos ≤ length bytes → measure bytes next < measure bytes r
 line_done bytes r next forth within = let f = flag_small next.bulk_tried in omega (arith, forth, within, f)
 
--- or after lines were tried
+-- After a try to skip text, less is left to do.
 pub tried_done : (bytes : List ℕ) (r next : Cursor) → r.bulk_tried ≡ false → next.bulk_tried ≡ true → r.pos ≤ next.pos → measure bytes next < measure bytes r
 tried_done bytes r next untried tried forth =
     let flag : Bool → ℕ = λ b. if b then 0 else 1 in
@@ -78,7 +78,7 @@ module _ {S : Type 0} (stands : S → List Judged → Type 0) (piece_of : S → 
       ∙ numbered_from-append 1 (whole_lines text) (whole_lines bytes)
       ∙ ap (λ n. lines_so_far text ++ numbered_from n (whole_lines bytes)) (let b = before_is stands piece_of o piece e text printed h in omega (arith, b))
 
-  -- so many lines more were taken
+  -- The lines of `bytes` were also taken.
   pub run_taken : EngineRepresentsBuffered stands piece_of f o piece (text ++ bytes) (printed ++ more)
   run_taken = record {
     items = h.items ++ prints.items;
@@ -98,10 +98,10 @@ module _ {S : Type 0} (stands : S → List Judged → Type 0) (piece_of : S → 
         let z = ap (λ (k : LinesState). k.before) given_up in let n = can.numbered in let m = h.opened.limit in omega (arith, z, n, m);
   }
 
--- lines that were passed in a piece
+-- Skipped lines in a chunk.
 module _ {S : Type 0} (stands : S → List Judged → Type 0) (piece_of : S → List Judged → Judged → List ℕ) (o : Options) (piece : List Judged → Judged → List ℕ)
     (text printed : List ℕ) (a b : Option (List ℕ)) (f : EngineState S) (g : List ℕ) (bytes : List ℕ) (from at end : ℕ) (ordered : from ≤ at) (later : at ≤ end) where
-  -- lines that stay as they are lengthen the run
+  -- Copied lines extend the pending bytes.
   pub run_kept : EngineRepresentsBuffered stands piece_of f o piece (text ++ slice_between bytes at end) (printed ++ slice_between bytes at end) → f.buffered ≡ g →
       Advances stands piece_of f o piece text printed (slice_between bytes at end) a a (g ++ slice_between bytes from at) (f.buffered ++ slice_between bytes from end)
   run_kept taken same =
@@ -113,7 +113,7 @@ module _ {S : Type 0} (stands : S → List Judged → Type 0) (piece_of : S → 
         sent = subst (λ x. AppendsAllBut a a ((g ++ slice_between bytes from at) ++ slice_between bytes at end) x) (sym joined) (appends_all_but_none a ((g ++ slice_between bytes from at) ++ slice_between bytes at end));
       }
 
-  -- before lines that are removed the run is put
+  -- Before dropped lines, the pending bytes are appended.
   pub run_dropped : EngineRepresentsBuffered stands piece_of f o piece (text ++ slice_between bytes at end) (printed ++ []) → AppendsAllBut a b (g ++ slice_between bytes from at) f.buffered →
       Advances stands piece_of f o piece text printed (slice_between bytes at end) a b (g ++ slice_between bytes from at) (f.buffered ++ slice_between bytes end end)
   run_dropped taken sent = record {
@@ -124,13 +124,13 @@ module _ {S : Type 0} (stands : S → List Judged → Type 0) (piece_of : S → 
         (subst (λ x. AppendsAllBut a b x f.buffered) (sym (append-nil (g ++ slice_between bytes from at))) sent);
   }
 
--- the first bytes of those up to a place
+-- The first bytes of a slice are a slice.
 pub first_between : (bytes : List ℕ) (at whole n : ℕ) → n ≤ length (slice_between bytes at whole) → take n (slice_between bytes at whole) ≡ slice_between bytes at (at + n)
 first_between bytes at whole n h =
     let k = length-take (whole - at) (drop at bytes) in
     take-take n (whole - at) (drop at bytes) (omega (arith, h, k)) ∙ ap (λ i. take i (drop at bytes)) (let e : n ≡ (at + n) - at = omega arith in e)
 
--- a place after lines that were passed, up to which the bytes from here are to be written as they are
+-- The cursor after skipped lines, with the bytes from `pending_start` pending.
 module _ (room : ℕ) (lines new : LinesState) (bytes : List ℕ) (r : Cursor) (place : IsCursor room lines bytes r) (some : r.pos < r.whole_end) (n : ℕ)
     (within : n ≤ length (slice_between bytes r.pos r.whole_end)) (ends : AreWholeLines (take n (slice_between bytes r.pos r.whole_end)))
     (given_up : new ≡ consumed lines (take n (slice_between bytes r.pos r.whole_end))) where
@@ -150,7 +150,7 @@ module _ (room : ℕ) (lines new : LinesState) (bytes : List ℕ) (r : Cursor) (
     fits = λ small. let f = place.fits small in let z = ap (λ (k : LinesState). length k.held) given_up in omega (arith, f, z);
   }
 
--- a place after a line
+-- The cursor after a line.
 pub place_after_line : (room : ℕ) (lines new : LinesState) (bytes rest : List ℕ) (r : Cursor) → rest ≡ drop r.pos bytes → IsCursor room lines bytes r → (l : Line) →
     CanBorrow lines rest (length (text_of l)) → (end : ℕ) → end ≡ r.pos + length (text_of l) → new ≡ record lines { before = lines.before + 1 } →
     (from : ℕ) → from ≤ end → IsCursor room new bytes (record { pending_start = from; pos = end; whole_end = r.whole_end; bulk_tried = false })
@@ -167,7 +167,7 @@ place_after_line room lines new bytes rest r rest_from place l lends end ends co
       fits = λ small. let f = place.fits small in let z = ap (λ (k : LinesState). length k.held) counted in omega (arith, f, z, ends);
     }
 
--- so many lines more were taken
+-- The skipped lines were also taken.
 module _ {S : Type 0} (stands : S → List Judged → Type 0) (piece_of : S → List Judged → Judged → List ℕ) (o : Options) (piece : List Judged → Judged → List ℕ)
     (e f : EngineState S) (text printed : List ℕ) (h : EngineRepresentsBuffered stands piece_of e o piece text printed) (bytes : List ℕ) (at whole : ℕ) (passed : SkippedText)
     (can : CanConsume e.lines (slice_between bytes at whole)) (within : passed.count ≤ length (slice_between bytes at whole))
@@ -190,13 +190,13 @@ module _ {S : Type 0} (stands : S → List Judged → Type 0) (piece_of : S → 
       is lines_taken)
 
   module _ (a b : Option (List ℕ)) (from : ℕ) (ordered : from ≤ at) where
-    -- lines that stay as they are lengthen the run
+    -- Copied lines extend the pending bytes.
     pub passed_kept : passed.kept ≡ true → f.buffered ≡ e.buffered →
         Advances stands piece_of f o piece text printed (slice_between bytes at (at + passed.count)) a a (e.buffered ++ slice_between bytes from at) (f.buffered ++ slice_between bytes from (at + passed.count))
     passed_kept kept same =
         run_kept stands piece_of o piece text printed a a f e.buffered bytes from at (at + passed.count) ordered (omega arith) (taken_as true kept) same
 
-    -- before lines that are removed the run is put
+    -- Before dropped lines, the pending bytes are appended.
     pub passed_dropped : passed.kept ≡ false → AppendsAllBut a b (e.buffered ++ slice_between bytes from at) f.buffered →
         Advances stands piece_of f o piece text printed (slice_between bytes at (at + passed.count)) a b (e.buffered ++ slice_between bytes from at)
         (f.buffered ++ slice_between bytes (at + passed.count) (at + passed.count))

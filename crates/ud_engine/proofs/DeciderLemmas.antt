@@ -1,4 +1,4 @@
--- What a reader stands for once it has read a line.
+-- The state of a line decider after a line.
 use Rattle.std.proofs.Common.{◌≡◌, List, [], ◌∷◌, ◌++◌, map, Result, Ok, Err, None, IfOk, OnOk, sym, ◌∙◌, ap, subst}
 use Rattle.ud_model.specs.text.Lines.{Line}
 use Rattle.ud_model.specs.text.Scans.{Reading}
@@ -15,7 +15,7 @@ use Rattle.ud_engine.specs.declared.line_decider.LineDecider.{LineDecider as The
 use Rattle.ud_engine.specs.DecidedLines.{DeciderRepresents, DecidesLine}
 
 module _ (o : Options) (new : TheReader) (xs : List (Item Reading)) (t : Tree Reading) (l : Line) (mode : Mode) (m : mode ≡ mode_after o t) where
-  -- the scanner and the machine have read the line
+  -- The scanner and the machine have read the line.
   pub has_next : (u : Tree Reading) → MachineRepresents new.machine o (xs ++ next_item o xs t l ∷ []) u → machine_fault new.machine ≡ None →
       ScannerRepresents new.scanner (map reading_of xs ++ next_reading (map reading_of xs) mode l ∷ []) → DeciderRepresents o new (xs ++ next_item o xs t l ∷ []) u
   has_next u read unrefused carries = record {

@@ -1,4 +1,4 @@
--- Ending: what the end of a text leaves of an engine.
+-- Ending: the engine's state at the end of a text.
 use Rattle.std.proofs.Common.{◌≡◌, ℕ, suc, ◌<◌, Bool, true, false, List, [], ◌∷◌, ◌++◌, length, Option, Some, None, refl, sym, ◌∙◌, ap, subst, append-nil, arith}
 use Rattle.std.specs.Io.KnownBytes.{Appends}
 use Rattle.std.proofs.KnownBytes.{Appends-nil}
@@ -25,7 +25,7 @@ use Rattle.ud_io.specs.Watched.{WatchedState, AppendsPrefix}
 use Rattle.ud_io.proofs.BufferingLemmas.{appends_all_but_then_front, appends_all_but_part}
 use Rattle.ud_engine.proofs.LinePartLemmas.{before_is, rest_is}
 
--- a rest of no bytes is no line
+-- An empty rest is no line.
 no_last : (r : List ℕ) → (0 < length r → ⊥) → last_line r ≡ []
 no_last [] none = refl
 no_last (b ∷ bs) none = absurd (none (omega arith))
@@ -35,7 +35,7 @@ module _ {S : Type 0} (stands : S → List Judged → Type 0) (piece_of : S → 
   abbrev h : EngineRepresentsBuffered stands piece_of e o piece text printed
   h = fed.taken
 
-  -- the same engine, by its parts
+  -- The engine by its parts.
   pub rests : (symbols : List Argument) → symbols ≡ e.symbols → EngineRepresents stands piece_of (without_fault symbols e.lines e.printer e.buffered) o piece text printed
   rests symbols same = record {
     taken = record {
@@ -55,7 +55,7 @@ module _ {S : Type 0} (stands : S → List Judged → Type 0) (piece_of : S → 
     written = fed.written;
   }
 
-  -- if nothing is held, all lines are read
+  -- If nothing is buffered, all lines are read.
   pub all_read : (0 < length e.lines.held → ⊥) → lines_of text ≡ lines_so_far text
   all_read none =
       ap (numbered_from 1)
@@ -74,7 +74,7 @@ module _ {S : Type 0} (stands : S → List Judged → Type 0) (piece_of : S → 
   }
 
   module _ (some : 0 < length e.lines.held) (lines : LinesState) (closed : lines ≡ record e.lines { closed = true }) (l : Line) (is : l ≡ line_at (suc lines.before) lines.held) where
-    -- what is held is the last line
+    -- The buffered bytes are the last line.
     pub last_is : lines_of text ≡ lines_so_far text ++ l ∷ []
     last_is =
         ap (numbered_from 1)
@@ -95,7 +95,7 @@ module _ {S : Type 0} (stands : S → List Judged → Type 0) (piece_of : S → 
       last_sent : AppendsAllBut a b prints.more left
       last_sent = subst (λ x. AppendsAllBut a b (x ++ ([] ++ prints.more)) left) fed.written prints.goes
 
-      -- the last line is printed, and all is written
+      -- The last line is printed, and all output is written.
       pub last_printed : (c : Option (List ℕ)) → AppendsAllBut b c left [] → PrintsAll stands piece_of p o piece text printed a c
       last_printed c s = record {
         items = h.items ++ next_item o h.items h.tree l ∷ [];
@@ -110,7 +110,7 @@ module _ {S : Type 0} (stands : S → List Judged → Type 0) (piece_of : S → 
             subst (λ x. Appends a c x) (sym (all.joined ∙ append-nil all.front)) all.appended;
       }
 
-      -- a write fails after it is printed
+      -- A write fails after the last line is printed.
       pub last_cut : (c : Option (List ℕ)) → AppendsPrefix b c left → FinishTruncated o piece text printed a c
       last_cut c front = record {
         items = h.items ++ next_item o h.items h.tree l ∷ [];
@@ -123,7 +123,7 @@ module _ {S : Type 0} (stands : S → List Judged → Type 0) (piece_of : S → 
             (appends_all_but_then_front a b c prints.more left [] last_sent (subst (λ x. AppendsPrefix b c x) (sym (append-nil left)) front));
       }
 
-    -- the last line is faulty, or a write fails
+    -- The last line is faulty, or a write fails.
     pub last_fails : {W : Type 0} (contents : W → Option (List ℕ)) (old new : WatchedState W) (buffered left : List ℕ) → buffered ≡ [] → old.failed ≡ false → (f : RunFault) →
         PrintErr o piece h.items h.tree l (contents old.inner) (contents new.inner) buffered [] f → OutputUnchanged old new buffered left f →
         FinishErr o piece new.failed (contents old.inner) (contents new.inner) text printed f
@@ -160,7 +160,7 @@ module _ {S : Type 0} (stands : S → List Judged → Type 0) (piece_of : S → 
 
 module _ {S : Type 0} (stands : S → List Judged → Type 0) (piece_of : S → List Judged → Judged → List ℕ) (p : LineProcessor S) (o : Options) (piece : List Judged → Judged → List ℕ)
     (text printed : List ℕ) (a b : Option (List ℕ)) (all : PrintsAll stands piece_of p o piece text printed a b) where
-  -- the end is faulty
+  -- The end has a fault.
   pub ends_at : (f : Fault) → Some f ≡ end_fault all.items all.tree → FinishFault o piece text printed a b f
   ends_at f e = record {
     items = all.items;
@@ -171,7 +171,7 @@ module _ {S : Type 0} (stands : S → List Judged → Type 0) (piece_of : S → 
     appended = all.appended;
   }
 
-  -- the text is right
+  -- The text has no fault.
   pub ends_well : (differs : Bool) → None ≡ end_fault all.items all.tree → differs ≡ differs_in o.settings.listing piece all.items all.tree → FinishOk o piece text printed a b differs
   ends_well differs e d = record {
     items = all.items;

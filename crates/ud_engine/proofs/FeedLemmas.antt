@@ -1,4 +1,4 @@
--- Feeding: what a piece leaves of an engine, step after step.
+-- Feeding: the engine's state after a chunk, step by step.
 use Rattle.std.proofs.Common.{◌≡◌, ℕ, ◌<◌, ◌≤◌, Bool, true, false, List, [], ◌++◌, length, take, drop, Option, None, refl, sym, ◌∙◌, ap, ap₂, subst, append_assoc, append-nil, take_all, take-append-drop, arith}
 use Rattle.std.specs.Io.KnownBytes.{Appends}
 use Rattle.ud_model.specs.text.Lines.{NoNewline, split_lines}
@@ -23,18 +23,18 @@ use Rattle.ud_io.proofs.BufferingLemmas.{appends_all_but_none, appends_all_but_t
 use Rattle.ud_engine.proofs.StepLemmas.{between_none, take_more_of}
 use Rattle.ud_engine.proofs.LinePartLemmas.{run_falls_short, reads_so_far, one_line, few_sections}
 
--- a text of no bytes has no lines
+-- An empty text has no lines.
 pub none_so_far : lines_so_far [] ≡ []
 unfolding split_lines
 none_so_far = refl
 
--- of no lines nothing is printed
+-- No lines have no output.
 pub none_printed : (listing : Listing) (piece : List Judged → Judged → List ℕ) → [] ≡ text_by listing piece [] (closed nothing)
 none_printed Off piece = refl
 none_printed Names piece = refl
 none_printed Depths piece = refl
 
--- at first bytes can be taken
+-- At first, bytes can be taken.
 pub open_new : (lines : LinesState) → lines ≡ record { held = []; whole = false; before = 0; closed = false; fault = None; last_line = TEXT_LINES } → IsOpen lines
 open_new lines is = record {
   part = ap (λ (l : LinesState). l.whole) is;
@@ -53,7 +53,7 @@ none_begun lines is some = let z = ap (λ (l : LinesState). length l.held) is in
 
 module _ {S : Type 0} (stands : S → List Judged → Type 0) (piece_of : S → List Judged → Judged → List ℕ) (o : Options) (piece : List Judged → Judged → List ℕ)
     (text printed : List ℕ) where
-  -- before the first byte of a piece
+  -- Before the first byte of a chunk.
   pub feed_begins : (e : EngineState S) (a : Option (List ℕ)) (bytes : List ℕ) → EngineRepresents stands piece_of e o piece text printed →
       Advances stands piece_of e o piece text printed (take 0 bytes) a a [] (e.buffered ++ slice_between bytes 0 0)
   feed_begins e a bytes h = record {
@@ -63,7 +63,7 @@ module _ {S : Type 0} (stands : S → List Judged → Type 0) (piece_of : S → 
     sent = subst (λ x. AppendsAllBut a a [] x) (sym (ap₂ (λ x y. x ++ y) h.written (between_none bytes 0))) (appends_all_but_none a []);
   }
 
-  -- a step more
+  -- One step more.
   pub feed_goes_on : (e f : EngineState S) (a b c : Option (List ℕ)) (bytes : List ℕ) (at end : ℕ) (left rest : List ℕ) → at ≤ end →
       (h : Advances stands piece_of e o piece text printed (take at bytes) a b [] left) →
       Advances stands piece_of f o piece (text ++ take at bytes) (printed ++ h.more) (slice_between bytes at end) b c left rest →
@@ -77,7 +77,7 @@ module _ {S : Type 0} (stands : S → List Judged → Type 0) (piece_of : S → 
     sent = appends_all_but_then a b c h.more left k.more rest h.sent k.sent;
   }
 
-  -- a write fails after what was sent
+  -- A write fails after what was appended.
   write_fails : (a b c : Option (List ℕ)) (longer more pending : List ℕ) (failed : Bool) → failed ≡ true → AppendsAllBut a b more pending →
       WriteStops o piece longer (printed ++ more) b c pending → FeedFails o piece failed a c longer printed Write
   write_fails a b c longer more pending failed e s k = (
@@ -93,14 +93,14 @@ module _ {S : Type 0} (stands : S → List Judged → Type 0) (piece_of : S → 
     whole_text : (text ++ take at bytes) ++ drop at bytes ≡ text ++ bytes
     whole_text = append_assoc text (take at bytes) (drop at bytes) ∙ ap (λ x. text ++ x) (take-append-drop at bytes)
 
-    -- a write fails within what is left
+    -- A write fails within the pending bytes.
     left_fails : (c : Option (List ℕ)) (failed : Bool) → failed ≡ true → AppendsPrefix b c left → FeedFails o piece failed a c (text ++ bytes) printed Write
     left_fails c failed f front =
         write_fails a b c (text ++ bytes) h.more left failed f h.sent
         (subst (λ x. WriteStops o piece x (printed ++ h.more) b c left) whole_text
         (run_falls_short stands piece_of o piece e (text ++ take at bytes) (printed ++ h.more) h.taken (drop at bytes) b c left front))
 
-    -- what is left is written, and the fault ends the run
+    -- The pending bytes are written, and the fault ends the run.
     text_ends : (c : Option (List ℕ)) → Appends b c left → Appends a c h.more
     text_ends c appended =
         appends_all_but_all a c h.more [] (appends_all_but_part a b c h.more left [] (subst (λ x. AppendsAllBut a b h.more x) (sym (append-nil left)) h.sent) appended) refl
@@ -115,7 +115,7 @@ module _ {S : Type 0} (stands : S → List Judged → Type 0) (piece_of : S → 
         subst (λ x. FeedFails o piece false a c (text ++ bytes) printed x) (sym ends.0)
         (faulty h.more (text_ends c (subst (λ x. Appends x c left) e₁ (subst (λ x. Appends b' c x) e₂ ends.1))) refl)
 
-    -- a step fails, and so does the piece
+    -- If a step fails, feeding the chunk fails.
     pub feed_fails : {W : Type 0} (contents : W → Option (List ℕ)) (old new : WatchedState W) (g₀ g₁ pending : List ℕ) → contents old.inner ≡ b → g₀ ++ pending ≡ left →
         (d : Option (List ℕ)) (failed : Bool) (f by : RunFault) →
         StepFails o piece ((text ++ take at bytes) ++ drop at bytes) (printed ++ h.more) (contents old.inner) (contents new.inner) (g₀ ++ pending) f →
@@ -151,7 +151,7 @@ module _ {S : Type 0} (stands : S → List Judged → Type 0) (piece_of : S → 
         (subst (λ x. WriteStops o piece ((text ++ take at bytes) ++ drop at bytes) (printed ++ h.more) x (contents new.inner) left) eb
         (subst (λ x. WriteStops o piece ((text ++ take at bytes) ++ drop at bytes) (printed ++ h.more) (contents old.inner) (contents new.inner) x) el s)))))
 
-    -- all is read and written
+    -- All of the chunk is processed, and all output is written.
     pub feed_ends : (f : EngineState S) (c : Option (List ℕ)) (buffered : List ℕ) → f ≡ record e { buffered = buffered } → buffered ≡ [] → e.fault ≡ None → length bytes ≤ at →
         AppendsAllBut b c left [] → Continues stands piece_of f o piece (text ++ bytes) printed a c
     feed_ends f c buffered is none works end s = record {
@@ -185,6 +185,6 @@ module _ {S : Type 0} (stands : S → List Judged → Type 0) (piece_of : S → 
           written = none;
         })
 
-    -- a write fails at the end
+    -- A write fails at the end of the chunk.
     pub feed_falls_short : (c : Option (List ℕ)) (failed : Bool) → failed ≡ true → AppendsPrefix b c left → FeedFails o piece failed a c (text ++ bytes) printed Write
     feed_falls_short c failed f front = left_fails c failed f front

@@ -1,4 +1,4 @@
--- Finish: how a run goes on and ends, since it began.
+-- Finish: the course and the end of a run, since it began.
 use Rattle.std.proofs.Common.{◌≡◌, ℕ, ◌≤◌, Bool, true, false, List, [], ◌++◌, length, Option, Result, Ok, Err, OnOk, IfOk, IfErr, refl, sym, subst, append-nil, arith}
 use Rattle.std.specs.Io.KnownBytes.{Consumes, Keeps, IsAtEnd}
 use Rattle.std.proofs.KnownBytes.{Appends-nil, Appends-trans, Consumes-nil, Consumes-trans, Consumes-kept}
@@ -14,12 +14,12 @@ use Rattle.ud_engine.specs.Runs.{InProgress, RunFinished, ErrorMatchesStreams}
 use Rattle.ud_engine.proofs.RunLemmas.{own_piece, input_is, input_begins, kept_up, ended_ran, ended_appended, ended_read, ended_write, fed_read, fed_write, feed_appended, ran_early, the_err}
 use Rattle.ud_engine.proofs.RunEndedLemmas.{printed_so_far, fed_ends, end_ends}
 
--- a run begins
+-- A run begins.
 pub begins : (o : Options) (e : EngineState Printer) (r w : Option (List ℕ)) → EngineRepresents printer_represents printer_piece e o (own_piece o) [] [] → InProgress e o r r w w
 begins o e r w fed = record { given = []; printed = []; consumed = Consumes-nil r; fed = fed; appended = Appends-nil w }
 
 module _ (o : Options) (e : EngineState Printer) (r₀ r₁ w₀ w₁ : Option (List ℕ)) (u : InProgress e o r₀ r₁ w₀ w₁) where
-  -- a read failed
+  -- A read failed.
   pub unread : (r₂ : Option (List ℕ)) → Keeps r₁ r₂ → (reader writer : Bool) → reader ≡ true → RunFinished o r₀ r₂ w₀ w₁ reader writer (Err Read)
   unread r₂ kept reader writer failed =
       let all : Consumes r₀ r₂ u.given = Consumes-kept r₀ r₁ r₂ u.given u.consumed kept in
@@ -35,7 +35,7 @@ module _ (o : Options) (e : EngineState Printer) (r₀ r₁ w₀ w₁ : Option (
         };
       }
 
-  -- the reader had no byte more
+  -- The reader was at its end.
   pub at_end : (r₂ w₂ : Option (List ℕ)) → Consumes r₁ r₂ [] → IsAtEnd r₂ → (reader writer : Bool) (result : Result Bool RunFault) →
       IfOk result (FinishOk o (own_piece o) u.given u.printed w₁ w₂) → IfErr result (FinishErr o (own_piece o) writer w₁ w₂ u.given u.printed) →
       RunFinished o r₀ r₂ w₀ w₂ reader writer result
@@ -52,7 +52,7 @@ module _ (o : Options) (e : EngineState Printer) (r₀ r₁ w₀ w₁ : Option (
       }
 
   module _ (r₂ w₂ : Option (List ℕ)) (piece : List ℕ) (read : Consumes r₁ r₂ piece) where
-    -- a piece is faulty, or a write failed
+    -- A chunk is faulty, or a write failed.
     pub stopped : length piece ≤ CHUNK_BYTES → (reader writer : Bool) (f : RunFault) → FeedFails o (own_piece o) writer w₁ w₂ (u.given ++ piece) u.printed f →
         RunFinished o r₀ r₂ w₀ w₂ reader writer (Err f)
     stopped few reader writer f fails =
@@ -66,7 +66,7 @@ module _ (o : Options) (e : EngineState Printer) (r₀ r₁ w₀ w₁ : Option (
           went = record { given = u.given ++ piece; consumed = all; ends = fed_ends o r₂ w₀ w₁ w₂ u.printed u.appended writer (u.given ++ piece) f fails };
         }
 
-    -- a piece was fed
+    -- A chunk was fed.
     pub fed_more : (f : EngineState Printer) → Continues printer_represents printer_piece f o (own_piece o) (u.given ++ piece) u.printed w₁ w₂ → InProgress f o r₀ r₂ w₀ w₂
     fed_more f goes = record {
       given = u.given ++ piece;
@@ -76,7 +76,7 @@ module _ (o : Options) (e : EngineState Printer) (r₀ r₁ w₀ w₁ : Option (
       appended = Appends-trans w₀ w₁ w₂ u.printed goes.more u.appended goes.appended;
     }
 
--- an answer tells what failed: a read
+-- The result after a failed read.
 pub read_told : (reader writer : Bool) → reader ≡ true → writer ≡ false → ErrorMatchesStreams reader writer (Err Read)
 read_told reader writer failed works = record { works = tt; read_fails = (λ f. refl, λ f. failed); write_fails = (λ f. cc, λ f. cc) }
 
@@ -85,7 +85,7 @@ module _ (o : Options) (b c : Option (List ℕ)) (printed : List ℕ) (reader wr
   both_work (Ok d) works = (reads, works)
   both_work (Err f) works = tt
 
-  -- or a write at the end
+  -- The result at the end of the text, where a write may fail.
   pub end_told : (given : List ℕ) (result : Result Bool RunFault) → OnOk result (writer ≡ false) → IfErr result (FinishErr o (own_piece o) writer b c given printed) →
       ErrorMatchesStreams reader writer result
   end_told given result works ill = record {
@@ -94,7 +94,7 @@ module _ (o : Options) (b c : Option (List ℕ)) (printed : List ℕ) (reader wr
     write_fails = ended_write o b c given printed writer result works ill;
   }
 
-  -- or a write of what is printed of a piece
+  -- The result after a chunk is faulty, or a write of its output fails.
   pub feed_told : (longer : List ℕ) (f : RunFault) → FeedFails o (own_piece o) writer b c longer printed f → ErrorMatchesStreams reader writer (Err f)
   feed_told longer f fails = record {
     works = tt;

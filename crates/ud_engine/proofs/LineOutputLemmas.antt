@@ -1,14 +1,14 @@
--- What is put of a line of which nothing is left, or its ending.
+-- Output of a line that is dropped but for its ending, or wholly.
 use Rattle.std.proofs.Common.{◌≡◌, inl, inr, ℕ, ◌+◌, ◌==◌, List, [], ◌∷◌, ◌++◌, length, Bool, true, false, not, bytes_eq, Option, refl, sym, ◌∙◌, ap, subst, length-append, arith}
 use Rattle.std.proofs.lemmas.Bool.Decides.{same_from_decides, Decides-eqb, Decides-like}
 use Rattle.std.proofs.lemmas.Slice.Eq.{bytes_eq-Decides}
 use Rattle.ud_engine.specs.ProcessedLines.{IsLeftOf, ShowsLine}
 
--- a text is the same as itself
+-- A text equals itself.
 pub same_text : (x : List ℕ) → bytes_eq x x ≡ true
 same_text x = (bytes_eq-Decides x x).1 refl
 
--- if as many bytes are left as a line has, all are
+-- If the output, nothing or the ending, is as long as the line, the output is the line.
 all_left : (left body ending : List ℕ) → IsLeftOf left ending → length left ≡ length body + length ending → left ≡ body ++ ending
 all_left left [] [] (inl e) h = e
 all_left left [] (b ∷ bs) (inl e) h = absurd (let z = ap length e in omega (arith, z, h))
@@ -16,7 +16,7 @@ all_left left (b ∷ bs) ending (inl e) h = absurd (let z = ap length e in omega
 all_left left [] ending (inr e) h = e
 all_left left (b ∷ bs) ending (inr e) h = absurd (let z = ap length e in omega (arith, z, h))
 
--- what is left is as long as the line where it is the line
+-- The output is as long as the line exactly if it is the line.
 pub left_is_line : (left body ending : List ℕ) → IsLeftOf left ending → (length left == (length body + length ending)) ≡ bytes_eq left (body ++ ending)
 left_is_line left body ending some =
     same_from_decides (length left == (length body + length ending)) (bytes_eq left (body ++ ending))
@@ -24,11 +24,11 @@ left_is_line left body ending some =
     (Decides-eqb (length left) (length body + length ending)))
     (bytes_eq-Decides left (body ++ ending))
 
--- nothing is put of a line that stays as it is
+-- Nothing is appended for an unchanged line.
 pub shows_whole : (a : Option (List ℕ)) (buffered pending piece own : List ℕ) → piece ≡ own → ShowsLine false a a buffered buffered pending piece own
 shows_whole a buffered pending piece own e = (sym (ap (λ x. not (bytes_eq x own)) e ∙ ap not (same_text own)), (refl, refl, e))
 
--- a printer's piece is put where it is what is left
+-- A printer's piece is appended if it is the output.
 pub shows_left : (put : Bool) (a b : Option (List ℕ)) (buffered rest pending left piece own : List ℕ) → piece ≡ left →
     ShowsLine put a b buffered rest pending left own → ShowsLine put a b buffered rest pending piece own
 shows_left put a b buffered rest pending left piece own e h = subst (λ x. ShowsLine put a b buffered rest pending x own) (sym e) h

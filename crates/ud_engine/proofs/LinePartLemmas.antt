@@ -1,4 +1,4 @@
--- Taking: what an engine stands for once it has taken more bytes.
+-- Taking: the engine's state after more bytes.
 use Rattle.std.proofs.Common.{◌≡◌, ℕ, suc, ◌+◌, ◌<◌, ◌≤◌, Bool, true, false, List, [], ◌∷◌, ◌++◌, length, take, drop, Option, Some, None, refl, sym, ◌∙◌, ap, subst, append_assoc, append-nil, take-append-drop, take_all, arith, length-append}
 use Rattle.std.proofs.Math.ListN.{length-take}
 use Rattle.ud_model.proofs.output.SoundBounds.{sound_low}
@@ -24,12 +24,13 @@ use Rattle.ud_engine.specs.Feeding.{EngineState, IsOpen, EngineRepresentsBuffere
 use Rattle.ud_engine.specs.ProcessedLines.{ProcessorRepresents, PrintsMore, WriteFails}
 use Rattle.ud_io.specs.Watched.{AppendsPrefix}
 
--- the parts of a text after the front of a piece up to its first line feed, if this is its rest
+-- The split lines of a text with the prefix of a chunk up to its first newline, if `rest` is the
+-- text's partial line.
 abbrev pub parts_behind : List ℕ → List ℕ → List ℕ → Bool → SplitLines
 parts_behind text held front true = record { whole = whole_lines text ++ (held ++ front) ∷ []; rest = [] }
 parts_behind text held front false = record { whole = whole_lines text; rest = held ++ front }
 
--- the front of a piece up to its first line feed ends the rest of the text, or lengthens it
+-- The prefix of a chunk up to its first newline ends the partial line of the text, or lengthens it.
 pub split_lines-front_of : (text held piece : List ℕ) (used : ℕ) (whole : Bool) → partial_line text ≡ held → UpToNewline piece used whole →
     split_lines (text ++ take used piece) ≡ parts_behind text held (take used piece) whole
 split_lines-front_of text held piece used true rest to =
@@ -44,11 +45,11 @@ split_lines-front_of text held piece used false rest to =
     (subst (λ (p : List ℕ). split_lines (text ++ p) ≡ parts_behind text (partial_line text) p false) (sym whole_piece)
     (split_lines-append-open text piece all.1))
 
--- a text and a piece after it, cut within the piece
+-- A text and a chunk after it, cut within the chunk.
 pub rejoined : (text piece : List ℕ) (used : ℕ) → text ++ piece ≡ (text ++ take used piece) ++ drop used piece
 rejoined text piece used = ap (λ (p : List ℕ). text ++ p) (sym (take-append-drop used piece)) ∙ sym (append_assoc text (take used piece) (drop used piece))
 
--- a line that breaks a limit has its fault
+-- A line that breaks a limit has the fault for that limit.
 record LimitFault (xs : List (Item Reading)) (x : Item Reading) (f : Fault) : Type 0 where
   fault : FaultOf xs x f
   limit : IsLimit fault.which
@@ -84,7 +85,7 @@ module _ {S : Type 0} (stands : S → List Judged → Type 0) (piece_of : S → 
   pub rest_is : partial_line text ≡ e.lines.held
   rest_is = represent_rest e.lines text h.opened.part h.took
 
-  -- a line more
+  -- One line more.
   pub line_taken : (f : EngineState S) (bytes line : List ℕ) (l : Line) (tree : Tree Reading) (more : List ℕ) →
       whole_lines (text ++ bytes) ≡ whole_lines text ++ line ∷ [] → l ≡ line_at (suc (length (whole_lines text))) line →
       f.symbols ≡ e.symbols → IsOpen f.lines → LinesRepresent f.lines (text ++ bytes) → f.lines.fault ≡ None → f.lines.held ≡ [] → f.lines.before ≤ TEXT_LINES →
@@ -109,7 +110,7 @@ module _ {S : Type 0} (stands : S → List Judged → Type 0) (piece_of : S → 
     count = count;
   }
 
-  -- bytes without a line feed
+  -- Bytes without a newline.
   pub open_taken : (f : EngineState S) (bytes : List ℕ) → whole_lines (text ++ bytes) ≡ whole_lines text → f.symbols ≡ e.symbols → f.printer ≡ e.printer →
       IsOpen f.lines → LinesRepresent f.lines (text ++ bytes) → f.lines.fault ≡ None → (0 < length f.lines.held → f.lines.before < TEXT_LINES) → f.lines.before ≤ TEXT_LINES →
       EngineRepresentsBuffered stands piece_of f o piece (text ++ bytes) (printed ++ [])
@@ -127,7 +128,7 @@ module _ {S : Type 0} (stands : S → List Judged → Type 0) (piece_of : S → 
     count = count;
   }
 
-  -- the next line is faulty
+  -- The next line is faulty.
   pub line_stops : (longer : List ℕ) (l : Line) (later : List Line) (f : Fault) → lines_so_far longer ≡ lines_so_far text ++ l ∷ later →
       FaultOf h.items (next_item o h.items h.tree l) f → FaultsAfter o piece longer printed f
   line_stops longer l later f are fault = record {
@@ -137,7 +138,7 @@ module _ {S : Type 0} (stands : S → List Judged → Type 0) (piece_of : S → 
     printed_is = h.printed_is;
   }
 
-  -- a write fails within what is printed of the next line
+  -- A write fails within the output for the next line.
   pub line_falls_short : (longer : List ℕ) (l : Line) (later : List Line) (a b : Option (List ℕ)) (buffered pending : List ℕ) →
       lines_so_far longer ≡ lines_so_far text ++ l ∷ later → WriteFails o piece h.items h.tree l a b buffered pending →
       StopsShort o piece longer printed a b (buffered ++ pending)
@@ -155,7 +156,7 @@ module _ {S : Type 0} (stands : S → List Judged → Type 0) (piece_of : S → 
     front = subst (λ x. AppendsPrefix a b x) (sym (append_assoc buffered pending k.more)) k.front;
   }
 
-  -- or within what was to be written before it
+  -- A write fails within the output pending before the next line.
   pub run_falls_short : (rest : List ℕ) (a b : Option (List ℕ)) (pending : List ℕ) → AppendsPrefix a b pending → StopsShort o piece (text ++ rest) printed a b pending
   run_falls_short rest a b pending front = record {
     more = [];
@@ -171,7 +172,7 @@ module _ {S : Type 0} (stands : S → List Judged → Type 0) (piece_of : S → 
     front = subst (λ x. AppendsPrefix a b x) (sym (append-nil pending)) front;
   }
 
-  -- the line that the front of a piece ends is the next one of every longer text
+  -- The line that the prefix of a chunk ends is the next line of every longer text.
   pub line_next : (rest : List ℕ) (used : ℕ) (line : List ℕ) → whole_lines (text ++ take used rest) ≡ whole_lines text ++ line ∷ [] →
       (later : List Line) × (lines_so_far (text ++ rest) ≡ lines_so_far text ++ line_at (suc (length (whole_lines text))) line ∷ later)
   line_next rest used line lines =
@@ -215,7 +216,7 @@ module _ {S : Type 0} (stands : S → List Judged → Type 0) (piece_of : S → 
         printed_is = h.printed_is;
       }
 
-  -- the next bytes pass a limit
+  -- The next bytes pass a limit.
   pub limit_stops : (rest : List ℕ) (f : TextFault) → BreaksLimit e.lines rest f → FaultsAfter o piece (text ++ rest) printed (limit_of f)
   limit_stops rest (TooManyLines line) r =
       let b = before_is in
@@ -245,7 +246,7 @@ module _ {S : Type 0} (stands : S → List Judged → Type 0) (piece_of : S → 
       (omega (arith, b, is)) (omega (arith, b, k, fits, is))
       (subst (λ (t : List ℕ). LINE_BYTES < length t) (sym (text_of-line_at (suc (length (whole_lines text))) (e.lines.held ++ take r.2.0 rest))) bytes))
 
-  -- no limit is passed by what is held
+  -- The buffered bytes pass no limit.
   no_limit : (w : Case) → IsLimit w → 0 < length e.lines.held → Holds h.items (next_item o h.items h.tree (line_so_far text)) w → ⊥
   no_limit _ by_lines some k =
       let b = before_is in
@@ -265,18 +266,18 @@ module _ {S : Type 0} (stands : S → List Judged → Type 0) (piece_of : S → 
   some_held [] n = absurd (n refl)
   some_held (x ∷ xs) n = omega arith
 
-  -- nothing in the text is faulty
+  -- The text has no fault so far.
   pub reads_so_far : ReadsSoFar o text h.items h.tree None
   reads_so_far =
       goes_on h.items h.tree h.goes
       (λ f k. no_limit k.fault.which k.limit
       (subst (λ (r : List ℕ). 0 < length r) (rest_is) (some_held (partial_line text) k.some)) k.fault.holds)
 
-  -- what it begins of a line is no longer than a line
+  -- The text's partial line is no longer than a line may be.
   pub one_line : length (partial_line text) ≤ LINE_BYTES
   one_line = subst (λ (r : List ℕ). length r ≤ LINE_BYTES) (sym rest_is) h.opened.short
 
-  -- and no more sections are open than may be
+  -- No more sections are open than may be.
   pub few_sections : depth h.tree ≤ OPEN_SECTIONS
   few_sections =
       let low = sound_low o h.items h.tree h.goes.sound in

@@ -1,4 +1,4 @@
--- Names that are put one after another, and which lines have names.
+-- Appending names one after another, and which lines have names.
 use Rattle.std.proofs.Common.{◌≡◌, ℕ, suc, ◌-◌, List, [], ◌∷◌, ◌++◌, length, Bool, true, false, if◌then◌else◌, refl, sym, ap, ap₂, subst, ◌∙◌, append_assoc, append-nil, Option, arith}
 use Rattle.ud_model.specs.text.Lines.{Line}
 use Rattle.ud_model.specs.text.Scans.{Reading}
@@ -26,13 +26,13 @@ use Rattle.ud_engine.specs.declared.line_decider.LineDecider.{LineDecider}
 use Rattle.ud_io.specs.Watched.{AppendsPrefix}
 use Rattle.ud_io.proofs.BufferingLemmas.{appends_all_but_then, appends_all_but_then_front, appends_all_but_none, prefix_of_first, pending_failed, parts_failed_after, parts_after}
 
--- of these names those before the ones that are left were put
+-- The names before `left` were appended.
 pub record NamesPut (a b : Option (List ℕ)) (prefix : List ℕ) (names left : List (List ℕ)) (old new : List ℕ) : Type 0 where
   pub done : List ℕ
   pub are : listed_names prefix names ≡ done ++ listed_names prefix left
   pub sent : AppendsAllBut a b (old ++ done) new
 
--- before the first name
+-- Before the first name.
 pub none_put : (a : Option (List ℕ)) (prefix : List ℕ) (names left : List (List ℕ)) (old : List ℕ) → left ≡ names → NamesPut a a prefix names left old old
 none_put a prefix names left old e = record {
   done = [];
@@ -40,7 +40,7 @@ none_put a prefix names left old e = record {
   sent = subst (λ x. AppendsAllBut a a x old) (sym (append-nil old)) (appends_all_but_none a old);
 }
 
--- a name more is put
+-- One name more is appended.
 pub name_put : (a b c : Option (List ℕ)) (prefix : List ℕ) (names left rest : List (List ℕ)) (name old mid new : List ℕ) → left ≡ name ∷ rest →
     NamesPut a b prefix names left old mid → AppendsAllBut b c (mid ++ name_line prefix name) new → NamesPut a c prefix names rest old new
 name_put a b c prefix names left rest name old mid new e p s = record {
@@ -53,7 +53,7 @@ name_put a b c prefix names left rest name old mid new e p s = record {
       (appends_all_but_then a b c (old ++ p.done) mid (name_line prefix name) new p.sent s);
 }
 
--- a write fails within it
+-- A write fails within a name.
 pub name_refused : (a b c : Option (List ℕ)) (prefix : List ℕ) (names left rest : List (List ℕ)) (name old mid : List ℕ) → left ≡ name ∷ rest →
     NamesPut a b prefix names left old mid → AppendsPrefix b c (mid ++ name_line prefix name) → AppendsPrefix a c (old ++ listed_names prefix names)
 name_refused a b c prefix names left rest name old mid e p s =
@@ -66,7 +66,7 @@ name_refused a b c prefix names left rest name old mid e p s =
     joined : p.done ++ listed_names prefix (name ∷ rest) ≡ (p.done ++ name_line prefix name) ++ listed_names prefix rest
     joined = sym (append_assoc p.done (name_line prefix name) (listed_names prefix rest))
 
--- if no name is left, all are put
+-- If no name is left, all are appended.
 pub all_put : (a b : Option (List ℕ)) (prefix : List ℕ) (names left : List (List ℕ)) (old new : List ℕ) → left ≡ [] →
     NamesPut a b prefix names left old new → AppendsAllBut a b (old ++ listed_names prefix names) new
 all_put a b prefix names left old new e p =
@@ -91,11 +91,11 @@ by_content o r cut_keyword e = refl
 by_content o r text e = refl
 by_content o r (directive d) e = ap (λ (p : Test). if d.broken then [] else names_by p d.after) (untested r d.kind _ e) ∙ nameless d.broken d.after
 
--- a line without a condition has no names
+-- A line without a condition has no names.
 no_names : (o : Options) (r : Reading) → has_condition (item_of o r) ≡ false → names_in_content (content_of r.scan) ≡ []
 no_names o r e = by_content o r (content_of r.scan) e
 
--- names are listed after their depth, which the sections that are open after the line tell
+-- Names are listed with their depth, which the sections open after the line determine.
 listed_at : (depths : Bool) (names : List (List ℕ)) (level opened : ℕ) (b : Bool) → (b ≡ true → suc level ≡ opened) → (b ≡ false → names ≡ []) →
     listed_names (depth_prefix depths (opened - 1)) names ≡ listed_names (depth_prefix depths level) names
 listed_at depths names level opened true deep none =
@@ -114,7 +114,7 @@ listed-append depths (y ∷ ys) x (m ∷ ns) n e =
     ap (λ t. listed_names (depth_prefix depths m) (names_at y) ++ t) (listed-append depths ys x ns n (let h : suc (length ns) ≡ suc (length ys) = e in omega (arith, h)))
     ∙ sym (append_assoc (listed_names (depth_prefix depths m) (names_at y)) (listed depths ys ns) (listed_names (depth_prefix depths n) (names_at x)))
 
--- with a line more its names are listed too, after the depth that the sections open after it give
+-- With one line more, its names are listed too, with the depth of the sections open after it.
 pub lists_more : (o : Options) (depths : Bool) (xs : List (Item Reading)) (t u : Tree Reading) (l : Line) →
     AreFaultless o xs t → AreFaultless o (xs ++ next_item o xs t l ∷ []) u → (names : List (List ℕ)) →
     names ≡ names_in_content (content_of (read_after xs (mode_after o t) l).scan) →
@@ -132,14 +132,14 @@ lists_more o depths xs t u l s v names e =
     ∙ sym (listed_at depths names g.level (depth u) (has_condition x) (λ b. let h = g.within b in omega (arith, h)) (λ b. e ∙ no_names o r b)))
 
 module _ (o : Options) (depths : Bool) (xs : List (Item Reading)) (t u : Tree Reading) (l : Line) (s : AreFaultless o xs t) (v : AreFaultless o (xs ++ next_item o xs t l ∷ []) u) where
-  -- the names that are listed with the line
+  -- The names that are listed for the line.
   abbrev own_names : List (List ℕ)
   own_names = names_in_content (content_of (read_after xs (mode_after o t) l).scan)
 
   abbrev own_text : List ℕ
   own_text = listed_names (depth_prefix depths (depth u - 1)) own_names
 
-  -- a write fails within the run before a line
+  -- A write fails within the pending bytes before a line.
   pub run_fails : (a b : Option (List ℕ)) (old pending : List ℕ) → AppendsPrefix a b (old ++ pending) → ListingFails o xs t l depths a b old pending
   run_fails a b old pending h = record {
     tree = u;
@@ -153,7 +153,7 @@ module _ (o : Options) (depths : Bool) (xs : List (Item Reading)) (t u : Tree Re
     named : listed_names prefix names ≡ own_text
     named = ap₂ listed_names p are
 
-    -- or within its names
+    -- A write fails within the line's names.
     pub listing_fails : (a b c : Option (List ℕ)) (old mid pending : List ℕ) → AppendsAllBut a b (old ++ pending) mid → AppendsPrefix b c (mid ++ listed_names prefix names) →
         ListingFails o xs t l depths a c old pending
     listing_fails a b c old mid pending sent h = record {
@@ -164,7 +164,7 @@ module _ (o : Options) (depths : Bool) (xs : List (Item Reading)) (t u : Tree Re
       front = parts_failed_after a b c old pending mid (listed_names prefix names) own_text named sent h;
     }
 
-    -- the line is read, and its names are put
+    -- The line is read, and its names are appended.
     pub lists_one : (r : LineDecider) → DeciderRepresents o r (xs ++ next_item o xs t l ∷ []) u → (a b c : Option (List ℕ)) (old mid new pending : List ℕ) →
         AppendsAllBut a b (old ++ pending) mid → AppendsAllBut b c (mid ++ listed_names prefix names) new → ListsLine o r xs t l depths a c old new pending
     lists_one r has a b c old mid new pending sent more = record {

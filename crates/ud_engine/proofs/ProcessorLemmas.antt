@@ -1,4 +1,4 @@
--- What a printer of lines stands for once it has printed a line.
+-- The state of a line processor after a line.
 use Rattle.std.proofs.Common.{◌≡◌, ℕ, suc, List, [], ◌∷◌, ◌++◌, Bool, true, false, not, bytes_eq, ◌||◌, Option, Some, None, refl, sym, ◌∙◌, ap, subst, length, arith}
 use Rattle.std.specs.List.{concat}
 use Rattle.ud_model.specs.text.Lines.{Line, text_of}
@@ -25,7 +25,7 @@ use Rattle.ud_engine.specs.NameListing.{ListsMore, ListsLine, ListErr}
 use Rattle.ud_engine.specs.ProcessedLines.{text_by, differs_in, lister_of, ProcessorRepresents, PrintsMore, IsAppended, ShowsLine, PrintsLine, WriteFails, PrintErr}
 use Rattle.ud_io.specs.Watched.{AppendsPrefix}
 
--- of no lines none differs
+-- Of no lines, none differs.
 pub none_differ : (listing : Listing) (piece : List Judged → Judged → List ℕ) → false ≡ differs_in listing piece [] (closed nothing)
 none_differ Off piece = refl
 none_differ Names piece = refl
@@ -47,19 +47,19 @@ module _ (o : Options) (piece : List Judged → Judged → List ℕ) (xs : List 
   abbrev next : Judged
   next = judged_line (next_item o xs t l) mark
 
-  -- the lines with one more are judged
+  -- The printer's lines after the next item.
   pub judged_next : judged_lines (xs ++ next_item o xs t l ∷ []) (marks u) ≡ before ++ next ∷ []
   judged_next =
       ap (judged_lines (xs ++ next_item o xs t l ∷ [])) ms
       ∙ judged_line-more xs (marks t) (next_item o xs t l) mark (length_marks true t ∙ ap length (sound_lines s))
 
-  -- its piece is printed too
+  -- The line's piece is printed after the others.
   pub shows_more : PrintsMore o piece xs t l u (piece before next)
   shows_more =
       subst (λ q. text_by q piece (xs ++ next_item o xs t l ∷ []) u ≡ text_by q piece xs t ++ piece before next) (sym off)
       (ap (λ js. concat (pieces_by piece [] js)) judged_next ∙ printed-more piece before next)
 
-  -- and it differs, or one of these lines does
+  -- Some line differs if this line does, or one of those before.
   pub differs_more : (own : List ℕ) → own ≡ text_of l → (line_of (next_item o xs t l) ≡ l) →
       differs_in o.settings.listing piece (xs ++ next_item o xs t l ∷ []) u ≡ (differs_in o.settings.listing piece xs t || not (bytes_eq (piece before next) own))
   differs_more own e f =
@@ -67,13 +67,13 @@ module _ (o : Options) (piece : List Judged → Judged → List ℕ) (xs : List 
       (ap (λ js. some_other (pieces_by piece [] js) js) judged_next ∙ differ-more piece [] before next
       ∙ ap (λ y. some_other (pieces_by piece [] before) before || not (bytes_eq (piece before next) y)) (ap text_of f ∙ sym e))
 
--- a printer lists names or shows lines
+-- Without a lister, the lines are printed.
 pub is_off : (listing : Listing) → lister_of listing ≡ None → listing ≡ Off
 is_off Off e = refl
 is_off Names e = cc
 is_off Depths e = cc
 
--- what lists names tells whether they are listed with their depths
+-- The lister's flag is whether names are listed with their depths.
 pub lists_more_text : (o : Options) (piece : List Judged → Judged → List ℕ) (xs : List (Item Reading)) (t u : Tree Reading) (l : Line) (depths : Bool) (more : List ℕ) →
     lister_of o.settings.listing ≡ Some depths → ListsMore o xs t l depths u more → PrintsMore o piece xs t l u more
 lists_more_text o piece xs t u l depths more e m = by_listing o.settings.listing e
@@ -83,14 +83,14 @@ lists_more_text o piece xs t u l depths more e m = by_listing o.settings.listing
     by_listing Names f = let d : false ≡ depths = cc in subst (λ b. listed b (xs ++ next_item o xs t l ∷ []) (levels u) ≡ listed b xs (levels t) ++ more) (sym d) m
     by_listing Depths f = let d : true ≡ depths = cc in subst (λ b. listed b (xs ++ next_item o xs t l ∷ []) (levels u) ≡ listed b xs (levels t) ++ more) (sym d) m
 
--- if names are listed, no line differs
+-- If names are listed, no line differs.
 pub lists_same : (q : Listing) (depths : Bool) (piece : List Judged → Judged → List ℕ) (xs ys : List (Item Reading)) (t u : Tree Reading) →
     lister_of q ≡ Some depths → differs_in q piece xs t ≡ differs_in q piece ys u
 lists_same Off depths piece xs ys t u e = cc
 lists_same Names depths piece xs ys t u e = refl
 lists_same Depths depths piece xs ys t u e = refl
 
--- names are listed, so lines aren't shown
+-- If names are listed, the lines aren't printed.
 pub not_off : (q : Listing) (depths : Bool) → lister_of q ≡ Some depths → q ≡ Off → ⊥
 not_off Off depths e f = cc
 not_off Names depths e f = cc
@@ -98,7 +98,7 @@ not_off Depths depths e f = cc
 
 module _ {S : Type 0} (stands : S → List Judged → Type 0) (piece_of : S → List Judged → Judged → List ℕ) (o : Options)
     (piece : List Judged → Judged → List ℕ) (xs : List (Item Reading)) (t : Tree Reading) (l : Line) where
-  -- a line whose names were listed was printed
+  -- The line whose names were listed was printed.
   pub lists_line : (p q : LineProcessor S) (depths : Bool) (old new : Option (List ℕ)) (buffered left pending : List ℕ) → ProcessorRepresents stands piece_of p o piece xs t →
       p.lister ≡ Some depths → q.lister ≡ p.lister → q.printer ≡ p.printer → q.differs ≡ p.differs →
       ListsLine o q.decider xs t l depths old new buffered left pending → PrintsLine stands piece_of q o piece xs t l true old new buffered left pending
@@ -131,7 +131,7 @@ module _ {S : Type 0} (stands : S → List Judged → Type 0) (piece_of : S → 
     front = k.front;
   }
 
-  -- what a printer makes of the line is what the definition of its pieces does
+  -- The printer's piece of the line is the definition's.
   piece_is : (p : LineProcessor S) (r : LineDecider) (step : Step) → (h : ProcessorRepresents stands piece_of p o piece xs t) → (one : DecidesLine o r xs t l step) →
       piece_of p.printer (judged_lines xs (marks t)) (record { line = l; verdict = step.verdict; keyword = as_span step.keyword })
       ≡ piece (judged_lines xs (marks t)) (judged_line (next_item o xs t l) one.mark)

@@ -1,4 +1,4 @@
--- Went: how a run ends, by what its engine was fed.
+-- The end of a run, by what its engine was fed.
 use Rattle.std.proofs.Common.{◌≡◌, inl, inr, ℕ, Bool, List, ◌++◌, Option, Some, None, Result, Ok, Err, IfOk, IfErr, refl, ◌∙◌, subst}
 use Rattle.std.specs.Io.KnownBytes.{Appends, IsAtEnd}
 use Rattle.std.proofs.KnownBytes.{Appends-trans}
@@ -21,12 +21,12 @@ use Rattle.ud_io.proofs.BufferingLemmas.{prefix_of_second}
 use Rattle.ud_engine.proofs.LinePartLemmas.{reads_so_far}
 
 module _ (o : Options) where
-  -- what was printed of these lines is their output
+  -- The bytes that were printed for these lines are their output.
   appended_is : (xs : List (Item Reading)) (t : Tree Reading) (f : Option Fault) (a c : Option (List ℕ)) (all : List ℕ) →
       all ≡ text_by o.settings.listing (own_piece o) xs t → Appends a c all → Appends a c (outcome_of o.settings xs t f).output
   appended_is xs t f a c all is h = subst (λ x. Appends a c x) (is ∙ same_text o.settings.listing o.settings xs t) h
 
-  -- a read failed
+  -- A read failed.
   pub printed_so_far : {S : Type 0} (stands : S → List Judged → Type 0) (piece_of : S → List Judged → Judged → List ℕ) (e : EngineState S) (text printed : List ℕ) →
       (h : EngineRepresentsBuffered stands piece_of e o (own_piece o) text printed) → (a b : Option (List ℕ)) → Appends a b printed → PrintsSoFar o text a b
   printed_so_far stands piece_of e text printed h a b before = record {
@@ -37,7 +37,7 @@ module _ (o : Options) where
   }
 
   module _ (left a b c : Option (List ℕ)) (printed : List ℕ) (before : Appends a b printed) where
-    -- a write failed, after what is printed of some lines before
+    -- A write failed, after the output for some lines before.
     front_is : (xs : List (Item Reading)) (t : Tree Reading) (more : List ℕ) → printed ++ more ≡ text_by o.settings.listing (own_piece o) xs t → AppendsPrefix b c more →
         AppendsPrefix a c (output_by o.settings.listing o.settings xs t)
     front_is xs t more is front =
@@ -51,7 +51,7 @@ module _ (o : Options) where
       appended = appended_is s.items s.tree (Some f) a c (printed ++ more) s.printed_is (Appends-trans a b c printed more before after);
     }
 
-    -- a piece is faulty, or a write failed
+    -- A chunk is faulty, or a write failed.
     pub fed_ends : (failed : Bool) (longer : List ℕ) (f : RunFault) → FeedFails o (own_piece o) failed b c longer printed f → EndsWith o longer left a c (Err f)
     fed_ends failed longer (Text f) w = fault_found longer w.1.0 (limit_of f) w.1.1 w.1.2
     fed_ends failed longer (Section f) w = fault_found longer w.1.0 (fault_of f) w.1.1 w.1.2
@@ -75,7 +75,7 @@ module _ (o : Options) where
     end_fails failed given ended Write w =
         at_end ended (record { items = w.1.items; tree = w.1.tree; goes = w.1.goes; front = front_is w.1.items w.1.tree w.1.more w.1.printed_is w.1.front })
 
-    -- the text has ended
+    -- The text has ended.
     pub end_ends : (failed : Bool) (given : List ℕ) → IsAtEnd left → (r : Result Bool RunFault) → IfOk r (FinishOk o (own_piece o) given printed b c) →
         IfErr r (FinishErr o (own_piece o) failed b c given printed) → EndsWith o given left a c r
     end_ends failed given ended (Ok d) w x = (ended, ran_well o a b c given printed d before w)

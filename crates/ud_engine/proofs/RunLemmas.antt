@@ -1,4 +1,4 @@
--- Running: what a run leaves, read by read.
+-- Running: the state of a run, read by read.
 use Rattle.std.proofs.Common.{◌≡◌, ℕ, ◌+◌, ◌-◌, ◌<◌, ◌≤◌, Bool, true, false, List, ◌∷◌, ◌++◌, length, take, drop, Option, Some, None, Result, Ok, Err, IfOk, IfErr, OnOk, IfSome, refl, sym, ◌∙◌, ap, subst, append_assoc, append-nil, take-append-drop, arith, length-append}
 use Rattle.std.specs.Io.KnownBytes.{Appends, Consumes, IsAtEnd}
 use Rattle.std.proofs.lemmas.List.{take-append-le}
@@ -28,7 +28,7 @@ use Rattle.ud_engine.specs.ProcessedLines.{text_by, differs_in}
 use Rattle.ud_engine.specs.Runs.{LagsOneRead, all_but_last_chunk, bytes_to_limit}
 use Rattle.ud_engine.proofs.LinePartLemmas.{before_is, rest_is, reads_so_far}
 
--- what a definition prints is its output
+-- The output by a printer's definition is the outcome's.
 pub same_text : (q : Listing) (s : Settings) (xs : List (Item Reading)) (t : Tree Reading) → text_by q (piece_after (style_of s)) xs t ≡ output_by q s xs t
 same_text Off s xs t = refl
 same_text Names s xs t = refl
@@ -39,19 +39,19 @@ same_differs Off s xs t = refl
 same_differs Names s xs t = refl
 same_differs Depths s xs t = refl
 
--- what a reader has left is the bytes that it gave up to its end
+-- The bytes of a reader are all that it gave until its end.
 pub input_is : (r₀ r₁ : Option (List ℕ)) (given : List ℕ) (P : List ℕ → Type 0) → Consumes r₀ r₁ given → IsAtEnd r₁ → P given → IfSome r₀ P
 input_is None r₁ given P c e p = tt
 input_is (Some xs) None given P c e p = absurd c
 input_is (Some xs) (Some ys) given P c e p = subst P (sym (append-nil given) ∙ ap (λ y. given ++ y) (sym e) ∙ sym c) p
 
--- or begins with those that it gave
+-- The bytes of a reader begin with those that it gave.
 pub input_begins : (r₀ r₁ : Option (List ℕ)) (given : List ℕ) (P : List ℕ → Type 0) → Consumes r₀ r₁ given → ((more : List ℕ) → P (given ++ more)) → IfSome r₀ P
 input_begins None r₁ given P c p = tt
 input_begins (Some xs) None given P c p = absurd c
 input_begins (Some xs) (Some ys) given P c p = subst P (sym c) (p ys)
 
--- a run's answer of this fault
+-- The result of a run with this fault.
 abbrev pub the_err : RunFault → Result Bool RunFault
 the_err f = Err f
 
@@ -68,7 +68,7 @@ module _ (o : Options) where
     answered = answered;
   }
 
-  -- the text has ended, and is right
+  -- The text has ended, and has no fault.
   pub ran_well : (a b c : Option (List ℕ)) (given printed : List ℕ) (differs : Bool) → Appends a b printed →
       FinishOk o own_piece given printed b c differs → RunAnswers o given a c (Ok differs)
   ran_well a b c given printed differs before w =
@@ -82,7 +82,7 @@ module _ (o : Options) where
       outcome_at given w.items w.tree (Some f) a c (Err by) (printed ++ w.more) w.reads w.printed_is
       (Appends-trans a b c printed w.more before w.appended) (sym told, λ none. cc)
 
-  -- the text has ended, and is faulty
+  -- The text has ended, and has a fault.
   pub ran_ill : (a b c : Option (List ℕ)) (given printed : List ℕ) (failed : Bool) (f : RunFault) → failed ≡ false → Appends a b printed →
       FinishErr o own_piece failed b c given printed f → RunAnswers o given a c (Err f)
   ran_ill a b c given printed failed (Text f) works before w = ran_at a b c given printed (limit_of f) (Text f) refl before w.1
@@ -96,7 +96,7 @@ module _ (o : Options) where
       outcome_at (longer ++ later) w.items w.tree (Some f) a c (Err by) (printed ++ more) (reads_stay later w.reads).1 w.printed_is
       (Appends-trans a b c printed more before appended) (sym told, λ none. cc)
 
-  -- it is faulty before its end
+  -- The text has a fault before its end.
   pub ran_early : (a b c : Option (List ℕ)) (longer printed : List ℕ) (failed : Bool) (f : RunFault) → failed ≡ false → Appends a b printed →
       FeedFails o own_piece failed b c longer printed f → (later : List ℕ) → RunAnswers o (longer ++ later) a c (Err f)
   ran_early a b c longer printed failed (Text f) works before w later = ran_stopped a b c longer printed w.1.0 (limit_of f) (Text f) refl before w.1.2 w.1.1 later
@@ -117,7 +117,7 @@ module _ (o : Options) where
         let no : r.fault ≡ None = ap (λ (s : Outcome). s.fault) same in
         sym e₁ ∙ no
 
-    -- what came before the last piece is written
+    -- The output for all before the last chunk is written.
     pub kept_up : (r₀ r₁ a b c : Option (List ℕ)) (last more : List ℕ) → Consumes r₀ r₁ (text ++ last) → length last ≤ CHUNK_BYTES → Appends a b printed → Appends b c more →
         LagsOneRead o r₀ r₁ a c
     kept_up r₀ r₁ a b c last more consumed few before after =
@@ -142,7 +142,7 @@ module _ (o : Options) where
               (Appends-trans a b c printed more before after);
         }
 
-    -- the more is fed, the less fits below the limits
+    -- The more is fed, the less fits below the limits.
     pub fed_room : (f : EngineState S) (bytes later : List ℕ) → EngineRepresentsBuffered stands piece_of f o own_piece (text ++ bytes) later → 0 < length bytes → bytes_to_limit f.lines < bytes_to_limit e.lines
     fed_room f bytes later k some = by_growth (grows text bytes)
       where
@@ -165,14 +165,14 @@ module _ (o : Options) where
             let c = k.count in
             omega (arith, before, before_more, n, c)
 
-  -- however the end went, something was appended
+  -- Whatever the result at the end, something was appended.
   pub end_appended : (failed : Bool) (b c : Option (List ℕ)) (given printed : List ℕ) (f : RunFault) → FinishErr o own_piece failed b c given printed f → (x : List ℕ) × Appends b c x
   end_appended failed b c given printed (Text f) w = (w.1.more, w.1.appended)
   end_appended failed b c given printed (Section f) w = (w.1.more, w.1.appended)
   end_appended failed b c given printed Read w = absurd w
   end_appended failed b c given printed Write w = (w.1.front.0, w.1.front.3)
 
-  -- however a piece went, something was appended
+  -- Whatever the result of a chunk, something was appended.
   pub feed_appended : (failed : Bool) (b c : Option (List ℕ)) (longer printed : List ℕ) (f : RunFault) → FeedFails o own_piece failed b c longer printed f → (x : List ℕ) × Appends b c x
   feed_appended failed b c longer printed (Text f) w = (w.1.0, w.1.2)
   feed_appended failed b c longer printed (Section f) w = (w.1.0, w.1.2)
@@ -180,7 +180,7 @@ module _ (o : Options) where
   feed_appended failed b c longer printed Write w = (w.1.2.0, w.1.2.3)
 
   module _ (a b c : Option (List ℕ)) (given printed : List ℕ) (failed : Bool) (before : Appends a b printed) where
-    -- the end of the text
+    -- The end of the text.
     pub ended_ran : (r : Result Bool RunFault) → IfOk r (FinishOk o own_piece given printed b c) → IfErr r (FinishErr o own_piece failed b c given printed) → failed ≡ false → RunAnswers o given a c r
     ended_ran (Ok d) w x works = ran_well a b c given printed d before w
     ended_ran (Err f) w x works = ran_ill a b c given printed failed f works before x
@@ -189,7 +189,7 @@ module _ (o : Options) where
     ended_appended (Ok d) w x = (w.more, w.appended)
     ended_appended (Err f) w x = end_appended failed b c given printed f x
 
-  -- which faults the end gives
+  -- The faults possible at the end.
   pub ended_read : (b c : Option (List ℕ)) (given printed : List ℕ) (failed reader : Bool) (r : Result Bool RunFault) → reader ≡ false → IfErr r (FinishErr o own_piece failed b c given printed) →
       (reader ≡ true → r ≡ Err Read) × (r ≡ Err Read → reader ≡ true)
   ended_read b c given printed failed reader (Ok d) e w = (λ f. cc, λ f. cc)
@@ -206,7 +206,7 @@ module _ (o : Options) where
   ended_write b c given printed failed (Err Read) e w = absurd w
   ended_write b c given printed failed (Err Write) e w = (λ f. refl, λ f. w.0)
 
-  -- which faults a piece gives
+  -- The faults possible in a chunk.
   pub fed_read : (b c : Option (List ℕ)) (longer printed : List ℕ) (failed reader : Bool) (f : RunFault) → reader ≡ false → FeedFails o own_piece failed b c longer printed f →
       (reader ≡ true → the_err f ≡ Err Read) × (the_err f ≡ Err Read → reader ≡ true)
   fed_read b c longer printed failed reader (Text f) e w = (λ g. cc, λ g. cc)

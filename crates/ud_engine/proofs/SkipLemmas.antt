@@ -1,4 +1,4 @@
--- What a reader stands for once it has read many text lines at once.
+-- The state of a line decider after many text lines at once.
 use Rattle.std.proofs.Common.{◌≡◌, ℕ, suc, ◌+◌, ◌<◌, ◌≤◌, List, [], ◌∷◌, ◌++◌, length, take, drop, take-append-drop, map, refl, sym, ◌∙◌, ap, ap₂, subst, append_assoc, append-nil, arith}
 use Rattle.std.specs.List.{concat}
 use Rattle.std.proofs.lemmas.List.{map-append}
@@ -28,17 +28,17 @@ use Rattle.ud_sections.proofs.TransitionLemmas.{last_number_last}
 use Rattle.ud_engine.specs.declared.line_decider.LineDecider.{LineDecider}
 use Rattle.ud_engine.specs.DecidedLines.{DeciderRepresents, DecidesBulk, consumed}
 
--- of lines that can be skipped, the first ones can
+-- The first of some lines that can be consumed can be consumed.
 pub can_skip_take : (lines : LinesState) (bytes : List ℕ) (n : ℕ) → passing.AreWholeLines (take n bytes) → CanConsume lines bytes → CanConsume lines (take n bytes)
 can_skip_take lines bytes n ends can =
     can_consume_front lines (take n bytes) (drop n bytes) ends (subst (CanConsume lines) (sym (take-append-drop n bytes)) can)
 
--- each of these lines is within the limits
+-- Each of these lines is within the limits.
 abbrev AreWithin : List Line → Type 0
 AreWithin [] = Unit {0}
 AreWithin (l ∷ ls) = IsWithinLimits l × AreWithin ls
 
--- lines that fit, with numbers that do
+-- Lines that fit, with numbers that fit.
 are_within : (n : ℕ) (ls : List (List ℕ)) → EachFits ls → n + length ls ≤ TEXT_LINES → AreWithin (numbered_from (suc n) ls)
 are_within n [] fits few = tt
 are_within n (l ∷ ls) fits few = (
@@ -50,7 +50,7 @@ are_within n (l ∷ ls) fits few = (
 )
 
 module _ (mode : Mode) where
-  -- the readings of these lines in this mode, each after those before it
+  -- The readings of these lines in this mode, each after those before it.
   abbrev read_all : List (Item Reading) → List Line → List Reading
   read_all xs [] = []
   read_all xs (l ∷ ls) = read_after xs mode l ∷ read_all (xs ++ text_line (read_after xs mode l) ∷ []) ls
@@ -81,7 +81,7 @@ module _ (mode : Mode) where
   lines_are xs [] = refl
   lines_are xs (l ∷ ls) = ap (λ ks. l ∷ ks) (lines_are (xs ++ text_line (read_after xs mode l) ∷ []) ls)
 
-  -- text lines with one mark are judged as such
+  -- Text lines with one mark have that mark's verdict.
   judged_are : (xs : List (Item Reading)) (ls : List Line) (mark : Mark) (verdict : Verdict) → verdict ≡ mark.verdict → passing.HaveNoDirective mode (map reading_of xs) ls →
       judged_lines (map text_line (read_all xs ls)) (map (λ r. mark) (read_all xs ls)) ≡ map (judged_text verdict) ls
   judged_are xs [] mark verdict e a = refl
@@ -100,7 +100,7 @@ module _ (mode : Mode) where
       ∙ last_is (xs ++ text_line first ∷ []) (suc n) k ls ∙ omega arith
 
 module _ (o : Options) (old new : LineDecider) (xs : List (Item Reading)) (t : Tree Reading) (h : DeciderRepresents o old xs t) (n : ℕ) (verdict : Verdict) where
-  -- no line was read
+  -- No line was read.
   pub reads_none : (mode : Mode) → new.machine ≡ old.machine → SkipsText mode old.scanner new.scanner [] → DecidesBulk o new xs t (numbered_from (suc n) (whole_lines [])) verdict
   unfolding split_lines
   reads_none mode same passes = record {
@@ -145,7 +145,7 @@ module _ (o : Options) (old new : LineDecider) (xs : List (Item Reading)) (t : T
           judged_so = judged_are mode xs all done.mark verdict done.verdict_is texts;
         }
 
-    -- the lines of these bytes were read, one at least
+    -- The lines of these bytes were read, one at least.
     pub reads_all : 0 < length (whole_lines bytes) → DecidesBulk o new xs t (numbered_from (suc n) (whole_lines bytes)) verdict
     reads_all some =
         by_case (whole_lines bytes) fits few counted some (passes.stands (suc n) (map reading_of xs) h.carries) (passes.texts (suc n) (map reading_of xs) h.carries)
@@ -156,7 +156,7 @@ module _ (o : Options) (old new : LineDecider) (xs : List (Item Reading)) (t : T
         by_case [] fit less is one carries texts = absurd (omega (arith, one))
         by_case (l ∷ ls) fit less is one carries texts = by_lines l ls fit less is carries texts
 
--- bytes that end a line have one
+-- Nonempty bytes that end with a line have a line.
 pub some_line : (bytes : List ℕ) → passing.AreWholeLines bytes → 0 < length bytes → 0 < length (whole_lines bytes)
 some_line bytes ends some = by_lines (whole_lines bytes) (ended_lines bytes ends)
   where
@@ -164,7 +164,7 @@ some_line bytes ends some = by_lines (whole_lines bytes) (ended_lines bytes ends
     by_lines [] e = absurd (let z = ap length e in omega (arith, z, some))
     by_lines (l ∷ ls) e = omega arith
 
--- no lines are skipped
+-- No lines are consumed.
 pub skips_none : (lines : LinesState) → lines ≡ consumed lines []
 unfolding split_lines
 skips_none lines = ap (λ n. record lines { before = n }) (omega arith)

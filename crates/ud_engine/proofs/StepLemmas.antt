@@ -1,4 +1,4 @@
--- Steps: what a step through a piece leaves of an engine.
+-- Steps: the engine's state after a step through a chunk.
 use Rattle.std.proofs.Common.{◌≡◌, ℕ, suc, ◌+◌, ◌-◌, ◌<◌, ◌≤◌, Bool, true, false, List, [], ◌∷◌, ◌++◌, length, take, drop, Option, None, sym, ◌∙◌, ap, subst, ap₂, append_assoc, append-nil, take-append-drop, arith}
 use Rattle.std.proofs.lemmas.Grind.{common_steps}
 use Rattle.std.proofs.lemmas.List.{drop-take}
@@ -24,24 +24,24 @@ use Rattle.ud_io.specs.Watched.{AppendsPrefix}
 use Rattle.ud_io.proofs.BufferingLemmas.{appends_all_but_none}
 use Rattle.ud_engine.proofs.LinePartLemmas.{before_is, rest_is, split_lines-front_of, parts_behind, line_taken, open_taken, line_next, line_stops, line_falls_short, run_falls_short}
 
--- a last line that has no line feed has none in its body
+-- A last line without a newline has none in its body.
 pub rest_feedless : (n : ℕ) (l : List ℕ) → NoNewline l → NoNewline (line_at n l).body
 rest_feedless n l h = no_feed-take (length l - length (ending_of l)) l h
 
--- the line that is held with what a piece ends it by
+-- The buffered line with the bytes of a chunk that end it.
 pub held_whole : (held rest : List ℕ) (used : ℕ) (whole : Bool) → whole ≡ true → NoNewline held → UpToNewline rest used whole → IsWhole (held ++ take used rest)
 held_whole held rest used whole e h to =
     let line : (front : List ℕ) × NoNewline front × (take used rest ≡ front ++ 10 ∷ []) = to.line e in
     (held ++ line.0, no_feed-append held line.0 h line.1, ap (λ x. held ++ x) line.2 ∙ sym (append_assoc held line.0 (10 ∷ [])))
 
--- a line of this number within the limits
+-- A line of this number within the limits.
 pub is_within : (l : Line) (n : ℕ) (bytes : List ℕ) → l ≡ line_at n bytes → n ≤ TEXT_LINES → length bytes ≤ LINE_BYTES → IsWithinLimits l
 is_within l n bytes e number fits = record {
   number_fits = subst (λ (k : Line). k.number ≤ TEXT_LINES) (sym e) number;
   bytes_fit = subst (λ (k : Line). length (text_of k) ≤ LINE_BYTES) (sym e) (subst (λ (x : List ℕ). length x ≤ LINE_BYTES) (sym (text_of-line_at n bytes)) fits);
 }
 
--- bytes without a line feed lengthen the line
+-- Bytes without a newline lengthen the line.
 pub still_open : (lines mid : LinesState) (rest : List ℕ) (used : ℕ) (whole : Bool) → whole ≡ false → IsOpen lines → UpToNewline rest used whole →
     mid ≡ record lines { held = lines.held ++ take used rest; whole = whole } → length mid.held ≤ LINE_BYTES → IsOpen mid
 still_open lines mid rest used whole e h to is short =
@@ -56,11 +56,11 @@ still_open lines mid rest used whole e h to is short =
           (no_feed-append lines.held (take used rest) h.no_newline (no_feed-take used rest all.1));
     }
 
--- what was taken of a piece takes no more room than it has
+-- The rest of a chunk fits after the bytes that were taken.
 pub has_room : (room : ℕ) (lines new : LinesState) (left used : ℕ) → HasCapacity room lines left → used ≤ left → length new.held ≤ length lines.held + used → HasCapacity room new (left - used)
 has_room room lines new left used has within few = λ small. let h = has small in omega (arith, h, within, few)
 
--- after a whole line nothing is held
+-- After a whole line, nothing is buffered.
 pub open_again : (lines mid new : LinesState) (rest : List ℕ) (used : ℕ) (whole : Bool) → IsOpen lines →
     mid ≡ record lines { held = lines.held ++ take used rest; whole = whole } → new ≡ record mid { held = []; whole = false; before = mid.before + 1 } → IsOpen new
 open_again lines mid new rest used whole h is cleared = record {
@@ -71,7 +71,7 @@ open_again lines mid new rest used whole h is cleared = record {
   no_newline = subst (λ (x : List ℕ). NoNewline x) (sym (ap (λ (l : LinesState). l.held) cleared)) tt;
 }
 
--- a refusal leaves what is held
+-- A fault leaves the buffered bytes.
 pub open_refused : (lines new : LinesState) (f : _) → IsOpen lines → new ≡ record lines { fault = f } → IsOpen new
 open_refused lines new f h is = record {
   part = ap (λ (l : LinesState). l.whole) is ∙ h.part;
@@ -83,7 +83,7 @@ open_refused lines new f h is = record {
 
 module _ {S : Type 0} (stands : S → List Judged → Type 0) (piece_of : S → List Judged → Judged → List ℕ) (o : Options) (piece : List Judged → Judged → List ℕ)
     (e : EngineState S) (text printed : List ℕ) (h : EngineRepresentsBuffered stands piece_of e o piece text printed) (a b : Option (List ℕ)) (g pending rest : List ℕ) (ge : e.buffered ≡ g) where
-  -- bytes without a line feed are held, and the run before them is put
+  -- Bytes without a newline are buffered, and the pending bytes before them are appended.
   pub open_step : (f : EngineState S) (used : ℕ) (whole : Bool) → whole ≡ false → UpToNewline rest used whole → f.symbols ≡ e.symbols → f.printer ≡ e.printer →
       f.lines ≡ record e.lines { held = e.lines.held ++ take used rest; whole = whole } → LinesRepresent f.lines (text ++ take used rest) → f.lines.fault ≡ None →
       (length f.lines.held ≤ LINE_BYTES) × (e.lines.before < e.lines.last_line) → AppendsAllBut a b (e.buffered ++ pending) f.buffered →
@@ -104,7 +104,7 @@ module _ {S : Type 0} (stands : S → List Judged → Type 0) (piece_of : S → 
             (subst (λ x. AppendsAllBut a b (x ++ pending) f.buffered) ge sent);
       }
 
-  -- a line feed ends the line, and what is printed of it is put after the run
+  -- A newline ends the line, and the output for it is appended after the pending bytes.
   pub line_step : (f : EngineState S) (mid : LinesState) (used : ℕ) (whole : Bool) (l : Line) → whole ≡ true → UpToNewline rest used whole → f.symbols ≡ e.symbols →
       mid ≡ record e.lines { held = e.lines.held ++ take used rest; whole = whole } →
       f.lines ≡ record mid { held = []; whole = false; before = mid.before + 1 } → LinesRepresent f.lines (text ++ take used rest) → mid.fault ≡ None → e.lines.before < e.lines.last_line →
@@ -130,7 +130,7 @@ module _ {S : Type 0} (stands : S → List Judged → Type 0) (piece_of : S → 
             (subst (λ x. AppendsAllBut a b (x ++ (pending ++ prints.more)) f.buffered) ge prints.goes);
       }
 
-  -- the next line is faulty, or a write fails
+  -- The next line is faulty, or a write fails.
   pub refused_by : (l : Line) (f : RunFault) (later : List Line) → lines_so_far (text ++ rest) ≡ lines_so_far text ++ l ∷ later →
       PrintErr o piece h.items h.tree l a b e.buffered pending f → StepFails o piece (text ++ rest) printed a b (g ++ pending) f
   refused_by l (Section f) later are fails = line_stops stands piece_of o piece e text printed h (text ++ rest) l later (fault_of f) are fails
@@ -140,7 +140,7 @@ module _ {S : Type 0} (stands : S → List Judged → Type 0) (piece_of : S → 
   refused_by l (Text f) later are fails = absurd fails
   refused_by l Read later are fails = absurd fails
 
-  -- the line that a line feed ends is faulty, or a write fails
+  -- The line that a newline ends is faulty, or a write fails.
   pub line_refused : (mid : LinesState) (used : ℕ) (whole : Bool) (l : Line) (f : RunFault) → whole ≡ true → UpToNewline rest used whole →
       mid ≡ record e.lines { held = e.lines.held ++ take used rest; whole = whole } → l ≡ line_at (suc mid.before) mid.held →
       PrintErr o piece h.items h.tree l a b e.buffered pending f → StepFails o piece (text ++ rest) printed a b (g ++ pending) f
@@ -157,15 +157,15 @@ module _ {S : Type 0} (stands : S → List Judged → Type 0) (piece_of : S → 
   run_refused_by front =
       run_falls_short stands piece_of o piece e text printed h rest a b (g ++ pending) (subst (λ x. AppendsPrefix a b (x ++ pending)) ge front)
 
--- what a slice from a place on is
+-- The slice from a position to the end.
 pub slice_from : (p : List ℕ) (n : ℕ) → take (length p - n) (drop n p) ≡ drop n p
 slice_from p n = grind (arith, common_steps)
 
--- no bytes stand between a place and itself
+-- No bytes are between a position and itself.
 pub between_none : (p : List ℕ) (n : ℕ) → slice_between p n n ≡ []
 between_none p n = let z : n - n ≡ 0 = omega arith in ap (λ k. take k (drop n p)) z
 
--- the bytes up to a place and those from there to another
+-- The bytes up to a position, and those from there to another.
 pub between_more : (p : List ℕ) (from at end : ℕ) → from ≤ at → at ≤ end → slice_between p from end ≡ slice_between p from at ++ slice_between p at end
 between_more p from at end h k =
     let n : end - from ≡ (at - from) + (end - at) = omega (arith, h, k) in
@@ -179,7 +179,7 @@ between_more p from at end h k =
     take-front : (i j : ℕ) (q : List ℕ) → take i (take (i + j) q) ≡ take i q
     take-front i j q = grind (arith, common_steps)
 
--- the same from the beginning
+-- The bytes up to a position, and those from there to another, from the beginning.
 pub take_more_of : (p : List ℕ) (at end : ℕ) → at ≤ end → take at p ++ slice_between p at end ≡ take end p
 take_more_of p at end h =
     let n : at - 0 ≡ at = omega arith in
@@ -220,7 +220,7 @@ module _ {S : Type 0} (stands : S → List Judged → Type 0) (piece_of : S → 
       (ap (λ (k : LinesState). k.fault) counted ∙ h.unrefused) (ap (λ (k : LinesState). k.held) counted ∙ lends.unheld)
       (let m = h.opened.limit in let n = ap (λ (k : LinesState). k.before) counted in let q = lends.numbered in omega (arith, m, n, q)) p.has p.is_more)
 
-  -- what is printed of a line is put after the run before it, and a new run begins after it
+  -- The output for a line is appended after the pending bytes, and nothing is pending after it.
   pub lent_put : (put : Bool) → put ≡ true → PrintsLine stands piece_of f.printer o piece h.items h.tree l put a b e.buffered f.buffered (slice_between bytes from at) →
       Advances stands piece_of f o piece text printed (slice_between bytes at end) a b (g ++ slice_between bytes from at) (f.buffered ++ slice_between bytes end end)
   lent_put false w p = cc
@@ -233,7 +233,7 @@ module _ {S : Type 0} (stands : S → List Judged → Type 0) (piece_of : S → 
         (subst (λ x. AppendsAllBut a b (x ++ (slice_between bytes from at ++ p.more)) f.buffered) ge p.goes));
   }
 
-  -- a line that stays as it is lengthens the run
+  -- An unchanged line extends the pending bytes.
   pub lent_kept : (put : Bool) → put ≡ false → PrintsLine stands piece_of f.printer o piece h.items h.tree l put a b e.buffered f.buffered (slice_between bytes from at) →
       Advances stands piece_of f o piece text printed (slice_between bytes at end) a b (g ++ slice_between bytes from at) (f.buffered ++ slice_between bytes from end)
   lent_kept true w p = cc
@@ -250,7 +250,7 @@ module _ {S : Type 0} (stands : S → List Judged → Type 0) (piece_of : S → 
             (subst (λ x. AppendsAllBut a x ((g ++ slice_between bytes from at) ++ p.more) ((g ++ slice_between bytes from at) ++ p.more)) (sym p.goes.0) (appends_all_but_none a ((g ++ slice_between bytes from at) ++ p.more)));
       }
 
-  -- the line is faulty, or a write fails
+  -- The line is faulty, or a write fails.
   pub lent_refused : (fault : RunFault) → PrintErr o piece h.items h.tree l a b e.buffered (slice_between bytes from at) fault →
       StepFails o piece (text ++ drop at bytes) printed a b (g ++ slice_between bytes from at) fault
   lent_refused fault fails =
@@ -260,7 +260,7 @@ module _ {S : Type 0} (stands : S → List Judged → Type 0) (piece_of : S → 
       (refused_by stands piece_of o piece e text printed h a b g (slice_between bytes from at) rest ge l fault next.0
       (next.1 ∙ ap (λ k. lines_so_far text ++ k ∷ next.0) (sym own_number)) fails)
 
--- bytes that were taken by way of the line that is held
+-- Bytes that were taken through the line buffer.
 module _ {S : Type 0} (stands : S → List Judged → Type 0) (piece_of : S → List Judged → Judged → List ℕ) (o : Options) (piece : List Judged → Judged → List ℕ)
     (text printed : List ℕ) (a b : Option (List ℕ)) (bytes rest : List ℕ) (at used : ℕ) (rest_from : rest ≡ drop at bytes) (f : EngineState S) (pending : List ℕ) where
   pub held_taken : Advances stands piece_of f o piece text printed (take used rest) a b pending f.buffered →

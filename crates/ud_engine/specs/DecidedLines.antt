@@ -1,9 +1,9 @@
--- DecidedLines: what a reader of lines stands for.
+-- DecidedLines: the state of a line decider.
 --
---   DeciderRepresents o r xs t        the reader has read these items, under these options; t is their tree
---   DecidesLine o r xs t l step       it has read the line l too, and this step is its own
---   consumed lines bytes              the lines of these bytes are given up too
---   DecidesBulk o r xs t ls verdict   it has read the lines ls too, all of which are text with this verdict
+--   DeciderRepresents o r xs t        a decider has read these items
+--   DecidesLine o r xs t l step       it has also read this line
+--   consumed lines bytes              a line buffer once these bytes are consumed
+--   DecidesBulk o r xs t ls verdict   a decider has also read these text lines
 use Rattle.std.specs.Prelude.{◌≡◌, ℕ, ◌+◌, List, [], ◌∷◌, ◌++◌, length, map, None}
 use Rattle.ud_model.specs.text.Lines.{Line, whole_lines}
 use Rattle.ud_model.specs.text.Scans.{Reading}
@@ -20,14 +20,16 @@ use Rattle.ud_sections.specs.StepViews.{as_span}
 use Rattle.ud_sections.specs.declared.step.Step.{Step}
 use Rattle.ud_engine.specs.declared.line_decider.LineDecider.{LineDecider}
 
--- the reader has read these items, none of which is faulty
+-- `DeciderRepresents o r xs t`: the decider `r` has read the items `xs` under the options `o`. None
+-- of them is faulty, and `t` is their tree.
 pub record DeciderRepresents (o : Options) (r : LineDecider) (xs : List (Item Reading))
     (t : Tree Reading) : Type 0 where
   pub read : MachineRepresents r.machine o xs t
   pub unrefused : machine_fault r.machine ≡ None
   pub carries : ScannerRepresents r.scanner (map reading_of xs)
 
--- the items are one more, whose mark is the last one; the step has its verdict, and the place of its keyword
+-- `DecidesLine o r xs t l step`: after the items `xs`, `r` has also read the line `l`. The step has
+-- the verdict of the line's mark, which is the last one, and the span of its keyword.
 pub record DecidesLine (o : Options) (r : LineDecider) (xs : List (Item Reading)) (t : Tree Reading)
     (l : Line) (step : Step) : Type 0 where
   pub tree : Tree Reading
@@ -37,11 +39,12 @@ pub record DecidesLine (o : Options) (r : LineDecider) (xs : List (Item Reading)
   pub judged_so : record { line = l; verdict = step.verdict; keyword = as_span step.keyword } ≡
       judged_line (next_item o xs t l) mark
 
--- the whole lines of these bytes are given up too
+-- `consumed lines bytes`: `lines` once the whole lines of `bytes` are consumed too.
 abbrev pub consumed : LinesState → List ℕ → LinesState
 consumed lines bytes = record lines { before = lines.before + length (whole_lines bytes) }
 
--- the items are those of these lines more, if there are any, each a text line with this verdict
+-- `DecidesBulk o r xs t ls verdict`: after the items `xs`, `r` has also read the lines `ls`, if
+-- any. Each of them is a text line with this verdict.
 pub record DecidesBulk (o : Options) (r : LineDecider) (xs : List (Item Reading)) (t : Tree Reading)
     (ls : List Line) (verdict : Verdict) : Type 0 where
   pub items : List (Item Reading)

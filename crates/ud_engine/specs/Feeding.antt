@@ -1,12 +1,12 @@
--- Feeding: what an engine stands for.
+-- Feeding: the state of an engine, and the text that it was fed.
 --
---   EngineState S                                        an engine that prints by an S, as callers see it
---   IsOpen lines                                         bytes can be taken: no whole line is held, and the text goes on
---   EngineRepresentsBuffered .. e o piece text printed   the engine took this text, none of it faulty, and this is printed of its whole lines
---   EngineRepresents .. e o piece text printed           so it did, it has refused nothing, and all of this is written
---   Continues .. old new more                            what was fed next was taken, and this was appended
---   FeedFails .. old new longer f                        what was fed next is faulty, or a write failed
---   ErrorMatchesWriter failed f                          a write error is told exactly if the writer has failed, and a read error never
+--   EngineState S                                        the view of an engine
+--   IsOpen lines                                         more bytes can be taken
+--   EngineRepresentsBuffered .. e o piece text printed   an engine took this text
+--   EngineRepresents .. e o piece text printed           it did, and all output is written
+--   Continues .. e o piece longer printed old new        the next chunk was fed
+--   FeedFails .. old new longer printed f                feeding the next chunk failed
+--   ErrorMatchesWriter failed f                          the error is `Write` if the writer failed
 use Rattle.std.specs.Prelude.{◌≡◌, ℕ, ◌<◌, ◌≤◌, List, [], ◌++◌, length, Bool, true, false, Option}
 use Rattle.std.specs.Prelude.{Some, None}
 use Rattle.std.specs.Io.KnownBytes.{Appends}
@@ -30,7 +30,8 @@ use Rattle.ud_engine.specs.declared.line_processor.LineProcessor.{LineProcessor}
 use Rattle.ud_engine.specs.ProcessedLines.{ProcessorRepresents, text_by}
 use Rattle.ud_io.specs.Watched.{AppendsPrefix}
 
--- what the table says, the line so far, what has read the lines and prints them, what is gathered, and what was refused
+-- `EngineState S`: the symbols, the line buffer, the processor that prints by an `S`, the pending
+-- output, and the fault after which the engine is fused.
 pub record EngineState (S : Type 0) : Type 0 where
   pub symbols : List Argument
   pub lines : LinesState
@@ -38,7 +39,7 @@ pub record EngineState (S : Type 0) : Type 0 where
   pub buffered : List ℕ
   pub fault : Option RunFault
 
--- bytes can be taken: no whole line is held, and the text goes on
+-- `IsOpen lines`: more bytes can be taken. No whole line is buffered, and the text goes on.
 pub record IsOpen (lines : LinesState) : Type 0 where
   pub part : lines.whole ≡ false
   pub goes_on : lines.closed ≡ false
@@ -46,7 +47,8 @@ pub record IsOpen (lines : LinesState) : Type 0 where
   pub short : length lines.held ≤ LINE_BYTES
   pub no_newline : NoNewline lines.held
 
--- these bytes were taken, none of their lines is faulty, and this is printed of the whole ones
+-- `EngineRepresentsBuffered .. e o piece text printed`: `e` took `text`, none of whose lines is
+-- faulty. `printed` is the output for its whole lines, of which some may be pending.
 pub record EngineRepresentsBuffered {S : Type 0} (stands : S → List Judged → Type 0) (piece_of : S →
     List Judged → Judged → List ℕ) (e : EngineState S) (o : Options)
     (piece : List Judged → Judged → List ℕ) (text printed : List ℕ) : Type 0 where
@@ -62,7 +64,8 @@ pub record EngineRepresentsBuffered {S : Type 0} (stands : S → List Judged →
   pub begun : 0 < length e.lines.held → e.lines.before < TEXT_LINES
   pub count : e.lines.before ≤ TEXT_LINES
 
--- so it is, nothing was refused, and nothing is left to be written
+-- `EngineRepresents .. e o piece text printed`: `EngineRepresentsBuffered`, no fault occurred, and
+-- nothing is pending.
 pub record EngineRepresents {S : Type 0} (stands : S → List Judged → Type 0) (piece_of : S →
     List Judged → Judged → List ℕ) (e : EngineState S) (o : Options)
     (piece : List Judged → Judged → List ℕ) (text printed : List ℕ) : Type 0 where
@@ -70,8 +73,9 @@ pub record EngineRepresents {S : Type 0} (stands : S → List Judged → Type 0)
   pub works : e.fault ≡ None
   pub written : e.buffered ≡ []
 
--- The longer text is fed, and this was appended, which is printed of its lines after what is printed already. Nothing in the
--- text is faulty so far; what it begins of a line is held, and so many sections are open.
+-- `Continues .. e o piece longer printed old new`: `e` was fed `longer`, and the output for its
+-- lines after `printed` was appended. The text has no fault so far. The line that it begins and its
+-- open sections are within the limits.
 pub record Continues {S : Type 0} (stands : S → List Judged → Type 0) (piece_of : S → List Judged →
     Judged → List ℕ) (e : EngineState S) (o : Options)
     (piece : List Judged → Judged →
@@ -83,12 +87,13 @@ pub record Continues {S : Type 0} (stands : S → List Judged → Type 0) (piece
   pub one_line : length (partial_line longer) ≤ LINE_BYTES
   pub few_sections : depth fed.taken.tree ≤ OPEN_SECTIONS
 
--- a limit that the text passes, as the definitions have it
+-- `limit_of f`: the fault of the definitions for a limit that the text passes.
 abbrev pub limit_of : TextFault → Fault
 limit_of (TooManyLines line) = too_many_lines line
 limit_of (LineTooLong line) = line_too_long line
 
--- the text that goes on has this fault, and this is printed of the lines before it
+-- `FaultsAfter o piece longer printed f`: `longer`, as a text that goes on, has the fault `f`.
+-- `printed` is the output for the lines before it.
 pub record FaultsAfter (o : Options) (piece : List Judged → Judged →
     List ℕ) (longer printed : List ℕ) (f : Fault) : Type 0 where
   pub items : List (Item Reading)
@@ -96,7 +101,8 @@ pub record FaultsAfter (o : Options) (piece : List Judged → Judged →
   pub reads : ReadsSoFar o longer items tree (Some f)
   pub printed_is : printed ≡ text_by o.settings.listing piece items tree
 
--- some first lines of the text that goes on aren't faulty, and this is printed of them
+-- `PrintsPrefix o piece longer printed`: `printed` is the output for some first lines of `longer`,
+-- as a text that goes on. None of these lines is faulty.
 pub record PrintsPrefix (o : Options) (piece : List Judged → Judged →
     List ℕ) (longer printed : List ℕ) : Type 0 where
   pub items : List (Item Reading)
@@ -107,8 +113,9 @@ pub record PrintsPrefix (o : Options) (piece : List Judged → Judged →
   pub goes : HasNoFault o lines items tree
   pub printed_is : printed ≡ text_by o.settings.listing piece items tree
 
--- The next bytes are faulty: what is printed of the lines before is written then, and no more. Or a write failed: a front of
--- what is printed of some first lines is written.
+-- `FeedFails o piece failed old new longer printed f`: feeding failed with `f`. At a faulty line,
+-- exactly the output for the lines before it is written. At a failed write, a prefix of the output
+-- for some first lines is written.
 abbrev pub FeedFails : Options → (List Judged → Judged → List ℕ) → Bool → Option (List ℕ) →
     Option (List ℕ) → List ℕ → List ℕ → RunFault → Type 0
 FeedFails o piece failed old new longer printed (Text f) =
@@ -122,7 +129,7 @@ FeedFails o piece failed old new longer printed Write =
     (failed ≡ true) × ((more : List ℕ) × PrintsPrefix o piece longer (printed ++ more) ×
     AppendsPrefix old new more)
 
--- what an engine refuses: `Write` exactly if the writer has failed, and `Read` never
+-- `ErrorMatchesWriter failed f`: `f` is `Write` exactly if the writer has failed, and never `Read`.
 abbrev pub ErrorMatchesWriter : Bool → RunFault → Type 0
 ErrorMatchesWriter failed (Text f) = failed ≡ false
 ErrorMatchesWriter failed (Section f) = failed ≡ false

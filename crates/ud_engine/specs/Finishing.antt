@@ -1,10 +1,10 @@
--- Finishing: what the end of a text leaves.
+-- Finishing: the end of a text, and the result of a run.
 --
---   without_fault symbols lines printer gathered   an engine of these that has refused nothing
---   PrintsAll .. printer o piece text printed      all lines of the text were read and printed, the last one too
---   FinishOk .. differs                            the text has no fault, and all of it is printed
---   FinishErr .. f                                 the text has a fault, and what is printed of the lines before it is written; or a write failed
---   ResultIs result r                              what a run answers is this outcome
+--   without_fault symbols lines printer buffered   an engine that isn't fused
+--   PrintsAll .. p o piece text printed old new    all lines of the text are printed
+--   FinishOk .. differs                            the text has no fault, and is printed
+--   FinishErr .. f                                 finishing failed
+--   ResultIs result r                              the result of a run is this outcome
 use Rattle.std.specs.Prelude.{◌≡◌, ℕ, List, ◌++◌, Bool, true, false, Option, Some, None, Result, Ok}
 use Rattle.std.specs.Prelude.{Err}
 use Rattle.std.specs.Io.KnownBytes.{Appends}
@@ -25,7 +25,7 @@ use Rattle.ud_engine.specs.Feeding.{EngineState, limit_of}
 use Rattle.ud_engine.specs.ProcessedLines.{ProcessorRepresents, text_by, differs_in}
 use Rattle.ud_io.specs.Watched.{AppendsPrefix}
 
--- an engine that has refused nothing
+-- `without_fault symbols lines printer buffered`: an engine of these parts that isn't fused.
 abbrev pub without_fault : {S : Type 0} → List Argument → LinesState → LineProcessor S → List ℕ →
     EngineState S
 without_fault symbols lines printer buffered =
@@ -38,7 +38,8 @@ without_fault symbols lines printer buffered =
           None;
     }
 
--- all lines of the text were read, none of them is faulty, and this was appended, which is printed of them after what is printed already
+-- `PrintsAll .. p o piece text printed old new`: `p` has read all lines of `text`, none of which is
+-- faulty. The output for them, after `printed`, was appended.
 pub record PrintsAll {S : Type 0} (stands : S → List Judged → Type 0) (piece_of : S → List Judged →
     Judged → List ℕ) (p : LineProcessor S) (o : Options)
     (piece : List Judged → Judged →
@@ -51,7 +52,8 @@ pub record PrintsAll {S : Type 0} (stands : S → List Judged → Type 0) (piece
   pub printed_is : printed ++ more ≡ text_by o.settings.listing piece items tree
   pub appended : Appends old new more
 
--- the text has no fault; what is printed of it is written, and this tells whether some line differs
+-- `FinishOk o piece text printed old new differs`: `text` has no fault. The output for it, after
+-- `printed`, was appended, and `differs` if some line's output differs from the line.
 pub record FinishOk (o : Options) (piece : List Judged → Judged →
     List ℕ) (text printed : List ℕ) (old new : Option (List ℕ)) (differs : Bool) : Type 0 where
   pub items : List (Item Reading)
@@ -62,7 +64,8 @@ pub record FinishOk (o : Options) (piece : List Judged → Judged →
   pub appended : Appends old new more
   pub differs_is : differs ≡ differs_in o.settings.listing piece items tree
 
--- the text has this fault; what is printed of the lines before it is written
+-- `FinishFault o piece text printed old new f`: `text` has the fault `f`. The output for the lines
+-- before it, after `printed`, was appended.
 pub record FinishFault (o : Options) (piece : List Judged → Judged →
     List ℕ) (text printed : List ℕ) (old new : Option (List ℕ)) (f : Fault) : Type 0 where
   pub items : List (Item Reading)
@@ -72,7 +75,8 @@ pub record FinishFault (o : Options) (piece : List Judged → Judged →
   pub printed_is : printed ++ more ≡ text_by o.settings.listing piece items tree
   pub appended : Appends old new more
 
--- a write failed: a front of what is printed of all lines is written
+-- `FinishTruncated o piece text printed old new`: a write failed. A prefix of the output for all
+-- lines of `text`, after `printed`, was appended.
 pub record FinishTruncated (o : Options) (piece : List Judged → Judged →
     List ℕ) (text printed : List ℕ) (old new : Option (List ℕ)) : Type 0 where
   pub items : List (Item Reading)
@@ -82,6 +86,8 @@ pub record FinishTruncated (o : Options) (piece : List Judged → Judged →
   pub printed_is : printed ++ more ≡ text_by o.settings.listing piece items tree
   pub front : AppendsPrefix old new more
 
+-- `FinishErr o piece failed old new text printed f`: finishing failed with `f`. The text has this
+-- fault, or a write failed.
 abbrev pub FinishErr : Options → (List Judged → Judged → List ℕ) → Bool → Option (List ℕ) →
     Option (List ℕ) → List ℕ → List ℕ → RunFault → Type 0
 FinishErr o piece failed old new text printed (Text f) = (failed ≡ false) ×
@@ -92,19 +98,20 @@ FinishErr o piece failed old new text printed Read = ⊥
 FinishErr o piece failed old new text printed Write = (failed ≡ true) ×
     FinishTruncated o piece text printed old new
 
--- a fault as the definitions have it, if it is one of the text
+-- `text_fault_of f`: the fault of the definitions, if `f` is one of the text.
 abbrev pub text_fault_of : RunFault → Option Fault
 text_fault_of (Text f) = Some (limit_of f)
 text_fault_of (Section f) = Some (fault_of f)
 text_fault_of Read = None
 text_fault_of Write = None
 
--- what a run answers is this outcome: its fault, or whether some line differs
+-- `ResultIs result r`: `result` is the outcome `r`: its fault, or whether some line's output
+-- differs.
 abbrev pub ResultIs : Result Bool RunFault → Outcome → Type 0
 ResultIs (Ok differs) r = (r.fault ≡ None) × (differs ≡ r.differs)
 ResultIs (Err f) r = (r.fault ≡ text_fault_of f) × (r.fault ≡ None → ⊥)
 
--- this was appended, and answered: the outcome of the input
+-- `RunAnswers o input old new result`: the appended bytes and `result` are the outcome of `input`.
 pub record RunAnswers (o : Options) (input : List ℕ) (old new : Option (List ℕ))
     (result : Result Bool RunFault) : Type 0 where
   pub outcome : Outcome

@@ -1,6 +1,6 @@
--- NameLines: a name as it is listed.
+-- NameLines: the line of a listed name.
 use Rattle.std.specs.Prelude.{ℕ, List, ◌++◌, codes}
 
--- a name with what stands before it and a line feed
+-- `name_line prefix name`: `prefix`, `name` and a newline.
 abbrev pub name_line : List ℕ → List ℕ → List ℕ
 name_line prefix name = prefix ++ name ++ codes "\n"

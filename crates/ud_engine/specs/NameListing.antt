@@ -1,7 +1,7 @@
--- NameListing: what a reader of lines stands for that lists their names.
+-- NameListing: a line decider that lists the names of lines.
 --
---   ListsLine o r xs t l depths ..   it has read the line l too, whose names were put after the run
---   ListErr o xs t l depths .. f     the line is faulty, or a write failed within the bytes up to its names
+--   ListsLine o r xs t l depths ..   it has also read this line, and listed its names
+--   ListErr o xs t l depths .. f     listing this line failed
 use Rattle.std.specs.Prelude.{◌≡◌, ℕ, List, [], ◌∷◌, ◌++◌, Bool, Option}
 use Rattle.ud_model.specs.text.Lines.{Line}
 use Rattle.ud_model.specs.text.Scans.{Reading}
@@ -17,14 +17,16 @@ use Rattle.ud_engine.specs.DecidedLines.{DeciderRepresents}
 use Rattle.ud_io.specs.Buffering.{AppendsAllBut}
 use Rattle.ud_io.specs.Watched.{AppendsPrefix}
 
--- with the line l after these, these names are listed too
+-- `ListsMore o xs t l depths tree more`: `more` lists the names of the line `l`, after the items
+-- `xs`.
 abbrev pub ListsMore : Options → List (Item Reading) → Tree Reading → Line → Bool → Tree Reading →
     List ℕ → Type 0
 ListsMore o xs t l depths tree more =
     listed depths (xs ++ next_item o xs t l ∷ []) (levels tree) ≡ listed depths xs (levels t) ++
     more
 
--- the lister takes one line more: what was gathered, the run and the line's names are sent, but for what is left
+-- `ListsLine o r xs t l depths old new buffered left pending`: `r` has also read the line `l`.
+-- `buffered`, `pending` and the line's names were appended, but for `left`, which is buffered now.
 pub record ListsLine (o : Options) (r : LineDecider) (xs : List (Item Reading)) (t : Tree Reading)
     (l : Line) (depths : Bool)
     (old new : Option (List ℕ)) (buffered left pending : List ℕ) : Type 0 where
@@ -34,7 +36,8 @@ pub record ListsLine (o : Options) (r : LineDecider) (xs : List (Item Reading)) 
   pub is_more : ListsMore o xs t l depths tree more
   pub sent : AppendsAllBut old new (buffered ++ (pending ++ more)) left
 
--- a write failed as one line more was listed: a front of what was gathered, the run and the line's names went out
+-- `ListingFails o xs t l depths old new buffered pending`: a write failed as the line `l` was
+-- listed. A prefix of `buffered`, `pending` and the line's names was appended.
 pub record ListingFails (o : Options) (xs : List (Item Reading)) (t : Tree Reading) (l : Line)
     (depths : Bool)
     (old new : Option (List ℕ)) (buffered pending : List ℕ) : Type 0 where
@@ -44,6 +47,8 @@ pub record ListingFails (o : Options) (xs : List (Item Reading)) (t : Tree Readi
   pub is_more : ListsMore o xs t l depths tree more
   pub front : AppendsPrefix old new (buffered ++ (pending ++ more))
 
+-- `ListErr o xs t l depths old new buffered pending f`: listing the line `l` failed with `f`. The
+-- line is faulty, or a write failed.
 abbrev pub ListErr : Options → List (Item Reading) → Tree Reading → Line → Bool → Option (List ℕ) →
     Option (List ℕ) → List ℕ → List ℕ → RunFault → Type 0
 ListErr o xs t l depths old new buffered pending (Section f) =

@@ -1,13 +1,13 @@
--- ProcessedLines: what is printed of lines, and what a printer of lines stands for.
+-- ProcessedLines: the output for lines, and the state of a line processor.
 --
---   text_by listing piece xs t                           what is printed of these lines, whose tree this is: by this definition of a line's piece, or their names
---   differs_in listing piece xs t                        some line's piece isn't the line itself; if names are listed, none is
---   ProcessorRepresents stands piece_of p o piece xs t   these lines were read and printed
---   PrintsLine .. l put ..                               the line l too: its piece was put after the run, or it is the line itself, and wasn't
---   IsLeftOf left ending                                 nothing is left of a line with this ending, or the ending is
---   printed_of passed bytes                              what is printed of lines that were read at once, of these bytes
---   PrintsBulk .. ls more                                the lines ls too, and this is printed of them
---   PrintErr .. l f ..                                   the line is faulty, or a write failed within the bytes up to its piece
+--   text_by listing piece xs t                           the output for these items
+--   differs_in listing piece xs t                        the output for some line differs from it
+--   ProcessorRepresents stands piece_of p o piece xs t   a processor has read these items
+--   PrintsLine .. l put ..                               it has also printed this line
+--   IsLeftOf left ending                                 the output is nothing or the ending
+--   printed_of passed bytes                              the output for skipped text
+--   PrintsBulk .. ls more                                a processor has also printed these lines
+--   PrintErr .. l f ..                                   printing this line failed
 use Rattle.std.specs.Prelude.{◌≡◌, ◌⊎◌, ℕ, List, [], ◌∷◌, ◌++◌, take, map, Bool, true, false, not}
 use Rattle.std.specs.Prelude.{bytes_eq, if◌then◌else◌, Option, Some, None}
 use Rattle.std.specs.List.{concat}
@@ -30,14 +30,16 @@ use Rattle.ud_engine.specs.DecidedLines.{DeciderRepresents}
 use Rattle.ud_io.specs.Buffering.{AppendsAllBut}
 use Rattle.ud_io.specs.Watched.{AppendsPrefix}
 
--- what is printed of these lines, whose tree this is
+-- `text_by listing piece xs t`: the output for the items `xs` with the tree `t`: their pieces by
+-- the definition `piece`, or their names.
 abbrev pub text_by : Listing → (List Judged → Judged → List ℕ) → List (Item Reading) →
     Tree Reading → List ℕ
 text_by Off piece xs t = concat (pieces_by piece [] (judged_lines xs (marks t)))
 text_by Names piece xs t = listed false xs (levels t)
 text_by Depths piece xs t = listed true xs (levels t)
 
--- some line differs
+-- `differs_in listing piece xs t`: the piece of some line differs from the line; false if names are
+-- listed.
 abbrev pub differs_in : Listing → (List Judged → Judged → List ℕ) → List (Item Reading) →
     Tree Reading → Bool
 differs_in Off piece xs t = some_other (pieces_by piece [] (judged_lines xs (marks t)))
@@ -45,13 +47,14 @@ differs_in Off piece xs t = some_other (pieces_by piece [] (judged_lines xs (mar
 differs_in Names piece xs t = false
 differs_in Depths piece xs t = false
 
--- what lists the names, if they are listed: with their depths or without
+-- `lister_of listing`: the lister, if names are listed: with their depths or without.
 abbrev pub lister_of : Listing → Option Bool
 lister_of Off = None
 lister_of Names = Some false
 lister_of Depths = Some true
 
--- these lines were read, none of them is faulty, and the printer was given each, unless their names were listed
+-- `ProcessorRepresents stands piece_of p o piece xs t`: `p` has read the items `xs`, none of which
+-- is faulty, and `t` is their tree. The printer got each of them, unless names are listed.
 pub record ProcessorRepresents {S : Type 0} (stands : S → List Judged → Type 0) (piece_of : S →
     List Judged → Judged → List ℕ) (p : LineProcessor S) (o : Options)
     (piece : List Judged → Judged →
@@ -62,14 +65,17 @@ pub record ProcessorRepresents {S : Type 0} (stands : S → List Judged → Type
   pub stays : (before : List Judged) → (j : Judged) → piece_of p.printer before j ≡ piece before j
   pub differs : p.differs ≡ differs_in o.settings.listing piece xs t
 
--- with the line l after these, more is printed
+-- `PrintsMore o piece xs t l tree more`: `more` is the output for the line `l` after the items
+-- `xs`.
 abbrev pub PrintsMore : Options → (List Judged → Judged → List ℕ) → List (Item Reading) →
     Tree Reading → Line → Tree Reading → List ℕ → Type 0
 PrintsMore o piece xs t l tree more =
     text_by o.settings.listing piece (xs ++ next_item o xs t l ∷ []) tree ≡
     text_by o.settings.listing piece xs t ++ more
 
--- what is printed of a line was put after the run before it; or it is the line itself, and nothing was put
+-- `IsAppended put old new buffered left pending more own`: if `put`, then `buffered`, `pending` and
+-- the line's output `more` were appended, but for `left`. Else `more` is the line itself, `own`,
+-- and nothing was appended.
 abbrev pub IsAppended : Bool → Option (List ℕ) → Option (List ℕ) → List ℕ → List ℕ → List ℕ →
     List ℕ → List ℕ → Type 0
 IsAppended true old new buffered left pending more own =
@@ -77,17 +83,19 @@ IsAppended true old new buffered left pending more own =
 IsAppended false old new buffered left pending more own = (new ≡ old) × (left ≡ buffered) ×
     (more ≡ own)
 
--- a line's piece was put after the run before it, if it isn't the line itself
+-- `ShowsLine put old new buffered left pending piece own`: `IsAppended` with `piece`, where `put`
+-- means that `piece` differs from the line `own`.
 abbrev pub ShowsLine : Bool → Option (List ℕ) → Option (List ℕ) → List ℕ → List ℕ → List ℕ →
     List ℕ → List ℕ → Type 0
 ShowsLine put old new buffered left pending piece own = (put ≡ not (bytes_eq piece own)) ×
     IsAppended put old new buffered left pending piece own
 
--- nothing is left of a line, or its ending
+-- `IsLeftOf left ending`: the output for a line is nothing or its ending.
 abbrev pub IsLeftOf : List ℕ → List ℕ → Type 0
 IsLeftOf left ending = (left ≡ []) ⊎ (left ≡ ending)
 
--- the line was read and printed too
+-- `PrintsLine .. p o piece xs t l put old new buffered left pending`: `p` has also read the line
+-- `l`, and its output `IsAppended`.
 pub record PrintsLine {S : Type 0} (stands : S → List Judged → Type 0) (piece_of : S → List Judged →
     Judged → List ℕ) (p : LineProcessor S) (o : Options)
     (piece : List Judged → Judged →
@@ -99,11 +107,13 @@ pub record PrintsLine {S : Type 0} (stands : S → List Judged → Type 0) (piec
   pub is_more : PrintsMore o piece xs t l tree more
   pub goes : IsAppended put old new buffered left pending more (text_of l)
 
--- all of these lines, or nothing
+-- `printed_of passed bytes`: the output for skipped text, with which `bytes` begins: all of it, or
+-- nothing.
 abbrev pub printed_of : SkippedText → List ℕ → List ℕ
 printed_of passed bytes = if passed.kept then take passed.count bytes else []
 
--- the lines were read and printed too, if there are any: this is printed of them
+-- `PrintsBulk .. p o piece xs t ls more`: `p` has also read the lines `ls`, if any, and `more` is
+-- the output for them.
 pub record PrintsBulk {S : Type 0} (stands : S → List Judged → Type 0) (piece_of : S → List Judged →
     Judged → List ℕ) (p : LineProcessor S) (o : Options)
     (piece : List Judged → Judged →
@@ -116,7 +126,8 @@ pub record PrintsBulk {S : Type 0} (stands : S → List Judged → Type 0) (piec
   pub is_more : text_by o.settings.listing piece (xs ++ items) tree ≡
       text_by o.settings.listing piece xs t ++ more
 
--- a write failed within the bytes up to what is printed of the line, which isn't faulty
+-- `WriteFails o piece xs t l old new buffered pending`: a write failed. A prefix of `buffered`,
+-- `pending` and the output for the line `l`, which isn't faulty, was appended.
 pub record WriteFails (o : Options) (piece : List Judged → Judged →
     List ℕ) (xs : List (Item Reading)) (t : Tree Reading) (l : Line)
     (old new : Option (List ℕ)) (buffered pending : List ℕ) : Type 0 where
@@ -126,6 +137,8 @@ pub record WriteFails (o : Options) (piece : List Judged → Judged →
   pub is_more : PrintsMore o piece xs t l tree more
   pub front : AppendsPrefix old new (buffered ++ (pending ++ more))
 
+-- `PrintErr o piece xs t l old new buffered pending f`: printing the line `l` failed with `f`. The
+-- line is faulty, or a write failed.
 abbrev pub PrintErr : Options → (List Judged → Judged → List ℕ) → List (Item Reading) →
     Tree Reading → Line →
     Option (List ℕ) → Option (List ℕ) → List ℕ → List ℕ → RunFault → Type 0

@@ -1,12 +1,12 @@
--- Runs: how far a run is at its end.
+-- Runs: the state of a run, and its end.
 --
---   RepresentsSomeText e                       an engine was fed some text, none of it faulty
---   InProgress e o read_old read_new old new   so it was all that the reader gave, and what is printed of its whole lines was appended
---   LagsOneRead o read_old read_new old new    what was given but for the last piece has no fault, and what is printed of it is appended
---   EndsWith o given left old new result       what was appended goes with what was given and with this answer
---   RunEnded .. result                         so it is of the bytes that the reader gave
---   RunFinished .. result                      all of this, and what is printed of all that the reader had, if nothing failed
---   ErrorMatchesStreams reader writer result   the answer tells whether a read or a write failed
+--   RepresentsSomeText e                       an engine was fed some text
+--   InProgress e o read_old read_new old new   it was fed all that the reader gave
+--   LagsOneRead o read_old read_new old new    the output lags by one read at most
+--   EndsWith o given left old new result       the output fits the bytes read and the result
+--   RunEnded .. result                         the output fits what the reader gave
+--   RunFinished .. result                      all of this, and the outcome if nothing failed
+--   ErrorMatchesStreams reader writer result   the result shows whether a stream failed
 use Rattle.std.specs.Prelude.{◌≡◌, ◌⊎◌, ℕ, ◌+◌, ◌*◌, ◌-◌, List, ◌++◌, length, take, Bool, true}
 use Rattle.std.specs.Prelude.{false, Option, Some, None, Result, Ok, Err, IfSome, OnOk}
 use Rattle.std.specs.Io.KnownBytes.{Appends, Consumes, IsAtEnd}
@@ -30,12 +30,13 @@ use Rattle.ud_engine.specs.Finishing.{RunAnswers}
 use Rattle.ud_engine.specs.Feeding.{EngineState, EngineRepresents, limit_of}
 use Rattle.ud_io.specs.Watched.{AppendsPrefix}
 
--- of these bytes all but the last ones, of which a read gives no more
+-- `all_but_last_chunk given`: `given` without its last bytes, as many as one read gives at most.
 abbrev pub all_but_last_chunk : List ℕ → List ℕ
 all_but_last_chunk given = take (length given - CHUNK_BYTES) given
 
--- However the run ended: the reader gave some bytes; those of them that came before the last piece have no fault as a text that
--- goes on, and what was appended begins with what is printed of their whole lines.
+-- `LagsOneRead o read_old read_new old new`: the output begins with the output of all whole lines
+-- before the last chunk, the last `CHUNK_BYTES` that were read. The bytes before it have no fault,
+-- as a text that goes on.
 pub record LagsOneRead (o : Options) (read_old read_new old new : Option (List ℕ)) : Type 0 where
   pub given : List ℕ
   pub consumed : Consumes read_old read_new given
@@ -45,7 +46,7 @@ pub record LagsOneRead (o : Options) (read_old read_new old new : Option (List �
   pub more : List ℕ
   pub appended : Appends old new (outcome.output ++ more)
 
--- an engine was fed a text, none of it faulty
+-- `RepresentsSomeText e`: `e` was fed a text, none of it faulty.
 pub record RepresentsSomeText (e : EngineState Printer) : Type 0 where
   pub options : Options
   pub text : List ℕ
@@ -53,7 +54,8 @@ pub record RepresentsSomeText (e : EngineState Printer) : Type 0 where
   pub fed : EngineRepresents printer_represents printer_piece e options
       (piece_after (style_of options.settings)) text printed
 
--- since a run began, the reader gave these bytes and the engine was fed them, and what is printed of their whole lines was appended
+-- `InProgress e o read_old read_new old new`: since the run began, `e` was fed all bytes that the
+-- reader gave, and the output for their whole lines was appended.
 pub record InProgress (e : EngineState Printer) (o : Options)
     (read_old read_new old new : Option (List ℕ)) : Type 0 where
   pub given : List ℕ
@@ -63,19 +65,21 @@ pub record InProgress (e : EngineState Printer) (o : Options)
       (piece_after (style_of o.settings)) given printed
   pub appended : Appends old new printed
 
--- no more bytes than this fit before a limit is met
+-- `bytes_to_limit lines`: no more bytes than this fit before a limit is met.
 abbrev pub bytes_to_limit : LinesState → ℕ
 bytes_to_limit lines = (LINE_BYTES + 1) * (TEXT_LINES - lines.before) +
     (LINE_BYTES - length lines.held)
 
--- a text that goes on has no fault so far, and this was appended: what is printed of its whole lines
+-- `PrintsSoFar o given old new`: `given`, as a text that goes on, has no fault. The output for its
+-- whole lines was appended.
 pub record PrintsSoFar (o : Options) (given : List ℕ) (old new : Option (List ℕ)) : Type 0 where
   pub outcome : Outcome
   pub runs : HasOutcomeSoFar o given outcome
   pub right : outcome.fault ≡ None
   pub appended : Appends old new outcome.output
 
--- none of these lines is faulty, and a front of what is printed of them was appended
+-- `AppendsPrefixOfOutput o lines old new`: none of `lines` is faulty, and a prefix of the output
+-- for them was appended.
 pub record AppendsPrefixOfOutput (o : Options) (lines : List Line) (old new : Option (List ℕ)) :
     Type 0 where
   pub items : List (Item Reading)
@@ -83,15 +87,16 @@ pub record AppendsPrefixOfOutput (o : Options) (lines : List Line) (old new : Op
   pub goes : HasNoFault o lines items tree
   pub front : AppendsPrefix old new (output_by o.settings.listing o.settings items tree)
 
--- so it is of some first ones of the whole lines that were given; or, if no byte is left, of all lines
+-- `Truncated o given left old new`: `AppendsPrefixOfOutput` for some first whole lines of `given`;
+-- or for all lines, if no byte is left to read.
 pub data Truncated (o : Options) (given : List ℕ) (left old new : Option (List ℕ)) : Type 0 where
   in_course : (lines later : List Line) → lines_so_far given ≡ lines ++ later →
       AppendsPrefixOfOutput o lines old new → Truncated o given left old new
   at_end : IsAtEnd left → AppendsPrefixOfOutput o (lines_of given) old new →
       Truncated o given left old new
 
--- The bytes have this fault, as a text that goes on or, if no byte is left, as one that has ended; and this was appended: what is
--- printed of the lines before it.
+-- `StoppedAtFault o given left old new f`: `given` has the fault `f`, as a text that goes on or, if
+-- no byte is left to read, as a whole text. The output for the lines before it was appended.
 pub record StoppedAtFault (o : Options) (given : List ℕ) (left old new : Option (List ℕ))
     (f : Fault) : Type 0 where
   pub outcome : Outcome
@@ -99,9 +104,10 @@ pub record StoppedAtFault (o : Options) (given : List ℕ) (left old new : Optio
   pub fault : outcome.fault ≡ Some f
   pub appended : Appends old new outcome.output
 
--- However a run ends, what was appended goes with the bytes that were given. If it ends well, these are all, and all that is printed
--- of them was appended; at a fault what is printed of the lines before it, after a failed read what is printed of the whole lines,
--- and after a failed write a front of what is printed of some lines.
+-- `EndsWith o given left old new result`: the appended bytes fit the bytes read, `given`, and
+-- `result`. After `Ok` all bytes are read, and all output is appended. After a fault of the text,
+-- it is the output for the lines before it; after `Read`, for the whole lines; after `Write`, a
+-- prefix for some lines.
 abbrev pub EndsWith : Options → List ℕ → Option (List ℕ) → Option (List ℕ) → Option (List ℕ) →
     Result Bool RunFault → Type 0
 EndsWith o given left old new (Ok differs) = IsAtEnd left × RunAnswers o given old new (Ok differs)
@@ -110,14 +116,16 @@ EndsWith o given left old new (Err (Section f)) = StoppedAtFault o given left ol
 EndsWith o given left old new (Err Read) = PrintsSoFar o given old new
 EndsWith o given left old new (Err Write) = Truncated o given left old new
 
--- the reader gave some bytes, and the run ended so
+-- `RunEnded o read_old read_new old new result`: the reader gave some bytes, and `EndsWith` is true
+-- of them.
 pub record RunEnded (o : Options) (read_old read_new old new : Option (List ℕ))
     (result : Result Bool RunFault) : Type 0 where
   pub given : List ℕ
   pub consumed : Consumes read_old read_new given
   pub ends : EndsWith o given read_new old new result
 
--- since it began the run has ended so; if no read and no write failed, its answer is that of all that the reader had
+-- `RunFinished o read_old read_new old new reader writer result`: `LagsOneRead` and `RunEnded`
+-- since the run began. If no read and no write failed, `RunAnswers` for all bytes of the reader.
 pub record RunFinished (o : Options) (read_old read_new old new : Option (List ℕ))
     (reader writer : Bool) (result : Result Bool RunFault) : Type 0 where
   pub ran : reader ≡ false → writer ≡ false →
@@ -125,7 +133,8 @@ pub record RunFinished (o : Options) (read_old read_new old new : Option (List �
   pub kept_up : LagsOneRead o read_old read_new old new
   pub went : RunEnded o read_old read_new old new result
 
--- an answer tells whether a read or a write has failed
+-- `ErrorMatchesStreams reader writer result`: `result` is `Read` exactly if a read has failed, and
+-- `Write` exactly if a write has.
 pub record ErrorMatchesStreams (reader writer : Bool) (result : Result Bool RunFault) : Type 0 where
   pub works : OnOk result ((reader ≡ false) × (writer ≡ false))
   pub read_fails : (reader ≡ true → result ≡ Err Read) × (result ≡ Err Read → reader ≡ true)

@@ -1,8 +1,11 @@
-//! The engine: a text comes in pieces, and what is left of its lines goes out.
+//! The engine: a text comes in chunks, and the output for its lines is written.
 //!
-//! An engine holds one line at most, the one that the last piece's end cut, and what the machine keeps of the open sections. What is
-//! printed of a piece's lines is written before `feed` returns: lines that stay as they are and lie side by side go out
-//! together, and smaller parts are gathered.
+//! An engine buffers at most one line, the one that the end of the last chunk cut, and the
+//! machine's state of the open sections. The output for a chunk's lines is written before `feed`
+//! returns. Neighboring lines that stay unchanged are copied together; smaller parts are buffered.
+//!
+//! A chunk is processed by steps of a `Cursor`. Each step skips many text lines, decides one line,
+//! or buffers the line that the chunk begins.
 
 ghost use Rattle.std.specs.Prelude.{◌≡◌, ◌++◌, [], ◌<◌, ◌≤◌, ◌-◌, List, ℕ, length, drop, true};
 ghost use Rattle.std.specs.Prelude.{false, IfOk, IfErr, OnOk, IfSome, None, Some, Err, take, not};
@@ -29,18 +32,18 @@ use ud_model::bytes::skip_white;
 use ud_sections::Show;
 use ud_text::{LineBuffer, Lines, LongLineBuffer};
 
-/// How far a piece is read. The bytes from `pending_start` to `pos` are to be written as they are.
+/// A position in a chunk. The bytes from `pending_start` to `pos` are to be copied to the output.
 #[derive(Clone, Copy)]
 struct Cursor {
     pending_start: usize,
     pos: usize,
-    /// If it lies after `pos`, the bytes up to here are whole lines within the limits.
+    /// If after `pos`: the end of the whole lines within the limits that follow `pos`.
     whole_end: usize,
-    /// Whether the next lines were tried to be read at once, so that one of them goes by itself.
+    /// True after a try to skip text lines: the next line is decided by itself.
     bulk_tried: bool,
 }
 
-/// A place in a piece, before which nothing is to be written.
+/// Returns the cursor at `at`, with nothing pending.
 fn cursor_at<H: LineBuffer>(lines: &Lines<H>, chunk: &[u8], at: usize) -> Cursor
     requires within { at ≤ length chunk.now }
     requires fits { HasCapacity H.CAPACITY lines.now (length chunk.now - at) }
@@ -56,7 +59,7 @@ fn cursor_at<H: LineBuffer>(lines: &Lines<H>, chunk: &[u8], at: usize) -> Cursor
     }
 }
 
-/// Whether a line begins as most conditionals do.
+/// Returns whether a line begins as most conditionals do.
 fn begins_conditional(line: &[u8]) -> bool {
     match line {
         [b'#', b'i', b'f', ..] | [b'#', b'e', b'l' | b'n', ..] => true,
@@ -67,7 +70,8 @@ fn begins_conditional(line: &[u8]) -> bool {
     }
 }
 
-/// Whether the next lines may be read at once. It isn't tried at a conditional, which stops the reading.
+/// Returns whether to try to skip text lines. Skipping isn't tried at a conditional, where it would
+/// stop.
 fn may_skip_text(chunk: &[u8], cursor: Cursor) -> bool
     requires { cursor.pos ≤ length chunk.now }
     ensures untried { result ≡ true → cursor.bulk_tried ≡ false }
@@ -76,18 +80,18 @@ fn may_skip_text(chunk: &[u8], cursor: Cursor) -> bool
     !cursor.bulk_tried && cursor.pos < cursor.whole_end && !begins_conditional(&chunk[cursor.pos..])
 }
 
-/// unifdef(1) over a text that comes in pieces.
+/// An engine: unifdef(1) over a text that comes in chunks.
 #[derive(Drop)]
 pub struct Engine<'p, S: Show, H: LineBuffer = LongLineBuffer> {
-    /// What the words say.
+    /// The result of the command line.
     plan: &'p Plan,
-    /// The line so far.
+    /// The buffered line.
     lines: Lines<H>,
-    /// What reads the lines, and prints them.
+    /// The processor that decides and prints the lines.
     printer: LineProcessor<S>,
-    /// What is to be written.
+    /// The pending output.
     output: Output,
-    /// What was refused, for good.
+    /// The fault after which the engine is fused.
     fault: Option<RunFault>,
 }
 
@@ -110,9 +114,10 @@ impl<'p, S: Show, H: LineBuffer> Model for Engine<'p, S, H> {
 impl<'p, S: Show> Engine<'p, S, LongLineBuffer> {
     ghost use Rattle.ud_engine.specs.Feeding.{EngineRepresents};
 
-    /// An engine that was fed nothing. It prints by `show`, or if the plan asks for it lists names.
+    /// Returns an engine before the first byte. It prints by `show`, or lists names if the plan
+    /// asks for that.
     ///
-    /// `show` was given no line. Takes no memory.
+    /// `show` has printed no line yet. Takes no memory.
     pub fn new(plan: &'p Plan, show: S) -> Engine<'p, S, LongLineBuffer>
         ensures represents { (o : Options) → (piece : List Judged → Judged → List ℕ) →
             o.settings ≡ plan.now.settings → TableRepresents plan.now.symbols o.table →
@@ -135,7 +140,7 @@ impl<'p, S: Show, H: LineBuffer> Engine<'p, S, H> {
     ghost use Rattle.ud_engine.specs.FaultEffects.{FailsAfterFlush};
     ghost use Rattle.ud_model.specs.declared.limits.TheConstants.{LINE_BYTES};
 
-    /// An engine that was fed nothing, and holds the line so far in a room of this type. Else as `new`.
+    /// Returns an engine before the first byte, as `new` does, whose line buffer is an `H`.
     pub(crate) fn with_buffer(plan: &'p Plan, show: S) -> Engine<'p, S, H>
         ensures represents { (o : Options) → (piece : List Judged → Judged → List ℕ) →
             o.settings ≡ plan.now.settings → TableRepresents plan.now.symbols o.table →
@@ -153,15 +158,18 @@ impl<'p, S: Show, H: LineBuffer> Engine<'p, S, H> {
         }
     }
 
-    /// Takes the next bytes of the text, and writes what is left of the lines that they end.
+    /// Processes the next chunk: writes the output for every line that ends in it.
     ///
-    /// `chunk` may have any bytes, and any length if there is room for a line of any length, as in an engine that `new` makes; else
-    /// as many as `remaining_capacity` says. What it begins of a line, at most `LINE_BYTES`, is held until the line
-    /// ends. `out` hasn't failed, unless the engine has refused.
+    /// `chunk` may have any bytes. An engine from `new` accepts any length, another at most
+    /// `remaining_capacity` bytes. The line that `chunk` begins, at most `LINE_BYTES`, is buffered
+    /// until it ends. `out` hasn't failed, unless the engine is fused.
     ///
     /// # Errors
-    /// `Text` or `Section` if a line is faulty, after what is left of the lines before it; `Write` if a write fails, after a
-    /// front of what is left. Every later `feed` and `finish` answers the same, and writes nothing.
+    /// - `Text` or `Section` if a line is faulty, after the output for the lines before it.
+    /// - `Write` if a write fails, after a prefix of the output.
+    ///
+    /// The engine is then fused: every later `feed` and `finish` returns the same error, and writes
+    /// nothing.
     pub fn feed<W: Write>(&mut self, chunk: &[u8], out: &mut Watched<W>) -> Result<(), RunFault>
         requires not_failed { self.old.fault ≡ None → out.old.failed ≡ false }
         requires fits { HasCapacity H.CAPACITY self.old.lines (length chunk.now) }
@@ -194,14 +202,17 @@ impl<'p, S: Show, H: LineBuffer> Engine<'p, S, H> {
         }
     }
 
-    /// Ends the text: writes what is left of its last line, if that lacks its line feed, and answers whether some line is
-    /// printed otherwise than it is; `false` if names are listed.
+    /// Ends the text: writes the output for its last line, if that has no newline.
     ///
-    /// `out` hasn't failed, unless the engine has refused.
+    /// Returns whether the output for some line differs from the line; `false` if names are listed.
+    /// `out` hasn't failed, unless the engine is fused.
     ///
     /// # Errors
-    /// What `feed` refused, again, and nothing is written. `Section` if the last line is faulty, after what is left of the
-    /// lines before it, or if the text ends in a block comment or a section, after what is left of all lines; `Write` if a write fails.
+    /// - The error of `feed` again, if the engine is fused. Nothing is written.
+    /// - `Section` if the last line is faulty, after the output for the lines before it.
+    /// - `Section` if the text ends in a block comment or a section, after the output for all
+    ///   lines.
+    /// - `Write` if a write fails.
     pub fn finish<W: Write>(self, out: &mut Watched<W>) -> Result<bool, RunFault>
         requires { self.fault ≡ None → out.old.failed ≡ false }
         ensures ended { (o : Options) → (pieces : List Judged → Judged → List ℕ) → (text : List ℕ) →
@@ -223,7 +234,8 @@ impl<'p, S: Show, H: LineBuffer> Engine<'p, S, H> {
         engine.finish_in_place(out)
     }
 
-    /// Ends the text, as `finish` does, and stands before another one, which isn't to be fed.
+    /// Ends the text, as `finish` does, and resets the line buffer. The engine isn't to be fed
+    /// again.
     ///
     /// # Errors
     /// As `finish`.
@@ -267,8 +279,10 @@ impl<'p, S: Show, H: LineBuffer> Engine<'p, S, H> {
         Ok(self.printer.differs())
     }
 
-    /// How many bytes a piece may have, at most `most`: as many as fit beside what is held, or all of them if there is room for a
-    /// line of any length.
+    /// Returns how many bytes the next chunk may have, at most `most`.
+    ///
+    /// All of them, if the buffer holds the longest line; else as many as fit after the buffered
+    /// bytes.
     pub(crate) fn remaining_capacity(&self, most: usize) -> usize
         ensures bound { result ≤ most }
         ensures fits { HasCapacity H.CAPACITY self.now.lines result }
@@ -277,7 +291,9 @@ impl<'p, S: Show, H: LineBuffer> Engine<'p, S, H> {
         self.lines.remaining_capacity(most)
     }
 
-    /// The same engine, with room for a line of any length. In its place stays one that was fed nothing and prints by `show`.
+    /// Moves the state to an engine whose buffer holds the longest line.
+    ///
+    /// Leaves in its place an engine before the first byte, which prints by `show`.
     #[inline(never)]
     pub(crate) fn take_as_long(&mut self, show: S) -> Engine<'p, S, LongLineBuffer>
         ensures { result ≡ self.old }
@@ -293,7 +309,7 @@ impl<'p, S: Show, H: LineBuffer> Engine<'p, S, H> {
         }
     }
 
-    /// Takes all of a piece, and writes what is left of the lines that it ends.
+    /// Processes all of a chunk: writes the output for every line that ends in it.
     ///
     /// # Errors
     /// As `feed`.
@@ -335,11 +351,13 @@ impl<'p, S: Show, H: LineBuffer> Engine<'p, S, H> {
         }
     }
 
-    /// Takes some of the next lines of a piece that is read so far, or what it begins of one, or finds that one is to be
-    /// taken by itself.
+    /// Makes the next step through a chunk: skips text lines, decides one line, or buffers the line
+    /// that the chunk begins.
+    ///
+    /// A step that tried to skip, and skipped nothing, only leaves the cursor marked as tried.
     ///
     /// # Errors
-    /// As `feed`, but what is to be written of the lines before isn't written yet.
+    /// As `feed`, but the pending bytes before the faulty line aren't written yet.
     fn advance<W: Write>(
         &mut self,
         chunk: &[u8],
@@ -378,11 +396,13 @@ impl<'p, S: Show, H: LineBuffer> Engine<'p, S, H> {
         }
     }
 
-    /// Takes as many of the next lines as are seen to be text, all at once. Those that are printed lengthen the run of bytes
-    /// to be written; if they are removed, the run is put, and another one begins after them.
+    /// Skips as many of the next lines as are recognized as text.
+    ///
+    /// If they are copied, the pending bytes extend over them. If they are dropped, the pending
+    /// bytes are appended to the output, and nothing is pending after them.
     ///
     /// # Errors
-    /// As `advance`; `Write` alone.
+    /// `Write` only, as `advance`.
     fn advance_in_bulk<W: Write>(
         &mut self,
         chunk: &[u8],
@@ -438,7 +458,7 @@ impl<'p, S: Show, H: LineBuffer> Engine<'p, S, H> {
         })
     }
 
-    /// Takes the next line, or what the piece begins of one.
+    /// Decides the next line, or buffers the line that the chunk begins.
     ///
     /// # Errors
     /// As `advance`.
@@ -503,8 +523,10 @@ impl<'p, S: Show, H: LineBuffer> Engine<'p, S, H> {
         })
     }
 
-    /// Takes bytes up to the first line feed, and puts what is printed of the line that they end after the run of bytes
-    /// before it. If they end none, the run is put.
+    /// Buffers bytes up to the first newline. If they end a line, appends `pending` and the output
+    /// for that line; else appends `pending`.
+    ///
+    /// Returns how many bytes were consumed.
     ///
     /// # Errors
     /// As `advance`.
@@ -562,7 +584,7 @@ impl<'p, S: Show, H: LineBuffer> Engine<'p, S, H> {
         Ok(taken.used)
     }
 
-    /// What ends the run: this fault, after what is to be written of the lines before it; or a write that fails.
+    /// Flushes the pending output and returns `fault`, or `Write` if the flush fails.
     fn flush_and_fail<W: Write>(
         &mut self,
         fault: RunFault,
@@ -580,10 +602,10 @@ impl<'p, S: Show, H: LineBuffer> Engine<'p, S, H> {
         }
     }
 
-    /// Writes what is gathered, and this run of bytes after it.
+    /// Writes the buffered bytes and `pending`.
     ///
     /// # Errors
-    /// `false` if a write fails: a front of all these bytes is written, and `out` has failed.
+    /// `false` if a write fails. A prefix of all these bytes was written, and `out` is fused.
     fn flush_pending<W: Write>(&mut self, pending: &[u8], out: &mut Watched<W>) -> bool
         requires not_failed { out.old.failed ≡ false }
         ensures appends { AppendsAllButOrPrefix result (W.contents out.old.inner)
@@ -596,7 +618,7 @@ impl<'p, S: Show, H: LineBuffer> Engine<'p, S, H> {
     }
 }
 
-/// Reads and prints the text's last line, if it lacks its line feed.
+/// Decides and prints the text's last line, if that has no newline.
 ///
 /// # Errors
 /// As `Engine::finish`.

@@ -1,16 +1,18 @@
-//! Why a run ends early, as data. The texts that the tool writes stand in unifdef.
+//! Why a run ends early, as data. The messages for these faults are in ud_diagnostics.
 
 use thiserror::Error;
 use ud_sections::SectionFault;
 use ud_text::TextFault;
 
-/// Why a run ends before the end of its text, or what is wrong at the end. The texts of `Display` are nobody's promise.
+/// The reason why a run ends before the end of its text, or the fault at that end.
+///
+/// The texts of `Display` may change.
 #[derive(Clone, Copy, Debug, PartialEq, Eq, Error)]
 pub enum RunFault {
     /// The text passes a limit.
     #[error("the text passes a limit")]
     Text(TextFault),
-    /// A line is out of its place among the sections, or the text ends in one, or in a comment.
+    /// A line is misplaced among the sections, or the text ends in a section or in a comment.
     #[error("the sections are faulty")]
     Section(SectionFault),
     /// A read failed.

@@ -1,8 +1,9 @@
-//! unifdef(1) over a text that comes in pieces.
+//! unifdef(1) over a text that comes in chunks.
 //!
-//! `run` feeds what a reader gives to an `Engine`. That cuts it into lines, lends each to a `LineDecider`, which decides it by a
-//! scanner and a machine, and has it printed by a `LineProcessor`; what is printed goes out by way of `Output`. `specs/Feeding.antt`
-//! says what an engine stands for: the text that it was fed, and what is printed of it.
+//! `run` feeds the chunks of a reader to an `Engine`. The engine cuts them into lines. For each
+//! line, a `LineDecider` decides the line by a scanner and a machine, and a `LineProcessor` prints
+//! it. What is printed leaves through `Output`. `Feeding.EngineRepresents` relates an engine to the
+//! text that it was fed, and to the output for that text.
 #![tactic(auto)]
 
 mod engine;

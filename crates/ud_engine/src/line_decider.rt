@@ -1,4 +1,4 @@
-//! Lines read one after another, by a scanner and a machine.
+//! Deciding lines, one after another, by a scanner and a machine.
 
 ghost use Rattle.std.specs.Prelude.{◌≡◌, ◌≤◌, ◌+◌, ◌∷◌, [], ◌++◌, ℕ, suc, List, length, take, IfOk};
 ghost use Rattle.std.specs.Prelude.{IfErr, OnOk, false};
@@ -28,7 +28,7 @@ use ud_model::{Settings, Verdict};
 use ud_sections::{Lister, Machine, SectionFault, Step};
 use ud_text::{Line, LineBuffer, Lines, SHORT_LINE_BYTES, ShortScanner};
 
-/// Reads lines, and decides them.
+/// A scanner and a machine, which decide the lines of a text in order.
 #[derive(Drop)]
 pub(crate) struct LineDecider {
     scanner: ShortScanner,
@@ -41,7 +41,7 @@ impl LineDecider {
     ghost use Rattle.ud_engine.specs.NameListing.{ListsLine, ListErr};
     ghost use Rattle.ud_engine.specs.FaultEffects.{OutputUnchanged};
 
-    /// Has read no line.
+    /// Returns a decider before the first line.
     pub(crate) fn new(settings: Settings) -> LineDecider
         ensures { (o : Options) → o.settings ≡ settings →
             DeciderRepresents o result [] (closed nothing) }
@@ -52,10 +52,10 @@ impl LineDecider {
         }
     }
 
-    /// Reads the next line, and tells what becomes of it.
+    /// Decides the next line. Returns its step.
     ///
     /// # Errors
-    /// The line is faulty.
+    /// Fails if the line is faulty.
     #[inline(always)]
     pub(crate) fn decide(
         &mut self,
@@ -80,7 +80,8 @@ impl LineDecider {
         self.machine.step(&scan, line, symbols)
     }
 
-    /// Reads the next line if it is long. The room that this takes is cleared here alone.
+    /// Decides the next line if it is longer than `SHORT_LINE_BYTES`. The scanner for it is a local
+    /// of this function, so that shorter lines don't clear its memory.
     ///
     /// # Errors
     /// As `decide`.
@@ -104,11 +105,12 @@ impl LineDecider {
         answer
     }
 
-    /// Reads the next line, and puts its names after the run of bytes before it.
+    /// Decides the next line, and appends `pending` and the line's names.
     ///
     /// # Errors
-    /// `Section` if the line is faulty: nothing is put. `Write` if a write fails: a front of all bytes to be written up to
-    /// the line's is written.
+    /// - `Section` if the line is faulty. Nothing is appended.
+    /// - `Write` if a write fails. A prefix of the buffered bytes, `pending` and the line's names
+    ///   was written.
     #[inline(never)]
     pub(crate) fn list_names<W: Write>(
         &mut self,
@@ -155,7 +157,9 @@ impl LineDecider {
         Ok(())
     }
 
-    /// Reads the next line if it is long, and puts its names. The room that this takes is cleared here alone.
+    /// Decides the next line if it is longer than `SHORT_LINE_BYTES`, and appends `pending` and its
+    /// names. The scanner for it is a local of this function, so that shorter lines don't clear its
+    /// memory.
     ///
     /// # Errors
     /// As `list_names`.
@@ -204,15 +208,17 @@ impl LineDecider {
         Ok(())
     }
 
-    /// The verdict of the next line, if it is text.
+    /// Returns the verdict of the next line, if that is a text line.
     pub(crate) fn text_verdict(&self) -> Verdict
         ensures { result ≡ text_verdict self.now.machine }
     {
         self.machine.text_verdict()
     }
 
-    /// Reads as many of these whole lines, which come next, as are seen to be text, and gives them up. Answers how many
-    /// bytes they have: 0, or up to the end of a line.
+    /// Consumes the longest prefix of `bytes` that is recognized as text lines, and returns its
+    /// length.
+    ///
+    /// `bytes` are the next whole lines. The result is 0 or the end of a line.
     pub(crate) fn skip_text<H: LineBuffer>(&mut self, bytes: &[u8], lines: &mut Lines<H>) -> usize
         requires run { CanConsume lines.old bytes.now }
         requires goes_on { lines.old.closed ≡ false }
@@ -237,10 +243,10 @@ impl LineDecider {
         count
     }
 
-    /// What the end of the text says.
+    /// Checks the end of the text.
     ///
     /// # Errors
-    /// The text ends in a block comment, or else in a section.
+    /// Fails if the text ends in a block comment, or else in a section.
     pub(crate) fn finish(&self) -> Result<(), SectionFault>
         ensures { (o : Options) → (xs : List (Item Reading)) → (t : Tree Reading) →
             DeciderRepresents o self.now xs t → end_fault_of result ≡ end_fault xs t }

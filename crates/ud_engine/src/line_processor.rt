@@ -1,4 +1,8 @@
-//! Reading lines, and printing what is left of them.
+//! Deciding lines, and printing the output for them.
+//!
+//! A `LineProcessor` gives each decided line to its printer, or lists the line's names. A line that
+//! the printer leaves unchanged isn't appended: the engine copies it from the chunk, with its
+//! neighbors.
 
 ghost use Rattle.std.specs.Prelude.{◌≡◌, bytes_eq, ◌∷◌, [], ◌++◌, ◌≤◌, List, ℕ, suc, length, take};
 ghost use Rattle.std.specs.Prelude.{IfOk, IfErr, IfSome, IfNone, OnOk, true, false, is_none};
@@ -32,28 +36,29 @@ use ud_model::{Listing, Settings};
 use ud_sections::{BulkOutput, LineOutput, Lister, SectionFault, Show, Step};
 use ud_text::{Line, LineBuffer, Lines};
 
-/// Reads the lines of a text in order, and prints what is left of each, or lists its names.
+/// A processor that decides the lines of a text in order, and prints the output for each, or lists
+/// its names.
 #[derive(Drop)]
 pub(crate) struct LineProcessor<S> {
     decider: LineDecider,
-    /// What prints the lines, unless their names are listed.
+    /// The printer of the lines, unless names are listed.
     printer: S,
-    /// What lists their names, if they are listed.
+    /// The lister, if names are listed.
     lister: Option<Lister>,
-    /// Whether what was printed of some line isn't the line itself.
+    /// True once the output for some line differs from the line.
     differs: bool,
 }
 
-/// Lines that were read at once, all of them text.
+/// Text lines that were skipped in bulk.
 #[derive(Clone, Copy)]
 pub(crate) struct SkippedText {
-    /// How many bytes they have; 0 if none was read.
+    /// The length of these lines in bytes; 0 if no line was skipped.
     pub(crate) count: usize,
-    /// Whether each of them is printed as it is. Else nothing is printed of them.
+    /// True if each of these lines is copied; false if all of them are dropped.
     pub(crate) kept: bool,
 }
 
-/// What lists names, if they are to be listed.
+/// Returns a lister, if names are to be listed.
 fn lister_of(listing: Listing) -> Option<Lister>
     ensures { result ≡ lister_of listing }
 {
@@ -68,7 +73,7 @@ impl<S: Show> LineProcessor<S> {
     ghost use Rattle.ud_engine.specs.ProcessedLines.{ProcessorRepresents, PrintsLine, PrintErr};
     ghost use Rattle.ud_engine.specs.ProcessedLines.{PrintsBulk, differs_in};
 
-    /// Has read no line, and prints by this printer.
+    /// Returns a processor before the first line, which prints by `printer`.
     pub(crate) fn new(settings: Settings, printer: S) -> LineProcessor<S>
         ensures { (o : Options) → (piece : List Judged → Judged → List ℕ) → o.settings ≡ settings →
             S.represents printer [] →
@@ -83,12 +88,15 @@ impl<S: Show> LineProcessor<S> {
         }
     }
 
-    /// Reads the next line. What is printed of it is put after the run of bytes before it, unless it is the line itself:
-    /// then nothing is put, and the answer is `false`.
+    /// Decides the next line. Appends `pending` and the output for the line, if that differs from
+    /// the line.
+    ///
+    /// Returns whether they were appended. If the output is the line itself, nothing is appended.
     ///
     /// # Errors
-    /// `Section` if the line is faulty: nothing is put. `Write` if a write fails: a front of all bytes to be written up to
-    /// the line's is written.
+    /// - `Section` if the line is faulty. Nothing is appended.
+    /// - `Write` if a write fails. A prefix of the buffered bytes, `pending` and the output for the
+    ///   line was written.
     pub(crate) fn print<W: Write>(
         &mut self,
         line: &Line<'_>,
@@ -139,7 +147,7 @@ impl<S: Show> LineProcessor<S> {
         }
     }
 
-    /// Reads the next line, and puts what is printed of it after the run of bytes before it.
+    /// Decides the next line. Appends `pending` and the output for the line, in every case.
     ///
     /// # Errors
     /// As `print`.
@@ -185,8 +193,10 @@ impl<S: Show> LineProcessor<S> {
         }
     }
 
-    /// Reads as many of these whole lines, which come next, as are seen to be text, if it is known what is printed of them
-    /// all, and gives them up. Nothing is put.
+    /// Consumes the longest prefix of `bytes` that is recognized as text lines, if the printer
+    /// copies or drops all text. Appends nothing.
+    ///
+    /// `bytes` are the next whole lines.
     pub(crate) fn skip_text<H: LineBuffer>(
         &mut self,
         bytes: &[u8],
@@ -231,10 +241,10 @@ impl<S: Show> LineProcessor<S> {
         }
     }
 
-    /// What the end of the text says.
+    /// Checks the end of the text.
     ///
     /// # Errors
-    /// The text ends in a block comment, or else in a section.
+    /// Fails if the text ends in a block comment, or else in a section.
     pub(crate) fn finish(&self) -> Result<(), SectionFault>
         ensures { (o : Options) → (piece : List Judged → Judged → List ℕ) →
             (xs : List (Item Reading)) → (t : Tree Reading) →
@@ -244,7 +254,7 @@ impl<S: Show> LineProcessor<S> {
         self.decider.finish()
     }
 
-    /// Whether what was printed of some line isn't the line itself; never if names are listed.
+    /// Returns whether the output for some line differs from the line; never if names are listed.
     pub(crate) fn differs(&self) -> bool
         ensures { (o : Options) → (piece : List Judged → Judged → List ℕ) →
             (xs : List (Item Reading)) → (t : Tree Reading) →
@@ -255,11 +265,11 @@ impl<S: Show> LineProcessor<S> {
     }
 }
 
-/// Puts what a printer makes of the next line after the run of bytes before it, unless it is the line itself, and answers
-/// whether it was put.
+/// Appends `pending` and the printer's output for the next line, if that differs from the line.
+/// Returns whether they were appended.
 ///
 /// # Errors
-/// `None` if a write fails: a front of all these bytes is written, and `out` has failed.
+/// `None` if a write fails. A prefix of all these bytes was written, and `out` is fused.
 #[inline(always)]
 fn append_line<S: Show, W: Write>(
     show: &mut S,
@@ -292,8 +302,10 @@ fn append_line<S: Show, W: Write>(
     }
 }
 
-/// Puts what is left of a line, nothing or its ending, after the run of bytes before it, unless that is the line itself, and
-/// answers whether it was put.
+/// Appends `pending` and `left`, if `left` differs from the line. Returns whether they were
+/// appended.
+///
+/// `left` is the output for the line: nothing or its ending.
 ///
 /// # Errors
 /// As `append_line`.
@@ -327,7 +339,7 @@ fn append_line_output<W: Write>(
     Some(true)
 }
 
-/// Whether what is left of a line, nothing or its ending, is the line itself.
+/// Returns whether `left`, which is nothing or the line's ending, is the line itself.
 #[inline(always)]
 fn is_line(left: &[u8], line: &Line<'_>) -> bool
     requires { IsLeftOf left.now line.now.ending.now }
@@ -336,8 +348,8 @@ fn is_line(left: &[u8], line: &Line<'_>) -> bool
     left.len() == line.body.len() + line.ending.len()
 }
 
-/// Puts the parts that a printer makes of the next line after the run of bytes before it, unless they are the line itself,
-/// and answers whether they were put.
+/// Appends `pending` and the parts that the printer makes of the next line, if they differ from the
+/// line. Returns whether they were appended.
 ///
 /// # Errors
 /// As `append_line`.

@@ -1,4 +1,4 @@
-//! Listing names.
+//! Listing the names of conditions.
 
 ghost use Rattle.std.specs.Prelude.{◌≡◌, ◌++◌, false, not};
 ghost use Rattle.ud_model.specs.answer.Listing.{listed_names};
@@ -10,10 +10,11 @@ use std::io::Write;
 use ud_cond::Names;
 use ud_io::Watched;
 
-/// Puts names, each with a line feed and after the prefix.
+/// Appends each name on a line of its own, after `prefix`.
 ///
 /// # Errors
-/// `false` if a write fails: a front of all these bytes is written, and `out` has failed.
+/// `false` if a write fails. A prefix of the buffered bytes and these lines was written, and `out`
+/// is fused.
 pub(crate) fn append_names<W: Write>(
     output: &mut Output,
     prefix: &[u8],
@@ -33,7 +34,7 @@ pub(crate) fn append_names<W: Write>(
     true
 }
 
-/// Puts a name with a line feed, after the prefix.
+/// Appends `prefix`, `name` and a newline.
 ///
 /// # Errors
 /// As `append_names`.

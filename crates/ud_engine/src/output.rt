@@ -1,4 +1,4 @@
-//! Output that is gathered, so that it leaves in few writes.
+//! Buffered output, so that few writes are made.
 
 ghost use Rattle.std.specs.Prelude.{◌≡◌, ◌++◌, [], false, true, not};
 ghost use Rattle.std.specs.List.{flat_map};
@@ -9,7 +9,7 @@ use std::io::Write;
 use std::marker::Model;
 use ud_io::{Watched, write_all};
 
-/// What is to be written, and isn't yet.
+/// The pending output: bytes that are accepted, but not written yet.
 #[derive(Drop)]
 pub(crate) struct Output {
     buffered: OutputBuffer,
@@ -24,7 +24,7 @@ impl Model for Output {
 }
 
 impl Output {
-    /// Nothing.
+    /// Returns an empty output.
     pub(crate) fn new() -> Output
         ensures { result ≡ [] }
     {
@@ -33,10 +33,11 @@ impl Output {
         }
     }
 
-    /// Puts these bytes after those that are gathered. What doesn't fit is written.
+    /// Appends `bytes` to the buffer. Writes what doesn't fit.
     ///
     /// # Errors
-    /// `false` if a write fails: a front of all these bytes is written, and `out` has failed.
+    /// `false` if a write fails. A prefix of the buffered bytes and `bytes` was written, and `out`
+    /// is fused.
     #[inline(always)]
     pub(crate) fn append<W: Write>(&mut self, bytes: &[u8], out: &mut Watched<W>) -> bool
         requires not_failed { out.old.failed ≡ false }
@@ -50,7 +51,7 @@ impl Output {
         self.append_nonempty(bytes, out)
     }
 
-    /// The same of bytes of which there are some.
+    /// Appends `bytes`, as `append` does, without its test for empty `bytes`.
     fn append_nonempty<W: Write>(&mut self, bytes: &[u8], out: &mut Watched<W>) -> bool
         requires not_failed { out.old.failed ≡ false }
         ensures appends { AppendsAllButOrPrefix result (W.contents out.old.inner)
@@ -69,7 +70,7 @@ impl Output {
         write_all(out, bytes)
     }
 
-    /// Puts these parts in turn after the bytes that are gathered.
+    /// Appends `parts` in turn.
     ///
     /// # Errors
     /// As `append`.
@@ -87,10 +88,10 @@ impl Output {
         true
     }
 
-    /// Writes what is gathered. Nothing is gathered then.
+    /// Writes all buffered bytes, and empties the buffer.
     ///
     /// # Errors
-    /// `false` if a write fails: a front of the bytes is written, and `out` has failed.
+    /// `false` if a write fails. A prefix of the buffered bytes was written, and `out` is fused.
     pub(crate) fn flush_buffer<W: Write>(&mut self, out: &mut Watched<W>) -> bool
         requires not_failed { out.old.failed ≡ false }
         ensures appends { AppendsAllButOrPrefix result (W.contents out.old.inner)

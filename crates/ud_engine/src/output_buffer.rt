@@ -1,16 +1,17 @@
-//! Bytes that are gathered one after another, up to a limit.
+//! A buffer for bytes, of a fixed capacity.
 
 ghost use Rattle.std.specs.Prelude.{◌≡◌, ◌+◌, ◌≤◌, ◌++◌, [], length, take, true, false};
 
 use std::marker::Model;
 
-/// How many bytes are gathered at most: a short line that was cut and the piece that is read after it leave in one write.
+/// The capacity of the buffer. A short line that a chunk's end cut leaves in one write with the
+/// chunk that is read after it.
 pub(crate) const OUTPUT_BUFFER_BYTES: usize = 8_192;
 
-/// At most `OUTPUT_BUFFER_BYTES` bytes. Making it empty leaves the array as it is.
+/// A buffer of at most `OUTPUT_BUFFER_BYTES` bytes. Clearing it leaves the array unchanged.
 #[derive(Drop)]
 pub(crate) struct OutputBuffer {
-    /// The first `len` bytes count.
+    /// The first `len` bytes are the buffered ones.
     array: [u8; OUTPUT_BUFFER_BYTES],
     len: usize,
 }
@@ -27,7 +28,7 @@ impl Model for OutputBuffer {
 }
 
 impl OutputBuffer {
-    /// Nothing.
+    /// Returns an empty buffer.
     pub(crate) fn new() -> OutputBuffer
         ensures { result ≡ [] }
     {
@@ -37,7 +38,7 @@ impl OutputBuffer {
         }
     }
 
-    /// Puts these bytes after the others if there is room for all of them.
+    /// Appends `bytes` if all of them fit. Returns whether they do.
     pub(crate) fn try_append(&mut self, bytes: &[u8]) -> bool
         ensures put { result ≡ true → self.new ≡ self.old ++ bytes.now }
         ensures full { result ≡ false → self.new ≡ self.old }
@@ -51,14 +52,14 @@ impl OutputBuffer {
         true
     }
 
-    /// The bytes.
+    /// Returns the buffered bytes.
     pub(crate) fn as_slice(&self) -> &[u8]
         ensures { result.now ≡ self.now }
     {
         &self.array[..self.len]
     }
 
-    /// Makes it empty.
+    /// Empties the buffer.
     pub(crate) fn clear(&mut self)
         ensures { self.new ≡ [] }
     {

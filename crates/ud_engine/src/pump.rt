@@ -1,4 +1,8 @@
 //! A run over a reader.
+//!
+//! `run` reads chunks into a buffer of its own, and feeds them to an engine until the text ends. It
+//! begins with an engine that buffers a short line only, and takes a buffer for the longest line
+//! when a line doesn't fit.
 
 ghost use Rattle.std.specs.Prelude.{◌≡◌, ◌<◌, ℕ, List, Option, true, false, Ok, Err, IfSome};
 ghost use Rattle.std.specs.Prelude.{IfNone, IfErr, OnOk};
@@ -17,20 +21,25 @@ use ud_io::Watched;
 use ud_sections::Printer;
 use ud_text::{LineBuffer, LongLineBuffer, ShortLineBuffer};
 
-/// The most bytes that one read gives.
+/// The most bytes of one read.
 pub(crate) const CHUNK_BYTES: usize = 8_192;
 
-/// Prints what is left of a text, or the names of its conditions, as the plan asks: reads it from `decider` in pieces of at
-/// most `CHUNK_BYTES`, and writes to `out` as it goes. Answers whether some line is printed otherwise than it is; `false` if
-/// names are listed. Takes no memory, and doesn't flush `out`.
+/// Prints the output for a text, or the names of its conditions, as the plan asks.
 ///
-/// If neither fails, what is appended to `out` and the answer are those of the one outcome of the bytes that `decider` gives
-/// up to its end. However the run ends, it has written what is left of all that came before the last piece.
+/// Reads from `reader` in chunks of at most `CHUNK_BYTES`, and writes to `out` meanwhile. Returns
+/// whether the output for some line differs from the line; `false` if names are listed. Takes no
+/// memory, and doesn't flush `out`.
+///
+/// If neither stream fails, the appended bytes and the result are the one outcome of all bytes of
+/// `reader` up to its end. However the run ends, the output for all whole lines before the last
+/// chunk is written.
 ///
 /// # Errors
-/// `Text` or `Section` if a line is faulty, after what is left of the lines before it, or if the text ends in a comment or
-/// a section, after what is left of all lines; no more is read then. `Read` if a read fails, after what is left of the whole
-/// lines before; `Write` if a write fails.
+/// - `Text` or `Section` if a line is faulty, after the output for the lines before it. No more is
+///   read then.
+/// - `Section` if the text ends in a comment or a section, after the output for all lines.
+/// - `Read` if a read fails, after the output for the whole lines before.
+/// - `Write` if a write fails.
 pub fn run<R: Read, W: Write>(
     plan: &Plan,
     reader: &mut Watched<R>,
@@ -67,8 +76,10 @@ pub fn run<R: Read, W: Write>(
     }
 }
 
-/// Goes on with a run whose engine has no room left: what it holds is put into room for a line of any length. That room is this
-/// function's own, so that a run that meets no long line doesn't pay for it.
+/// Continues the run with a buffer for the longest line.
+///
+/// The state of `short` moves to a new engine. Its buffer is a local of this function alone, so
+/// that runs without a long line don't clear it.
 ///
 /// # Errors
 /// As `run`.
@@ -98,8 +109,10 @@ fn run_with_long_buffer<R: Read, W: Write>(
     }
 }
 
-/// Feeds an engine with pieces from `decider`, none longer than there is room for, until the text has ended or a fault is met. No
-/// answer if there is room for no byte more, which never comes in room for a line of any length.
+/// Feeds the engine chunks of `reader` until the text ends or a fault occurs.
+///
+/// Reads no more bytes at once than fit in the engine. Returns `None` if none fits, which never
+/// happens with a buffer for the longest line.
 ///
 /// # Errors
 /// As `run`.

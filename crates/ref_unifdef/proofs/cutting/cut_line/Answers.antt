@@ -1,4 +1,4 @@
--- Before the first line feed there is none.
+-- The bytes before the first newline have none.
 use Rattle.std.proofs.Common.{refl, subst, sym}
 use Rattle.ud_model.specs.text.Lines.{NoNewline}
 use Rattle.ud_text.proofs.NewlineLemmas.{no_newline_front, up_to_newline-none}

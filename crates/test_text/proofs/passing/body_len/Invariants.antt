@@ -1,4 +1,4 @@
--- The bytes before the place have no line feed.
+-- The bytes before the position have no newline.
 use Rattle.std.proofs.Common.{◌≤◌, ◌-◌, length, take}
 use Rattle.ud_model.specs.text.Lines.{NoNewline}
 use Rattle.test_text.proofs.passing.body_len.Given as goal

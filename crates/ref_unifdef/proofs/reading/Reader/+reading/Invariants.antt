@@ -1,4 +1,4 @@
--- A section reads its place one level deeper, and each line leaves less of the text.
+-- A section reads its groups one level deeper, and after each line less of the text is left.
 use Rattle.std.proofs.Common.{◌+◌, ◌*◌, ◌-◌, ◌≤◌, length}
 use Rattle.ud_model.specs.declared.limits.TheConstants.{OPEN_SECTIONS}
 use Rattle.ref_unifdef.proofs.reading.Reader.+reading.Given as goal
