@@ -3,3 +3,5 @@ pub mod PrintingLemmas
 pub mod LevelLemmas
 pub mod Onward
 pub mod WordLemmas
+pub mod SameArguments
+pub mod AddedOption

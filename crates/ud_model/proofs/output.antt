@@ -52,6 +52,7 @@ pub mod ListAnswers
 pub mod InsertedTree
 pub mod InsertedText
 pub mod InsertedSelected
-pub mod ListWords
+pub mod FlagArguments
+pub mod OptionAnswers
 pub mod ReachedPruned
 pub mod ReachedAlike

@@ -4,6 +4,7 @@ pub mod Listing
 pub mod SymbolArguments
 pub mod CommandLine
 pub mod SingleArguments
+pub mod OptionArguments
 pub mod Messages
 pub mod Outcomes
 pub mod Answer

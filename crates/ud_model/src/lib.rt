@@ -6,6 +6,7 @@
 #![tactic(auto)]
 
 pub mod answer_laws;
+pub mod answer_option_laws;
 pub mod bytes;
 mod cond;
 mod kind;

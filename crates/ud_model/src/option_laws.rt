@@ -24,7 +24,7 @@ ghost use Rattle.ud_model.specs.output.BlankedLines.{AreBlankedLines};
 ghost use Rattle.ud_model.specs.output.InsertedLines.{with_blank_renumber, read_as, Counted};
 ghost use Rattle.ud_model.specs.output.InsertedNodes.{NodesWithInserted, LinesWithInserted};
 ghost use Rattle.ud_model.specs.output.Worlds.{World, selected, openers};
-ghost use Rattle.ud_model.specs.output.SharedLines.{with_complement, ShareLines};
+ghost use Rattle.ud_model.specs.output.SharedLines.{OnlyDecides, with_complement, ShareLines};
 ghost use Rattle.ud_model.specs.declared.cond.Cond.{Cond};
 ghost use Rattle.ud_model.specs.declared.settings.Listing.{Listing};
 
@@ -76,13 +76,11 @@ pub fn law_lines_keep_their_place()
 pub fn law_complement()
     ensures fault { (o : Options) → (input : List ℕ) → (xs : List (Item Reading)) →
         (t : Tree Reading) → (f : Option Fault) → (r : Outcome) → (s : Outcome) →
-        o.settings.listing ≡ Listing.Off → o.settings.blank ≡ false → o.settings.renumber ≡ false →
-        o.settings.complement ≡ false → ReadsAs o input xs t f → HasOutcome o input r →
+        OnlyDecides o → ReadsAs o input xs t f → HasOutcome o input r →
         HasOutcome (with_complement o) input s → s.fault ≡ r.fault }
     ensures shared { (o : Options) → (input : List ℕ) → (xs : List (Item Reading)) →
         (t : Tree Reading) → (f : Option Fault) → (r : Outcome) → (s : Outcome) →
-        o.settings.listing ≡ Listing.Off → o.settings.blank ≡ false → o.settings.renumber ≡ false →
-        o.settings.complement ≡ false → ReadsAs o input xs t f → HasOutcome o input r →
+        OnlyDecides o → ReadsAs o input xs t f → HasOutcome o input r →
         HasOutcome (with_complement o) input s →
         ShareLines (judged_lines xs (marks t)) r.output s.output }
 {}
@@ -108,21 +106,6 @@ pub fn law_strict_decides_less()
         tree_cond e table (record { constants = k; strict = true }) ≢ Cond.Unknown →
         tree_cond e table (record { constants = k; strict = false }) ≡
         tree_cond e table (record { constants = k; strict = true }) }
-{}
-
-/// The list is complete, said of words: if `-s` before words without `-S` lists the names of an input without a fault, and
-/// other words say the same but for symbols that aren't listed, and to which no listed one leads, then they have the same
-/// answer (unifdef(1)).
-pub fn law_answer_by_list()
-    ensures lists { (words : List (List ℕ)) → has_flag (codes "S") (parsed_args words) ≡ false →
-        options_of (codes "-s" ∷ words) ≡ with_listing (options_of words) }
-    ensures same { (words : List (List ℕ)) → (more : List (List ℕ)) → (input : List ℕ) →
-        (l : Answer) → (a : Answer) → has_flag (codes "S") (parsed_args words) ≡ false →
-        IsAnswer (codes "-s" ∷ words) input l → l.status ≢ 2 → IsAnswer words input a →
-        a.status ≢ 2 → usage_fault more ≡ None →
-        (options_of more).settings ≡ (options_of words).settings →
-        AgreeOnListed l.output (options_of words).table (options_of more).table →
-        IsAnswer more input a }
 {}
 
 /// What is put in changes no section: the tree of the output under `-n`, and under `-b`, is that of the output without these

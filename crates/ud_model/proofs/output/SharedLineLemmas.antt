@@ -13,7 +13,7 @@ use Rattle.ud_model.specs.answer.Listing.{names_in_content, names_at}
 use Rattle.ud_model.specs.answer.Printing.{Judged, piece_alone, complemented, judged_lines}
 use Rattle.ud_model.specs.answer.Outcomes.{Outcome, outcome_of, output_by, ReadsAs, HasOutcome, ran_as}
 use Rattle.ud_model.specs.answer.Outcomes.ReadsAs.{stops, ends}
-use Rattle.ud_model.specs.output.SharedLines.{with_complement, ShareLines, no_line, stays, goes}
+use Rattle.ud_model.specs.output.SharedLines.{OnlyDecides, with_complement, ShareLines, no_line, stays, goes}
 use Rattle.ud_model.specs.declared.settings.Settings.{Settings}
 use Rattle.ud_model.specs.declared.settings.Listing.{Listing}
 use Rattle.ud_model.specs.declared.settings.Listing.TheVariants.{Off}
@@ -86,14 +86,14 @@ printed_lone o {xs = xs} {t = t} c off b n k a run =
     ∙ ap (λ (ps : List (List ℕ)). concat ps) (pieces_lone o.settings.blank o.settings.complement o.settings.renumber [] js n)
     ∙ ap₂ (λ (d e : Bool). concat (map (lone d e) js)) b k
 
-pub shared : (o : Options) (input : List ℕ) {xs : List (Item Reading)} {t : Tree Reading} {f : Option Fault} {r s : Outcome} → o.settings.listing ≡ Off →
-    o.settings.blank ≡ false → o.settings.renumber ≡ false → o.settings.complement ≡ false → ReadsAs o input xs t f → HasOutcome o input r → HasOutcome (with_complement o) input s →
+pub shared : (o : Options) (input : List ℕ) {xs : List (Item Reading)} {t : Tree Reading} {f : Option Fault} {r s : Outcome} → OnlyDecides o →
+    ReadsAs o input xs t f → HasOutcome o input r → HasOutcome (with_complement o) input s →
     (s.fault ≡ r.fault) × ShareLines (judged_lines xs (marks t)) r.output s.output
-shared o input {xs = xs} {t = t} {r = r} {s = s} off b n k a run turned =
+shared o input {xs = xs} {t = t} {r = r} {s = s} p a run turned =
     let js : List Judged = judged_lines xs (marks t) in
     let d = reads_too o (with_complement o) refl refl refl a in
-    let here : r.output ≡ concat (map (lone false false) js) = printed_lone o false off b n k a run in
-    let there : s.output ≡ concat (map (lone false true) js) = printed_lone (with_complement o) true off b n refl d turned in (
+    let here : r.output ≡ concat (map (lone false false) js) = printed_lone o false p.unlisted p.unblanked p.unnumbered p.uncomplemented a run in
+    let there : s.output ≡ concat (map (lone false true) js) = printed_lone (with_complement o) true p.unlisted p.unblanked p.unnumbered refl d turned in (
       ap (λ (z : Outcome). z.fault) (one_run turned (ran_as d)) ∙ ap (λ (z : Outcome). z.fault) (one_run (ran_as a) run),
       subst (λ (q : List ℕ). ShareLines js r.output q) (sym there) (subst (λ (q : List ℕ). ShareLines js q (concat (map (lone false true) js))) (sym here) (share_all js)),
     )

@@ -2,6 +2,7 @@
 -- C11 6.10.4p3: `#line n` makes n the number of the next line, and each further line counts on. unifdef(1), `-n`, `-b`.
 --
 --   with_blank_renumber b n o   the same options, with `-b` and `-n` or without
+--   KeepsNumbers args more      the arguments more say what args say, with `-b`, `-n` or both
 --   read_as mode text           the lines of a text, each read in this mode
 --   IsLone s                    the line is seen as it stands, by itself: nothing joins it to its neighbours, and it lies in no comment
 --   IsPrinted j r s             r and s are printed of the judged line j: the same bytes, seen alike
@@ -11,12 +12,13 @@
 --
 -- Example: under `-n -UA` of `x`, `#ifdef A`, `y`, `#endif`, `z` the lines `x`, `#line 5`, `z` are read, and z has number 5.
 use Rattle.std.specs.Prelude.{◌≡◌, ℕ, suc, List, [], ◌∷◌, ◌++◌, map, Bool, true, false, codes}
-use Rattle.std.specs.Prelude.{decimal}
+use Rattle.std.specs.Prelude.{decimal, ◌||◌, None}
 use Rattle.ud_model.specs.text.Lines.{Line, text_of, lines_of}
 use Rattle.ud_model.specs.text.Scans.{Reading, plain_scan}
 use Rattle.ud_model.specs.text.Scanning.{readings_of}
 use Rattle.ud_model.specs.sections.Pruning.{is_removed}
 use Rattle.ud_model.specs.sections.Items.{Options}
+use Rattle.ud_model.specs.answer.CommandLine.{usage_fault, options_of}
 use Rattle.ud_model.specs.answer.Printing.{Judged, piece_by}
 use Rattle.ud_model.specs.declared.kind.Mode.{Mode}
 
@@ -26,6 +28,14 @@ with_blank_renumber b n o = record {
   settings = record o.settings { blank = b; renumber = n };
   table = o.table;
 }
+
+-- `KeepsNumbers args more`: the arguments more have no fault, and say what args say, with `-b`, `-n` or both
+pub record KeepsNumbers (args more : List (List ℕ)) : Type 0 where
+  pub blank : Bool
+  pub renumber : Bool
+  pub given : (blank || renumber) ≡ true
+  pub options : options_of more ≡ with_blank_renumber blank renumber (options_of args)
+  pub no_fault : usage_fault more ≡ None
 
 abbrev pub in_mode : Mode → Line → Mode × Line
 in_mode m l = (m, l)

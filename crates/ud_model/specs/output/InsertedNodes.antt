@@ -7,11 +7,14 @@
 --   LinesWithInserted rs ss   ss are the lines rs, each seen alike, with lines put in
 --
 -- Example: under `-n -UA` of `#if X`, `#ifdef A`, `#endif`, `y`, `#endif` the section of X has the text lines `#line 4` and `y`.
-use Rattle.std.specs.Prelude.{◌≡◌, ℕ, List, [], ◌∷◌, ◌⊎◌}
+use Rattle.std.specs.Prelude.{◌≡◌, ℕ, List, [], ◌∷◌, ◌⊎◌, map}
 use Rattle.ud_model.specs.text.Lines.{text_of}
 use Rattle.ud_model.specs.text.Scans.{Reading}
 use Rattle.ud_model.specs.sections.Tree.{Opener, Nodes, Groups, Elifs, nothing, text, section}
-use Rattle.ud_model.specs.sections.Tree.{conditional, otherwise, first, elif}
+use Rattle.ud_model.specs.sections.Tree.{conditional, otherwise, first, elif, closed}
+use Rattle.ud_model.specs.sections.Items.{Options}
+use Rattle.ud_model.specs.output.Rereading.{IsTreeOf, line_bytes}
+use Rattle.ud_model.specs.output.Worlds.{World, selected, openers}
 use Rattle.ud_model.specs.output.InsertedLines.{IsBlankLine, IsNumberLine}
 
 -- the same bytes, seen alike
@@ -62,3 +65,13 @@ pub data LinesWithInserted : List Reading → List Reading → Type 0 where
       LinesWithInserted (r ∷ rs) (s ∷ ss)
   put_line : {d : Reading} {rs ss : List Reading} → IsInserted d → LinesWithInserted rs ss →
       LinesWithInserted rs (d ∷ ss)
+
+-- `SelectsWithInserted o text us v ls`: the text has a tree in which, if its openers have the truths that v gives those of
+-- us, C selects lines of the bytes ls, with lines inserted
+pub record SelectsWithInserted (o : Options) (text : List ℕ) (us : Nodes Reading)
+    (v : World Reading) (ls : List (List ℕ)) : Type 0 where
+  pub nodes : Nodes Reading
+  pub is_tree : IsTreeOf o text (closed nodes)
+  pub woven : NodesWithInserted us nodes
+  pub selects : (x : World Reading) → map x (openers nodes) ≡ map v (openers us) →
+      (rs : List Reading) × (map line_bytes rs ≡ ls) × LinesWithInserted rs (selected x nodes)

@@ -1,6 +1,7 @@
 -- SharedLines: how a run and the run with `-c` share the lines of a text.
 -- unifdef(1), `-c`: lines that would be removed are kept, and the other way round.
 --
+--   OnlyDecides o       none of `-s`, `-S`, `-b`, `-l`, `-c` and `-n` is given
 --   with_complement o   the same options, and `-c`
 --   ShareLines js a b   each of these judged lines is printed once: in a, as its verdict says, if it isn't removed; else in b, as it is
 --
@@ -10,6 +11,14 @@ use Rattle.ud_model.specs.text.Lines.{text_of}
 use Rattle.ud_model.specs.sections.Pruning.{is_removed}
 use Rattle.ud_model.specs.sections.Items.{Options}
 use Rattle.ud_model.specs.answer.Printing.{Judged, piece_by}
+use Rattle.ud_model.specs.declared.settings.Listing.TheVariants.{Off}
+
+-- `OnlyDecides o`: o has none of `-s`, `-S`, `-b`, `-l`, `-c` and `-n`
+pub record OnlyDecides (o : Options) : Type 0 where
+  pub unlisted : o.settings.listing ≡ Off
+  pub unblanked : o.settings.blank ≡ false
+  pub uncomplemented : o.settings.complement ≡ false
+  pub unnumbered : o.settings.renumber ≡ false
 
 -- the same options, and `-c`
 abbrev pub with_complement : Options → Options

@@ -1,0 +1,143 @@
+-- Arguments that give the same in other places: what is read of them doesn't depend on the place.
+use Rattle.std.proofs.Common.{◌≡◌, ℕ, suc, List, [], ◌∷◌, Bool, true, false, ◌||◌, if◌then◌else◌, bytes_eq, codes, encode_utf8_all, Option, Some, None, refl, sym, ◌∙◌, ap, ap₂, arith}
+use Rattle.std.proofs.lemmas.Option.{none-some}
+use Rattle.std.specs.List.{filter_map}
+use Rattle.ud_model.specs.answer.CommandLine.{ParsedArg, flag, option, operand, unknown, lacking, has_letter, is_flag, takes_argument, option_letters, operands_from, parsed_option, parsed_letters, parsed_word, parsed_from, parsed_after_option, mode_or, parse_exit_mode, parse_symbol, mode_from, has_flag, listing_by, settings_in, argument_in, UsageFault, unless_right, bad_symbol_in, bad_mode_in, argument_fault, fault_or, first_fault, operand_in, name_or_stdin}
+use Rattle.ud_model.specs.declared.settings.Settings.{Settings}
+use Rattle.ud_model.specs.declared.settings.Listing.{Listing}
+use Rattle.ud_model.specs.declared.settings.ExitMode.{ExitMode}
+use Rattle.ud_model.specs.declared.settings.ExitMode.TheVariants.{Zero}
+
+-- the same is given, in other places
+pub data Same : List ParsedArg → List ParsedArg → Type 0 where
+  none : Same [] []
+  a_flag : (c : ℕ) {gs hs : List ParsedArg} → Same gs hs → Same (flag c ∷ gs) (flag c ∷ hs)
+  an_option : (c n m : ℕ) (a : List ℕ) {gs hs : List ParsedArg} → Same gs hs → Same (option c n a ∷ gs) (option c m a ∷ hs)
+  an_operand : (n m : ℕ) (w : List ℕ) {gs hs : List ParsedArg} → Same gs hs → Same (operand n w ∷ gs) (operand m w ∷ hs)
+  an_unknown : (c : ℕ) {gs hs : List ParsedArg} → Same gs hs → Same (unknown c ∷ gs) (unknown c ∷ hs)
+  a_lacking : (c : ℕ) {gs hs : List ParsedArg} → Same gs hs → Same (lacking c ∷ gs) (lacking c ∷ hs)
+
+if_same : (b : Bool) (p q r s : List ParsedArg) → Same p q → Same r s → Same (if b then p else r) (if b then q else s)
+if_same true p q r s h k = h
+if_same false p q r s h k = k
+
+operands_same : (n m : ℕ) (ws : List (List ℕ)) → Same (operands_from n ws) (operands_from m ws)
+operands_same n m [] = none
+operands_same n m (w ∷ ws) = an_operand n m w (operands_same (suc n) (suc m) ws)
+
+option_same : (c n m : ℕ) (ls : List ℕ) (p q r s : List ParsedArg) → Same p q → Same r s → Same (parsed_option c n ls p r) (parsed_option c m ls q s)
+option_same c n m [] p q r s h k = h
+option_same c n m (l ∷ ls) p q r s h k = an_option c n m (encode_utf8_all (l ∷ ls)) k
+
+letters_same : (n m : ℕ) (ls : List ℕ) (p q : ℕ → List ParsedArg) (r s : List ParsedArg) → ((c : ℕ) → Same (p c) (q c)) → Same r s → Same (parsed_letters n ls p r) (parsed_letters m ls q s)
+letters_same n m [] p q r s h k = k
+letters_same n m (c ∷ cs) p q r s h k =
+    if_same (is_flag c) (flag c ∷ parsed_letters n cs p r) (flag c ∷ parsed_letters m cs q s)
+    (if takes_argument c then parsed_option c n cs (p c) r else unknown c ∷ parsed_letters n cs p r)
+    (if takes_argument c then parsed_option c m cs (q c) s else unknown c ∷ parsed_letters m cs q s)
+    (a_flag c (letters_same n m cs p q r s h k))
+    (if_same (takes_argument c) (parsed_option c n cs (p c) r) (parsed_option c m cs (q c) s) (unknown c ∷ parsed_letters n cs p r) (unknown c ∷ parsed_letters m cs q s)
+    (option_same c n m cs (p c) (q c) r s (h c) k) (an_unknown c (letters_same n m cs p q r s h k)))
+
+word_same : (n m : ℕ) (ls : List ℕ) (p q : ℕ → List ParsedArg) (r s x y : List ParsedArg) → ((c : ℕ) → Same (p c) (q c)) → Same r s → Same x y →
+    Same (parsed_word n ls p r x) (parsed_word m ls q s y)
+word_same n m [] p q r s x y h k o = o
+word_same n m (c ∷ cs) p q r s x y h k o = letters_same n m (c ∷ cs) p q r s h k
+
+mutual
+  pub given_same : (n m : ℕ) (ws : List (List ℕ)) → Same (parsed_from n ws) (parsed_from m ws)
+  given_same n m [] = none
+  given_same n m (w ∷ ws) =
+      if_same (bytes_eq w (codes "--")) (operands_from (suc n) ws) (operands_from (suc m) ws)
+      (parsed_word (suc n) (option_letters w) (λ c. parsed_after_option c (suc n) ws) (parsed_from (suc n) ws) (operands_from n (w ∷ ws)))
+      (parsed_word (suc m) (option_letters w) (λ c. parsed_after_option c (suc m) ws) (parsed_from (suc m) ws) (operands_from m (w ∷ ws)))
+      (operands_same (suc n) (suc m) ws)
+      (word_same (suc n) (suc m) (option_letters w) (λ c. parsed_after_option c (suc n) ws) (λ c. parsed_after_option c (suc m) ws) (parsed_from (suc n) ws) (parsed_from (suc m) ws)
+      (operands_from n (w ∷ ws)) (operands_from m (w ∷ ws)) (λ c. after_option_same c (suc n) (suc m) ws) (given_same (suc n) (suc m) ws) (operands_same n m (w ∷ ws)))
+
+  after_option_same : (c n m : ℕ) (ws : List (List ℕ)) → Same (parsed_after_option c n ws) (parsed_after_option c m ws)
+  after_option_same c n m [] = a_lacking c none
+  after_option_same c n m (w ∷ ws) = an_option c (suc n) (suc m) w (given_same (suc n) (suc m) ws)
+
+pub flag_same : (ls : List ℕ) {gs hs : List ParsedArg} → Same gs hs → has_flag ls gs ≡ has_flag ls hs
+flag_same ls none = refl
+flag_same ls (a_flag c k) = ap (λ (b : Bool). has_letter ls c || b) (flag_same ls k)
+flag_same ls (an_option c n m a k) = flag_same ls k
+flag_same ls (an_operand n m w k) = flag_same ls k
+flag_same ls (an_unknown c k) = flag_same ls k
+flag_same ls (a_lacking c k) = flag_same ls k
+
+pub mode_same : (e : ExitMode) {gs hs : List ParsedArg} → Same gs hs → mode_from e gs ≡ mode_from e hs
+mode_same e none = refl
+mode_same e (a_flag c k) = mode_same e k
+mode_same e (an_option c n m a k) = mode_same (if has_letter (codes "x") c then mode_or e (parse_exit_mode a) else e) k
+mode_same e (an_operand n m w k) = mode_same e k
+mode_same e (an_unknown c k) = mode_same e k
+mode_same e (a_lacking c k) = mode_same e k
+
+pub table_same : {gs hs : List ParsedArg} → Same gs hs → filter_map argument_in gs ≡ filter_map argument_in hs
+table_same none = refl
+table_same (a_flag c k) = table_same k
+table_same (an_option c n m a k) = grind (arith, table_same k)
+table_same (an_operand n m w k) = table_same k
+table_same (an_unknown c k) = table_same k
+table_same (a_lacking c k) = table_same k
+
+-- the settings by each of them
+abbrev pub settings_by : Bool → Bool → Bool → Bool → Bool → Bool → Listing → ExitMode → Settings
+settings_by t k s b c n l e = record { plain = t; constants = k; strict = s; blank = b; complement = c; renumber = n; listing = l; exit_mode = e }
+
+-- settings with the same parts are the same
+pub settings_parts : {t u k l s r b d c e n m : Bool} {p q : Listing} {x y : ExitMode} → t ≡ u → k ≡ l → s ≡ r → b ≡ d → c ≡ e → n ≡ m → p ≡ q → x ≡ y →
+    settings_by t k s b c n p x ≡ settings_by u l r d e m q y
+settings_parts f g h i j o v w = rw (f, g, h, i, j, o, v, w) refl
+
+pub settings_same : (gs hs : List ParsedArg) → Same gs hs → settings_in gs ≡ settings_in hs
+settings_same gs hs k =
+    settings_parts (flag_same (codes "t") k) (flag_same (codes "k") k) (flag_same (codes "K") k) (flag_same (codes "bl") k) (flag_same (codes "c") k)
+    (flag_same (codes "n") k) (ap₂ listing_by (flag_same (codes "S") k) (flag_same (codes "s") k)) (mode_same Zero k)
+
+-- an argument is right or wrong in each place
+argument_right : (c n m : ℕ) (a : List ℕ) → argument_fault c n a ≡ None → argument_fault c m a ≡ None
+argument_right c n m a e = go (has_letter (codes "x") c) e
+  where
+    right : {A : Type 0} (o : Option A) (f g : UsageFault) → unless_right o f ≡ None → unless_right o g ≡ None
+    right None f g e = absurd (none-some f (sym e))
+    right (Some x) f g e = refl
+
+    go : (b : Bool) → (if b then unless_right (parse_exit_mode a) (bad_mode_in n) else unless_right (parse_symbol c a) (bad_symbol_in n)) ≡ None →
+        (if b then unless_right (parse_exit_mode a) (bad_mode_in m) else unless_right (parse_symbol c a) (bad_symbol_in m)) ≡ None
+    go true e = right (parse_exit_mode a) (bad_mode_in n) (bad_mode_in m) e
+    go false e = right (parse_symbol c a) (bad_symbol_in n) (bad_symbol_in m) e
+
+pub both_none : (x y : Option UsageFault) → fault_or x y ≡ None → (x ≡ None) × (y ≡ None)
+both_none None y e = (refl, e)
+both_none (Some f) y e = absurd (none-some f (sym e))
+
+pub none_of_both : (x y : Option UsageFault) → x ≡ None → y ≡ None → fault_or x y ≡ None
+none_of_both x y e f = ap (λ (z : Option UsageFault). fault_or z y) e ∙ f
+
+-- arguments without a fault have none in other places
+pub no_fault_same : {gs hs : List ParsedArg} → Same gs hs → first_fault gs ≡ None → first_fault hs ≡ None
+no_fault_same none e = refl
+no_fault_same (a_flag c k) e = no_fault_same k e
+no_fault_same (an_option c n m a {gs} {hs} k) e =
+    let both : (argument_fault c n a ≡ None) × (first_fault gs ≡ None) = both_none (argument_fault c n a) (first_fault gs) e in
+    none_of_both (argument_fault c m a) (first_fault hs) (argument_right c n m a both.0) (no_fault_same k both.1)
+no_fault_same (an_operand n m w none) e = refl
+no_fault_same (an_operand n m w (a_flag c k)) e = e
+no_fault_same (an_operand n m w (an_option c i j a k)) e = e
+no_fault_same (an_operand n m w (an_operand i j v k)) e = e
+no_fault_same (an_operand n m w (an_unknown c k)) e = e
+no_fault_same (an_operand n m w (a_lacking c k)) e = e
+no_fault_same (an_unknown c k) e = e
+no_fault_same (a_lacking c k) e = e
+
+-- messages call the input by the same name
+pub name_same : {gs hs : List ParsedArg} → Same gs hs → name_or_stdin (operand_in gs) ≡ name_or_stdin (operand_in hs)
+name_same none = refl
+name_same (a_flag c k) = name_same k
+name_same (an_option c n m a k) = name_same k
+name_same (an_operand n m w k) = refl
+name_same (an_unknown c k) = name_same k
+name_same (a_lacking c k) = name_same k

@@ -1,0 +1,13 @@
+-- `-c` before the arguments is the complement of what they say.
+use Rattle.ud_model.proofs.output.FlagArguments.{complements}
+use Rattle.ud_model.proofs.output.OptionAnswers.{answered_message, answered_shared}
+use Rattle.ud_model.proofs.answer_option_laws.law_answer_complement.Goals as goal
+
+pub returns-clause-words : goal.returns-clause-words
+returns-clause-words c = λ args. complements args
+
+pub returns-clause-message : goal.returns-clause-message
+returns-clause-message c = λ args input a k p right b d. answered_message p right b d
+
+pub returns-clause-shared : goal.returns-clause-shared
+returns-clause-shared c = λ args input xs t f a k p right reads b d. answered_shared p right reads b d

@@ -1,0 +1,113 @@
+//! Laws of options, of arguments and answers: what a user who types an option may rely on.
+//!
+//! `option_laws` says the same of options and outcomes. The clause `answer` of the tool hands these laws on to the program:
+//! each answer here is what the program writes and returns.
+
+ghost use Rattle.std.specs.Prelude.{◌≡◌, ◌≢◌, ◌∷◌, ◌++◌, codes, ℕ, List, [], map, Option, None, Bool};
+ghost use Rattle.std.specs.Prelude.{true, false};
+ghost use Rattle.ud_model.specs.text.Lines.{Line, lines_of, partial_line};
+ghost use Rattle.ud_model.specs.text.Scans.{Reading};
+ghost use Rattle.ud_model.specs.sections.Tree.{Item, Nodes, Tree, closed};
+ghost use Rattle.ud_model.specs.sections.Pruning.{marks};
+ghost use Rattle.ud_model.specs.sections.Items.{mode_by};
+ghost use Rattle.ud_model.specs.sections.Faults.{Fault};
+ghost use Rattle.ud_model.specs.answer.CommandLine.{has_flag, parsed_args, usage_fault, options_of};
+ghost use Rattle.ud_model.specs.answer.OptionArguments.{AddsSymbol};
+ghost use Rattle.ud_model.specs.answer.Answer.{Answer, IsAnswer};
+ghost use Rattle.ud_model.specs.answer.Printing.{judged_lines};
+ghost use Rattle.ud_model.specs.answer.Outcomes.{ReadsAs};
+ghost use Rattle.ud_model.specs.output.Rereading.{IsPlain, IsTreeOf, KeepsTruths, line_bytes};
+ghost use Rattle.ud_model.specs.output.CSelection.{IsCWorld};
+ghost use Rattle.ud_model.specs.output.ListedNames.{with_listing, IsListed, AgreeOnListed};
+ghost use Rattle.ud_model.specs.output.ListedNames.{IsNoValue};
+ghost use Rattle.ud_model.specs.output.BlankedLines.{AreBlankedLines};
+ghost use Rattle.ud_model.specs.output.SharedLines.{OnlyDecides, with_complement, ShareLines};
+ghost use Rattle.ud_model.specs.output.InsertedLines.{KeepsNumbers, Counted, read_as};
+ghost use Rattle.ud_model.specs.output.InsertedNodes.{SelectsWithInserted};
+ghost use Rattle.ud_model.specs.output.Worlds.{World, selected};
+ghost use Rattle.ud_model.specs.declared.settings.Listing.{Listing};
+
+/// The list is complete: if `-s` before arguments without `-S` lists the names of an input without a fault, other arguments
+/// have the same answer if they agree on each listed symbol, and on those to which its value leads (unifdef(1)).
+pub fn law_answer_by_list()
+    ensures lists { (args : List (List ℕ)) → has_flag (codes "S") (parsed_args args) ≡ false →
+        options_of (codes "-s" ∷ args) ≡ with_listing (options_of args) }
+    ensures same { (args : List (List ℕ)) → (more : List (List ℕ)) → (input : List ℕ) →
+        (l : Answer) → (a : Answer) → has_flag (codes "S") (parsed_args args) ≡ false →
+        IsAnswer (codes "-s" ∷ args) input l → l.status ≢ 2 → IsAnswer args input a →
+        a.status ≢ 2 → usage_fault more ≡ None →
+        (options_of more).settings ≡ (options_of args).settings →
+        AgreeOnListed l.output (options_of args).table (options_of more).table →
+        IsAnswer more input a }
+{}
+
+/// An option more changes nothing, if its symbol isn't on the list: `-DX`, `-DX=VALUE` or `-UX` may come anywhere among the
+/// options, first and last too. The list is that of `-s` before the same arguments, without a fault, and X is no other
+/// symbol's value (unifdef(1)).
+pub fn law_answer_with_option()
+    ensures { (before : List (List ℕ)) → (after : List (List ℕ)) → (name : List ℕ) →
+        (word : List ℕ) → (input : List ℕ) → (l : Answer) → (a : Answer) →
+        AddsSymbol before name word → has_flag (codes "S") (parsed_args (before ++ after)) ≡ false →
+        IsAnswer (codes "-s" ∷ (before ++ after)) input l → l.status ≢ 2 →
+        IsAnswer (before ++ after) input a → a.status ≢ 2 → (IsListed name l.output → ⊥) →
+        IsNoValue (options_of (before ++ after)).table name →
+        IsAnswer (before ++ word ∷ after) input a }
+{}
+
+/// Under `-b` each line of the output is at its place: it has the number and the ending of the input's line at that place,
+/// and is that line, its edited form, or its ending alone. An input without a fault that ends in a newline has as many
+/// lines as its output (unifdef(1)).
+pub fn law_answer_in_place()
+    ensures as_many { (args : List (List ℕ)) → (input : List ℕ) → (a : Answer) →
+        (options_of args).settings.blank ≡ true →
+        (options_of args).settings.listing ≡ Listing.Off → partial_line input ≡ [] →
+        IsAnswer args input a → a.status ≢ 2 →
+        map (λ (k : Line). k.ending) (lines_of a.output)
+        ≡ map (λ (l : Line). l.ending) (lines_of input) }
+    ensures places { (args : List (List ℕ)) → (input : List ℕ) → (xs : List (Item Reading)) →
+        (t : Tree Reading) → (f : Option Fault) → (a : Answer) →
+        (options_of args).settings.blank ≡ true →
+        (options_of args).settings.listing ≡ Listing.Off → usage_fault args ≡ None →
+        ReadsAs (options_of args) input xs t f → IsAnswer args input a →
+        AreBlankedLines (options_of args).settings.complement (judged_lines xs (marks t))
+        (lines_of a.output) }
+{}
+
+/// A run and the run with `-c` before the same arguments share the lines that were read: each is printed by one of them and
+/// not by the other. Both have the same message (unifdef(1)).
+pub fn law_answer_complement()
+    ensures words { (args : List (List ℕ)) →
+        options_of (codes "-c" ∷ args) ≡ with_complement (options_of args) }
+    ensures message { (args : List (List ℕ)) → (input : List ℕ) → (a : Answer) → (c : Answer) →
+        OnlyDecides (options_of args) → usage_fault args ≡ None → IsAnswer args input a →
+        IsAnswer (codes "-c" ∷ args) input c → c.message ≡ a.message }
+    ensures shared { (args : List (List ℕ)) → (input : List ℕ) → (xs : List (Item Reading)) →
+        (t : Tree Reading) → (f : Option Fault) → (a : Answer) → (c : Answer) →
+        OnlyDecides (options_of args) → usage_fault args ≡ None →
+        ReadsAs (options_of args) input xs t f → IsAnswer args input a →
+        IsAnswer (codes "-c" ∷ args) input c →
+        ShareLines (judged_lines xs (marks t)) a.output c.output }
+{}
+
+/// With `-n` or `-b` before arguments that only decide conditions, a compiler selects the same lines of the output, those
+/// that were inserted aside, and counts each line by its own number in the input (C11 6.10.1p6, 6.10.4p3, unifdef(1)).
+pub fn law_answer_numbers()
+    ensures renumbers { (args : List (List ℕ)) → usage_fault args ≡ None → KeepsNumbers args (codes "-n" ∷ args) }
+    ensures blanks { (args : List (List ℕ)) → usage_fault args ≡ None → KeepsNumbers args (codes "-b" ∷ args) }
+    ensures counted { (args : List (List ℕ)) → (more : List (List ℕ)) → (input : List ℕ) →
+        (xs : List (Item Reading)) → (t : Tree Reading) → (f : Option Fault) → (a : Answer) →
+        (c : Answer) → IsPlain (options_of args) → usage_fault args ≡ None →
+        KeepsNumbers args more → ReadsAs (options_of args) input xs t f →
+        IsAnswer args input a → IsAnswer more input c →
+        (k : ℕ) × Counted (judged_lines xs (marks t))
+        (read_as (mode_by (options_of args).settings.plain) a.output)
+        (read_as (mode_by (options_of args).settings.plain) c.output) k }
+    ensures selects { (args : List (List ℕ)) → (more : List (List ℕ)) → (input : List ℕ) →
+        (a : Answer) → (c : Answer) → IsPlain (options_of args) → KeepsNumbers args more →
+        IsAnswer args input a → a.status ≢ 2 → IsAnswer more input c →
+        (ns : Nodes Reading) → (us : Nodes Reading) →
+        IsTreeOf (options_of args) input (closed ns) →
+        IsTreeOf (options_of args) a.output (closed us) → (w : World Reading) →
+        (v : World Reading) → IsCWorld (options_of args).table w ns → KeepsTruths w ns v us →
+        SelectsWithInserted (options_of args) c.output us v (map line_bytes (selected w ns)) }
+{}
