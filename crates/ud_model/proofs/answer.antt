@@ -1,4 +1,4 @@
--- Lemmas on what is printed, and on runs.
+-- Lemmas on the output for lines, and on outcomes.
 pub mod PrintingLemmas
 pub mod LevelLemmas
 pub mod Onward

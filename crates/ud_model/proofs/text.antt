@@ -1,4 +1,4 @@
--- Lemmas on lines, joined texts and scans.
+-- Lemmas on lines, spliced texts and scans.
 pub mod ByteLemmas
 pub mod ByteTables
 pub mod LinesLemmas

@@ -1,4 +1,5 @@
--- Other forms of definitions, equal to them by a law or a lemma. They serve proofs and contracts of the code, and are no part of the meaning.
+-- Other forms of definitions, each equal to its definition by a law or a lemma. Proofs and
+-- contracts of the code use them; they are no part of the meaning.
 pub mod LexStates
 pub mod Parsing
 pub mod SoFar

@@ -1,4 +1,5 @@
--- The words of a command line, what is printed, and the answer to words and an input (POSIX XBD 12.2, unifdef(1)).
+-- The arguments of a command line, what is printed, and the answer to arguments and an input (POSIX
+-- XBD 12.2, unifdef(1)).
 pub mod Printing
 pub mod Listing
 pub mod SymbolArguments

@@ -1,4 +1,4 @@
--- What the options say of names, and what that decides of a condition (C11 6.5, 6.10.1).
+-- The table of symbols that the options set, and what it decides of a condition (C11 6.5, 6.10.1).
 pub mod Table
 pub mod Constants
 pub mod Tokens

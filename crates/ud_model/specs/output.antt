@@ -1,4 +1,4 @@
--- What an output means: the definitions that the laws of the output speak of.
+-- The meaning of an output: the definitions for the laws of the output.
 pub mod Worlds
 pub mod Pruned
 pub mod Rereading

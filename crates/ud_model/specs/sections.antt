@@ -1,4 +1,4 @@
--- Directives, the sections that they make of a text, and what becomes of each line (C11 6.10, unifdef(1)).
+-- Directives, the sections that they form, and the verdict on each line (C11 6.10, unifdef(1)).
 pub mod Directives
 pub mod Tree
 pub mod Pruning

@@ -1,4 +1,4 @@
-//! Laws of answers: what the laws of the output say of words, an input and the answer to them.
+//! Laws of answers: the laws of the output, stated for arguments, an input and the answer to them.
 
 ghost use Rattle.std.specs.Prelude.{◌≡◌, ◌≢◌, ℕ, List, map, not, false, bytes_eq};
 ghost use Rattle.ud_model.specs.text.Lines.{lines_of};
@@ -12,18 +12,24 @@ ghost use Rattle.ud_model.specs.output.Rereading.{KeepsTruths};
 ghost use Rattle.ud_model.specs.output.CSelection.{IsCWorld};
 ghost use Rattle.ud_model.specs.declared.settings.Listing.{Listing};
 
-/// A second run changes nothing: for words that only decide conditions (none of -s, -S, -b, -l, -c, -n, -iD and -iU), an
-/// input without a fault, and an output of which no line is too long, the answer to the same words and that output is the
-/// output itself, without a message, with the status of a copy (unifdef(1)).
+/// A second run changes nothing.
+///
+/// The arguments only decide conditions: none of -s, -S, -b, -l, -c, -n, -iD and -iU is given. The
+/// input has no fault, and no line of the output is too long. Then the answer to the same arguments
+/// and that output is the output itself, without a message, and with the status of a copy
+/// (unifdef(1)).
 pub fn law_answer_again()
     ensures { (args : List (List ℕ)) → (input : List ℕ) → (a : Answer) → IsAnswer args input a →
         a.status ≢ 2 → IsPlain (options_of args) → LinesFit (lines_of a.output) →
         IsAnswer args a.output (copy_answer args a.output) }
 {}
 
-/// A compiler sees the same text: for such words and an input without a fault, whatever C makes of each condition that it
-/// evaluates, where each symbol that the options don't name is any number, the lines that it selects of the output are those
-/// that it selects of the input, byte by byte (C11 6.10.1p4, p6).
+/// A compiler selects the same text from input and output.
+///
+/// The arguments only decide conditions, and the input has no fault. Each symbol that the options
+/// don't name is any number, and C may decide each condition that it evaluates in any way that this
+/// allows. The lines that C selects of the output are then those that it selects of the input, byte
+/// by byte (C11 6.10.1p4, p6).
 pub fn law_answer_selects()
     ensures { (args : List (List ℕ)) → (input : List ℕ) → (a : Answer) → IsAnswer args input a →
         a.status ≢ 2 → IsPlain (options_of args) → (ns : Nodes Reading) → (us : Nodes Reading) →
@@ -33,8 +39,10 @@ pub fn law_answer_selects()
         map line_bytes (selected v us) ≡ map line_bytes (selected w ns) }
 {}
 
-/// The status tells the truth: for words with none of -n, -s and -S and an input without a fault, it is that of a text of
-/// which some line differs exactly if output and input are different bytes (unifdef(1)).
+/// The status reports whether output and input differ.
+///
+/// The arguments have none of -n, -s and -S, and the input has no fault. The status is then that of
+/// a text of which some line differs exactly if output and input are different bytes (unifdef(1)).
 pub fn law_answer_status()
     ensures { (args : List (List ℕ)) → (input : List ℕ) → (a : Answer) → IsAnswer args input a →
         a.status ≢ 2 → (options_of args).settings.renumber ≡ false →

@@ -1,9 +1,10 @@
-//! Laws of options, of arguments and answers: what a user who types an option may rely on.
+//! Laws of options, stated for arguments and answers: what a user who types an option may rely on.
 //!
-//! `option_laws` says the same of options and outcomes. The clause `answer` of the tool hands these laws on to the program:
-//! each answer here is what the program writes and returns.
+//! `option_laws` states them for options and outcomes. The clause `answer` of the tool carries them
+//! over to the program: an answer here is what the program writes and returns.
 
-ghost use Rattle.std.specs.Prelude.{◌≡◌, ◌≢◌, ◌∷◌, ◌++◌, codes, ℕ, List, [], map, Option, None, Bool};
+ghost use Rattle.std.specs.Prelude.{◌≡◌, ◌≢◌, ◌∷◌, ◌++◌, codes, ℕ, List, [], map, Option, None};
+ghost use Rattle.std.specs.Prelude.{Bool};
 ghost use Rattle.std.specs.Prelude.{true, false};
 ghost use Rattle.ud_model.specs.text.Lines.{Line, lines_of, partial_line};
 ghost use Rattle.ud_model.specs.text.Scans.{Reading};
@@ -27,8 +28,11 @@ ghost use Rattle.ud_model.specs.output.InsertedNodes.{SelectsWithInserted};
 ghost use Rattle.ud_model.specs.output.Worlds.{World, selected};
 ghost use Rattle.ud_model.specs.declared.settings.Listing.{Listing};
 
-/// The list is complete: if `-s` before arguments without `-S` lists the names of an input without a fault, other arguments
-/// have the same answer if they agree on each listed symbol, and on those to which its value leads (unifdef(1)).
+/// The list of `-s` is complete for arguments, too.
+///
+/// `-s` before arguments without `-S` lists the names of an input without a fault. Other arguments
+/// have the same settings, and agree with these on each listed symbol and on each to which its
+/// value leads. Then both have the same answer (unifdef(1)).
 pub fn law_answer_by_list()
     ensures lists { (args : List (List ℕ)) → has_flag (codes "S") (parsed_args args) ≡ false →
         options_of (codes "-s" ∷ args) ≡ with_listing (options_of args) }
@@ -41,9 +45,12 @@ pub fn law_answer_by_list()
         IsAnswer more input a }
 {}
 
-/// An option more changes nothing, if its symbol isn't on the list: `-DX`, `-DX=VALUE` or `-UX` may come anywhere among the
-/// options, first and last too. The list is that of `-s` before the same arguments, without a fault, and X is no other
-/// symbol's value (unifdef(1)).
+/// One more option changes nothing if its symbol isn't on the list of `-s`.
+///
+/// The option is `-DX`, `-DX=VALUE` or `-UX`, anywhere among the options, first and last included.
+/// `-s` before the other arguments, which have no `-S`, lists the names of the input without a
+/// fault. X isn't on the list, and no symbol has the value X. Then the answer is the same
+/// (unifdef(1)).
 pub fn law_answer_with_option()
     ensures { (before : List (List ℕ)) → (after : List (List ℕ)) → (name : List ℕ) →
         (word : List ℕ) → (input : List ℕ) → (l : Answer) → (a : Answer) →
@@ -54,9 +61,10 @@ pub fn law_answer_with_option()
         IsAnswer (before ++ word ∷ after) input a }
 {}
 
-/// Under `-b` each line of the output is at its place: it has the number and the ending of the input's line at that place,
-/// and is that line, its edited form, or its ending alone. An input without a fault that ends in a newline has as many
-/// lines as its output (unifdef(1)).
+/// Under `-b` line k of the output is line k of the input, its edited form, or its ending alone.
+///
+/// The output has as many lines as the input, with the same endings, if the input has no fault and
+/// ends in a newline. With a fault, this is so up to the last line that was read (unifdef(1)).
 pub fn law_answer_in_place()
     ensures as_many { (args : List (List ℕ)) → (input : List ℕ) → (a : Answer) →
         (options_of args).settings.blank ≡ true →
@@ -73,8 +81,11 @@ pub fn law_answer_in_place()
         (lines_of a.output) }
 {}
 
-/// A run and the run with `-c` before the same arguments share the lines that were read: each is printed by one of them and
-/// not by the other. Both have the same message (unifdef(1)).
+/// Each line that was read is printed by exactly one of a run and its run with `-c`.
+///
+/// The arguments have none of `-s`, `-S`, `-b`, `-l`, `-c` and `-n`, and `-c` comes before them.
+/// The run without `-c` prints a line that stays, perhaps edited. The run with `-c` prints a line
+/// that the other removes, unchanged. Both have the same message (unifdef(1)).
 pub fn law_answer_complement()
     ensures words { (args : List (List ℕ)) →
         options_of (codes "-c" ∷ args) ≡ with_complement (options_of args) }
@@ -89,11 +100,17 @@ pub fn law_answer_complement()
         ShareLines (judged_lines xs (marks t)) a.output c.output }
 {}
 
-/// With `-n` or `-b` before arguments that only decide conditions, a compiler selects the same lines of the output, those
-/// that were inserted aside, and counts each line by its own number in the input (C11 6.10.1p6, 6.10.4p3, unifdef(1)).
+/// Under `-n` and `-b` a compiler selects the same lines, and each has its own number.
+///
+/// The other arguments only decide conditions: none of `-s`, `-S`, `-b`, `-l`, `-c`, `-n`, `-iD`
+/// and `-iU`. The selected lines of the output are those of the input, but for the inserted ones.
+/// Counting on from line to line, and anew after each `#line`, each line has its number in the
+/// input (C11 6.10.1p6, 6.10.4p3, unifdef(1)).
 pub fn law_answer_numbers()
-    ensures renumbers { (args : List (List ℕ)) → usage_fault args ≡ None → KeepsNumbers args (codes "-n" ∷ args) }
-    ensures blanks { (args : List (List ℕ)) → usage_fault args ≡ None → KeepsNumbers args (codes "-b" ∷ args) }
+    ensures renumbers { (args : List (List ℕ)) → usage_fault args ≡ None →
+        KeepsNumbers args (codes "-n" ∷ args) }
+    ensures blanks { (args : List (List ℕ)) → usage_fault args ≡ None →
+        KeepsNumbers args (codes "-b" ∷ args) }
     ensures counted { (args : List (List ℕ)) → (more : List (List ℕ)) → (input : List ℕ) →
         (xs : List (Item Reading)) → (t : Tree Reading) → (f : Option Fault) → (a : Answer) →
         (c : Answer) → IsPlain (options_of args) → usage_fault args ≡ None →

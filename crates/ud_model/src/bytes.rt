@@ -1,7 +1,7 @@
-//! Bytes with a meaning: white space, and the words that they make up.
+//! The classes of bytes: white space, and the bytes of words.
 //!
-//! The meaning is that of ASCII; bytes from 128 on and NUL belong to no word. Which byte is which is said in
-//! specs/text/Bytes.antt, and which text names a symbol in specs/answer/SymbolArguments.antt.
+//! The classes are those of ASCII; bytes from 128 on and NUL belong to no word. They are defined in
+//! `specs/text/Bytes.antt`, and the names of symbols in `specs/answer/SymbolArguments.antt`.
 
 ghost use Rattle.std.specs.Prelude.{◌≡◌, ◌≤◌, take, drop, length};
 ghost use Rattle.ud_model.specs.text.Bytes.{is_white, is_digit, is_word_byte, is_identifier};
@@ -9,7 +9,8 @@ ghost use Rattle.ud_model.specs.text.Bytes.{are_white, are_word_bytes, skip_whit
 ghost use Rattle.ud_model.specs.text.Bytes.{skip_word};
 ghost use Rattle.ud_model.specs.answer.SymbolArguments.{is_name};
 
-/// Whether a byte is white space within a line: space, tab, vertical tab, form feed or carriage return.
+/// Returns whether `byte` is white space within a line: space, tab, vertical tab, form feed or
+/// carriage return.
 #[inline(always)]
 pub fn is_white(byte: u8) -> bool
     ensures { result ≡ is_white byte }
@@ -17,14 +18,14 @@ pub fn is_white(byte: u8) -> bool
     byte <= b' ' && matches!(byte, b' ' | b'\t' | b'\x0b' | b'\x0c' | b'\r')
 }
 
-/// Whether a byte is a digit.
+/// Returns whether `byte` is a digit.
 pub fn is_digit(byte: u8) -> bool
     ensures { result ≡ is_digit byte }
 {
     byte.is_ascii_digit()
 }
 
-/// Each letter, digit and underscore at its own place, and a point at every other place.
+/// Each letter, digit and underscore at its own index, and a period at every other one.
 static WORD_BYTES: [u8; 256] = *b"\
     ................................\
     ................0123456789......\
@@ -35,7 +36,7 @@ static WORD_BYTES: [u8; 256] = *b"\
     ................................\
     ................................";
 
-/// Whether a byte is a letter, a digit or an underscore.
+/// Returns whether `byte` is a letter, a digit or an underscore.
 #[inline(always)]
 pub fn is_word_byte(byte: u8) -> bool
     ensures { result ≡ is_word_byte byte }
@@ -43,7 +44,8 @@ pub fn is_word_byte(byte: u8) -> bool
     WORD_BYTES[byte as usize] != b'.'
 }
 
-/// Whether a text is an identifier: word bytes, at least one, of which the first is no digit.
+/// Returns whether `text` is an identifier: word bytes, at least one, of which the first is no
+/// digit.
 pub fn is_identifier(text: &[u8]) -> bool
     ensures { result ≡ is_identifier text.now }
 {
@@ -53,21 +55,21 @@ pub fn is_identifier(text: &[u8]) -> bool
     }
 }
 
-/// Whether a text may name a symbol: an identifier other than `defined` (C11 6.10.8p4).
+/// Returns whether `text` may name a symbol: an identifier other than `defined` (C11 6.10.8p4).
 pub fn is_name(text: &[u8]) -> bool
     ensures { result ≡ is_name text.now }
 {
     is_identifier(text) && text != b"defined".as_slice()
 }
 
-/// Whether each byte is one of a word.
+/// Returns whether each byte is a letter, a digit or an underscore.
 pub fn are_word_bytes(bytes: &[u8]) -> bool
     ensures { result ≡ are_word_bytes bytes.now }
 {
     bytes.iter().all(|byte| is_word_byte(*byte))
 }
 
-/// Whether each byte is white space.
+/// Returns whether each byte is white space.
 #[inline(always)]
 pub fn are_white(bytes: &[u8]) -> bool
     ensures { result ≡ are_white bytes.now }
@@ -75,7 +77,7 @@ pub fn are_white(bytes: &[u8]) -> bool
     skip_white(bytes).is_empty()
 }
 
-/// The bytes after the white space in front.
+/// Returns the rest after the leading white space.
 #[inline(always)]
 pub fn skip_white(bytes: &[u8]) -> &[u8]
     ensures { result.now ≡ skip_white bytes.now }
@@ -90,7 +92,7 @@ pub fn skip_white(bytes: &[u8]) -> &[u8]
     rest
 }
 
-/// How many word bytes stand in front.
+/// Returns the length of the longest prefix that has only word bytes.
 #[inline(always)]
 pub fn word_len(bytes: &[u8]) -> usize
     ensures bound { result ≤ length bytes.now }

@@ -1,26 +1,26 @@
-//! How a line is read, and what a directive is.
+//! The modes in which lines are read, and the kinds of directives.
 
-/// How a line is read.
+/// The mode in which a line is read.
 #[derive(Clone, Copy, Debug, PartialEq, Eq)]
 pub enum Mode {
-    /// As C: with splices, comments and literals (C11 5.1.1.2).
+    /// C mode: splices, comments and literals are recognized (C11 5.1.1.2).
     C,
-    /// As it stands: strings, comments and continuations are ignored (unifdef(1), `-t`).
+    /// Plain mode: strings, comments and continuations are ignored (unifdef(1), `-t`).
     Plain,
 }
 
-/// What is unclosed at a line's end (C11 6.4.9).
+/// The comment that is unclosed at a line's end (C11 6.4.9).
 #[derive(Clone, Copy, Debug, PartialEq, Eq)]
 pub enum CommentAt {
     /// No comment.
     Outside,
-    /// A line comment that a splice carries on.
+    /// A line comment that a splice continues.
     InLine,
     /// A block comment.
     InBlock,
 }
 
-/// The directives that unifdef acts on (C11 6.10.1, C23 6.10).
+/// A directive that unifdef acts on (C11 6.10.1, C23 6.10).
 #[derive(Clone, Copy, Debug, PartialEq, Eq)]
 pub enum Kind {
     /// `#if`
@@ -41,20 +41,20 @@ pub enum Kind {
     Endif,
 }
 
-/// What a directive is in its section (C11 6.10).
+/// The role of a directive in its section (C11 6.10).
 #[derive(Clone, Copy, Debug, PartialEq, Eq)]
 pub enum Role {
-    /// It begins a section and opens its first group.
+    /// Begins a section and opens its first group.
     IfGroup,
-    /// It opens a further group, which has a condition.
+    /// Opens a further group, which has a condition.
     ElifGroup,
-    /// It opens the last group, which has none.
+    /// Opens the last group, which has no condition.
     ElseGroup,
-    /// It ends the section.
+    /// Ends the section.
     EndifLine,
 }
 
-/// What makes the condition of a directive true, by the text after its keyword (C11 6.10.1).
+/// The test of the text after a keyword that makes the directive's condition true (C11 6.10.1).
 #[derive(Clone, Copy, Debug, PartialEq, Eq)]
 pub enum Test {
     /// The text is an expression whose value isn't 0.
@@ -71,7 +71,7 @@ impl Kind {
     ghost use Rattle.std.specs.Prelude.{◌≡◌};
     ghost use Rattle.ud_model.specs.sections.Directives.{role_of, test_of};
 
-    /// What a directive of this kind is in its section.
+    /// Returns the role of a directive of this kind.
     pub fn role(self) -> Role
         ensures { result ≡ role_of self }
     {
@@ -83,7 +83,7 @@ impl Kind {
         }
     }
 
-    /// What makes its condition true.
+    /// Returns the test of a directive of this kind.
     pub fn test(self) -> Test
         ensures { result ≡ test_of self }
     {

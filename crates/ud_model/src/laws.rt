@@ -1,4 +1,7 @@
 //! Laws over the definitions: functions without a body, whose contracts are theorems.
+//!
+//! The laws about options are in `option_laws`, those about the output in `output_laws`, and those
+//! about the answer to arguments and an input in `answer_laws`.
 
 ghost use Rattle.std.specs.Prelude.{◌≡◌, ◌≢◌, ◌++◌, ℕ, suc, List, [], ◌∷◌, length, map, true};
 ghost use Rattle.std.specs.Prelude.{false, Bool, Option, Some, ℤ, pos, bytes_eq, codes};
@@ -34,8 +37,10 @@ ghost use Rattle.ud_model.specs.declared.cond.Cond.{Cond};
 ghost use Rattle.ud_model.specs.declared.kind.Kind.{Kind};
 ghost use Rattle.ud_model.specs.conditions.CValues.{Number, number, IsCValue};
 
-/// A text has lines, and has them in one way only. Line k has the number k, and its body and its ending are its bytes. Of a
-/// text that goes on, the whole lines and the open rest are there in one way only, too.
+/// A text has lines in exactly one way.
+///
+/// Line k has the number k, and its body and its ending are its bytes. A text that goes on has its
+/// whole lines and the rest in exactly one way, too.
 pub fn law_lines()
     ensures exists { (text : List ℕ) → AreLines text (texts_of text) }
     ensures only { (text : List ℕ) → (ls : List (List ℕ)) → AreLines text ls → ls ≡ texts_of text }
@@ -49,8 +54,8 @@ pub fn law_lines()
         (ls ≡ whole_lines text) × (rest ≡ partial_line text) }
 {}
 
-/// A joined text is cut into comments, literals and single bytes in one way, and the computed cells are those of this
-/// cut.
+/// A spliced text has comments, literals and single bytes in exactly one way, and the computed
+/// cells are those of these lexemes.
 pub fn law_lexemes()
     ensures exists { (text : List ℕ) → (pieces : List Lexeme) × AreLexemes pieces text }
     ensures only { (text : List ℕ) → (pieces : List Lexeme) → (others : List Lexeme) →
@@ -59,8 +64,8 @@ pub fn law_lexemes()
         cells_of pieces ≡ lex text }
 {}
 
-/// A line is seen by its logical line alone: after a line that has an ending and doesn't join the next one, lines are
-/// seen as if no line stood before them.
+/// A scan depends on the logical line alone: after a line that has an ending and doesn't join the
+/// next one, lines are scanned as if no line came before them.
 pub fn law_scan_alone()
     ensures line { (front : List Reading) → (group : List Reading) → (m : Mode) → (n : Mode) →
         (last : Line) → (l : Line) → (scan_after front m last).joins_after ≡ false →
@@ -72,8 +77,8 @@ pub fn law_scan_alone()
         (front ++ next_reading front m last ∷ []) ++ readings_after group ls }
 {}
 
-/// Place i of a masked line is place i of the body: the masked line shows a cell for each byte of the line's content,
-/// in order, and the body begins with the content.
+/// Position i of a masked line is position i of the body: the masked line shows a cell for each
+/// byte of the line's content, in order, and the body begins with the content.
 pub fn law_scan_bytes()
     ensures shows { (before : List Reading) → (l : Line) →
         (scan_after before Mode.C l).masked ≡ map shown (content_cells (c_run_of before) l) }
@@ -84,7 +89,7 @@ pub fn law_scan_bytes()
     ensures front { (l : Line) → (rest : List ℕ) × (l.body ≡ content l ++ rest) }
 {}
 
-/// What is seen of lines stays when more lines follow.
+/// Further lines never change the scans of the lines before them.
 pub fn law_scans_stay()
     ensures { (ls : List (Mode × Line)) → (more : List (Mode × Line)) →
         (rest : List Reading) × (readings_of (ls ++ more) ≡ readings_of ls ++ rest) }
@@ -95,15 +100,15 @@ pub fn law_one_tree()
     ensures { (t : Tree Reading) → (u : Tree Reading) → lines t ≡ lines u → t ≡ u }
 {}
 
-/// What becomes of a line is settled by the lines up to it: the table over a whole section agrees with the groups so
-/// far, and a longer text begins with the marks of the shorter one.
+/// The verdict on a line depends only on the lines up to it: the table over a whole section agrees
+/// with the groups so far, and a longer text begins with the marks of the shorter one.
 pub fn law_marks_stay()
     ensures table { (t : Tree Reading) → marks_in true t ≡ marks_so_far true t }
     ensures stays { (t : Tree Reading) → (u : Tree Reading) → (more : List (Item Reading)) →
         lines u ≡ lines t ++ more → (rest : List Mark) × (marks u ≡ marks t ++ rest) }
 {}
 
-/// Each line of a text has one mark and one level, so no line goes without a word.
+/// Each line of a text has exactly one mark and one level, so no line is left out.
 pub fn law_each_line()
     ensures marks { (t : Tree Reading) → length (marks t) ≡ length (lines t) }
     ensures judged { (t : Tree Reading) →
@@ -119,17 +124,19 @@ pub fn law_one_fault()
         NoneHolds xs x cases → FaultOf xs x f → ⊥ }
 {}
 
-/// A fault of the text so far is the fault of every longer text, whether that goes on or has ended, and what is
-/// printed before it is the same.
+/// A fault of the text so far is the fault of every longer text, whether that goes on or has ended.
+/// The output before it is the same.
 pub fn law_fault_stays()
     ensures { (o : Options) → (given : List ℕ) → (more : List ℕ) → (r : Outcome) →
         HasOutcomeSoFar o given r → (f : Fault) → r.fault ≡ Some f →
         HasOutcomeSoFar o (given ++ more) r × HasOutcome o (given ++ more) r }
 {}
 
-/// How a text so far is read, and what is printed of it, is the front of that of every longer text, whether that goes on or
-/// has ended: the items; the pieces of the lines, whatever is printed of a line by the lines before it; and the output, in
-/// each style and where names are listed.
+/// The reading and the output of a text so far are prefixes of those of every longer text, whether
+/// that goes on or has ended.
+///
+/// That is true of the items; of the pieces of the lines, whatever a line's piece is by the lines
+/// before it; and of the output, in each style and if names are listed.
 pub fn law_output_grows()
     ensures items_so_far { (o : Options) → (given : List ℕ) → (more : List ℕ) →
         (xs : List (Item Reading)) → (ys : List (Item Reading)) → (t : Tree Reading) →
@@ -151,8 +158,8 @@ pub fn law_output_grows()
         (rest : List ℕ) × (s.output ≡ r.output ++ rest) }
 {}
 
-/// A text is read in one way, as items with a tree, and as far as its first fault; these are the lines of the tree. So it is
-/// if the text goes on.
+/// A text is read in exactly one way, as items with a tree, as far as its first fault. The items
+/// are the lines of the tree. A text that goes on is read in exactly one way, too.
 pub fn law_one_reading()
     ensures exists { (o : Options) → (input : List ℕ) →
         (xs : List (Item Reading)) × (t : Tree Reading) × (f : Option Fault) ×
@@ -174,7 +181,8 @@ pub fn law_one_reading()
         (t : Tree Reading) → (f : Option Fault) → ReadsSoFar o given xs t f → lines t ≡ xs }
 {}
 
-/// A text has one outcome, whether it has ended or goes on: what the settings make of the items as which it is read.
+/// A text has exactly one outcome, whether it has ended or goes on: that of the items as which it
+/// is read.
 pub fn law_one_outcome()
     ensures exists { (o : Options) → (input : List ℕ) → (r : Outcome) × HasOutcome o input r }
     ensures only { (o : Options) → (input : List ℕ) → (r : Outcome) → (s : Outcome) →
@@ -185,8 +193,10 @@ pub fn law_one_outcome()
         HasOutcomeSoFar o given r → HasOutcomeSoFar o given s → r ≡ s }
 {}
 
-/// What words give is what each gives by itself, in order. After `--` each word is an operand, and so it is from the first
-/// operand on. The letters of a word give options, of which the last may wait for the next word.
+/// Each argument is parsed by itself, in order.
+///
+/// After `--` each argument is an operand, and so is each from the first operand on. The letters of
+/// an argument give options, of which the last may wait for the next argument.
 pub fn law_arguments()
     ensures ended { (n : ℕ) → (args : List (List ℕ)) →
         parsed_from n (codes "--" ∷ args) ≡ operands_from (suc n) args }
@@ -199,7 +209,7 @@ pub fn law_arguments()
         given_next (letters_give (suc n) (c ∷ cs)).waits (suc n) args }
 {}
 
-/// Words and an input have one answer.
+/// Arguments and an input have exactly one answer.
 pub fn law_one_answer()
     ensures exists { (args : List (List ℕ)) → (input : List ℕ) →
         (a : Answer) × IsAnswer args input a }
@@ -207,7 +217,7 @@ pub fn law_one_answer()
         IsAnswer args input a → IsAnswer args input b → a ≡ b }
 {}
 
-/// A text is written for one tree at most, and the computed tree is the one for which it is written (C11 6.5).
+/// A text has one tree at most, and the computed tree is the one that it has (C11 6.5).
 pub fn law_one_expression()
     ensures only { (text : List ℕ) → (e : Expression) → (f : Expression) → IsWritten text e →
         IsWritten text f → e ≡ f }
@@ -217,8 +227,8 @@ pub fn law_one_expression()
         IsWritten text e }
 {}
 
-/// The condition and the names of an `#if` or `#elif` are those of the tree for which its text is written; if there is
-/// none, the condition is unknown and there are no names.
+/// The condition and the names of an `#if` or `#elif` are those of the tree of its text. Without a
+/// tree, the condition is unknown and there are no names.
 pub fn law_expression_cond()
     ensures cond { (text : List ℕ) → (e : Expression) → (table : List Argument) → (rules : Rules) →
         IsWritten text e → expression_cond text table rules ≡ tree_cond e table rules }
@@ -231,7 +241,7 @@ pub fn law_expression_cond()
         names_of Kind.If text ≡ [] }
 {}
 
-/// Tables that say the same of every name decide the same of every directive.
+/// Tables with the same entry for every name decide every directive alike.
 pub fn law_condition_by_entries()
     ensures { (table : List Argument) → (other : List Argument) →
         ((name : List ℕ) → entry_in table name ≡ entry_in other name) → (kind : Kind) →
@@ -239,7 +249,8 @@ pub fn law_condition_by_entries()
         condition_of kind after table rules ≡ condition_of kind after other rules }
 {}
 
-/// The computed end of a symbol's value is the one at which it ends, from name to name; there is no other.
+/// The computed text to which a symbol resolves is the one to which it resolves, from name to name;
+/// there is no other.
 pub fn law_symbol_end()
     ensures found { (table : List Argument) → (n : List ℕ) → (v : List ℕ) → ResolvesTo table n v →
         resolve table n ≡ Some v }
@@ -247,9 +258,11 @@ pub fn law_symbol_end()
         resolve table n ≡ Some v → ResolvesTo table n v }
 {}
 
-/// Where the value of an expression is known, it is the C value, whatever stands for the names that the table leaves open,
-/// with and without `strict`: each value that C may give the expression is this number (C11 6.10.1p4, 6.5). So a condition that is decided is true or
-/// false as C has it.
+/// A known value is the C value, and a decided condition is true or false as in C.
+///
+/// Suppose the value of an expression is known, with or without `strict`. Then each value that C
+/// may give the expression is this number, whatever the names are that the table leaves open (C11
+/// 6.10.1p4, 6.5).
 pub fn law_known_stays()
     ensures value { (table : List Argument) → (strict : Bool) → (e : Expression) → (n : ℤ) →
         (c : Number) → value_of table strict e ≡ Some n → IsCValue table e c → number c ≡ n }

@@ -1,8 +1,12 @@
-//! The definition of unifdef: what a text is, which of its lines are kept, and what is printed.
+//! The definition of unifdef: the lines of a text, which of them are kept, and what is printed.
 //!
-//! The definitions stand in `specs/`, one room and file a subject; `specs/answer/Answer.antt` puts them together.
-//! This crate has the plain types that they and the other crates speak of, the limits, and laws
-//! over the definitions: functions without a body whose contracts are theorems.
+//! The definitions are in `specs/`, a folder and a file for each subject.
+//! `specs/answer/Answer.antt` puts them together. This crate also has the plain types that the
+//! definitions and the other crates use, the limits of a text, and laws. A law is a function
+//! without a body whose contract is a theorem over the definitions.
+//!
+//! A new definition belongs to the file of its subject in `specs/`, with a line that reads it
+//! aloud. A new law belongs to `laws`, `option_laws`, `output_laws` or `answer_laws`.
 #![tactic(auto)]
 
 pub mod answer_laws;

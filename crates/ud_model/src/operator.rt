@@ -1,8 +1,9 @@
 //! The operators of an expression.
 
-/// An operator of a condition's expression (C11 6.5.3 to 6.5.14, without those that no constant expression has).
+/// An operator of a condition's expression (C11 6.5.3 to 6.5.14, without those that no constant
+/// expression has).
 ///
-/// `Minus` stands between operands and before one; `Not` and `Complement` stand before one alone.
+/// `Minus` is used between two operands and before one; `Not` and `Complement` only before one.
 #[derive(Clone, Copy, Debug, PartialEq, Eq)]
 pub enum Operator {
     /// `||`

@@ -1,4 +1,4 @@
-//! Laws of options: what a user of an option may rely on.
+//! Laws of options: the guarantees on which a user of an option may rely.
 
 ghost use Rattle.std.specs.Prelude.{◌≡◌, ◌≢◌, ◌∷◌, codes, ℕ, List, [], map, Option, Some, None};
 ghost use Rattle.std.specs.Prelude.{Bool, true, false, ◌||◌, ◌⊎◌, ℤ};
@@ -28,10 +28,12 @@ ghost use Rattle.ud_model.specs.output.SharedLines.{OnlyDecides, with_complement
 ghost use Rattle.ud_model.specs.declared.cond.Cond.{Cond};
 ghost use Rattle.ud_model.specs.declared.settings.Listing.{Listing};
 
-/// The list is complete: if `-s` lists the names of a text without a fault, then of the symbols only those count that are
-/// listed, or that the value of a listed one leads to. Options that say the same of these make the same of the text
-/// (unifdef(1)). If neither option is `-iD` or `-iU`, a list that was made with any other symbols serves, too, and the
-/// fault is the same.
+/// The list of `-s` is complete: it has every symbol that counts for the text.
+///
+/// If `-s` lists the names of a text without a fault, only these symbols count: the listed ones,
+/// and those to which the value of a listed one leads. Options with the same settings and the same
+/// entry for each of them give the text the same outcome (unifdef(1)). If neither option is `-iD`
+/// or `-iU`, a list that was made with any other symbols serves, too, and the fault is the same.
 pub fn law_list_is_complete()
     ensures listed { (o : Options) → (p : Options) → (input : List ℕ) → (l : Outcome) →
         (r : Outcome) → HasOutcome (with_listing o) input l → l.fault ≡ None →
@@ -47,8 +49,10 @@ pub fn law_list_is_complete()
         AgreeOnListed list o.table p.table }
 {}
 
-/// Of the options that name symbols only what the last one says of each name counts: in whatever order they are given, and
-/// however often, options that say the same of every name make the same of a text (unifdef(1)).
+/// The last option that names a symbol counts.
+///
+/// Options with the same settings that give each name the same last entry give a text the same
+/// outcome. It doesn't matter in which order the symbols are named, or how often (unifdef(1)).
 pub fn law_last_option_counts()
     ensures { (o : Options) → (p : Options) → (input : List ℕ) → (r : Outcome) →
         p.settings ≡ o.settings → ((name : List ℕ) →
@@ -56,9 +60,12 @@ pub fn law_last_option_counts()
         HasOutcome p input r }
 {}
 
-/// Lines keep their place: under `-b` each line of the output has the number and the ending of the line at its place in the
-/// input, and is that line, its edited form or its ending alone, as its verdict says; under `-c`, too (unifdef(1)). A last
-/// line without an ending leaves no line if it is removed. So a place in the output is a place in the input.
+/// Under `-b` each line keeps its number and its ending, so a position in the output is a position
+/// in the input.
+///
+/// Each line of the output has the number and the ending of the line at its position in the input.
+/// As its verdict demands, it is that line, its edited form, or its ending alone; under `-c`, too
+/// (unifdef(1)). A last line without an ending leaves no line if it is removed.
 pub fn law_lines_keep_their_place()
     ensures as_many { (o : Options) → (input : List ℕ) → (r : Outcome) → o.settings.blank ≡ true →
         o.settings.listing ≡ Listing.Off → partial_line input ≡ [] → HasOutcome o input r →
@@ -70,9 +77,10 @@ pub fn law_lines_keep_their_place()
         AreBlankedLines o.settings.complement (judged_lines xs (marks t)) (lines_of r.output) }
 {}
 
-/// Nothing is lost between a run and its complement: the run with `-c` has the same fault, and each line that was read is
-/// printed by one of the two runs and not by the other: by the run without `-c` if it stays, as it is or edited, else by the
-/// run with `-c`, as it is (unifdef(1)).
+/// A run and its complement print each line exactly once.
+///
+/// The run with `-c` has the same fault. A line that was read is printed by the run without `-c` if
+/// it stays, as it is or edited. Else it is printed by the run with `-c`, as it is (unifdef(1)).
 pub fn law_complement()
     ensures fault { (o : Options) → (input : List ℕ) → (xs : List (Item Reading)) →
         (t : Tree Reading) → (f : Option Fault) → (r : Outcome) → (s : Outcome) →
@@ -85,9 +93,12 @@ pub fn law_complement()
         ShareLines (judged_lines xs (marks t)) r.output s.output }
 {}
 
-/// Each line has its number: under `-n`, and under `-b`, the lines that are put in stand between logical lines and are seen as
-/// they stand, as a `#line` or a blank line, and each other line is seen as without these options. Counting on from line to
-/// line, and anew after each `#line`, it has its own number in the input (C11 6.10.4p3, unifdef(1)).
+/// Under `-n`, and under `-b`, each line can be traced to its number in the input.
+///
+/// The lines that are inserted come between logical lines. Each is scanned by itself, as a `#line`
+/// or a blank line, and each other line is scanned as without these options. Counting on from line
+/// to line, and anew after each `#line`, a line has its own number in the input (C11 6.10.4p3,
+/// unifdef(1)).
 pub fn law_lines_are_counted()
     ensures { (o : Options) → IsPlain o → (b : Bool) → (n : Bool) → (b || n) ≡ true →
         (input : List ℕ) → (xs : List (Item Reading)) → (t : Tree Reading) → (f : Option Fault) →
@@ -97,8 +108,10 @@ pub fn law_lines_are_counted()
         (read_as (mode_by o.settings.plain) s.output) k }
 {}
 
-/// `-K` decides less and nothing else: a value that is known under `-K` is known without, and is the same; a condition that
-/// is decided under `-K` is decided alike without (unifdef(1)).
+/// `-K` decides less and nothing else.
+///
+/// A value that is known under `-K` is known without it, and is the same. A condition that is
+/// decided under `-K` is decided alike without it (unifdef(1)).
 pub fn law_strict_decides_less()
     ensures value { (table : List Argument) → (e : Expression) → (n : ℤ) →
         value_of table true e ≡ Some n → value_of table false e ≡ Some n }
@@ -108,9 +121,12 @@ pub fn law_strict_decides_less()
         tree_cond e table (record { constants = k; strict = true }) }
 {}
 
-/// What is put in changes no section: the tree of the output under `-n`, and under `-b`, is that of the output without these
-/// options, each line seen alike and each condition decided alike, with the lines that are put in as text lines. If each
-/// opener has the same truth in both, the same lines are selected of both, what is put in aside (C11 6.10.1p6, unifdef(1)).
+/// The lines that `-n` and `-b` insert change no section.
+///
+/// The tree of the output is that of the output without these options, with the inserted lines as
+/// text lines. Each other line has the same scan, and each condition is decided alike. If each
+/// opener has the same truth in both, the same lines are selected of both, but for the inserted
+/// ones (C11 6.10.1p6, unifdef(1)).
 pub fn law_put_in_changes_no_section()
     ensures tree { (o : Options) → IsPlain o → (b : Bool) → (n : Bool) → (b || n) ≡ true →
         (input : List ℕ) → (r : Outcome) → (s : Outcome) → HasOutcome o input r →
@@ -122,9 +138,11 @@ pub fn law_put_in_changes_no_section()
         LinesWithInserted (selected w us) (selected v vs) }
 {}
 
-/// To say more never turns a condition: if further symbols are named, a condition that was decided is decided alike, or is
-/// unknown (a symbol's value may have a `u`, and an undefined symbol may be called), and is never decided the other way round
-/// (C11 6.10.1p4, unifdef(1)).
+/// Further symbols never reverse a condition.
+///
+/// If further symbols are named, a condition that was decided is decided alike, or is unknown: a
+/// symbol's value may have a `u`, and an undefined symbol may be called. It is never decided the
+/// other way round (C11 6.10.1p4, unifdef(1)).
 pub fn law_more_never_turns()
     ensures value { (t : List Argument) → (u : List Argument) → ExtendsTable t u → (strict : Bool) →
         (e : Expression) → (n : ℤ) → value_of t strict e ≡ Some n →

@@ -1,4 +1,4 @@
-//! Laws of the output: what a text means after it was pruned and printed.
+//! Laws of the output: the meaning of a text after it was pruned and printed.
 
 ghost use Rattle.std.specs.Prelude.{◌≡◌, ℕ, List, map, not, true, false, Bool, bytes_eq, None};
 ghost use Rattle.ud_model.specs.text.Lines.{lines_of};
@@ -15,28 +15,32 @@ ghost use Rattle.ud_model.specs.output.CSelection.{IsCWorld, condition_in};
 ghost use Rattle.ud_model.specs.declared.settings.Listing.{Listing};
 ghost use Rattle.ud_model.specs.declared.verdict.Verdict.{Verdict};
 
-/// If lines aren't numbered (`-n`) and no names are listed (`-s`, `-S`), some line of a text without a fault differs exactly
-/// if output and input are different bytes. So the exit status tells whether the output is a copy (unifdef(1)).
+/// The exit status reports whether the output is a copy.
+///
+/// Lines aren't numbered (`-n`), no names are listed (`-s`, `-S`), and the text has no fault. Then
+/// some line differs exactly if output and input are different bytes (unifdef(1)).
 pub fn law_changed()
     ensures { (o : Options) → o.settings.renumber ≡ false → o.settings.listing ≡ Listing.Off →
         (input : List ℕ) → (r : Outcome) → HasOutcome o input r → r.fault ≡ None →
         r.differs ≡ not (bytes_eq r.output input) }
 {}
 
-/// In a world that agrees with what is decided, what is selected of the pruned nodes is what is selected of the nodes
-/// (C11 6.10.1p6).
+/// Pruning keeps the selected lines: in a world that agrees with the decided conditions, the lines
+/// selected of the pruned nodes are those selected of the nodes (C11 6.10.1p6).
 pub fn law_selected_tree()
     ensures { (w : World Reading) → (ns : Nodes Reading) → Agrees w ns →
         selected (λ e. w e.line) (pruned ns) ≡ map (edited Verdict.Keep) (selected w ns) }
 {}
 
-/// The lines that are left of nodes, with edited directives, are the lines of the pruned nodes (unifdef(1)).
+/// The lines that the marks leave of nodes, with edited directives, are the lines of the pruned
+/// nodes (unifdef(1)).
 pub fn law_printed()
     ensures { (ns : Nodes Reading) →
         printed (lines_of_nodes ns) (marks (closed ns)) ≡ lines_of_nodes (pruned ns) }
 {}
 
-/// A text without a fault has a tree, whose sections are all closed; and a text has one tree at most (C11 6.10).
+/// A text without a fault has a tree whose sections are all closed, and a text has one tree at most
+/// (C11 6.10).
 pub fn law_tree_of()
     ensures exists { (o : Options) → (input : List ℕ) → (r : Outcome) → HasOutcome o input r →
         r.fault ≡ None → (ns : Nodes Reading) × IsTreeOf o input (closed ns) }
@@ -44,9 +48,11 @@ pub fn law_tree_of()
         IsTreeOf o text t → IsTreeOf o text u → t ≡ u }
 {}
 
-/// The output has a tree whose sections are all closed: the pruned tree of the input, each line as it is printed. Of the
-/// openers in it with a condition none is decided. Unless a line of the output is too long, the output is printed as it is,
-/// without a fault: unifdef(1) has nothing more to do.
+/// The output needs no further run of unifdef(1).
+///
+/// The output has a tree whose sections are all closed: the pruned tree of the input, each line as
+/// it is printed. No opener with a condition in it is decided. Unless a line of the output is too
+/// long, a run over the output prints it unchanged, without a fault.
 pub fn law_reread()
     ensures tree { (o : Options) → (input : List ℕ) → (r : Outcome) → IsClean o input r →
         (ns : Nodes Reading) → IsTreeOf o input (closed ns) →
@@ -59,8 +65,10 @@ pub fn law_reread()
         HasOutcome o r.output (record { output = r.output; fault = None; differs = false }) }
 {}
 
-/// Each opener of the output can be given the truth of the opener from which it comes. If the world agrees with what is
-/// decided of the input, the lines that are selected of the output are then those that are selected of the input, byte by
+/// A world selects the same lines of input and output.
+///
+/// Each opener of the output can be given the truth of the opener from which it comes. If the world
+/// agrees with the decided conditions of the input, both then have the same selected lines, byte by
 /// byte (C11 6.10.1p6).
 pub fn law_selected()
     ensures truths { (k : CleanRun) → (w : World Reading) →
@@ -70,9 +78,12 @@ pub fn law_selected()
         map line_bytes (selected v k.after) ≡ map line_bytes (selected w k.before) }
 {}
 
-/// Whatever C makes of each condition that it evaluates, where each symbol that the options don't name is any number: the
-/// lines that it selects of the output are those that it selects of the input, byte by byte (C11 6.10.1p4, p6). Each opener
-/// of the output has the very condition of the opener from which it comes, so C may make of the output what it makes of the
+/// C selects the same lines of input and output.
+///
+/// Each symbol that the options don't name is any number, and C may decide each condition that it
+/// evaluates in any way that this allows. The lines that it selects of the output are those that it
+/// selects of the input, byte by byte (C11 6.10.1p4, p6). Each opener of the output has the very
+/// condition of the opener from which it comes. So C may decide the output as it may decide the
 /// input.
 pub fn law_c_selects()
     ensures selected { (k : CleanRun) → (w : World Reading) → (v : World Reading) →

@@ -1,9 +1,9 @@
-//! What the options say beside the symbols.
+//! The options but for those that name symbols.
 
-/// What is listed in place of the text.
+/// The list that is printed in place of the text.
 #[derive(Clone, Copy, Debug, PartialEq, Eq, Default)]
 pub enum Listing {
-    /// Nothing: the text is printed.
+    /// No list: the text is printed.
     #[default]
     Off,
     /// The names of the conditions (`-s`).
@@ -12,7 +12,7 @@ pub enum Listing {
     Depths,
 }
 
-/// What the exit status tells of a text without a fault (`-x`).
+/// The exit status of a text without a fault (`-x`).
 #[derive(Clone, Copy, Debug, PartialEq, Eq, Default)]
 pub enum ExitMode {
     /// 0 if the output is a copy, 1 if some line differs (`-x0`).
@@ -24,23 +24,24 @@ pub enum ExitMode {
     Two,
 }
 
-/// The options but for those that name symbols, as they were given (unifdef(1)). The default is that none was given.
+/// The options but for those that name symbols, as they were given (unifdef(1)). By default none
+/// was given.
 #[derive(Clone, Copy, Debug, PartialEq, Eq, Default)]
 pub struct Settings {
     /// Strings, comments and continuations are ignored everywhere (`-t`).
     pub plain: bool,
-    /// Expressions that name no listed symbol are valued too (`-k`).
+    /// Expressions that name no listed symbol are evaluated too (`-k`).
     pub constants: bool,
-    /// `&&` and `||` are unknown where either operand is (`-K`).
+    /// `&&` and `||` are unknown if either operand is (`-K`).
     pub strict: bool,
     /// Removed lines are blanked and not deleted (`-b`, `-l`).
     pub blank: bool,
     /// Lines that would be removed are kept, and the other way round (`-c`).
     pub complement: bool,
-    /// A `#line` directive stands after deleted lines (`-n`).
+    /// A `#line` directive follows deleted lines (`-n`).
     pub renumber: bool,
-    /// What is listed in place of the text.
+    /// The list that is printed in place of the text (`-s`, `-S`).
     pub listing: Listing,
-    /// What the exit status tells.
+    /// The meaning of the exit status (`-x`).
     pub exit_mode: ExitMode,
 }

@@ -1,18 +1,18 @@
-//! What becomes of a line.
+//! The verdict on a line.
 
-/// What becomes of a line (unifdef(1)).
+/// The verdict on a line: whether it is printed, and how (unifdef(1)).
 #[derive(Clone, Copy, Debug, PartialEq, Eq)]
 pub enum Verdict {
-    /// It is printed as it is.
+    /// The line is printed as it is.
     Keep,
-    /// It is deleted.
+    /// The line is deleted.
     Remove,
-    /// It is an `#elif`, `#elifdef` or `#elifndef` that becomes an `#if`, `#ifdef` or `#ifndef`, since no group before it is
-    /// left.
+    /// An `#elif`, `#elifdef` or `#elifndef` becomes an `#if`, `#ifdef` or `#ifndef`, since no
+    /// group before it is left.
     ToIf,
-    /// It is an `#elif`, `#elifdef` or `#elifndef` that becomes an `#else`, since its condition is true.
+    /// An `#elif`, `#elifdef` or `#elifndef` becomes an `#else`, since its condition is true.
     ToElse,
-    /// It is the opener after such an `#else`, and becomes the `#endif`.
+    /// The opener after such an `#else` becomes the `#endif`.
     ToEndif,
 }
 
@@ -20,7 +20,7 @@ impl Verdict {
     ghost use Rattle.std.specs.Prelude.{◌≡◌};
     ghost use Rattle.ud_model.specs.sections.Pruning.{is_removed};
 
-    /// Whether a line with this verdict is removed.
+    /// Returns whether a line with this verdict is removed.
     pub fn is_removed(self) -> bool
         ensures { result ≡ is_removed self }
     {

@@ -7,13 +7,14 @@ use Rattle.ud_model.proofs.sections.Growth.{Adds, adds_text, adds_if, elif_after
 use Rattle.ud_model.proofs.sections.Unique.{unique, tree_before}
 
 module _ {L : Type 0} where
-  -- the levels of a section are those up to the opener of its last group, and then those of that group
+  -- The levels of a section are those up to the opener of its last group, and then those of that
+  -- group.
   levels-complete : (n : ℕ) (h : Head L) (b : Nodes L) → levels_of_groups n (complete h b) ≡ levels_of_head n h ++ levels_of_nodes (suc n) b
   levels-complete n (if_head o) b = refl
   levels-complete n (elif_head es o) b = refl
   levels-complete n (else_head es l) b = refl
 
-  -- a line more gives a level more
+  -- One more line has one more level.
   levels_add : (n : ℕ) {t u : Tree L} {x : Item L} → Adds t x u → (k : ℕ) × (levels_from n u ≡ levels_from n t ++ k ∷ [])
   levels_add n adds_text = (n, refl)
   levels_add n adds_if = (n, simp append-nil)
@@ -33,7 +34,7 @@ module _ {L : Type 0} where
       let m : (k : ℕ) × (levels_from n t ≡ levels_from n b.0 ++ k ∷ []) = levels_add n b.2 in
       rw (m.1, length-append (levels_from n b.0) (m.0 ∷ []), length-append xs (x ∷ []), length_by p n b.0 b.1)
 
-  -- each line has one level
+  -- Each line has one level.
   pub length_levels : (t : Tree L) → length (levels t) ≡ length (lines t)
   length_levels t = length_by (by_push (lines t)) 0 t refl
 
@@ -47,6 +48,6 @@ module _ {L : Type 0} where
       let r : (rest : List ℕ) × (levels_from n b.0 ≡ levels_from n t ++ rest) = stay_by p n t b.0 b.1 in
       (r.0 ++ m.0 ∷ [], rw (m.1, r.1) (append_assoc (levels_from n t) r.0 (m.0 ∷ [])))
 
-  -- the levels of a longer text begin with those of the text
+  -- The levels of a longer text begin with those of the text.
   pub levels_stay : (t u : Tree L) (more : List (Item L)) → lines u ≡ lines t ++ more → (rest : List ℕ) × (levels u ≡ levels t ++ rest)
   levels_stay t u more e = stay_by (by_push more) 0 t u e

@@ -1,4 +1,4 @@
--- Onward: how a text so far is read, and what is printed of it, is the front of that of every longer text.
+-- Onward: the reading and the output of a text so far are prefixes of those of every longer text.
 use Rattle.std.proofs.Common.{◌≡◌, ℕ, List, [], ◌∷◌, ◌++◌, length, map, Bool, true, false, Option, refl, sym, ◌∙◌, ap, ap₂, append_assoc, append-nil, ◌⊎◌, inl, inr, arith}
 use Rattle.std.specs.List.{concat}
 use Rattle.std.proofs.lemmas.List.{same_from_push}
@@ -24,7 +24,7 @@ use Rattle.ud_model.proofs.sections.Soundness.{sound_lines, lines_with_next, sou
 use Rattle.ud_model.proofs.sections.FaultStays.{reads_stay}
 use Rattle.ud_model.proofs.answer.LevelLemmas.{levels_stay, length_levels}
 
--- the second items are the first ones and then more
+-- The second items are the first ones and then more.
 abbrev pub BeginsWith : List (Item Reading) → List (Item Reading) → Type 0
 BeginsWith xs ys = (zs : List (Item Reading)) × (ys ≡ xs ++ zs)
 
@@ -39,11 +39,11 @@ module _ (o : Options) where
       let r : (zs : List (Item Reading)) × (ys ≡ xs ++ zs) = parts_by xs t a p ys u b s.0 in
       (r.0 ++ next_item o ys u k ∷ [], ap (λ (qs : List (Item Reading)). qs ++ next_item o ys u k ∷ []) r.1 ∙ append_assoc xs r.0 (next_item o ys u k ∷ []))
 
-  -- sound items whose lines begin with those of others begin with these
+  -- Faultless items whose lines begin with those of others begin with these.
   sound_parts : (xs ys : List (Item Reading)) (t u : Tree Reading) (more : List Line) → AreFaultless o xs t → AreFaultless o ys u → map line_of ys ≡ map line_of xs ++ more → BeginsWith xs ys
   sound_parts xs ys t u more a b e = parts_by xs t a (by_push more) ys u b e
 
--- of two fronts of a list of lines one begins with the other
+-- Of two prefixes of a list of lines one begins with the other.
 meet : (ks bs : List Line) (x : Line) (cs ds : List Line) → ks ++ x ∷ cs ≡ bs ++ ds →
     ((mid : List Line) × (bs ≡ ks ++ x ∷ mid)) ⊎ ((mid : List Line) × (ks ≡ bs ++ mid))
 meet ks [] x cs ds e = inr (ks, refl)
@@ -89,32 +89,32 @@ module _ (o : Options) (given more : List ℕ) (xs : List (Item Reading)) (t : T
 same_begins : {xs ys : List (Item Reading)} → xs ≡ ys → BeginsWith xs ys
 same_begins {xs = xs} e = ([], sym e ∙ sym (append-nil xs))
 
--- a text that ends is read as the text so far is, and then on
+-- A text that ends is read as the text so far is, and then on.
 pub reads_on : (o : Options) (given more : List ℕ) {xs ys : List (Item Reading)} {t u : Tree Reading} {f g : Option Fault} →
     ReadsSoFar o given xs t f → ReadsAs o (given ++ more) ys u g → BeginsWith xs ys
 reads_on o given more (stops_so_far xs t f h) b = same_begins (reads_once (reads_stay more (stops_so_far xs t f h)).1 b).0
 reads_on o given more (breaks xs t f h k) b = same_begins (reads_once (reads_stay more (breaks xs t f h k)).1 b).0
 reads_on o given more (goes_on xs t h n) b = ended o given more xs t h b
 
--- and so is one that goes on
+-- A text that goes on is read as the text so far is, and then on.
 pub reads_further : (o : Options) (given more : List ℕ) {xs ys : List (Item Reading)} {t u : Tree Reading} {f g : Option Fault} →
     ReadsSoFar o given xs t f → ReadsSoFar o (given ++ more) ys u g → BeginsWith xs ys
 reads_further o given more (stops_so_far xs t f h) b = same_begins (reads_so_far_once (reads_stay more (stops_so_far xs t f h)).0 b).0
 reads_further o given more (breaks xs t f h k) b = same_begins (reads_so_far_once (reads_stay more (breaks xs t f h k)).0 b).0
 reads_further o given more (goes_on xs t h n) b = gone_on o given more xs t h b
 
--- the items that are read are the lines of their tree
+-- The items that are read are the lines of their tree.
 pub read_lines : {o : Options} {input : List ℕ} {xs : List (Item Reading)} {t : Tree Reading} {f : Option Fault} → ReadsAs o input xs t f → lines t ≡ xs
 read_lines (stops xs t f h) = sound_lines h.sound
 read_lines (ends xs t h) = sound_lines h.sound
 
--- and so are those read so far
+-- The items that are read so far are the lines of their tree.
 pub read_so_far_lines : {o : Options} {given : List ℕ} {xs : List (Item Reading)} {t : Tree Reading} {f : Option Fault} → ReadsSoFar o given xs t f → lines t ≡ xs
 read_so_far_lines (stops_so_far xs t f h) = sound_lines h.sound
 read_so_far_lines (breaks xs t f h b) = sound_lines h.sound
 read_so_far_lines (goes_on xs t h n) = sound_lines h.sound
 
--- lines and further ones, with their marks
+-- Lines and further ones, with their marks.
 pub judged_more : (xs ys : List (Item Reading)) (ms ns : List Mark) → length xs ≡ length ms →
     judged_lines (xs ++ ys) (ms ++ ns) ≡ judged_lines xs ms ++ judged_lines ys ns
 judged_more [] ys [] ns e = refl
@@ -122,13 +122,13 @@ judged_more [] ys (m ∷ ms) ns e = absurd (omega arith)
 judged_more (x ∷ xs) ys [] ns e = absurd (omega arith)
 judged_more (x ∷ xs) ys (m ∷ ms) ns e = ap (λ (js : List Judged). judged_line x m ∷ js) (judged_more xs ys ms ns (omega arith))
 
--- lines with marks of which there are as many are all judged
+-- Lines with as many marks are all judged lines.
 pub judged_all : (xs : List (Item Reading)) (ms : List Mark) → length ms ≡ length xs → map (λ (j : Judged). j.line) (judged_lines xs ms) ≡ map line_of xs
 judged_all [] ms e = refl
 judged_all (x ∷ xs) [] e = absurd (omega arith)
 judged_all (x ∷ xs) (m ∷ ms) e = ap (λ (ls : List Line). line_of x ∷ ls) (judged_all xs ms (omega arith))
 
--- lines and further ones, with their levels
+-- Lines and further ones, with their levels.
 listed_more : (d : Bool) (xs ys : List (Item Reading)) (ns ks : List ℕ) → length xs ≡ length ns →
     listed d (xs ++ ys) (ns ++ ks) ≡ listed d xs ns ++ listed d ys ks
 listed_more d [] ys [] ks e = refl
@@ -138,7 +138,7 @@ listed_more d (x ∷ xs) ys (n ∷ ns) ks e =
     ap (λ (r : List ℕ). listed_names (depth_prefix d n) (names_at x) ++ r) (listed_more d xs ys ns ks (omega arith))
     ∙ sym (append_assoc (listed_names (depth_prefix d n) (names_at x)) (listed d xs ns) (listed d ys ks))
 
--- the pieces of lines and further ones
+-- The pieces of lines and further ones.
 pub pieces_by-append : (piece : List Judged → Judged → List ℕ) (before js ks : List Judged) →
     pieces_by piece before (js ++ ks) ≡ pieces_by piece before js ++ pieces_by piece (before ++ js) ks
 pieces_by-append piece before [] ks = ap (λ (bs : List Judged). pieces_by piece bs ks) (sym (append-nil before))
@@ -156,7 +156,7 @@ module _ (t u : Tree Reading) (more : List (Item Reading)) (e : lines u ≡ line
       let m : (ms : List Mark) × (marks u ≡ marks t ++ ms) = marks_stay t u more e in
       (judged_lines more m.0, ap₂ judged_lines e m.1 ∙ judged_more (lines t) more (marks t) m.0 as_many_marks)
 
-  -- the pieces of a longer text begin with those of the text, whatever the printer
+  -- The pieces of a longer text begin with those of the text, whatever the printer.
   pub pieces_grow : (piece : List Judged → Judged → List ℕ) →
       (rest : List (List ℕ)) × (pieces_by piece [] (judged_lines (lines u) (marks u)) ≡ pieces_by piece [] (judged_lines (lines t) (marks t)) ++ rest)
   pieces_grow piece =
@@ -170,7 +170,7 @@ module _ (t u : Tree Reading) (more : List (Item Reading)) (e : lines u ≡ line
       let m : (ks : List ℕ) × (levels u ≡ levels t ++ ks) = levels_stay t u more e in
       (listed d more m.0, ap₂ (listed d) e m.1 ∙ listed_more d (lines t) more (levels t) m.0 (sym (length_levels t)))
 
-  -- the output of a longer text begins with that of the text
+  -- The output of a longer text begins with that of the text.
   pub output_grows : (q : Listing) (s : Settings) → (rest : List ℕ) × (output_by q s (lines u) u ≡ output_by q s (lines t) t ++ rest)
   output_grows Off s =
       let p : (rest : List (List ℕ)) × (pieces_by (piece_after (style_of s)) [] (judged_lines (lines u) (marks u)) ≡ pieces_by (piece_after (style_of s)) [] (judged_lines (lines t) (marks t)) ++ rest) =
@@ -189,12 +189,12 @@ printed_on s xs ys t u d e b =
           ∙ ap (λ (qs : List (Item Reading)). output_by s.listing s qs t ++ r.0) d,
     )
 
--- what is printed of a text that goes on begins with what is printed of it so far
+-- The output for a text that goes on begins with its output so far.
 pub prints_further : (o : Options) (given more : List ℕ) {r s : Outcome} → HasOutcomeSoFar o given r → HasOutcomeSoFar o (given ++ more) s → (rest : List ℕ) × (s.output ≡ r.output ++ rest)
 prints_further o given more (came_as {xs = xs} {t = t} a) (came_as {xs = ys} {t = u} b) =
     printed_on o.settings xs ys t u (read_so_far_lines a) (read_so_far_lines b) (reads_further o given more a b)
 
--- and so does what is printed of one that ends
+-- The output for a text that ends begins with its output so far.
 pub prints_on : (o : Options) (given more : List ℕ) {r s : Outcome} → HasOutcomeSoFar o given r → HasOutcome o (given ++ more) s → (rest : List ℕ) × (s.output ≡ r.output ++ rest)
 prints_on o given more (came_as {xs = xs} {t = t} a) (ran_as {xs = ys} {t = u} b) =
     printed_on o.settings xs ys t u (read_so_far_lines a) (read_lines b) (reads_on o given more a b)

@@ -1,4 +1,4 @@
--- What is printed of a text grows line by line.
+-- The output for a text grows line by line.
 use Rattle.std.proofs.Common.{◌≡◌, ◌∙◌, List, ℕ, [], ◌∷◌, ◌++◌, Bool, true, false, not, ◌||◌, bytes_eq, refl, ap, sym, append_assoc, append-nil}
 use Rattle.std.specs.List.{concat}
 use Rattle.std.proofs.lemmas.List.Folds.{concat-append}
@@ -6,13 +6,13 @@ use Rattle.ud_model.specs.text.Lines.{text_of}
 use Rattle.ud_model.specs.sections.Pruning.{is_removed}
 use Rattle.ud_model.specs.answer.Printing.{Judged, last_removed, pieces_by, some_other}
 
--- with a line after others, the last one is removed where that line is
+-- After one more line, the last one is removed if that line is.
 pub last_removed-more : (js : List Judged) (j : Judged) → last_removed (js ++ j ∷ []) ≡ is_removed j.verdict
 last_removed-more [] j = refl
 last_removed-more (k ∷ []) j = refl
 last_removed-more (k ∷ l ∷ js) j = last_removed-more (l ∷ js) j
 
--- a line after others adds its piece after theirs
+-- A line after others adds its piece after theirs.
 pub pieces_by-more : (piece : List Judged → Judged → List ℕ) (before js : List Judged) (j : Judged) →
     pieces_by piece before (js ++ j ∷ []) ≡ pieces_by piece before js ++ piece (before ++ js) j ∷ []
 pieces_by-more piece before [] j = ap (λ (ks : List Judged). piece ks j ∷ []) (sym (append-nil before))
@@ -21,14 +21,14 @@ pieces_by-more piece before (k ∷ js) j =
     (pieces_by-more piece (before ++ k ∷ []) js j
     ∙ ap (λ (ks : List Judged). pieces_by piece (before ++ k ∷ []) js ++ piece ks j ∷ []) (append_assoc before (k ∷ []) js))
 
--- a line after others is printed after them
+-- A line after others is printed after them.
 pub printed-more : (piece : List Judged → Judged → List ℕ) (js : List Judged) (j : Judged) →
     concat (pieces_by piece [] (js ++ j ∷ [])) ≡ concat (pieces_by piece [] js) ++ piece js j
 printed-more piece js j =
     ap concat (pieces_by-more piece [] js j) ∙ concat-append (pieces_by piece [] js) (piece js j ∷ [])
     ∙ ap (λ (t : List ℕ). concat (pieces_by piece [] js) ++ t) (append-nil (piece js j))
 
--- a line after others differs, or one of these does
+-- A line after others differs, or one of these does.
 pub differ-more : (piece : List Judged → Judged → List ℕ) (before js : List Judged) (j : Judged) →
     some_other (pieces_by piece before (js ++ j ∷ [])) (js ++ j ∷ [])
     ≡ (some_other (pieces_by piece before js) js || not (bytes_eq (piece (before ++ js) j) (text_of j.line)))

@@ -1,14 +1,15 @@
--- Words: what words give is what each gives by itself, in order.
+-- Arguments: each argument is parsed by itself, in order.
 use Rattle.std.proofs.Common.{◌≡◌, ℕ, suc, List, [], ◌∷◌, ◌++◌, Bool, true, false, Option, Some, None, bytes_eq, codes, if◌then◌else◌, refl, ◌∙◌, ap}
 use Rattle.ud_model.specs.answer.CommandLine.{ParsedArg, flag, unknown, is_flag, takes_argument, option_letters, operands_from, parsed_option, parsed_letters, parsed_word, parsed_from, parsed_after_option}
 use Rattle.ud_model.specs.answer.SingleArguments.{then_gives, option_gives, letters_give, given_next}
 
--- what comes after a word: this, if an option waits, and else that
+-- The rest after an argument: this, if an option waits, else that.
 abbrev waited : Option ℕ → (ℕ → List ParsedArg) → List ParsedArg → List ParsedArg
 waited None next rest = rest
 waited (Some c) next rest = next c
 
--- what letters give before other words is what they give by themselves, and then what those give
+-- The letters give the same options before other arguments as by themselves, and then those of the
+-- others.
 letters_split : (number : ℕ) (cs : List ℕ) (next : ℕ → List ParsedArg) (rest : List ParsedArg) →
     parsed_letters number cs next rest ≡ (letters_give number cs).given ++ waited (letters_give number cs).waits next rest
 letters_split number [] next rest = refl
@@ -34,18 +35,18 @@ next_is : (o : Option ℕ) (n : ℕ) (args : List (List ℕ)) → waited o (λ c
 next_is None n args = refl
 next_is (Some c) n args = refl
 
--- after `--` each word is an operand
+-- After `--` each argument is an operand.
 pub after_end : (n : ℕ) (args : List (List ℕ)) → parsed_from n (codes "--" ∷ args) ≡ operands_from (suc n) args
 after_end n args = refl
 
--- a word without letters is an operand, and so is each after it
+-- An argument without letters is an operand, and so is each after it.
 pub operand_given : (n : ℕ) (w : List ℕ) (args : List (List ℕ)) → bytes_eq w (codes "--") ≡ false → option_letters w ≡ [] →
     parsed_from n (w ∷ args) ≡ operands_from n (w ∷ args)
 operand_given n w args e l =
     by_word (suc n) (bytes_eq w (codes "--")) (option_letters w) [] (operands_from (suc n) args) (operands_from n (w ∷ args)) (parsed_from (suc n) args)
     (λ c. parsed_after_option c (suc n) args) e l
 
--- a word of letters gives what they give, and then come the words after it
+-- An argument with letters gives their options, and then the arguments after it.
 pub options_given : (n : ℕ) (w : List ℕ) (args : List (List ℕ)) (c : ℕ) (cs : List ℕ) → bytes_eq w (codes "--") ≡ false → option_letters w ≡ c ∷ cs →
     parsed_from n (w ∷ args) ≡ (letters_give (suc n) (c ∷ cs)).given ++ given_next (letters_give (suc n) (c ∷ cs)).waits (suc n) args
 options_given n w args c cs e l =

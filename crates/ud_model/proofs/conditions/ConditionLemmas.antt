@@ -1,4 +1,4 @@
--- Conditions: tables that say the same of every name decide the same.
+-- Conditions: tables with the same entry for every name decide alike.
 use Rattle.std.proofs.Common.{◌≡◌, ℕ, List, Bool, false, ◌&&◌, ◌||◌, Option, Some, None, is_some, refl, ◌∙◌, ap, ap₂}
 use Rattle.ud_model.specs.sections.Directives.{role_of, test_of}
 use Rattle.ud_model.specs.conditions.Table.{Argument, Entry}
@@ -13,22 +13,20 @@ use Rattle.ud_model.specs.declared.kind.Test.TheVariants.{Nonzero, Defined, Unde
 use Rattle.ud_model.proofs.conditions.SymbolLemmas.{SaySame, end_same}
 
 module _ (t u : List Argument) (same : SaySame t u) where
-  -- a name has the same value
   pub name_value_same : (b : Bool) (n : List ℕ) → name_value t b n ≡ name_value u b n
   unfolding name_value
   name_value_same b n = ap₂ (name_value_by b) (end_same t u same n) (same n)
 
-  -- the constant at which it ends has a `u` or not
+  -- The constant to which a name resolves has a `u` by both tables or by none.
   pub name_has_u_same : (n : List ℕ) → name_has_u t n ≡ name_has_u u n
   unfolding name_has_u
   name_has_u_same n = ap end_has_u (end_same t u same n)
 
-  -- `defined` and a name has the same value
   pub defined_value_same : (n : List ℕ) → defined_value t n ≡ defined_value u n
   unfolding defined_value
   defined_value_same n = ap defined_value_by (same n)
 
-  -- a tree has the same value beside a `u`, and the same without one
+  -- A tree has the same value by both tables, beside a `u` and without one.
   pub number_of_same : (strict b : Bool) (e : Expression) → number_of t strict b e ≡ number_of u strict b e
   number_of_same strict b (constant w) = refl
   number_of_same strict b (named n a) = name_value_same b n
@@ -37,7 +35,6 @@ module _ (t u : List Argument) (same : SaySame t u) where
   number_of_same strict b (binary o x y) = ap₂ (apply_binary strict b o) (number_of_same strict b x) (number_of_same strict b y)
   number_of_same strict b (parens x) = number_of_same strict b x
 
-  -- a `u` stands in it or not
   pub has_unsigned_same : (e : Expression) → has_unsigned t e ≡ has_unsigned u e
   has_unsigned_same (constant w) = refl
   has_unsigned_same (named n a) = name_has_u_same n
@@ -46,7 +43,7 @@ module _ (t u : List Argument) (same : SaySame t u) where
   has_unsigned_same (binary o x y) = ap₂ (λ (a : Bool) (b : Bool). a || b) (has_unsigned_same x) (has_unsigned_same y)
   has_unsigned_same (parens x) = has_unsigned_same x
 
-  -- a listed name stands in it or not
+  -- A listed name is in a tree by both tables or by none.
   pub names_listed_same : (e : Expression) → mentions_listed t e ≡ mentions_listed u e
   names_listed_same (constant w) = refl
   names_listed_same (named n a) = ap is_some (same n)
@@ -55,7 +52,7 @@ module _ (t u : List Argument) (same : SaySame t u) where
   names_listed_same (binary o x y) = ap₂ (λ (a : Bool) (b : Bool). a || b) (names_listed_same x) (names_listed_same y)
   names_listed_same (parens x) = names_listed_same x
 
-  -- an undefined name with arguments stands in it or not
+  -- An undefined name with arguments is in a tree by both tables or by none.
   pub calls_undefined_same : (e : Expression) → calls_undefined t e ≡ calls_undefined u e
   calls_undefined_same (constant w) = refl
   calls_undefined_same (named n a) = ap (λ (o : Option Entry). a && undefined_by o) (same n)
@@ -64,7 +61,6 @@ module _ (t u : List Argument) (same : SaySame t u) where
   calls_undefined_same (binary o x y) = ap₂ (λ (a : Bool) (b : Bool). a || b) (calls_undefined_same x) (calls_undefined_same y)
   calls_undefined_same (parens x) = calls_undefined_same x
 
-  -- a tree has the same value
   pub value_of_same : (strict : Bool) (e : Expression) → value_of t strict e ≡ value_of u strict e
   value_of_same strict e = ap (λ (b : Bool). number_of t strict b e) (has_unsigned_same e) ∙ number_of_same strict (has_unsigned u e) e
 
@@ -75,7 +71,6 @@ module _ (t u : List Argument) (same : SaySame t u) where
   tree_cond_if_same None rules = refl
   tree_cond_if_same (Some e) rules = tree_cond_same e rules
 
-  -- the condition of a text is the same
   pub expression_cond_same : (text : List ℕ) (rules : Rules) → expression_cond text t rules ≡ expression_cond text u rules
   unfolding expression_cond
   expression_cond_same text rules = tree_cond_if_same (expression_of text) rules
@@ -90,7 +85,6 @@ module _ (t u : List Argument) (same : SaySame t u) where
   decided_by_same Undefined text rules = ap (λ (d : Decision). record d { cond = negate d.cond }) (ifdef_decision_same (sole_name text))
   decided_by_same Nothing text rules = refl
 
-  -- each condition is decided alike
   pub condition_of_same : (k : Kind) (text : List ℕ) (rules : Rules) → condition_of k text t rules ≡ condition_of k text u rules
   condition_of_same k text rules =
       ap (λ (d : Decision). record d { ignoring = begins_section (role_of k) && d.ignoring }) (decided_by_same (test_of k) text rules)

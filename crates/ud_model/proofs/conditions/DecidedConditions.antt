@@ -1,4 +1,5 @@
--- Decided conditions: what is decided of a text is decided of its tree, and a decided truth is C's.
+-- Decided conditions: the condition of a text is that of its tree, and a decided condition has C's
+-- truth.
 use Rattle.std.proofs.Common.{◌≡◌, ◌≢◌, ℕ, List, [], Bool, true, false, not, ◌||◌, if◌then◌else◌, Option, Some, None, refl, sym, ◌∙◌, ap, ℤ, pos}
 use Rattle.std.proofs.lemmas.Bool.{false≢true}
 use Rattle.ud_model.specs.conditions.Table.{Argument, Entry, entry_in}
@@ -17,7 +18,7 @@ use Rattle.ud_model.proofs.conditions.OneExpression.{expression_only, expression
 use Rattle.ud_model.proofs.conditions.KnownNumbers.{zero_decides}
 use Rattle.ud_model.proofs.conditions.KnownStays.{known_stays}
 
--- what is decided of a text is decided of its tree
+-- The condition of a text is that of its tree.
 pub cond_of_tree : (text : List ℕ) (e : Expression) (table : List Argument) (rules : Rules) → IsWritten text e → expression_cond text table rules ≡ tree_cond e table rules
 unfolding expression_cond
 cond_of_tree text e table rules p = ap (λ o. tree_cond_if o table rules) (expression_only text e p)
@@ -27,12 +28,12 @@ cond_of_none : (text : List ℕ) (table : List Argument) (rules : Rules) (o : Op
 cond_of_none text table rules None d h = refl
 cond_of_none text table rules (Some e) d h = absurd (h e (expression_is text e d))
 
--- nothing is decided of a text without a tree
+-- A text without a tree is undecided.
 pub cond_without_tree : (text : List ℕ) (table : List Argument) (rules : Rules) → ((e : Expression) → IsWritten text e → ⊥) → expression_cond text table rules ≡ Unknown
 unfolding expression_cond
 cond_without_tree text table rules h = cond_of_none text table rules (expression_of text) refl h
 
--- the names of a text are those of its tree
+-- The names of a text are those of its tree.
 pub names_of_tree : (text : List ℕ) (e : Expression) → IsWritten text e → names_of If text ≡ names_in e
 names_of_tree text e p = ap names_in_tree (expression_only text e p)
 
@@ -40,7 +41,7 @@ names_of_none : (text : List ℕ) (o : Option Expression) → expression_of text
 names_of_none text None d h = refl
 names_of_none text (Some e) d h = absurd (h e (expression_is text e d))
 
--- a text without a tree has none
+-- A text without a tree has no names.
 pub names_without_tree : (text : List ℕ) → ((e : Expression) → IsWritten text e → ⊥) → names_of If text ≡ []
 names_without_tree text h = names_of_none text (expression_of text) refl h
 
@@ -62,19 +63,19 @@ no_by false (Some z) e = by (is_zero z) refl e
     by true d f = (z, refl, d)
     by false d f = absurd (cc)
 
--- a condition that is true has no C value but such as aren't 0
+-- A condition that is true has only C values other than 0.
 pub yes_is_true : (table : List Argument) (rules : Rules) (e : Expression) (c : Number) → tree_cond e table rules ≡ Yes → IsCValue table e c → number c ≢ pos 0
 yes_is_true table rules e c d v h =
     let q : (z : ℤ) × (value_of table rules.strict e ≡ Some z) × (is_zero z ≡ false) = yes_by (calls_undefined table e || not (rules.constants || mentions_listed table e)) (value_of table rules.strict e) d in
     false≢true (sym q.2 ∙ (zero_decides q.0).1 (sym (known_stays table rules.strict e q.0 c q.1 v) ∙ h))
 
--- a condition that is false has the C value 0 at most
+-- A condition that is false has no C value but 0.
 pub no_is_false : (table : List Argument) (rules : Rules) (e : Expression) (c : Number) → tree_cond e table rules ≡ No → IsCValue table e c → number c ≡ pos 0
 no_is_false table rules e c d v =
     let q : (z : ℤ) × (value_of table rules.strict e ≡ Some z) × (is_zero z ≡ true) = no_by (calls_undefined table e || not (rules.constants || mentions_listed table e)) (value_of table rules.strict e) d in
     known_stays table rules.strict e q.0 c q.1 v ∙ (zero_decides q.0).0 q.2
 
--- an entry decides
+-- An entry always decides.
 entry_heeds : (v : Option (List ℕ)) (i : Bool) → (ifdef_by (Some (record { value = v; ignoring = i }))).cond ≡ Unknown → i ≡ false
 entry_heeds None i e = cc
 entry_heeds (Some x) i e = cc
@@ -92,7 +93,7 @@ negated_unknown Yes e = cc
 negated_unknown No e = cc
 negated_unknown Unknown e = refl
 
--- a condition that is unknown makes no section plain text
+-- A condition that is unknown makes no section plain text.
 pub unknown_heeds : (p : Test) (after : List ℕ) (table : List Argument) (rules : Rules) → (decision_by_test p after table rules).cond ≡ Unknown → (decision_by_test p after table rules).ignoring ≡ false
 unknown_heeds Nonzero after table rules e = refl
 unknown_heeds Defined after table rules e = by_name (sole_name after) table e

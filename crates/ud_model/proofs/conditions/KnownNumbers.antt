@@ -1,7 +1,8 @@
--- Known numbers: where whole numbers give a result in range, C's operators give the same number.
+-- Known numbers: if whole numbers give a result in range, C's operators give the same number.
 --
--- Between two numbers of intmax_t this is how C defines its results. Beside one of uintmax_t no known number lies below 0 or
--- above 2^63-1, and modulo 2^64 such a result is itself. That is what the least number is for.
+-- Between two numbers of intmax_t this is how C defines its results. Beside one of uintmax_t no
+-- known number is below 0 or above 2^63-1, and modulo 2^64 such a result is itself. That is what
+-- the least number is for.
 use Rattle.std.proofs.Common.{◌≡◌, ◌≢◌, ℕ, zero, suc, ◌+◌, ◌-◌, ◌*◌, ◌/◌, ◌%◌, ◌^◌, ◌<◌, ◌≤◌, Bool, true, false, not, ◌&&◌, if◌then◌else◌, Option, Some, None, refl, sym, ◌∙◌, ap, subst, inl, inr, arith, ℤ, pos, negsuc, ◌-ℤ◌, neg_ℤ, ◌<ℤ◌, ◌≤ℤ◌, int_lt, int_le, int_div, bit_and, bit_or, bit_xor, Decides, T, leb, ltb, nat_eq, unsigned_abs}
 use Rattle.std.specs.Int.{cast_signed, cast_unsigned}
 use Rattle.std.proofs.lemmas.Option.{none-some, same_Some}
@@ -17,17 +18,18 @@ use Rattle.ud_model.specs.conditions.CValues.{GivesUnary, Number, signed, unsign
 use Rattle.ud_model.specs.declared.operator.Operator.{Operator}
 use Rattle.ud_model.specs.declared.operator.Operator.TheVariants.{Or, And, BitOr, BitXor, BitAnd, Equal, NotEqual, Less, LessEqual, Greater, GreaterEqual, Plus, Minus, Times, Over, Remainder, Not, Complement}
 
--- a C value that may be had for a known one: the same number, in range, and of uintmax_t only beside a `u`
+-- A C value agrees with a known one: it is the same number, in range, and of uintmax_t only beside
+-- a `u`.
 abbrev pub Agrees : Bool → ℤ → Number → Type 0
 Agrees u n (signed z) = (z ≡ n) × (fits u n ≡ true)
 Agrees u n (unsigned k) = (pos k ≡ n) × (fits u n ≡ true) × (u ≡ true)
 
--- it is the same number
+-- It is the same number.
 pub agrees_number : (u : Bool) (n : ℤ) (c : Number) → Agrees u n c → number c ≡ n
 agrees_number u n (signed z) a = a.0
 agrees_number u n (unsigned k) a = a.0
 
--- it is in range
+-- It is in range.
 pub agrees_fits : (u : Bool) (n : ℤ) (c : Number) → Agrees u n c → fits u n ≡ true
 agrees_fits u n (signed z) a = a.1
 agrees_fits u n (unsigned k) a = a.1
@@ -36,7 +38,7 @@ fit_by : (b : Bool) (u : Bool) (z n : ℤ) → fits u z ≡ b → (if b then Som
 fit_by true u z n f e = let q : z ≡ n = same_Some z n e in (q, rw q at f)
 fit_by false u z n f e = absurd (none-some n e)
 
--- a result in range is known as it is
+-- A result in range is known as it is.
 pub fit_is : (u : Bool) (z n : ℤ) → fit u z ≡ Some n → (z ≡ n) × (fits u n ≡ true)
 fit_is u z n e = fit_by (fits u z) u z n refl e
 
@@ -52,7 +54,7 @@ fits_one u = refl
 fits_zero : (u : Bool) → fits u (pos 0) ≡ true
 fits_zero u = refl
 
--- a test that decides a fact gives the truth of the fact
+-- A test that decides a fact gives the truth of the fact.
 pub truth_agrees : (Holds : Type 0) (u b : Bool) (n : ℤ) (c : Number) → Decides b Holds → Some (truth b) ≡ Some n → IsTruth Holds c → Agrees u n c
 truth_agrees Holds u true n c d e (inl h) = let q : pos 1 ≡ n = same_Some (pos 1) n e in as_signed u n c (pos 1) h.1 (q, ap (fits u) (sym q))
 truth_agrees Holds u true n c d e (inr h) = absurd (h.0 (d.0 refl))
@@ -63,11 +65,11 @@ decides_by : {P : Type 0} (b : Bool) → (T b → P) → (P → T b) → Decides
 decides_by true f g = ((λ e. f tt), λ p. refl)
 decides_by false f g = ((λ e. absurd (false≢true e)), λ p. absurd (g p))
 
--- the test for less decides
+-- The test for less decides.
 pub less_decides : (a b : ℤ) → Decides (int_lt a b) (a <ℤ b)
 less_decides a b = decides_by (int_lt a b) (λ t. record { lt = t }) (λ p. p.lt)
 
--- the test for at most decides
+-- The test for at most decides.
 pub at_most_decides : (a b : ℤ) → Decides (int_le a b) (a ≤ℤ b)
 at_most_decides a b = decides_by (int_le a b) (λ t. record { le = t }) (λ p. p.le)
 
@@ -83,7 +85,7 @@ both_ways a b = elim (leb_tells a b) [
   | inr p ↦ ((λ e. absurd (false≢true (rw p.0 at e))), λ h. absurd (omega arith))
 ]
 
--- a test turned decides that the fact doesn't hold
+-- A negated test decides that the fact isn't true.
 pub not_decides : {P : Type 0} (b : Bool) → Decides b P → Decides (not b) (P → ⊥)
 not_decides true d = ((λ e. absurd (false≢true e)), λ h. absurd (h (d.0 refl)))
 not_decides false d = ((λ e. λ p. false≢true (d.1 p)), λ h. refl)
@@ -97,7 +99,7 @@ pos_same a b e = ap unsigned_abs e
 negsuc_same : (a b : ℕ) → negsuc a ≡ negsuc b → a ≡ b
 negsuc_same a b e = let q : suc a ≡ suc b = ap unsigned_abs e in omega arith
 
--- the test for equal numbers decides
+-- The test for equal numbers decides.
 pub same_decides : (a b : ℤ) → Decides (equal_numbers a b) (a ≡ b)
 same_decides (pos a) (pos b) = like_decides (leb a b && leb b a) (λ e. ap pos e) (pos_same a b) (both_ways a b)
 same_decides (pos a) (negsuc b) = ((λ e. absurd (false≢true e)), λ h. cc)
@@ -112,7 +114,7 @@ in_range : (b : Bool) (o : Option ℤ) (n : ℤ) → (if b then o else None) ≡
 in_range true o n e = e
 in_range false o n e = absurd (none-some n e)
 
--- two known operands of intmax_t
+-- The case of two known operands of intmax_t.
 pub signed_agrees : (u : Bool) (o : Operator) (a b n : ℤ) (c : Number) → apply_binary_known u o a b ≡ Some n → GivesSigned o a b c → Agrees u n c
 unfolding apply_binary_known
 signed_agrees u Or a b n c e g = absurd g
@@ -134,21 +136,21 @@ signed_agrees u Remainder a b n c e g = as_signed u n c _ g.2 (fit_is u _ n (in_
 signed_agrees u Not a b n c e g = absurd g
 signed_agrees u Complement a b n c e g = absurd g
 
--- numbers from 0 to 2^63-1
+-- A number in range beside a `u` is from 0 to 2^63-1.
 nat_fits : (a : ℕ) (n : ℤ) → pos a ≡ n → fits true n ≡ true → a < 2 ^ 63
 nat_fits a n e f = (Decides-ltb a (2 ^ 63)).0 (ap (fits true) e ∙ f)
 
 modulo_itself : (a : ℕ) (n : ℤ) → (pos a ≡ n) × (fits true n ≡ true) → a % 2 ^ 64 ≡ a
 modulo_itself a n p = let h : a < 2 ^ 63 = nat_fits a n p.0 p.1 in let k : a < 2 ^ 64 = omega arith in mod-eq_of_lt k
 
--- a sum, a difference or a product in range is itself modulo 2^64
+-- A sum, a difference or a product in range is itself modulo 2^64.
 as_modulo : (n : ℤ) (c : Number) (j k : ℕ) → c ≡ unsigned (j % 2 ^ 64) → j % 2 ^ 64 ≡ k → (pos k ≡ n) × (fits true n ≡ true) → Agrees true n c
 as_modulo n c j k e q p = as_natural n c k (e ∙ ap unsigned q) p
 
 bits_known : (x : ℕ) (n : ℤ) → x < 2 ^ 63 → fit true (cast_signed w64 x) ≡ Some n → (pos x ≡ n) × (fits true n ≡ true)
 bits_known x n l e = fit_is true (pos x) n (rw (to_z_pos w64 x l) at e)
 
--- a difference that isn't negative
+-- The case of a difference that isn't negative.
 sub_known : (b : Bool) (j k : ℕ) (n : ℤ) (c : Number) → ltb j (suc k) ≡ b → c ≡ unsigned ((j + (2 ^ 64 - suc k)) % 2 ^ 64) →
     fit true (if b then negsuc (suc k - suc j) else pos (j - suc k)) ≡ Some n → suc k < 2 ^ 63 → Agrees true n c
 sub_known true j k n c q g e l = absurd (none-some n e)
@@ -168,7 +170,7 @@ minus_known a zero n c l e g =
     as_modulo n c (a + (2 ^ 64 - 0)) (a + 0) g (ap (λ (x : ℕ). x % 2 ^ 64) d ∙ add-mul-mod_self_right (a + 0) 1 (2 ^ 64) ∙ modulo_itself (a + 0) n p) p
 minus_known a (suc k) n c l e g = sub_known (ltb a (suc k)) a k n c refl g e l
 
--- two known operands, one of them of uintmax_t
+-- The case of two known operands, one of them of uintmax_t.
 pub unsigned_agrees : (o : Operator) (a b : ℕ) (n : ℤ) (c : Number) → a < 2 ^ 63 → b < 2 ^ 63 → apply_binary_known true o (pos a) (pos b) ≡ Some n → GivesUnsigned o a b c →
     Agrees true n c
 unfolding apply_binary_known
@@ -195,7 +197,7 @@ unsigned_agrees Remainder a b n c k l e g =
 unsigned_agrees Not a b n c k l e g = absurd g
 unsigned_agrees Complement a b n c k l e g = absurd g
 
--- a known number beside a `u`, as one of uintmax_t
+-- A known number beside a `u` is one of uintmax_t.
 natural_of : (a : ℤ) → fits true a ≡ true → (j : ℕ) × (a ≡ pos j) × (j < 2 ^ 63)
 natural_of (pos j) f = (j, refl, (Decides-ltb j (2 ^ 63)).0 f)
 natural_of (negsuc j) f = absurd (false≢true f)
@@ -210,7 +212,7 @@ gives_by true o a b n c j k t f g p q e h =
     unsigned_agrees o x.0 y.0 n c x.2 y.2 (rw (x.1, y.1) at e) (rw (v, w) at h)
 gives_by false o a b n c j k t f g p q e h = absurd (false≢true t)
 
--- C's result agrees with the known one
+-- The result of C's operator between two operands agrees with the known one.
 pub gives_agrees : (u : Bool) (o : Operator) (a b n : ℤ) (x y c : Number) → Agrees u a x → Agrees u b y → apply_binary_known u o a b ≡ Some n → Gives o x y c → Agrees u n c
 gives_agrees u o a b n (signed s) (signed t) c p q e g = signed_agrees u o a b n c e (rw (p.0, q.0) at g)
 gives_agrees u o a b n (signed s) (unsigned t) c p q e g =
@@ -220,12 +222,12 @@ gives_agrees u o a b n (unsigned s) (signed t) c p q e g =
 gives_agrees u o a b n (unsigned s) (unsigned t) c p q e g =
     gives_by u o a b n c s t p.2 p.1 q.1 (ap (cast_unsigned w64) p.0) (ap (cast_unsigned w64) q.0) e g
 
--- the test for 0 decides
+-- The test for 0 decides.
 pub zero_decides : (a : ℤ) → Decides (is_zero a) (a ≡ pos 0)
 zero_decides (pos j) = like_decides (nat_eq j 0) (λ e. ap pos e) (pos_same j 0) (Decides-eqb j 0)
 zero_decides (negsuc j) = ((λ e. absurd (false≢true e)), λ h. cc)
 
--- a known number is 0 exactly if C's is
+-- A known number is 0 exactly if C's is.
 pub zero_agrees : (u : Bool) (a : ℤ) (x : Number) → Agrees u a x → Decides (is_zero a) (number x ≡ pos 0)
 zero_agrees u a x p = like_decides (is_zero a) (λ e. agrees_number u a x p ∙ e) (λ e. sym (agrees_number u a x p) ∙ e) (zero_decides a)
 
@@ -244,7 +246,7 @@ minus_one_more j = less (ltb (suc j) 1) refl
     less true e = let h : suc j < 1 = (Decides-ltb (suc j) 1).0 e in absurd (omega arith)
     less false e = ap pos (omega arith)
 
--- the bits of a number turned are those of -1 less the number
+-- The complement of the bits of a number is -1 minus the number.
 turned : (u : Bool) (a : ℤ) → fits u a ≡ true → cast_signed w64 (2 ^ 64 - 1 - cast_unsigned w64 a) ≡ neg_ℤ a -ℤ pos 1
 turned u (pos j) f =
     let h : j < 2 ^ 63 = (Decides-ltb j (2 ^ 63)).0 f in
@@ -262,7 +264,7 @@ negated_natural (suc j) n c e g = absurd (none-some n e)
 no_complement : (j : ℕ) (n : ℤ) → fit true (neg_ℤ (pos j) -ℤ pos 1) ≡ Some n → ⊥
 no_complement j n e = none-some n (rw (minus_one j) at e)
 
--- C's result agrees with the known one
+-- The result of C's operator before an operand agrees with the known one.
 pub changes_agrees : (u : Bool) (o : Operator) (a n : ℤ) (x c : Number) → Agrees u a x → apply_unary_known u o a ≡ Some n → GivesUnary o x c → Agrees u n c
 unfolding apply_unary_known
 changes_agrees u Not a n x c p e g = truth_agrees (number x ≡ pos 0) u (is_zero a) n c (zero_agrees u a x p) e g

@@ -1,8 +1,9 @@
--- Known stays: a known value of an expression is its C value, whatever the open names stand for.
+-- Known stays: a known value of an expression is its C value, whatever the open names are.
 --
--- By the way in which the C value comes about. A known operand has C's number, so an operator on two known operands is one on
--- numbers (KnownNumbers). A value with an unknown operand is known only if the other one decides `&&` or `||`, and then C
--- gives the same from whichever operand decides it there.
+-- The proof goes by the way in which the C value comes about. A known operand has C's number, so an
+-- operator on two known operands is one on numbers (KnownNumbers). A value with an unknown operand
+-- is known only if the other one decides `&&` or `||`. C then gives the same value, whichever
+-- operand decides it there.
 use Rattle.std.proofs.Common.{◌≡◌, ℕ, ◌^◌, ◌<◌, ◌≤◌, Bool, true, false, not, ◌&&◌, ◌||◌, if◌then◌else◌, List, [], ◌∷◌, Option, Some, None, is_some, ◌==◌, refl, sym, ◌∙◌, ap, subst, inl, inr, arith, ℤ, pos, negsuc, neg_ℤ, nat_lt}
 use Rattle.std.specs.Int.{cast_unsigned}
 use Rattle.std.proofs.lemmas.Option.{none-some, same_Some}
@@ -19,7 +20,7 @@ use Rattle.ud_model.specs.declared.operator.Operator.{Operator}
 use Rattle.ud_model.specs.declared.operator.Operator.TheVariants.{Or, And}
 use Rattle.ud_model.proofs.conditions.KnownNumbers.{Agrees, agrees_number, fit_is, truth_agrees, not_decides, zero_agrees, gives_agrees, changes_agrees}
 
--- a number that is known agrees with this C value
+-- A known number agrees with this C value.
 abbrev pub Knows : Bool → Option ℤ → Number → Type 0
 Knows u o x = (n : ℤ) → o ≡ Some n → Agrees u n x
 
@@ -27,7 +28,7 @@ limited_by : (b u : Bool) (k : ℕ) (n : ℤ) → nat_lt k (2 ^ 63) ≡ b → (i
 limited_by true u k n l e = let q : pos k ≡ n = same_Some (pos k) n e in (q, ap (fits u) (sym q) ∙ l)
 limited_by false u k n l e = absurd (none-some n e)
 
--- a known constant is in range
+-- A known constant is in range.
 limited_is : (u : Bool) (k : ℕ) (n : ℤ) → limited k ≡ Some n → (pos k ≡ n) × (fits u n ≡ true)
 limited_is u k n e = limited_by (nat_lt k (2 ^ 63)) u k n refl e
 
@@ -75,7 +76,7 @@ entry_fits : (u : Bool) (end : Option (List ℕ)) (o : Option Entry) (n : ℤ) �
 entry_fits u end None n e = absurd (none-some n e)
 entry_fits u end (Some x) n e = defined_fits u end x.value n e
 
--- the known value of a name is in range
+-- The known value of a name is in range.
 name_fits : (table : List Argument) (u : Bool) (name : List ℕ) (n : ℤ) → name_value table u name ≡ Some n → fits u n ≡ true
 unfolding name_value
 name_fits table u name n e = entry_fits u (resolve table name) (entry_in table name) n e
@@ -105,7 +106,7 @@ unary_known : (u : Bool) (o : Operator) (v : Option ℤ) (x c : Number) → Know
 unary_known u o None x c f g n e = absurd (none-some n e)
 unary_known u o (Some a) x c f g n e = changes_agrees u o a n x c (f a refl) e g
 
--- `&&` and `||` give no value by the operators between numbers
+-- `&&` and `||` give no value by the operators between numbers.
 no_and : (x y c : Number) → Gives And x y c → ⊥
 no_and (signed a) (signed b) c g = g
 no_and (signed a) (unsigned b) c g = g
@@ -139,7 +140,7 @@ is_nought u n e = (e, ap (fits u) (sym e))
 is_one : (u : Bool) (n : ℤ) → pos 1 ≡ n → Agrees u n (signed (pos 1))
 is_one u n e = (e, ap (fits u) (sym e))
 
--- where one operand decides `&&`, it is 0 and so is the value
+-- If one operand decides `&&`, it is 0 and so is the value.
 and_by : (strict : Bool) (a n : ℤ) → short_circuits strict And a ≡ Some n → (is_zero a ≡ true) × (pos 0 ≡ n)
 and_by true a n e = absurd (none-some n e)
 and_by false a n e = by (is_zero a) e
@@ -148,7 +149,7 @@ and_by false a n e = by (is_zero a) e
     by true d = (refl, same_Some (pos 0) n d)
     by false d = absurd (none-some n d)
 
--- where one operand decides `||`, it isn't 0, and the value is 1
+-- If one operand decides `||`, it isn't 0, and the value is 1.
 or_by : (strict : Bool) (a n : ℤ) → short_circuits strict Or a ≡ Some n → (is_zero a ≡ false) × (pos 1 ≡ n)
 or_by true a n e = absurd (none-some n e)
 or_by false a n e = by (is_zero a) e
@@ -182,7 +183,7 @@ or_left_known strict u (Some a) None x f z n e = is_one u n (or_by strict a n e)
 or_left_known strict u None (Some b) x f z n e = is_one u n (or_by strict b n e).1
 or_left_known strict u None None x f z n e = absurd (none-some n e)
 
--- the truth of an operand that isn't 0, where it is
+-- The truth of an operand that isn't 0, if there is one, is 1.
 false_truth : (Holds : Type 0) (u : Bool) (n : ℤ) (c : Number) → IsTruth Holds c → (Holds → ⊥) → pos 0 ≡ n → Agrees u n c
 false_truth Holds u n c (inl p) h e = absurd (h p.0)
 false_truth Holds u n c (inr p) h e = subst (λ x. Agrees u n x) (sym p.1) (is_nought u n e)
@@ -224,7 +225,7 @@ right_u true b u f e = f refl
 right_u false b u f e = f e
 
 module _ (table : List Argument) (strict u : Bool) where
-  -- each known value of a tree agrees with each C value that it may have
+  -- Each known value of a tree agrees with each C value that it may have.
   pub known : {e : Expression} {c : Number} → CValue table u e c → (has_unsigned table e ≡ true → u ≡ true) → Knows u (number_of table strict u e) c
   known (of_constant {w = w} {c = c} p) v = constant_known u w c p v
   known (of_known_name {n = name} {z = z} p) v = λ n e.
@@ -248,6 +249,6 @@ module _ (table : List Argument) (strict u : Bool) where
       (known d (left_u (has_unsigned table a) (has_unsigned table b) u v)) (known f (right_u (has_unsigned table a) (has_unsigned table b) u v)) z t
   known (of_parens d) v = known d v
 
--- a known value is the C value, whatever the open names stand for
+-- A known value is the C value, whatever the open names are.
 pub known_stays : (table : List Argument) (strict : Bool) (e : Expression) (n : ℤ) (c : Number) → value_of table strict e ≡ Some n → IsCValue table e c → number c ≡ n
 known_stays table strict e n c p d = agrees_number (has_unsigned table e) n c (known table strict (has_unsigned table e) d (λ h. h) n p)

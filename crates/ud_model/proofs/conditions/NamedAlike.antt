@@ -1,4 +1,5 @@
--- Conditions: tables that say the same of each name of a condition, and of those to which these lead, decide the same.
+-- Conditions: two tables decide a condition alike if they have the same entry for each of its
+-- names, and for those to which these lead.
 use Rattle.std.proofs.Common.{◌≡◌, ℕ, List, [], Bool, true, false, not, ◌&&◌, ◌||◌, Option, Some, None, is_some, if◌then◌else◌, refl, sym, ◌∙◌, ap, ap₂}
 use Rattle.ud_model.specs.text.Bytes.{is_identifier}
 use Rattle.ud_model.specs.text.Scans.{Scan, Reading}
@@ -26,7 +27,7 @@ same_by None None f g = refl
 same_by None (Some x) f g = g x refl
 
 module _ (t u : List Argument) where
-  -- the tables say the same of the name, and of each to which it leads
+  -- The tables have the same entry for the name, and for each to which it leads.
   abbrev pub Alike : List ℕ → Type 0
   Alike n = (m : List ℕ) → LeadsTo t n m → entry_in t m ≡ entry_in u m
 
@@ -43,7 +44,7 @@ module _ (t u : List Argument) where
       let d' : defined_text t n ≡ Some m = ap text_in (h n (itself n)) ∙ d in
       by_name n m v d' i (ends_back m v (further n m h d' i) e)
 
-  -- its value ends at the same text
+  -- The name resolves to the same text by both tables.
   end_alike : (n : List ℕ) → Alike n → resolve t n ≡ resolve u n
   end_alike n h =
       same_by (resolve t n) (resolve u n) (λ v e. end_found u n v (ends_over n v h (end_is t n v e))) (λ v e. end_found t n v (ends_back n v h (end_is u n v e)))
@@ -128,7 +129,7 @@ module _ (t u : List Argument) where
   condition_of_alike k after rules h =
       ap (λ (d : Decision). record d { ignoring = begins_section (role_of k) && d.ignoring }) (decided_by_alike (test_of k) after rules h)
 
-  -- the decision as it is, unless a continuation cuts the directive
+  -- The decision as it is, unless a continuation cuts the directive.
   abbrev unless_cut : Bool → Bool → Decision → Decision
   unless_cut broken joins d = if broken then undecided else record d { ignoring = d.ignoring && not joins }
 
@@ -141,7 +142,7 @@ module _ (t u : List Argument) where
   decision_alike scan d rules h = unless_cut_alike d.broken scan.joins_after d.kind d.after rules h
 
 module _ (o p : Options) (same : rules_of o.settings ≡ rules_of p.settings) where
-  -- a line is the same item if the tables agree on its names
+  -- A line is the same item if the tables agree on its names.
   pub item_alike : (r : Reading) (c : Content) → Each (Alike o.table p.table) (names_in_content c) → item_by o r c ≡ item_by p r c
   item_alike r cut_keyword h = refl
   item_alike r text h = refl

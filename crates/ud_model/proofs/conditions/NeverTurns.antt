@@ -1,4 +1,4 @@
--- A table that says more leaves a known value as it is, or makes it unknown.
+-- Further symbols: a table with more entries leaves a known value as it is, or makes it unknown.
 use Rattle.std.proofs.Common.{◌≡◌, ◌≢◌, ℕ, List, [], ◌∷◌, Bool, true, false, not, ◌&&◌, ◌||◌, ◌==◌, Option, Some, None, if◌then◌else◌, ◌⊎◌, inl, inr, ℤ, pos, ◌+ℤ◌, ◌-ℤ◌, ◌*ℤ◌, neg_ℤ, int_div, int_rem, bit_and, bit_or, bit_xor, refl, sym, ◌∙◌, ap, ap₂, subst}
 use Rattle.std.proofs.lemmas.Option.{none-some}
 use Rattle.ud_model.specs.conditions.Table.{Argument, Entry, entry_in}
@@ -14,7 +14,7 @@ use Rattle.ud_model.specs.declared.operator.Operator.{Operator}
 use Rattle.ud_model.specs.declared.operator.Operator.TheVariants.{Or, And, BitOr, BitXor, BitAnd, Equal, NotEqual, Less, LessEqual, Greater, GreaterEqual, Plus, Minus, Times, Over, Remainder, Not, Complement}
 use Rattle.ud_model.proofs.conditions.SymbolLemmas.{end_found, end_is}
 
--- it stays, or is unknown
+-- The value stays, or is unknown.
 abbrev Or_none : ℤ → Option ℤ → Type 0
 Or_none z b = (b ≡ Some z) ⊎ (b ≡ None)
 
@@ -113,7 +113,7 @@ right_one true false e = refl
 right_one false false e = refl
 right_one a true e = cc
 
--- what one operand decides
+-- The value that one operand decides.
 data Decides : Operator → ℤ → Option ℤ → Type 0 where
   by_none : {o : Operator} {x : ℤ} → Decides o x None
   and_zero : {x : ℤ} → is_zero x ≡ true → Decides And x (Some (pos 0))
@@ -151,7 +151,7 @@ decides_is : (s : Bool) (o : Operator) (x : ℤ) → Decides o x (short_circuits
 decides_is true o x = by_none
 decides_is false o x = decided_is o x
 
--- where one operand decides, both give the same
+-- If one operand decides, both operands give the same value.
 left_decides : (b : Bool) (o : Operator) (x y : ℤ) (d : Option ℤ) → Decides o x d → After d (apply_binary_known b o x y)
 unfolding apply_binary_known
 left_decides b o x y _ by_none z e = absurd (none-some z e)
@@ -180,7 +180,7 @@ right_back b o x y _ by_none = back None (apply_binary_known b o x y) (λ z e. a
 right_back b _ x y _ (and_zero h) = back (Some (pos 0)) (apply_binary_known b And x y) (λ z e. right_zero (is_zero x) (is_zero y) h ∙ e)
 right_back b _ x y _ (or_some h) = back (Some (pos 1)) (apply_binary_known b Or x y) (λ z e. right_one (is_zero x) (is_zero y) h ∙ e)
 
--- two operands that decide decide the same
+-- Two operands that decide give the same value.
 two_decide : (o : Operator) (x y : ℤ) (d e : Option ℤ) → Decides o x d → Decides o y e → After d e
 two_decide o x y _ _ by_none k z f = absurd (none-some z f)
 two_decide _ x y _ _ (and_zero h) by_none z f = inr refl
@@ -275,7 +275,7 @@ module _ (t u : List Argument) (more : ExtendsTable t u) where
       combine_after s b c o (number_of t s b a) (number_of t s b d) (number_of u s c a) (number_of u s c d) (number_after s b c a) (number_after s b c d)
   number_after s b c (parens a) = number_after s b c a
 
-  -- the value of an expression
+  -- The value of an expression stays, or is unknown.
   pub value_after : (s : Bool) (e : Expression) (z : ℤ) → value_of t s e ≡ Some z → (value_of u s e ≡ Some z) ⊎ (value_of u s e ≡ None)
   value_after s e z h = number_after s (has_unsigned t e) (has_unsigned u e) e z h
 
@@ -289,7 +289,7 @@ module _ (t u : List Argument) (more : ExtendsTable t u) where
   unless_known false true a b h n = inr refl
   unless_known false false a b h n = h n
 
-  -- and a condition
+  -- A condition stays, or is unknown.
   pub cond_after : (e : Expression) (r : Rules) → tree_cond e t r ≢ Unknown → (tree_cond e u r ≡ tree_cond e t r) ⊎ (tree_cond e u r ≡ Unknown)
   cond_after e r n =
       unless_known (calls_undefined t e || not (r.constants || mentions_listed t e)) (calls_undefined u e || not (r.constants || mentions_listed u e))

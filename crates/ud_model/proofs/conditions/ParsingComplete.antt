@@ -1,4 +1,4 @@
--- Complete: the tokens that a tree is written with are read as that tree.
+-- Complete: the tokens of a tree are parsed as that tree.
 use Rattle.std.proofs.Common.{◌≡◌, ℕ, ◌+◌, ◌<◌, ◌≤◌, List, [], ◌∷◌, ◌++◌, Bool, true, false, IsTrue, if◌then◌else◌, leb, Some, refl, sym, ◌∙◌, ap, ap₂, append_assoc, append-nil, inl, inr, arith}
 use Rattle.std.proofs.lemmas.Bool.Decides.{leb_tells}
 use Rattle.ud_model.specs.conditions.Tokens.{Token, number, name, defined, operator, opening, closing}
@@ -7,7 +7,7 @@ use Rattle.ud_model.specs.aids.Parsing.{Meaning, meaning, Frame, left, before, p
 use Rattle.ud_model.specs.declared.operator.Operator.{Operator}
 use Rattle.ud_model.specs.declared.operator.Operator.TheVariants.{Or, And, BitOr, BitXor, BitAnd, Equal, NotEqual, Less, LessEqual, Greater, GreaterEqual, Plus, Minus, Times, Over, Remainder, Not, Complement}
 
--- no operator tighter than level k comes next
+-- No operator tighter than precedence `k` comes next.
 abbrev pub Stops : ℕ → List Token → Type 0
 Stops k [] = Unit {0}
 Stops k (operator o ∷ ts) = precedence o ≤ k
@@ -17,7 +17,7 @@ Stops k (defined ∷ ts) = Unit {0}
 Stops k (opening ∷ ts) = Unit {0}
 Stops k (closing ∷ ts) = Unit {0}
 
--- each level between two operands is below that of an operator before one
+-- Each precedence between two operands is below that of an operator before one.
 pub level_most : (o : Operator) → precedence o ≤ 9
 level_most Or = omega arith
 level_most And = omega arith
@@ -38,22 +38,22 @@ level_most Remainder = omega arith
 level_most Not = omega arith
 level_most Complement = omega arith
 
--- the test for at most, where it holds
+-- The test for at most, if it is true.
 pub leb_yes : (a b : ℕ) → a ≤ b → leb a b ≡ true
 leb_yes a b h = elim (leb_tells a b) [ inl p ↦ p.0 | inr p ↦ absurd (omega arith) ]
 
--- the test for at most, where it doesn't
+-- The test for at most, if it is false.
 pub leb_no : (a b : ℕ) → b < a → leb a b ≡ false
 leb_no a b h = elim (leb_tells a b) [ inl p ↦ absurd (omega arith) | inr p ↦ p.0 ]
 
--- what takes no operand before level j takes none before a tighter one
+-- A stack that takes no operand before precedence `j` takes none before a tighter one.
 pub below_more : {A : Type 0} (j k : ℕ) (s : List (Frame A)) → j ≤ k → Below j s → Below k s
 below_more j k [] l b = tt
 below_more j k (left o a ∷ s) l b = omega arith
 below_more j k (before o ∷ s) l b = omega arith
 below_more j k (paren ∷ s) l b = tt
 
--- if nothing tighter than level j comes next, nothing tighter than a tighter level does
+-- If nothing tighter than precedence `j` comes next, nothing tighter than a tighter one does.
 pub stops_more : (j k : ℕ) (ts : List Token) → j ≤ k → Stops j ts → Stops k ts
 stops_more j k [] l b = tt
 stops_more j k (operator o ∷ ts) l b = omega arith
@@ -63,7 +63,7 @@ stops_more j k (defined ∷ ts) l b = tt
 stops_more j k (opening ∷ ts) l b = tt
 stops_more j k (closing ∷ ts) l b = tt
 
--- after a prefix operator every operator stops
+-- After a prefix operator every operator stops.
 stops_ten : (ts : List Token) → Stops 10 ts
 stops_ten [] = tt
 stops_ten (operator o ∷ ts) = let h : precedence o ≤ 9 = level_most o in omega arith
@@ -74,7 +74,7 @@ stops_ten (opening ∷ ts) = tt
 stops_ten (closing ∷ ts) = tt
 
 module _ {A : Type 0} (m : Meaning A) where
-  -- what waits further out takes nothing yet
+  -- The rest of the stack takes nothing yet.
   reduce_below : (o : Operator) (x : A) (s : List (Frame A)) → Below (precedence o) s → reduce m (precedence o) x s ≡ (x, s)
   reduce_below o x [] b = refl
   reduce_below o x (left p a ∷ s) b =
@@ -82,7 +82,7 @@ module _ {A : Type 0} (m : Meaning A) where
   reduce_below o x (before p ∷ s) b = let h : precedence o ≤ 9 = level_most o in absurd (omega arith)
   reduce_below o x (paren ∷ s) b = refl
 
-  -- a prefix operator takes its operand whatever comes next
+  -- A prefix operator takes its operand whatever comes next.
   take_before : (o : Operator) (x : A) (s : List (Frame A)) (ts : List Token) → parse_tokens m (has x (before o ∷ s)) ts ≡ parse_tokens m (has (m.unary o x) s) ts
   take_before o x s [] = refl
   take_before o x s (operator p ∷ ts) = refl
@@ -96,7 +96,7 @@ module _ {A : Type 0} (m : Meaning A) where
   reduce_left j o a x s l =
       ap (λ (t : Bool). if t then reduce m j (m.binary o a x) s else (x, left o a ∷ s)) (leb_yes j (precedence o) l)
 
-  -- an operator takes its right operand if no tighter one comes next
+  -- An operator takes its right operand if no tighter one comes next.
   take_left : (o : Operator) (a x : A) (s : List (Frame A)) (ts : List Token) → Stops (precedence o) ts → parse_tokens m (has x (left o a ∷ s)) ts ≡ parse_tokens m (has (m.binary o a x) s) ts
   take_left o a x s [] h = ap (alone m) (reduce_left 0 o a x s (omega arith))
   take_left o a x s (operator p ∷ ts) h =
@@ -116,7 +116,7 @@ module _ {A : Type 0} (m : Meaning A) where
       ap (λ (t : Bool). parse_tokens m (if t then wait m o (reduce m (precedence o) x s) else stuck) ts) (leb_yes 1 (precedence o) l)
       ∙ ap (λ r. parse_tokens m (wait m o r) ts) (reduce_below o x s b)
 
-  -- the tokens of a tree give what the tree means, whatever waits and whatever comes next
+  -- The tokens of a tree give its meaning, whatever the stack is and whatever comes next.
   pub complete : (e : Expression) (k : ℕ) → 1 ≤ k → HasPrecedence k e → (s : List (Frame A)) → Below k s → (ts : List Token) → Stops k ts →
       parse_tokens m (needs s) (spelling e ++ ts) ≡ parse_tokens m (has (meaning m e) s) ts
   complete (constant w) k l i s b ts h = refl
@@ -140,11 +140,11 @@ module _ {A : Type 0} (m : Meaning A) where
       ap (λ us. parse_tokens m (needs (paren ∷ s)) us) (append_assoc (spelling a) (closing ∷ []) ts)
       ∙ complete a 1 (omega arith) i (paren ∷ s) tt (closing ∷ ts) tt
 
-  -- the tokens of an expression alone give what it means
+  -- The tokens of an expression alone give its meaning.
   pub complete_alone : (e : Expression) → HasPrecedence 1 e → parse_tokens m (needs []) (spelling e) ≡ Some (meaning m e)
   complete_alone e i = ap (λ us. parse_tokens m (needs []) us) (sym (append-nil (spelling e))) ∙ complete e 1 (omega arith) i [] tt [] tt
 
--- each tree means itself
+-- Each tree means itself.
 pub meaning_itself : (e : Expression) → meaning itself e ≡ e
 meaning_itself (constant w) = refl
 meaning_itself (named n a) = refl

@@ -1,6 +1,6 @@
--- Sound: tokens that are read as a tree are the tokens that this tree is written with.
+-- Sound: tokens that are parsed as a tree are the tokens of this tree.
 --
--- The tokens so far are those of the state: of what waits, and of the operand that has come.
+-- The tokens so far are those of the state: of the stack, and of the operand that has come.
 use Rattle.std.proofs.Common.{◌≡◌, ℕ, ◌+◌, ◌<◌, ◌≤◌, List, [], ◌∷◌, ◌++◌, Bool, true, false, IsTrue, if◌then◌else◌, leb, Some, refl, sym, ◌∙◌, ap, subst, append_assoc, append-nil, inl, inr, arith}
 use Rattle.std.proofs.lemmas.Option.{none-some, same_Some}
 use Rattle.std.proofs.lemmas.Bool.Decides.{leb_tells}
@@ -10,28 +10,28 @@ use Rattle.ud_model.specs.aids.Parsing.{Frame, left, before, paren, ParseState, 
 use Rattle.ud_model.specs.declared.operator.Operator.{Operator}
 use Rattle.ud_model.proofs.conditions.ParsingComplete.{level_most}
 
--- the tokens of what waits
+-- The tokens of the stack.
 abbrev pub written : List (Frame Expression) → List Token
 written [] = []
 written (left o a ∷ s) = written s ++ (spelling a ++ operator o ∷ [])
 written (before o ∷ s) = written s ++ operator o ∷ []
 written (paren ∷ s) = written s ++ opening ∷ []
 
--- the level that an operand has to have for what waits
+-- The precedence that an operand needs for the stack.
 abbrev pub hole : List (Frame Expression) → ℕ
 hole [] = 1
 hole (left o a ∷ s) = precedence o + 1
 hole (before o ∷ s) = 10
 hole (paren ∷ s) = 1
 
--- what waits can become part of a tree
+-- The stack can become part of a tree.
 abbrev pub Fits : List (Frame Expression) → Type 0
 Fits [] = Unit {0}
 Fits (left o a ∷ s) = HasPrecedence (precedence o) a × (1 ≤ precedence o) × (hole s ≤ precedence o) × Fits s
 Fits (before o ∷ s) = IsTrue (is_prefix o) × Fits s
 Fits (paren ∷ s) = Fits s
 
--- the tokens so far are those of the state
+-- The tokens so far are those of the state.
 abbrev pub Holds : List Token → ParseState Expression → Type 0
 Holds us (needs s) = Fits s × (written s ≡ us)
 Holds us (has x s) = Fits s × HasPrecedence 10 x × (written s ++ spelling x ≡ us)
@@ -40,7 +40,7 @@ Holds us (asks_inside s) = Fits s × (written s ++ defined ∷ opening ∷ [] �
 Holds us (asks_end n s) = Fits s × (written s ++ defined ∷ opening ∷ name n false ∷ [] ≡ us)
 Holds us stuck = Unit {0}
 
--- a tree of the tightest level is of each level
+-- A tree of the tightest precedence is of each precedence.
 loosen : (k : ℕ) (x : Expression) → HasPrecedence 10 x → HasPrecedence k x
 loosen k (constant w) i = tt
 loosen k (named n a) i = tt
@@ -49,7 +49,7 @@ loosen k (unary o a) i = i
 loosen k (binary o a b) i = let h : precedence o ≤ 9 = level_most o in let l : 10 ≤ precedence o = i.0 in absurd (omega arith)
 loosen k (parens a) i = i
 
--- what is left where operators of level j or tighter have taken their operands
+-- The operators of precedence `j` or tighter have taken their operands.
 pub record Reduced (j : ℕ) (x : Expression) (s : List (Frame Expression)) (r : Expression × List (Frame Expression)) : Type 0 where
   pub same : written r.1 ++ spelling r.0 ≡ written s ++ spelling x
   pub fits : Fits r.1
@@ -92,7 +92,7 @@ reduced j x (before o ∷ s) f i t =
     }
 reduced j x (paren ∷ s) f i t = reduced_here j x (paren ∷ s) f i t (λ h. h)
 
--- the end of the tokens so far
+-- The end of the tokens so far.
 pushed : (us vs ws xs : List Token) → us ++ vs ≡ ws → us ++ (vs ++ xs) ≡ ws ++ xs
 pushed us vs ws xs e = sym (append_assoc us vs xs) ∙ ap (λ ys. ys ++ xs) e
 
@@ -120,7 +120,7 @@ prefix_if : (b : Bool) (o : Operator) (s : List (Frame Expression)) (us : List T
 prefix_if true o s us e f w = ((e, f), ap (λ ys. ys ++ operator o ∷ []) w)
 prefix_if false o s us e f w = tt
 
--- a token more is one of the state after it
+-- One more token is a token of the state after it.
 step_holds : (us : List Token) (st : ParseState Expression) (t : Token) → Holds us st → Holds (us ++ t ∷ []) (step itself st t)
 step_holds us (needs s) (number w) h = (h.0, tt, ap (λ ys. ys ++ number w ∷ []) h.1)
 step_holds us (needs s) (name n a) h = (h.0, tt, ap (λ ys. ys ++ name n a ∷ []) h.1)
@@ -177,6 +177,6 @@ run_holds (t ∷ ts) us st e h f =
     let q : HasPrecedence 1 e × (spelling e ≡ (us ++ t ∷ []) ++ ts) = run_holds ts (us ++ t ∷ []) (step itself st t) e (step_holds us st t h) f in
     (q.0, q.1 ∙ append_assoc us (t ∷ []) ts)
 
--- tokens that are read as a tree are those that it is written with
+-- Tokens that are parsed as a tree are those of this tree.
 pub sound : (ts : List Token) (e : Expression) → parse_tokens itself (needs []) ts ≡ Some e → HasPrecedence 1 e × (spelling e ≡ ts)
 sound ts e f = run_holds ts [] (needs []) e (tt, refl) f

@@ -1,4 +1,4 @@
--- Readings: what a text means in a state is what the tree that is read in that state means.
+-- Readings: the meaning of a text in a state is that of the tree that is parsed in that state.
 use Rattle.std.proofs.Common.{◌≡◌, ℕ, List, [], ◌∷◌, Bool, true, false, if◌then◌else◌, leb, Option, Some, None, option_map, refl, ◌∙◌, ap}
 use Rattle.ud_model.specs.conditions.Tokens.{Token, number, name, defined, operator, opening, closing}
 use Rattle.ud_model.specs.conditions.Expressions.{Expression, precedence, is_prefix}
@@ -6,18 +6,18 @@ use Rattle.ud_model.specs.aids.Parsing.{Meaning, meaning, Frame, left, before, p
 use Rattle.ud_model.specs.declared.operator.Operator.{Operator}
 
 module _ {A : Type 0} (m : Meaning A) where
-  -- what waits, each tree taken by its meaning
+  -- The stack, each tree replaced by its meaning.
   abbrev pub frames_meant : List (Frame Expression) → List (Frame A)
   frames_meant [] = []
   frames_meant (left o e ∷ s) = left o (meaning m e) ∷ frames_meant s
   frames_meant (before o ∷ s) = before o ∷ frames_meant s
   frames_meant (paren ∷ s) = paren ∷ frames_meant s
 
-  -- an operand and what waits, taken by their meaning
+  -- An operand and the stack, replaced by their meaning.
   abbrev pub pair_meant : Expression × List (Frame Expression) → A × List (Frame A)
   pair_meant (e, s) = (meaning m e, frames_meant s)
 
-  -- a state, taken by its meaning
+  -- A state, replaced by its meaning.
   abbrev pub state_meant : ParseState Expression → ParseState A
   state_meant (needs s) = needs (frames_meant s)
   state_meant (has e s) = has (meaning m e) (frames_meant s)
@@ -105,7 +105,7 @@ module _ {A : Type 0} (m : Meaning A) where
   finish_meant (asks_end n s) = refl
   finish_meant stuck = refl
 
-  -- tokens mean what their tree means
+  -- Tokens mean what their tree means.
   pub run_meant : (s : ParseState Expression) (ts : List Token) → parse_tokens m (state_meant s) ts ≡ option_map (meaning m) (parse_tokens itself s ts)
   run_meant s [] = finish_meant s
   run_meant s (t ∷ ts) = ap (λ q. parse_tokens m q ts) (step_meant s t) ∙ run_meant (step itself s t) ts
@@ -114,7 +114,7 @@ module _ {A : Type 0} (m : Meaning A) where
   run_all_meant s None = refl
   run_all_meant s (Some ts) = run_meant s ts
 
-  -- a text means what its tree means
+  -- A text means what its tree means.
   pub reads_meaning : (text : List ℕ) → reads m (needs []) text ≡ option_map (meaning m) (expression_of text)
   unfolding reads expression_of
   reads_meaning text = run_all_meant (needs []) (tokens_of text)

@@ -1,4 +1,4 @@
--- White space in front of a condition says nothing.
+-- Leading white space of a condition means nothing.
 use Rattle.std.proofs.Common.{◌≡◌, ℕ, List, [], ◌∷◌, Option, Some, None, option_map, Bool, true, false, ◌&&◌, if◌then◌else◌, refl, sym, ◌∙◌, ap}
 use Rattle.ud_model.specs.text.Bytes.{is_white, skip_white, leading_word, skip_word, are_white, is_identifier}
 use Rattle.ud_model.specs.conditions.Table.{Argument}
@@ -28,7 +28,7 @@ tokens_before : (b : ℕ) (t : List ℕ) (ts : List Token) → is_white b ≡ tr
 tokens_before b t [] e h = token_past b t e ∙ h
 tokens_before b t (k ∷ ts) e h = (h.0, token_past b t e ∙ h.1, h.2)
 
--- the tokens of a text are those with white space in front
+-- The tokens of a text are those with leading white space.
 tokens_same : (b : ℕ) (t : List ℕ) → is_white b ≡ true → tokens_of (b ∷ t) ≡ tokens_of t
 tokens_same b t e = go (tokens_of (b ∷ t)) (tokens_of t) refl refl
   where
@@ -37,7 +37,7 @@ tokens_same b t e = go (tokens_of (b ∷ t)) (tokens_of t) refl refl
     go (Some ts) q c d = sym (tokens_of_only t ts (tokens_past b t ts e (tokens_of_are (b ∷ t) ts c))) ∙ d
     go None (Some ts) c d = sym c ∙ tokens_of_only (b ∷ t) ts (tokens_before b t ts e (tokens_of_are t ts d))
 
--- the expression of a text is that with white space in front
+-- The expression of a text is the one with leading white space.
 expression_past : (b : ℕ) (t : List ℕ) → is_white b ≡ true → expression_of (b ∷ t) ≡ expression_of t
 unfolding expression_of reads
 expression_past b t e = ap (λ (ts : Option (List Token)). parse_all_tokens itself (needs []) ts) (tokens_same b t e)
@@ -46,18 +46,18 @@ cond_past : (b : ℕ) (t : List ℕ) (table : List Argument) (rules : Rules) →
 unfolding expression_cond
 cond_past b t table rules e = ap (λ (o : Option Expression). tree_cond_if o table rules) (expression_past b t e)
 
--- and so is its one name
+-- The sole name of a text is the one with leading white space.
 name_past : (b : ℕ) (t : List ℕ) → is_white b ≡ true → sole_name (b ∷ t) ≡ sole_name t
 name_past b t e = ap (λ (w : List ℕ). if is_identifier (leading_word w) && are_white (skip_word w) then Some (leading_word w) else None) (past_one b t e)
 
--- what makes a condition true is the same with white space in front
+-- The expression that a condition is is the same with leading white space.
 pub condition_past : (p : Test) (b : ℕ) (t : List ℕ) → is_white b ≡ true → condition_by_test p (b ∷ t) ≡ condition_by_test p t
 condition_past Nonzero b t e = expression_past b t e
 condition_past Defined b t e = ap (λ (o : Option (List ℕ)). option_map (λ n. is_defined n false) o) (name_past b t e)
 condition_past Undefined b t e = ap (λ (o : Option (List ℕ)). option_map (λ n. unary Not (is_defined n false)) o) (name_past b t e)
 condition_past Nothing b t e = refl
 
--- and so is what is decided of it
+-- The decision is the same with leading white space.
 pub decided_past : (p : Test) (b : ℕ) (t : List ℕ) (table : List Argument) (rules : Rules) → is_white b ≡ true → decision_by_test p (b ∷ t) table rules ≡ decision_by_test p t table rules
 decided_past Nonzero b t table rules e = ap (λ (c : Cond). record { cond = c; ignoring = false }) (cond_past b t table rules e)
 decided_past Defined b t table rules e = ap (λ (o : Option (List ℕ)). ifdef_decision o table) (name_past b t e)

@@ -1,4 +1,4 @@
--- What is known under `-K` is known without, and is the same.
+-- Strict: a value that is known under `-K` is known without it, and is the same.
 use Rattle.std.proofs.Common.{◌≡◌, ◌≢◌, List, Bool, true, false, not, ◌||◌, Option, Some, None, if◌then◌else◌, ℤ, refl, ◌∙◌, ap, ap₂}
 use Rattle.std.proofs.lemmas.Option.{none-some}
 use Rattle.ud_model.specs.conditions.Table.{Argument}
@@ -9,7 +9,7 @@ use Rattle.ud_model.specs.declared.cond.Cond.{Cond}
 use Rattle.ud_model.specs.declared.cond.Cond.TheVariants.{Unknown}
 use Rattle.ud_model.specs.declared.operator.Operator.{Operator}
 
--- a known number stays known
+-- A known number stays known.
 abbrev Keeps : Option ℤ → Option ℤ → Type 0
 Keeps a b = (z : ℤ) → a ≡ Some z → b ≡ Some z
 
@@ -33,7 +33,7 @@ module _ (table : List Argument) where
       combine_keeps u o (number_of table true u a) (number_of table true u b) (number_of table false u a) (number_of table false u b) (number_keeps u a) (number_keeps u b) z h
   number_keeps u (parens a) z h = number_keeps u a z h
 
-  -- the value of an expression
+  -- The value of an expression stays known.
   pub value_keeps : (e : Expression) → Keeps (value_of table true e) (value_of table false e)
   value_keeps e = number_keeps (has_unsigned table e) e
 
@@ -45,7 +45,7 @@ module _ (table : List Argument) where
   unless_keeps true a b h n = refl
   unless_keeps false a b h n = h n
 
-  -- and a condition
+  -- A decided condition stays decided alike.
   pub cond_keeps : (e : Expression) (k : Bool) → tree_cond e table (record { constants = k; strict = true }) ≢ Unknown →
       tree_cond e table (record { constants = k; strict = false }) ≡ tree_cond e table (record { constants = k; strict = true })
   cond_keeps e k n =

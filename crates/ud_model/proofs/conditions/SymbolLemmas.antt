@@ -1,7 +1,8 @@
--- Symbols: where the value of a name ends depends on what the table says of names, and not on how long it is.
+-- Symbols: the text to which a name resolves depends on the entries of names, and not on how long
+-- the table is.
 --
--- A way that ends needn't come to a name twice. So after its first name it goes over the arguments that name another, and
--- these are fewer.
+-- A path that ends needn't come to a name twice. So after its first name it goes over the arguments
+-- that name another, and these are fewer.
 use Rattle.std.proofs.Common.{◌≡◌, ℕ, zero, suc, ◌≤◌, ◌<◌, List, [], ◌∷◌, length, Bool, true, false, if◌then◌else◌, Option, Some, None, bytes_eq, refl, sym, ◌∙◌, ap, subst, ◌⊎◌, inl, inr, arith}
 use Rattle.std.proofs.lemmas.Slice.Eq.{bytes_eq-Decides}
 use Rattle.std.proofs.lemmas.Option.{none-some, same_Some}
@@ -9,11 +10,11 @@ use Rattle.ud_model.specs.text.Bytes.{is_identifier}
 use Rattle.ud_model.specs.conditions.Table.{Argument, Entry, entry_from, entry_in}
 use Rattle.ud_model.specs.conditions.Symbols.{text_in, defined_text, ResolvesTo, at_text, by_name, on_text, resolve_within, resolve}
 
--- the tables say the same of every name
+-- The tables have the same entry for every name.
 abbrev pub SaySame : List Argument → List Argument → Type 0
 SaySame t u = (n : List ℕ) → entry_in t n ≡ entry_in u n
 
--- a step: the text of a name is an end, or a name from which the way goes on
+-- A step: the text of a name is the end, or a name from which the path goes on.
 pub record Goes (t : List Argument) (k : ℕ) (n v : List ℕ) : Type 0 where
   pub text : List ℕ
   pub says : defined_text t n ≡ Some text
@@ -28,7 +29,7 @@ goes_on : (t : List Argument) (k : ℕ) (n v : List ℕ) (o : Option (List ℕ))
 goes_on t k n v None d e = absurd (none-some v e)
 goes_on t k n v (Some w) d e = record { text = w; says = d; on = goes_by (λ x. resolve_within k t x) (is_identifier w) w v e }
 
--- the first step of a way that ends
+-- The first step of a path that ends.
 pub goes : (t : List Argument) (k : ℕ) (n v : List ℕ) → resolve_within (suc k) t n ≡ Some v → Goes t k n v
 goes t k n v e = goes_on t k n v (defined_text t n) refl e
 
@@ -38,19 +39,19 @@ if_end f b w e = rw e
 if_name : (f : List ℕ → Option (List ℕ)) (b : Bool) (w : List ℕ) → b ≡ true → (if b then f w else Some w) ≡ f w
 if_name f b w e = rw e
 
--- the text is an end
+-- The text is the end.
 pub ends_here : (t : List Argument) (k : ℕ) (n w : List ℕ) → defined_text t n ≡ Some w → is_identifier w ≡ false → resolve_within (suc k) t n ≡ Some w
 ends_here t k n w d e = ap (on_text (λ x. resolve_within k t x)) d ∙ if_end (λ x. resolve_within k t x) (is_identifier w) w e
 
--- the way goes on from the text
+-- The path goes on from the text.
 pub ends_behind : (t : List Argument) (k : ℕ) (n w : List ℕ) → defined_text t n ≡ Some w → is_identifier w ≡ true → resolve_within (suc k) t n ≡ resolve_within k t w
 ends_behind t k n w d e = ap (on_text (λ x. resolve_within k t x)) d ∙ if_name (λ x. resolve_within k t x) (is_identifier w) w e
 
--- the way on which `u` goes as `t` does, wherever `t` has a text
+-- The table `u` has each text that the table `t` has for a name.
 abbrev pub Follows : List Argument → List Argument → Type 0
 Follows t u = (n w : List ℕ) → defined_text t n ≡ Some w → defined_text u n ≡ Some w
 
--- a step is taken over a table that follows, where the way after it is
+-- A step is taken over a table that follows, if the path after it is.
 step_follows : (j k : ℕ) (t u : List Argument) → Follows t u → (n v : List ℕ) → Goes t j n v →
     ((w : List ℕ) → resolve_within j t w ≡ Some v → resolve_within k u w ≡ Some v) → resolve_within (suc k) u n ≡ Some v
 step_follows j k t u f n v g further = by g.on
@@ -59,13 +60,13 @@ step_follows j k t u f n v g further = by g.on
     by (inl p) = ends_here u k n g.text (f n g.text g.says) p.0 ∙ ap Some p.1
     by (inr p) = ends_behind u k n g.text (f n g.text g.says) p.0 ∙ further g.text p.1
 
--- more steps, over a table that follows, come to the same end
+-- More steps, over a table that follows, come to the same end.
 pub ends_more : (j k : ℕ) (t u : List Argument) → Follows t u → (n v : List ℕ) → j ≤ k → resolve_within j t n ≡ Some v → resolve_within k u n ≡ Some v
 ends_more zero k t u f n v l e = absurd (none-some v e)
 ends_more (suc j) zero t u f n v l e = absurd (omega arith)
 ends_more (suc j) (suc k) t u f n v l e = step_follows j k t u f n v (goes t j n v e) (λ w h. ends_more j k t u f w v (omega arith) h)
 
--- the arguments that name another
+-- The arguments that name another.
 abbrev pub without : List ℕ → List Argument → List Argument
 without n [] = []
 without n (a ∷ t) = if bytes_eq a.name n then without n t else a ∷ without n t
@@ -78,7 +79,7 @@ without_other_by n m d a t e before true h =
     before e ∙ ap (λ (b : Bool). entry_from (if b then Some a.entry else e) t m) (sym q)
 without_other_by n m d a t e before false h = before (if bytes_eq a.name m then Some a.entry else e)
 
--- they say of each other name what all say
+-- These arguments have the entry of each other name.
 without_other : (n m : List ℕ) → bytes_eq n m ≡ false → (t : List Argument) (e : Option Entry) → entry_from e (without n t) m ≡ entry_from e t m
 without_other n m d [] e = refl
 without_other n m d (a ∷ t) e = without_other_by n m d a t e (λ f. without_other n m d t f) (bytes_eq a.name n) refl
@@ -88,7 +89,7 @@ without_none_by : (n : List ℕ) (a : Argument) (t : List Argument) → entry_in
 without_none_by n a t before true h = before
 without_none_by n a t before false h = ap (λ (b : Bool). entry_from (if b then Some a.entry else None) (without n t) n) h ∙ before
 
--- and nothing of the name
+-- They have no entry for the name.
 without_none : (n : List ℕ) (t : List Argument) → entry_in (without n t) n ≡ None
 without_none n [] = refl
 without_none n (a ∷ t) = without_none_by n a t (without_none n t) (bytes_eq a.name n) refl
@@ -98,7 +99,7 @@ most_by : (n : List ℕ) (a : Argument) (t : List Argument) → length (without 
 most_by n a t h true = omega arith
 most_by n a t h false = omega arith
 
--- they are no more
+-- They are no more than all.
 without_most : (n : List ℕ) (t : List Argument) → length (without n t) ≤ length t
 without_most n [] = omega arith
 without_most n (a ∷ t) = most_by n a t (without_most n t) (bytes_eq a.name n)
@@ -110,13 +111,13 @@ fewer_by : (n : List ℕ) (a : Argument) (t : List Argument) (e : Option Entry) 
 fewer_by n a t e x l before true h = inr (omega arith)
 fewer_by n a t e x l before false h = elim (before e h) [ inl p ↦ inl p | inr q ↦ inr (omega arith) ]
 
--- and fewer where the name is listed
+-- They are fewer if the name is listed.
 without_fewer : (n : List ℕ) (t : List Argument) (e : Option Entry) (x : Entry) → entry_from e t n ≡ Some x →
     (e ≡ Some x) ⊎ (length (without n t) < length t)
 without_fewer n [] e x h = inl h
 without_fewer n (a ∷ t) e x h = fewer_by n a t e x (without_most n t) (λ f. without_fewer n t f x) (bytes_eq a.name n) h
 
--- a name with a text is listed
+-- A name with a text is listed.
 listed_by : (o : Option Entry) (w : List ℕ) → text_in o ≡ Some w → (x : Entry) × (o ≡ Some x)
 listed_by None w e = absurd (none-some w e)
 listed_by (Some x) w e = (x, refl)
@@ -133,11 +134,11 @@ follows_by n t m w true q d =
     absurd (none-some w (sym (ap text_in h) ∙ d))
 follows_by n t m w false q d = ap text_in (sym (without_other n m q t None)) ∙ d
 
--- all the arguments follow those that name another
+-- The table of all arguments follows that of those that name another.
 follows : (n : List ℕ) (t : List Argument) → Follows (without n t) t
 follows n t m w d = follows_by n t m w (bytes_eq n m) refl d
 
--- a way of so many steps that ends avoids a name, or what is left of it begins there
+-- A path of so many steps that ends avoids a name, or its rest begins there.
 abbrev pub Splits : ℕ → List Argument → List ℕ → List ℕ → List ℕ → Type 0
 Splits k t n w v = (resolve_within k (without n t) w ≡ Some v) ⊎ ((j : ℕ) × (j ≤ k) × (resolve_within j t n ≡ Some v))
 
@@ -164,18 +165,18 @@ split : (k : ℕ) (t : List Argument) (n w v : List ℕ) → resolve_within k t 
 split zero t n w v e = absurd (none-some v e)
 split (suc k) t n w v e = split_by k t n w v (bytes_eq n w) refl e (λ x h. split k t n x v h)
 
--- a way that ends does so in as many steps as there are arguments
+-- A path that ends does so in as many steps as there are arguments.
 abbrev pub Soon : List Argument → Type 0
 Soon t = (k : ℕ) (n v : List ℕ) → resolve_within k t n ≡ Some v → resolve_within (length t) t n ≡ Some v
 
--- at most so many steps
+-- The path ends in at most so many steps.
 abbrev pub SoonWithin : ℕ → List Argument → Type 0
 SoonWithin most t = (k : ℕ) (n v : List ℕ) → k ≤ most → resolve_within k t n ≡ Some v → resolve_within (length t) t n ≡ Some v
 
 same_follows : (t : List Argument) → Follows t t
 same_follows t n w d = d
 
--- one step, and then a way over fewer arguments
+-- One step, and then a path over fewer arguments.
 soon_behind : (t : List Argument) (n w v : List ℕ) → defined_text t n ≡ Some w → is_identifier w ≡ true → resolve_within (length (without n t)) (without n t) w ≡ Some v →
     resolve_within (length t) t n ≡ Some v
 soon_behind t n w v d i e =
@@ -209,7 +210,7 @@ soon_below zero t l k n v e =
 soon_below (suc most) t l k n v e =
     soon_within t (λ m w d. let q : length (without m t) < length t = fewer m w t d in soon_below most (without m t) (omega arith)) k k n v (omega arith) e
 
--- a way that ends does so in as many steps as there are arguments
+-- A path that ends does so in as many steps as there are arguments.
 pub ends_soon : (t : List Argument) → Soon t
 ends_soon t = soon_below (length t) t (omega arith)
 
@@ -225,16 +226,16 @@ same_by (Some x) p f g = sym (f x refl)
 same_by None None f g = refl
 same_by None (Some x) f g = g x refl
 
--- tables that say the same of every name give a name's value the same end
+-- Tables with the same entry for every name resolve a name to the same text.
 pub end_same : (t u : List Argument) → SaySame t u → (n : List ℕ) → resolve t n ≡ resolve u n
 end_same t u f n = same_by (resolve t n) (resolve u n) (ends_over t u f n) (ends_over u t (λ m. sym (f m)) n)
 
--- a way that ends has so many steps
+-- A path that ends has a number of steps.
 steps : (t : List Argument) (n v : List ℕ) → ResolvesTo t n v → (k : ℕ) × (resolve_within k t n ≡ Some v)
 steps t _ _ (at_text n v d i) = (1, ends_here t 0 n v d i)
 steps t _ _ (by_name n m v d i e) = let s : (k : ℕ) × (resolve_within k t m ≡ Some v) = steps t m v e in (suc s.0, ends_behind t s.0 n m d i ∙ s.1)
 
--- the computed end is the one at which the value ends
+-- The computed text is the one to which a name resolves.
 pub end_found : (t : List Argument) (n v : List ℕ) → ResolvesTo t n v → resolve t n ≡ Some v
 unfolding resolve
 end_found t n v h = let s : (k : ℕ) × (resolve_within k t n ≡ Some v) = steps t n v h in ends_soon t s.0 n v s.1
@@ -250,7 +251,7 @@ ends_at : (t : List Argument) (k : ℕ) (n v : List ℕ) → resolve_within k t 
 ends_at t zero n v e = absurd (none-some v e)
 ends_at t (suc k) n v e = ends_by t k n v (λ w h. ends_at t k w v h) (goes t k n v e)
 
--- and the value ends where the computed end is
+-- A name resolves to the computed text.
 pub end_is : (t : List Argument) (n v : List ℕ) → resolve t n ≡ Some v → ResolvesTo t n v
 unfolding resolve
 end_is t n v e = ends_at t (length t) n v e

@@ -1,4 +1,5 @@
--- Tokens: the tokens that are computed of a text are those of the relation, since each token has a byte at least.
+-- Tokens: the computed tokens of a text are those of the relation, since each token has a byte at
+-- least.
 use Rattle.std.proofs.Common.{◌≡◌, ℕ, zero, suc, ◌<◌, ◌≤◌, ◌==◌, List, [], ◌∷◌, length, drop, slice_index, Bool, true, false, not, ◌&&◌, if◌then◌else◌, Option, Some, None, bytes_eq, codes, option_map, refl, sym, ◌∙◌, ap, subst, arith, length-drop}
 use Rattle.std.proofs.lemmas.Option.{none-some, same_Some}
 use Rattle.ud_model.specs.text.Bytes.{is_white, is_digit, is_word_byte, skip_white, leading_word, skip_word}
@@ -8,13 +9,13 @@ use Rattle.ud_model.specs.aids.Parsing.{prepend_token, tokens_in, tokens_of}
 use Rattle.ud_model.specs.declared.operator.Operator.{Operator}
 use Rattle.ud_model.specs.declared.operator.Operator.TheVariants.{Or, And, BitOr, BitAnd, NotEqual, Less, LessEqual, Greater, GreaterEqual, Not}
 
--- what follows the token has fewer bytes than k
+-- The rest after the token has fewer bytes than `k`.
 abbrev pub Shorter : ℕ → NextToken → Type 0
 Shorter k at_end = Unit {0}
 Shorter k unreadable = Unit {0}
 Shorter k (found t rest) = length rest < k
 
--- what is left has no more bytes than k
+-- The rest has no more bytes than `k`.
 abbrev pub Within : ℕ → Option (List ℕ) → Type 0
 Within k None = Unit {0}
 Within k (Some rest) = length rest ≤ k
@@ -123,11 +124,11 @@ next_shorter : (text : List ℕ) → Shorter (length text) (next_token text)
 unfolding next_token
 next_shorter text = shorter_more (length (skip_white text)) (length text) (leading_token (skip_white text)) (past_white_most text) (front_shorter (skip_white text))
 
--- what follows a token is shorter than the text
+-- The rest after a token is shorter than the text.
 pub shorter : (text rest : List ℕ) (t : Token) → next_token text ≡ found t rest → length rest < length text
 shorter text rest t e = subst (λ x. Shorter (length text) x) e (next_shorter text)
 
--- the tokens of a text are found with as many steps as it has bytes, and one
+-- The tokens of a text are found in as many steps as it has bytes, and one more.
 pub tokens_enough : (ts : List Token) (n : ℕ) (text : List ℕ) → length text < n → AreTokens text ts → tokens_in n text ≡ Some ts
 tokens_enough ts zero text l p = absurd (omega arith)
 tokens_enough [] (suc n) text l p = ap (prepend_token (λ rest. tokens_in n rest)) p
@@ -147,17 +148,17 @@ cut_tokens n text ts (found t rest) d f e =
     let q : (us : List Token) × (tokens_in n rest ≡ Some us) × (t ∷ us ≡ ts) = tail_is t (tokens_in n rest) ts e in
     subst (λ us. AreTokens text us) q.2 (rest, d, f rest q.0 q.1)
 
--- tokens that are found are those of the text
+-- Tokens that are found are those of the text.
 pub tokens_found : (n : ℕ) (text : List ℕ) (ts : List Token) → tokens_in n text ≡ Some ts → AreTokens text ts
 tokens_found zero text ts e = absurd (none-some ts e)
 tokens_found (suc n) text ts e = cut_tokens n text ts (next_token text) refl (tokens_found n) e
 
--- the computed tokens are those of the relation
+-- The computed tokens are those of the relation.
 pub tokens_of_only : (text : List ℕ) (ts : List Token) → AreTokens text ts → tokens_of text ≡ Some ts
 unfolding tokens_of
 tokens_of_only text ts p = tokens_enough ts (suc (length text)) text (omega arith) p
 
--- the tokens that are computed are those of the text
+-- The computed tokens are those of the text.
 pub tokens_of_are : (text : List ℕ) (ts : List Token) → tokens_of text ≡ Some ts → AreTokens text ts
 unfolding tokens_of
 tokens_of_are text ts e = tokens_found (suc (length text)) text ts e

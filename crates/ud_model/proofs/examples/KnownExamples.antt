@@ -13,7 +13,7 @@ use Rattle.ud_model.specs.conditions.CValues.{Number, signed, unsigned, plain, b
 use Rattle.ud_model.specs.declared.operator.Operator.TheVariants.{Or, And, BitAnd, Equal, Less, Plus, Minus, Over, Remainder, Not, Complement}
 use Rattle.ud_model.proofs.examples.ExpressionExamples.{five, without}
 
--- the text is written for a tree whose value is known, and C may give it this value
+-- The text has a tree whose value is known, and C may give it this value.
 pub record Shown (table : List Argument) (text : List ℕ) (n : ℤ) : Type 0 where
   pub tree : Expression
   pub value : Number
@@ -22,25 +22,25 @@ pub record Shown (table : List Argument) (text : List ℕ) (n : ℤ) : Type 0 wh
   pub given : IsCValue table tree value
 
 module _ (u : Bool) where
-  -- A is 5
+  -- A is 5.
   pub a_is_five : CValue five u (named (codes "A") false) (signed (pos 5))
   unfolding suffix_sign name_value name_has_u resolve
   a_is_five = of_known_name {z = pos 5} refl
 
-  -- an undefined A is 0
+  -- An undefined A is 0.
   pub a_is_nought : CValue without u (named (codes "A") false) (signed (pos 0))
   unfolding suffix_sign name_value name_has_u resolve
   a_is_nought = of_known_name {z = pos 0} refl
 
-  -- X may be 7
+  -- X may be 7.
   x_is_seven : (table : List Argument) → name_value table u (codes "X") ≡ None → CValue table u (named (codes "X") false) (signed (pos 7))
   x_is_seven table e = of_open_name e (record { sfits = omega arith })
 
--- a constant without a suffix
+-- A constant without a suffix.
 number_is : (table : List Argument) (u : Bool) (w : List ℕ) → has_u w ≡ false → constant_number w < 2 ^ 63 → CValue table u (constant w) (signed (pos (constant_number w)))
 number_is table u w e l = of_constant (plain e l)
 
--- the operands A and X, and a constant
+-- The operands A and X, and a constant.
 abbrev a : Expression
 a = named (codes "A") false
 
@@ -50,7 +50,7 @@ x = named (codes "X") false
 abbrev c : List ℕ → Expression
 c w = constant w
 
--- -5 / 2 is -2
+-- -5 / 2 is -2.
 pub half_of_minus_five : Shown five (codes "-A / 2 == -2") (pos 1)
 unfolding expression_of reads tokens_of next_token suffix_sign apply_binary_known apply_unary_known name_value name_has_u resolve defined_value
 half_of_minus_five = record {
@@ -61,7 +61,7 @@ half_of_minus_five = record {
   given = (of_binary (of_binary (of_unary (a_is_five false) (record { sfits = omega arith }, refl)) (number_is five false (codes "2") refl (omega arith)) ((λ h. cc), (record { sfits = omega arith }, refl))) (of_unary (number_is five false (codes "2") refl (omega arith)) (record { sfits = omega arith }, refl)) (inl (refl, refl)));
 }
 
--- -5 % 2 is -1
+-- -5 % 2 is -1.
 pub remainder_of_minus_five : Shown five (codes "-A % 2 == -1") (pos 1)
 unfolding expression_of reads tokens_of next_token suffix_sign apply_binary_known apply_unary_known name_value name_has_u resolve defined_value
 remainder_of_minus_five = record {
@@ -72,7 +72,7 @@ remainder_of_minus_five = record {
   given = (of_binary (of_binary (of_unary (a_is_five false) (record { sfits = omega arith }, refl)) (number_is five false (codes "2") refl (omega arith)) ((λ h. cc), record { sfits = omega arith }, refl)) (of_unary (number_is five false (codes "1") refl (omega arith)) (record { sfits = omega arith }, refl)) (inl (refl, refl)));
 }
 
--- the bits of 5 turned are those of -6
+-- The complement of the bits of 5 has those of -6.
 pub complement_of_five : Shown five (codes "~A == -6") (pos 1)
 unfolding expression_of reads tokens_of next_token suffix_sign apply_binary_known apply_unary_known name_value name_has_u resolve defined_value
 complement_of_five = record {
@@ -83,7 +83,7 @@ complement_of_five = record {
   given = (of_binary (of_unary (a_is_five false) refl) (of_unary (number_is five false (codes "6") refl (omega arith)) (record { sfits = omega arith }, refl)) (inl (refl, refl)));
 }
 
--- 8 + 5 is 13
+-- 8 + 5 is 13.
 pub octal_sum : Shown five (codes "010 + A == 13") (pos 1)
 unfolding expression_of reads tokens_of next_token suffix_sign apply_binary_known apply_unary_known name_value name_has_u resolve defined_value
 octal_sum = record {
@@ -94,7 +94,7 @@ octal_sum = record {
   given = (of_binary (of_binary (number_is five false (codes "010") refl (omega arith)) (a_is_five false) (record { sfits = omega arith }, refl)) (number_is five false (codes "13") refl (omega arith)) (inl (refl, refl)));
 }
 
--- `==` gives 1, and 5 & 1 is 1
+-- `==` gives 1, and 5 & 1 is 1.
 pub bit_of_a_comparison : Shown five (codes "A & 4 == 4") (pos 1)
 unfolding expression_of reads tokens_of next_token suffix_sign apply_binary_known apply_unary_known name_value name_has_u resolve defined_value
 bit_of_a_comparison = record {
@@ -105,7 +105,7 @@ bit_of_a_comparison = record {
   given = (of_binary (a_is_five false) (of_binary (number_is five false (codes "4") refl (omega arith)) (number_is five false (codes "4") refl (omega arith)) (inl (refl, refl))) refl);
 }
 
--- 1 < 5 is 1, and 1 < 2 is 1
+-- 1 < 5 is 1, and 1 < 2 is 1.
 pub comparisons_from_the_left : Shown five (codes "1 < A < 2") (pos 1)
 unfolding expression_of reads tokens_of next_token suffix_sign apply_binary_known apply_unary_known name_value name_has_u resolve defined_value
 comparisons_from_the_left = record {
@@ -116,7 +116,7 @@ comparisons_from_the_left = record {
   given = (of_binary (of_binary (number_is five false (codes "1") refl (omega arith)) (a_is_five false) (inl (record { lt = tt }, refl))) (number_is five false (codes "2") refl (omega arith)) (inl (record { lt = tt }, refl)));
 }
 
--- the least number of intmax_t
+-- The least number of intmax_t.
 pub least_number : Shown five (codes "-9223372036854775807 - 1 < A") (pos 1)
 unfolding expression_of reads tokens_of next_token suffix_sign apply_binary_known apply_unary_known name_value name_has_u resolve defined_value
 least_number = record {
@@ -127,7 +127,7 @@ least_number = record {
   given = (of_binary (of_binary (of_unary (number_is five false (codes "9223372036854775807") refl (omega arith)) (record { sfits = omega arith }, refl)) (number_is five false (codes "1") refl (omega arith)) (record { sfits = omega arith }, refl)) (a_is_five false) (inl (record { lt = tt }, refl)));
 }
 
--- beside `0u` -6 is 2^64 - 6, which isn't below 0; so the right operand counts
+-- Beside `0u` -6 is 2^64 - 6, which isn't below 0; so the right operand counts.
 pub or_by_its_right : Shown five (codes "~A < 0u || A") (pos 1)
 unfolding expression_of reads tokens_of next_token suffix_sign apply_binary_known apply_unary_known name_value name_has_u resolve defined_value
 or_by_its_right = record {
@@ -138,7 +138,7 @@ or_by_its_right = record {
   given = of_or_both {x = signed (pos 0)} (of_binary {x = signed (negsuc 5)} {y = unsigned 0} (of_unary (a_is_five true) refl) (of_constant (by_suffix refl (omega arith))) (inr ((λ h. omega arith), refl))) refl (a_is_five true) (inl ((λ h. cc), refl));
 }
 
--- X may be 7; what decides is that A isn't 0
+-- X may be 7; that A isn't 0 decides.
 pub and_by_its_right : Shown five (codes "X && !A") (pos 0)
 unfolding expression_of reads tokens_of next_token suffix_sign apply_binary_known apply_unary_known name_value name_has_u resolve defined_value
 and_by_its_right = record {
@@ -149,7 +149,7 @@ and_by_its_right = record {
   given = of_and_both (x_is_seven false five refl) (λ h. cc) (of_unary (a_is_five false) (inr ((λ h. cc), refl))) (inr ((λ h. h refl), refl));
 }
 
--- where A is undefined, X isn't looked at
+-- If A is undefined, X isn't evaluated.
 pub and_by_its_left : Shown without (codes "A && X") (pos 0)
 unfolding expression_of reads tokens_of next_token suffix_sign apply_binary_known apply_unary_known name_value name_has_u resolve defined_value
 and_by_its_left = record {
@@ -160,7 +160,7 @@ and_by_its_left = record {
   given = of_and_left (a_is_nought false) refl;
 }
 
--- 5 - 5u is 0, as 2^64 is
+-- 5 - 5u is 0, as 2^64 is.
 pub difference_beside_u : Shown five (codes "A - 5u") (pos 0)
 unfolding expression_of reads tokens_of next_token suffix_sign apply_binary_known apply_unary_known name_value name_has_u resolve defined_value
 difference_beside_u = record {
@@ -171,7 +171,7 @@ difference_beside_u = record {
   given = of_binary {x = signed (pos 5)} {y = unsigned 5} (a_is_five true) (of_constant (by_suffix refl (omega arith))) refl;
 }
 
--- whether X is defined isn't asked where A is
+-- If A is defined, it doesn't matter whether X is.
 pub defined_or_not : Shown five (codes "defined(X) || defined A") (pos 1)
 unfolding expression_of reads tokens_of next_token suffix_sign apply_binary_known apply_unary_known name_value name_has_u resolve defined_value
 defined_or_not = record {

@@ -1,4 +1,4 @@
--- Examples: what is seen of lines in C mode, computed by the checker.
+-- Examples: the scans of lines in C mode, computed by the checker.
 use Rattle.std.proofs.Common.{◌≡◌, refl, ℕ, List, [], ◌∷◌, codes, map, true, false}
 use Rattle.ud_model.specs.text.Lines.{Line}
 use Rattle.ud_model.specs.text.Scans.{Reading, plain_scan}
@@ -7,15 +7,15 @@ use Rattle.ud_model.specs.text.Scanning.{joins, scan_after_run, scan_after, next
 use Rattle.ud_model.specs.declared.kind.Mode.TheVariants.{C, Plain}
 use Rattle.ud_model.specs.declared.kind.CommentAt.TheVariants.{Outside, InLine, InBlock}
 
--- the line with this body and a line feed
+-- The line with this body and a newline.
 abbrev pub fed : List ℕ → Line
 fed body = record { body = body; ending = codes "\n"; number = 1 }
 
--- the readings of the line with this body, in C mode
+-- The readings of the line with this body, in C mode.
 abbrev pub behind_line : List ℕ → List Reading
 behind_line body = next_reading [] C (fed body) ∷ []
 
--- a block comment is masked, and joins the next line where it is left open
+-- A block comment is masked, and joins the next line if it is left open.
 pub open_comment_is_masked : scan_after [] C (fed (codes "x /* c")) ≡ record {
   masked = codes "x     ";
   fresh = true;
@@ -27,7 +27,7 @@ pub open_comment_is_masked : scan_after [] C (fed (codes "x /* c")) ≡ record {
 unfolding scan_after_run joins kind_at_end lex lex_from lexeme_at
 open_comment_is_masked = refl
 
--- the line that closes the comment is joined to the line before, whose bytes make it stale
+-- The line that closes the comment is joined to the line before, whose bytes make it stale.
 pub closed_comment_is_stale : scan_after (behind_line (codes "x /* c")) C (fed (codes "*/ #if A")) ≡ record {
   masked = codes "   #if A";
   fresh = false;
@@ -39,7 +39,7 @@ pub closed_comment_is_stale : scan_after (behind_line (codes "x /* c")) C (fed (
 unfolding scan_after_run joins kind_at_end lex lex_from lexeme_at
 closed_comment_is_stale = refl
 
--- a slash before a splice begins a comment once the next line shows it, so that line is fresh
+-- A slash before a splice begins a comment once the next line shows it, so that line is fresh.
 pub comment_across_a_splice : scan_after (behind_line (codes "/\\")) C (fed (codes "* c */ #ifdef A")) ≡ record {
   masked = codes "       #ifdef A";
   fresh = true;
@@ -51,7 +51,8 @@ pub comment_across_a_splice : scan_after (behind_line (codes "/\\")) C (fed (cod
 unfolding scan_after_run joins kind_at_end lex lex_from lexeme_at
 comment_across_a_splice = refl
 
--- where the next line doesn't go on with a comment, the slash is a byte of its own, and that line is stale
+-- If the next line doesn't go on with a comment, the slash is a byte of its own, and that line is
+-- stale.
 pub slash_across_a_splice : scan_after (behind_line (codes "/\\")) C (fed (codes " #if A")) ≡ record {
   masked = codes " #if A";
   fresh = false;
@@ -63,7 +64,7 @@ pub slash_across_a_splice : scan_after (behind_line (codes "/\\")) C (fed (codes
 unfolding scan_after_run joins kind_at_end lex lex_from lexeme_at
 slash_across_a_splice = refl
 
--- before the splice the slash is seen as it is
+-- Before the splice the slash is shown as it is.
 pub slash_before_a_splice : scan_after [] C (fed (codes "/\\")) ≡ record {
   masked = codes "/";
   fresh = true;
@@ -75,7 +76,7 @@ pub slash_before_a_splice : scan_after [] C (fed (codes "/\\")) ≡ record {
 unfolding scan_after_run joins kind_at_end lex lex_from lexeme_at
 slash_before_a_splice = refl
 
--- no comment begins in a literal, and a literal that isn't closed ends with its line
+-- No comment begins in a literal, and a literal that isn't closed ends with its line.
 pub literal_without_end : scan_after [] C (fed (codes "\"/*")) ≡ record {
   masked = codes "\"/*";
   fresh = true;
@@ -87,7 +88,7 @@ pub literal_without_end : scan_after [] C (fed (codes "\"/*")) ≡ record {
 unfolding scan_after_run joins kind_at_end lex lex_from lexeme_at
 literal_without_end = refl
 
--- a splice carries a line comment on
+-- A splice continues a line comment.
 pub line_comment_is_carried : scan_after [] C (fed (codes "// c \\")) ≡ record {
   masked = codes "     ";
   fresh = true;
@@ -99,22 +100,22 @@ pub line_comment_is_carried : scan_after [] C (fed (codes "// c \\")) ≡ record
 unfolding scan_after_run joins kind_at_end lex lex_from lexeme_at
 line_comment_is_carried = refl
 
--- `/*/` doesn't close the comment that it begins, also across a splice
+-- `/*/` doesn't close the comment that it begins, also across a splice.
 pub slash_star_slash : (lex (codes "/*/") ≡ map (λ b. record { byte = b; kind = block_comment }) (codes "/*/"))
     × ((scan_after (behind_line (codes "/*\\")) C (fed (codes "/"))).comment ≡ InBlock)
 unfolding scan_after_run joins kind_at_end lex lex_from lexeme_at
 slash_star_slash = (refl, refl)
 
--- a backslash before a splice passes over the first byte of the next line
+-- A backslash before a splice escapes the first byte of the next line.
 pub backslash_across_a_splice : (scan_after (behind_line (codes "\"a\\\\")) C (fed (codes "\" /*"))).masked ≡ codes "\" /*"
 unfolding scan_after_run joins kind_at_end lex lex_from lexeme_at
 backslash_across_a_splice = refl
 
--- after a line in plain mode C mode starts afresh
+-- After a line in plain mode C mode starts afresh.
 pub afresh_behind_plain : scan_after (next_reading [] Plain (fed (codes "/*")) ∷ []) C (fed (codes "a")) ≡ plain_scan (fed (codes "a"))
 unfolding scan_after_run joins kind_at_end lex lex_from lexeme_at
 afresh_behind_plain = refl
 
--- in plain mode a line is seen as it stands
+-- In plain mode a line is scanned as it is.
 pub plain_line : scan_after (behind_line (codes "/*")) Plain (fed (codes "*/ \\")) ≡ plain_scan (fed (codes "*/ \\"))
 plain_line = refl

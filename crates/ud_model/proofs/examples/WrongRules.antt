@@ -1,4 +1,5 @@
--- Wrong rules: what C gives where a tempting rule would say another number. Here such values are unknown.
+-- Wrong rules: the values that C gives where a tempting rule would give another number. Here such
+-- values are unknown.
 use Rattle.std.proofs.Common.{◌≡◌, ◌≢◌, refl, subst, ap, ℕ, ◌<◌, List, codes, Some, None, true, false, Bool, inr, arith, ℤ, pos, negsuc, unsigned_abs}
 use Rattle.std.proofs.lemmas.Bool.{false≢true}
 use Rattle.ud_model.specs.conditions.Table.{Argument}
@@ -13,7 +14,7 @@ use Rattle.ud_model.specs.declared.operator.Operator.TheVariants.{Less, Plus, Mi
 use Rattle.ud_model.proofs.examples.ExpressionExamples.{five}
 use Rattle.ud_model.proofs.examples.KnownExamples.{a_is_five}
 
--- a text whose value is unknown here, where C may give a number that isn't the tempting one
+-- A text whose value is unknown here, and to which C may give a number that isn't the tempting one.
 pub record Tempting (text : List ℕ) (tempting : ℤ) : Type 0 where
   pub tree : Expression
   pub value : Number
@@ -22,11 +23,11 @@ pub record Tempting (text : List ℕ) (tempting : ℤ) : Type 0 where
   pub given : IsCValue five tree value
   pub other : number value ≢ tempting
 
--- a constant
+-- A constant.
 abbrev c : List ℕ → Expression
 c w = constant w
 
--- beside `0u` the -6 is 2^64 - 6, which isn't below 0; compared as signed numbers it would be
+-- Beside `0u` the -6 is 2^64 - 6, which isn't below 0; compared as signed numbers it would be.
 pub signed_comparison : Tempting (codes "~A < 0u") (pos 1)
 unfolding expression_of reads tokens_of next_token suffix_sign apply_binary_known apply_unary_known name_value name_has_u resolve
 signed_comparison = record {
@@ -38,7 +39,7 @@ signed_comparison = record {
   other = λ h. let q : 0 ≡ 1 = ap unsigned_abs h in omega arith;
 }
 
--- the sum is 2^63; wrapped at 64 bits with a sign it would be -2^63
+-- The sum is 2^63; wrapped at 64 bits with a sign it would be -2^63.
 pub wrapping_sum : Tempting (codes "9223372036854775807u + 1") (negsuc 9223372036854775807)
 unfolding expression_of reads tokens_of next_token suffix_sign apply_binary_known apply_unary_known name_value name_has_u resolve
 wrapping_sum = record {
@@ -50,7 +51,7 @@ wrapping_sum = record {
   other = λ h. cc;
 }
 
--- the bits of 0u turned are 2^64-1; as a signed number -1
+-- The complement of the bits of 0u is 2^64-1; as a signed number it would be -1.
 pub complement_beside_u : Tempting (codes "~0u") (negsuc 0)
 unfolding expression_of reads tokens_of next_token suffix_sign apply_binary_known apply_unary_known name_value name_has_u resolve
 complement_beside_u = record {
@@ -62,7 +63,8 @@ complement_beside_u = record {
   other = λ h. cc;
 }
 
--- a hexadecimal constant above 2^63-1 is of the unsigned type; its bits as a signed number would be -1
+-- A hexadecimal constant above 2^63-1 is of the unsigned type; its bits as a signed number would be
+-- -1.
 pub hex_as_signed : Tempting (codes "0xFFFFFFFFFFFFFFFF") (negsuc 0)
 unfolding expression_of reads tokens_of next_token suffix_sign apply_binary_known apply_unary_known name_value name_has_u resolve
 hex_as_signed = record {
@@ -74,11 +76,11 @@ hex_as_signed = record {
   other = λ h. cc;
 }
 
--- -1 % 0
+-- -1 % 0.
 abbrev pub remainder_by_zero : Expression
 remainder_by_zero = binary Remainder (unary Minus (c (codes "1"))) (c (codes "0"))
 
--- it has no known value
+-- It has no known value.
 pub remainder_by_zero_unknown : (table : List Argument) (strict u : Bool) → number_of table strict u remainder_by_zero ≡ None
 unfolding apply_binary_known apply_unary_known
 remainder_by_zero_unknown table true true = refl
@@ -99,6 +101,6 @@ no_remainder (unsigned k) z g = let l : 0 < 0 = g.0 in omega arith
 nought_of : {table : List Argument} {u : Bool} {y : Number} → CValue table u (constant (codes "0")) y → y ≡ signed (pos 0)
 nought_of {y = y} (of_constant p) = is_nought y p
 
--- and no C value
+-- It has no C value.
 pub remainder_by_zero_none : (table : List Argument) (u : Bool) (z : Number) → CValue table u remainder_by_zero z → ⊥
 remainder_by_zero_none table u z (of_binary {x = k} {y = y} d f g) = no_remainder k z (subst (λ w. Gives Remainder k w z) (nought_of f) g)

@@ -1,4 +1,4 @@
--- Under `-b` each line of the output stands at the place of the line of which it is printed.
+-- Under `-b` each line of the output has the position of the line that it is the output for.
 use Rattle.std.proofs.Common.{◌≡◌, ◌≢◌, None, append-nil, ℕ, suc, List, [], ◌∷◌, ◌++◌, length, map, Bool, true, false, ◌⊎◌, inl, inr, Option, refl, sym, ◌∙◌, ap, ap₂, subst, arith}
 use Rattle.std.specs.List.{concat}
 use Rattle.ud_model.specs.text.Lines.{Line, line_at, lines_of, texts_of, numbered_from, ending_of, IsWhole, IsUnterminated, AreWhole, AreFormed, whole_lines, partial_line, last_line}
@@ -32,7 +32,7 @@ blank_piece true true before j = refl
 blank_piece false false before j = refl
 blank_piece false true before j = refl
 
--- under `-b` each line is printed by itself
+-- Under `-b` each line is printed by itself.
 pub blank_pieces : (c n : Bool) (before js : List Judged) → pieces_by (piece_after (record { blank = true; complement = c; renumber = n })) before js ≡ map (blanked c) js
 blank_pieces c n before [] = refl
 blank_pieces c n before (j ∷ js) = ap₂ (λ (p : List ℕ) (ps : List (List ℕ)). p ∷ ps) (blank_piece c n before j) (blank_pieces c n (before ++ j ∷ []) js)
@@ -46,7 +46,7 @@ goes_or_left ToIf = inr tt
 goes_or_left ToElse = inr tt
 goes_or_left ToEndif = inr tt
 
--- a line that is left is printed by its verdict
+-- A line that is left is printed by its verdict.
 left_alone : (v : Verdict) (k : Span) (l : Line) → IsLeft v → piece_alone true (record { line = l; verdict = v; keyword = k }) ≡ piece_by v k l
 left_alone Keep k l h = refl
 left_alone Remove k l h = absurd h
@@ -62,7 +62,7 @@ ending_whole : (e : List ℕ) → IsEnd e → IsWhole e
 ending_whole e (inl h) = (13 ∷ [], ((λ p. omega arith), tt), h)
 ending_whole e (inr h) = ([], tt, h)
 
--- what is printed of one line: a line with the same number and ending
+-- The output for one line: a line with the same number and ending.
 record Placed (j : Judged) (n : ℕ) (t : List ℕ) : Type 0 where
   pub ending : (line_at n (piece_alone true j)).ending ≡ ending_of t
   pub formed : IsWhole t → IsWhole (piece_alone true j)
@@ -79,7 +79,7 @@ placed : (j : Judged) (n : ℕ) (t : List ℕ) → j.line ≡ line_at n t → Is
 placed j n t e w =
     subst (λ (l : Line). Placed (record { line = l; verdict = j.verdict; keyword = j.keyword }) n t) (sym e) (placed_by j.verdict j.keyword n t (goes_or_left j.verdict) w)
 
--- these lines are printed of judged lines that begin with this number, each in its place
+-- The lines are the output for judged lines that begin with this number, each at its position.
 record Places (c : Bool) (js : List Judged) (n : ℕ) : Type 0 where
   pub pieces : List (List ℕ)
   pub formed : AreFormed pieces
@@ -110,7 +110,7 @@ whole_more c j js n t e w r =
 none_placed : (c : Bool) (n : ℕ) → Places c [] n
 none_placed c n = record { pieces = []; formed = tt; same = refl; places = no_line }
 
--- a last line without an ending
+-- The case of a last line without an ending.
 unended_placed : (c : Bool) (j : Judged) (n : ℕ) (t : List ℕ) → j.line ≡ line_at n t → IsUnterminated t → Places c (j ∷ []) n
 unended_placed c j n t e w = by_verdict (goes_or_left (complemented_if c j).verdict)
   where
@@ -161,7 +161,7 @@ formed_tail t (u ∷ ts) f = f.1
 formed_keep : (t u : List ℕ) (ts us : List (List ℕ)) → AreFormed (t ∷ u ∷ us) → AreFormed ts → AreFormed (t ∷ ts)
 formed_keep t u ts us f g = formed_more t ts f.0 g
 
--- a front of numbered lines
+-- A prefix of numbered lines is formed.
 pub front_formed : (n : ℕ) (us : List (List ℕ)) (ls later : List Line) → AreFormed us → numbered_from n us ≡ ls ++ later →
     (ts : List (List ℕ)) × AreFormed ts × (ls ≡ numbered_from n ts)
 front_formed n us [] later f e = ([], tt, refl)
@@ -174,7 +174,7 @@ front_formed n (u ∷ v ∷ us) (l ∷ ls) later f e =
     let p : l ≡ line_at n u = cc in
     (u ∷ r.0, formed_more u r.0 f.0 r.1, ap₂ (λ (k : Line) (ks : List Line). k ∷ ks) p r.2)
 
--- the lines that were read of a text are numbered from 1
+-- The lines that were read of a text are numbered from 1.
 pub lines_read : {o : Options} {input : List ℕ} {xs : List (Item Reading)} {t : Tree Reading} {f : Option Fault} → ReadsAs o input xs t f →
     (ts : List (List ℕ)) × AreFormed ts × (map line_of xs ≡ numbered_from 1 ts)
 lines_read {input = input} (stops xs t f s) = front_formed 1 (texts_of input) (map line_of xs) (s.faulty ∷ s.later) (lines_exist input).formed s.are
@@ -184,7 +184,7 @@ pub reads_lines : {o : Options} {input : List ℕ} {xs : List (Item Reading)} {t
 reads_lines (stops xs t f s) = sound_lines s.sound
 reads_lines (ends xs t g) = sound_lines g.sound
 
--- each judged line is the line that was read
+-- Each judged line is the line that was read.
 pub judged_read : {o : Options} {input : List ℕ} {xs : List (Item Reading)} {t : Tree Reading} {f : Option Fault} → ReadsAs o input xs t f →
     map (λ (j : Judged). j.line) (judged_lines xs (marks t)) ≡ map line_of xs
 judged_read {xs = xs} {t = t} a = judged_all xs (marks t) (length_marks true t ∙ ap (λ (ys : List (Item Reading)). length ys) (reads_lines a))
@@ -204,7 +204,7 @@ blanked_places o input {xs = xs} {t = t} {f = f} {r = r} b off a run =
 
 -- 4. As many lines.
 
--- a judged line has an ending
+-- A judged line has an ending.
 abbrev Ended : Judged → Type 0
 Ended j = j.line.ending ≢ []
 
@@ -230,7 +230,7 @@ endings_of : (js : List Judged) → map (λ (j : Judged). j.line.ending) js ≡ 
 endings_of [] = refl
 endings_of (j ∷ js) = ap (λ (es : List (List ℕ)). j.line.ending ∷ es) (endings_of js)
 
--- an input whose last line has an ending has an output with as many lines
+-- An input whose last line has an ending has an output with as many lines.
 pub as_many : (o : Options) (input : List ℕ) {r : Outcome} → o.settings.blank ≡ true → o.settings.listing ≡ Off → partial_line input ≡ [] → HasOutcome o input r → r.fault ≡ None →
     map (λ (k : Line). k.ending) (lines_of r.output) ≡ map (λ (l : Line). l.ending) (lines_of input)
 as_many o input b off e (ran_as (stops xs t f s)) h = cc

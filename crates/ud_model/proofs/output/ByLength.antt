@@ -1,4 +1,4 @@
--- What holds of each of three things holds of the one that is chosen by a keyword's length.
+-- A property of each of three things is one of the thing that is chosen by a keyword's length.
 use Rattle.std.proofs.Common.{ℕ, ◌==◌, Bool, true, false, if◌then◌else◌}
 use Rattle.ud_model.specs.answer.Printing.{by_length}
 
@@ -8,6 +8,6 @@ module _ {A : Type 0} (P : A → Type 0) {a b c : A} (x : P a) (y : P b) (z : P 
   each_test false true = y
   each_test false false = z
 
-  -- so it does
+  -- The chosen thing has the property.
   pub each_length : (n : ℕ) → P (by_length n a b c)
   each_length n = each_test (n == 7) (n == 8)

@@ -1,4 +1,4 @@
--- A condition that is decided has the truth that C gives it.
+-- A decided condition has the truth that C gives it.
 use Rattle.std.proofs.Common.{◌≡◌, ◌≢◌, ℕ, List, Bool, true, false, not, ◌&&◌, Option, Some, None, is_some, option_map, if◌then◌else◌, refl, ap, subst, pos}
 use Rattle.ud_model.specs.text.Scans.{Reading}
 use Rattle.ud_model.specs.sections.Directives.{Content, cut_keyword, directive, text, content_of, role_of, test_of}
@@ -22,7 +22,7 @@ use Rattle.ud_model.specs.declared.operator.Operator.TheVariants.{Not}
 use Rattle.ud_model.proofs.conditions.DecidedConditions.{yes_is_true, no_is_false}
 use Rattle.ud_model.proofs.conditions.KnownStays.{known_stays}
 
--- this is the truth of a condition that is decided so
+-- The truth is that of a condition that is decided so.
 abbrev pub Fits : Cond → Bool → Type 0
 Fits Yes b = b ≡ true
 Fits No b = b ≡ false
@@ -46,12 +46,12 @@ module _ (table : List Argument) where
   tree_if_fits rules None b h = tt
   tree_if_fits rules (Some e) b h = tree_fits rules e b h (tree_cond e table rules) refl
 
-  -- `#if` and `#elif`
+  -- The case of `#if` and `#elif`.
   expression_fits : (rules : Rules) (after : List ℕ) (b : Bool) → MayBe table (expression_of after) b → Fits (expression_cond after table rules) b
   unfolding expression_cond
   expression_fits rules after b h = tree_if_fits rules (expression_of after) b h
 
-  -- `defined` and a listed name
+  -- The case of `defined` and a listed name.
   defined_is : (n : List ℕ) (x : Entry) → entry_in table n ≡ Some x → value_of table false (is_defined n false) ≡ Some (truth (is_some x.value))
   unfolding defined_value
   defined_is n x e = ap defined_value_by e
@@ -80,12 +80,12 @@ module _ (table : List Argument) where
       negated_fits x.value x.ignoring b h.0
       (known_stays table false (unary Not (is_defined n false)) (truth (is_zero (truth (is_some x.value)))) h.0 (undefined_is n x e) h.1) h.2
 
-  -- `#ifdef`
+  -- The case of `#ifdef`.
   ifdef_fits : (o : Option (List ℕ)) (b : Bool) → MayBe table (option_map (λ n. is_defined n false) o) b → Fits (ifdef_decision o table).cond b
   ifdef_fits None b h = tt
   ifdef_fits (Some n) b h = entry_fits n b h (entry_in table n) refl
 
-  -- `#ifndef`
+  -- The case of `#ifndef`.
   ifndef_fits : (o : Option (List ℕ)) (b : Bool) → MayBe table (option_map (λ n. unary Not (is_defined n false)) o) b → Fits (negate (ifdef_decision o table).cond) b
   ifndef_fits None b h = tt
   ifndef_fits (Some n) b h = no_entry_fits n b h (entry_in table n) refl
@@ -99,12 +99,12 @@ module _ (table : List Argument) where
   condition_fits : (rules : Rules) (k : Kind) (after : List ℕ) (b : Bool) → MayBe table (condition_after k after) b → Fits (condition_of k after table rules).cond b
   condition_fits rules k after b h = test_fits rules (test_of k) after b h
 
--- a directive that a continuation doesn't cut
+-- The case of a directive that a continuation doesn't cut.
 unless_broken : (broken b : Bool) (d : Decision) (i : Bool) → Fits d.cond b → Fits (if broken then undecided else record d { ignoring = i }).cond b
 unless_broken true b d i h = tt
 unless_broken false b d i h = h
 
--- the opener of an item is decided so
+-- The opener of an item is decided so.
 abbrev pub ItemFits : Item Reading → Bool → Type 0
 ItemFits (text_line r) b = Unit {0}
 ItemFits (if_line p) b = Fits p.cond b
@@ -127,6 +127,6 @@ content_fits o r (directive d) b j h =
     (condition_fits o.table (rules_of o.settings) d.kind d.after b
     (subst (λ (t : Bool). MayBe o.table (if t then None else condition_after d.kind d.after) b) j h)))
 
--- what is decided of a condition that ends on its line has each truth that C may give it
+-- A decision on a condition that ends on its line has each truth that C may give it.
 pub item_fits : (o : Options) (r : Reading) (b : Bool) → r.scan.joins_after ≡ false → MayBe o.table (condition_in r) b → ItemFits (item_of o r) b
 item_fits o r b j h = content_fits o r (content_of r.scan) b j h

@@ -1,7 +1,8 @@
--- A world that C may give a text without a fault agrees with what is decided of each opener that it reaches.
+-- A world that C may give a text without a fault agrees with the decision on each opener that it
+-- reaches.
 --
--- A directive whose section lies in a kept place, and whose condition is decided, is edited or removed; so it joins no
--- other line, and its condition ends on its line.
+-- A directive that is decided is edited or removed, if all groups around its section are kept. So
+-- it joins no other line, and its condition ends on its line.
 use Rattle.std.proofs.Common.{◌≡◌, List, [], ◌∷◌, ◌++◌, length, Bool, true, false, not, ◌&&◌, ◌||◌, Option, Some, None, refl, sym, ◌∙◌, ap, subst, length-append, arith}
 use Rattle.std.proofs.lemmas.Bool.{false_from_ne_true}
 use Rattle.ud_model.specs.text.Scans.{Reading}
@@ -25,8 +26,8 @@ use Rattle.ud_model.proofs.sections.Stages.{Stage, leading, given, going, at_tru
 use Rattle.ud_model.proofs.sections.Stays.{marks_more, length_marks, marks_so_far_same}
 use Rattle.ud_model.proofs.sections.Unique as Trees
 
--- what is known of a line of a text without a fault: it is read so, and a directive in a kept place that doesn't stay as
--- it is joins no next line
+-- A line of a text without a fault: it is read so. A directive that doesn't stay as it is joins no
+-- next line, if all groups around its section are kept.
 pub record Clear (o : Options) (x : Item Reading) (m : Mark) : Type 0 where
   pub own : x ≡ item_of o (reading_of x)
   pub alone : is_directive x ≡ true → m.kept ≡ true → keeps_rest m.verdict ≡ false → (reading_of x).scan.joins_after ≡ false
@@ -112,23 +113,23 @@ module _ (o : Options) (w : World Reading) where
   decided_by No l h = h tt
   decided_by Unknown l h = tt
 
-  -- an `#if` that is reached
+  -- The case of an `#if` that is reached.
   if_right : (p : Opener Reading) → Clear o (if_line p) (marked true (verdict_so_far [] an_if p.cond)) → Possible p → Right p
   if_right p k h = decided_by p.cond p.line (λ d.
       agrees_by p.cond p.line (subst (λ (x : Item Reading). ItemFits x (w p.line)) (sym k.own) (item_fits o p.line (w p.line) (k.alone refl refl (if_moves p.cond d)) h)))
 
-  -- an `#elif` that is reached
+  -- The case of an `#elif` that is reached.
   elif_right : (cs : List Cond) (p : Opener Reading) → Clear o (elif_line p) (marked true (verdict_so_far cs an_elif p.cond)) → Possible p → Right p
   elif_right cs p k h = decided_by p.cond p.line (λ d.
       agrees_by p.cond p.line (subst (λ (x : Item Reading). ItemFits x (w p.line)) (sym k.own) (item_fits o p.line (w p.line) (k.alone refl refl (elif_moves cs p.cond d)) h)))
 
-  -- a group that is processed is kept
+  -- A group that is processed is kept.
   kept_by : (cs : List Cond) (c : Cond) (l : Reading) → any_true cs ≡ false → AgreesWith w c l → w l ≡ true → is_kept cs c ≡ true
   kept_by cs Yes l e a t = ap not e
   kept_by cs No l e a t = cc
   kept_by cs Unknown l e a t = ap not e
 
-  -- an opener that is reached and false isn't decided to be true
+  -- An opener that is reached and false isn't decided to be true.
   not_yes : (c : Cond) (l : Reading) → AgreesWith w c l → w l ≡ false → c ≡ Yes → ⊥
   not_yes Yes l a f e = cc
   not_yes No l a f e = cc
@@ -171,7 +172,7 @@ module _ (o : Options) (w : World Reading) where
         let r : ElifsReached w Right es × (selected_elifs w es ≡ None → any_true (conds_of_elifs es) ≡ false) = elifs_right es q.0 h.0 in
         (r.0, λ e. nodes_right ns (at_kept (is_kept (conds_of_elifs es) Yes) ns (ap not (r.1 e)) p.1) (h.1 e))
 
-    -- if no group is processed, none is true
+    -- If no group is processed, none is true.
     elifs_right : (es : Elifs Reading) → Pairwise (Clear o) (lines_of_elifs es) (elifs_so_far true es) → ElifsReached w Possible es →
         ElifsReached w Right es × (selected_elifs w es ≡ None → any_true (conds_of_elifs es) ≡ false)
     elifs_right (first p ns) k h =
@@ -195,6 +196,6 @@ module _ (o : Options) (w : World Reading) where
               not_any (conds_of_elifs es) p.cond (r.1 n.0) (not_yes p.cond p.line (a n.0) (where_none (w p.line) (selected w ns) n.1)),
         )
 
-  -- a world that C may give these nodes agrees with what is decided of them
+  -- A world that C may give these nodes agrees with the decisions on them.
   pub c_agrees : (ns : Nodes Reading) → Pairwise (Clear o) (lines (closed ns)) (marks (closed ns)) → IsCWorld o.table w ns → Agrees w ns
   c_agrees ns k h = nodes_right ns (subst (λ (ms : List Mark). Pairwise (Clear o) (lines_of_nodes ns) ms) (marks_so_far_same true (closed ns)) k) h

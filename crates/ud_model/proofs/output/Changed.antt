@@ -32,7 +32,7 @@ use Rattle.ud_model.proofs.output.KeywordSizes.{HasWord, HasKeyword, has_keyword
 use Rattle.ud_model.proofs.output.Sizes.{out, whole, Fits, Loose, fits-append, loose_fits, fits_loose, loose_closed, fits_one, loose_one, fits_none, fits_all, fits_differs}
 use Rattle.ud_model.proofs.output.Edits.{is_past, Moves, opener_moves, endif_past, KeepsOrGoes, endif_keeps, if_keeps, removed_size, keeps_size, AtMost, edited_size, turned_size}
 
--- each line has one mark
+-- Each line has one mark.
 module _ {L : Type 0} where
   mutual
     pub as_many_nodes : (kept : Bool) (ns : Nodes L) → length (lines_of_nodes ns) ≡ length (nodes_so_far kept ns)
@@ -51,7 +51,7 @@ module _ {L : Type 0} where
     as_many_elifs kept (elif es o ns) =
         let a = as_many_elifs kept es in let b = as_many_nodes (kept && is_kept (conds_of_elifs es) o.cond) ns in simp length-append (omega (arith, a, b))
 
--- lines and further ones, with their marks
+-- Lines and further ones, with their marks.
 pub judged_lines-append : (xs ys : List (Item Reading)) (ms ns : List Mark) → length xs ≡ length ms →
     judged_lines (xs ++ ys) (ms ++ ns) ≡ judged_lines xs ms ++ judged_lines ys ns
 judged_lines-append [] ys [] ns e = refl
@@ -63,11 +63,11 @@ module _ (blank : Bool) where
   abbrev f : Judged → List ℕ
   f j = piece_alone blank j
 
-  -- lines with their marks fit
+  -- Lines with their marks fit.
   abbrev pub ItemsFit : List (Item Reading) → List Mark → Type 0
   ItemsFit xs ms = Fits f (judged_lines xs ms)
 
-  -- so do those of a section up to some opener, or no more than a byte is printed in addition
+  -- The lines of a section up to some opener fit, or at most one byte more is printed.
   abbrev pub Held : Bool → List (Item Reading) → List Mark → Type 0
   Held true xs ms = Loose f (judged_lines xs ms)
   Held false xs ms = Fits f (judged_lines xs ms)
@@ -89,13 +89,13 @@ module _ (blank : Bool) where
   keeps_mark true v h = h
   keeps_mark false v h = tt
 
-  -- a line that stays or goes fits
+  -- A line that stays or is removed fits.
   one_fits : (x : Item Reading) (kept : Bool) (v : Verdict) → KeepsOrGoes v → ItemsFit (x ∷ []) (marked kept v ∷ [])
   one_fits x kept v h =
       fits_one f (judged_line x (marked kept v))
       (keeps_size blank (marked kept v).verdict (keyword_in (content_of (reading_of x).scan)) (line_of x) (keeps_mark kept v h))
 
-  -- a line whose keyword has four bytes at least
+  -- The case of a line whose keyword has four bytes at least.
   word_size : (x : Item Reading) → HasWord (reading_of x) 4 → (v : Verdict) →
       AtMost v (length (f (judged_line x (record { kept = true; verdict = v })))) (length (text_of (line_of x)))
   word_size x w v = edited_size blank v (keyword_in (content_of (reading_of x).scan)) (line_of x) w.size w.within
@@ -107,7 +107,7 @@ module _ (blank : Bool) where
   to_held false xs ms a = a
   to_held true xs ms a = fits_to_loose (judged_lines xs ms) a
 
-  -- an opener after the first
+  -- The case of an opener after the first.
   opener_step : (xs : List (Item Reading)) (ms : List Mark) (x : Item Reading) (was now : Bool) (v : Verdict) → length xs ≡ length ms → HasWord (reading_of x) 4 →
       Moves was v now → Held was xs ms → Held now (xs ++ x ∷ []) (ms ++ marked true v ∷ [])
   opener_step xs ms x true true Remove e w m a = held_then true xs (x ∷ []) ms (marked true Remove ∷ []) e a (one_fits x true Remove tt)
@@ -148,7 +148,7 @@ module _ (blank : Bool) where
   more_long : (xs : List (Item Reading)) (ms : List Mark) (x : Item Reading) (m : Mark) → length xs ≡ length ms → length (xs ++ x ∷ []) ≡ length (ms ++ m ∷ [])
   more_long xs ms x m e = simp length-append (omega (arith, e))
 
-  -- a group after others
+  -- The case of a group after others.
   group_held : (kept : Bool) (cs : List Cond) (part : Part) (c : Cond) (xs : List (Item Reading)) (ms : List Mark) (x : Item Reading) (ys : List (Item Reading)) (ns : List Mark) →
       length xs ≡ length ms → HasWord (reading_of x) 4 → Held (kept && is_past cs) xs ms → ItemsFit ys ns →
       Held (kept && is_past (cs ++ c ∷ [])) ((xs ++ x ∷ []) ++ ys) ((ms ++ marked kept (verdict_so_far cs part c) ∷ []) ++ ns)
@@ -157,7 +157,7 @@ module _ (blank : Bool) where
       held_then (kept && is_past (cs ++ c ∷ [])) (xs ++ x ∷ []) ys (ms ++ m ∷ []) ns (more_long xs ms x m e)
       (opener_any kept xs ms x (is_past cs) (is_past (cs ++ c ∷ [])) (verdict_so_far cs part c) e w (opener_moves cs part c) a) b
 
-  -- nodes, and then a section
+  -- The case of nodes, and then a section.
   section_fits : (kept past : Bool) (xs ys : List (Item Reading)) (ms ns : List Mark) (l : Reading) (v : Verdict) → length xs ≡ length ms → length ys ≡ length ns →
       HasWord l 5 → KeepsOrGoes v → (past ≡ true → v ≡ Remove) → ItemsFit xs ms → Held (kept && past) ys ns →
       ItemsFit ((xs ++ ys) ++ endif_line l ∷ []) ((ms ++ ns) ++ marked kept v ∷ [])
@@ -208,7 +208,7 @@ module _ (blank : Bool) where
         (nodes_so_far (kept && is_kept (conds_of_elifs es) o.cond) ns) (as_many_elifs kept es) q.1.0 (elifs_held kept es q.0)
         (nodes_fit (kept && is_kept (conds_of_elifs es) o.cond) ns p.1)
 
--- what is printed of a line by itself, kept and removed lines exchanged or not
+-- The output for a line by itself, kept and removed lines exchanged or not.
 abbrev pub lone : Bool → Bool → Judged → List ℕ
 lone blank true j = piece_alone blank (complemented j)
 lone blank false j = piece_alone blank j
@@ -218,7 +218,7 @@ piece_lone b c true before j e = cc
 piece_lone b true false before j e = refl
 piece_lone b false false before j e = refl
 
--- if lines aren't numbered, each is printed by itself
+-- If lines aren't numbered, each is printed by itself.
 pub pieces_lone : (b c n : Bool) (before js : List Judged) → n ≡ false → pieces_by (piece_after (record { blank = b; complement = c; renumber = n })) before js ≡ map (lone b c) js
 pieces_lone b c n before [] e = refl
 pieces_lone b c n before (j ∷ js) e =
@@ -238,20 +238,20 @@ masked_size xs C l =
     omega arith
 masked_size xs Plain l = omega arith
 
--- the keywords of sound lines lie in them
+-- The keywords of faultless lines lie in them.
 pub keywords : {o : Options} {xs : List (Item Reading)} {t : Tree Reading} → AreFaultless o xs t → Each HasKeyword xs
 keywords no_lines = tt
 keywords {o = o} (one_more xs t s l u e n) =
     each_both HasKeyword xs (next_item o xs t l ∷ []) (keywords s)
     (has_keyword o (read_after xs (mode_after o t) l) (masked_size (map reading_of xs) (mode_after o t) l), tt)
 
--- the lines of items
+-- The lines of items.
 pub whole_lines_are : (xs : List (Item Reading)) (ms : List Mark) → length xs ≡ length ms → map whole (judged_lines xs ms) ≡ map text_of (map line_of xs)
 whole_lines_are [] ms e = refl
 whole_lines_are (x ∷ xs) [] e = absurd (omega arith)
 whole_lines_are (x ∷ xs) (m ∷ ms) e = ap (λ (ls : List (List ℕ)). text_of (line_of x) ∷ ls) (whole_lines_are xs ms (omega arith))
 
--- the lines of a text, joined
+-- The lines of a text, joined, are the text.
 pub lines_join : (input : List ℕ) → concat (map text_of (lines_of input)) ≡ input
 lines_join input = ap (λ (ls : List (List ℕ)). concat ls) (map-numbered_from 1 (texts_of input)) ∙ sym (lines_exist input).joined
 
@@ -269,12 +269,12 @@ module _ (s : Settings) (n : s.renumber ≡ false) where
       ∙ fits_differs (lone s.blank s.complement) js (nodes_lone s.blank s.complement ns h)
       ∙ ap₂ (λ (a b : List ℕ). not (bytes_eq a b)) (ap (λ (qs : List (List ℕ)). concat qs) (sym ps)) back
 
--- some section is open, so there is a first directive of the innermost one
+-- If some section is open, the innermost one has a first directive.
 pub no_innermost : (ns : Nodes Reading) (t : Tree Reading) (h : Head Reading) → innermost (open_section ns h t) ≡ None → ⊥
 no_innermost ns (closed b) h e = cc
 no_innermost ns (open_section ms t k) h e = no_innermost ms k t e
 
--- if a text ends without a fault, it ends in no comment, and no section is open
+-- If a text ends without a fault, it ends in no comment, and no section is open.
 pub end_parts : (c : Bool) (n : ℕ) (o : Option (Opener Reading)) → end_by c n o ≡ None → (c ≡ false) × (o ≡ None)
 end_parts true n o e = cc
 end_parts false n (Some o) e = cc
@@ -288,7 +288,7 @@ module _ (o : Options) (n : o.settings.renumber ≡ false) (off : o.settings.lis
       subst (λ (ys : List (Item Reading)). some_differ_by o.settings ys (marks (closed ns)) ≡ not (bytes_eq (printed_by o.settings ys (marks (closed ns))) input)) l
       (closed_differs o.settings n input ns (subst (λ (ys : List (Item Reading)). Each HasKeyword ys) (sym l) k) (ap (λ (ys : List (Item Reading)). map line_of ys) l ∙ m))
 
-  -- some line differs exactly if the output isn't the input
+  -- Some line differs exactly if the output isn't the input.
   pub changed : {r : Outcome} → HasOutcome o input r → r.fault ≡ None → r.differs ≡ not (bytes_eq r.output input)
   changed (ran_as (stops xs t f s)) e = cc
   changed (ran_as (ends xs t g)) e =

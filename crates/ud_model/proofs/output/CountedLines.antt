@@ -1,4 +1,5 @@
--- Counted lines: under `-n` and `-b` each line of the output has its own number, by counting on and by the lines put in.
+-- Counted lines: under `-n` and `-b` each line of the output has its own number, by counting on and
+-- by the inserted lines.
 use Rattle.std.proofs.Common.{◌≡◌, ◌≢◌, ℕ, suc, ◌^◌, ◌<◌, List, [], ◌∷◌, ◌++◌, length, map, Bool, true, false, ◌||◌, if◌then◌else◌, ◌⊎◌, inl, inr, refl, sym, ◌∙◌, ap, ap₂, subst, append_assoc, append-nil, length-append, arith}
 use Rattle.std.specs.List.{concat}
 use Rattle.std.proofs.lemmas.List.Folds.{concat-append}
@@ -35,10 +36,10 @@ use Rattle.ud_model.proofs.output.Rereads.{Again, Between, Carry, alike, gone, I
 use Rattle.ud_model.proofs.output.RereadStep.{More, the_more, step, plain_run, stayed_alone, goes_or_left, left_stays}
 use Rattle.ud_model.proofs.output.Inserting.{Weave, line_behind, with_line, are_more, put, put_lone, left, left_seen, lines_last, read_once, piece_of, gone_blank, gone_number, left_blank, left_number, removed_last}
 
--- 1. Where lines are put in.
+-- 1. The positions at which lines are inserted.
 
 module _ (o : Options) (xs : List (Item Reading)) (t : Tree Reading) (ys : List (Item Reading)) where
-  -- after a removed line the output rests
+  -- After a removed line the output ends between lines.
   rests_after : (m : Mode) → Between o m xs t ys → ends_removed (marks t) ≡ true → LeavesOff ys in_text true false
   rests_after m b e = by_carry b.carry
     where
@@ -50,7 +51,7 @@ module _ (o : Options) (xs : List (Item Reading)) (t : Tree Reading) (ys : List 
       by_carry (alike w white on a c f r) = (r (stayed on f)).off
       by_carry (gone w white a r g) = r.off
 
-  -- and where a line is removed
+  -- It does so where a line is removed, too.
   rests_at : (m : Mode) (b : Between o m xs t ys) (l : Line) (u : Tree Reading) → IsLine l → (k : More o m xs t l u) → k.grown.mark.verdict ≡ Remove → LeavesOff ys in_text true false
   rests_at Plain b l u i k e = nowhere ys (plain_run o ys b.again.read)
   rests_at C b l u i k e = by_carry b.carry
@@ -59,7 +60,7 @@ module _ (o : Options) (xs : List (Item Reading)) (t : Tree Reading) (ys : List 
       by_carry (alike w white on a c f r) = (r (stayed_alone o xs t ys b l u i k w white on a f e)).off
       by_carry (gone w white a r g) = r.off
 
--- 2. What is left of one line more.
+-- 2. The output for one line more.
 
 bytes_of : List (Item Reading) → List (List ℕ)
 bytes_of ys = map (λ y. line_bytes (reading_of y)) ys
@@ -83,7 +84,7 @@ module _ (o : Options) (m : Mode) (xs : List (Item Reading)) (x : Item Reading) 
   unfolding bytes_of
   lines_next = b.numbered ∙ ap (λ (bs : List (List ℕ)). numbered_from 1 bs) bytes_next
 
-  -- nothing
+  -- Nothing is added for it.
   same_items : mark.verdict ≡ Remove → zs ≡ ys
   unfolding bytes_of
   same_items e =
@@ -91,7 +92,7 @@ module _ (o : Options) (m : Mode) (xs : List (Item Reading)) (x : Item Reading) 
       (lines_next ∙ ap (λ (v : Verdict). numbered_from 1 (bytes_of ys ++ map edited_piece (kept_line v x))) e
       ∙ ap (λ (bs : List (List ℕ)). numbered_from 1 bs) (append-nil (bytes_of ys)) ∙ sym a.numbered)
 
-  -- or its piece
+  -- Its piece is added.
   one_more_item : IsLeft mark.verdict → zs ≡ with_line o m ys (line_behind (bytes_of ys) (piece_by mark.verdict (keyword_in (content_of (reading_of x).scan)) (line_of x)))
   unfolding bytes_of LeftOne
   one_more_item h = by_one (left_one mark.verdict x)
@@ -131,7 +132,7 @@ feed_end e (inl (inl h)) = subst (λ (x : List ℕ). IsEnd (ending_or_newline x)
 feed_end e (inl (inr h)) = subst (λ (x : List ℕ). IsEnd (ending_or_newline x)) (sym h) (inr refl)
 feed_end e (inr h) = subst (λ (x : List ℕ). IsEnd (ending_or_newline x)) (sym h) (inr refl)
 
--- the ending of a line that was cut from a text
+-- The ending of a line that was cut from a text.
 ends_or_not : (l : Line) → IsLine l → IsEnd l.ending ⊎ (l.ending ≡ [])
 ends_or_not l (n, t, e, inl w) = inl (subst IsEnd (sym (ap (λ (k : Line). k.ending) e)) (whole_ending t w))
 ends_or_not l (n, t, e, inr w) = inr (ap (λ (k : Line). k.ending) e ∙ ending_none t w.1)
@@ -150,7 +151,7 @@ piece_unended v k l (n, t, e, inr w) h left = subst (λ (j : Line). IsUnterminat
 quiet_by : (l k : Line) → l ≡ k → IsQuiet k → IsQuiet l
 quiet_by l k e q = subst IsQuiet (sym e) q
 
--- 4. The lines one by one.
+-- 4. The lines, one at a time.
 
 module _ (o : Options) (m : Mode) (b n : Bool) (some : (b || n) ≡ true) where
   abbrev pub so_far : List (Item Reading) → Tree Reading → List Judged
@@ -159,7 +160,7 @@ module _ (o : Options) (m : Mode) (b n : Bool) (some : (b || n) ≡ true) where
   abbrev pub shown : List Judged → List ℕ
   shown js = concat (pieces_by (piece_of b n) [] js)
 
-  -- what is known between two lines, the last of which has an ending
+  -- The facts between two lines, the last of which has an ending.
   pub record State (xs : List (Item Reading)) (t : Tree Reading) : Type 0 where
     pub ys : List (Item Reading)
     pub between : Between o m xs t ys
@@ -172,7 +173,7 @@ module _ (o : Options) (m : Mode) (b n : Bool) (some : (b || n) ≡ true) where
     pub counted : Counted (so_far xs t) (map reading_of ys) (map reading_of zs) next
     pub on : (b ≡ true) ⊎ (ends_removed (marks t) ≡ false) → next ≡ suc (length xs)
 
-  -- and after the last one
+  -- The facts after the last line.
   pub record Done (xs : List (Item Reading)) (t : Tree Reading) : Type 0 where
     pub ys : List (Item Reading)
     pub again : Again o m xs t ys
@@ -254,14 +255,14 @@ module _ (o : Options) (m : Mode) (b n : Bool) (some : (b || n) ≡ true) where
     after : suc j.line.number ≡ suc (length (xs ++ x ∷ []))
     after = ap (λ (d : ℕ). suc d) (ap (λ (d : Line). d.number) line_j ∙ num ∙ sym long_u)
 
-    -- the count stands at the line's own number
+    -- The count is at the line's own number.
     counts : s.next ≡ suc (length xs) → Counted (so_far xs t) (map reading_of s.ys) (map reading_of s.zs) j.line.number
     counts f = subst (Counted (so_far xs t) (map reading_of s.ys) (map reading_of s.zs)) (f ∙ sym num ∙ sym (ap (λ (d : Line). d.number) line_j)) s.counted
 
     stepped : (zs : List (Item Reading)) × Again o m (xs ++ x ∷ []) u zs × (HasEnd l → Between o m (xs ++ x ∷ []) u zs)
     stepped = step o m xs t q s.ys s.between l u i e nh
 
-    -- where the line is left: what stands before it
+    -- The facts where the line is printed: the lines before it.
     record Ready : Type 0 where
       pub zs : List (Item Reading)
       pub qs : List (List ℕ)
@@ -270,7 +271,7 @@ module _ (o : Options) (m : Mode) (b n : Bool) (some : (b || n) ≡ true) where
       pub same : concat qs ++ piece_by j.verdict j.keyword j.line ≡ shown (so_far (xs ++ x ∷ []) u)
       pub count : (r p : Reading) → IsPrinted j r p → Counted (so_far (xs ++ x ∷ []) u) (map reading_of s.ys ++ r ∷ []) (map reading_of zs ++ p ∷ []) (suc j.line.number)
 
-    -- nothing is put in
+    -- Nothing is inserted.
     ready_plain : s.next ≡ suc (length xs) → piece_of b n (so_far xs t) j ≡ piece_by j.verdict j.keyword j.line → Ready
     ready_plain f g = record {
       zs = s.zs;
@@ -282,7 +283,7 @@ module _ (o : Options) (m : Mode) (b n : Bool) (some : (b || n) ≡ true) where
           (counts_on j (counts f) r p h);
     }
 
-    -- a number is put in
+    -- A number is inserted.
     ready_number : ends_removed (marks t) ≡ true → piece_of b n (so_far xs t) j ≡ number_line j.line ++ piece_by j.verdict j.keyword j.line → Ready
     ready_number f g =
         let rest : LeavesOff s.ys in_text true false = rests_after o xs t s.ys m s.between f in
@@ -328,7 +329,7 @@ module _ (o : Options) (m : Mode) (b n : Bool) (some : (b || n) ≡ true) where
         by_style true f = ready_plain (s.on (inl f)) (blank_piece f)
         by_style false f = by_removed f (ends_removed (marks t)) refl
 
-    -- the line in both outputs
+    -- The line in both outputs.
     abbrev p : List ℕ
     p = piece_by j.verdict j.keyword j.line
 
@@ -353,7 +354,7 @@ module _ (o : Options) (m : Mode) (b n : Bool) (some : (b || n) ≡ true) where
     items_gone : v ≡ Remove → stepped.0 ≡ s.ys
     items_gone f = same_items o m xs x t u s.ys stepped.0 k.grown.mark k.more k.long s.between.again stepped.1 f
 
-    -- a line that is left and has an ending
+    -- The case of a line that is left and has an ending.
     left_state : HasEnd l → IsLeft v → State (xs ++ x ∷ []) u
     left_state end h =
         let r : Ready = ready h in
@@ -371,7 +372,7 @@ module _ (o : Options) (m : Mode) (b n : Bool) (some : (b || n) ≡ true) where
           on = λ f. after;
         }
 
-    -- the last line, without one
+    -- The case of the last line, without an ending.
     left_done : l.ending ≡ [] → IsLeft v → Done (xs ++ x ∷ []) u
     left_done none h =
         let r : Ready = ready h in
@@ -394,7 +395,7 @@ module _ (o : Options) (m : Mode) (b n : Bool) (some : (b || n) ≡ true) where
     removed_u : v ≡ Remove → ends_removed (marks u) ≡ true
     removed_u f = ap ends_removed k.more ∙ last_removed_mark (marks t) k.grown.mark ∙ ap is_removed f
 
-    -- nothing is printed of it
+    -- Nothing is printed for it.
     counted_gone : v ≡ Remove → Counted (so_far (xs ++ x ∷ []) u) (map reading_of s.ys) (map reading_of s.zs) s.next
     counted_gone f = subst (λ (js : List Judged). Counted js (map reading_of s.ys) (map reading_of s.zs) s.next) (sym js_u) (goes s.counted j (removed_j f))
 

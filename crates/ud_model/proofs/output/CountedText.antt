@@ -32,7 +32,7 @@ use Rattle.ud_model.proofs.output.Rereads.{IsLine}
 use Rattle.ud_model.proofs.output.SharedLineLemmas.{reads_too}
 use Rattle.ud_model.proofs.output.Inserting.{lines_last}
 
--- these lines are numbered on from here
+-- The lines are numbered on from this number.
 InOrder : ℕ → List Line → Type 0
 InOrder k [] = Unit {0}
 InOrder k (l ∷ ls) = (l.number ≡ k) × InOrder (suc k) ls
@@ -83,7 +83,7 @@ module _ (o : Options) (p : IsPlain o) (b n : Bool) (some : (b || n) ≡ true) w
       (next_done o (the_mode o) b n some xs t (sound_lines s) (inside s k.0 c.0) l u (c.1 ∙ ap (λ (d : ℕ). 1 + d) (order_map xs) ∙ omega arith) (few xs t l w)
       (subst (λ (x : Item Reading). lines u ≡ xs ++ x ∷ []) same e) (subst (λ (x : Item Reading). NoneHolds xs x cases) same w) k.1)
 
--- what was read in one mode is read so of its lines
+-- Readings in one mode are those of their lines.
 read_lines_in : (o : Options) (m : Mode) (ys : List (Item Reading)) → ReadIn o m ys → map reading_of ys ≡ read_in m (map line_of ys)
 read_lines_in o m _ none_read = refl
 read_lines_in o m _ (one_read ys r l) =
@@ -101,7 +101,7 @@ formed_pieces : (xs : List (Item Reading)) (t : Tree Reading) (ts : List (List �
 unfolding all_pieces
 formed_pieces xs t ts e f = all_formed xs (marks t) 1 ts e f
 
--- each line that is left has its own number
+-- Each line that is left has its own number.
 pub counted_text : (o : Options) → IsPlain o → (b n : Bool) → (b || n) ≡ true → (input : List ℕ) → {xs : List (Item Reading)} {t : Tree Reading} {f : Option Fault} {r s : Outcome} →
     ReadsAs o input xs t f → HasOutcome o input r → HasOutcome (with_blank_renumber b n o) input s →
     (k : ℕ) × Counted (judged_lines xs (marks t)) (read_as (the_mode o) r.output) (read_as (the_mode o) s.output) k

@@ -1,4 +1,4 @@
--- What stands before a directive's keyword, and the keyword itself.
+-- The bytes before a directive's keyword, and the keyword itself.
 use Rattle.std.proofs.Common.{◌≡◌, ◌≢◌, ℕ, ◌+◌, ◌-◌, ◌==◌, List, [], ◌∷◌, ◌++◌, length, Bool, true, false, not, ◌&&◌, ◌||◌, Option, Some, None, if◌then◌else◌, refl, sym, ◌∙◌, ap, ap₂, subst, append_assoc, arith, length-append, eqb-true, ◌⊎◌, inl, inr}
 use Rattle.std.proofs.lemmas.Bool.{and_parts, not-true}
 use Rattle.ud_model.specs.text.Bytes.{slash, space, newline, is_quote, is_white, is_word_byte, skip_white, leading_word, skip_word}
@@ -10,11 +10,11 @@ use Rattle.ud_model.proofs.output.EditedScan.{has_quote, ends_in_slash}
 use Rattle.ud_model.proofs.output.KeywordPlace.{IsInert}
 use Rattle.ud_model.proofs.sections.Keywords.{each_keyword}
 
--- it is white space
+-- Each byte is white space.
 abbrev pub IsWhite : ℕ → Type 0
 IsWhite b = is_white b ≡ true
 
--- white space, and what follows it
+-- A text is leading white space, and the rest.
 white_split : (t : List ℕ) → (ws : List ℕ) × (t ≡ ws ++ skip_white t) × Each IsWhite ws
 white_split [] = ([], refl, tt)
 white_split (b ∷ t) = by_white (is_white b) refl (white_split t)
@@ -31,7 +31,7 @@ word_split (b ∷ t) = by_word (is_word_byte b) (word_split t)
     by_word true r = ap (λ (l : List ℕ). b ∷ l) r
     by_word false r = refl
 
--- how a line with a directive is seen
+-- The masked line of a directive: white space, the `#`, white space, the keyword, and the rest.
 pub record Front (scan : Scan) (d : Directive) : Type 0 where
   pub white : List ℕ
   pub gap : List ℕ
@@ -93,17 +93,17 @@ module _ (scan : Scan) where
   unless_cut true c d e = cc
   unless_cut false c d e = e
 
-  -- a line with a directive is seen so
+  -- A line with a directive is masked so.
   pub directive_front : (d : Directive) → content_of scan ≡ directive d → Front scan d
   directive_front d e =
       at_sign (skip_hash_if_fresh scan.masked) d refl (unless_cut (has_split_keyword scan (skip_hash_if_fresh scan.masked)) (content_after_hash scan (skip_hash_if_fresh scan.masked)) d e)
 
--- if one of two holds, the first or the second does
+-- If one of two facts is true, the first or the second is.
 pub either : (a b : Bool) → (a || b) ≡ true → (a ≡ true) ⊎ (b ≡ true)
 either true b e = inl refl
 either false b e = inr e
 
--- what holds of each white byte
+-- A property of each byte that is white.
 pub each_white : (P : ℕ → Type 0) → P 32 → P 9 → P 11 → P 12 → P 13 → (b : ℕ) → is_white b ≡ true → P b
 each_white P p q r s t b e = go (either ((b == 32) || (b == 9) || (b == 11) || (b == 12)) (b == 13) e)
   where
@@ -126,7 +126,7 @@ each_white P p q r s t b e = go (either ((b == 32) || (b == 9) || (b == 11) || (
     go (inl f) = go2 (either ((b == 32) || (b == 9) || (b == 11)) (b == 12) f)
     go (inr f) = at 13 t f
 
--- the byte begins no comment and no literal
+-- The byte begins no comment and no literal.
 abbrev is_inert : ℕ → Bool
 is_inert c = not (c == slash) && not (is_quote c) && not (c == newline)
 
@@ -136,21 +136,21 @@ inert_byte c e =
     let r : (not (c == slash) ≡ true) × (not (is_quote c) ≡ true) = and_parts (not (c == slash)) (not (is_quote c)) q.0 in
     record { no_slash = not-true (c == slash) r.0; no_quote = not-true (is_quote c) r.1; no_feed = not-true (c == newline) q.1 }
 
--- each of these bytes is so
+-- Each of the bytes begins no comment and no literal.
 abbrev pub are_inert : List ℕ → Bool
 are_inert [] = true
 are_inert (c ∷ w) = is_inert c && are_inert w
 
--- such bytes begin nothing
+-- Such bytes begin nothing.
 pub inert_word : (w : List ℕ) → are_inert w ≡ true → Each IsInert w
 inert_word [] e = tt
 inert_word (c ∷ w) e = let p : (is_inert c ≡ true) × (are_inert w ≡ true) = and_parts (is_inert c) (are_inert w) e in (inert_byte c p.0, inert_word w p.1)
 
--- the bytes of a word begin nothing, and aren't white
+-- The byte begins nothing and isn't white, as the bytes of a word.
 abbrev pub is_quiet : ℕ → Bool
 is_quiet c = is_inert c && not (c == space)
 
--- each of these bytes is so
+-- Each of the bytes begins nothing and isn't white.
 abbrev pub are_quiet : List ℕ → Bool
 are_quiet [] = true
 are_quiet (c ∷ w) = is_quiet c && are_quiet w
@@ -162,7 +162,7 @@ quiet_inert c e =
       λ h. let f : true ≡ false = sym (ap (λ (x : ℕ). x == space) h) ∙ not-true (c == space) p.1 in cc,
     )
 
--- such bytes begin nothing, and none is a space
+-- Such bytes begin nothing, and none is a space.
 pub quiet_word : (w : List ℕ) → are_quiet w ≡ true → Each IsInert w × Each (λ c. c ≢ space) w
 quiet_word [] e = (tt, tt)
 quiet_word (c ∷ w) e =
@@ -171,11 +171,11 @@ quiet_word (c ∷ w) e =
     let r : Each IsInert w × Each (λ c. c ≢ space) w = quiet_word w p.1 in
     ((q.0, r.0), (q.1, r.1))
 
--- a keyword's bytes begin nothing
+-- A keyword's bytes begin nothing.
 pub keyword_quiet : (w : List ℕ) (k : Kind) → kind_of w ≡ Some k → are_quiet w ≡ true
 keyword_quiet w k e = each_keyword (λ row. are_quiet row.0) refl w k e
 
--- and its first byte isn't white
+-- The first byte isn't white.
 abbrev pub StartsDark : List ℕ → Type 0
 StartsDark [] = ⊥
 StartsDark (c ∷ w) = is_white c ≡ false
@@ -188,7 +188,7 @@ dark_by : (w : List ℕ) → starts_dark w ≡ true → StartsDark w
 dark_by [] e = cc
 dark_by (c ∷ w) e = not-true (is_white c) e
 
--- a keyword's first byte isn't white
+-- A keyword's first byte isn't white.
 pub keyword_dark : (w : List ℕ) (k : Kind) → kind_of w ≡ Some k → StartsDark w
 keyword_dark w k e = dark_by w (each_keyword (λ row. starts_dark row.0) refl w k e)
 
@@ -210,10 +210,10 @@ slash_behind [] x t = refl
 slash_behind (b ∷ []) x t = refl
 slash_behind (b ∷ c ∷ ws) x t = slash_behind (c ∷ ws) x t
 
--- before a keyword neither a quote is shown nor a slash last
+-- Before a keyword no quote is shown.
 pub front_unquoted : (ws gs : List ℕ) → Each IsWhite ws → Each IsWhite gs → has_quote (ws ++ 35 ∷ gs) ≡ false
 front_unquoted ws gs w g = white_unquoted ws (35 ∷ gs) w ∙ all_white_unquoted gs g
 
--- and no slash is last there
+-- Before a keyword no slash is last.
 pub front_unslashed : (ws gs : List ℕ) → Each IsWhite gs → ends_in_slash (ws ++ 35 ∷ gs) ≡ false
 front_unslashed ws gs g = slash_behind ws 35 gs ∙ white_unslashed 35 gs refl g

@@ -1,27 +1,27 @@
--- The scan of an edited line: before the keyword of a directive no comment and no literal is open, so another keyword in
--- its place changes nothing of what follows.
+-- The scan of an edited line: before the keyword of a directive no comment and no literal is open.
+-- So another keyword in its place changes nothing of what follows.
 use Rattle.std.proofs.Common.{◌≡◌, ℕ, ◌==◌, List, [], ◌∷◌, ◌++◌, Bool, true, false, ◌||◌, if◌then◌else◌, refl, sym, ◌∙◌, ap, append-nil, append_assoc, ◌⊎◌, inl, inr}
 use Rattle.ud_model.specs.text.Bytes.{slash, star, space, newline, backslash, is_quote}
 use Rattle.ud_model.specs.aids.LexStates.{LexState, in_text, at_slash, in_block, at_star, in_line, in_literal, at_backslash, next_state, opens_comment, masked_byte, stays_white, blank_last}
 use Rattle.ud_model.proofs.text.LexStateLemmas.{blank_last-last}
 use Rattle.ud_model.proofs.text.ScanLaws.{place_after, white_after, masked_after}
 
--- where a text leaves off with some bytes and further ones
+-- The state after some bytes and further ones.
 pub place_after-append : (w : LexState) (a b : List ℕ) → place_after w (a ++ b) ≡ place_after (place_after w a) b
 place_after-append w [] b = refl
 place_after-append w (x ∷ a) b = place_after-append (next_state w x) a b
 
--- how it is shown with them
+-- The masked text with some bytes and further ones.
 pub masked_after-append : (w : LexState) (m a b : List ℕ) → masked_after w m (a ++ b) ≡ masked_after (place_after w a) (masked_after w m a) b
 masked_after-append w m [] b = refl
 masked_after-append w m (x ∷ a) b = masked_after-append (next_state w x) ((if opens_comment w x then blank_last m else m) ++ masked_byte w x ∷ []) a b
 
--- whether its last logical line is white with them
+-- The last logical line is white with some bytes and further ones.
 pub white_after-append : (w : LexState) (white : Bool) (a b : List ℕ) → white_after w white (a ++ b) ≡ white_after (place_after w a) (white_after w white a) b
 white_after-append w white [] b = refl
 white_after-append w white (x ∷ a) b = white_after-append (next_state w x) (stays_white w white x) a b
 
--- the last byte, as it is shown by whether a comment begins with it
+-- The last byte, shown as a space if a comment begins with it.
 abbrev blanked : Bool → ℕ → ℕ
 blanked o c = if o then space else c
 
@@ -29,7 +29,7 @@ blank_by : (o : Bool) (m : List ℕ) (c : ℕ) → (if o then blank_last (m ++ c
 blank_by true m c = blank_last-last m c
 blank_by false m c = refl
 
--- of what is shown only the last byte may still change
+-- In the masked text only the last byte may still change.
 pub masked_front : (bytes : List ℕ) (w : LexState) (m : List ℕ) (c : ℕ) → masked_after w (m ++ c ∷ []) bytes ≡ m ++ masked_after w (c ∷ []) bytes
 masked_front [] w m c = refl
 masked_front (b ∷ bytes) w m c =
@@ -40,7 +40,7 @@ masked_front (b ∷ bytes) w m c =
     (sym (ap (λ (l : List ℕ). masked_after (next_state w b) (l ++ masked_byte w b ∷ []) bytes) (blank_by (opens_comment w b) [] c)
     ∙ masked_front bytes (next_state w b) (blanked (opens_comment w b) c ∷ []) (masked_byte w b)))
 
--- it stays, or becomes a space
+-- The byte stays, or becomes a space.
 pub first_shown : (bytes : List ℕ) (w : LexState) (c : ℕ) → (rest : List ℕ) × ((masked_after w (c ∷ []) bytes ≡ c ∷ rest) ⊎ (masked_after w (c ∷ []) bytes ≡ space ∷ rest))
 first_shown [] w c = ([], inl refl)
 first_shown (b ∷ bytes) w c = (masked_after (next_state w b) (masked_byte w b ∷ []) bytes, by_open (opens_comment w b) refl)
@@ -50,17 +50,17 @@ first_shown (b ∷ bytes) w c = (masked_after (next_state w b) (masked_byte w b 
     by_open true e = inr (ap (λ (t : Bool). masked_after (next_state w b) ((if t then space ∷ [] else c ∷ []) ++ masked_byte w b ∷ []) bytes) e ∙ masked_front bytes (next_state w b) (space ∷ []) (masked_byte w b))
     by_open false e = inl (ap (λ (t : Bool). masked_after (next_state w b) ((if t then space ∷ [] else c ∷ []) ++ masked_byte w b ∷ []) bytes) e ∙ masked_front bytes (next_state w b) (c ∷ []) (masked_byte w b))
 
--- between pieces nothing that is shown changes any more
+-- Between lexemes nothing in the masked text changes any more.
 pub text_front : (bytes m : List ℕ) → masked_after in_text m bytes ≡ m ++ masked_after in_text [] bytes
 text_front [] m = sym (append-nil m)
 text_front (b ∷ bytes) m = masked_front bytes (next_state in_text b) m (masked_byte in_text b)
 
--- some byte is a quote
+-- Some byte is a quote.
 abbrev pub has_quote : List ℕ → Bool
 has_quote [] = false
 has_quote (b ∷ bs) = is_quote b || has_quote bs
 
--- the last byte is a slash
+-- The last byte is a slash.
 abbrev pub ends_in_slash : List ℕ → Bool
 ends_in_slash [] = false
 ends_in_slash (b ∷ []) = b == slash
@@ -79,7 +79,7 @@ slash-last [] b = refl
 slash-last (c ∷ []) b = refl
 slash-last (c ∷ d ∷ m) b = slash-last (d ∷ m) b
 
--- if a literal is open, its quote is shown
+-- If a literal is open, its quote is shown.
 abbrev pub Quoted : LexState → List ℕ → Type 0
 Quoted in_text m = Unit {0}
 Quoted at_slash m = Unit {0}
@@ -89,7 +89,7 @@ Quoted in_line m = Unit {0}
 Quoted (in_literal q) m = has_quote m ≡ true
 Quoted (at_backslash q) m = has_quote m ≡ true
 
--- and if a text ends in a slash, that is shown
+-- If a literal is open, its quote is shown; and if a text ends in a slash, the slash is.
 abbrev pub Shown : LexState → List ℕ → Type 0
 Shown in_text m = Unit {0}
 Shown at_slash m = ends_in_slash m ≡ true
@@ -168,7 +168,7 @@ quoted_all (b ∷ bytes) w m h =
     let n : List ℕ = (if opens_comment w b then blank_last m else m) ++ masked_byte w b ∷ [] in
     quoted_all bytes (next_state w b) n (shown_quoted (next_state w b) n (shown_step w m b h))
 
--- after a byte at least, what is open is shown
+-- After a byte at least, an open literal's quote or a slash is shown.
 pub shown_all : (b : ℕ) (bytes : List ℕ) (w : LexState) (m : List ℕ) → Quoted w m → Shown (place_after w (b ∷ bytes)) (masked_after w m (b ∷ bytes))
 shown_all b [] w m h = shown_step w m b h
 shown_all b (c ∷ bytes) w m h =

@@ -1,4 +1,5 @@
--- Edits: no more is printed of a text than there was, but that a directive that becomes the `#endif` may grow by a byte.
+-- Edits: the output for a text is no longer than the text, but that a directive that becomes the
+-- `#endif` may grow by a byte.
 use Rattle.std.proofs.Common.{◌≡◌, ℕ, suc, ◌+◌, ◌≤◌, List, [], ◌∷◌, ◌++◌, length, Bool, true, false, not, ◌&&◌, ◌==◌, eqb-true, if◌then◌else◌, refl, ap₂, arith, length-append, length-take, length-drop}
 use Rattle.ud_model.specs.text.Lines.{Line, text_of}
 use Rattle.ud_model.specs.sections.Directives.{Span}
@@ -11,11 +12,11 @@ use Rattle.ud_model.specs.declared.verdict.Verdict.{Verdict}
 use Rattle.ud_model.specs.declared.verdict.Verdict.TheVariants.{Keep, Remove, ToIf, ToElse, ToEndif}
 use Rattle.ud_model.proofs.output.Sizes.{whole}
 
--- a group after the first true one has come, after the one that became the `#endif`
+-- A group has come after the first true one, and after the one whose opener became the `#endif`.
 abbrev pub is_past : List Cond → Bool
 is_past cs = not (gives_way cs) && any_true cs && not (ends_with_first_true cs)
 
--- an opener after such a group goes; one that becomes the `#endif` is such a group
+-- An opener after such a group is removed; one that becomes the `#endif` opens such a group.
 abbrev pub Moves : Bool → Verdict → Bool → Type 0
 Moves true v now = (v ≡ Remove) × (now ≡ true)
 Moves false Keep now = Unit {0}
@@ -44,7 +45,7 @@ unknown_moves part c false ends now_some now_ends h = later_moves part c (now_so
 unknown_moves part c true true now_some now_ends h = ap₂ (λ (a b : Bool). a && not b) (h refl).0 (h refl).1
 unknown_moves part c true false now_some now_ends h = (refl, ap₂ (λ (a b : Bool). a && not b) (h refl).0 (h refl).1)
 
--- each opener moves so
+-- Each opener does so.
 pub opener_moves : (cs : List Cond) (part : Part) (c : Cond) → Moves (is_past cs) (verdict_so_far cs part c) (is_past (cs ++ c ∷ []))
 opener_moves [] part Yes = tt
 opener_moves [] part No = tt
@@ -62,11 +63,11 @@ past_by false true true h = cc
 past_by false true false h = refl
 past_by false false e h = cc
 
--- after such a group the `#endif` goes
+-- After such a group the `#endif` is removed.
 pub endif_past : (cs : List Cond) → is_past cs ≡ true → endif_verdict cs ≡ Remove
 endif_past cs h = past_by (gives_way cs) (any_true cs) (ends_with_first_true cs) h
 
--- the line stays as it is or goes
+-- The line stays as it is or is removed.
 abbrev pub KeepsOrGoes : Verdict → Type 0
 KeepsOrGoes Keep = Unit {0}
 KeepsOrGoes Remove = Unit {0}
@@ -80,17 +81,17 @@ endif_by false false e = tt
 endif_by false true true = tt
 endif_by false true false = tt
 
--- so does each `#endif`
+-- Each `#endif` stays or is removed.
 pub endif_keeps : (cs : List Cond) → KeepsOrGoes (endif_verdict cs)
 endif_keeps cs = endif_by (gives_way cs) (any_true cs) (ends_with_first_true cs)
 
--- the first opener stays or goes
+-- The first opener stays or is removed.
 pub if_keeps : (c : Cond) → KeepsOrGoes (verdict_so_far [] an_if c)
 if_keeps Yes = tt
 if_keeps No = tt
 if_keeps Unknown = tt
 
--- a line that goes leaves its ending at most
+-- A removed line leaves its ending at most.
 pub removed_size : (blank : Bool) (k : Span) (l : Line) → length (piece_alone blank (record { line = l; verdict = Remove; keyword = k })) + length l.body ≤ length (text_of l)
 removed_size true k l = let a : length (l.body ++ l.ending) ≡ length l.body + length l.ending = length-append l.body l.ending in omega arith
 removed_size false k l = let a : length (l.body ++ l.ending) ≡ length l.body + length l.ending = length-append l.body l.ending in omega arith
@@ -106,7 +107,7 @@ keeps_size blank ToIf k l h = absurd h
 keeps_size blank ToElse k l h = absurd h
 keeps_size blank ToEndif k l h = absurd h
 
--- how long what is printed may be
+-- The output is at most so long.
 abbrev pub AtMost : Verdict → ℕ → ℕ → Type 0
 AtMost Keep n m = n ≤ m
 AtMost Remove n m = n ≤ m
@@ -119,12 +120,13 @@ fits_by a b c true u n f g h = f refl
 fits_by a b c false true n f g h = g refl
 fits_by a b c false false n f g h = h
 
--- the word of a first directive in place of a keyword of four bytes at least isn't longer
+-- The keyword of a first directive isn't longer than a keyword of four bytes at least, which it
+-- replaces.
 if_size : (n : ℕ) → 4 ≤ n → length (opener_keyword n) ≤ n
 if_size n h =
     fits_by _ _ _ (n == 7) (n == 8) n (λ e. let q : n ≡ 7 = eqb-true n 7 e in omega (arith, q)) (λ e. let q : n ≡ 8 = eqb-true n 8 e in omega (arith, q)) h
 
--- of a directive whose keyword has four bytes at least
+-- The case of a directive whose keyword has four bytes at least.
 pub edited_size : (blank : Bool) (v : Verdict) (k : Span) (l : Line) → 4 ≤ k.len → k.at + k.len ≤ length l.body →
     AtMost v (length (piece_alone blank (record { line = l; verdict = v; keyword = k }))) (length (text_of l))
 edited_size blank Keep k l e h = keeps_size blank Keep k l tt
@@ -140,6 +142,6 @@ turned_by : (blank : Bool) (r : Bool) (k : Span) (l : Line) → length (piece_al
 turned_by blank true k l = keeps_size blank Keep k l tt
 turned_by blank false k l = keeps_size blank Remove k l tt
 
--- a complemented line doesn't grow
+-- A complemented line doesn't grow.
 pub turned_size : (blank : Bool) (j : Judged) → length (piece_alone blank (complemented j)) ≤ length (whole j)
 turned_size blank j = turned_by blank (is_removed j.verdict) j.keyword j.line

@@ -1,4 +1,4 @@
--- What a masked line carries that was made from one with a directive.
+-- The content of a masked line that was made from one with a directive.
 use Rattle.std.proofs.Common.{◌≡◌, ℕ, ◌+◌, ◌-◌, ◌==◌, List, [], ◌∷◌, ◌++◌, length, take, Bool, true, false, not, ◌&&◌, Option, Some, if◌then◌else◌, refl, sym, ◌∙◌, ap, ap₂, append_assoc, arith, length-append, ◌⊎◌, inl, inr}
 use Rattle.std.proofs.Math.Bool.{and-false}
 use Rattle.std.proofs.lemmas.List.{take_at}
@@ -22,7 +22,8 @@ past_all : (ws t : List ℕ) → Each IsWhite ws → StartsDark t → skip_white
 past_all [] t h d = past_dark t d
 past_all (b ∷ ws) t h d = ap (λ (w : Bool). if w then skip_white (ws ++ t) else b ∷ (ws ++ t)) h.0 ∙ past_all ws t h.1 d
 
--- the keyword isn't cut: the line joins no next one, or what follows the sign settles it
+-- The keyword isn't cut: the line joins no next one, or the bytes after the sign settle the
+-- keyword.
 abbrev pub Settled : Scan → List ℕ → Type 0
 Settled now tail = (now.joins_after ≡ false) ⊎ (may_split_keyword now tail ≡ false)
 
@@ -53,7 +54,7 @@ module _ (now : Scan) (ws gs tail : List ℕ) (k : Kind) (w : Each IsWhite ws) (
   at_is =
       let l : length now.masked ≡ length (ws ++ 35 ∷ gs) + length tail = ap (λ (t : List ℕ). length t) m ∙ length-append (ws ++ 35 ∷ gs) tail in omega (arith, l)
 
-  -- a line that is seen so carries this directive
+  -- A line with this masked text has this directive.
   pub carries : content_of now ≡ directive (record {
     kind = k;
     keyword = record { at = length (ws ++ 35 ∷ gs); len = length (leading_word tail) };
@@ -67,29 +68,30 @@ module _ (now : Scan) (ws gs tail : List ℕ) (k : Kind) (w : Each IsWhite ws) (
       ∙ ap (λ (o : Option Kind). directive_at now tail o) kind
       ∙ ap (λ (n : ℕ). directive (record { kind = k; keyword = record { at = n; len = length (leading_word tail) }; after = skip_word tail; broken = is_continued_outside_comment now })) at_is
 
--- a directive with another keyword, and two spaces more after it
+-- A directive with another keyword, and two spaces more after it.
 abbrev pub spaced : Directive → Kind → ℕ → Directive
 spaced d k n = record { kind = k; keyword = record { at = d.keyword.at; len = n }; after = 32 ∷ 32 ∷ d.after; broken = d.broken }
 
--- the kind of a directive that becomes the first one of its section, by the length of the keyword that it had
+-- The kind of a directive that becomes the first one of its section, by the length of the keyword
+-- that it had.
 abbrev pub if_kind : ℕ → Kind
 if_kind n = by_length n Ifdef Ifndef If
 
--- its condition is tested as before
+-- The condition is tested as before.
 pub tested_alike : (w : List ℕ) (k : Kind) → kind_of w ≡ Some k → role_of k ≡ ElifGroup → test_of (if_kind (length w)) ≡ test_of k
 tested_alike w k e =
     keyword_holds (λ row. role_of row.1 ≡ ElifGroup → test_of (if_kind (length row.0)) ≡ test_of row.1)
     ((λ h. cc), ((λ h. cc), ((λ h. cc), ((λ h. refl), ((λ h. refl), ((λ h. refl), ((λ h. cc), ((λ h. cc), tt)))))))) w k e
 
--- it begins its section
+-- The directive begins its section.
 pub if_begins : (n : ℕ) → role_of (if_kind n) ≡ IfGroup
 if_begins n = each_length (λ (k : Kind). role_of k ≡ IfGroup) refl refl refl n
 
--- how long its keyword then is
+-- The length of the new keyword.
 abbrev pub if_len : ℕ → ℕ
 if_len n = by_length n 5 6 2
 
--- its condition is tested as before
+-- The condition is tested as before.
 pub to_if_test : (scan : Scan) (d : Directive) → content_of scan ≡ directive d → role_of d.kind ≡ ElifGroup → test_of (if_kind d.keyword.len) ≡ test_of d.kind
 to_if_test scan d e h =
     let p : Front scan d = directive_front scan d e in
@@ -107,7 +109,7 @@ module _ (scan now : Scan) (d : Directive) (e : content_of scan ≡ directive d)
       (sym p.at_is) (c ∙ sym p.broken_is)
       ∙ ap₂ (λ (u : ℕ) (t : List ℕ). directive (record { kind = k; keyword = record { at = d.keyword.at; len = u }; after = t; broken = d.broken })) long rest
 
-  -- the word and what follows are this keyword and two spaces more
+  -- The bytes are this keyword and two spaces more.
   record IsWord (word : List ℕ) (k : Kind) (n : ℕ) : Type 0 where
     dark : StartsDark (word ++ d.after)
     settled : may_split_keyword now (word ++ d.after) ≡ false
@@ -125,14 +127,15 @@ module _ (scan now : Scan) (d : Directive) (e : content_of scan ≡ directive d)
   by_words {a} {b} {c} {i} {j} {k} {l} {m} {n} x y z false true e = with_word b j m y e
   by_words {a} {b} {c} {i} {j} {k} {l} {m} {n} x y z false false e = with_word c k n z e
 
-  -- with the word of a first directive in place of its keyword it is one, with the same text after two spaces
+  -- With the keyword of a first directive in place of its own, the line has a first directive, with
+  -- the same text after two spaces.
   pub to_if_content : now.masked ≡ take d.keyword.at scan.masked ++ (opener_keyword d.keyword.len ++ d.after) → content_of now ≡ directive (spaced d (if_kind d.keyword.len) (if_len d.keyword.len))
   to_if_content m =
       by_words (record { dark = refl; settled = and-false (is_continued_outside_comment now); kind = refl; long = refl; rest = refl })
       (record { dark = refl; settled = and-false (is_continued_outside_comment now); kind = refl; long = refl; rest = refl })
       (record { dark = refl; settled = and-false (is_continued_outside_comment now); kind = refl; long = refl; rest = refl }) (d.keyword.len == 7) (d.keyword.len == 8) m
 
--- a line that ends after `else` or `endif` in place of its keyword, and joins no other
+-- A line that ends after `else` or `endif` in place of its keyword, and joins no other.
 pub cut_content : (scan now : Scan) (d : Directive) (word : List ℕ) (k : Kind) → content_of scan ≡ directive d → now.masked ≡ take d.keyword.at scan.masked ++ word →
     now.fresh ≡ scan.fresh → now.joins_after ≡ false → is_continued_outside_comment now ≡ false → StartsDark word → leading_word word ≡ word → skip_word word ≡ [] → kind_of word ≡ Some k →
     content_of now ≡ directive (record { kind = k; keyword = record { at = d.keyword.at; len = length word }; after = []; broken = false })

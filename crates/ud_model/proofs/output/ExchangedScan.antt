@@ -1,4 +1,5 @@
--- A line whose keyword is exchanged is seen as before but for the keyword, and leaves off where it did.
+-- A line whose keyword is exchanged has the scan as before but for the keyword, and ends in the
+-- same state.
 use Rattle.std.proofs.Common.{◌≡◌, ◌≢◌, ℕ, suc, ◌+◌, ◌==◌, List, [], ◌∷◌, ◌++◌, length, take, drop, Bool, true, false, refl, sym, ◌∙◌, ap, ap₂, subst, append-nil, append_assoc, arith, length-append, length-take}
 use Rattle.std.proofs.lemmas.List.{take-append-drop, take_at, drop_at}
 use Rattle.ud_model.specs.text.Bytes.{space, newline, is_white}
@@ -12,7 +13,7 @@ use Rattle.ud_model.proofs.output.EditedScan.{has_quote, ends_in_slash, Quoted}
 use Rattle.ud_model.proofs.output.KeywordPlace.{Found, found_by, length-masked_after, IsInert, word_stands, masked_other, place_other, white_other}
 use Rattle.ud_model.proofs.output.DirectiveFront.{Front, directive_front, quiet_word, keyword_quiet, StartsDark, keyword_dark, front_unquoted, front_unslashed}
 
--- an open literal isn't white
+-- An open literal isn't white.
 abbrev pub Sane : LexState → Bool → Type 0
 Sane in_text white = Unit {0}
 Sane at_slash white = Unit {0}
@@ -22,7 +23,7 @@ Sane in_line white = Unit {0}
 Sane (in_literal q) white = white ≡ false
 Sane (at_backslash q) white = white ≡ false
 
--- if a line is fresh no literal is open before it
+-- If a line is fresh, no literal is open before it.
 fresh_quoted : (w : LexState) (white : Bool) (t : List ℕ) → Sane w white → fresh_at w white t ≡ true → Quoted w []
 fresh_quoted in_text white t s f = tt
 fresh_quoted at_slash white t s f = tt
@@ -32,7 +33,7 @@ fresh_quoted in_line white t s f = tt
 fresh_quoted (in_literal q) white t s f = let e : true ≡ false = sym f ∙ s in cc
 fresh_quoted (at_backslash q) white t s f = let e : true ≡ false = sym f ∙ s in cc
 
--- only the first byte of a line counts for whether it is fresh
+-- Only the first byte of a line decides whether it is fresh.
 fresh_first : (w : LexState) (white : Bool) (a t u : List ℕ) (n : ℕ) → length a ≡ suc n → fresh_at w white (a ++ t) ≡ fresh_at w white (a ++ u)
 fresh_first w white [] t u n e = absurd (omega arith)
 fresh_first in_text white (y ∷ a) t u n e = refl
@@ -43,7 +44,7 @@ fresh_first in_line white (y ∷ a) t u n e = refl
 fresh_first (in_literal q) white (y ∷ a) t u n e = refl
 fresh_first (at_backslash q) white (y ∷ a) t u n e = refl
 
--- if a keyword is seen, the text before it is between pieces
+-- If a keyword is shown, the text before it ends between lexemes.
 keyword_place : (w : LexState) (bytes front : List ℕ) (c : ℕ) (rest : List ℕ) (n : ℕ) → has_quote front ≡ false → ends_in_slash front ≡ false → c ≢ space → c ≢ newline →
     Quoted w [] → length front ≡ suc n → masked_after w [] bytes ≡ front ++ c ∷ rest → Found w bytes front c rest
 keyword_place w [] front c rest n u s p q k l e =
@@ -58,7 +59,7 @@ keyword_place w (x ∷ bytes) front c rest n u s p q k l e =
     subst (λ (t : List ℕ). Found w t front c rest) split
     (found_by c front u s p q w x (take n bytes) (drop n bytes) rest k long (subst (λ (t : List ℕ). masked_after w [] t ≡ front ++ c ∷ rest) (sym split) e))
 
--- A line with a directive: what stands before its keyword, the keyword, and what follows.
+-- A line with a directive: the bytes before its keyword, the keyword, and the rest.
 pub record Spelled (w : LexState) (white : Bool) (bytes : List ℕ) (d : Directive) : Type 0 where
   pub before : List ℕ
   pub first : ℕ
@@ -102,7 +103,7 @@ spelled_by w white bytes ws gs (c ∷ word) d q u s i n k a l e =
       dark = k;
     }
 
--- how a line with a directive is spelled
+-- A line with a directive is spelled so.
 pub spelled : (w : LexState) (white before : Bool) (l : Line) (d : Directive) → Sane w white → content_of (scan_from w white before l) ≡ directive d → Spelled w white (content l) d
 unfolding scan_from
 spelled w white before l d s e =
@@ -111,19 +112,20 @@ spelled w white before l d s e =
     spelled_by w white (content l) f.white f.gap f.word d (fresh_quoted w white (content l) s f.fresh_is) (front_unquoted f.white f.gap f.whites f.gaps)
     (front_unslashed f.white f.gap f.gaps) q.0 q.1 (keyword_dark f.word d.kind f.kind_is) f.at_is f.len_is f.masked_is
 
--- what follows two lists
+-- The rest after two lists.
 pub drop_two : (a b c : List ℕ) (n : ℕ) → n ≡ length a + length b → drop n (a ++ (b ++ c)) ≡ c
 drop_two a b c n e =
     ap (λ (t : List ℕ). drop n t) (sym (append_assoc a b c)) ∙ drop_at (a ++ b) c n (length-append a b ∙ sym e)
 
--- a line whose keyword is exchanged is seen as before but for its keyword, and leaves off where it did.
+-- A line whose keyword is exchanged has the scan as before but for its keyword, and ends in the
+-- same state.
 pub record Exchanged (w : LexState) (white before : Bool) (l k : Line) (d : Directive) (word : List ℕ) : Type 0 where
   pub masked_is : (scan_from w white before k).masked ≡ take d.keyword.at (scan_from w white before l).masked ++ (word ++ d.after)
   pub fresh_is : (scan_from w white before k).fresh ≡ (scan_from w white before l).fresh
   pub place_is : place_after w (content k) ≡ place_after w (content l)
   pub white_is : white_after w white (content k) ≡ white_after w white (content l)
 
--- if the new keyword begins nothing either, a line is seen so
+-- If the new keyword begins nothing either, a line is scanned so.
 pub exchanged_scan : (w : LexState) (white before : Bool) (l k : Line) (d : Directive) (word : List ℕ) → Sane w white →
     content_of (scan_from w white before l) ≡ directive d → Each IsInert word → StartsDark word →
     content k ≡ take d.keyword.at (content l) ++ (word ++ drop (d.keyword.at + d.keyword.len) (content l)) →
@@ -155,13 +157,13 @@ exchanged_scan w white before l k d (c ∷ word) s e i n are =
           ∙ white_other w p.before p.more p.front d.after p.place p.masks p.ends white p.first p.word p.inert p.dark);
     }
 
--- a line that ends after its new keyword is seen up to there, and leaves off between pieces
+-- A line that ends after its new keyword is scanned up to there, and ends between lexemes.
 pub record CutOff (w : LexState) (white before : Bool) (l k : Line) (d : Directive) (word : List ℕ) : Type 0 where
   pub masked_is : (scan_from w white before k).masked ≡ take d.keyword.at (scan_from w white before l).masked ++ word
   pub fresh_is : (scan_from w white before k).fresh ≡ (scan_from w white before l).fresh
   pub place_is : place_after w (content k) ≡ in_text
 
--- if that begins nothing, a line is seen so
+-- If the new keyword begins nothing, a line is scanned so.
 pub cut_scan : (w : LexState) (white before : Bool) (l k : Line) (d : Directive) (word : List ℕ) → Sane w white →
     content_of (scan_from w white before l) ≡ directive d → Each IsInert word → content k ≡ take d.keyword.at (content l) ++ word → CutOff w white before l k d word
 unfolding scan_from

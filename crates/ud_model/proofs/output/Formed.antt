@@ -1,4 +1,5 @@
--- The pieces of a text are lines: each has a line feed as its last byte and nowhere else, but perhaps the last one.
+-- The pieces of a text are lines: each ends with a newline and has no other one, but perhaps the
+-- last piece.
 use Rattle.std.proofs.Common.{◌≡◌, ◌≢◌, ℕ, ◌+◌, ◌-◌, List, [], ◌∷◌, ◌++◌, length, take, drop, ◌⊎◌, inl, inr, Bool, true, false, codes, ◌==◌, ◌||◌, if◌then◌else◌, nat_eq, refl, sym, ◌∙◌, ap, ap₂, subst, append_assoc, append-nil, arith, length-append}
 use Rattle.std.proofs.lemmas.Bool.{or_parts}
 use Rattle.std.specs.List.{ends_with}
@@ -21,11 +22,11 @@ no_feed_parts (b ∷ p) q h = let r : NoNewline p × NoNewline q = no_feed_parts
 no_feed_cut : (n : ℕ) (t : List ℕ) → NoNewline t → NoNewline (take n t) × NoNewline (drop n t)
 no_feed_cut n t h = no_feed_parts (take n t) (drop n t) (subst NoNewline (sym (take-append-drop n t)) h)
 
--- the ending of a whole line
+-- The ending of a whole line.
 abbrev pub IsEnd : List ℕ → Type 0
 IsEnd e = (e ≡ 13 ∷ 10 ∷ []) ⊎ (e ≡ 10 ∷ [])
 
--- a whole line has one
+-- A whole line has an ending.
 pub whole_ending : (l : List ℕ) → IsWhole l → IsEnd (ending_of l)
 whole_ending l (front, n, e) =
     by_tests (ends_with nat_eq l (13 ∷ 10 ∷ [])) (ends_with nat_eq l (10 ∷ [])) ((ends_is Decides-eqb l (10 ∷ []) (ends_with nat_eq l (10 ∷ [])) refl).1 front e)
@@ -35,7 +36,7 @@ whole_ending l (front, n, e) =
     by_tests false true h = inr refl
     by_tests false false h = cc
 
--- a body and an ending
+-- A body and an ending.
 ended : (b e : List ℕ) → NoNewline b → IsEnd e → IsWhole (b ++ e)
 ended b e n (inl h) = (b ++ 13 ∷ [], no_feed-append b (13 ∷ []) n ((λ p. omega arith), tt), ap (λ (t : List ℕ). b ++ t) h ∙ sym (append_assoc b (13 ∷ []) (10 ∷ [])))
 ended b e n (inr h) = (b, n, ap (λ (t : List ℕ). b ++ t) h)
@@ -56,7 +57,7 @@ whole_body t (front, n, e) = go (whole_ending t (front, n, e))
         let p : body_of t ++ 10 ∷ [] ≡ front ++ 10 ∷ [] = ap (λ (x : List ℕ). body_of t ++ x) (sym h) ∙ body-ending t ∙ e in
         subst NoNewline (sym (same_from_push (body_of t) front 10 10 p).0) n
 
--- what is printed of a body
+-- The output for a body.
 unfoldable pub edited_body : Verdict → Span → List ℕ → List ℕ
 edited_body Keep k b = b
 edited_body Remove k b = b
@@ -64,7 +65,7 @@ edited_body ToIf k b = (take k.at b ++ opener_keyword k.len) ++ drop (k.at + k.l
 edited_body ToElse k b = take k.at b ++ codes "else"
 edited_body ToEndif k b = take k.at b ++ codes "endif"
 
--- it isn't removed
+-- The line isn't removed.
 abbrev pub IsLeft : Verdict → Type 0
 IsLeft Keep = Unit {0}
 IsLeft Remove = ⊥
@@ -101,7 +102,7 @@ edited_no_feed ToIf k b n =
 edited_no_feed ToElse k b n = no_feed-append (take k.at b) (codes "else") (no_feed_cut k.at b n).0 (word_no_feed (codes "else") refl)
 edited_no_feed ToEndif k b n = no_feed-append (take k.at b) (codes "endif") (no_feed_cut k.at b n).0 (word_no_feed (codes "endif") refl)
 
--- the piece of a whole line that is left is a whole line
+-- The piece of a whole line that is left is a whole line.
 pub whole_piece : (v : Verdict) (k : Span) (n : ℕ) (t : List ℕ) → IsLeft v → IsWhole t → IsWhole (piece_by v k (line_at n t))
 whole_piece v k n t h w =
     subst IsWhole (sym (piece_parts v k (line_at n t) h)) (ended (edited_body v k (body_of t)) (ending_of t) (edited_no_feed v k (body_of t) (whole_body t w)) (whole_ending t w))
@@ -114,7 +115,7 @@ nil_front : (a b : List ℕ) → a ≢ [] → a ++ b ≢ []
 nil_front [] b n e = n refl
 nil_front (x ∷ a) b n e = cc
 
--- the piece of an unended line that is left is an unended line
+-- The piece of an unended line that is left is an unended line.
 pub unended_piece : (v : Verdict) (k : Span) (n : ℕ) (t : List ℕ) → IsLeft v → IsUnterminated t → IsUnterminated (piece_by v k (line_at n t))
 unfolding edited_body
 unended_piece Keep k n t h (s, w) = (subst (λ (x : List ℕ). x ≢ []) (sym (body-ending t)) s, subst NoNewline (sym (body-ending t)) w)
@@ -138,12 +139,12 @@ unended_piece ToEndif k n t h (s, w) =
       no_feed-append (take k.at (body_of t) ++ codes "endif") (ending_of t) (edited_no_feed ToEndif k (body_of t) p.0) p.1,
     )
 
--- a whole line in front of lines
+-- A whole line before lines.
 pub formed_more : (p : List ℕ) (qs : List (List ℕ)) → IsWhole p → AreFormed qs → AreFormed (p ∷ qs)
 formed_more p [] w f = inl w
 formed_more p (q ∷ qs) w f = (w, f)
 
--- it ends in this byte
+-- The list ends in this byte.
 unfoldable pub EndsIn : ℕ → List ℕ → Type 0
 EndsIn q b = (c : List ℕ) × (b ≡ c ++ q ∷ [])
 
@@ -158,7 +159,7 @@ module _ (q : ℕ) where
   end_front front b (push {xs = d} z p) e n (c, h) =
       let r : z ≡ q = end_back front d z (c, ap (λ (t : List ℕ). front ++ t) e ∙ h) in (d, sym e ∙ ap (λ (y : ℕ). d ++ y ∷ []) r)
 
-  -- a list that ends in another byte doesn't
+  -- A list that ends in another byte doesn't.
   pub not_end : (a d : List ℕ) (z : ℕ) → (z == q) ≡ false → EndsIn q (a ++ (d ++ z ∷ [])) → ⊥
   not_end a d z f h = let e : true ≡ false = sym ((Decides-eqb q q).1 refl) ∙ sym (ap (λ (y : ℕ). y == q) (end_back a d z h)) ∙ f in cc
 
@@ -166,13 +167,13 @@ module _ (q : ℕ) where
   unfolding EndsIn
   end_drop n b (c, e) = (take n b ++ c, sym (take-append-drop n b) ∙ ap (λ (t : List ℕ). take n b ++ t) e ∙ sym (append_assoc (take n b) c (q ∷ [])))
 
--- a byte other than the last one of each new keyword
+-- A byte other than the last one of each new keyword.
 pub record IsOther (q : ℕ) : Type 0 where
   pub no_space : (32 == q) ≡ false
   pub no_else : (101 == q) ≡ false
   pub no_endif : (102 == q) ≡ false
 
--- an edited body ends in such a byte only if the body does
+-- An edited body ends in such a byte only if the body does.
 pub edited_end : (q : ℕ) → IsOther q → (v : Verdict) (k : Span) (b : List ℕ) → EndsIn q (edited_body v k b) → EndsIn q b
 unfolding edited_body
 edited_end q o Keep k b h = h
@@ -196,7 +197,7 @@ by_ends : (l : List ℕ) (a b : Bool) → ends_with nat_eq l (13 ∷ 10 ∷ []) 
     ending_of l ≡ (if a then 13 ∷ 10 ∷ [] else if b then 10 ∷ [] else [])
 by_ends l a b e f = ap₂ (λ (x y : Bool). if x then 13 ∷ 10 ∷ [] else if y then 10 ∷ [] else []) e f
 
--- the ending of a body and an ending
+-- The ending of a body and an ending.
 pub ending_both : (b : List ℕ) → ending_of (b ++ 13 ∷ 10 ∷ []) ≡ 13 ∷ 10 ∷ []
 ending_both b =
     by_ends (b ++ 13 ∷ 10 ∷ []) true (ends_with nat_eq (b ++ 13 ∷ 10 ∷ []) (10 ∷ []))
@@ -229,7 +230,7 @@ cr_or_not t e (c, h) =
     let f : ending_of t ≡ 13 ∷ 10 ∷ [] = ap ending_of whole ∙ ending_both c in
     let g : 13 ∷ 10 ∷ [] ≡ 10 ∷ [] = sym f ∙ e in cc
 
--- what is left of a whole line keeps its ending
+-- The output for a whole line keeps its ending.
 pub whole_keeps : (v : Verdict) (k : Span) (t : List ℕ) → IsWhole t → ending_of (edited_body v k (body_of t) ++ ending_of t) ≡ ending_of t
 whole_keeps v k t w = go (whole_ending t w)
   where
@@ -246,7 +247,7 @@ unended_keeps v k t (s, w) =
     ap (λ (x : List ℕ). ending_of (edited_body v k (body_of t) ++ x)) none
     ∙ ap ending_of (append-nil (edited_body v k (body_of t))) ∙ ending_none (edited_body v k (body_of t)) (edited_no_feed v k (body_of t) b) ∙ sym none
 
--- what is left of a line, cut again into body and ending
+-- The output for a line, split again into body and ending.
 pub left_line : (v : Verdict) (k : Span) (n m : ℕ) (t : List ℕ) → IsLeft v → IsWhole t ⊎ IsUnterminated t →
     line_at m (piece_by v k (line_at n t)) ≡ record { body = edited_body v k (body_of t); ending = ending_of t; number = m }
 left_line v k n m t h w =

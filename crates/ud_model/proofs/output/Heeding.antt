@@ -1,4 +1,5 @@
--- If no argument has plain sections, no section ignores, and every line is read in one mode.
+-- If no argument makes sections plain text, no section is ignoring, and every line is read in one
+-- mode.
 use Rattle.std.proofs.Common.{◌≡◌, ℕ, List, [], ◌∷◌, ◌++◌, Bool, true, false, not, ◌&&◌, ◌||◌, Option, Some, None, bytes_eq, if◌then◌else◌, refl, sym, ◌∙◌, ap, ap₂, subst}
 use Rattle.std.proofs.Math.Bool.{and-false, or-false}
 use Rattle.ud_model.specs.text.Lines.{Line}
@@ -20,16 +21,16 @@ use Rattle.ud_model.proofs.output.Each.{Each, each_parts, each_both}
 use Rattle.ud_model.proofs.sections.Growth.{Adds}
 use Rattle.ud_model.proofs.sections.Unique.{unique, tree_before}
 
--- these items, each of a line that is read in this mode after those before
+-- The items, each of a line that is read in this mode after those before.
 pub data ReadIn (o : Options) (m : Mode) : List (Item Reading) → Type 0 where
   none_read : ReadIn o m []
   one_read : (ys : List (Item Reading)) → ReadIn o m ys → (l : Line) → ReadIn o m (ys ++ item_of o (read_after ys m l) ∷ [])
 
--- the mode in which every line is read
+-- The mode in which every line is read.
 abbrev pub the_mode : Options → Mode
 the_mode o = mode_by o.settings.plain
 
--- an opener doesn't ignore
+-- An opener isn't ignoring.
 abbrev pub Heeds : Item Reading → Type 0
 Heeds (text_line r) = Unit {0}
 Heeds (if_line p) = p.ignoring ≡ false
@@ -85,7 +86,7 @@ by_content o r (directive d) n =
     calm_item r (role_of d.kind) (decision_on r.scan d o.table (rules_of o.settings))
     (calm_unless d.broken (condition_of d.kind d.after o.table (rules_of o.settings)) r.scan.joins_after (calm_condition d.kind d.after o.table (rules_of o.settings) n))
 
--- an item that was read so heeds
+-- The opener of an item that was read so isn't ignoring.
 pub item_heeds : (o : Options) (r : Reading) → NoneIgnores o.table → Heeds (item_of o r)
 item_heeds o r n = by_content o r (content_of r.scan) n
 
@@ -99,7 +100,7 @@ head_heeds (if_head o) e = e.0
 head_heeds (elif_head es o) e = elifs_heed es (each_parts Heeds (lines_of_elifs es) (elif_line o ∷ []) e).0
 head_heeds (else_head es l) e = elifs_heed es (each_parts Heeds (lines_of_elifs es) (else_line l ∷ []) e).0
 
--- no section ignores
+-- No section is ignoring.
 pub tree_heeds : (t : Tree Reading) → Each Heeds (lines t) → is_ignoring t ≡ false
 tree_heeds (closed ns) e = refl
 tree_heeds (open_section ns h t) e =
@@ -107,7 +108,7 @@ tree_heeds (open_section ns h t) e =
     ap₂ (λ (a b : Bool). a || b) (head_heeds h (each_parts Heeds (lines_of_nodes ns) (lines_of_head h) p.0).1) (tree_heeds t p.1)
 
 module _ (o : Options) (n : NoneIgnores o.table) where
-  -- after lines none of which ignores the mode is the one mode
+  -- After lines none of which is ignoring the mode is the one mode.
   pub one_mode : (xs : List (Item Reading)) (t : Tree Reading) → lines t ≡ xs → Each Heeds xs → mode_after o t ≡ the_mode o
   one_mode xs t e h =
       ap (λ (b : Bool). mode_by (o.settings.plain || b)) (tree_heeds t (subst (Each Heeds) (sym e) h)) ∙ ap mode_by (or-false o.settings.plain)
@@ -116,12 +117,13 @@ module _ (o : Options) (n : NoneIgnores o.table) where
   all_heed m _ none_read = tt
   all_heed m _ (one_read ys r l) = each_both Heeds ys (item_of o (read_after ys m l) ∷ []) (all_heed m ys r) (item_heeds o (read_after ys m l) n, tt)
 
-  -- and so does each of sound items
+  -- No opener of faultless items is ignoring.
   pub sound_heed : (xs : List (Item Reading)) (t : Tree Reading) → AreFaultless o xs t → Each Heeds xs
   sound_heed _ _ no_lines = tt
   sound_heed _ _ (one_more xs t s l u e w) = each_both Heeds xs (next_item o xs t l ∷ []) (sound_heed xs t s) (item_heeds o (read_after xs (mode_after o t) l) n, tt)
 
-  -- items that are read in the one mode and have a tree are read in the modes of the lines before them
+  -- Items that are read in the one mode and have a tree are read in the modes of the lines before
+  -- them.
   pub are_read : (ys : List (Item Reading)) → ReadIn o (the_mode o) ys → (t : Tree Reading) → lines t ≡ ys → AreRead o ys t
   are_read _ none_read t e = subst (AreRead o []) (sym (unique t (closed nothing) e)) no_items
   are_read _ (one_read ys r l) t e =

@@ -1,4 +1,4 @@
--- Of woven nodes the same lines are selected, with those put in.
+-- The selected lines of nodes with inserted lines are the same, with inserted ones.
 use Rattle.std.proofs.Common.{◌≡◌, ℕ, suc, List, [], ◌∷◌, ◌++◌, length, map, Bool, true, false, Option, Some, None, refl, ap, ap₂, subst, append-nil, length-append, arith}
 use Rattle.ud_model.specs.text.Scans.{Reading}
 use Rattle.ud_model.specs.sections.Tree.{Nodes, Groups, Elifs}
@@ -10,7 +10,7 @@ lines_both no_lines k = k
 lines_both (same_line h w) k = same_line h (lines_both w k)
 lines_both (put_line h w) k = put_line h (lines_both w k)
 
--- lines, if they are there
+-- The lines, if they are there.
 data WovenIf : Option (List Reading) → Option (List Reading) → Type 0 where
   neither : WovenIf None None
   both : {rs ss : List Reading} → LinesWithInserted rs ss → WovenIf (Some rs) (Some ss)
@@ -29,7 +29,7 @@ if_true true false rs ss e k = cc
 if_true false true rs ss e k = cc
 if_true false false rs ss e k = neither
 
--- truths of xs many openers, part by part
+-- The truths of as many openers as `xs`, part by part.
 apart : (v w : World Reading) (xs bs cs ds : List Reading) → length xs ≡ length cs → map v (xs ++ bs) ≡ map w (cs ++ ds) →
     (map v xs ≡ map w cs) × (map v bs ≡ map w ds)
 apart v w [] bs [] ds l e = (refl, e)

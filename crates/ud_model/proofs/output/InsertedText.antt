@@ -1,4 +1,5 @@
--- The tree of an output under `-n` or `-b` is that of the output without them, with what is put in.
+-- The tree of an output under `-n` or `-b` is that of the output without them, with the inserted
+-- lines.
 use Rattle.std.proofs.Common.{◌≡◌, ℕ, List, [], ◌∷◌, ◌++◌, map, Bool, true, ◌||◌, refl, sym, ◌∙◌, ap, ap₂, subst}
 use Rattle.std.proofs.lemmas.List.{map-append}
 use Rattle.ud_model.specs.text.Lines.{Line, lines_of}
@@ -33,13 +34,13 @@ items_more o m ls l =
     ap (items o) (read_more m ls l) ∙ map-append (λ r. item_of o r) (read_in m ls) (next_reading (read_in m ls) m l ∷ [])
     ∙ ap (λ (rs : List Reading). items o (read_in m ls) ++ item_of o (next_reading rs m l) ∷ []) (sym (readings_back o (read_in m ls)))
 
--- the items of lines are read so
+-- The items of lines are read so.
 read_items : (o : Options) (m : Mode) (ls : List Line) → ByPush ls → ReadIn o m (items o (read_in m ls))
 read_items o m _ none = none_read
 read_items o m _ (push {xs = ls} l p) =
     subst (ReadIn o m) (sym (items_more o m ls l)) (one_read (items o (read_in m ls)) (read_items o m ls p) l)
 
--- and are of these lines
+-- The items of lines are of these lines.
 lines_back : (o : Options) (m : Mode) (ls : List Line) → ByPush ls → map line_of (items o (read_in m ls)) ≡ ls
 lines_back o m _ none = refl
 lines_back o m _ (push {xs = ls} l p) =
@@ -52,7 +53,7 @@ module _ (o : Options) (n : NoneIgnores o.table) where
   all_heed no_items = tt
   all_heed (one_item xs t a l u e) = each_both Heeds xs (next_item o xs t l ∷ []) (all_heed a) (item_heeds o (read_after xs (mode_after o t) l) n, tt)
 
-  -- items that were read are those of their lines
+  -- Items that were read are those of their lines.
   items_are : {xs : List (Item Reading)} {t : Tree Reading} → AreRead o xs t → xs ≡ items o (read_in (the_mode o) (map line_of xs))
   items_are no_items = refl
   items_are (one_item xs t a l u e) =
@@ -61,7 +62,7 @@ module _ (o : Options) (n : NoneIgnores o.table) where
       ∙ sym (items_more o (the_mode o) (map line_of xs) l)
       ∙ ap (λ (ls : List Line). items o (read_in (the_mode o) ls)) (sym (lines_with_next o xs t l))
 
--- the output's tree
+-- The output's tree.
 pub woven_text : (o : Options) → IsPlain o → (b n : Bool) → (b || n) ≡ true → (input : List ℕ) → {r s : Outcome} → HasOutcome o input r → HasOutcome (with_blank_renumber b n o) input s →
     (us : Nodes Reading) → IsTreeOf o r.output (closed us) → (vs : Nodes Reading) × IsTreeOf o s.output (closed vs) × NodesWithInserted us vs
 woven_text o p b n some input {r = r} {s = s} run other us a =

@@ -1,4 +1,4 @@
--- Lines put in are text lines, so the tree stays as it is, with them.
+-- Inserted lines are text lines, so the tree stays as it is, with them.
 use Rattle.std.proofs.Common.{◌≡◌, ℕ, List, [], ◌∷◌, ◌++◌, map, true, false, codes, decimal, inl, inr, refl, sym, ◌∙◌, ap, ap₂, subst, append_assoc, append-nil}
 use Rattle.std.proofs.lemmas.List.{map-append}
 use Rattle.ud_model.specs.text.Scans.{Scan, Reading, plain_scan}
@@ -14,7 +14,7 @@ use Rattle.ud_model.specs.declared.kind.Role.TheVariants.{IfGroup, ElifGroup, El
 
 -- 1. Items.
 
--- the same part in sections, of lines that are seen alike
+-- The items have the same part in sections, and their lines are scanned alike.
 pub data ItemAlike : Item Reading → Item Reading → Type 0 where
   a_text : {r s : Reading} → IsSame r s → ItemAlike (text_line r) (text_line s)
   an_if : {o p : Opener Reading} → IsSameOpener o p → ItemAlike (if_line o) (if_line p)
@@ -22,7 +22,7 @@ pub data ItemAlike : Item Reading → Item Reading → Type 0 where
   an_else : {r s : Reading} → IsSame r s → ItemAlike (else_line r) (else_line s)
   an_endif : {r s : Reading} → IsSame r s → ItemAlike (endif_line r) (endif_line s)
 
--- these items with text lines put in
+-- The items with text lines inserted.
 pub data Strewn : List (Item Reading) → List (Item Reading) → Type 0 where
   none : Strewn [] []
   same : {y z : Item Reading} {ys zs : List (Item Reading)} → ItemAlike y z → Strewn ys zs → Strewn (y ∷ ys) (z ∷ zs)
@@ -78,7 +78,7 @@ items o rs = map (λ r. item_of o r) rs
 last_item : (o : Options) (rs : List Reading) (r : Reading) → items o (rs ++ r ∷ []) ≡ items o rs ++ item_of o r ∷ []
 last_item o rs r = map-append (λ r. item_of o r) rs (r ∷ [])
 
--- what is counted is strewn
+-- Counted lines are such items.
 pub strewn_counted : (o : Options) {js : List Judged} {rs ss : List Reading} {n : ℕ} → Counted js rs ss n → Strewn (items o rs) (items o ss)
 strewn_counted o no_line = none
 strewn_counted o (goes c j g) = strewn_counted o c
@@ -98,7 +98,7 @@ strewn_counted o (starts_anew {rs = rs} {ss = ss} c j d q r s k) =
 
 -- 2. Nodes.
 
--- the first items of those, one item, and the others
+-- The first items, one item, and the others.
 record SplitAt (A : List (Item Reading)) (y : Item Reading) (B zs : List (Item Reading)) : Type 0 where
   pub before : List (Item Reading)
   pub here : Item Reading
@@ -155,7 +155,7 @@ split_by (a ∷ A) y B _ _ e (put {d = d} {ys = ys} {zs = zs} k s) = split_more 
 split_at : (A : List (Item Reading)) (y : Item Reading) (B zs : List (Item Reading)) → Strewn (A ++ y ∷ B) zs → SplitAt A y B zs
 split_at A y B zs s = split_by A y B (A ++ y ∷ B) zs refl s
 
--- the items of both parts
+-- The items of both parts.
 record SplitBoth (A B zs : List (Item Reading)) : Type 0 where
   pub before : List (Item Reading)
   pub later : List (Item Reading)
@@ -190,7 +190,7 @@ both_by (a ∷ A) B _ _ e (put {d = d} {ys = ys} {zs = zs} k s) =
 split_both : (A B zs : List (Item Reading)) → Strewn (A ++ B) zs → SplitBoth A B zs
 split_both A B zs s = both_by A B (A ++ B) zs refl s
 
--- nodes with text lines more
+-- Nodes with further text lines.
 record More (ns : Nodes Reading) (ms : Nodes Reading) (zs : List (Item Reading)) : Type 0 where
   pub nodes : Nodes Reading
   pub lines : lines_of_nodes nodes ≡ lines_of_nodes ms ++ zs
@@ -217,13 +217,13 @@ an_else_here r _ (an_else {s = s} k) = (s, refl, k)
 an_endif_here : (r : Reading) (z : Item Reading) → ItemAlike (endif_line r) z → (s : Reading) × (z ≡ endif_line s) × IsSame r s
 an_endif_here r _ (an_endif {s = s} k) = (s, refl, k)
 
--- these items as nodes
+-- The items as nodes.
 pub record Nodesof (ns : Nodes Reading) (zs : List (Item Reading)) : Type 0 where
   pub nodes : Nodes Reading
   pub lines : lines_of_nodes nodes ≡ zs
   pub woven : NodesWithInserted ns nodes
 
--- as groups, after text lines
+-- The items as groups, after text lines.
 record Groupsof (gs : Groups Reading) (zs : List (Item Reading)) : Type 0 where
   pub texts : List (Item Reading)
   pub groups : Groups Reading
@@ -238,7 +238,7 @@ record Elifsof (es : Elifs Reading) (zs : List (Item Reading)) : Type 0 where
   pub put_in : Strewn [] texts
   pub woven : ElifsWithInserted es elifs
 
--- a further group: its opener and its nodes
+-- A further group: its opener and its nodes.
 further : (before texts ls ms zs later : List (Item Reading)) (z y : Item Reading) → zs ≡ before ++ z ∷ later → before ≡ texts ++ ls → z ≡ y → ms ≡ later →
     zs ≡ texts ++ ((ls ++ y ∷ []) ++ ms)
 further before texts ls ms zs later z y e f g h =

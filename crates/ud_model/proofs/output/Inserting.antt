@@ -1,4 +1,5 @@
--- Inserting: the lines that `-b` and `-n` put in stand between logical lines, so each other line is seen as without them.
+-- Inserting: the lines that `-b` and `-n` insert come between logical lines, so each other line is
+-- scanned as without them.
 use Rattle.std.proofs.Common.{◌≡◌, ◌≢◌, ℕ, suc, List, [], ◌∷◌, ◌++◌, length, map, Bool, true, false, ◌&&◌, if◌then◌else◌, refl, sym, ◌∙◌, ap, ap₂, subst, arith}
 use Rattle.std.proofs.lemmas.List.{map-append, same_from_push}
 use Rattle.ud_model.specs.text.Lines.{Line, line_at, numbered_from, ending_of}
@@ -44,7 +45,8 @@ read_once o m _ _ (one_read ys a l) (one_read zs b k) e =
 
 -- 2. Two outputs side by side.
 
--- the items ys, and the items zs, read of the lines qs, leave off alike; and between logical lines, if the last line of ys joins nothing
+-- The items `ys`, and the items `zs`, which are read of the lines `qs`, end in the same state. If
+-- the last line of `ys` joins nothing, they end between logical lines.
 pub record Weave (o : Options) (m : Mode) (ys zs : List (Item Reading)) (qs : List (List ℕ)) : Type 0 where
   pub place : LexState
   pub white : Bool
@@ -55,7 +57,7 @@ pub record Weave (o : Options) (m : Mode) (ys zs : List (Item Reading)) (qs : Li
   pub read : ReadIn o m zs
   pub are : map line_of zs ≡ numbered_from 1 qs
 
--- the line of this text after those
+-- The line of this text after those.
 abbrev pub line_behind : List (List ℕ) → List ℕ → Line
 line_behind qs q = line_at (suc (length qs)) q
 
@@ -77,7 +79,7 @@ module _ (o : Options) (m : Mode) (ys zs : List (Item Reading)) (qs : List (List
       subst (λ (k : Mode). LeavesOff (with_line o k zs l) in_text true false) (sym e)
       (leaves_anew o zs l (ap (λ s. s.joins_after) (lone_scan zs C l a q)) (end_is_some l.ending q.end))
 
-  -- a quiet line is put in
+  -- A quiet line is inserted.
   pub put : LeavesOff ys in_text true false → (q : List ℕ) → IsQuiet (line_behind qs q) → Weave o m ys (with_line o m zs (line_behind qs q)) (qs ++ q ∷ [])
   put r q h =
       let a : LeavesOff (with_line o m zs (line_behind qs q)) in_text true false = lone_next m refl (line_behind qs q) (between_lines r) h in
@@ -92,11 +94,11 @@ module _ (o : Options) (m : Mode) (ys zs : List (Item Reading)) (qs : List (List
         are = are_more q;
       }
 
-  -- and is seen as it stands
+  -- An inserted line is scanned by itself.
   pub put_lone : LeavesOff ys in_text true false → (q : List ℕ) → IsQuiet (line_behind qs q) → IsLone (read_after zs m (line_behind qs q))
   put_lone r q h = lone_scan zs m (line_behind qs q) (between_lines r) h
 
-  -- a line of both is seen alike
+  -- A line of both outputs has the same scan.
   pub left_seen : (n : ℕ) (q : List ℕ) → scan_after (map reading_of zs) m (line_behind qs q) ≡ scan_after (map reading_of ys) m (line_at n q)
   left_seen n q = kept_scan ys zs m w.place w.white w.on (line_at n q) (line_behind qs q) w.first w.second refl refl
 
@@ -140,13 +142,13 @@ module _ (o : Options) (m : Mode) (ys zs : List (Item Reading)) (qs : List (List
         are = are_more q;
       }
 
-  -- and then both leave off alike
+  -- After a line of both outputs, they end in the same state.
   pub left : ReadIn o m ys → (n : ℕ) (q : List ℕ) → ending_of q ≢ [] → Weave o m (with_line o m ys (line_at n q)) (with_line o m zs (line_behind qs q)) (qs ++ q ∷ [])
   left a n q h = left_by m refl a n q h
 
 -- 3. Pieces.
 
--- lines are blanked, or numbered
+-- Lines are blanked, or numbered.
 abbrev pub style : Bool → Bool → Style
 style b n = record { blank = b; complement = false; renumber = n }
 
@@ -191,7 +193,7 @@ left_number ToIf before l k r e h = numbered_by (last_removed before) l (piece_b
 left_number ToElse before l k r e h = numbered_by (last_removed before) l (piece_by ToElse k l) r e
 left_number ToEndif before l k r e h = numbered_by (last_removed before) l (piece_by ToEndif k l) r e
 
--- the last judged line is removed if the last mark says so
+-- The last judged line is removed if the last mark means so.
 pub removed_last : (xs : List (Item Reading)) (ms : List Mark) → length xs ≡ length ms → last_removed (judged_lines xs ms) ≡ ends_removed ms
 removed_last [] [] e = refl
 removed_last [] (m ∷ ms) e = absurd (omega arith)

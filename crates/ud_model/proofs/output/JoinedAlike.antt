@@ -1,7 +1,7 @@
--- Of two lines that are joined both go or both stay, in a text without a fault.
+-- Of two joined lines both are removed or both stay, in a text without a fault.
 --
--- A line's place counts as kept before and after it: `before` tells whether the text before the line ends in a kept
--- place, `after` the same of the text with it.
+-- A position between lines is kept if all groups around it are. `before` means that the position
+-- before a line is kept, and `after` that the one after it is.
 use Rattle.std.proofs.Common.{◌≡◌, List, [], ◌∷◌, ◌++◌, Bool, true, false, not, ◌&&◌, ◌||◌, IsTrue, refl, sym, ◌∙◌, ap, subst, append-nil, append_assoc}
 use Rattle.ud_model.specs.declared.cond.Cond.{Cond}
 use Rattle.ud_model.specs.declared.cond.Cond.TheVariants.{Yes, No, Unknown}
@@ -19,18 +19,20 @@ use Rattle.ud_model.proofs.output.Suited.{Suits, suits_marked, suits_if, suits_e
 use Rattle.ud_model.proofs.sections.Stages.{Stage, leading, given, going, at_true, past, stage, verdict_at, kept_at, verdict_by_stage, kept_by_stage}
 
 module _ {L : Type 0} where
-  -- the text ends in a kept place, by whether it begins in one
+  -- The end of a text is kept, by whether its beginning is.
   abbrev pub ends_kept : Bool → Tree L → Bool
   ends_kept kept (closed ns) = kept
   ends_kept kept (open_section ns h t) = ends_kept (kept && is_inside_kept h) t
 
--- what a line does: the mark that it gets, by the place before it, and the place after it
+-- The effect of a line: the mark that it gets, by the position before it, and the position after
+-- it.
 pub data Does {L : Type 0} : Item L → Bool → Mark → Bool → Type 0 where
   does_text : (l : L) (before : Bool) → Does (text_line l) before (marked before Keep) before
-  -- in the place before, a section opens
+  -- At the position before it, a section opens.
   does_if : (o : Opener L) (before : Bool) (v : Verdict) (inside : Bool) → (IsTrue (keeps_rest v) → inside ≡ true) →
       Does (if_line o) before (marked before v) (before && inside)
-  -- a section goes on that lies in a kept place or not; the place before lies in it
+  -- A section goes on, whose groups around are all kept or not. The position before the line lies
+  -- in it.
   does_elif : (o : Opener L) (kept was : Bool) (v : Verdict) (inside : Bool) → (IsTrue (keeps_rest v) → inside ≡ true) →
       Does (elif_line o) (kept && was) (marked kept v) (kept && inside)
   does_else : (l : L) (kept was : Bool) (v : Verdict) (inside : Bool) → (IsTrue (keeps_rest v) → inside ≡ true) →
@@ -48,7 +50,7 @@ stage_keeps going part Unknown h = refl
 stage_keeps at_true part c h = cc
 stage_keeps past part c h = cc
 
--- the group of an opener that stays as an opener is kept
+-- The group of an opener that stays as an opener is kept.
 keeps_inside : (cs : List Cond) (part : Part) (c : Cond) → IsTrue (keeps_rest (verdict_so_far cs part c)) → is_kept cs c ≡ true
 keeps_inside cs part c h =
     kept_by_stage cs c ∙ stage_keeps (stage cs) part c (subst (λ (v : Verdict). IsTrue (keeps_rest v)) (verdict_by_stage cs part c) h)
@@ -60,7 +62,7 @@ module _ {L : Type 0} where
     pub does : Does x (ends_kept kept t) mark (ends_kept kept u)
     pub suits : Suits mark.verdict x
 
-  -- what each line does, with a mark that suits it
+  -- Each line has such an effect, with a mark that suits it.
   pub grows : (kept : Bool) {t u : Tree L} {x : Item L} → Adds t x u → Grows kept t u x
   grows kept (adds_text {l = l}) = record { mark = marked kept Keep; more = refl; does = does_text l kept; suits = suits_marked kept Keep (text_line l) tt }
   grows kept (adds_if {o = o}) = record {
@@ -105,7 +107,7 @@ module _ {L : Type 0} where
       let g : Grows (kept && is_inside_kept h) t u _ = grows (kept && is_inside_kept h) a in
       record { mark = g.mark; more = rw g.more simp append_assoc; does = g.does; suits = g.suits }
 
--- a line that joins the next one goes exactly if the place after it isn't kept
+-- A line that joins the next one is removed exactly if the position after it isn't kept.
 abbrev pub Carried : Item Reading → Mark → Bool → Type 0
 Carried x m behind = (reading_of x).scan.joins_after ≡ true → is_removed m.verdict ≡ not behind
 
@@ -120,7 +122,7 @@ marked_text : (b : Bool) → is_removed (marked b Keep).verdict ≡ not b
 marked_text true = refl
 marked_text false = refl
 
--- what a directive that isn't spoiled keeps, by its parts
+-- A directive that isn't obfuscated keeps its rest, and joins no line before it that is removed.
 spoiled_parts : (span joins removed : Bool) (v : Verdict) → (span && true && (not (keeps_rest v) || (joins && removed))) ≡ false →
     span ≡ true → IsTrue (keeps_rest v) × ((joins ≡ true) → removed ≡ false)
 spoiled_parts true joins removed Keep e p = (refl, λ q. by_and joins removed q e)
@@ -146,7 +148,7 @@ or_right : (a b : Bool) → b ≡ true → (a || b) ≡ true
 or_right true b e = refl
 or_right false b e = e
 
--- a directive of a section in a kept place that spans lines
+-- The case of a directive that spans lines, if all groups around its section are kept.
 kept_directive : (r : Reading) (removed : Bool) (v : Verdict) → (is_spanning r.scan && true && (not (keeps_rest v) || (r.scan.joins_before && removed))) ≡ false →
     is_spanning r.scan ≡ true → IsTrue (keeps_rest v) × ((r.scan.joins_before ≡ true) → removed ≡ false)
 kept_directive r removed v e p = spoiled_parts (is_spanning r.scan) r.scan.joins_before removed v e p
@@ -155,7 +157,7 @@ inside_not : (v : Verdict) (inside : Bool) → (IsTrue (keeps_rest v) → inside
 inside_not v inside k h = keeps_stays v h ∙ ap (λ (b : Bool). not b) (sym (k h))
 
 module _ (removed : Bool) where
-  -- what is known after a line that isn't spoiled and joins the next one
+  -- The facts after a line that isn't obfuscated and joins the next one.
   pub carried_step : {x : Item Reading} {before behind : Bool} {m : Mark} → Does x before m behind → is_obfuscated_after removed x m ≡ false → Carried x m behind
   carried_step (does_text l before) e j = marked_text before
   carried_step (does_if o false v inside k) e j = refl
@@ -177,7 +179,7 @@ module _ (removed : Bool) where
       let p : IsTrue (keeps_rest v) × ((r.scan.joins_before ≡ true) → removed ≡ false) = kept_directive r removed v e (or_left r.scan.joins_before r.scan.joins_after j) in
       keeps_stays v p.0 ∙ sym (p.1 j)
 
-  -- a line that joins the one before it goes where that went
+  -- A line that joins the one before it is removed exactly if that line is.
   pub joined_alike : {x : Item Reading} {before behind : Bool} {m : Mark} → Does x before m behind → is_obfuscated_after removed x m ≡ false →
       (reading_of x).scan.joins_before ≡ true → removed ≡ not before → is_removed m.verdict ≡ removed
   joined_alike (does_text l before) e j h = marked_text before ∙ sym h
@@ -195,7 +197,7 @@ module _ (removed : Bool) where
   alone_by true j true e h = cc
   alone_by true j false e h = cc
 
-  -- a line that is edited, but not to an `#if`, joins no other
+  -- A line that is edited, but not to an `#if`, joins no other.
   pub edited_alone : {x : Item Reading} {before behind : Bool} {m : Mark} → Does x before m behind → is_obfuscated_after removed x m ≡ false →
       keeps_rest m.verdict ≡ false → is_removed m.verdict ≡ false → is_spanning (reading_of x).scan ≡ false
   edited_alone (does_text l true) e k r = cc

@@ -1,4 +1,5 @@
--- The place of a keyword: before it no comment and no literal is open, and what stands there may be exchanged.
+-- The position of a keyword: before it no comment and no literal is open, and the bytes there may
+-- be exchanged.
 use Rattle.std.proofs.Common.{◌≡◌, ◌≢◌, ℕ, ◌+◌, ◌==◌, List, [], ◌∷◌, ◌++◌, length, Bool, true, false, ◌&&◌, ◌||◌, if◌then◌else◌, refl, sym, ◌∙◌, ap, ap₂, subst, append-nil, arith, length-append, eqb-true, ◌⊎◌, inl, inr}
 use Rattle.std.proofs.Math.Bool.{and-false}
 use Rattle.ud_model.specs.text.Bytes.{slash, star, space, newline, is_quote, is_white}
@@ -13,7 +14,7 @@ length_by : (o : Bool) (m : List ℕ) → length (if o then blank_last m else m)
 length_by true m = length-blank_last m
 length_by false m = refl
 
--- each byte is shown as one
+-- Each byte is shown as one.
 pub length-masked_after : (bytes : List ℕ) (w : LexState) (m : List ℕ) → length (masked_after w m bytes) ≡ length m + length bytes
 length-masked_after [] w m = omega arith
 length-masked_after (b ∷ bytes) w m =
@@ -22,7 +23,8 @@ length-masked_after (b ∷ bytes) w m =
     let c : length (n ++ masked_byte w b ∷ []) ≡ length n + 1 = length-append n (masked_byte w b ∷ []) in
     length-masked_after bytes (next_state w b) (n ++ masked_byte w b ∷ []) ∙ omega (arith, a, c)
 
--- if the masked line goes on with this byte after these, the text before the byte is between pieces
+-- If the masked line goes on with this byte after these, the text before the byte ends between
+-- lexemes.
 pub record Found (w : LexState) (content front : List ℕ) (c : ℕ) (rest : List ℕ) : Type 0 where
   pub before : List ℕ
   pub behind : List ℕ
@@ -49,7 +51,7 @@ module _ (c : ℕ) (front : List ℕ) (unquoted : has_quote front ≡ false) (un
   line_by true x e g = no_feed (sym g ∙ eqb-true x newline e)
   line_by false x e g = no_space (sym g)
 
-  -- if it goes on so, the text is between pieces
+  -- If the masked line goes on so, the text ends between lexemes.
   is_text : (p : LexState) (m : List ℕ) (x : ℕ) → Shown p m → (if opens_comment p x then blank_last m else m) ≡ front → masked_byte p x ≡ c → (p ≡ in_text) × (m ≡ front)
   is_text in_text m x h e g = (refl, e)
   is_text at_slash m x h e g = absurd (slash_by (x == star) (x == slash) m x h e g)
@@ -59,7 +61,7 @@ module _ (c : ℕ) (front : List ℕ) (unquoted : has_quote front ≡ false) (un
   is_text (in_literal q) m x h e g = let r : true ≡ false = sym h ∙ ap has_quote e ∙ unquoted in cc
   is_text (at_backslash q) m x h e g = let r : true ≡ false = sym h ∙ ap has_quote e ∙ unquoted in cc
 
-  -- the place of that byte
+  -- The position of that byte.
   pub found_by : (w : LexState) (y : ℕ) (a : List ℕ) (b rest : List ℕ) → Quoted w [] → length (y ∷ a) ≡ length front →
       masked_after w [] ((y ∷ a) ++ b) ≡ front ++ c ∷ rest → Found w ((y ∷ a) ++ b) front c rest
   found_by w y a [] rest q l e =
@@ -88,7 +90,7 @@ module _ (c : ℕ) (front : List ℕ) (unquoted : has_quote front ≡ false) (un
         goes_on = subst (λ (v : LexState). masked_after (next_state v x) (masked_byte v x ∷ []) b ≡ c ∷ rest) t.0 s.1;
       }
 
--- a byte that begins no comment and no literal
+-- The byte begins no comment and no literal.
 pub record IsInert (c : ℕ) : Type 0 where
   pub no_slash : (c == slash) ≡ false
   pub no_quote : is_quote c ≡ false
@@ -97,18 +99,18 @@ pub record IsInert (c : ℕ) : Type 0 where
 next_inert : (c : ℕ) → IsInert c → next_state in_text c ≡ in_text
 next_inert c i = ap₂ (λ (s q : Bool). if s then at_slash else if q then in_literal c else in_text) i.no_slash i.no_quote
 
--- after bytes that begin nothing the text is between pieces
+-- After bytes that begin nothing the text ends between lexemes.
 pub place_inert : (word : List ℕ) → Each IsInert word → place_after in_text word ≡ in_text
 place_inert [] h = refl
 place_inert (c ∷ word) h = ap (λ (v : LexState). place_after v word) (next_inert c h.0) ∙ place_inert word h.1
 
--- and they are shown as they are
+-- Bytes that begin nothing are shown as they are.
 pub masked_inert : (word : List ℕ) → Each IsInert word → masked_after in_text [] word ≡ word
 masked_inert [] h = refl
 masked_inert (c ∷ word) h =
     ap (λ (v : LexState). masked_after v (c ∷ []) word) (next_inert c h.0) ∙ text_front word (c ∷ []) ∙ ap (λ (l : List ℕ). c ∷ l) (masked_inert word h.1)
 
--- a word that is shown stands there
+-- A word that is shown is there.
 pub word_stands : (word behind rest : List ℕ) → Each IsInert word → Each (λ c. c ≢ space) word → masked_after in_text [] behind ≡ word ++ rest →
     (more : List ℕ) × (behind ≡ word ++ more) × (masked_after in_text [] more ≡ rest)
 word_stands [] behind rest h n e = (behind, refl, e)
@@ -124,7 +126,7 @@ word_stands (c ∷ word) (x ∷ behind) rest h n e =
     (r.0, ap₂ (λ (y : ℕ) (l : List ℕ). y ∷ l) q r.1, r.2)
 
 module _ (w : LexState) (before more front rest : List ℕ) (place : place_after w before ≡ in_text) (masks : masked_after w [] before ≡ front) (ends : masked_after in_text [] more ≡ rest) where
-  -- another word at this place: what follows is shown as before
+  -- After another word at this position, the rest is shown as before.
   pub masked_other : (word : List ℕ) → Each IsInert word → masked_after w [] (before ++ (word ++ more)) ≡ front ++ (word ++ rest)
   masked_other word h =
       masked_after-append w [] before (word ++ more)
@@ -134,7 +136,7 @@ module _ (w : LexState) (before more front rest : List ℕ) (place : place_after
       (masked_after-append in_text [] word more ∙ ap₂ (λ (v : LexState) (m : List ℕ). masked_after v m more) (place_inert word h) (masked_inert word h)
       ∙ text_front more word ∙ ap (λ (l : List ℕ). word ++ l) ends)
 
-  -- and the text leaves off where it did
+  -- After another word, the text ends in the same state.
   pub place_other : (word : List ℕ) → Each IsInert word → place_after w (before ++ (word ++ more)) ≡ place_after in_text more
   place_other word h =
       place_after-append w before (word ++ more)
@@ -153,7 +155,7 @@ module _ (w : LexState) (before more front rest : List ℕ) (place : place_after
   dark_first c white i d =
       ap₂ (λ (s f : Bool). if s then white else if f then true else white && is_white c) i.no_slash i.no_feed ∙ ap (λ (t : Bool). white && t) d ∙ and-false white
 
-  -- and so is whether the line is white
+  -- After another word, the line is white or not as before.
   pub white_other : (white : Bool) (c : ℕ) (word : List ℕ) → Each IsInert (c ∷ word) → is_white c ≡ false →
       white_after w white (before ++ ((c ∷ word) ++ more)) ≡ white_after in_text false more
   white_other white c word h d =

@@ -1,4 +1,4 @@
--- How long keywords are, and where they lie in a line.
+-- The lengths of keywords, and their positions in a line.
 use Rattle.std.proofs.Common.{◌≡◌, ℕ, ◌+◌, ◌≤◌, List, length, Bool, true, false, Option, Some, None, if◌then◌else◌, refl, sym, subst, arith}
 use Rattle.std.proofs.lemmas.Bool.{leb-true}
 use Rattle.std.proofs.Math.Dec.{leb}
@@ -15,18 +15,18 @@ use Rattle.ud_model.specs.declared.kind.Kind.{Kind}
 use Rattle.ud_model.specs.declared.kind.Role.{Role}
 use Rattle.ud_model.specs.declared.kind.Role.TheVariants.{IfGroup, ElifGroup, ElseGroup, EndifLine}
 
--- how many bytes a keyword with this role has at least, if it may be edited
+-- The least length of a keyword with this role, if it may be edited.
 abbrev pub least : Role → ℕ
 least IfGroup = 0
 least ElifGroup = 4
 least ElseGroup = 4
 least EndifLine = 5
 
--- a keyword's kind tells how long it is at least
+-- The kind of a keyword decides its least length.
 pub kind_size : (w : List ℕ) (k : Kind) → kind_of w ≡ Some k → least (role_of k) ≤ length w
 kind_size w k e = leb-true (least (role_of k)) (length w) (each_keyword (λ row. leb (least (role_of row.1)) (length row.0)) refl w k e)
 
--- in this content the keyword is at least as long as its kind says
+-- In this content the keyword is at least as long as its kind demands.
 abbrev pub HasSize : Content → Type 0
 HasSize cut_keyword = Unit {0}
 HasSize (directive d) = least (role_of d.kind) ≤ d.keyword.len
@@ -48,16 +48,16 @@ size_unless_cut : (scan : Scan) (cut : Bool) → HasSize (if cut then cut_keywor
 size_unless_cut scan true = tt
 size_unless_cut scan false = size_behind scan (skip_hash_if_fresh scan.masked)
 
--- a directive's keyword is at least as long as its kind says
+-- A directive's keyword is at least as long as its kind demands.
 pub content_size : (scan : Scan) → HasSize (content_of scan)
 content_size scan = size_unless_cut scan (has_split_keyword scan (skip_hash_if_fresh scan.masked))
 
--- the keyword of this line has so many bytes at least, and lies in the body
+-- The keyword of this line has so many bytes at least, and lies in the body.
 pub record HasWord (r : Reading) (n : ℕ) : Type 0 where
   pub size : n ≤ (keyword_in (content_of r.scan)).len
   pub within : (keyword_in (content_of r.scan)).at + (keyword_in (content_of r.scan)).len ≤ length r.line.body
 
--- the keywords of a directive that may be edited lie in its body
+-- The keywords of a directive that may be edited lie in its body.
 abbrev pub HasKeyword : Item Reading → Type 0
 HasKeyword (text_line r) = Unit {0}
 HasKeyword (if_line o) = Unit {0}
@@ -81,6 +81,6 @@ by_content o r (directive d) e s h =
       within = omega (arith, l, h);
     })
 
--- the keyword of an item lies in its line, if what is seen of the line isn't longer
+-- The keyword of an item lies in its line, if the masked line isn't longer.
 pub has_keyword : (o : Options) (r : Reading) → length r.scan.masked ≤ length r.line.body → HasKeyword (item_of o r)
 has_keyword o r h = by_content o r (content_of r.scan) refl (content_size r.scan) h

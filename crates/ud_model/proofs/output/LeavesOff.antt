@@ -1,4 +1,4 @@
--- Where lines in C mode leave off: what a line after them is seen by.
+-- The end of lines in C mode: the state by which a line after them is scanned.
 use Rattle.std.proofs.Common.{◌≡◌, ◌≢◌, ℕ, List, [], ◌∷◌, ◌++◌, map, Bool, true, false, refl, sym, ◌∙◌, ap, ap₂, subst, if◌then◌else◌, ◌==◌, ◌&&◌, ◌⊎◌, inl, inr, eqb-true}
 use Rattle.std.proofs.Math.Bool.{and-false}
 use Rattle.std.proofs.lemmas.List.{map-append}
@@ -66,7 +66,7 @@ sane_backslash : (q : ℕ) (f w white : Bool) → white ≡ false → Sane (if f
 sane_backslash q true w white e = tt
 sane_backslash q false w white e = ap (λ (b : Bool). b && w) e
 
--- so it is after one byte more
+-- A sane state is followed by a sane one.
 pub sane_step : (w : LexState) (white : Bool) (b : ℕ) → Sane w white → Sane (next_state w b) (stays_white w white b)
 sane_step in_text white b s = sane_text (b == slash) (is_quote b) white b refl refl
 sane_step at_slash white b s = sane_slash (b == star) (b == slash) (is_quote b) white b refl
@@ -84,13 +84,13 @@ sane_close : (stays : Bool) (w : LexState) (white : Bool) → Sane w white → S
 sane_close true w white s = s
 sane_close false w white s = sane_step w white newline s
 
--- the lines in C mode leave off there, and the last one joins the next one or not
+-- The lines in C mode end in this state, and the last one joins the next one or not.
 pub record LeavesOff (xs : List (Item Reading)) (w : LexState) (white joined_on : Bool) : Type 0 where
   pub reads : LexesTo (spliced_text (c_run_of (map reading_of xs))) w white
   pub sane : Sane w white
   pub joins_on : joined_on ≡ joins (c_run_of (map reading_of xs))
 
--- the line has an ending
+-- The line has an ending.
 abbrev pub HasEnd : Line → Type 0
 HasEnd l = l.ending ≢ []
 
@@ -98,7 +98,7 @@ joins_none : joins [] ≡ false
 unfolding joins
 joins_none = ap is_block (kind_at_place LexesTo-nil)
 
--- if no line in C mode stands before them, lines leave off between lines
+-- If no line in C mode comes before them, lines end between lines.
 pub nowhere : (xs : List (Item Reading)) → c_run_of (map reading_of xs) ≡ [] → LeavesOff xs in_text true false
 nowhere xs e = record {
   reads = subst (λ (run : List Line). LexesTo (spliced_text run) in_text true) (sym e) LexesTo-nil;
@@ -106,7 +106,7 @@ nowhere xs e = record {
   joins_on = sym joins_none ∙ sym (ap joins e);
 }
 
--- nothing joins the next line there
+-- Nothing joins the next line there.
 pub joins_nothing : (xs : List (Item Reading)) → c_run_of (map reading_of xs) ≡ [] → joins (c_run_of (map reading_of xs)) ≡ true → ⊥
 joins_nothing xs e j = let f : true ≡ false = sym j ∙ ap joins e ∙ joins_none in cc
 
@@ -114,7 +114,7 @@ same_line : (w : LexState) (white on : Bool) (l k : Line) → k.body ≡ l.body 
 unfolding scan_from
 same_line w white on l k e f = ap₂ (λ (b c : List ℕ). scan_from w white on (record { body = b; ending = c; number = 0 })) e f
 
--- 3. A line that stays is seen as before.
+-- 3. A line that stays is scanned as before.
 pub kept_scan : (xs ys : List (Item Reading)) (m : Mode) (w : LexState) (white on : Bool) (l k : Line) → LeavesOff xs w white on → LeavesOff ys w white on →
     k.body ≡ l.body → k.ending ≡ l.ending → scan_after (map reading_of ys) m k ≡ scan_after (map reading_of xs) m l
 kept_scan xs ys Plain w white on l k a b e f = ap (λ (t : List ℕ). plain_scan (record { body = t; ending = []; number = 0 })) e
@@ -122,19 +122,19 @@ kept_scan xs ys C w white on l k a b e f =
     scan_after_run-from (c_run_of (map reading_of ys)) k w white on b.reads b.joins_on ∙ same_line w white on l k e f
     ∙ sym (scan_after_run-from (c_run_of (map reading_of xs)) l w white on a.reads a.joins_on)
 
--- the readings of items with one more
+-- The readings of items with one more.
 pub readings_last : (o : Options) (xs ys : List (Item Reading)) (m : Mode) (l : Line) →
     map reading_of (ys ++ item_of o (read_after xs m l) ∷ []) ≡ map reading_of ys ++ read_after xs m l ∷ []
 readings_last o xs ys m l =
     map-append reading_of ys (item_of o (read_after xs m l) ∷ []) ∙ ap (λ (r : Reading). map reading_of ys ++ r ∷ []) (reading_of-item_of o (read_after xs m l))
 
--- lines with one more join the next one if that line does
+-- Lines with one more join the next one if that line does.
 pub joins_next : (o : Options) (xs : List (Item Reading)) (l : Line) →
     (scan_after (map reading_of xs) C l).joins_after ≡ joins (c_run_of (map reading_of (xs ++ item_of o (read_after xs C l) ∷ [])))
 joins_next o xs l =
     joins_after-code (c_run_of (map reading_of xs)) l ∙ ap joins (sym (ap c_run_of (readings_last o xs xs C l) ∙ run_of_last (map reading_of xs) (read_after xs C l)))
 
--- where the lines leave off with a line in C mode
+-- The state after a further line in C mode.
 pub leaves_next : (o : Options) (xs : List (Item Reading)) (w : LexState) (white on : Bool) (l : Line) → LeavesOff xs w white on →
     LeavesOff (xs ++ item_of o (read_after xs C l) ∷ []) (state_after_line (stays_open l) (place_after w (content l)))
     (white_after_line (stays_open l) (place_after w (content l)) (white_after w white (content l))) (scan_after (map reading_of xs) C l).joins_after
@@ -147,7 +147,7 @@ leaves_next o xs w white on l a = record {
   joins_on = joins_next o xs l;
 }
 
--- if it joins nothing and has an ending, they leave off between lines
+-- If a line joins nothing and has an ending, the lines end between lines.
 pub leaves_anew : (o : Options) (xs : List (Item Reading)) (l : Line) → (scan_after (map reading_of xs) C l).joins_after ≡ false → HasEnd l →
     LeavesOff (xs ++ item_of o (read_after xs C l) ∷ []) in_text true false
 leaves_anew o xs l j e =

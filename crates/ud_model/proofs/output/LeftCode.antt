@@ -1,4 +1,5 @@
--- What is left of a line in C mode, read again if the lines before and what is left of them leave off alike.
+-- The output for a line in C mode, read again, if the lines before and the output for them end in
+-- the same state.
 use Rattle.std.proofs.Common.{◌≡◌, ◌≢◌, ℕ, List, [], ◌∷◌, ◌++◌, map, take, Bool, true, false, ◌||◌, codes, refl, sym, ◌∙◌, ap, ap₂, subst}
 use Rattle.std.proofs.lemmas.Bool.{or_parts}
 use Rattle.ud_model.specs.text.Bytes.{backslash}
@@ -39,17 +40,17 @@ calm_by false line_comment e = refl
 calm_by false literal e = refl
 calm_by false single e = refl
 
--- a line that joins nothing doesn't end in a comment
+-- A line that joins nothing doesn't end in a comment.
 calm_alone : (run : List Line) (l : Line) → (scan_after_run run l).joins_after ≡ false → is_in_block (scan_after_run run l).comment ≡ false
 unfolding scan_after_run
 calm_alone run l e = calm_by (is_spliced l) (kind_at_end (spliced_text run ++ spliced_part l)) (sym (joins_last run l) ∙ e)
 
--- the same place under another name
+-- A state under another name.
 leaves_as : {xs : List (Item Reading)} {w v : LexState} {a b c d : Bool} → w ≡ v → a ≡ b → c ≡ d → LeavesOff xs w a c → LeavesOff xs v b d
 leaves_as {xs} {w} {v} {a} {b} {c} {d} e f g h =
     subst (λ (q : LexState). LeavesOff xs q b d) e (subst (λ (q : Bool). LeavesOff xs w q d) f (subst (λ (q : Bool). LeavesOff xs w a q) g h))
 
--- the bytes of a new keyword
+-- The bytes of a new keyword.
 abbrev NewWord : List ℕ → Type 0
 NewWord word = Each IsInert word × ((a : List ℕ) → EndsIn backslash (a ++ word) → ⊥)
 
@@ -63,7 +64,7 @@ module _ (o : Options) where
   abbrev with_line : List (Item Reading) → Line → List (Item Reading)
   with_line xs l = xs ++ item_of o (read_after xs C l) ∷ []
 
-  -- after a line that joins nothing, these leave off between lines
+  -- After a line that joins nothing, the lines end between lines.
   anew_rests : (ys : List (Item Reading)) (k : Line) → (scan_after (map reading_of ys) C k).joins_after ≡ false → HasEnd k → Rests (ys ++ item_of o (read_after ys C k) ∷ [])
   anew_rests ys k e h = record {
     off = leaves_anew o ys k e h;
@@ -75,7 +76,7 @@ module _ (o : Options) where
     has_end : HasEnd l → HasEnd k
     has_end h = subst (λ (e : List ℕ). e ≢ []) (sym ending) h
 
-    -- after a line that goes on as before
+    -- The case of a line that goes on as before.
     kept_carry : NextAlike w white l k → (scan_after (map reading_of ys) C k).joins_after ≡ (scan_after (map reading_of xs) C l).joins_after → HasEnd l →
         Carry false (with_line xs l) (with_line ys k)
     kept_carry n j h =
@@ -89,7 +90,7 @@ module _ (o : Options) where
         (scan_after (map reading_of xs) C l).joins_after (leaves_next o xs w white on l a) (leaves_as p q j (leaves_next o ys w white on k c)) (λ e. refl)
         (λ e. anew_rests ys k (j ∙ e) (has_end h))
 
-    -- after a line that joins nothing, before and now
+    -- The case of a line that joins nothing, before and now.
     cut_carry : (scan_after (map reading_of xs) C l).joins_after ≡ false → (scan_after (map reading_of ys) C k).joins_after ≡ false → HasEnd l →
         Carry false (with_line xs l) (with_line ys k)
     cut_carry e f h =
@@ -101,7 +102,7 @@ module _ (o : Options) where
     seen_now : scan_after (map reading_of ys) C k ≡ scan_from w white on k
     seen_now = scan_after_run-from (c_run_of (map reading_of ys)) k w white on c.reads c.joins_on
 
-    -- a line that is left, and what is carried to the next one
+    -- The output for a line, and the state that is carried to the next one.
     pub record LeftCode (v : Verdict) : Type 0 where
       pub left : Left o v (read_after xs C l) (read_after ys C k)
       pub carry : HasEnd l → Carry false (with_line xs l) (with_line ys k)
@@ -113,7 +114,7 @@ module _ (o : Options) where
         (subst (λ (s : Scan). SeenCut (scan_from w white on l) s d word) (sym seen_now)
         (cut_seen w white on l k d word a.sane (ap content_of (sym seen_before) ∙ e) n.0 (n.1 (take d.keyword.at l.body)) b))
 
-    -- by its verdict
+    -- By the line's verdict.
     pub left_code : (v : Verdict) → IsLeft v → Suits v (item_of o (read_after xs C l)) → is_cut (content_of (scan_after (map reading_of xs) C l)) ≡ false →
         (keeps_rest v ≡ false → is_spanning (scan_after (map reading_of xs) C l) ≡ false) →
         LeftLine v (keyword_in (content_of (scan_after (map reading_of xs) C l))) l k →

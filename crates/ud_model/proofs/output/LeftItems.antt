@@ -1,4 +1,4 @@
--- What is left of a line, read again, is the item that is left of it.
+-- The output for a line, read again, is the item of the output for it.
 use Rattle.std.proofs.Common.{◌≡◌, ℕ, List, [], ◌∷◌, map, Bool, true, false, not, ◌&&◌, Option, None, if◌then◌else◌, ◌⊎◌, inl, inr, refl, sym, ◌∙◌, ap, ap₂}
 use Rattle.std.proofs.Math.Bool.{and-false}
 use Rattle.ud_model.specs.text.Scans.{Scan, Reading}
@@ -25,7 +25,7 @@ use Rattle.ud_model.proofs.conditions.SpacesInFront.{condition_past, decided_pas
 use Rattle.ud_model.proofs.output.ExchangedContent.{spaced}
 use Rattle.ud_model.proofs.output.SeenLines.{Seen, seen, left_seen}
 
--- the second item is what is left of the first one with this verdict
+-- The second item is the output for the first one with this verdict.
 abbrev pub IsLeftOf : Verdict → Item Reading → Item Reading → Type 0
 IsLeftOf v x y = item_with seen y ∷ [] ≡ map (item_with left_seen) (kept_line v x)
 
@@ -42,7 +42,7 @@ same_role r q ElifGroup d e b h = ap₂ (λ (t : Seen) (c : Decision). elif_line
 same_role r q ElseGroup d e b h = ap else_line b
 same_role r q EndifLine d e b h = ap endif_line b
 
--- what is decided of a directive without a continuation, where it begins a section or not
+-- The decision on a directive without a continuation, whether it begins a section or not.
 abbrev decided_so : Bool → Decision → Bool → Decision
 decided_so begins c joins = record c { ignoring = (begins && c.ignoring) && not joins }
 
@@ -51,7 +51,8 @@ unknown_alike a b i j c e =
     ap (λ (t : Bool). record c { ignoring = (a && t) && not i }) e ∙ ap (λ (t : Bool). record c { ignoring = t && not i }) (and-false a)
     ∙ sym (ap (λ (t : Bool). record c { ignoring = (b && t) && not j }) e ∙ ap (λ (t : Bool). record c { ignoring = t && not j }) (and-false b))
 
--- if its condition is unknown, it is so with a keyword by which it is tested alike, and is plain text under neither
+-- If a condition is unknown, it is so with a keyword by which it is tested alike. The section is
+-- plain text under neither keyword.
 spaced_decision : (s q : Scan) (d : Directive) (k : Kind) (n : ℕ) (table : List Argument) (rules : Rules) → test_of k ≡ test_of d.kind →
     (decision_on s d table rules).cond ≡ Unknown → decision_on q (spaced d k n) table rules ≡ decision_on s d table rules
 spaced_decision s q d k n table rules e u = go d.broken u
@@ -78,7 +79,7 @@ module _ (o : Options) where
       same_role r q (role_of d.kind) (decision_on q.scan d o.table (rules_of o.settings)) (decision_on r.scan d o.table (rules_of o.settings)) b
       (ap (λ (t : Scan). decision_on t d o.table (rules_of o.settings)) s)
 
-  -- a line that is seen as before is the item that it was
+  -- A line that is scanned as before is the item that it was.
   pub kept_item : (r q : Reading) → q.scan ≡ r.scan → line_bytes q ≡ line_bytes r → IsLeftOf Keep (item_of o r) (item_of o q)
   kept_item r q s b =
       ap (λ (t : Scan). item_with seen (item_by o q (content_of t)) ∷ []) s
@@ -88,7 +89,8 @@ module _ (o : Options) where
       item_of o r ≡ directive_item r p (decision_on r.scan d o.table (rules_of o.settings))
   item_as r d p e h = ap (λ (c : Content). item_by o r c) e ∙ ap (λ (i : Role). directive_item r i (decision_on r.scan d o.table (rules_of o.settings))) h
 
-  -- a directive that opens a further group and becomes one that begins the section, its condition being tested alike
+  -- A directive that opens a further group becomes one that begins the section, its condition being
+  -- tested alike.
   pub if_item : (r q : Reading) (d : Directive) (k : Kind) (n : ℕ) → content_of r.scan ≡ directive d → role_of d.kind ≡ ElifGroup →
       (decision_on r.scan d o.table (rules_of o.settings)).cond ≡ Unknown →
       content_of q.scan ≡ directive (spaced d k n) → role_of k ≡ IfGroup → test_of k ≡ test_of d.kind →
@@ -109,7 +111,7 @@ module _ (o : Options) where
   none_either true = refl
   none_either false = refl
 
-  -- a line with an `#else` or `#endif` has no condition
+  -- A line with an `#else` or `#endif` has no condition.
   seen_cut : (r q : Reading) (f : Directive) (k : Kind) (t : List ℕ) → content_of q.scan ≡ directive f → f.kind ≡ k → condition_after k f.after ≡ None → line_bytes q ≡ t →
       ◌≡◌ {A = Seen} (seen q) (record { bytes = t; condition = None })
   seen_cut r q f k t n g c b =
@@ -117,14 +119,14 @@ module _ (o : Options) where
       (ap (λ (y : Content). condition_by q.scan y) n ∙ ap (λ (i : Kind). if q.scan.joins_after then None else condition_after i f.after) g
       ∙ ap (λ (x : Option Expression). if q.scan.joins_after then None else x) c ∙ none_either q.scan.joins_after)
 
-  -- a directive that opens a further group and becomes an `#else`
+  -- A directive that opens a further group becomes an `#else`.
   pub else_item : (r q : Reading) (d f : Directive) → content_of r.scan ≡ directive d → role_of d.kind ≡ ElifGroup → content_of q.scan ≡ directive f → f.kind ≡ Else →
       line_bytes q ≡ edited_bytes (edited ToElse r) → IsLeftOf ToElse (item_of o r) (item_of o q)
   else_item r q d f e h n g b =
       ap (λ (y : Item Reading). item_with seen y ∷ []) (item_as q f ElseGroup n (ap role_of g)) ∙ ap (λ (t : Seen). else_line t ∷ []) (seen_cut r q f Else (edited_bytes (edited ToElse r)) n g refl b)
       ∙ sym (ap (λ (x : Item Reading). map (item_with left_seen) (kept_line ToElse x)) (item_as r d ElifGroup e h))
 
-  -- a directive that opens a further group, or an `#else`, that becomes an `#endif`
+  -- A directive that opens a further group, or an `#else`, becomes an `#endif`.
   pub endif_item : (r q : Reading) (d f : Directive) → content_of r.scan ≡ directive d → (role_of d.kind ≡ ElifGroup) ⊎ (role_of d.kind ≡ ElseGroup) → content_of q.scan ≡ directive f → f.kind ≡ Endif →
       line_bytes q ≡ edited_bytes (edited ToEndif r) → IsLeftOf ToEndif (item_of o r) (item_of o q)
   endif_item r q d f e (inl h) n g b =
@@ -168,14 +170,15 @@ module _ (o : Options) where
   endif_content r text s = absurd s
   endif_content r (directive d) s = (d, refl, endif_role r (role_of d.kind) (decision_on r.scan d o.table (rules_of o.settings)) s)
 
-  -- a line that becomes an `#if` carries a directive that opens a further group, and whose condition is unknown
+  -- A line that becomes an `#if` has a directive that opens a further group, and whose condition is
+  -- unknown.
   pub becomes_if : (r : Reading) → Suits ToIf (item_of o r) → (d : Directive) × (content_of r.scan ≡ directive d) × (role_of d.kind ≡ ElifGroup) × ((decision_on r.scan d o.table (rules_of o.settings)).cond ≡ Unknown)
   becomes_if r s = if_content r (content_of r.scan) s
 
-  -- and so does one that becomes an `#else`
+  -- A line that becomes an `#else` has such a directive.
   pub becomes_else : (r : Reading) → Suits ToElse (item_of o r) → (d : Directive) × (content_of r.scan ≡ directive d) × (role_of d.kind ≡ ElifGroup)
   becomes_else r s = else_content r (content_of r.scan) s
 
-  -- one that becomes an `#endif` carries such a directive or an `#else`
+  -- A line that becomes an `#endif` has such a directive or an `#else`.
   pub becomes_endif : (r : Reading) → Suits ToEndif (item_of o r) → (d : Directive) × (content_of r.scan ≡ directive d) × ((role_of d.kind ≡ ElifGroup) ⊎ (role_of d.kind ≡ ElseGroup))
   becomes_endif r s = endif_content r (content_of r.scan) s

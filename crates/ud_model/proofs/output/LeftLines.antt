@@ -1,4 +1,4 @@
--- The content of what is left of a line.
+-- The content of the output for a line.
 use Rattle.std.proofs.Common.{◌≡◌, ℕ, ◌+◌, ◌-◌, ◌≤◌, List, [], ◌∷◌, ◌++◌, length, take, drop, Bool, true, false, not, ◌&&◌, ◌||◌, codes, nat_eq, if◌then◌else◌, ◌⊎◌, refl, sym, ◌∙◌, ap, ap₂, append_assoc, arith}
 use Rattle.std.proofs.lemmas.Bool.{and_parts}
 use Rattle.std.specs.List.{ends_with}
@@ -15,12 +15,12 @@ use Rattle.ud_model.specs.declared.verdict.Verdict.TheVariants.{Keep, ToIf, ToEl
 use Rattle.ud_model.proofs.output.Formed.{EndsIn, edited_end, edited_body, IsLeft, left_line}
 use Rattle.ud_model.proofs.text.ScanBytes.{content-front}
 
--- the second line is what is left of the first one
+-- The second line is the output for the first one.
 pub record LeftLine (v : Verdict) (keyword : Span) (l k : Line) : Type 0 where
   pub body : k.body ≡ edited_body v keyword l.body
   pub ending : k.ending ≡ l.ending
 
--- the piece of a line, cut again
+-- The piece of a line, split again.
 pub piece_line : (v : Verdict) (keyword : Span) (n m : ℕ) (t : List ℕ) (l : Line) → l ≡ line_at n t → IsLeft v → IsWhole t ⊎ IsUnterminated t →
     LeftLine v keyword l (line_at m (piece_by v keyword l))
 piece_line v keyword n m t l e h w =
@@ -45,7 +45,7 @@ does_end : (b : List ℕ) → EndsIn backslash b → ends_with nat_eq b (backsla
 unfolding EndsIn
 does_end b (c, e) = (ends_is Decides-eqb b (backslash ∷ []) (ends_with nat_eq b (backslash ∷ [])) refl).1 c e
 
--- a spliced line's body is its content and a backslash
+-- A spliced line's body is its content and a backslash.
 spliced_body : (l : Line) → is_spliced l ≡ true → l.body ≡ content l ++ backslash ∷ []
 spliced_body l s =
     (ends_is Decides-eqb l.body (backslash ∷ []) (ends_with nat_eq l.body (backslash ∷ [])) refl).0 (and_parts (ends_with nat_eq l.body (backslash ∷ [])) (not (is_empty l.ending)) s).0
@@ -54,11 +54,11 @@ spliced_body l s =
 whole_body : (l : Line) → is_spliced l ≡ false → content l ≡ l.body
 whole_body l s = ap (λ (t : Bool). if t then take (length l.body - 1) l.body else l.body) s
 
--- a line with the same splice and ending stays open as before
+-- A line with the same splice and ending stays open as before.
 pub same_open : (l k : Line) → is_spliced k ≡ is_spliced l → k.ending ≡ l.ending → stays_open k ≡ stays_open l
 same_open l k s e = ap₂ (λ (t : Bool) (x : List ℕ). t || is_empty x) s e
 
--- the front of a body is that of its content
+-- A prefix of the body within the content is one of the content.
 front_within : (l : Line) (n : ℕ) → n ≤ length (content l) → take n l.body ≡ take n (content l)
 front_within l n h =
     let f : (rest : List ℕ) × (l.body ≡ content l ++ rest) = content-front l in
@@ -77,7 +77,7 @@ module _ (keyword : Span) (l k : Line) (within : keyword.at + keyword.len ≤ le
       ∙ append_assoc a (opener_keyword keyword.len) (d ++ backslash ∷ []) ∙ ap (λ (t : List ℕ). a ++ t) (sym (append_assoc (opener_keyword keyword.len) d (backslash ∷ [])))
       ∙ sym (append_assoc a (opener_keyword keyword.len ++ d) (backslash ∷ []))
 
-  -- a line that becomes an `#if` is spliced as it was
+  -- A line that becomes an `#if` is spliced as it was.
   pub if_splice : LeftLine ToIf keyword l k → is_spliced k ≡ is_spliced l
   unfolding EndsIn
   if_splice h =
@@ -96,12 +96,12 @@ module _ (keyword : Span) (l k : Line) (within : keyword.at + keyword.len ≤ le
       whole_body k (if_splice h ∙ s) ∙ h.body ∙ append_assoc (take keyword.at l.body) (opener_keyword keyword.len) (drop (keyword.at + keyword.len) l.body)
       ∙ ap (λ (t : List ℕ). take keyword.at t ++ (opener_keyword keyword.len ++ drop (keyword.at + keyword.len) t)) (sym (whole_body l s))
 
-  -- and has its keyword exchanged
+  -- The content of a line that becomes an `#if` has its keyword exchanged.
   pub if_line_content : LeftLine ToIf keyword l k → content k ≡ take keyword.at (content l) ++ (opener_keyword keyword.len ++ drop (keyword.at + keyword.len) (content l))
   if_line_content h = if_by (is_spliced l) refl h
 
   module _ (word : List ℕ) (ends : EndsIn backslash (take keyword.at l.body ++ word) → ⊥) (b : k.body ≡ take keyword.at l.body ++ word) where
-    -- a line that ends after its new keyword isn't spliced
+    -- A line that ends after its new keyword isn't spliced.
     pub cut_splice : is_spliced k ≡ false
     unfolding EndsIn
     cut_splice = go (is_spliced k) refl
@@ -110,12 +110,12 @@ module _ (keyword : Span) (l k : Line) (within : keyword.at + keyword.len ≤ le
         go false s = refl
         go true s = absurd (ends (content k, sym b ∙ spliced_body k s))
 
-    -- and ends there
+    -- The content of a line that ends after its new keyword ends there.
     pub cut_line_content : content k ≡ take keyword.at (content l) ++ word
     cut_line_content =
         whole_body k cut_splice ∙ b ∙ ap (λ (t : List ℕ). t ++ word) (front_within l keyword.at (omega (arith, within)))
 
--- the bodies of lines that are left, by verdict
+-- The bodies of lines that are left, by verdict.
 pub else_body : (keyword : Span) (b : List ℕ) → edited_body ToElse keyword b ≡ take keyword.at b ++ codes "else"
 unfolding edited_body
 else_body keyword b = refl

@@ -1,4 +1,4 @@
--- What is left of a line in plain mode, read again.
+-- The output for a line in plain mode, read again.
 use Rattle.std.proofs.Common.{◌≡◌, ℕ, List, ◌++◌, take, false, codes, ◌∙◌, ap, subst}
 use Rattle.ud_model.specs.text.Lines.{Line, text_of}
 use Rattle.ud_model.specs.text.Scans.{Reading, plain_scan}
@@ -18,7 +18,7 @@ use Rattle.ud_model.proofs.output.LeftScans.{plain_if, plain_cut}
 use Rattle.ud_model.proofs.output.Suited.{Suits}
 
 module _ (o : Options) (xs ys : List (Item Reading)) (l k : Line) where
-  -- by its verdict
+  -- By the line's verdict.
   pub left_plain : (v : Verdict) → IsLeft v → Suits v (item_of o (read_after xs Plain l)) → is_cut (content_of (plain_scan l)) ≡ false →
       LeftLine v (keyword_in (content_of (plain_scan l))) l k → text_of k ≡ piece_by v (keyword_in (content_of (plain_scan l))) l →
       Left o v (read_after xs Plain l) (read_after ys Plain k)

@@ -1,4 +1,4 @@
--- What is seen of what is left of a line.
+-- The scan of the output for a line.
 use Rattle.std.proofs.Common.{◌≡◌, ℕ, ◌+◌, ◌≤◌, List, [], ◌∷◌, ◌++◌, length, take, drop, Bool, true, false, ◌&&◌, ◌||◌, refl, ◌∙◌, ap, ap₂, append_assoc, arith}
 use Rattle.ud_model.specs.text.Bytes.{backslash}
 use Rattle.ud_model.specs.text.Lines.{Line}
@@ -22,7 +22,7 @@ use Rattle.ud_model.proofs.output.KeywordPlace.{IsInert, length-masked_after}
 use Rattle.ud_model.proofs.output.LeftLines.{LeftLine, same_open, if_splice, if_line_content, cut_splice, cut_line_content}
 use Rattle.ud_model.proofs.text.ScanLaws.{place_after, white_after, masked_after, scan_from}
 
--- a line that becomes an `#if` is seen as before but for its keyword
+-- A line that becomes an `#if` has the scan as before but for its keyword.
 pub record SeenAsIf (s now : Scan) (d : Directive) : Type 0 where
   pub masked_is : now.masked ≡ take d.keyword.at s.masked ++ (opener_keyword d.keyword.len ++ d.after)
   pub fresh_is : now.fresh ≡ s.fresh
@@ -30,7 +30,7 @@ pub record SeenAsIf (s now : Scan) (d : Directive) : Type 0 where
   pub joins_is : now.joins_after ≡ s.joins_after
   pub comment_is : now.comment ≡ s.comment
 
--- a line that ends after its new keyword is seen up to there, and joins nothing
+-- A line that ends after its new keyword is scanned up to there, and joins nothing.
 pub record SeenCut (s now : Scan) (d : Directive) (word : List ℕ) : Type 0 where
   pub masked_is : now.masked ≡ take d.keyword.at s.masked ++ word
   pub fresh_is : now.fresh ≡ s.fresh
@@ -38,7 +38,7 @@ pub record SeenCut (s now : Scan) (d : Directive) (word : List ℕ) : Type 0 whe
   pub joins_is : now.joins_after ≡ false
   pub calm : is_in_block now.comment ≡ false
 
--- two lines leave off alike after a text that leaves off there
+-- Two lines end in the same state, after a text with this state.
 pub record NextAlike (w : LexState) (white : Bool) (l k : Line) : Type 0 where
   pub stays_is : stays_open k ≡ stays_open l
   pub place_is : place_after w (content k) ≡ place_after w (content l)
@@ -52,7 +52,7 @@ plain_after l d e =
     ap (λ (t : List ℕ). drop (d.keyword.at + d.keyword.len) t) p.masked_is
     ∙ drop_two (p.white ++ 35 ∷ p.gap) p.word d.after (d.keyword.at + d.keyword.len) (ap₂ (λ (a b : ℕ). a + b) p.at_is p.len_is)
 
--- a line that becomes an `#if` is seen so
+-- A line that becomes an `#if` is scanned so.
 pub plain_if : (l k : Line) (d : Directive) → content_of (plain_scan l) ≡ directive d → LeftLine ToIf d.keyword l k → SeenAsIf (plain_scan l) (plain_scan k) d
 unfolding edited_body
 plain_if l k d e h = record {
@@ -64,13 +64,13 @@ plain_if l k d e h = record {
   comment_is = refl;
 }
 
--- and so is one that ends after its new keyword
+-- A line that ends after its new keyword is scanned so.
 pub plain_cut : (l k : Line) (d : Directive) (word : List ℕ) → k.body ≡ take d.keyword.at l.body ++ word → SeenCut (plain_scan l) (plain_scan k) d word
 plain_cut l k d word b = record { masked_is = b; fresh_is = refl; cut_is = refl; joins_is = refl; calm = refl }
 
--- 2. In C mode, from the place at which the lines before leave off.
+-- 2. In C mode, from the state after the lines before.
 
--- lines with the same bytes leave off alike
+-- Lines with the same bytes end in the same state.
 pub same_next : (w : LexState) (white : Bool) (l k : Line) → k.body ≡ l.body → k.ending ≡ l.ending → NextAlike w white l k
 same_next w white l k b e = record {
   stays_is = ap₂ (λ (x y : List ℕ). stays_open (record { body = x; ending = y; number = 0 })) b e;
@@ -87,12 +87,12 @@ keyword_within w white on l d e =
     let c : k.at + k.len ≡ d.keyword.at + d.keyword.len = ap (λ (t : Content). (keyword_in t).at + (keyword_in t).len) e in
     omega (arith, a, b, c)
 
--- a line that becomes an `#if`
+-- The scan of a line that becomes an `#if`.
 pub record IfScan (w : LexState) (white on : Bool) (l k : Line) (d : Directive) : Type 0 where
   pub seen : SeenAsIf (scan_from w white on l) (scan_from w white on k) d
   pub next : NextAlike w white l k
 
--- it is seen so, and leaves off as before
+-- A line that becomes an `#if` is scanned so, and ends in the same state as before.
 pub if_scan : (w : LexState) (white on : Bool) (l k : Line) (d : Directive) → Sane w white → content_of (scan_from w white on l) ≡ directive d → LeftLine ToIf d.keyword l k →
     IfScan w white on l k d
 unfolding scan_from
@@ -123,7 +123,7 @@ calm_in_text : (t : Bool) → kind_in_state (state_after_line t in_text) ≡ sin
 calm_in_text true = refl
 calm_in_text false = refl
 
--- a line that ends after its new keyword
+-- A line that ends after its new keyword is scanned so.
 pub cut_seen : (w : LexState) (white on : Bool) (l k : Line) (d : Directive) (word : List ℕ) → Sane w white → content_of (scan_from w white on l) ≡ directive d →
     Each IsInert word → (EndsIn backslash (take d.keyword.at l.body ++ word) → ⊥) → k.body ≡ take d.keyword.at l.body ++ word →
     SeenCut (scan_from w white on l) (scan_from w white on k) d word

@@ -1,4 +1,4 @@
--- The list of names, said of words, an input and the answer to them.
+-- The list of names, stated for arguments, an input and the answer to them.
 use Rattle.std.proofs.Common.{◌≡◌, ◌≢◌, ℕ, List, Option, None, refl, sym, ◌∙◌, ap, subst}
 use Rattle.ud_model.specs.sections.Items.{Options}
 use Rattle.ud_model.specs.sections.Faults.{Fault}
@@ -10,7 +10,7 @@ use Rattle.ud_model.specs.declared.settings.Settings.{Settings}
 use Rattle.ud_model.proofs.output.AnswerLaws.{faultless}
 use Rattle.ud_model.proofs.output.ListComplete.{list_complete}
 
--- without a fault the name of the input doesn't count
+-- Without a fault the name of the input doesn't count.
 same_answer : (s u : Settings) (n m : List ℕ) (r : Outcome) → r.fault ≡ None → s ≡ u → run_answer s n r ≡ run_answer u m r
 same_answer s u n m r e f =
     ap (with_fault s n) e ∙ ap (λ (w : Settings). with_fault w n None) f ∙ sym (ap (with_fault u m) e)
@@ -18,7 +18,7 @@ same_answer s u n m r e f =
     with_fault : Settings → List ℕ → Option Fault → Answer
     with_fault w k g = record { output = r.output; message = message_or_none k g; status = status_of w r.differs g }
 
--- words that say the same of what is listed have the same answer
+-- Arguments with the same entries for the listed names have the same answer.
 pub answered_by_list : {lister args more : List (List ℕ)} {input : List ℕ} {l a : Answer} → IsAnswer lister input l → l.status ≢ 2 →
     options_of lister ≡ with_listing (options_of args) → IsAnswer args input a → a.status ≢ 2 → usage_fault more ≡ None →
     (options_of more).settings ≡ (options_of args).settings → AgreeOnListed l.output (options_of args).table (options_of more).table → IsAnswer more input a

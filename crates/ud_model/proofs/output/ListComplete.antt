@@ -1,4 +1,5 @@
--- The list of names is complete: of the symbols only those count that are listed, or to which a listed one leads.
+-- The list of names is complete: of the symbols only those count that are listed, or to which a
+-- listed one leads.
 use Rattle.std.proofs.Common.{◌≡◌, ◌≢◌, ◌⊎◌, inl, inr, ℕ, List, [], ◌∷◌, ◌++◌, length, map, Bool, false, ◌||◌, Option, Some, None, refl, sym, ◌∙◌, ap, ap₂, subst, append_assoc, arith}
 use Rattle.std.proofs.lemmas.List.{map-append}
 use Rattle.ud_model.specs.text.Lines.{Line, split_lines, partial_line, lines_of}
@@ -27,11 +28,11 @@ use Rattle.ud_model.proofs.output.Heeding.{the_mode, one_mode, sound_heed}
 
 -- 1. Items with the same names.
 
--- each name on these lines has the property
+-- Each name on these lines has the property.
 abbrev pub AllNames : (List ℕ → Type 0) → List (Item Reading) → Type 0
 AllNames P xs = Each (λ x. Each P (names_at x)) xs
 
--- each name of what was read has it
+-- Each name on the lines that were read has the property.
 abbrev NamesRead : (List ℕ → Type 0) → Reading → Type 0
 NamesRead P r = Each P (names_in_content (content_of r.scan))
 
@@ -44,7 +45,7 @@ module _ (o p : Options) (plain : o.settings.plain ≡ p.settings.plain) (rules 
       item_alike o p rules (read_after xs (mode_after o t) l) (content_of (read_after xs (mode_after o t) l).scan) h
       ∙ ap (λ (b : Bool). item_of p (read_after xs (mode_by (b || is_ignoring t)) l)) plain
 
-  -- lines that are sound under the one options are so under the others
+  -- Lines that are faultless under the one options are so under the others.
   pub sound_alike : {xs : List (Item Reading)} {t : Tree Reading} → AreFaultless o xs t → AllNames Known xs → AreFaultless p xs t
   sound_alike no_lines h = no_lines
   sound_alike (one_more xs t s l u e n) h =
@@ -54,7 +55,7 @@ module _ (o p : Options) (plain : o.settings.plain ≡ p.settings.plain) (rules 
       subst (λ (y : Item Reading). AreFaultless p (xs ++ y ∷ []) u) (sym x)
       (one_more xs t (sound_alike s q.0) l u (subst (λ (y : Item Reading). lines u ≡ xs ++ y ∷ []) x e) (subst (λ (y : Item Reading). NoneHolds xs y cases) x n))
 
-  -- and so they stop with the same fault
+  -- So they stop with the same fault.
   pub stop_alike : (ls : List Line) (xs : List (Item Reading)) (t : Tree Reading) (f : Fault) → (s : FirstFaultAt o ls xs t f) → AllNames Known xs →
       NamesRead Known (read_after xs (mode_after o t) s.faulty) → FirstFaultAt p ls xs t f
   stop_alike ls xs t f s h k = record {
@@ -65,7 +66,7 @@ module _ (o p : Options) (plain : o.settings.plain ≡ p.settings.plain) (rules 
     fault = subst (λ (y : Item Reading). FaultOf xs y f) (next_alike xs t s.faulty k) s.fault;
   }
 
--- 2. What is listed.
+-- 2. The listed names.
 
 rest_none : (t : List ℕ) → partial_line (t ++ 10 ∷ []) ≡ []
 rest_none t = ap (λ q. q.rest) (split_lines-append-line t [] tt)
@@ -86,7 +87,7 @@ names_then P (n ∷ names) rest before z h =
     let k = names_then P names rest (before ++ n ++ 10 ∷ []) (rest_none (before ++ n)) (λ m i. h m (subst (IsListed m) (sym (flat ∙ moved)) i)) in
     ((h n (before, more ++ rest, z, flat), k.0), (k.1.0, k.1.1, flat ∙ moved ∙ k.1.2))
 
--- a property of all that is listed is one of all names
+-- A property of all listed names is one of all names.
 all_from : (P : List ℕ → Type 0) (xs : List (Item Reading)) (ns before : List ℕ) → length ns ≡ length xs → partial_line before ≡ [] →
     ((n : List ℕ) → IsListed n (before ++ listed false xs ns) → P n) → AllNames P xs
 all_from P [] ns before e z h = tt
@@ -131,7 +132,7 @@ each_unmap : {A B : Type 0} (f : A → B) (Q : B → Type 0) (xs : List A) → E
 each_unmap f Q [] h = tt
 each_unmap f Q (x ∷ xs) h = (h.0, each_unmap f Q xs h.1)
 
--- a line in this mode
+-- A line in this mode.
 abbrev in_mode : Mode → Line → Mode × Line
 in_mode m l = (m, l)
 
@@ -141,7 +142,7 @@ read_in m ls = readings_of (map (in_mode m) ls)
 read_more : (m : Mode) (ls : List Line) (l : Line) → read_in m (ls ++ l ∷ []) ≡ read_in m ls ++ next_reading (read_in m ls) m l ∷ []
 read_more m ls l = ap (λ (ks : List (Mode × Line)). readings_of ks) (map-append (in_mode m) ls (l ∷ [])) ∙ readings_after-append [] (map (in_mode m) ls) (in_mode m l ∷ [])
 
--- the readings of longer lists of lines begin so
+-- The readings of longer lists of lines begin so.
 read_front : (m : Mode) (ls : List Line) (l : Line) (later : List Line) →
     (rest : List Reading) × (read_in m (ls ++ l ∷ later) ≡ (read_in m ls ++ next_reading (read_in m ls) m l ∷ []) ++ rest)
 read_front m ls l later =
@@ -155,7 +156,7 @@ module _ (o : Options) (n : NoneIgnores o.table) where
   mode_is : {xs : List (Item Reading)} {t : Tree Reading} → AreFaultless o xs t → mode_after o t ≡ the_mode o
   mode_is {xs = xs} {t = t} s = one_mode o n xs t (sound_lines s) (sound_heed o n xs t s)
 
-  -- sound lines are read in the one mode
+  -- Faultless lines are read in the one mode.
   read_so : {xs : List (Item Reading)} {t : Tree Reading} → AreFaultless o xs t → map reading_of xs ≡ read_in (the_mode o) (map line_of xs)
   read_so no_lines = refl
   read_so (one_more xs t s l u e w) =
@@ -208,7 +209,7 @@ list_serves q o p input set calm n (ran_as (ends xs t g)) e same alike run =
 
 -- 5. One symbol.
 
--- a name to which another leads is that one, or the value of a name
+-- A name to which another leads is that one, or the value of a name.
 led_to : (t : List Argument) (n m : List ℕ) → LeadsTo t n m → (m ≡ n) ⊎ ((k : List ℕ) × (defined_text t k ≡ Some m))
 led_to t _ _ (itself n) = inl refl
 led_to t _ _ (by_value n v m d i l) = elim (led_to t v m l) [ inl e ↦ inr (n, d ∙ ap (λ (w : List ℕ). Some w) (sym e)) | inr k ↦ inr k ]

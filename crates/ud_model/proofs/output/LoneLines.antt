@@ -1,4 +1,5 @@
--- Lone lines: a blank line and a `#line`, put in between logical lines, are seen as they stand, and leave off between lines.
+-- Lone lines: a blank line and a `#line`, inserted between logical lines, are scanned by
+-- themselves, and end between lines.
 use Rattle.std.proofs.Common.{◌≡◌, ◌≢◌, ℕ, ◌+◌, ◌-◌, ◌^◌, ◌%◌, ◌<◌, List, [], ◌∷◌, ◌++◌, length, take, map, Bool, true, false, not, ◌&&◌, ◌||◌, ◌==◌, nat_eq, if◌then◌else◌, inl, inr, codes, decimal, refl, sym, ◌∙◌, ap, ap₂, subst, append_assoc, append-nil, length-append, ne_eqb, arith}
 use Rattle.std.specs.List.{ends_with}
 use Rattle.std.proofs.lemmas.Bool.Decides.{Decides-eqb}
@@ -22,7 +23,7 @@ use Rattle.ud_model.proofs.output.LeavesOff.{LeavesOff}
 use Rattle.ud_model.proofs.text.LinesLemmas.{no_feed-append}
 use Rattle.ud_model.proofs.text.ScanLaws.{place_after, masked_after, scan_from, scan_after_run-from}
 
--- a byte that begins nothing and ends nothing
+-- A byte that begins nothing and ends nothing.
 pub record Quiet (b : ℕ) : Type 0 where
   pub no_slash : (b == slash) ≡ false
   pub no_quote : is_quote b ≡ false
@@ -62,7 +63,7 @@ word_quiet = (
   ),
 )
 
--- what a `#line` says
+-- The bytes of a `#line`.
 abbrev pub says_number : ℕ → List ℕ
 says_number n = codes "#line " ++ decimal n
 
@@ -75,7 +76,7 @@ quiet_no_feed : (b : List ℕ) → Each Quiet b → NoNewline b
 quiet_no_feed [] q = tt
 quiet_no_feed (x ∷ b) q = (q.0.no_feed, quiet_no_feed b q.1)
 
--- quiet bytes don't end in this byte, if no quiet byte is so
+-- Quiet bytes don't end in this byte, if no quiet byte is so.
 ends_quiet : (z : ℕ) → (Quiet z → ⊥) → (b : List ℕ) → Each Quiet b → EndsIn z b → ⊥
 unfolding EndsIn
 ends_quiet z loud b q (c, e) = go c (subst (Each Quiet) e q)
@@ -90,7 +91,7 @@ cut_ending m b e h =
     (take_at b e (length (b ++ e) - length (ending_of (b ++ e)))
     (let a = length-append b e in let f : length (ending_of (b ++ e)) ≡ length e = ap (λ (x : List ℕ). length x) h in omega (arith, a, f))) h
 
--- quiet bytes and an ending are a line with this body and this ending
+-- Quiet bytes and an ending are a line with this body and this ending.
 pub quiet_line : (m : ℕ) (b e : List ℕ) → Each Quiet b → IsEnd e → line_at m (b ++ e) ≡ record { body = b; ending = e; number = m }
 quiet_line m b e q (inl h) = cut_ending m b e (subst (λ (x : List ℕ). ending_of (b ++ x) ≡ x) (sym h) (ending_both b))
 quiet_line m b e q (inr h) =
@@ -101,7 +102,7 @@ quiet_whole b e q (inl h) =
     (b ++ 13 ∷ [], no_feed-append b (13 ∷ []) (quiet_no_feed b q) ((λ p. omega arith), tt), ap (λ (t : List ℕ). b ++ t) h ∙ sym (append_assoc b (13 ∷ []) (10 ∷ [])))
 quiet_whole b e q (inr h) = (b, quiet_no_feed b q, ap (λ (t : List ℕ). b ++ t) h)
 
--- 2. As they are seen.
+-- 2. Their scans.
 
 next_quiet : (b : ℕ) → Quiet b → next_state in_text b ≡ in_text
 next_quiet b q = ap₂ (λ (s t : Bool). if s then at_slash else if t then in_literal b else in_text) q.no_slash q.no_quote
@@ -115,7 +116,7 @@ masked_quiet [] seen q = sym (append-nil seen)
 masked_quiet (x ∷ b) seen q =
     ap (λ (w : LexState). masked_after w (seen ++ x ∷ []) b) (next_quiet x q.0) ∙ masked_quiet b (seen ++ x ∷ []) q.1 ∙ append_assoc seen (x ∷ []) b
 
--- a line of quiet bytes with an ending
+-- A line of quiet bytes with an ending.
 pub record IsQuiet (l : Line) : Type 0 where
   pub quiet : Each Quiet l.body
   pub end : IsEnd l.ending
@@ -156,12 +157,12 @@ module _ (l : Line) (q : IsQuiet l) where
       let s : is_spliced l ≡ false = spliced_not l q in
       rw (m, lands, s)
 
--- between logical lines a quiet line is seen as it stands
+-- Between logical lines a quiet line is scanned by itself.
 pub lone_scan : (zs : List (Item Reading)) (m : Mode) (l : Line) → LeavesOff zs in_text true false → IsQuiet l → scan_after (map reading_of zs) m l ≡ plain_scan l
 lone_scan zs Plain l a q = refl
 lone_scan zs C l a q = scan_after_run-from (c_run_of (map reading_of zs)) l in_text true false a.reads a.joins_on ∙ seen_quiet l q
 
--- the line of a number
+-- The bytes of a `#line` are quiet.
 pub number_quiet : (m : ℕ) (l : Line) → IsEnd (ending_or_newline l.ending) → l.number < 2 ^ 64 →
     line_at m (number_line l) ≡ record { body = says_number l.number; ending = ending_or_newline l.ending; number = m }
 number_quiet m l e h = quiet_line m (says_number l.number) (ending_or_newline l.ending) (says_quiet l.number h) e

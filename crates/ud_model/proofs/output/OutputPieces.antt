@@ -16,7 +16,7 @@ use Rattle.ud_model.specs.declared.verdict.Verdict.TheVariants.{Keep, Remove, To
 use Rattle.ud_model.proofs.output.Formed.{IsLeft, whole_piece, unended_piece, formed_more}
 use Rattle.ud_model.proofs.text.LinesLemmas.{texts_of-formed, lines_exist}
 
--- the line of an item
+-- The line of an item.
 abbrev pub line_in : {L : Type 0} → Item L → L
 line_in (text_line l) = l
 line_in (if_line o) = o.line
@@ -24,7 +24,7 @@ line_in (elif_line o) = o.line
 line_in (else_line l) = l
 line_in (endif_line l) = l
 
--- what is left of a line: nothing, or one item, whose bytes are the line's piece
+-- The output for a line: nothing, or one item, whose bytes are the line's piece.
 unfoldable pub LeftOne : Verdict → Item Reading → Type 0
 LeftOne v x = (y : Item (Edited Reading)) × (kept_line v x ≡ y ∷ []) × (edited_bytes (line_in y) ≡ piece_by v (keyword_in (content_of (reading_of x).scan)) (line_of x)) × IsLeft v
 
@@ -55,7 +55,7 @@ left_one ToEndif (endif_line l) = inr (endif_line (edited ToEndif l), refl, refl
 unfoldable pub all_pieces : List (Item (Edited Reading)) → List (List ℕ)
 all_pieces ys = map (λ y. edited_bytes (line_in y)) ys
 
--- no more lines are left than there are
+-- No more lines are left than there are.
 pub printed_most : (xs : List (Item Reading)) (ms : List Mark) → length (printed xs ms) ≤ length xs
 unfolding LeftOne
 printed_most [] ms = omega arith
@@ -105,12 +105,12 @@ all_formed (x ∷ y ∷ xs) (m ∷ ms) n (t ∷ u ∷ ts) e f =
     let q : map line_of (y ∷ xs) ≡ numbered_from (suc n) (u ∷ ts) = cc in
     formed_with m.verdict x (printed (y ∷ xs) ms) n t p f.0 (all_formed (y ∷ xs) ms (suc n) (u ∷ ts) q f.1)
 
--- what is printed of the lines of a text that goes through is lines
+-- The output for the lines of a text without a faulty line is lines.
 pub pieces_formed : (o : Options) (input : List ℕ) (xs : List (Item Reading)) (ns : Nodes Reading) → HasNoFault o (lines_of input) xs (closed ns) →
     AreFormed (map (λ y. edited_bytes (line_in y)) (printed xs (marks (closed ns))))
 unfolding all_pieces
 pieces_formed o input xs ns g = all_formed xs (marks (closed ns)) 1 (texts_of input) (sym g.are) (lines_exist input).formed
 
--- the lines of pieces that are lines are these, each with its number
+-- If pieces are lines, these are the lines of the output, each with its number.
 pub output_lines : (ps : List (List ℕ)) → AreFormed ps → lines_of (concat ps) ≡ numbered_from 1 ps
 output_lines ps f = ap (numbered_from 1) (sym (texts_of-formed ps f))

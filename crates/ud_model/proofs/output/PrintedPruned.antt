@@ -1,4 +1,4 @@
--- The lines that are left of a text are those of its pruned nodes.
+-- The lines of the output for a text are those of its pruned nodes.
 use Rattle.std.proofs.Common.{◌≡◌, List, [], ◌∷◌, ◌++◌, length, Bool, true, false, Some, None, refl, sym, ◌∙◌, ap, ap₂, arith, append-nil, append_assoc, length-append}
 use Rattle.ud_model.specs.declared.cond.Cond.{Cond}
 use Rattle.ud_model.specs.declared.cond.Cond.TheVariants.{Yes, No, Unknown}
@@ -13,7 +13,7 @@ use Rattle.ud_model.proofs.sections.Stays.{marks_so_far_same}
 use Rattle.ud_model.proofs.sections.Stages.{Stage, leading, given, going, at_true, past, stage, next_stage, verdict_at, kept_at, endif_at, verdict_by_stage, kept_by_stage, stage_next, endif_by_stage}
 
 module _ {L : Type 0} where
-  -- what is left of two lists of lines
+  -- The output for two lists of lines.
   pub printed-append : (xs ys : List (Item L)) (ms ns : List Mark) → length xs ≡ length ms → printed (xs ++ ys) (ms ++ ns) ≡ printed xs ms ++ printed ys ns
   printed-append [] ys [] ns e = refl
   printed-append [] ys (m ∷ ms) ns e = absurd (omega arith)
@@ -22,7 +22,7 @@ module _ {L : Type 0} where
       ap (λ (zs : List (Item (Edited L))). kept_line m.verdict x ++ zs) (printed-append xs ys ms ns (omega arith))
       ∙ sym (append_assoc (kept_line m.verdict x) (printed xs ms) (printed ys ns))
 
-  -- the lines of what is left of a section's groups
+  -- The lines of the rest of a section's groups.
   abbrev pub left_lines : KeptGroups L → List (Item (Edited L))
   left_lines none_kept = []
   left_lines (replaced ms) = lines_of_nodes ms
@@ -30,7 +30,7 @@ module _ {L : Type 0} where
   left_lines (ended es l ms None) = (lines_of_elifs es ++ else_line l ∷ []) ++ lines_of_nodes ms
   left_lines (ended es l ms (Some k)) = ((lines_of_elifs es ++ else_line l ∷ []) ++ lines_of_nodes ms) ++ endif_line k ∷ []
 
-  -- the stage at which so much is left
+  -- The stage of such a rest.
   abbrev pub stage_of : KeptGroups L → Stage
   stage_of none_kept = leading
   stage_of (replaced ms) = given
@@ -38,7 +38,7 @@ module _ {L : Type 0} where
   stage_of (ended es l ms None) = at_true
   stage_of (ended es l ms (Some k)) = past
 
-  -- what is left of the groups, by their conditions
+  -- The rest of the groups, by their conditions.
   record Has (cs : List Cond) (left : KeptGroups L) (xs : List (Item (Edited L))) : Type 0 where
     pub stands : stage cs ≡ stage_of left
     pub are : xs ≡ left_lines left
@@ -99,7 +99,7 @@ module _ {L : Type 0} where
   stage_else (ended es k ms None) l ps = refl
   stage_else (ended es k ms (Some j)) l ps = refl
 
-  -- the lines of nodes, and then those of others
+  -- The lines of nodes, and then those of others.
   pub lines_then : (ms ns : Nodes (Edited L)) → lines_of_nodes (then_nodes ms ns) ≡ lines_of_nodes ms ++ lines_of_nodes ns
   lines_then ms nothing = sym (append-nil (lines_of_nodes ms))
   lines_then ms (text ns l) =
@@ -121,7 +121,7 @@ module _ {L : Type 0} where
   more_long : (xs : List (Item L)) (ms : List Mark) (x : Item L) (m : Mark) → length xs ≡ length ms → length (xs ++ x ∷ []) ≡ length (ms ++ m ∷ [])
   more_long xs ms x m e = simp length-append (omega (arith, e))
 
-  -- a list, a line and another list
+  -- The output for a list, a line and another list.
   printed_between : (xs : List (Item L)) (x : Item L) (ys : List (Item L)) (ms : List Mark) (m : Mark) (ns : List Mark) → length xs ≡ length ms →
       printed ((xs ++ x ∷ []) ++ ys) ((ms ++ m ∷ []) ++ ns) ≡ (printed xs ms ++ kept_line m.verdict x) ++ printed ys ns
   printed_between xs x ys ms m ns e =
@@ -129,7 +129,7 @@ module _ {L : Type 0} where
       ∙ ap (λ (zs : List (Item (Edited L))). zs ++ printed ys ns)
       (printed-append xs (x ∷ []) ms (m ∷ []) e ∙ ap (λ (zs : List (Item (Edited L))). printed xs ms ++ zs) (append-nil (kept_line m.verdict x)))
 
-  -- two lists and a line
+  -- The output for two lists and a line.
   printed_behind : (xs ys : List (Item L)) (x : Item L) (ms ns : List Mark) (m : Mark) → length xs ≡ length ms → length ys ≡ length ns →
       printed ((xs ++ ys) ++ x ∷ []) ((ms ++ ns) ++ m ∷ []) ≡ (printed xs ms ++ printed ys ns) ++ kept_line m.verdict x
   printed_behind xs ys x ms ns m d e =
@@ -137,7 +137,7 @@ module _ {L : Type 0} where
       ∙ ap₂ (λ (zs ws : List (Item (Edited L))). zs ++ ws) (printed-append xs ys ms ns d) (append-nil (kept_line m.verdict x))
 
   mutual
-    -- outside kept places nothing is left
+    -- If a group around is removed, nothing is left.
     pub nodes_gone : (ns : Nodes L) → printed (lines_of_nodes ns) (nodes_so_far false ns) ≡ []
     nodes_gone nothing = refl
     nodes_gone (text ns l) =
@@ -169,7 +169,7 @@ module _ {L : Type 0} where
   by_place true ns h = h
   by_place false ns h = nodes_gone ns
 
-  -- what is left of a group after others
+  -- The rest of a group after others.
   elif_has : (cs : List Cond) (left : KeptGroups L) (o : Opener L) (ns : Nodes L) (xs : List (Item L)) (ms : List Mark) → length xs ≡ length ms → Has cs left (printed xs ms) →
       printed (lines_of_nodes ns) (nodes_so_far true ns) ≡ lines_of_nodes (pruned ns) →
       Has (cs ++ o.cond ∷ []) (with_group left an_elif o o.cond (pruned ns))
@@ -241,6 +241,6 @@ module _ {L : Type 0} where
     elifs_printed (elif es o ns) =
         elif_has (conds_of_elifs es) (kept_elifs_of es) o ns (lines_of_elifs es) (elifs_so_far true es) (as_many_elifs true es) (elifs_printed es) (nodes_printed ns)
 
-  -- what is left of the lines of nodes are the lines of the pruned nodes
+  -- The output for the lines of nodes is the lines of the pruned nodes.
   pub printed-pruned : (ns : Nodes L) → printed (lines_of_nodes ns) (marks (closed ns)) ≡ lines_of_nodes (pruned ns)
   printed-pruned ns = ap (λ (ms : List Mark). printed (lines_of_nodes ns) ms) (marks_so_far_same true (closed ns)) ∙ nodes_printed ns

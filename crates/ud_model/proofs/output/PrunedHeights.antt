@@ -1,4 +1,5 @@
--- Heights: a line more makes a text no higher than it is deep then, and pruning makes none higher.
+-- Heights: one more line makes a text no higher than it is deep then, and pruning makes none
+-- higher.
 use Rattle.std.proofs.Common.{◌≡◌, ℕ, suc, ◌≤◌, max, Some, None, refl, ap₂, arith}
 use Rattle.ud_model.specs.declared.cond.Cond.{Cond}
 use Rattle.ud_model.specs.declared.cond.Cond.TheVariants.{Yes, No, Unknown}
@@ -14,7 +15,7 @@ module _ {L : Type 0} where
   complete_most (elif_head es o) b = omega arith
   complete_most (else_head es l) b = omega arith
 
-  -- a line more makes a text no higher than it is deep then
+  -- One more line makes a text no higher than it is deep then.
   pub grows_most : {t u : Tree L} {x : Item L} → Adds t x u → height u ≤ max (height t) (depth u)
   grows_most adds_text = omega arith
   grows_most adds_if = omega arith
@@ -63,7 +64,7 @@ module _ {L : Type 0} where
   left_most ps (ended es l ms (Some k)) e = omega arith
 
   mutual
-    -- pruned nodes are no higher
+    -- Pruned nodes are no higher.
     pub pruned_height : (ns : Nodes L) → height_of_nodes (pruned ns) ≤ height_of_nodes ns
     pruned_height nothing = omega arith
     pruned_height (text ns l) = pruned_height ns
@@ -94,7 +95,7 @@ module _ {L : Type 0} where
 
 module _ {L M : Type 0} (f : L → M) where
   mutual
-    -- nodes with other lines are as high
+    -- Nodes with other lines are as high.
     pub height-with : (ns : Nodes L) → height_of_nodes (with_lines f ns) ≡ height_of_nodes ns
     height-with nothing = refl
     height-with (text ns l) = height-with ns

@@ -10,7 +10,7 @@ use Rattle.ud_model.specs.output.Worlds.{openers, openers_of_groups, openers_of_
 use Rattle.ud_model.specs.output.Pruned.{Edited, edited, KeptGroups, none_kept, replaced, kept_groups, ended, then_nodes, with_group, with_else, then_kept, pruned, kept_groups_of, kept_elifs_of}
 use Rattle.ud_model.proofs.output.Each.{Each, each_parts, each_both}
 
--- an opener with this verdict keeps its condition
+-- An opener with this verdict keeps its condition.
 abbrev pub KeepsCondition : Verdict → Type 0
 KeepsCondition Keep = Unit {0}
 KeepsCondition Remove = ⊥
@@ -69,7 +69,7 @@ module _ {L : Type 0} where
       each_both Keeps (openers ps) (openers_of_elifs es ++ openers ms) a (each_both Keeps (openers_of_elifs es) (openers ms) h.0 h.1)
 
   mutual
-    -- the openers of pruned nodes stay, or become an `#if`
+    -- The openers of pruned nodes stay, or become an `#if`.
     pub pruned_keeps : (ns : Nodes L) → Each Keeps (openers (pruned ns))
     pruned_keeps nothing = tt
     pruned_keeps (text ns l) = pruned_keeps ns

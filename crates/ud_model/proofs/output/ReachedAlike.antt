@@ -1,4 +1,5 @@
--- Trees that differ in their lines alone: the same openers are reached if they have the same truths.
+-- Trees that differ in their lines alone: the same openers are reached if they have the same
+-- truths.
 use Rattle.std.proofs.Common.{◌≡◌, List, [], ◌∷◌, ◌++◌, map, Bool, None, option_map, sym, ◌∙◌, ap, ap₂, subst}
 use Rattle.std.proofs.lemmas.List.{map-append}
 use Rattle.ud_model.specs.sections.Tree.{Opener, Nodes, Groups, Elifs, nothing, text, section, conditional, otherwise, first, elif, opener_with_line, with_lines, groups_with_lines, elifs_with_lines}
@@ -16,13 +17,13 @@ module _ {L K M : Type 0} (f : L → M) (g : K → M) (v : World L) (w : World K
   as_other : {m n : M} {a b : Bool} → m ≡ n → a ≡ b → R n b → R m a
   as_other {m} {n} {a} {b} e t h = subst (λ (k : M). R k a) (sym e) (subst (λ (c : Bool). R n c) (sym t) h)
 
-  -- no group is processed of the one if none is of the other
+  -- No group is processed of the one if none is of the other.
   none_alike : (es : Elifs L) (ds : Elifs K) → elifs_with_lines f es ≡ elifs_with_lines g ds → map v (openers_of_elifs es) ≡ map w (openers_of_elifs ds) →
       selected_elifs v es ≡ None → selected_elifs w ds ≡ None
   none_alike es ds e t h = map_none (map g) (selected_elifs w ds) (sym (same_elifs f g v w es ds e t) ∙ ap (option_map (map f)) h)
 
   mutual
-    -- what is so of each opener that is reached in the one tree is so in the other
+    -- A property of each opener that is reached in the one tree is one in the other.
     pub reached_alike : (ns : Nodes L) (ms : Nodes K) → with_lines f ns ≡ with_lines g ms → map v (openers ns) ≡ map w (openers ms) → EachReached w Other ms → EachReached v One ns
     reached_alike nothing ms e t h = tt
     reached_alike (text ns l) (text ms k) e t h = let p : with_lines f ns ≡ with_lines g ms = cc in reached_alike ns ms p t h

@@ -9,7 +9,7 @@ use Rattle.ud_model.specs.output.Worlds.{World, selected_elifs, EachReached, Gro
 use Rattle.ud_model.specs.output.Pruned.{Edited, edited, KeptGroups, none_kept, replaced, kept_groups, ended, then_nodes, with_group, with_else, then_kept, pruned, kept_groups_of, kept_elifs_of}
 use Rattle.ud_model.proofs.output.SelectedPruned.{out_world, Fits, Chosen, chosen}
 
--- what is mapped to nothing is nothing
+-- An option is None if its image is.
 pub map_none : {A B : Type 0} (f : A → B) (o : Option A) → option_map f o ≡ None → o ≡ None
 map_none f None e = refl
 map_none f (Some x) e = cc
@@ -30,11 +30,11 @@ module _ {L : Type 0} (w : World L) (P : L → Type 0) (Q : Edited L → Type 0)
   LeftReached (kept_groups es) = ElifsReached (out_world w) Still es
   LeftReached (ended es l ms k) = ElifsReached (out_world w) Still es × (selected_elifs (out_world w) es ≡ None → Reached ms)
 
-  -- no group of what is left is processed, so none before was
+  -- If no group of the rest is processed, none before it was.
   none_before : (s : Option (List L)) (es : Elifs (Edited L)) → Chosen w s (kept_groups es) → selected_elifs (out_world w) es ≡ None → s ≡ None
   none_before s es h e = map_none (map (edited Keep)) s (h ∙ e)
 
-  -- one group more
+  -- The case of one more group.
   group_reached : (s : Option (List L)) (left : KeptGroups L) (part : Part) (o : Opener L) (c : Cond) (ps : Nodes (Edited L)) → Chosen w s left → LeftReached left →
       (s ≡ None → AgreesWith w c o.line) → (s ≡ None → Is o × (w o.line ≡ true → Reached ps)) → LeftReached (with_group left part o c ps)
   group_reached s none_kept part o Yes ps h r a n = (n h).1 (a h)
@@ -67,7 +67,7 @@ module _ {L : Type 0} (w : World L) (P : L → Type 0) (Q : Edited L → Type 0)
   left_reached ps (ended es l ms (Some k)) e a r = (a, r)
 
   mutual
-    -- in a world that agrees, what is so of each opener that is reached stays so
+    -- In a world that agrees, pruning keeps a property of each opener that is reached.
     pub pruned_reached : (ns : Nodes L) → EachReached w (Fits w) ns → EachReached w Is ns → EachReached (out_world w) Still (pruned ns)
     pruned_reached nothing a h = tt
     pruned_reached (text ns l) a h = pruned_reached ns a h

@@ -1,4 +1,4 @@
--- Reading an output again, line by line: what is left of all lines.
+-- Reading an output again, line by line: the output for all lines.
 use Rattle.std.proofs.Common.{◌≡◌, ◌≢◌, ℕ, suc, List, [], ◌∷◌, ◌++◌, map, refl, sym, ◌∙◌, ap, subst, ◌⊎◌, inl, inr}
 use Rattle.std.proofs.lemmas.List.{map-append}
 use Rattle.ud_model.specs.text.Lines.{Line, ending_of, numbered_from, AreFormed}
@@ -16,13 +16,13 @@ use Rattle.ud_model.proofs.output.LeavesOff.{HasEnd}
 use Rattle.ud_model.proofs.output.Rereads.{Again, Between, IsLine, start}
 use Rattle.ud_model.proofs.output.RereadStep.{step}
 
--- these lines were cut from a text, and each but the last has an ending
+-- The lines were cut from a text, and each but the last has an ending.
 abbrev pub AllButLast : List Line → Type 0
 AllButLast [] = Unit {0}
 AllButLast (l ∷ []) = IsLine l
 AllButLast (l ∷ k ∷ ls) = (HasEnd l × IsLine l) × AllButLast (k ∷ ls)
 
--- a line that was cut from a text, and has an ending
+-- A line that was cut from a text, and has an ending.
 abbrev pub IsInner : Line → Type 0
 IsInner l = HasEnd l × IsLine l
 
@@ -35,7 +35,7 @@ some_end : (e : List ℕ) → (e ≡ 13 ∷ 10 ∷ []) ⊎ (e ≡ 10 ∷ []) →
 some_end e (inl h) = λ q. let p : 13 ∷ 10 ∷ [] ≡ [] = sym h ∙ q in cc
 some_end e (inr h) = λ q. let p : 10 ∷ [] ≡ [] = sym h ∙ q in cc
 
--- the lines of a text are so
+-- The lines of a text are so.
 pub lines_end : (n : ℕ) (ts : List (List ℕ)) → AreFormed ts → AllButLast (numbered_from n ts)
 lines_end n [] f = tt
 lines_end n (t ∷ []) f = (n, t, refl, f)
@@ -45,7 +45,7 @@ module _ (o : Options) (p : IsPlain o) where
   pub next_is : (xs : List (Item Reading)) (t : Tree Reading) (l : Line) → AreFaultless o xs t → next_item o xs t l ≡ item_of o (read_after xs (the_mode o) l)
   next_is xs t l s = ap (λ (m : Mode). item_of o (read_after xs m l)) (one_mode o p.none_ignores xs t (sound_lines s) (sound_heed o p.none_ignores xs t s))
 
-  -- the last line of longer ones
+  -- The last line of longer ones.
   one_step : (xs : List (Item Reading)) (t : Tree Reading) (s : AreFaultless o xs t) (ys : List (Item Reading)) → Between o (the_mode o) xs t ys → (l : Line) (u : Tree Reading) → IsLine l →
       lines u ≡ xs ++ next_item o xs t l ∷ [] → NoneHolds xs (next_item o xs t l) cases →
       (zs : List (Item Reading)) × Again o (the_mode o) (xs ++ next_item o xs t l ∷ []) u zs × (HasEnd l → Between o (the_mode o) (xs ++ next_item o xs t l ∷ []) u zs)
@@ -65,7 +65,7 @@ module _ (o : Options) (p : IsPlain o) where
       one_step xs t s b.0 b.1 l u k.1.0.1 e n in
       (z.0, z.2 k.1.0.0)
 
-  -- the items of the output, read again
+  -- The items of the output, read again.
   pub again : (xs : List (Item Reading)) (t : Tree Reading) → AreFaultless o xs t → AllButLast (map line_of xs) → (ys : List (Item Reading)) × Again o (the_mode o) xs t ys
   again _ _ no_lines h = ([], (start o (the_mode o)).again)
   again _ _ (one_more xs t s l u e n) h =

@@ -49,7 +49,7 @@ use Rattle.ud_model.proofs.output.RereadChain.{AllButLast, lines_end, again}
 use Rattle.ud_model.proofs.text.LinesLemmas.{lines_exist}
 use Rattle.ud_model.proofs.output.CSelected.{Clear, sound_clear, c_agrees}
 
--- what is printed of a line is what is left of it
+-- The piece of a line is the output for it.
 left_bytes : (v : Verdict) (x : Item Reading) →
     concat (map (λ y. edited_bytes (line_in y)) (kept_line v x)) ≡ piece_by v (keyword_in (content_of (reading_of x).scan)) (line_of x)
 left_bytes Remove x = refl
@@ -74,7 +74,7 @@ printed_bytes (x ∷ xs) (m ∷ ms) =
     ∙ concat-append (map left_piece (kept_line m.verdict x)) (map left_piece (printed xs ms))
     ∙ ap₂ (λ (a b : List ℕ). a ++ b) (left_bytes m.verdict x) (printed_bytes xs ms)
 
--- without options the pieces are what is left
+-- Without options the pieces are the output.
 pub plain_output : (o : Options) → IsPlain o → (xs : List (Item Reading)) (ms : List Mark) → printed_by o.settings xs ms ≡ concat (map left_piece (printed xs ms))
 plain_output o p xs ms =
     ap (λ (l : List (List ℕ)). concat l)
@@ -116,7 +116,7 @@ kept_bytes : (ls : List Reading) → map edited_bytes (map (edited Keep) ls) ≡
 kept_bytes [] = refl
 kept_bytes (l ∷ ls) = ap (λ (t : List (List ℕ)). line_bytes l ∷ t) (kept_bytes ls)
 
--- what is left of nodes is no higher
+-- The rest of nodes is no higher.
 low_left : (us ns : Nodes Reading) → with_lines line_bytes us ≡ with_lines edited_bytes (pruned ns) → height_of_nodes ns ≤ OPEN_SECTIONS → height_of_nodes us ≤ OPEN_SECTIONS
 low_left us ns e h =
     let a : height_of_nodes us ≡ height_of_nodes (pruned ns) = sym (height-with line_bytes us) ∙ ap (λ (m : Nodes (List ℕ)). height_of_nodes m) e ∙ height-with edited_bytes (pruned ns) in
@@ -124,8 +124,8 @@ low_left us ns e h =
     omega (arith, a, b, h)
 
 module _ (o : Options) (p : IsPlain o) (input : List ℕ) where
-  -- The output's items and their tree, which is what is left of the input's. They keep the limits but for a line's length,
-  -- none has a cut keyword, and they don't end in a comment.
+  -- The output's items and their tree, which is the pruned tree of the input. They keep the limits
+  -- but for a line's length, none has a cut keyword, and they don't end in a comment.
   pub record Result (r : Outcome) (ns : Nodes Reading) : Type 0 where
     pub tree : Nodes Reading
     pub is_tree : IsTreeOf o r.output (closed tree)
@@ -136,7 +136,7 @@ module _ (o : Options) (p : IsPlain o) (input : List ℕ) where
     pub low : height_of_nodes tree ≤ OPEN_SECTIONS
     pub calm : ends_in_comment is_tree.items ≡ false
 
-  -- an input without a fault has such an output
+  -- An input without a fault has such an output.
   pub reread : {r : Outcome} → HasOutcome o input r → r.fault ≡ None → (ns : Nodes Reading) → IsTreeOf o input (closed ns) → Result r ns
   reread (ran_as (stops xs t f s)) e ns a = cc
   reread (ran_as (ends xs t g)) e ns a =
@@ -185,25 +185,25 @@ kept_conditions [] h = refl
 kept_conditions (e ∷ es) h = ap₂ (λ (x : Option Expression) (xs : List (Option Expression)). x ∷ xs) (kept_condition e.verdict e.line h.0) (kept_conditions es h.1)
 
 module _ (k : CleanRun) where
-  -- what the output has is what is left of the input
+  -- The output has the rest of the input.
   abbrev result : Result k.options k.clean.plain k.input k.outcome k.before
   result = reread k.options k.clean.plain k.input k.clean.runs k.clean.faultless k.before k.of_input
 
-  -- and its tree is the one that it has
+  -- The tree of the output is the one that it has.
   same_tree : k.after ≡ result.tree
   same_tree = same_nodes k.after result.tree (one_tree_of k.options k.outcome.output (closed k.after) (closed result.tree) k.of_output result.is_tree)
 
-  -- which is what is left of the input's
+  -- This tree is the pruned tree of the input.
   pub what_is_left : with_lines line_bytes k.after ≡ with_lines edited_bytes (pruned k.before)
   what_is_left = ap (with_lines line_bytes) same_tree ∙ result.same
 
-  -- what is selected of the output is what is selected of the input
+  -- The lines that are selected of the output are those that are selected of the input.
   pub selected_again : (w v : World Reading) → Agrees w k.before → KeepsTruths w k.before v k.after → map line_bytes (selected v k.after) ≡ map line_bytes (selected w k.before)
   selected_again w v g t =
       same_selected line_bytes edited_bytes v (λ (x : Edited Reading). w x.line) k.after (pruned k.before) what_is_left t
       ∙ ap (λ (l : List (Edited Reading)). map edited_bytes l) (sym (selected-pruned w k.before g)) ∙ kept_bytes (selected w k.before)
 
-  -- each opener of the output has the condition of the opener from which it comes
+  -- Each opener of the output has the condition of the opener from which it comes.
   pub conditions_same : map condition_in (openers k.after) ≡ map (λ (e : Edited Reading). condition_in e.line) (openers (pruned k.before))
   conditions_same =
       sym (map-twice seen (λ (q : Seen). q.condition) (openers k.after))
@@ -211,7 +211,7 @@ module _ (k : CleanRun) where
       (sym (openers-with seen k.after) ∙ ap (λ (m : Nodes Seen). openers m) (ap (with_lines seen) same_tree ∙ result.alike) ∙ openers-with left_seen (pruned k.before))
       ∙ map-twice left_seen (λ (q : Seen). q.condition) (openers (pruned k.before)) ∙ kept_conditions (openers (pruned k.before)) (pruned_keeps k.before)
 
-  -- the openers of the output can be given the truths of those from which they come
+  -- The openers of the output can be given the truths of those from which they come.
   pub truths_kept : (w : World Reading) → (v : World Reading) × KeepsTruths w k.before v k.after
   truths_kept w =
       world_of k.outcome.output k.after (map (λ (e : Edited Reading). w e.line) (openers (pruned k.before)))
@@ -227,11 +227,11 @@ clear_run {o = o} {input = input} (ran_as (ends xs t g)) e ns a =
     (subst (λ (zs : List (Item Reading)). Pairwise (Clear o) zs (marks t)) (sym (sound_lines g.sound)) (sound_clear o xs t g.sound))
 
 module _ (k : CleanRun) (w : World Reading) (g : IsCWorld k.options.table w k.before) where
-  -- a world that C may give the input agrees with what is decided
+  -- A world that C may give the input agrees with the decided conditions.
   c_world_agrees : Agrees w k.before
   c_world_agrees = c_agrees k.options w k.before (clear_run k.clean.runs k.clean.faultless k.before k.of_input) g
 
-  -- C may give the output the world that keeps its truths
+  -- C may give the output the world that keeps its truths.
   pub c_world_again : (v : World Reading) → KeepsTruths w k.before v k.after → IsCWorld k.options.table v k.after
   c_world_again v t =
       reached_alike seen left_seen v (λ (e : Edited Reading). w e.line) (λ (s : Seen) (b : Bool). MayBe k.options.table s.condition b) k.after (pruned k.before)
@@ -244,7 +244,7 @@ module _ (k : CleanRun) (w : World Reading) (g : IsCWorld k.options.table w k.be
       still an_elif l h = h
       still an_else l h = h
 
-  -- and the same is selected
+  -- Then C selects the same lines.
   pub c_selected_again : (v : World Reading) → KeepsTruths w k.before v k.after → map line_bytes (selected v k.after) ≡ map line_bytes (selected w k.before)
   c_selected_again v t = selected_again k w v c_world_agrees t
 
@@ -277,16 +277,16 @@ module _ {L M : Type 0} (f : L → M) where
     elifs_back (first o ns) h = (h.0, undecided_back ns h.1)
     elifs_back (elif es o ns) h = (elifs_back es h.0, h.1, undecided_back ns h.2)
 
--- nothing is decided of the output
+-- Nothing is decided of the output.
 output_undecided : (us ns : Nodes Reading) → with_lines line_bytes us ≡ with_lines edited_bytes (pruned ns) → IsUndecided us
 output_undecided us ns e =
     undecided_back line_bytes us (subst IsUndecided (sym e) (undecided_with edited_bytes (pruned ns) (pruned_undecided ns)))
 
--- so it is of a clean run
+-- Nothing is decided of the output of a clean run.
 pub after_undecided : (k : CleanRun) → IsUndecided k.after
 after_undecided k = output_undecided k.after k.before (what_is_left k)
 
--- if each line stays, the pieces are the lines
+-- If each line stays, the pieces are the lines.
 whole_pieces : (ys : List (Item Reading)) (ms : List Mark) → Each Stays ms → map (lone false false) (judged_lines ys ms) ≡ map whole (judged_lines ys ms)
 whole_pieces [] ms h = refl
 whole_pieces (y ∷ ys) [] h = refl
@@ -305,7 +305,7 @@ module _ (o : Options) (p : IsPlain o) (text : List ℕ) (ys : List (Item Readin
       ∙ ap₂ (λ (b c : Bool). map (lone b c) (judged_lines ys (marks (closed us)))) p.unblanked p.uncomplemented
       ∙ whole_pieces ys (marks (closed us)) (undecided_stay us h)
 
-  -- a text that goes through, of which nothing is decided, is printed as it is
+  -- A text is printed as it is, if it has no faulty line and nothing of it is decided.
   pub same_output : output_by o.settings.listing o.settings ys (closed us) ≡ text
   same_output =
       let many : length ys ≡ length (marks (closed us)) =
@@ -313,7 +313,7 @@ module _ (o : Options) (p : IsPlain o) (text : List ℕ) (ys : List (Item Readin
       ap (λ (q : Listing). output_by q o.settings ys (closed us)) p.unlisted
       ∙ ap (λ (l : List (List ℕ)). concat l) (the_pieces ∙ whole_lines_are ys (marks (closed us)) many ∙ ap (λ (l : List Line). map text_of l) (sym g.are)) ∙ lines_join text
 
-  -- and none of its lines differs
+  -- None of its lines differs.
   pub same_lines : differs_by o.settings.listing o.settings ys (closed us) ≡ false
   same_lines =
       ap (λ (q : Listing). differs_by q o.settings ys (closed us)) p.unlisted
@@ -339,7 +339,7 @@ output_sound o p input ns z f = (
   ap (λ (c : Bool). end_by c (last_number z.is_tree.items) None) z.calm,
 )
 
--- an output whose lines fit is printed as it is, if the input has this tree
+-- An output whose lines fit is printed as it is, if the input has this tree.
 again_law : (o : Options) → IsPlain o → (input : List ℕ) → {r : Outcome} → HasOutcome o input r → r.fault ≡ None → LinesFit (lines_of r.output) →
     (ns : Nodes Reading) → IsTreeOf o input (closed ns) → HasOutcome o r.output (record { output = r.output; fault = None; differs = false })
 again_law o p input {r} d e f ns t =
@@ -351,14 +351,14 @@ input_nodes : (t : Tree Reading) → innermost t ≡ None → (ns : Nodes Readin
 input_nodes (closed ns) e = (ns, refl)
 input_nodes (open_section ns h t) e = absurd (no_innermost ns t h e)
 
--- an input without a fault has a tree whose sections are closed
+-- An input without a fault has a tree whose sections are closed.
 pub input_tree : (o : Options) (input : List ℕ) → {r : Outcome} → HasOutcome o input r → r.fault ≡ None → (ns : Nodes Reading) × IsTreeOf o input (closed ns)
 input_tree o input (ran_as (stops xs t f s)) e = cc
 input_tree o input (ran_as (ends xs t g)) e =
     let n : (ns : Nodes Reading) × (t ≡ closed ns) = input_nodes t (end_parts (ends_in_comment xs) (last_number xs) (innermost t) e).1 in
     (n.0, record { items = xs; read = subst (λ (u : Tree Reading). AreRead o xs u) n.1 (sound_read g.sound); are = g.are })
 
--- an output whose lines fit is printed as it is
+-- An output whose lines fit is printed as it is.
 pub runs_output : (o : Options) → IsPlain o → (input : List ℕ) → {r : Outcome} → HasOutcome o input r → r.fault ≡ None → LinesFit (lines_of r.output) →
     HasOutcome o r.output (record { output = r.output; fault = None; differs = false })
 runs_output o p input {r} d e f =

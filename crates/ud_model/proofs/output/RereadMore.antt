@@ -1,4 +1,4 @@
--- What is left of lines with one more, read again: if that line goes, and if it is left.
+-- The output for lines with one more, read again: if that line is removed, and if it is left.
 use Rattle.std.proofs.Common.{◌≡◌, ℕ, suc, List, [], ◌∷◌, ◌++◌, length, map, false, refl, sym, ◌∙◌, ap, ap₂, append-nil}
 use Rattle.std.proofs.lemmas.List.{map-append}
 use Rattle.ud_model.specs.text.Lines.{Line, line_at, numbered_from}
@@ -22,13 +22,13 @@ use Rattle.ud_model.proofs.output.LeftReadings.{Left}
 use Rattle.ud_model.proofs.output.Rereads.{Again, IsUncut}
 use Rattle.ud_model.proofs.output.SeenLines.{Seen, seen, left_seen}
 
--- lines with one more end in a comment if that does
+-- Lines with one more end in a comment if that line does.
 pub last_comment : (xs : List (Item Reading)) (x : Item Reading) → ends_in_comment (xs ++ x ∷ []) ≡ is_in_block (reading_of x).scan.comment
 last_comment [] x = refl
 last_comment (y ∷ []) x = refl
 last_comment (y ∷ z ∷ xs) x = last_comment (z ∷ xs) x
 
--- of marks with one more the last one counts
+-- Of marks with one more the last one counts.
 pub last_removed : (ms : List Mark) (m : Mark) → ends_removed (ms ++ m ∷ []) ≡ is_removed m.verdict
 last_removed [] m = refl
 last_removed (n ∷ []) m = refl
@@ -37,7 +37,7 @@ last_removed (n ∷ k ∷ ms) m = last_removed (k ∷ ms) m
 bytes_read : List (Item Reading) → List (List ℕ)
 bytes_read ys = map (λ y. line_bytes (reading_of y)) ys
 
--- the line that this piece is after these
+-- The line that this piece is after these.
 abbrev pub piece_behind_all : List (Item Reading) → List ℕ → Line
 piece_behind_all ys piece = line_at (suc (length (map (λ (y : Item Reading). line_bytes (reading_of y)) ys))) piece
 
@@ -48,7 +48,7 @@ module _ (o : Options) (m : Mode) (xs : List (Item Reading)) (t u : Tree Reading
       ap (λ (ms : List Mark). printed (xs ++ x ∷ []) ms) more ∙ printed-append xs (x ∷ []) (marks t) (mark ∷ []) long
       ∙ ap (λ (zs : List (Item (Edited Reading))). printed xs (marks t) ++ zs) (append-nil (kept_line mark.verdict x))
 
-  -- a line that goes
+  -- The case of a removed line.
   pub gone_again : mark.verdict ≡ Remove → ends_in_comment ys ≡ false → Again o m (xs ++ x ∷ []) u ys
   gone_again e c = record {
     read = a.read;
@@ -60,7 +60,7 @@ module _ (o : Options) (m : Mode) (xs : List (Item Reading)) (t u : Tree Reading
     ends = λ h. c;
   }
 
-  -- a line that is left
+  -- The case of a line that is left.
   pub left_again : (r : Reading) (piece : List ℕ) → x ≡ item_of o r → Left o mark.verdict r (read_after ys m (piece_behind_all ys piece)) →
       Again o m (xs ++ x ∷ []) u (ys ++ item_of o (read_after ys m (piece_behind_all ys piece)) ∷ [])
   unfolding bytes_read

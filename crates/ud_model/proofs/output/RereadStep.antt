@@ -1,4 +1,4 @@
--- Reading an output again: one line more, which goes or is left.
+-- Reading an output again: one line more, which is removed or left.
 use Rattle.std.proofs.Common.{◌≡◌, ℕ, suc, List, [], ◌∷◌, ◌++◌, length, map, Bool, true, false, not, ◌⊎◌, inl, inr, refl, sym, ◌∙◌, ap, subst}
 use Rattle.std.proofs.lemmas.Bool.{false_from_ne_true}
 use Rattle.ud_model.specs.text.Lines.{Line, text_of}
@@ -34,7 +34,7 @@ use Rattle.ud_model.proofs.text.ScanLemmas.{run_of_last}
 use Rattle.ud_model.proofs.sections.Stays.{marks_so_far_same, length_marks}
 use Rattle.ud_model.proofs.sections.Unique as Trees
 
--- what is left of lines with one more, and what is known between that and the next one
+-- The output for lines with one more, and the facts between it and the next one.
 abbrev Stepped : Options → Mode → List (Item Reading) → Tree Reading → Line → List (Item Reading) → Type 0
 Stepped o m xs u l zs = Again o m (xs ++ item_of o (read_after xs m l) ∷ []) u zs × (HasEnd l → Between o m (xs ++ item_of o (read_after xs m l) ∷ []) u zs)
 
@@ -52,7 +52,7 @@ left_stays ToIf h = refl
 left_stays ToElse h = refl
 left_stays ToEndif h = refl
 
--- in plain mode no lines join
+-- In plain mode no lines join.
 pub plain_run : (o : Options) (ys : List (Item Reading)) → ReadIn o Plain ys → c_run_of (map reading_of ys) ≡ []
 plain_run o _ none_read = refl
 plain_run o _ (one_read ys r l) = ap c_run_of (readings_last o ys ys Plain l) ∙ run_of_last (map reading_of ys) (read_after ys Plain l)
@@ -62,7 +62,7 @@ plain_calm o _ none_read = refl
 plain_calm o _ (one_read ys r l) =
     last_comment ys (item_of o (read_after ys Plain l)) ∙ ap (λ (q : Reading). is_in_block q.scan.comment) (reading_of-item_of o (read_after ys Plain l))
 
--- what is known of a line more
+-- The facts of one more line.
 pub record More (o : Options) (m : Mode) (xs : List (Item Reading)) (t : Tree Reading) (l : Line) (u : Tree Reading) : Type 0 where
   pub grown : Grows true t u (item_of o (read_after xs m l))
   pub more : marks u ≡ marks t ++ grown.mark ∷ []
@@ -159,13 +159,13 @@ module _ (o : Options) (xs : List (Item Reading)) (t : Tree Reading) (ys : List 
   line_reading : reading_of line_new ≡ read_after xs C l
   line_reading = reading_of-item_of o (read_after xs C l)
 
-  -- if the line before joins this one, both go or both stay
+  -- If the line before joins this one, both are removed or both stay.
   both_alike : joins (c_run_of (map reading_of xs)) ≡ true → is_removed k.grown.mark.verdict ≡ ends_removed (marks t)
   both_alike j =
       joined_alike (ends_removed (marks t)) k.grown.does k.unspoiled
       (ap (λ (r : Reading). r.scan.joins_before) line_reading ∙ joins_before-code (c_run_of (map reading_of xs)) l ∙ j) (b.carried j)
 
-  -- an edited line, but for one to an `#if`, is alone
+  -- An edited line, but for one to an `#if`, is alone.
   is_alone : IsLeft k.grown.mark.verdict → keeps_rest k.grown.mark.verdict ≡ false → is_spanning (scan_after (map reading_of xs) C l) ≡ false
   is_alone h e =
       ap (λ (r : Reading). is_spanning r.scan) (sym line_reading)
@@ -176,7 +176,7 @@ module _ (o : Options) (xs : List (Item Reading)) (t : Tree Reading) (ys : List 
       removed_is o C xs t ys b l u i k
       ∙ carried_step (ends_removed (marks t)) k.grown.does k.unspoiled (ap (λ (r : Reading). r.scan.joins_after) line_reading ∙ joins_next o xs l ∙ j)
 
-  -- the line goes
+  -- The line is removed.
   code_gone : (w : LexState) (white on : Bool) → LeavesOff xs w white on → Rests ys → k.grown.mark.verdict ≡ Remove → (zs : List (Item Reading)) × Stepped o C xs u l zs
   code_gone w white on a r e =
       let again : Again o C (xs ++ line_new ∷ []) u ys = goes o C xs t ys b l u i k e r.calm in (
@@ -192,7 +192,7 @@ module _ (o : Options) (xs : List (Item Reading)) (t : Tree Reading) (ys : List 
         ),
       )
 
-  -- it is left
+  -- The line is left.
   code_left : (w : LexState) (white on : Bool) → LeavesOff xs w white on → LeavesOff ys w white on → IsLeft k.grown.mark.verdict → (zs : List (Item Reading)) × Stepped o C xs u l zs
   code_left w white on a c h =
       let n : Line = now o C xs t ys b l u i k in
@@ -212,7 +212,7 @@ module _ (o : Options) (xs : List (Item Reading)) (t : Tree Reading) (ys : List 
         ),
       )
 
-  -- if this line goes, the one before joins nothing or has gone
+  -- If this line is removed, the one before joins nothing or is removed.
   pub stayed_alone : (w : LexState) (white on : Bool) → LeavesOff xs w white on → (on ≡ true → ends_removed (marks t) ≡ false) → k.grown.mark.verdict ≡ Remove → on ≡ false
   stayed_alone w white false a f e = refl
   stayed_alone w white true a f e =
@@ -228,8 +228,8 @@ module _ (o : Options) (xs : List (Item Reading)) (t : Tree Reading) (ys : List 
   code_step : (zs : List (Item Reading)) × Stepped o C xs u l zs
   code_step = code_by b.carry (goes_or_left k.grown.mark.verdict)
 
--- What is left of lines and the item that is left of one more are what is left of them with it, read again; and between it
--- and the next line the same is known as before.
+-- The output for lines and the item that is left of one more are the output for them with it, read
+-- again. Between it and the next line the same facts are known as before.
 pub step : (o : Options) (m : Mode) (xs : List (Item Reading)) (t : Tree Reading) → lines t ≡ xs → (ys : List (Item Reading)) → Between o m xs t ys → (l : Line) (u : Tree Reading) → IsLine l →
     lines u ≡ xs ++ item_of o (read_after xs m l) ∷ [] → NoneHolds xs (item_of o (read_after xs m l)) cases →
     (zs : List (Item Reading)) × Again o m (xs ++ item_of o (read_after xs m l) ∷ []) u zs

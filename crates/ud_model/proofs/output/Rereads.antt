@@ -1,4 +1,4 @@
--- Reading an output again: what is known of what is left of lines, and between it and the next line.
+-- Reading an output again: the facts of the output for lines, and between it and the next line.
 use Rattle.std.proofs.Common.{◌≡◌, ℕ, List, [], map, Bool, true, false, not, refl, ◌⊎◌}
 use Rattle.ud_model.specs.text.Lines.{Line, line_at, numbered_from, IsWhole, IsUnterminated}
 use Rattle.ud_model.specs.text.Scans.{Reading}
@@ -19,25 +19,26 @@ use Rattle.ud_model.proofs.output.JoinedAlike.{ends_kept}
 use Rattle.ud_model.proofs.output.LeavesOff.{LeavesOff, nowhere, joins_nothing}
 use Rattle.ud_model.proofs.output.SeenLines.{seen, left_seen}
 
--- these leave off between lines, and not in a comment
+-- The lines end between lines, and not in a comment.
 pub record Rests (ys : List (Item Reading)) : Type 0 where
   pub off : LeavesOff ys in_text true false
   pub calm : ends_in_comment ys ≡ false
 
--- What the lines so far and those that are left of them carry to the next line, by whether the last line was removed:
--- the same, and then a last line that joins the next one has stayed; or the last line has gone and joins the next one. If
--- the last line joins nothing or has gone, what is left leaves off between lines.
+-- The state that the lines so far and the output for them carry to the next line, by whether the
+-- last line was removed. It is the same for both, and then a last line that joins the next one has
+-- stayed; or the last line was removed and joins the next one. If the last line joins nothing or
+-- was removed, the output ends between lines.
 pub data Carry (removed : Bool) (xs ys : List (Item Reading)) : Type 0 where
   alike : (w : LexState) (white on : Bool) → LeavesOff xs w white on → LeavesOff ys w white on → (on ≡ true → removed ≡ false) →
       (on ≡ false → Rests ys) → Carry removed xs ys
   gone : (w : LexState) (white : Bool) → LeavesOff xs w white true → Rests ys → removed ≡ true → Carry removed xs ys
 
--- it has no cut keyword
+-- The item has no cut keyword.
 abbrev pub IsUncut : Item Reading → Type 0
 IsUncut y = is_cut (content_of (reading_of y).scan) ≡ false
 
--- These are what is left of the lines, read in this mode: none of them has a cut keyword, and they end in a comment only
--- if the lines do.
+-- The output for the lines, read in this mode: none of its lines has a cut keyword, and it ends in
+-- a comment only if the lines do.
 pub record Again (o : Options) (m : Mode) (xs : List (Item Reading)) (t : Tree Reading) (ys : List (Item Reading)) : Type 0 where
   pub read : ReadIn o m ys
   pub same : map (item_with seen) ys ≡ map (item_with left_seen) (printed xs (marks t))
@@ -45,18 +46,19 @@ pub record Again (o : Options) (m : Mode) (xs : List (Item Reading)) (t : Tree R
   pub uncut : Each IsUncut ys
   pub ends : ends_in_comment xs ≡ false → ends_in_comment ys ≡ false
 
--- What is known between two lines, the last of which has an ending: besides, what they carry; and a last line that joins
--- the next one goes exactly if the place after it isn't kept.
+-- The facts between two lines, the last of which has an ending. Besides those of the output, they
+-- are the state that is carried; and a last line that joins the next one is removed exactly if the
+-- position after it isn't kept.
 pub record Between (o : Options) (m : Mode) (xs : List (Item Reading)) (t : Tree Reading) (ys : List (Item Reading)) : Type 0 where
   pub again : Again o m xs t ys
   pub carry : Carry (ends_removed (marks t)) xs ys
   pub carried : joins (c_run_of (map reading_of xs)) ≡ true → ends_removed (marks t) ≡ not (ends_kept true t)
 
--- a line that was cut from a text
+-- A line that was cut from a text.
 abbrev pub IsLine : Line → Type 0
 IsLine l = (n : ℕ) × (t : List ℕ) × (l ≡ line_at n t) × (IsWhole t ⊎ IsUnterminated t)
 
--- before the first line
+-- Before the first line.
 pub start : (o : Options) (m : Mode) → Between o m [] (closed nothing) []
 start o m = record {
   again = record { read = none_read; same = refl; numbered = refl; uncut = tt; ends = λ e. refl };

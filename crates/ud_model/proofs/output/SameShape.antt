@@ -1,4 +1,5 @@
--- Trees that differ in their lines alone: the same is selected of them if their openers have the same truths.
+-- Trees that differ in their lines alone: the same lines are selected of them if their openers have
+-- the same truths.
 use Rattle.std.proofs.Common.{◌≡◌, List, [], ◌∷◌, ◌++◌, length, map, Bool, true, false, Option, Some, None, option_map, refl, sym, ◌∙◌, ap, ap₂, arith}
 use Rattle.std.proofs.lemmas.List.{map-append, length-map}
 use Rattle.ud_model.specs.sections.Tree.{Opener, Nodes, Groups, Elifs, nothing, text, section, conditional, otherwise, first, elif, opener_with_line, with_lines, groups_with_lines, elifs_with_lines}
@@ -24,7 +25,7 @@ module _ {L M : Type 0} (f : L → M) where
         ∙ sym (map-append f (openers_of_elifs es ++ o.line ∷ []) (openers ns)
         ∙ ap (λ (a : List M). a ++ map f (openers ns)) (map-append f (openers_of_elifs es) (o.line ∷ [])))
 
--- two lists that are made up of parts of the same lengths have the same parts
+-- Two lists that are made up of parts of the same lengths have the same parts.
 pub parts : {A : Type 0} (a b c d : List A) → length a ≡ length b → a ++ c ≡ b ++ d → (a ≡ b) × (c ≡ d)
 parts [] [] c d l e = (refl, e)
 parts [] (y ∷ b) c d l e = absurd (omega arith)
@@ -40,11 +41,11 @@ module _ {L K M : Type 0} (f : L → M) (g : K → M) (v : World L) (w : World K
   same_long a b e =
       length-map a v ∙ sym (length-map a f) ∙ ap (λ (l : List M). length l) e ∙ length-map b g ∙ sym (length-map b w)
 
-  -- the openers of two lists of groups, apart
+  -- The openers of two lists of groups, apart.
   pub openers_apart : (a c : List L) (b d : List K) → map f a ≡ map g b → map v (a ++ c) ≡ map w (b ++ d) → (map v a ≡ map w b) × (map v c ≡ map w d)
   openers_apart a c b d e t = parts (map v a) (map w b) (map v c) (map w d) (same_long a b e) (sym (map-append v a c) ∙ t ∙ map-append w b d)
 
-  -- they have as many openers
+  -- Both trees have as many openers.
   pub long_with : (ns : Nodes L) (ms : Nodes K) → with_lines f ns ≡ with_lines g ms → map f (openers ns) ≡ map g (openers ms)
   long_with ns ms e = sym (openers-with f ns) ∙ ap openers e ∙ openers-with g ms
 
@@ -72,7 +73,8 @@ module _ {L K M : Type 0} (f : L → M) (g : K → M) (v : World L) (w : World K
   lines_same (Some a) None ls ks e h = cc
 
   mutual
-    -- trees that differ in their lines alone: the same is selected if their openers have the same truths
+    -- Trees that differ in their lines alone have the same selected lines, if their openers have
+    -- the same truths.
     pub same_selected : (ns : Nodes L) (ms : Nodes K) → with_lines f ns ≡ with_lines g ms → map v (openers ns) ≡ map w (openers ms) →
         map f (selected v ns) ≡ map g (selected w ms)
     same_selected nothing nothing e t = refl

@@ -1,4 +1,5 @@
--- What a line of the output has of the line from which it comes: its bytes, and the condition of its directive.
+-- The parts that a line of the output has from the line from which it comes: its bytes, and the
+-- condition of its directive.
 use Rattle.std.proofs.Common.{◌≡◌, ℕ, List, [], ◌∷◌, map, Option, None, refl, ap, ap₂}
 use Rattle.ud_model.specs.text.Scans.{Reading}
 use Rattle.ud_model.specs.conditions.Expressions.{Expression}
@@ -9,16 +10,16 @@ use Rattle.ud_model.specs.output.CSelection.{condition_in}
 use Rattle.ud_model.specs.declared.verdict.Verdict.{Verdict}
 use Rattle.ud_model.specs.declared.verdict.Verdict.TheVariants.{Keep, Remove, ToIf, ToElse, ToEndif}
 
--- the bytes of a line, and the condition of its directive
+-- The bytes of a line, and the condition of its directive.
 pub record Seen : Type 0 where
   pub bytes : List ℕ
   pub condition : Option Expression
 
--- of a line that was read
+-- The case of a line that was read.
 abbrev pub seen : Reading → Seen
 seen r = record { bytes = line_bytes r; condition = condition_in r }
 
--- an `#else` and an `#endif` have no condition
+-- An `#else` and an `#endif` have no condition.
 abbrev pub left_condition : Verdict → Reading → Option Expression
 left_condition Keep r = condition_in r
 left_condition Remove r = None
@@ -26,13 +27,13 @@ left_condition ToIf r = condition_in r
 left_condition ToElse r = None
 left_condition ToEndif r = None
 
--- of a line of the pruned tree
+-- The case of a line of the pruned tree.
 abbrev pub left_seen : Edited Reading → Seen
 left_seen e = record { bytes = edited_bytes e; condition = left_condition e.verdict e.line }
 
 module _ {A B C : Type 0} (f : A → B) (g : B → C) where
   mutual
-    -- lines that are changed twice
+    -- Lines that are changed twice.
     pub with_lines-twice : (ns : Nodes A) → with_lines g (with_lines f ns) ≡ with_lines (λ a. g (f a)) ns
     with_lines-twice nothing = refl
     with_lines-twice (text ns l) = ap (λ (m : Nodes C). text m (g (f l))) (with_lines-twice ns)

@@ -1,4 +1,5 @@
--- What a world selects of the pruned nodes is what it selects of the nodes, if it agrees with what is decided.
+-- A world selects of the pruned nodes the lines that it selects of the nodes, if it agrees with the
+-- decided conditions.
 use Rattle.std.proofs.Common.{◌≡◌, List, [], ◌∷◌, ◌++◌, map, Bool, true, false, Option, Some, None, option_map, refl, sym, ◌∙◌, ap, ap₂, append-nil, append_assoc}
 use Rattle.std.proofs.lemmas.List.{map-append}
 use Rattle.ud_model.specs.declared.cond.Cond.{Cond}
@@ -10,14 +11,14 @@ use Rattle.ud_model.specs.output.Worlds.{World, or_else, lines_or, where_true, s
 use Rattle.ud_model.specs.output.Pruned.{Edited, edited, KeptGroups, none_kept, replaced, kept_groups, ended, then_nodes, with_group, with_else, then_kept, pruned, kept_groups_of, kept_elifs_of}
 
 module _ {L : Type 0} (w : World L) where
-  -- a line of the output has the truth of the line that it comes from
+  -- A line of the output has the truth of the line that it comes from.
   abbrev pub out_world : World (Edited L)
   out_world e = w e.line
 
   abbrev kept : L → Edited L
   kept l = edited Keep l
 
-  -- what is selected of the groups so far, by what is left of them
+  -- The lines selected of the groups so far, by the rest of the groups.
   abbrev pub Chosen : Option (List L) → KeptGroups L → Type 0
   Chosen s none_kept = s ≡ None
   Chosen s (replaced ms) = (ls : List L) × (s ≡ Some ls) × (map kept ls ≡ selected out_world ms)
@@ -27,34 +28,34 @@ module _ {L : Type 0} (w : World L) where
   later_group : (s : Option (List L)) (b : Bool) (ls more : List L) → s ≡ Some ls → or_else s (where_true b more) ≡ Some ls
   later_group s b ls more e = ap (λ (q : Option (List L)). or_else q (where_true b more)) e
 
-  -- a group by its truth, if none before it is processed
+  -- A group by its truth, if none before it is processed.
   new_group : (b : Bool) (ls : List L) (ks : List (Edited L)) → (b ≡ true → map kept ls ≡ ks) → option_map (map kept) (where_true b ls) ≡ where_true b ks
   new_group true ls ks h = ap (λ (q : List (Edited L)). Some q) (h refl)
   new_group false ls ks h = refl
 
-  -- the same after groups
+  -- A further group, after groups.
   more_group : (s : Option (List L)) (r : Option (List (Edited L))) (b : Bool) (ls : List L) (ks : List (Edited L)) → option_map (map kept) s ≡ r →
       (s ≡ None → b ≡ true → map kept ls ≡ ks) → option_map (map kept) (or_else s (where_true b ls)) ≡ or_else r (where_true b ks)
   more_group None r b ls ks e h = new_group b ls ks (h refl) ∙ ap (λ (q : Option (List (Edited L))). or_else q (where_true b ks)) e
   more_group (Some x) r b ls ks e h = ap (λ (q : Option (List (Edited L))). or_else q (where_true b ks)) e
 
-  -- the last group is processed if none before it is
+  -- The last group is processed if none before it is.
   last_group : (s : Option (List L)) (r : Option (List (Edited L))) (ls : List L) (ks : List (Edited L)) → option_map (map kept) s ≡ r →
       (s ≡ None → map kept ls ≡ ks) → map kept (lines_or s ls) ≡ lines_or r ks
   last_group None r ls ks e h = h refl ∙ ap (λ (q : Option (List (Edited L))). lines_or q ks) e
   last_group (Some x) r ls ks e h = ap (λ (q : Option (List (Edited L))). lines_or q ks) e
 
-  -- a group that is true
+  -- The case of a group that is true.
   true_group : (s : Option (List L)) (b : Bool) (ls : List L) → (s ≡ None → b ≡ true) → or_else s (where_true b ls) ≡ Some (lines_or s ls)
   true_group None b ls h = ap (λ (t : Bool). where_true t ls) (h refl)
   true_group (Some x) b ls h = refl
 
-  -- a group that is false
+  -- The case of a group that is false.
   false_group : (s : Option (List L)) (b : Bool) (ls : List L) → (s ≡ None → b ≡ false) → or_else s (where_true b ls) ≡ s
   false_group None b ls h = ap (λ (t : Bool). where_true t ls) (h refl)
   false_group (Some x) b ls h = refl
 
-  -- one group more
+  -- The case of one more group.
   group_step : (s : Option (List L)) (left : KeptGroups L) (part : Part) (o : Opener L) (c : Cond) (ns : Nodes L) (ps : Nodes (Edited L)) →
       Chosen s left → (s ≡ None → AgreesWith w c o.line) → (s ≡ None → w o.line ≡ true → map kept (selected w ns) ≡ selected out_world ps) →
       Chosen (or_else s (where_true (w o.line) (selected w ns))) (with_group left part o c ps)
@@ -77,7 +78,7 @@ module _ {L : Type 0} (w : World L) where
   group_step s (ended es l ms None) part o c ns ps h a n = (h.0, later_group s (w o.line) h.0 (selected w ns) h.1, h.2)
   group_step s (ended es l ms (Some k)) part o c ns ps h a n = (h.0, later_group s (w o.line) h.0 (selected w ns) h.1, h.2)
 
-  -- what is selected of a whole section, by what is left of it
+  -- The lines selected of a whole section, by the rest of it.
   abbrev Final : List L → KeptGroups L → Type 0
   Final ls none_kept = ls ≡ []
   Final ls (replaced ms) = map kept ls ≡ selected out_world ms
@@ -115,12 +116,12 @@ module _ {L : Type 0} (w : World L) where
   section_step before ls ps (ended es l ms None) e a h = map-append kept before ls ∙ ap₂ (λ (p q : List (Edited L)). p ++ q) a h
   section_step before ls ps (ended es l ms (Some k)) e a h = map-append kept before ls ∙ ap₂ (λ (p q : List (Edited L)). p ++ q) a h
 
-  -- what the world makes of an opener
+  -- The truth that the world gives an opener fits its condition.
   abbrev pub Fits : Opener L → Type 0
   Fits o = AgreesWith w o.cond o.line
 
   mutual
-    -- in a world that agrees, pruning changes nothing of what is selected
+    -- In a world that agrees, pruning changes nothing of the selected lines.
     pub selected-pruned : (ns : Nodes L) → EachReached w Fits ns → map kept (selected w ns) ≡ selected out_world (pruned ns)
     selected-pruned nothing a = refl
     selected-pruned (text ns l) a = map-append kept (selected w ns) (l ∷ []) ∙ ap (λ (ls : List (Edited L)). ls ++ kept l ∷ []) (selected-pruned ns a)

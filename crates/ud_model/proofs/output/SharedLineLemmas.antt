@@ -29,7 +29,7 @@ each_all : {A : Type 0} (P : A → Type 0) → ((x : A) → P x) → (xs : List 
 each_all P h [] = tt
 each_all P h (x ∷ xs) = (h x, each_all P h xs)
 
--- options with the same table that read alike make the same of a text
+-- Options with the same table and the same reading of lines read a text alike.
 pub reads_too : (o p : Options) → o.settings.plain ≡ p.settings.plain → rules_of o.settings ≡ rules_of p.settings → p.table ≡ o.table →
     {input : List ℕ} {xs : List (Item Reading)} {t : Tree Reading} {f : Option Fault} → ReadsAs o input xs t f → ReadsAs p input xs t f
 reads_too o p plain rules table {input = input} a = by_reading a
@@ -53,7 +53,7 @@ kept_piece ToIf j e h = ap (λ (u : Verdict). piece_alone false (complemented (r
 kept_piece ToElse j e h = ap (λ (u : Verdict). piece_alone false (complemented (record { line = j.line; verdict = u; keyword = j.keyword }))) h
 kept_piece ToEndif j e h = ap (λ (u : Verdict). piece_alone false (complemented (record { line = j.line; verdict = u; keyword = j.keyword }))) h
 
--- one line more, by whether it is removed
+-- The case of one more line, by whether it is removed.
 share_one : (v : Verdict) (j : Judged) (js : List Judged) (a b : List ℕ) → j.verdict ≡ v → ShareLines js a b →
     ShareLines (j ∷ js) (piece_alone false j ++ a) (piece_alone false (complemented j) ++ b)
 share_one Remove j js a b h s =
@@ -76,7 +76,7 @@ share_all : (js : List Judged) → ShareLines js (concat (map (lone false false)
 share_all [] = no_line
 share_all (j ∷ js) = share_one j.verdict j js (concat (map (lone false false) js)) (concat (map (lone false true) js)) refl (share_all js)
 
--- what is printed, where lines are neither blanked nor numbered
+-- The output if lines are neither blanked nor numbered.
 pub printed_lone : (o : Options) {input : List ℕ} {xs : List (Item Reading)} {t : Tree Reading} {f : Option Fault} {r : Outcome} (c : Bool) → o.settings.listing ≡ Off →
     o.settings.blank ≡ false → o.settings.renumber ≡ false → o.settings.complement ≡ c → ReadsAs o input xs t f → HasOutcome o input r →
     r.output ≡ concat (map (lone false c) (judged_lines xs (marks t)))
@@ -98,7 +98,7 @@ shared o input {xs = xs} {t = t} {r = r} {s = s} p a run turned =
       subst (λ (q : List ℕ). ShareLines js r.output q) (sym there) (subst (λ (q : List ℕ). ShareLines js q (concat (map (lone false true) js))) (sym here) (share_all js)),
     )
 
--- tables that say the same of every name make the same of a text
+-- Tables with the same entry for every name give a text the same outcome.
 pub same_names : (o p : Options) (input : List ℕ) {r : Outcome} → p.settings ≡ o.settings → ((n : List ℕ) → entry_in o.table n ≡ entry_in p.table n) → HasOutcome o input r → HasOutcome p input r
 same_names o p input same every run = by_run run
   where

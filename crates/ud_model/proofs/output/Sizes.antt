@@ -1,4 +1,5 @@
--- Sizes: the pieces of a text are as long as their lines, one by one, or shorter than them together.
+-- Sizes: the pieces of a text are as long as their lines, each by itself, or shorter than them
+-- together.
 use Rattle.std.proofs.Common.{◌≡◌, ℕ, suc, ◌+◌, ◌==◌, ◌≤◌, ◌<◌, List, [], ◌∷◌, ◌++◌, length, map, Bool, true, false, not, ◌&&◌, ◌||◌, bytes_eq, refl, sym, ◌∙◌, ap, ap₂, arith, append-nil, length-append, ◌⊎◌, inl, inr}
 use Rattle.std.specs.List.{concat}
 use Rattle.std.proofs.lemmas.List.{map-append}
@@ -7,25 +8,25 @@ use Rattle.std.proofs.lemmas.Slice.Eq.{bytes_eq-Decides}
 use Rattle.ud_model.specs.text.Lines.{text_of}
 use Rattle.ud_model.specs.answer.Printing.{Judged, some_other}
 
--- what is printed of lines, one by one
+-- The output for lines, each by itself.
 abbrev pub out : (Judged → List ℕ) → List Judged → List ℕ
 out f js = concat (map f js)
 
--- the lines themselves
+-- The lines themselves.
 abbrev pub whole : Judged → List ℕ
 whole j = text_of j.line
 
--- each line is printed at its own length
+-- Each line is printed at its own length.
 abbrev pub KeepsSizes : (Judged → List ℕ) → List Judged → Type 0
 KeepsSizes f [] = Unit {0}
 KeepsSizes f (j ∷ js) = (length (f j) ≡ length (whole j)) × KeepsSizes f js
 
--- so it is, or less is printed than there was
+-- Each line is printed at its own length, or the output is shorter than the lines.
 pub data Fits (f : Judged → List ℕ) (js : List Judged) : Type 0 where
   alike : KeepsSizes f js → Fits f js
   less : length (out f js) < length (out whole js) → Fits f js
 
--- no more than one byte is printed than there was
+-- The output has at most one byte more than the lines.
 pub record Loose (f : Judged → List ℕ) (js : List Judged) : Type 0 where
   pub bound : length (out f js) ≤ suc (length (out whole js))
 
@@ -60,21 +61,21 @@ module _ (f : Judged → List ℕ) (js ks : List Judged) where
       let b : length (out whole (js ++ ks)) ≡ length (out whole js) + length (out whole ks) = out-append whole js ks in
       record { bound = omega arith }
 
--- lines that fit, one after another
+-- Lines that fit, and then others.
 pub fits-append : (f : Judged → List ℕ) (js ks : List Judged) → Fits f js → Fits f ks → Fits f (js ++ ks)
 fits-append f js ks (alike a) (alike b) = alike (sizes-append f js ks a b)
 fits-append f js ks (alike a) (less h) = let m : length (out f js) ≤ length (out whole js) = fits_most (alike a) in less_together f js ks (omega arith)
 fits-append f js ks (less h) b = let m : length (out f ks) ≤ length (out whole ks) = fits_most b in less_together f js ks (omega arith)
 
--- and if one byte more may be printed of the first ones
+-- Lines fit if one byte more may be printed for the first ones.
 pub loose_fits : (f : Judged → List ℕ) (js ks : List Judged) → Loose f js → Fits f ks → Loose f (js ++ ks)
 loose_fits f js ks a b = let m : length (out f ks) ≤ length (out whole ks) = fits_most b in let n = a.bound in loose_together f js ks (omega arith)
 
--- or of the second ones
+-- Lines fit if one byte more may be printed for the second ones.
 pub fits_loose : (f : Judged → List ℕ) (js ks : List Judged) → Fits f js → Loose f ks → Loose f (js ++ ks)
 fits_loose f js ks a b = let m : length (out f js) ≤ length (out whole js) = fits_most a in let n = b.bound in loose_together f js ks (omega arith)
 
--- one byte more, and then a line that loses two
+-- The case of one byte more, and then a line that loses two.
 pub loose_closed : (f : Judged → List ℕ) (js : List Judged) (j : Judged) → Loose f js → length (f j) + 2 ≤ length (whole j) → Fits f (js ++ j ∷ [])
 loose_closed f js j a h =
     let n = a.bound in
@@ -85,7 +86,7 @@ loose_closed f js j a h =
 split_le : (a b : ℕ) → a ≤ b → (a ≡ b) ⊎ (a < b)
 split_le a b h = grind arith
 
--- a line that doesn't grow fits
+-- A line that doesn't grow fits.
 pub fits_one : (f : Judged → List ℕ) (j : Judged) → length (f j) ≤ length (whole j) → Fits f (j ∷ [])
 fits_one f j h = go (split_le (length (f j)) (length (whole j)) h)
   where
@@ -96,18 +97,18 @@ fits_one f j h = go (split_le (length (f j)) (length (whole j)) h)
         let q : length (whole j ++ []) ≡ length (whole j) = ap (λ (l : List ℕ). length l) (append-nil (whole j)) in
         less (omega arith)
 
--- a line that grows by a byte
+-- The case of a line that grows by a byte.
 pub loose_one : (f : Judged → List ℕ) (j : Judged) → length (f j) ≤ suc (length (whole j)) → Loose f (j ∷ [])
 loose_one f j h =
     let p : length (f j ++ []) ≡ length (f j) = ap (λ (l : List ℕ). length l) (append-nil (f j)) in
     let q : length (whole j ++ []) ≡ length (whole j) = ap (λ (l : List ℕ). length l) (append-nil (whole j)) in
     record { bound = omega arith }
 
--- if there are no lines, they fit
+-- No lines fit.
 pub fits_none : (f : Judged → List ℕ) → Fits f []
 fits_none f = alike tt
 
--- each of these lines doesn't grow
+-- The case in which no line grows.
 pub fits_all : (f : Judged → List ℕ) (js : List Judged) → ((j : Judged) → length (f j) ≤ length (whole j)) → Fits f js
 fits_all f [] h = fits_none f
 fits_all f (j ∷ js) h = fits-append f (j ∷ []) js (fits_one f j (h j)) (fits_all f js h)
@@ -127,7 +128,7 @@ or_false_parts true false e = (refl, refl)
 or_false_parts true true e = cc
 or_false_parts false b e = cc
 
--- if no line differs, what is printed are the lines
+-- If no line differs, the output is the lines.
 none_other : (f : Judged → List ℕ) (js : List Judged) → some_other (map f js) js ≡ false → out f js ≡ out whole js
 none_other f [] e = refl
 none_other f (j ∷ js) e =
@@ -138,7 +139,7 @@ and_assoc : (a b c : Bool) → ((a && b) && c) ≡ (a && (b && c))
 and_assoc true b c = refl
 and_assoc false b c = refl
 
--- texts are compared part by part, if the parts in front are of one length
+-- Texts are compared part by part, if the first parts have one length.
 bytes_eq-append : (a b c d : List ℕ) → length a ≡ length b → bytes_eq (a ++ c) (b ++ d) ≡ (bytes_eq a b && bytes_eq c d)
 bytes_eq-append [] [] c d e = refl
 bytes_eq-append [] (y ∷ b) c d e = absurd (omega arith)
@@ -157,7 +158,7 @@ alike_differs f (j ∷ js) k =
     ∙ not_and (bytes_eq (f j) (whole j)) (bytes_eq (out f js) (out whole js))
     ∙ ap (λ (b : Bool). not b) (sym (bytes_eq-append (f j) (whole j) (out f js) (out whole js) k.0))
 
--- If lines fit, some line differs exactly if what is printed isn't the lines.
+-- If lines fit, some line differs exactly if the output isn't the lines.
 pub fits_differs : (f : Judged → List ℕ) (js : List Judged) → Fits f js → some_other (map f js) js ≡ not (bytes_eq (out f js) (out whole js))
 fits_differs f js (alike k) = alike_differs f js k
 fits_differs f js (less h) = go (some_other (map f js) js) (λ e. none_other f js e) ∙ ap (λ (b : Bool). not b) (sym (unequal (out f js) (out whole js) h))

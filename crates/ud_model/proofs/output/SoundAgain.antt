@@ -1,4 +1,5 @@
--- Lines that were read are sound if they keep the limits, none has a cut keyword, and each stays as it is.
+-- Lines that were read are faultless if they keep the limits, none has a cut keyword, and each
+-- stays as it is.
 use Rattle.std.proofs.Common.{◌≡◌, ◌<◌, ◌≤◌, List, [], ◌∷◌, ◌++◌, length, Bool, true, false, ◌&&◌, refl, sym, ◌∙◌, ap, ap₂, subst, arith}
 use Rattle.std.proofs.Math.Bool.{and-false}
 use Rattle.ud_model.specs.text.Lines.{text_of}
@@ -38,7 +39,7 @@ module _ (xs : List (Item Reading)) (x : Item Reading) (u : Tree Reading) (are :
       each_parts Stays before (m ∷ []) (subst (Each Stays) (ap (λ (t : Tree Reading). marks t) (Trees.unique u v (are ∙ sym e)) ∙ f) stay) in
       ap₂ (λ (r : Bool) (k : Mark). is_obfuscated_after r x k) (none_removed before h.0) h.1.0 ∙ kept_unspoiled x
 
-  -- a line that is the last of such lines has no fault
+  -- A line that is the last of such lines has no fault.
   none_holds : IsUncut x → IsFew x → IsShort x → height u ≤ OPEN_SECTIONS → NoneHolds xs x cases
   none_holds c f s h = (
     λ (g : TEXT_LINES < (line_of x).number). absurd (omega (arith, g, f)),
@@ -59,7 +60,7 @@ module _ (xs : List (Item Reading)) (x : Item Reading) (u : Tree Reading) (are :
     ),
   )
 
--- such lines are sound
+-- Such lines are faultless.
 pub sound_again : (o : Options) (ys : List (Item Reading)) (t : Tree Reading) → AreRead o ys t → Each IsUncut ys → Each IsFew ys → Each IsShort ys → height t ≤ OPEN_SECTIONS →
     Each Stays (marks t) → AreFaultless o ys t
 sound_again o _ _ no_items c f s h k = no_lines

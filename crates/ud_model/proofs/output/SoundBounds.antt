@@ -1,4 +1,4 @@
--- The limits that a text without a fault keeps, and those that the lines that are left of it keep.
+-- The limits that a text without a fault keeps, and those that the output for it keeps.
 use Rattle.std.proofs.Common.{◌≡◌, ℕ, suc, ◌+◌, ◌<◌, ◌≤◌, List, [], ◌∷◌, ◌++◌, length, map, max, sym, ◌∙◌, ap, arith, length-append}
 use Rattle.std.proofs.lemmas.List.{map-append, length-map}
 use Rattle.ud_model.specs.text.Lines.{Line, text_of, line_at, numbered_from}
@@ -21,18 +21,18 @@ use Rattle.ud_model.proofs.output.Rereads.{Again}
 use Rattle.ud_model.proofs.sections.Soundness.{sound_lines}
 use Rattle.ud_model.proofs.sections.Unique as Trees
 
--- its number is that of a line that a text may have
+-- The line's number is one that a line of a text may have.
 abbrev pub IsFew : Item Reading → Type 0
 IsFew y = (line_of y).number ≤ TEXT_LINES
 
--- it isn't too long
+-- The line isn't too long.
 abbrev pub IsShort : Item Reading → Type 0
 IsShort y = length (text_of (line_of y)) ≤ LINE_BYTES
 
 not_more : (m n : ℕ) → (n < m → ⊥) → m ≤ n
 not_more m n h = omega (arith, h)
 
--- a text without a fault is no higher than sections may be open
+-- A text without a fault is no higher than sections may be open.
 pub sound_low : (o : Options) (xs : List (Item Reading)) (t : Tree Reading) → AreFaultless o xs t → height t ≤ OPEN_SECTIONS
 sound_low o _ _ no_lines = omega arith
 sound_low o _ _ (one_more xs t s l u e n) =
@@ -43,14 +43,14 @@ sound_low o _ _ (one_more xs t s l u e n) =
     let d : depth u ≤ OPEN_SECTIONS = not_more (depth u) OPEN_SECTIONS (λ m. n.1.1.1.1.0 (u, e, m)) in
     omega (arith, g, h, d)
 
--- the number of the last of numbered lines
+-- The number of the last of numbered lines.
 last_numbered : (n : ℕ) (ls : List Line) (l : Line) (ts : List (List ℕ)) → ls ++ l ∷ [] ≡ numbered_from n ts → l.number ≡ n + length ls
 last_numbered n [] l [] e = cc
 last_numbered n [] l (t ∷ ts) e = let p : l ≡ line_at n t = cc in ap (λ (k : Line). k.number) p ∙ omega arith
 last_numbered n (k ∷ ls) l [] e = cc
 last_numbered n (k ∷ ls) l (t ∷ ts) e = let p : ls ++ l ∷ [] ≡ numbered_from (suc n) ts = cc in last_numbered (suc n) ls l ts p ∙ omega arith
 
--- it has no more lines than it may have
+-- A text without a fault has no more lines than it may have.
 pub sound_few : (o : Options) (xs : List (Item Reading)) (t : Tree Reading) (ts : List (List ℕ)) → AreFaultless o xs t → map line_of xs ≡ numbered_from 1 ts → length xs ≤ TEXT_LINES
 sound_few o _ _ ts no_lines e = omega arith
 sound_few o _ _ ts (one_more xs t s l u d n) e =
@@ -70,7 +70,7 @@ numbered_few n (t ∷ ts) (y ∷ ys) e h =
     let r : (line_of y).number ≡ n = ap (λ (k : Line). k.number) p in
     (omega (arith, r, h), numbered_few (suc n) ts ys q (omega (arith, h)))
 
--- and neither has what is left of it
+-- Neither has the output for it.
 pub again_few : (o : Options) (m : Mode) (xs : List (Item Reading)) (t : Tree Reading) (ys : List (Item Reading)) → Again o m xs t ys → length xs ≤ TEXT_LINES → Each IsFew ys
 again_few o m xs t ys a h =
     let b : length (map (item_with seen) ys) ≡ length (map (item_with left_seen) (printed xs (marks t))) = ap (λ (l : List (Item Seen)). length l) a.same in
@@ -80,7 +80,7 @@ again_few o m xs t ys a h =
     let f : length (map (λ (y : Item Reading). line_bytes (reading_of y)) ys) ≡ length ys = length-map ys (λ (y : Item Reading). line_bytes (reading_of y)) in
     numbered_few 1 (map (λ (y : Item Reading). line_bytes (reading_of y)) ys) ys a.numbered (omega (arith, b, c, d, e, f, h))
 
--- lines that fit are short
+-- Lines that fit are short.
 pub fit_short : (ys : List (Item Reading)) → LinesFit (map line_of ys) → Each IsShort ys
 fit_short [] h = tt
 fit_short (y ∷ ys) h = (h.0, fit_short ys h.1)

@@ -1,4 +1,5 @@
--- A directive is edited only if it can be: an `#elif` to an `#if` or `#else`, an `#elif` or `#else` to an `#endif`.
+-- A directive is edited only if it can be: an `#elif` to an `#if` or `#else`, an `#elif` or `#else`
+-- to an `#endif`.
 use Rattle.std.proofs.Common.{◌≡◌, List, [], Bool, true, false, refl, sym, subst}
 use Rattle.ud_model.specs.declared.cond.Cond.{Cond}
 use Rattle.ud_model.specs.declared.cond.Cond.TheVariants.{Yes, No, Unknown}
@@ -10,7 +11,7 @@ use Rattle.ud_model.specs.aids.SoFar.{verdict_so_far}
 use Rattle.ud_model.proofs.output.Edits.{KeepsOrGoes, endif_keeps, if_keeps}
 use Rattle.ud_model.proofs.sections.Stages.{Stage, leading, given, going, at_true, past, stage, verdict_at, verdict_by_stage}
 
--- the verdict is one that such a line may get
+-- The verdict is one that such a line may get.
 abbrev pub Suits : {L : Type 0} → Verdict → Item L → Type 0
 Suits Keep x = Unit {0}
 Suits Remove x = Unit {0}
@@ -23,12 +24,12 @@ Suits ToEndif (else_line l) = Unit {0}
 Suits ToEndif x = ⊥
 
 module _ {L : Type 0} where
-  -- a verdict that suits in a kept place does so in each
+  -- A verdict that suits if all groups around are kept does so in each case.
   pub suits_marked : (kept : Bool) (v : Verdict) (x : Item L) → Suits v x → Suits (marked kept v).verdict x
   suits_marked true v x h = h
   suits_marked false v x h = tt
 
-  -- each line may stay or go
+  -- Each line may stay or be removed.
   keeps_suit : (v : Verdict) (x : Item L) → KeepsOrGoes v → Suits v x
   keeps_suit Keep x h = tt
   keeps_suit Remove x h = tt
@@ -36,7 +37,7 @@ module _ {L : Type 0} where
   keeps_suit ToElse x h = absurd h
   keeps_suit ToEndif x h = absurd h
 
-  -- the table gives each kind of line a verdict that suits it: an `#if`
+  -- The table gives an `#if` a verdict that suits it.
   pub suits_if : (o : Opener L) (c : Cond) → Suits (verdict_so_far [] an_if c) (if_line o)
   suits_if o c = keeps_suit (verdict_so_far [] an_if c) (if_line o) (if_keeps c)
 
@@ -51,7 +52,8 @@ module _ {L : Type 0} where
   elif_at at_true o c e = tt
   elif_at past o c e = tt
 
-  -- a directive that opens a further group; it becomes the first one only if its condition is unknown
+  -- The table gives a directive that opens a further group a verdict that suits it. It becomes the
+  -- first one only if its condition is unknown.
   pub suits_elif : (cs : List Cond) (o : Opener L) → Suits (verdict_so_far cs an_elif o.cond) (elif_line o)
   suits_elif cs o = subst (λ (v : Verdict). Suits v (elif_line o)) (sym (verdict_by_stage cs an_elif o.cond)) (elif_at (stage cs) o o.cond refl)
 
@@ -62,10 +64,10 @@ module _ {L : Type 0} where
   else_at at_true l = tt
   else_at past l = tt
 
-  -- an `#else`
+  -- The table gives an `#else` a verdict that suits it.
   pub suits_else : (cs : List Cond) (l : L) → Suits (verdict_so_far cs an_else Yes) (else_line l)
   suits_else cs l = subst (λ (v : Verdict). Suits v (else_line l)) (sym (verdict_by_stage cs an_else Yes)) (else_at (stage cs) l)
 
-  -- an `#endif`
+  -- The table gives an `#endif` a verdict that suits it.
   pub suits_endif : (cs : List Cond) (l : L) → Suits (endif_verdict cs) (endif_line l)
   suits_endif cs l = keeps_suit (endif_verdict cs) (endif_line l) (endif_keeps cs)

@@ -3,7 +3,7 @@ use Rattle.std.proofs.Common.{◌≡◌, List, [], ◌∷◌, ◌++◌, map, ref
 use Rattle.std.proofs.lemmas.List.{map-append}
 use Rattle.ud_model.specs.sections.Tree.{Item, Opener, Nodes, Groups, Elifs, text_line, if_line, elif_line, else_line, endif_line, nothing, text, section, conditional, otherwise, first, elif, lines_of_nodes, lines_of_groups, lines_of_elifs, item_with, opener_with_line, with_lines, groups_with_lines, elifs_with_lines}
 
--- a list whose image is two lists
+-- A list whose image is two lists.
 pub split_map : {A M : Type 0} (g : A → M) (ys : List A) (p q : List M) → map g ys ≡ p ++ q → (a b : List A) × (ys ≡ a ++ b) × (map g a ≡ p) × (map g b ≡ q)
 split_map g ys [] q e = ([], ys, refl, refl, e)
 split_map g [] (x ∷ p) q e = cc
@@ -54,7 +54,7 @@ module _ {A B M : Type 0} (f : A → M) (g : B → M) where
   one_back (y ∷ []) x e = (y, refl, cc)
   one_back (y ∷ z ∷ ys) x e = cc
 
-  -- these items, and a tree of theirs that has the same shape
+  -- The items, and a tree of theirs that has the same shape.
   pub record AlongNodes (ps : Nodes A) (ys : List (Item B)) : Type 0 where
     pub tree : Nodes B
     pub are : lines_of_nodes tree ≡ ys
@@ -70,7 +70,7 @@ module _ {A B M : Type 0} (f : A → M) (g : B → M) where
     pub are : lines_of_elifs tree ≡ ys
     pub same : elifs_with_lines g tree ≡ elifs_with_lines f es
 
-  -- a list whose image is the lines of two parts
+  -- A list whose image is the lines of two parts.
   split_items : (ys : List (Item B)) (p q : List (Item A)) → map (item_with g) ys ≡ map (item_with f) (p ++ q) →
       (a b : List (Item B)) × (ys ≡ a ++ b) × (map (item_with g) a ≡ map (item_with f) p) × (map (item_with g) b ≡ map (item_with f) q)
   split_items ys p q e = split_map (item_with g) ys (map (item_with f) p) (map (item_with f) q) (e ∙ map-append (item_with f) p q)

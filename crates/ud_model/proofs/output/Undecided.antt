@@ -12,7 +12,7 @@ use Rattle.ud_model.proofs.output.Each.{Each, each_both}
 use Rattle.ud_model.proofs.sections.Stays.{marks_so_far_same}
 use Rattle.ud_model.proofs.sections.Stages.{Stage, going, at_true, stage, next_stage, verdict_at, kept_at, endif_at, verdict_by_stage, kept_by_stage, stage_next, endif_by_stage}
 
--- a line that stays as it is
+-- A line that stays as it is.
 abbrev pub Stays : Mark → Type 0
 Stays m = m ≡ marked true Keep
 
@@ -60,7 +60,7 @@ module _ {L : Type 0} where
   left_undecided ps (ended es l ms (Some k)) e a h = (a, h)
 
   mutual
-    -- in pruned nodes each condition but that of an `#else` is unknown
+    -- In pruned nodes each condition but that of an `#else` is unknown.
     pub pruned_undecided : (ns : Nodes L) → IsUndecided (pruned ns)
     pruned_undecided nothing = tt
     pruned_undecided (text ns l) = pruned_undecided ns
@@ -74,7 +74,7 @@ module _ {L : Type 0} where
     elifs_undecided (first o ns) = with_undecided none_kept an_if o o.cond (pruned ns) refl tt (pruned_undecided ns)
     elifs_undecided (elif es o ns) = with_undecided (kept_elifs_of es) an_elif o o.cond (pruned ns) refl (elifs_undecided es) (pruned_undecided ns)
 
-  -- the stage of groups none of which is decided
+  -- The stage of groups none of which is decided.
   going_on : (es : Elifs L) → ElifsUndecided es → stage (conds_of_elifs es) ≡ going
   going_on (first o ns) h = ap (λ (c : Cond). stage (c ∷ [])) h.0
   going_on (elif es o ns) h = stage_next (conds_of_elifs es) o.cond ∙ ap₂ (λ (s : Stage) (c : Cond). next_stage s c) (going_on es h.0) h.1
@@ -119,6 +119,6 @@ module _ {L : Type 0} where
         ))
         (place_stays (is_kept (conds_of_elifs es) o.cond) ns (kept_by_stage (conds_of_elifs es) o.cond ∙ ap₂ (λ (t : Stage) (c : Cond). kept_at t c) s h.1) (nodes_stay ns h.2))
 
-  -- if nothing is decided, each line stays as it is
+  -- If nothing is decided, each line stays as it is.
   pub undecided_stay : (ns : Nodes L) → IsUndecided ns → Each Stays (marks (closed ns))
   undecided_stay ns h = subst (Each Stays) (sym (marks_so_far_same true (closed ns))) (nodes_stay ns h)

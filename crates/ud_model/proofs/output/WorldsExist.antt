@@ -7,7 +7,7 @@ use Rattle.ud_model.specs.sections.Tree.{Item, Nodes, Groups, Elifs, nothing, te
 use Rattle.ud_model.specs.sections.Items.{reading_of, line_of}
 use Rattle.ud_model.specs.output.Worlds.{World, openers, openers_of_groups, openers_of_elifs}
 
--- the readings of some of these items, in order
+-- The readings of some of these items, in order.
 data Some : List Reading → List (Item Reading) → Type 0 where
   none : Some [] []
   skipped : {rs : List Reading} {ys : List (Item Reading)} (y : Item Reading) → Some rs ys → Some rs (y ∷ ys)
@@ -37,7 +37,7 @@ mutual
   some_elifs (first o ns) = taken o.line (if_line o) refl (some_nodes ns)
   some_elifs (elif es o ns) = both (both (some_elifs es) (taken o.line (elif_line o) refl none)) (some_nodes ns)
 
--- the numbers of these lines rise from this one on
+-- The numbers of these lines rise from this one on.
 abbrev Rise : ℕ → List Reading → Type 0
 Rise n [] = Unit {0}
 Rise n (r ∷ rs) = (n ≤ r.line.number) × Rise (suc r.line.number) rs
@@ -46,7 +46,7 @@ rise_from : (m n : ℕ) (rs : List Reading) → m ≤ n → Rise n rs → Rise m
 rise_from m n [] l h = tt
 rise_from m n (r ∷ rs) l h = (omega (arith, l, h.0), h.1)
 
--- so do the numbers of some of the lines of a text
+-- So do the numbers of some of the lines of a text.
 some_rise : {rs : List Reading} {ys : List (Item Reading)} (n : ℕ) (ts : List (List ℕ)) → Some rs ys → map line_of ys ≡ numbered_from n ts → Rise n rs
 some_rise n ts none e = tt
 some_rise n [] (skipped y a) e = cc
@@ -59,7 +59,7 @@ some_rise n (t ∷ ts) (taken {rs} {ys} r y d a) e =
     let k : r.line.number ≡ n = ap (λ (s : Reading). s.line.number) (sym d) ∙ ap (λ (l : Line). l.number) p in
     (omega (arith, k), rise_from (suc r.line.number) (suc n) rs (omega (arith, k)) (some_rise (suc n) ts a q))
 
--- a world that has this truth on the line with this number, and else those of another world
+-- A world that has this truth on the line with this number, and else those of another world.
 abbrev with_truth : ℕ → Bool → World Reading → World Reading
 with_truth n b v r = if r.line.number == n then b else v r
 
@@ -81,7 +81,7 @@ truths_by n (r ∷ rs) (b ∷ bs) e h =
           (later_same r.line.number (suc r.line.number) b v.0 rs (omega arith) h.1 ∙ v.1),
     )
 
--- the openers of a text can be given any truths
+-- The openers of a text can be given any truths.
 pub world_of : (bytes : List ℕ) (ns : Nodes Reading) (bs : List Bool) → map line_of (lines_of_nodes ns) ≡ lines_of bytes → length bs ≡ length (openers ns) →
     (v : World Reading) × (map v (openers ns) ≡ bs)
 world_of bytes ns bs e l = truths_by 1 (openers ns) bs l (some_rise 1 (texts_of bytes) (some_nodes ns) e)

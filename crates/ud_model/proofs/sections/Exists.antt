@@ -1,4 +1,5 @@
--- Exists: each list of lines is gone through up to the first faulty line or to its end, so each text has an outcome.
+-- Exists: each list of lines is read up to the first faulty line or to its end, so each text has an
+-- outcome.
 use Rattle.std.proofs.Common.{◌≡◌, ◌≢◌, ℕ, ◌<◌, ◌≤◌, List, [], ◌∷◌, ◌++◌, length, map, Bool, true, false, IsTrue, Option, Some, None, refl, sym, ◌∙◌, ap, append_assoc, append-nil, subst, ◌⊎◌, inl, inr, arith}
 use Rattle.std.proofs.lemmas.List.{same_from_push}
 use Rattle.std.proofs.lemmas.Bool.{cases_lt}
@@ -20,12 +21,12 @@ use Rattle.ud_model.proofs.sections.Unique.{unique, grows}
 use Rattle.ud_model.proofs.sections.Stays.{marks_more}
 use Rattle.ud_model.proofs.sections.Soundness.{sound_lines, lines_with_next}
 
--- a text grows by a line, or the line is a directive out of its place
+-- A text grows by a line, or the line is a directive out of its place.
 pub data Grows (t : Tree Reading) (x : Item Reading) : Type 0 where
   by_line : (u : Tree Reading) → Adds t x u → Grows t x
   out_of : (f : Fault) → misplaced_fault x ≡ Some f → ((u : Tree Reading) → Adds t x u → ⊥) → Grows t x
 
--- within an open section a text grows as its end does, if the end has open sections too
+-- Within an open section a text grows as its end does, if the end has open sections too.
 only_under : (ns ms : Nodes Reading) (h k : Head Reading) (t : Tree Reading) (x : Item Reading) (u : Tree Reading) →
     Adds (open_section ns h (open_section ms k t)) x u → (v : Tree Reading) × Adds (open_section ms k t) x v
 only_under ns ms h k t x _ (adds_under {u = v} a) = (v, a)
@@ -51,7 +52,7 @@ no_else_after_else : (ns b : Nodes Reading) (es : Elifs Reading) (l k : Reading)
     Adds (open_section ns (else_head es l) (closed b)) (else_line k) u → ⊥
 no_else_after_else ns b es l k _ (adds_under {u = v} a) = no_else_here b k v a
 
--- a line after a text: the text grows by it, or it is out of its place
+-- A text grows by a line after it, or the line is out of its place.
 pub grows_or_not : (t : Tree Reading) (x : Item Reading) → Grows t x
 grows_or_not (closed b) (text_line l) = by_line _ adds_text
 grows_or_not (closed b) (if_line o) = by_line _ adds_if
@@ -69,12 +70,12 @@ grows_or_not (open_section ns (else_head es k) (closed b)) (else_line l) = out_o
 grows_or_not (open_section ns h (closed b)) (endif_line l) = by_line _ adds_endif
 grows_or_not (open_section ns h (open_section ms k t)) x = grows_under ns ms h k t x (grows_or_not (open_section ms k t) x)
 
--- what stands on the line after sound ones: it is sound too, or has a fault
+-- The line after faultless ones is faultless too, or has a fault.
 pub data Stands (xs : List (Item Reading)) (x : Item Reading) : Type 0 where
   clear : (u : Tree Reading) → lines u ≡ xs ++ x ∷ [] → NoneHolds xs x cases → Stands xs x
   faulty : (f : Fault) → FaultOf xs x f → Stands xs x
 
--- something holds, or it doesn't
+-- A fact is true, or it isn't.
 pub Either : Type 0 → Type 0
 Either P = P ⊎ (P → ⊥)
 
@@ -143,7 +144,7 @@ module _ (xs : List (Item Reading)) (t : Tree Reading) (are : lines t ≡ xs) (x
     by_place (by_line u a) = with_tree u a
     by_place (out_of f e none) = without_tree f e none
 
-  -- the line after lines with a tree is sound, or has a fault
+  -- The line after lines with a tree is faultless, or has a fault.
   pub stands : Stands xs x
   unfolding Either
   stands = at_number (either_less TEXT_LINES (line_of x).number) (either_less LINE_BYTES (length (text_of (line_of x)))) (either_true (is_cut (content_of (reading_of x).scan)))
@@ -154,7 +155,7 @@ module _ (xs : List (Item Reading)) (t : Tree Reading) (are : lines t ≡ xs) (x
       at_number (inr p) (inr l) (inl h) = faulty (obfuscated (line_of x).number) (record { which = cut; holds = h; first = (p, (l, tt)); named = refl })
       at_number (inr p) (inr l) (inr c) = by_place p l c (grows_or_not t x)
 
--- lines are gone through, or up to the first faulty one
+-- Lines are read to their end, or up to the first faulty one.
 pub data Gone (o : Options) (ls : List Line) : Type 0 where
   stopped : (xs : List (Item Reading)) (t : Tree Reading) (f : Fault) → FirstFaultAt o ls xs t f → Gone o ls
   through : (xs : List (Item Reading)) (t : Tree Reading) → HasNoFault o ls xs t → Gone o ls
@@ -172,11 +173,11 @@ module _ (o : Options) (ls : List Line) where
       go (faulty f g) on = stopped xs t f (record { sound = s; faulty = l; later = rest; are = e; fault = g })
       go (clear u is none) on = on (xs ++ next_item o xs t l ∷ []) u (one_more xs t s l u is none) further
 
-  -- each list of lines is gone through up to the first faulty one or to its end
+  -- Each list of lines is read up to the first faulty one or to its end.
   pub gone : Gone o ls
   gone = gone_from ls [] (closed nothing) no_lines refl
 
--- each text is read in some way
+-- Each text is read in some way.
 pub reading_exists : (o : Options) (input : List ℕ) → (xs : List (Item Reading)) × (t : Tree Reading) × (f : Option Fault) × ReadsAs o input xs t f
 reading_exists o input = go (gone o (lines_of input))
   where
@@ -184,13 +185,13 @@ reading_exists o input = go (gone o (lines_of input))
     go (stopped xs t f h) = (xs, t, Some f, stops xs t f h)
     go (through xs t h) = (xs, t, end_fault xs t, ends xs t h)
 
--- so each text has an outcome
+-- So each text has an outcome.
 pub run_exists : (o : Options) (input : List ℕ) → (r : Outcome) × HasOutcome o input r
 run_exists o input =
     let r : (xs : List (Item Reading)) × (t : Tree Reading) × (f : Option Fault) × ReadsAs o input xs t f = reading_exists o input in
     (outcome_of o.settings r.0 r.1 r.2, ran_as r.3)
 
--- the rest of a text that goes on breaks a limit, or it doesn't
+-- The rest of a text that goes on breaks a limit, or it doesn't.
 pub data Breaks (o : Options) (given : List ℕ) (xs : List (Item Reading)) (t : Tree Reading) : Type 0 where
   broken : (f : Fault) → RestBreaks o given xs t f → Breaks o given xs t
   unbroken : ((f : Fault) → RestBreaks o given xs t f → ⊥) → Breaks o given xs t
@@ -218,13 +219,13 @@ module _ (o : Options) (given : List ℕ) (xs : List (Item Reading)) (t : Tree R
   none_or_some [] = inl refl
   none_or_some (b ∷ bs) = inr (λ e. cc)
 
-  -- which of both it is
+  -- One of both is true.
   pub breaks_or_not : Breaks o given xs t
   unfolding rest_item Either
   breaks_or_not =
       breaks_by (none_or_some (partial_line given)) (either_less TEXT_LINES (line_of rest_item).number) (either_less LINE_BYTES (length (text_of (line_of rest_item))))
 
--- each text that goes on is read in some way so far
+-- Each text that goes on is read in some way so far.
 pub reading_so_far_exists : (o : Options) (given : List ℕ) → (xs : List (Item Reading)) × (t : Tree Reading) × (f : Option Fault) × ReadsSoFar o given xs t f
 reading_so_far_exists o given = go (gone o (lines_so_far given))
   where
@@ -237,13 +238,13 @@ reading_so_far_exists o given = go (gone o (lines_so_far given))
     go (stopped xs t f h) = (xs, t, Some f, stops_so_far xs t f h)
     go (through xs t h) = further xs t h (breaks_or_not o given xs t)
 
--- so it has an outcome so far
+-- So each text that goes on has an outcome so far.
 pub run_so_far_exists : (o : Options) (given : List ℕ) → (r : Outcome) × HasOutcomeSoFar o given r
 run_so_far_exists o given =
     let r : (xs : List (Item Reading)) × (t : Tree Reading) × (f : Option Fault) × ReadsSoFar o given xs t f = reading_so_far_exists o given in
     (outcome_of o.settings r.0 r.1 r.2, came_as r.3)
 
--- words and an input have an answer
+-- Arguments and an input have an answer.
 pub answer_exists : (args : List (List ℕ)) (input : List ℕ) → (a : Answer) × IsAnswer args input a
 answer_exists args input = go (usage_fault args) refl
   where

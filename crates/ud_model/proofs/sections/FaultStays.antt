@@ -1,4 +1,5 @@
--- Fault stays: a fault of the text so far is the fault of every longer text, and the text before it is the same.
+-- Fault stays: a fault of the text so far is the fault of every longer text, and the output before
+-- it is the same.
 use Rattle.std.proofs.Common.{◌≡◌, ◌≢◌, ℕ, suc, ◌≤◌, List, [], ◌∷◌, ◌++◌, length, map, Some, None, refl, sym, ◌∙◌, ap, ap₂, subst, append_assoc, length-append, arith}
 use Rattle.ud_model.specs.text.Lines.{Line, text_of, line_at, lines_of, whole_lines, partial_line, texts_of, numbered_from}
 use Rattle.ud_model.specs.text.Scans.{Reading}
@@ -14,31 +15,31 @@ use Rattle.ud_model.specs.declared.kind.Role.{Role}
 use Rattle.ud_model.specs.declared.kind.Role.TheVariants.{IfGroup, ElifGroup, ElseGroup, EndifLine}
 use Rattle.ud_model.proofs.text.LinesLemmas.{Growth, stays_open, ends_line, grows, text_of-line_at, numbered_from-next, lines_so_far-append, lines_of-append, texts_of_grows, some_front}
 
--- a directive's item has the line that it was read from
+-- A directive's item has the line that it was read from.
 pub reading_of-directive_item : (r : Reading) (p : Role) (d : Decision) → reading_of (directive_item r p d) ≡ r
 reading_of-directive_item r IfGroup d = refl
 reading_of-directive_item r ElifGroup d = refl
 reading_of-directive_item r ElseGroup d = refl
 reading_of-directive_item r EndifLine d = refl
 
--- an item keeps how its line was read
+-- An item keeps the reading of its line.
 pub reading_of-item_by : (o : Options) (r : Reading) (c : Content) → reading_of (item_by o r c) ≡ r
 reading_of-item_by o r cut_keyword = refl
 reading_of-item_by o r text = refl
 reading_of-item_by o r (directive d) = reading_of-directive_item r (role_of d.kind) (decision_on r.scan d o.table (rules_of o.settings))
 
--- an item keeps its line
+-- An item keeps its line.
 pub line_of-next_item : (o : Options) (xs : List (Item Reading)) (t : Tree Reading) (l : Line) → line_of (next_item o xs t l) ≡ l
 line_of-next_item o xs t l =
     ap (λ (r : Reading). r.line)
     (reading_of-item_by o (read_after xs (mode_after o t) l) (content_of (read_after xs (mode_after o t) l).scan))
 
--- a line's fault, which is that of a broken limit
+-- A line's fault, which is that of a broken limit.
 pub record LimitFault (xs : List (Item Reading)) (x : Item Reading) (f : Fault) : Type 0 where
   pub fault : FaultOf xs x f
   pub limit : IsLimit fault.which
 
--- a line with the same number and at least as many bytes breaks the same limit
+-- A line with the same number and at least as many bytes breaks the same limit.
 pub limit_stays : (xs : List (Item Reading)) (x y : Item Reading) (f : Fault) →
     (line_of y).number ≡ (line_of x).number → length (text_of (line_of x)) ≤ length (text_of (line_of y)) →
     LimitFault xs x f → LimitFault xs y f
@@ -54,7 +55,7 @@ limit_stays xs x y f same more h = by_case h.fault.which h.limit h.fault.holds h
       limit = by_bytes;
     }
 
--- the fault of a limit stays where the line's text goes on
+-- The fault of a limit stays if the line goes on.
 pub limit_grows : (o : Options) (xs : List (Item Reading)) (t : Tree Reading) (n : ℕ) (r x : List ℕ) (f : Fault) →
     LimitFault xs (next_item o xs t (line_at n r)) f → LimitFault xs (next_item o xs t (line_at n (r ++ x))) f
 limit_grows o xs t n r x f h =
@@ -71,7 +72,7 @@ limit_grows o xs t n r x f h =
     bytes : (s : List ℕ) → length (text_of (line_of (next_item o xs t (line_at n s)))) ≡ length s
     bytes s = ap (λ (l : Line). length (text_of l)) (line_of-next_item o xs t (line_at n s)) ∙ ap (λ (q : List ℕ). length q) (text_of-line_at n s)
 
--- further lines after the faulty one leave the fault
+-- Further lines after the faulty one leave the fault.
 pub stops_at-append : (o : Options) (ls ms : List Line) (xs : List (Item Reading)) (t : Tree Reading) (f : Fault) →
     FirstFaultAt o ls xs t f → FirstFaultAt o (ls ++ ms) xs t f
 stops_at-append o ls ms xs t f h = record {
@@ -82,7 +83,7 @@ stops_at-append o ls ms xs t f h = record {
   fault = h.fault;
 }
 
--- a line after those that are gone through is the faulty one
+-- A line after those that are read is the faulty one.
 pub stops_behind : (o : Options) (ls ms : List Line) (l : Line) (xs : List (Item Reading)) (t : Tree Reading) (f : Fault) →
     HasNoFault o ls xs t → FaultOf xs (next_item o xs t l) f → FirstFaultAt o (ls ++ l ∷ ms) xs t f
 stops_behind o ls ms l xs t f through fault = record {
@@ -93,15 +94,15 @@ stops_behind o ls ms l xs t f through fault = record {
   fault = fault;
 }
 
--- the line that the rest of the text so far begins, with more bytes after the rest
+-- The line that the rest of the text so far begins, with more bytes after the rest.
 abbrev pub line_from : List ℕ → List ℕ → Line
 line_from given x = line_at (suc (length (whole_lines given))) (partial_line given ++ x)
 
--- these lines begin with those so far, and with a line that the rest begins
+-- The lines begin with those so far, and with a line that the rest begins.
 abbrev pub FindsLine : List ℕ → List Line → Type 0
 FindsLine given ls = (x : List ℕ) × (later : List Line) × (ls ≡ lines_so_far given ++ line_from given x ∷ later)
 
--- the lines of a text that has ended, where the rest of the text so far begins one
+-- The lines of a text that has ended, if the rest of the text so far begins one.
 pub lines_of-rest : (given more : List ℕ) → partial_line given ≢ [] → FindsLine given (lines_of (given ++ more))
 lines_of-rest given more some = by_texts (texts_of_grows given more some)
   where
@@ -113,13 +114,13 @@ lines_of-rest given more some = by_texts (texts_of_grows given more some)
       ap (numbered_from 1) e ∙ numbered_from-next (whole_lines given) (partial_line given ++ x) later,
     )
 
--- the fault of a limit that the rest breaks is that of each line that the rest begins
+-- The fault of a limit that the rest breaks is that of each line that the rest begins.
 pub rest_stays : (o : Options) (given x : List ℕ) (xs : List (Item Reading)) (t : Tree Reading) (f : Fault) →
     RestBreaks o given xs t f → LimitFault xs (next_item o xs t (line_from given x)) f
 rest_stays o given x xs t f h =
     limit_grows o xs t (suc (length (whole_lines given))) (partial_line given) x f (record { fault = h.fault; limit = h.limit })
 
--- a broken limit stays one when the text ends
+-- A broken limit stays broken when the text ends.
 pub limit_ends : (o : Options) (given more : List ℕ) (xs : List (Item Reading)) (t : Tree Reading) (f : Fault) →
     HasNoFault o (lines_so_far given) xs t → RestBreaks o given xs t f → FirstFaultAt o (lines_of (given ++ more)) xs t f
 limit_ends o given more xs t f through h = by_lines_of (lines_of-rest given more h.some)
@@ -129,7 +130,7 @@ limit_ends o given more xs t f through h = by_lines_of (lines_of-rest given more
         subst (λ (ls : List Line). FirstFaultAt o ls xs t f) (sym e)
         (stops_behind o (lines_so_far given) later (line_from given x) xs t f through (rest_stays o given x xs t f h).fault)
 
--- a broken limit stays one when the text goes on
+-- A broken limit stays broken when the text goes on.
 pub limit_goes_on : (o : Options) (given more : List ℕ) (xs : List (Item Reading)) (t : Tree Reading) (f : Fault) →
     HasNoFault o (lines_so_far given) xs t → RestBreaks o given xs t f → ReadsSoFar o (given ++ more) xs t (Some f)
 limit_goes_on o given more xs t f through h = by_growth (grows given more)
@@ -155,7 +156,7 @@ limit_goes_on o given more xs t f through h = by_growth (grows given more)
             subst (λ (l : Line). LimitFault xs (next_item o xs t l) f)
             (sym (ap₂ (λ (ls : List (List ℕ)) (x : List ℕ). line_at (suc (length ls)) x) e r)) (rest_stays o given more xs t f h)
 
--- what is a fault so far stays one, and so do the items before it, whether the text goes on or ends
+-- A fault so far stays, and so do the items before it, whether the text goes on or ends.
 pub reads_stay : {o : Options} {given : List ℕ} (more : List ℕ) {xs : List (Item Reading)} {t : Tree Reading} {f : Fault} → ReadsSoFar o given xs t (Some f) →
     ReadsSoFar o (given ++ more) xs t (Some f) × ReadsAs o (given ++ more) xs t (Some f)
 reads_stay {o = o} {given = given} more (stops_so_far xs t g h) = (
@@ -169,7 +170,7 @@ reads_stay {o = o} {given = given} more (stops_so_far xs t g h) = (
 reads_stay {o = o} {given = given} more (breaks xs t g through h) =
     (limit_goes_on o given more xs t g through h, stops xs t g (limit_ends o given more xs t g through h))
 
--- so the text before it stays, too
+-- So the output before the fault stays, too.
 pub fault_stays : (o : Options) (given more : List ℕ) (r : Outcome) → HasOutcomeSoFar o given r → (f : Fault) → r.fault ≡ Some f →
     HasOutcomeSoFar o (given ++ more) r × HasOutcome o (given ++ more) r
 fault_stays o given more _ (came_as {f = None} a) f is = cc

@@ -1,19 +1,19 @@
 -- Growth: how the tree of a text grows by a line.
 --
--- `Adds t x u` says that u is the tree of the lines of t and then the line x. Each tree but the empty one grows so out
--- of one other, and a tree and a line give one tree at most.
+-- `Adds t x u`: `u` is the tree of the lines of `t` and then the line `x`. Each tree but the empty
+-- one has grown so from one other, and a tree and a line give one tree at most.
 use Rattle.std.proofs.Common.{◌≡◌, [], ◌∷◌, ◌++◌, refl, ap, append_assoc, append-nil, ◌⊎◌, inl, inr}
 use Rattle.ud_model.specs.sections.Tree.{Opener, Item, text_line, if_line, elif_line, else_line, endif_line, Nodes, Groups, Elifs, Head, Tree, nothing, text, section, conditional, otherwise, first, elif, if_head, elif_head, else_head, closed, open_section, lines, lines_of_nodes, lines_of_groups, lines_of_head}
 use Rattle.ud_model.specs.sections.Pruning.{conds_of_groups, conds_of_head}
 
 module _ {L : Type 0} where
-  -- the groups of a section, where its last group has these nodes
+  -- The groups of a section whose last group has these nodes.
   abbrev pub complete : Head L → Nodes L → Groups L
   complete (if_head o) b = conditional (first o b)
   complete (elif_head es o) b = conditional (elif es o b)
   complete (else_head es l) b = otherwise es l b
 
--- the second tree is the first one with this line after it
+-- The second tree is the first one with this line after it.
 pub data Adds {L : Type 0} : Tree L → Item L → Tree L → Type 0 where
   adds_text : {b : Nodes L} {l : L} → Adds (closed b) (text_line l) (closed (text b l))
   adds_if : {b : Nodes L} {o : Opener L} → Adds (closed b) (if_line o) (open_section b (if_head o) (closed nothing))
@@ -31,13 +31,14 @@ pub data Adds {L : Type 0} : Tree L → Item L → Tree L → Type 0 where
       Adds (open_section ns h t) x (open_section ns h u)
 
 module _ {L : Type 0} where
-  -- the lines of a section are those up to the opener of its last group, and then those of that group
+  -- The lines of a section are those up to the opener of its last group, and then those of that
+  -- group.
   pub lines-complete : (h : Head L) (b : Nodes L) → lines_of_head h ++ lines_of_nodes b ≡ lines_of_groups (complete h b)
   lines-complete (if_head o) b = refl
   lines-complete (elif_head es o) b = refl
   lines-complete (else_head es l) b = refl
 
-  -- the conditions of a section are those of its head
+  -- The conditions of a section are those of its head.
   pub conds-complete : (h : Head L) (b : Nodes L) → conds_of_groups (complete h b) ≡ conds_of_head h
   conds-complete (if_head o) b = refl
   conds-complete (elif_head es o) b = refl
@@ -48,7 +49,7 @@ module _ {L : Type 0} where
       ≡ ((lines_of_nodes ns ++ lines_of_head h) ++ lines_of_nodes b) ++ endif_line l ∷ []
   lines_with_endif ns b h l = rw (← lines-complete h b) simp append_assoc
 
-  -- the lines of the longer tree are those of the shorter one, and then the line
+  -- The lines of the longer tree are those of the shorter one, and then the line.
   pub lines-add : {t u : Tree L} {x : Item L} → Adds t x u → lines u ≡ lines t ++ x ∷ []
   lines-add adds_text = refl
   lines-add adds_if = simp append-nil
@@ -59,7 +60,7 @@ module _ {L : Type 0} where
   lines-add (adds_endif {ns = ns} {b = b} {h = h} {l = l}) = lines_with_endif ns b h l
   lines-add (adds_under {ns = ns} {h = h} a) = rw (lines-add a) simp append_assoc
 
-  -- a tree and a line give one tree at most
+  -- A tree and a line give one tree at most.
   pub adds-once : {t u v : Tree L} {x : Item L} → Adds t x u → Adds t x v → u ≡ v
   adds-once adds_text adds_text = refl
   adds-once adds_if adds_if = refl
@@ -92,7 +93,7 @@ module _ {L : Type 0} where
   undo_under ns h t (inl e) = rw e (undo_head ns h)
   undo_under ns h t (inr (u, x, a)) = (open_section ns h u, x, adds_under a)
 
-  -- each tree but the empty one has grown by a line
+  -- Each tree but the empty one has grown by a line.
   pub undo : (t : Tree L) → (t ≡ closed nothing) ⊎ ((u : Tree L) × (x : Item L) × Adds u x t)
   undo (closed nothing) = inl refl
   undo (closed (text ns l)) = inr (closed ns, text_line l, adds_text)

@@ -1,4 +1,4 @@
--- Heights: no front of a text is higher than the text, and no text is deeper than it is high.
+-- Heights: no prefix of a text is higher than the text, and no text is deeper than it is high.
 use Rattle.std.proofs.Common.{◌≡◌, ◌≤◌, List, [], ◌∷◌, ◌++◌, max, sym, ◌∙◌, append_assoc, append-nil, arith}
 use Rattle.ud_model.specs.sections.Tree.{Item, Nodes, Head, Tree, if_head, elif_head, else_head, closed, open_section, lines, depth}
 use Rattle.ud_model.specs.aids.Height.{height, height_of_nodes, height_of_groups, height_of_head}
@@ -7,7 +7,7 @@ use Rattle.ud_model.proofs.sections.Growth.{Adds, adds_text, adds_if, elif_after
 use Rattle.ud_model.proofs.sections.Unique.{unique, tree_before}
 
 module _ {L : Type 0} where
-  -- a text is at least as high as it is deep
+  -- A text is at least as high as it is deep.
   pub depth_height : (t : Tree L) → depth t ≤ height t
   depth_height (closed ns) = omega arith
   depth_height (open_section ns h t) = let d : depth t ≤ height t = depth_height t in omega arith
@@ -17,7 +17,7 @@ module _ {L : Type 0} where
   height-complete (elif_head es o) b = omega arith
   height-complete (else_head es l) b = omega arith
 
-  -- a line more makes no text lower
+  -- One more line makes no text lower.
   pub height_add : {t u : Tree L} {x : Item L} → Adds t x u → height t ≤ height u
   height_add adds_text = omega arith
   height_add adds_if = omega arith
@@ -38,11 +38,11 @@ module _ {L : Type 0} where
       let d : height b.0 ≤ height u = height_add b.2 in
       omega arith
 
-  -- no front of a text is higher than the text
+  -- No prefix of a text is higher than the text.
   pub height_front : (t u : Tree L) (more : List (Item L)) → lines u ≡ lines t ++ more → height t ≤ height u
   height_front t u more e = height_by (by_push more) t u e
 
-  -- no front of a text is deeper than the text is high
+  -- No prefix of a text is deeper than the text is high.
   pub depth_front : (t u : Tree L) (more : List (Item L)) → lines u ≡ lines t ++ more → depth t ≤ height u
   depth_front t u more e =
       let c : height t ≤ height u = height_front t u more e in

@@ -1,4 +1,4 @@
--- Where a keyword lies: within the masked line, and so within the line's body.
+-- The position of a keyword is within the masked line, and so within the line's body.
 use Rattle.std.proofs.Common.{◌≡◌, ℕ, suc, ◌+◌, ◌≤◌, ◌==◌, List, [], ◌∷◌, length, Bool, true, false, Option, Some, None, if◌then◌else◌, refl, subst, arith}
 use Rattle.ud_model.specs.text.Bytes.{skip_white, leading_word, skip_word, is_white, is_word_byte}
 use Rattle.ud_model.specs.text.Scans.{Scan}
@@ -10,7 +10,7 @@ white_one : (w : Bool) (b : ℕ) (bs rest : List ℕ) → length rest ≤ length
 white_one true b bs rest h = omega (arith, h)
 white_one false b bs rest h = omega arith
 
--- what is left after white space is no longer than all
+-- The rest after leading white space is no longer than the text.
 pub past_white_le : (t : List ℕ) → length (skip_white t) ≤ length t
 past_white_le [] = omega arith
 past_white_le (b ∷ bs) = white_one (is_white b) b bs (skip_white bs) (past_white_le bs)
@@ -20,7 +20,7 @@ word_one : (w : Bool) (b : ℕ) (bs word rest : List ℕ) → length word + leng
 word_one true b bs word rest h = omega (arith, h)
 word_one false b bs word rest h = omega arith
 
--- a word and what follows it are all
+-- A leading word and the rest after it are the text.
 pub word_and_rest : (t : List ℕ) → length (leading_word t) + length (skip_word t) ≡ length t
 word_and_rest [] = refl
 word_and_rest (b ∷ bs) = word_one (is_word_byte b) b bs (leading_word bs) (skip_word bs) (word_and_rest bs)
@@ -33,7 +33,7 @@ sign_le : (t rest : List ℕ) → skip_hash t ≡ Some rest → length rest ≤ 
 sign_le [] rest e = cc
 sign_le (b ∷ bs) rest e = sign_one (b == 35) b bs rest e
 
--- in this content the keyword ends within so many bytes, and what follows it isn't longer
+-- In this content the keyword ends within so many bytes, and the bytes after it aren't longer.
 abbrev pub Lies : ℕ → Content → Type 0
 Lies n cut_keyword = Unit {0}
 Lies n text = Unit {0}
@@ -60,7 +60,7 @@ lies_unless_cut : (scan : Scan) (cut : Bool) → Lies (length scan.masked) (if c
 lies_unless_cut scan true = tt
 lies_unless_cut scan false = lies_behind scan (skip_hash_if_fresh scan.masked) refl
 
--- a directive's keyword lies within the masked line, and so does what follows it
+-- A directive's keyword lies within the masked line, and so do the bytes after it.
 pub content_lies : (scan : Scan) → Lies (length scan.masked) (content_of scan)
 content_lies scan = lies_unless_cut scan (has_split_keyword scan (skip_hash_if_fresh scan.masked))
 
@@ -69,6 +69,6 @@ keyword_by n cut_keyword h = omega arith
 keyword_by n text h = omega arith
 keyword_by n (directive d) h = h.0
 
--- the keyword lies within the masked line
+-- The keyword lies within the masked line.
 pub keyword_lies : (scan : Scan) → (keyword_in (content_of scan)).at + (keyword_in (content_of scan)).len ≤ length scan.masked
 keyword_lies scan = keyword_by (length scan.masked) (content_of scan) (content_lies scan)

@@ -1,4 +1,4 @@
--- Keywords: what holds of each row of the table holds of each keyword and its kind.
+-- Keywords: a fact of each row of the table is a fact of each keyword and its kind.
 use Rattle.std.proofs.Common.{◌≡◌, ℕ, List, [], ◌∷◌, Bool, true, false, ◌&&◌, Some, bytes_eq, if◌then◌else◌, refl, sym, subst}
 use Rattle.std.proofs.lemmas.Bool.{and_parts}
 use Rattle.std.proofs.lemmas.Slice.Eq.{bytes_eq-Decides}
@@ -18,11 +18,11 @@ module _ (P : List ℕ × Kind → Type 0) where
   row_holds [] a w k e = cc
   row_holds ((v, j) ∷ rows) a w k e = by_word w v j k rows (bytes_eq w v) (bytes_eq-Decides w v).0 (row_holds rows a.1 w k) a.0 e
 
-  -- what holds of each row holds of each keyword
+  -- A fact of each row is a fact of each keyword.
   pub keyword_holds : Each P keywords → (w : List ℕ) (k : Kind) → kind_of w ≡ Some k → P (w, k)
   keyword_holds a w k e = row_holds keywords a w k e
 
--- each row passes
+-- Each row passes.
 abbrev pub all_pass : (List ℕ × Kind → Bool) → List (List ℕ × Kind) → Bool
 all_pass p [] = true
 all_pass p (row ∷ rows) = p row && all_pass p rows
@@ -32,6 +32,6 @@ each_passes p [] a = tt
 each_passes p (row ∷ rows) a =
     let b : (p row ≡ true) × (all_pass p rows ≡ true) = and_parts (p row) (all_pass p rows) a in (b.0, each_passes p rows b.1)
 
--- what is found true of the table is true of each keyword
+-- A test that each row of the table passes is true of each keyword.
 pub each_keyword : (p : List ℕ × Kind → Bool) → all_pass p keywords ≡ true → (w : List ℕ) (k : Kind) → kind_of w ≡ Some k → p (w, k) ≡ true
 each_keyword p a w k e = keyword_holds (λ row. p row ≡ true) (each_passes p keywords a) w k e

@@ -1,4 +1,4 @@
--- Soundness: of the same lines the items, the tree and the fault are the same, so a text has one outcome at most.
+-- Soundness: the lines decide the items, the tree and the fault, so a text has one outcome at most.
 use Rattle.std.proofs.Common.{◌≡◌, ℕ, List, [], ◌∷◌, ◌++◌, map, Option, Some, None, refl, sym, ◌∙◌, ap, ap₂, append_assoc, append-nil, subst, ◌⊎◌, inl, inr}
 use Rattle.std.proofs.lemmas.List.{same_from_push, map-append}
 use Rattle.ud_model.specs.text.Lines.{Line, lines_of}
@@ -17,33 +17,33 @@ use Rattle.ud_model.proofs.text.Pushes.{ByPush, none, push, by_push, push_not_ni
 use Rattle.ud_model.proofs.sections.Unique.{unique}
 use Rattle.ud_model.proofs.sections.FaultStays.{reading_of-item_by}
 
--- an item is of the line that was read
+-- An item is of the line that was read.
 pub reading_of-item_of : (o : Options) (r : Reading) → reading_of (item_of o r) ≡ r
 reading_of-item_of o r = reading_of-item_by o r (content_of r.scan)
 
--- the next line's item is of that line
+-- The next line's item is of that line.
 pub reading_of-next : (o : Options) (xs : List (Item Reading)) (t : Tree Reading) (l : Line) → line_of (next_item o xs t l) ≡ l
 reading_of-next o xs t l = ap (λ r. r.line) (reading_of-item_of o (read_after xs (mode_after o t) l))
 
--- sound lines were read so
+-- Faultless lines were read.
 pub sound_read : {o : Options} {xs : List (Item Reading)} {t : Tree Reading} → AreFaultless o xs t → AreRead o xs t
 sound_read no_lines = no_items
 sound_read (one_more xs t s l u e n) = one_item xs t (sound_read s) l u e
 
--- lines that were read are those of their tree
+-- Lines that were read are those of their tree.
 pub read_lines : {o : Options} {xs : List (Item Reading)} {t : Tree Reading} → AreRead o xs t → lines t ≡ xs
 read_lines no_items = refl
 read_lines (one_item xs t r l u e) = e
 
 module _ (o : Options) where
-  -- the lines of items with one more
+  -- The lines of items with one more.
   pub lines_with_next : (xs : List (Item Reading)) (t : Tree Reading) (l : Line) → map line_of (xs ++ next_item o xs t l ∷ []) ≡ map line_of xs ++ l ∷ []
   lines_with_next xs t l = map-append line_of xs (next_item o xs t l ∷ []) ∙ ap (λ k. map line_of xs ++ k ∷ []) (reading_of-next o xs t l)
 
   read_once : {xs ys : List (Item Reading)} {t u : Tree Reading} → AreRead o xs t → AreRead o ys u → xs ≡ ys → t ≡ u
   read_once {t = t} {u = u} a b e = unique t u (read_lines a ∙ e ∙ sym (read_lines b))
 
-  -- items that are read of the same lines are the same
+  -- Items that are read of the same lines are the same.
   pub read_same : (xs ys : List (Item Reading)) (t u : Tree Reading) → AreRead o xs t → AreRead o ys u → map line_of xs ≡ map line_of ys → xs ≡ ys
   read_same _ _ _ _ no_items no_items e = refl
   read_same _ _ _ _ no_items (one_item ys u b k v d) e = absurd (push_not_nil (map line_of ys) k (sym (lines_with_next ys u k) ∙ sym e))
@@ -54,20 +54,20 @@ module _ (o : Options) where
       let p : t ≡ u = read_once a b q in
       rw (q, p, s.1)
 
-  -- a text has one tree at most
+  -- A text has one tree at most.
   pub one_tree_of : (input : List ℕ) (t u : Tree Reading) → IsTreeOf o input t → IsTreeOf o input u → t ≡ u
   one_tree_of input t u a b = read_once a.read b.read (read_same a.items b.items t u a.read b.read (sym a.are ∙ b.are))
 
--- sound lines are the lines of their tree
+-- Faultless lines are the lines of their tree.
 pub sound_lines : {o : Options} {xs : List (Item Reading)} {t : Tree Reading} → AreFaultless o xs t → lines t ≡ xs
 sound_lines no_lines = refl
 sound_lines (one_more xs t s l u e n) = e
 
--- sound lines have one tree
+-- Faultless lines have one tree.
 pub sound_once : {o : Options} {xs : List (Item Reading)} {t u : Tree Reading} → AreFaultless o xs t → AreFaultless o xs u → t ≡ u
 sound_once {t = t} {u = u} a b = unique t u (sound_lines a ∙ sym (sound_lines b))
 
--- the cases from this one on
+-- The cases from this one on.
 case_in_order : (c : Case) → (later : List Case) × (earlier c ++ c ∷ later ≡ cases)
 case_in_order past_last = (too_long ∷ cut ∷ out_of_place ∷ too_deep ∷ obfuscated_case ∷ [], refl)
 case_in_order too_long = (cut ∷ out_of_place ∷ too_deep ∷ obfuscated_case ∷ [], refl)
@@ -89,7 +89,7 @@ module _ (xs : List (Item Reading)) (x : Item Reading) where
   one_case (a ∷ cs) (b ∷ ds) c d ws vs e h n k m =
       let q : cs ++ c ∷ ws ≡ ds ++ d ∷ vs = cc in one_case cs ds c d ws vs q h n.1 k m.1
 
--- a line has one fault at most
+-- A line has one fault at most.
 pub one_fault : (xs : List (Item Reading)) (x : Item Reading) (f g : Fault) → FaultOf xs x f → FaultOf xs x g → f ≡ g
 one_fault xs x f g a b =
     let c : (later : List Case) × (earlier a.which ++ a.which ∷ later ≡ cases) = case_in_order a.which in
@@ -98,7 +98,7 @@ one_fault xs x f g a b =
     let e : Some f ≡ Some g = sym a.named ∙ ap (fault_in x) w ∙ b.named in
     cc
 
--- a sound line has no fault
+-- A faultless line has no fault.
 pub sound_or_faulty : (xs : List (Item Reading)) (x : Item Reading) (f : Fault) → NoneHolds xs x cases → FaultOf xs x f → ⊥
 sound_or_faulty xs x f n a =
     let c : (later : List Case) × (earlier a.which ++ a.which ∷ later ≡ cases) = case_in_order a.which in
@@ -109,11 +109,11 @@ module _ (o : Options) where
       next_item o xs t l ≡ next_item o ys u k
   same_next xs ys t u l k a b e f = let q : t ≡ u = sound_once (subst (λ zs. AreFaultless o zs t) e a) b in rw (e, q, f)
 
-  -- sound items of the same lines are the same
+  -- Faultless items of the same lines are the same.
   pub sound_same : (xs ys : List (Item Reading)) (t u : Tree Reading) → AreFaultless o xs t → AreFaultless o ys u → map line_of xs ≡ map line_of ys → xs ≡ ys
   sound_same xs ys t u a b e = read_same o xs ys t u (sound_read a) (sound_read b) e
 
-  -- of sound items with these lines in front, the first ones are sound
+  -- Faultless items whose lines begin with these have faultless items of these lines first.
   pub sound_front : (ls : List Line) {more : List Line} → ByPush more → (ys : List (Item Reading)) (u : Tree Reading) → AreFaultless o ys u →
       map line_of ys ≡ ls ++ more → (xs : List (Item Reading)) × (t : Tree Reading) × AreFaultless o xs t × (map line_of xs ≡ ls)
   sound_front ls none ys u b e = (ys, u, b, e ∙ append-nil ls)
@@ -123,7 +123,7 @@ module _ (o : Options) where
       same_from_push (map line_of ys) (ls ++ ms) k l (sym (lines_with_next o ys u k) ∙ e ∙ sym (append_assoc ls ms (l ∷ []))) in
       sound_front ls p ys u b s.0
 
-  -- the line after sound items isn't faulty where more sound items have it too
+  -- The line after faultless items isn't faulty if more faultless items have it too.
   clear_next : (xs ys : List (Item Reading)) (t u : Tree Reading) (l : Line) → AreFaultless o xs t → AreFaultless o ys u →
       map line_of ys ≡ map line_of xs ++ l ∷ [] → NoneHolds xs (next_item o xs t l) cases
   clear_next xs _ t _ l a no_lines e = absurd (push_not_nil (map line_of xs) l (sym e))
@@ -140,7 +140,7 @@ module _ (o : Options) where
       sound_front (map line_of xs ++ l ∷ []) (by_push later) ys u b (e ∙ sym (append_assoc (map line_of xs) (l ∷ []) later)) in
       sound_or_faulty xs (next_item o xs t l) f (clear_next xs s.0 t s.1 l a s.2 s.3) g
 
--- where two fronts and the elements after them meet
+-- If a list is split at two of its elements, these are the same, or one comes before the other.
 compare_fronts : (ks ms : List Line) (a b : Line) (ws vs : List Line) → ks ++ a ∷ ws ≡ ms ++ b ∷ vs →
     ((ks ≡ ms) × (a ≡ b)) ⊎ (((mid : List Line) × (ms ≡ ks ++ a ∷ mid)) ⊎ ((mid : List Line) × (ks ≡ ms ++ b ∷ mid)))
 compare_fronts [] [] a b ws vs e = inl (refl, cc)
@@ -158,7 +158,7 @@ compare_fronts (c ∷ ks) (d ∷ ms) a b ws vs e = go (compare_fronts ks ms a b 
     go (inr (inr s)) = inr (inr (s.0, cc))
 
 module _ (o : Options) (ls : List Line) where
-  -- a text stops at one place, with one fault
+  -- A text stops at one line, with one fault.
   pub one_stop : (xs ys : List (Item Reading)) (t u : Tree Reading) (f g : Fault) → FirstFaultAt o ls xs t f → FirstFaultAt o ls ys u g →
       (xs ≡ ys) × (t ≡ u) × (f ≡ g)
   one_stop xs ys t u f g a b = go (compare_fronts (map line_of xs) (map line_of ys) a.faulty b.faulty a.later b.later (sym a.are ∙ b.are))
@@ -177,13 +177,13 @@ module _ (o : Options) (ls : List Line) where
       go (inr (inl s)) = absurd (faulty_inside o xs ys t u a.faulty s.0 f a.sound a.fault b.sound s.1)
       go (inr (inr s)) = absurd (faulty_inside o ys xs u t b.faulty s.0 g b.sound b.fault a.sound s.1)
 
-  -- a text that goes through has one list of items with one tree
+  -- A text without a faulty line has one list of items with one tree.
   pub one_way_through : (xs ys : List (Item Reading)) (t u : Tree Reading) → HasNoFault o ls xs t → HasNoFault o ls ys u → (xs ≡ ys) × (t ≡ u)
   one_way_through xs ys t u a b =
       let q : xs ≡ ys = sound_same o xs ys t u a.sound b.sound (sym a.are ∙ b.are) in
       (q, sound_once (subst (λ zs. AreFaultless o zs t) q a.sound) b.sound)
 
-  -- a text that stops doesn't go through
+  -- A text with a faulty line isn't one without.
   pub stops_or_goes : (xs ys : List (Item Reading)) (t u : Tree Reading) (f : Fault) → FirstFaultAt o ls xs t f → HasNoFault o ls ys u → ⊥
   stops_or_goes xs ys t u f a b = faulty_inside o xs ys t u a.faulty a.later f a.sound a.fault b.sound (sym b.are ∙ a.are)
 
@@ -191,7 +191,7 @@ same_outcome : (s : Settings) (xs ys : List (Item Reading)) (t u : Tree Reading)
     outcome_of s xs t f ≡ outcome_of s ys u g
 same_outcome s xs ys t u f g p q r = rw (p, q, r)
 
--- a text is read in one way at most
+-- A text is read in one way at most.
 pub reads_once : {o : Options} {input : List ℕ} {xs ys : List (Item Reading)} {t u : Tree Reading} {f g : Option Fault} → ReadsAs o input xs t f → ReadsAs o input ys u g →
     (xs ≡ ys) × (t ≡ u) × (f ≡ g)
 reads_once {o = o} {input = input} (stops xs t f a) (stops ys u g b) =
@@ -201,7 +201,7 @@ reads_once {o = o} {input = input} (ends xs t a) (stops ys u g b) = absurd (stop
 reads_once {o = o} {input = input} (ends xs t a) (ends ys u b) =
     let w : (xs ≡ ys) × (t ≡ u) = one_way_through o (lines_of input) xs ys t u a b in (w.0, w.1, ap₂ end_fault w.0 w.1)
 
--- a text has one outcome at most
+-- A text has one outcome at most.
 pub one_run : {o : Options} {input : List ℕ} {r s : Outcome} → HasOutcome o input r → HasOutcome o input s → r ≡ s
 one_run {o = o} (ran_as {xs = xs} {t = t} {f = f} a) (ran_as {xs = ys} {t = u} {f = g} b) =
     let w : (xs ≡ ys) × (t ≡ u) × (f ≡ g) = reads_once a b in same_outcome o.settings xs ys t u f g w.0 w.1 w.2
@@ -211,7 +211,7 @@ same_break : {o : Options} {given : List ℕ} {xs ys : List (Item Reading)} {t u
 same_break {o = o} {given = given} {ys = ys} {t = t} {f = f} p q c =
     subst (λ v. RestBreaks o given ys v f) q (subst (λ zs. RestBreaks o given zs t f) p c)
 
--- a text that goes on is read in one way at most so far
+-- A text that goes on is read in one way at most so far.
 pub reads_so_far_once : {o : Options} {given : List ℕ} {xs ys : List (Item Reading)} {t u : Tree Reading} {f g : Option Fault} →
     ReadsSoFar o given xs t f → ReadsSoFar o given ys u g → (xs ≡ ys) × (t ≡ u) × (f ≡ g)
 reads_so_far_once {o = o} {given = given} (stops_so_far xs t f a) (stops_so_far ys u g b) =
@@ -232,12 +232,12 @@ reads_so_far_once {o = o} {given = given} (goes_on xs t a c) (breaks ys u g b d)
 reads_so_far_once {o = o} {given = given} (goes_on xs t a c) (goes_on ys u b d) =
     let w : (xs ≡ ys) × (t ≡ u) = one_way_through o (lines_so_far given) xs ys t u a b in (w.0, w.1, refl)
 
--- and has one outcome so far at most
+-- A text that goes on has one outcome at most so far.
 pub one_run_so_far : {o : Options} {given : List ℕ} {r s : Outcome} → HasOutcomeSoFar o given r → HasOutcomeSoFar o given s → r ≡ s
 one_run_so_far {o = o} (came_as {xs = xs} {t = t} {f = f} a) (came_as {xs = ys} {t = u} {f = g} b) =
     let w : (xs ≡ ys) × (t ≡ u) × (f ≡ g) = reads_so_far_once a b in same_outcome o.settings xs ys t u f g w.0 w.1 w.2
 
--- words and an input have one answer at most
+-- Arguments and an input have one answer at most.
 pub one_answer : {args : List (List ℕ)} {input : List ℕ} {a b : Answer} → IsAnswer args input a → IsAnswer args input b → a ≡ b
 one_answer (refused f d) (refused g e) = let q : Some f ≡ Some g = sym d ∙ e in let p : f ≡ g = cc in rw p
 one_answer (refused f d) (ran s e b) = let q : Some f ≡ None = sym d ∙ e in cc

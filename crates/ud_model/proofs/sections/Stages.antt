@@ -1,4 +1,5 @@
--- Stages: how far a section in a kept place has come, by the conditions of its groups so far.
+-- Stages: how far a section has come whose groups around are all kept, by the conditions of its
+-- groups so far.
 use Rattle.std.proofs.Common.{◌≡◌, List, [], ◌∷◌, ◌++◌, Bool, false, not, if◌then◌else◌, refl}
 use Rattle.std.proofs.Math.Bool.{and-false, and-true}
 use Rattle.ud_model.specs.declared.cond.Cond.{Cond}
@@ -9,18 +10,18 @@ use Rattle.ud_model.specs.sections.Pruning.{Part, any_true, ends_with_first_true
 use Rattle.ud_model.specs.aids.SoFar.{verdict_so_far}
 
 pub data Stage : Type 0 where
-  -- no group is kept so far
+  -- No group is kept so far.
   leading : Stage
-  -- the first kept group is true
+  -- The first kept group is true.
   given : Stage
-  -- some group is kept, and none is true
+  -- Some group is kept, and none is true.
   going : Stage
-  -- the last group is the first true one, and some group before it is kept
+  -- The last group is the first true one, and some group before it is kept.
   at_true : Stage
-  -- an opener has come after that one
+  -- An opener has come after that one.
   past : Stage
 
--- the stage after further groups, if some group before them is kept and none is true
+-- The stage after further groups, if some group before them is kept and none is true.
 abbrev pub stage_inside : List Cond → Stage
 stage_inside [] = going
 stage_inside (Yes ∷ []) = at_true
@@ -28,14 +29,14 @@ stage_inside (Yes ∷ c ∷ cs) = past
 stage_inside (No ∷ cs) = stage_inside cs
 stage_inside (Unknown ∷ cs) = stage_inside cs
 
--- the stage after groups with these conditions
+-- The stage after groups with these conditions.
 abbrev pub stage : List Cond → Stage
 stage [] = leading
 stage (Yes ∷ cs) = given
 stage (No ∷ cs) = stage cs
 stage (Unknown ∷ cs) = stage_inside cs
 
--- the stage with a group more
+-- The stage with one more group.
 abbrev pub next_stage : Stage → Cond → Stage
 next_stage leading Yes = given
 next_stage leading No = leading
@@ -47,7 +48,7 @@ next_stage going Unknown = going
 next_stage at_true c = past
 next_stage past c = past
 
--- the verdict of an opener at this stage
+-- The verdict of an opener at this stage.
 abbrev pub verdict_at : Stage → Part → Cond → Verdict
 verdict_at leading part Yes = Remove
 verdict_at leading part No = Remove
@@ -57,7 +58,7 @@ verdict_at going part c = later_verdict part c
 verdict_at at_true part c = ToEndif
 verdict_at past part c = Remove
 
--- its group is kept
+-- The group that is opened at this stage is kept.
 abbrev pub kept_at : Stage → Cond → Bool
 kept_at leading c = not (is_false c)
 kept_at given c = false
@@ -65,7 +66,7 @@ kept_at going c = not (is_false c)
 kept_at at_true c = false
 kept_at past c = false
 
--- the verdict of the `#endif` at this stage
+-- The verdict of the `#endif` at this stage.
 abbrev pub endif_at : Stage → Verdict
 endif_at leading = Remove
 endif_at given = Remove
@@ -81,7 +82,7 @@ inside_verdict (Yes ∷ d ∷ cs) part c = refl
 inside_verdict (No ∷ cs) part c = inside_verdict cs part c
 inside_verdict (Unknown ∷ cs) part c = inside_verdict cs part c
 
--- the table by stages: an opener
+-- The verdict of an opener is that of its stage.
 pub verdict_by_stage : (cs : List Cond) (part : Part) (c : Cond) → verdict_so_far cs part c ≡ verdict_at (stage cs) part c
 verdict_by_stage [] part Yes = refl
 verdict_by_stage [] part No = refl
@@ -97,7 +98,7 @@ inside_kept (Yes ∷ d ∷ cs) c = and-false (not (is_false c))
 inside_kept (No ∷ cs) c = inside_kept cs c
 inside_kept (Unknown ∷ cs) c = inside_kept cs c
 
--- its group
+-- A group is kept if it is so by its stage.
 pub kept_by_stage : (cs : List Cond) (c : Cond) → is_kept cs c ≡ kept_at (stage cs) c
 kept_by_stage [] c = and-true (not (is_false c))
 kept_by_stage (Yes ∷ cs) c = and-false (not (is_false c))
@@ -113,7 +114,7 @@ inside_next (Yes ∷ d ∷ cs) c = refl
 inside_next (No ∷ cs) c = inside_next cs c
 inside_next (Unknown ∷ cs) c = inside_next cs c
 
--- a group more
+-- One more group leads to the next stage.
 pub stage_next : (cs : List Cond) (c : Cond) → stage (cs ++ c ∷ []) ≡ next_stage (stage cs) c
 stage_next [] Yes = refl
 stage_next [] No = refl
@@ -129,7 +130,7 @@ inside_endif (Yes ∷ d ∷ cs) = refl
 inside_endif (No ∷ cs) = inside_endif cs
 inside_endif (Unknown ∷ cs) = inside_endif cs
 
--- the `#endif`
+-- The verdict of the `#endif` is that of its stage.
 pub endif_by_stage : (cs : List Cond) → endif_verdict cs ≡ endif_at (stage cs)
 endif_by_stage [] = refl
 endif_by_stage (Yes ∷ cs) = refl

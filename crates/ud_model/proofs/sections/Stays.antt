@@ -1,4 +1,5 @@
--- Stays: a line's mark is the same in every longer text, since no later group's condition changes an opener's verdict.
+-- Stays: a line's mark is the same in every longer text, since no later group's condition changes
+-- an opener's verdict.
 use Rattle.std.proofs.Common.{◌≡◌, List, [], ◌∷◌, ◌++◌, length, Bool, true, false, not, ◌&&◌, if◌then◌else◌, refl, sym, ◌∙◌, append_assoc, append-nil, subst, length-append}
 use Rattle.ud_model.specs.declared.cond.Cond.{Cond}
 use Rattle.ud_model.specs.declared.cond.Cond.TheVariants.{Yes, No, Unknown}
@@ -19,7 +20,7 @@ first_by_part an_if c = refl
 first_by_part an_elif c = refl
 first_by_part an_else c = refl
 
--- the table is taken by its rows, if the section doesn't give way and some group before is kept
+-- The table is taken by its rows, if the section doesn't give way and some group before is kept.
 after_first : (some ends : Bool) (part : Part) (c : Cond) →
     verdict_in_position (if not some then up_to_true c else if ends then next_after else further_on) part c
     ≡ (if not some then later_verdict part c else if ends then ToEndif else Remove)
@@ -27,7 +28,8 @@ after_first false ends part c = refl
 after_first true true part c = refl
 after_first true false part c = refl
 
--- the table over the whole section is that by the groups so far: the conditions of later groups change no opener's verdict
+-- The table over the whole section is that by the groups so far: the conditions of later groups
+-- change no opener's verdict.
 pub table_so_far : (before later : List Cond) (part : Part) (c : Cond) →
     opener_verdict (before ++ c ∷ later) before part c ≡ verdict_so_far before part c
 table_so_far [] later part Yes = refl
@@ -65,7 +67,7 @@ module _ {L : Type 0} where
   head_same kept (elif_head es o) = rw (elifs_same kept es (o.cond ∷ []), table_so_far (conds_of_elifs es) [] an_elif o.cond)
   head_same kept (else_head es l) = rw (elifs_same kept es (Yes ∷ []), table_so_far (conds_of_elifs es) [] an_else Yes)
 
-  -- the marks by the table over the whole section are those by the groups so far
+  -- The marks by the table over the whole section are those by the groups so far.
   pub marks_so_far_same : (kept : Bool) (t : Tree L) → marks_in kept t ≡ marks_so_far kept t
   marks_so_far_same kept (closed ns) = nodes_same kept ns
   marks_so_far_same kept (open_section ns h t) =
@@ -77,7 +79,7 @@ module _ {L : Type 0} where
   groups_so_far-complete kept (elif_head es o) b = refl
   groups_so_far-complete kept (else_head es l) b = refl
 
-  -- a line more gives a mark more
+  -- One more line has one more mark.
   pub marks_add : (kept : Bool) {t u : Tree L} {x : Item L} → Adds t x u → (m : Mark) × (marks_so_far kept u ≡ marks_so_far kept t ++ m ∷ [])
   marks_add kept adds_text = (marked kept Keep, refl)
   marks_add kept (adds_if {o = o}) = (marked kept (verdict_so_far [] an_if o.cond), simp append-nil)
@@ -100,7 +102,7 @@ module _ {L : Type 0} where
       let m : (m : Mark) × (marks_so_far kept t ≡ marks_so_far kept b.0 ++ m ∷ []) = marks_add kept b.2 in
       rw (m.1, length-append (marks_so_far kept b.0) (m.0 ∷ []), length-append xs (x ∷ []), length_by p kept b.0 b.1)
 
-  -- each line has one mark
+  -- Each line has one mark.
   pub length_marks : (kept : Bool) (t : Tree L) → length (marks_in kept t) ≡ length (lines t)
   length_marks kept t = rw (marks_so_far_same kept t) (length_by (by_push (lines t)) kept t refl)
 
@@ -114,10 +116,10 @@ module _ {L : Type 0} where
       let r : (rest : List Mark) × (marks_so_far kept b.0 ≡ marks_so_far kept t ++ rest) = stay_by p kept t b.0 b.1 in
       (r.0 ++ m.0 ∷ [], rw (m.1, r.1) (append_assoc (marks_so_far kept t) r.0 (m.0 ∷ [])))
 
-  -- the marks of a longer text begin with those of the text
+  -- The marks of a longer text begin with those of the text.
   pub marks_stay : (t u : Tree L) (more : List (Item L)) → lines u ≡ lines t ++ more → (rest : List Mark) × (marks u ≡ marks t ++ rest)
   marks_stay t u more e = rw (marks_so_far_same true t, marks_so_far_same true u) (stay_by (by_push more) true t u e)
 
-  -- a line more gives a mark more
+  -- One more line has one more mark.
   pub marks_more : {t u : Tree L} {x : Item L} → Adds t x u → (m : Mark) × (marks u ≡ marks t ++ m ∷ [])
   marks_more {t = t} {u = u} a = rw (marks_so_far_same true t, marks_so_far_same true u) (marks_add true a)

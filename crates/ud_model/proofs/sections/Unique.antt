@@ -1,4 +1,4 @@
--- Unique: a list of lines has one tree or none, and each front of a list with a tree has a tree.
+-- Unique: a list of lines has one tree or none, and each prefix of a list with a tree has a tree.
 use Rattle.std.proofs.Common.{◌≡◌, List, [], ◌∷◌, ◌++◌, refl, sym, ◌∙◌, ap, append_assoc, append-nil, subst, ◌⊎◌, inl, inr}
 use Rattle.std.proofs.lemmas.List.{same_from_push}
 use Rattle.ud_model.specs.sections.Tree.{Item, Tree, closed, nothing, lines, HasTree}
@@ -6,7 +6,7 @@ use Rattle.ud_model.proofs.text.Pushes.{ByPush, none, push, by_push, push_not_ni
 use Rattle.ud_model.proofs.sections.Growth.{Adds, lines-add, adds-once, undo}
 
 module _ {L : Type 0} where
-  -- the lines of a tree that has grown aren't none
+  -- A tree that has grown has a line.
   grown_not_nil : {t u : Tree L} {x : Item L} → Adds t x u → lines u ≡ [] → ⊥
   grown_not_nil {t = t} {x = x} a e = push_not_nil (lines t) x (sym (lines-add a) ∙ e)
 
@@ -23,7 +23,7 @@ module _ {L : Type 0} where
       go (inl p) = p
       go (inr (u, x, a)) = absurd (grown_not_nil a e)
 
-  -- the tree before the last line
+  -- The tree before the last line.
   pub tree_before : (xs : List (Item L)) (x : Item L) (u : Tree L) → lines u ≡ xs ++ x ∷ [] → (t : Tree L) × (lines t ≡ xs) × Adds t x u
   tree_before xs x u e = go (undo u)
     where
@@ -38,11 +38,11 @@ module _ {L : Type 0} where
       let b : (v : Tree L) × (lines v ≡ xs) × Adds v x u = tree_before xs x u e in
       same_grown a.2 b.2 (unique_by p a.0 b.0 a.1 b.1) refl
 
-  -- a list of lines has one tree at most
+  -- A list of lines has one tree at most.
   pub unique : (t u : Tree L) → lines t ≡ lines u → t ≡ u
   unique t u e = unique_by (by_push (lines u)) t u e refl
 
-  -- a tree with one line more has grown by it
+  -- A tree with one line more has grown by it.
   pub grows : (t u : Tree L) (x : Item L) → lines u ≡ lines t ++ x ∷ [] → Adds t x u
   grows t u x e =
       let a : (v : Tree L) × (lines v ≡ lines t) × Adds v x u = tree_before (lines t) x u e in
@@ -54,6 +54,6 @@ module _ {L : Type 0} where
       let a : (v : Tree L) × (lines v ≡ xs ++ ys) × Adds v y u = tree_before (xs ++ ys) y u (e ∙ sym (append_assoc xs ys (y ∷ []))) in
       front_by p a.0 xs a.1
 
-  -- each front of a list with a tree has a tree
+  -- Each prefix of a list with a tree has a tree.
   pub has_front : (u : Tree L) (xs ys : List (Item L)) → lines u ≡ xs ++ ys → HasTree xs
   has_front u xs ys e = front_by (by_push ys) u xs e

@@ -1,4 +1,4 @@
--- White space and words, by std's words for tests and positions.
+-- White space and words, by std's functions for tests and positions.
 use Rattle.std.proofs.Common.{◌≡◌, ◌∙◌, ◌≤◌, nat_lt, Some, None, unwrap_or, slice_get, arith, ℕ, ◌+◌, List, [], ◌∷◌, Bool, true, false, not, cond, length, take, drop, refl, ap, if◌then◌else◌}
 use Rattle.std.specs.List.{list_all, position, position_or_len}
 use Rattle.std.proofs.lemmas.List.Sums.{prefix_len-le-length}
@@ -6,17 +6,17 @@ use Rattle.std.proofs.lemmas.Bool.Decides.{nat_tests}
 use Rattle.ud_model.specs.text.Bytes.{is_white, is_word_byte, are_white, are_word_bytes, is_digit, is_identifier, leading_word, skip_word, skip_white}
 use Rattle.std.proofs.Common.{◌&&◌, one-add}
 
--- `all` at `is_white` tests each byte for white space
+-- `all` with `is_white` tests each byte for white space.
 pub list_all-white : (bytes : List ℕ) → list_all (λ b. is_white b) bytes ≡ are_white bytes
 list_all-white [] = refl
 list_all-white (b ∷ bs) = ap (λ t. is_white b && t) (list_all-white bs)
 
--- `all` at `is_word_byte` tests each byte for a word's
+-- `all` with `is_word_byte` tests each byte for a word byte.
 pub list_all-word : (bytes : List ℕ) → list_all (λ b. is_word_byte b) bytes ≡ are_word_bytes bytes
 list_all-word [] = refl
 list_all-word (b ∷ bs) = ap (λ t. is_word_byte b && t) (list_all-word bs)
 
--- how many word bytes stand in front: the position of the first other byte
+-- The length of the leading word is the position of the first other byte.
 abbrev pub front_len : List ℕ → ℕ
 front_len bytes = position_or_len (λ b. not (is_word_byte b)) bytes
 
@@ -31,21 +31,21 @@ drop_one false n b bs rest h = refl
 or_len : (n len : ℕ) → n ≤ len → unwrap_or (cond (nat_lt n len) (Some n) None) len ≡ n
 or_len n len h = grind (arith, nat_tests)
 
--- the bytes before the first that is no word byte are the word in front
+-- The bytes before the first that is no word byte are the leading word.
 pub take-front_len : (bytes : List ℕ) → take (front_len bytes) bytes ≡ leading_word bytes
 take-front_len [] = refl
 take-front_len (b ∷ bs) = take_one (is_word_byte b) (front_len bs) b bs (leading_word bs) (take-front_len bs)
 
--- the bytes from the first that is no word byte on are those after the word
+-- The bytes from the first that is no word byte on follow the leading word.
 pub drop-front_len : (bytes : List ℕ) → drop (front_len bytes) bytes ≡ skip_word bytes
 drop-front_len [] = refl
 drop-front_len (b ∷ bs) = drop_one (is_word_byte b) (front_len bs) b bs (skip_word bs) (drop-front_len bs)
 
--- the position of the first byte that passes, or the length if none does
+-- The position of the first byte that passes, or the length if none does.
 pub unwrap_or-position : (p : ℕ → Bool) (bytes : List ℕ) → unwrap_or (position p bytes) (length bytes) ≡ position_or_len p bytes
 unwrap_or-position p bytes = or_len (position_or_len p bytes) (length bytes) (prefix_len-le-length (λ b. not (p b)) bytes)
 
--- after a first byte that is no digit, an identifier has word bytes alone
+-- After a first byte that is no digit, an identifier has word bytes alone.
 pub is_identifier-first : (text : List ℕ) (first : ℕ) → slice_get text 0 ≡ Some first → is_digit first ≡ false → is_identifier text ≡ are_word_bytes text
 is_identifier-first [] first e h = cc
 is_identifier-first (b ∷ bs) first e h =
@@ -57,7 +57,7 @@ one_off : (w : Bool) (b : ℕ) (bs rest : List ℕ) → length rest ≤ length b
 one_off true b bs rest h = let s : length (b ∷ bs) ≡ length bs + 1 = omega arith in omega arith
 one_off false b bs rest h = omega arith
 
--- white space in front is no more than there is
+-- The rest after leading white space is no longer than the text.
 pub length-skip_white : (bytes : List ℕ) → length (skip_white bytes) ≤ length bytes
 length-skip_white [] = omega arith
 length-skip_white (b ∷ bs) = one_off (is_white b) b bs (skip_white bs) (length-skip_white bs)
@@ -66,7 +66,7 @@ one_word : (w : Bool) (b : ℕ) (front : List ℕ) → is_word_byte b ≡ w → 
 one_word true b front e h = rw e h
 one_word false b front e h = refl
 
--- the word in front has word bytes alone
+-- The leading word has word bytes alone.
 pub leading_word-word : (bytes : List ℕ) → are_word_bytes (leading_word bytes) ≡ true
 leading_word-word [] = refl
 leading_word-word (b ∷ bs) = one_word (is_word_byte b) b (leading_word bs) refl (leading_word-word bs)

@@ -1,9 +1,9 @@
--- A table of bytes is held against a test at each of the 256 bytes, by computing.
+-- A table of bytes is compared with a test at each of the 256 bytes, by computing.
 use Rattle.std.proofs.Common.{◌≡◌, ℕ, zero, suc, ◌<◌, Bool, true, false, ◌&&◌, not, nat_eq, get_or, List, refl, arith, inl, inr}
 use Rattle.std.specs.Bool.{beq}
 use Rattle.std.proofs.lemmas.Bool.{cases_eq}
 
--- the two tests agree below n
+-- The two tests agree below `n`.
 unfoldable pub agree_below : (ℕ → Bool) → (ℕ → Bool) → ℕ → Bool
 agree_below f g zero = true
 agree_below f g (suc n) = beq (f n) (g n) && agree_below f g n
@@ -21,10 +21,11 @@ agree_at f g (suc n) h b lt =
     let both = both_of (f n) (g n) (agree_below f g n) h in
     elim (cases_eq b n) [ inl same ↦ rw same both.0 | inr other ↦ agree_at f g n both.1 b (omega arith) ]
 
--- the table has something else than this filler at a byte
+-- The table has something else than this filler at a byte.
 abbrev pub is_put : List ℕ → ℕ → ℕ → Bool
 is_put table filler b = not (nat_eq (get_or table b 0) filler)
 
--- if a test passes the bytes at which the table has no filler, the table tells it of each byte
+-- If a test passes exactly the bytes at which the table has no filler, the table decides the test
+-- for each byte.
 pub from_table : (table : List ℕ) (filler : ℕ) (test : ℕ → Bool) (b : ℕ) → b < 256 → agree_below (is_put table filler) test 256 ≡ true → is_put table filler b ≡ test b
 from_table table filler test b lt h = agree_at _ _ 256 h b lt

@@ -1,4 +1,4 @@
--- Cuts: each text has one.
+-- Lexemes: each text has some.
 use Rattle.std.proofs.Common.{◌≡◌, ◌≢◌, ℕ, zero, suc, ◌+◌, ◌≤◌, ◌==◌, List, [], ◌∷◌, ◌++◌, length, Bool, true, false, ◌&&◌, ◌||◌, ◌⊎◌, inl, inr, refl, sym, ◌∙◌, ap, ap₂, subst, append_assoc, append-nil, arith, length-append}
 use Rattle.std.proofs.lemmas.Bool.{eqb-true, cases_eq}
 use Rattle.ud_model.specs.text.Bytes.{slash, star, backslash, is_quote}
@@ -10,12 +10,12 @@ true_parts : (a b : Bool) → (a && b) ≡ true → (a ≡ true) × (b ≡ true)
 true_parts true b e = (refl, e)
 true_parts false b e = cc
 
--- a text that begins with this byte is the byte and the rest
+-- A text that begins with this byte is the byte and the rest.
 begins_is : (b : ℕ) (u : List ℕ) → starts_with_byte b u ≡ true → (rest : List ℕ) × (u ≡ b ∷ rest)
 begins_is b [] e = cc
 begins_is b (x ∷ u) e = (u, ap (λ (n : ℕ). n ∷ u) (eqb-true x b e))
 
--- up to the first `*/`, or to the end
+-- Up to and including the first `*/`, or to the end.
 data CommentEnd (u : List ℕ) : Type 0 where
   closes : (inside rest : List ℕ) → u ≡ inside ++ star ∷ slash ∷ rest → NoClose (inside ++ star ∷ []) → CommentEnd u
   runs_on : NoClose u → CommentEnd u
@@ -38,7 +38,7 @@ comment_end (a ∷ u) = by_close ((a == star) && starts_with_byte slash u) refl 
         closes (a ∷ inside) rest (ap (λ (l : List ℕ). a ∷ l) is)
         (ap (λ (t : Bool). (a == star) && t) (sym (begins_front inside rest) ∙ sym (ap (starts_with_byte slash) is)) ∙ e, n)
 
--- up to the new-line, or to the end
+-- Up to the newline, or to the end.
 data LineEnd (u : List ℕ) : Type 0 where
   line_to : (inside rest : List ℕ) → u ≡ inside ++ rest → NoNewline inside → IsLineEnd rest → LineEnd u
 
@@ -50,7 +50,7 @@ line_end (a ∷ u) = by_feed (cases_eq a 10) (line_end u)
     by_feed (inl e) later = line_to [] (a ∷ u) refl tt e
     by_feed (inr n) (line_to inside rest is none at_end) = line_to (a ∷ inside) rest (ap (λ (l : List ℕ). a ∷ l) is) (n, none) at_end
 
--- up to the quote, or to the new-line, or to the end
+-- Up to and including the quote, or up to the newline, or to the end.
 data LiteralEnd (q : ℕ) (u : List ℕ) : Type 0 where
   quoted : (inside rest : List ℕ) → IsLiteralBody q inside → u ≡ inside ++ q ∷ rest → LiteralEnd q u
   left_open : (inside rest : List ℕ) → IsLiteralBody q inside → u ≡ inside ++ rest → IsLineEnd rest → LiteralEnd q u
@@ -64,7 +64,7 @@ longer q front u more (left_open inside rest i is at_end) =
 longer q front u more (left_at_backslash inside rest i is at_end) =
     left_at_backslash (front ++ inside) rest (more inside i) (ap (λ (l : List ℕ). front ++ l) is ∙ sym (append_assoc front inside (backslash ∷ rest))) at_end
 
--- the text with a backslash in front, or without
+-- The text with a backslash before it, or without.
 abbrev behind : Bool → List ℕ → List ℕ
 behind true u = 92 ∷ u
 behind false u = u
@@ -85,7 +85,7 @@ literal_end q false (a ∷ u) = by_byte (cases_eq a 10) (cases_eq a q) (cases_eq
     by_byte (inr n) (inr m) (inl e) later taken = subst (λ (x : ℕ). LiteralEnd q (x ∷ u)) (sym e) taken
     by_byte (inr n) (inr m) (inr k) later taken = longer q (a ∷ []) u (λ i h. plain n m k h) later
 
--- the first piece of a text
+-- The first lexeme of a text.
 record First (u : List ℕ) : Type 0 where
   pub kind : LexemeKind
   pub bytes : List ℕ
@@ -144,7 +144,7 @@ first_literal q u h (left_at_backslash inside rest i e at_end) = record {
 first_single : (a : ℕ) (u : List ℕ) → is_quote a ≡ false → ((a == slash) && (starts_with_byte star u || starts_with_byte slash u)) ≡ false → First (a ∷ u)
 first_single a u h f = record { kind = single; bytes = a ∷ []; rest = u; splits = refl; is = single_byte a refl h f }
 
--- a text that isn't empty has a first piece
+-- A nonempty text has a first lexeme.
 first_piece : (a : ℕ) (u : List ℕ) → First (a ∷ u)
 first_piece a u = by_quote (is_quote a) refl
   where
@@ -180,6 +180,6 @@ cut_within (suc n) (a ∷ text) h =
     let later : (pieces : List Lexeme) × AreLexemes pieces f.rest = cut_within n f.rest (less_left (a ∷ text) f.bytes f.rest n f.splits f.is h) in
     ((record { kind = f.kind; bytes = f.bytes } ∷ later.0), (f.rest, f.splits, f.is, later.1))
 
--- each text has a cut
+-- Each text has lexemes.
 pub cut_exists : (text : List ℕ) → (pieces : List Lexeme) × AreLexemes pieces text
 cut_exists text = cut_within (length text) text (omega arith)

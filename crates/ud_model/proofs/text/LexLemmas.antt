@@ -1,4 +1,4 @@
--- Cuts: a text has one cut, and the computed one has its cells.
+-- Lexemes: a text has them in one way, and the computed cells are theirs.
 use Rattle.std.proofs.Common.{◌≡◌, ◌≢◌, ℕ, suc, ◌+◌, ◌==◌, List, [], ◌∷◌, ◌++◌, length, take, drop, Bool, true, false, ◌&&◌, ◌||◌, if◌then◌else◌, refl, sym, ◌∙◌, ap, ap₂, subst, append_assoc, append-nil, arith, length-append, ne_eqb, zero-add}
 use Rattle.std.proofs.lemmas.Bool.{eq-eqb}
 use Rattle.std.proofs.lemmas.List.{take_at, drop_at}
@@ -40,7 +40,7 @@ literal_end_size q true (a ∷ rest) e = ap (λ (t : Bool). if t then 0 else suc
 literal_end_size q false (a ∷ rest) e =
     ap (λ (t : Bool). if t then 0 else if a == q then 1 else suc (literal_size q (a == backslash) rest)) (eq-eqb a 10 e)
 
--- a byte that is no quote isn't this one
+-- A byte that is no quote isn't this one.
 not_this_quote : (q n : ℕ) → is_quote q ≡ true → is_quote n ≡ false → n ≢ q
 not_this_quote q n h none e = let f : is_quote n ≡ true = ap is_quote e ∙ h in cc
 
@@ -66,7 +66,7 @@ inside_size q rest h (passed {b = b} {rest = inside} no_feed i) =
     more : (x n m : ℕ) → x ≡ n + m → suc (suc x) ≡ suc (suc n) + m
     more x n m e = omega arith
 
--- a piece of this kind with so many bytes after its first
+-- A lexeme of this kind with so many bytes after its first.
 abbrev pub extent : LexemeKind → ℕ → Extent
 extent k n = record { kind = k; more = n }
 
@@ -113,7 +113,7 @@ piece_single b rest h f =
     by_tests false true x y m n e f = cc
     by_tests true true false false m n e f = cc
 
--- a piece reaches as far as the computed one
+-- A lexeme reaches as far as the computed one.
 pub piece_size : {k : LexemeKind} (a : ℕ) (tail rest : List ℕ) → IsLexeme (a ∷ tail) rest k → lexeme_at a (tail ++ rest) ≡ extent k (length tail)
 unfolding lexeme_at
 piece_size a tail rest (closed_comment inside e n) =
@@ -151,7 +151,7 @@ piece_size a tail rest (open_at_backslash q inside h e i at_end) =
     ∙ sym (length-append inside (backslash ∷ []))))
 piece_size a tail rest (single_byte b e h f) = at_bytes single a b tail [] rest e (piece_single b rest h f)
 
--- a piece has a byte at least
+-- A lexeme has a byte at least.
 pub some_bytes : {k : LexemeKind} (rest : List ℕ) → IsLexeme [] rest k → ⊥
 some_bytes rest (closed_comment inside e n) = cc
 some_bytes rest (open_comment inside e n none) = cc
@@ -166,7 +166,7 @@ unfolding lex_from
 cut_rest k [] rest = refl
 cut_rest k (a ∷ tail) rest = ap (λ (cells : List Cell). record { byte = a; kind = k } ∷ cells) (cut_rest k tail rest)
 
--- the cells of a text with a piece in front
+-- The cells of a text that begins with a lexeme.
 pub cut_piece : (k : LexemeKind) (bytes rest : List ℕ) → IsLexeme bytes rest k → lex (bytes ++ rest) ≡ cells_in k bytes ++ lex rest
 unfolding lex lex_from
 cut_piece k [] rest p = absurd (some_bytes rest p)
@@ -175,7 +175,7 @@ cut_piece k (a ∷ tail) rest p =
     ∙ ap (λ (cells : List Cell). record { byte = a; kind = k } ∷ cells)
     (cut_rest k tail rest ∙ ap (λ (cells : List Cell). cells_in k tail ++ cells) (lex_from-zero k single rest))
 
--- the cells of a cut are the computed ones
+-- The cells of the lexemes are the computed ones.
 pub cut_cells : (text : List ℕ) (pieces : List Lexeme) → AreLexemes pieces text → cells_of pieces ≡ lex text
 unfolding lex lex_from
 cut_cells text [] e = sym (ap lex e)
@@ -189,7 +189,7 @@ same_front s t rest more e n = (
   sym (drop_at s rest (length t) n) ∙ ap (λ (l : List ℕ). drop (length t) l) e ∙ drop_at t more (length t) refl,
 )
 
--- two first pieces of a text are the same
+-- A text has one first lexeme at most.
 first_same : (k l : LexemeKind) (s t rest more : List ℕ) → IsLexeme s rest k → IsLexeme t more l → s ++ rest ≡ t ++ more → (k ≡ l) × (s ≡ t) × (rest ≡ more)
 first_same k l [] t rest more p q e = absurd (some_bytes rest p)
 first_same k l (a ∷ s) [] rest more p q e = absurd (some_bytes more q)
@@ -201,7 +201,7 @@ first_same k l (a ∷ s) (b ∷ t) rest more p q e =
     let front : (s ≡ t) × (rest ≡ more) = same_front s t rest more behind (ap (λ (x : Extent). x.more) reach) in
     (ap (λ (x : Extent). x.kind) reach, ap₂ (λ (x : ℕ) (xs : List ℕ). x ∷ xs) same front.0, front.1)
 
--- a text has one cut at most
+-- A text has lexemes in one way at most.
 pub cut_unique : (text : List ℕ) (pieces others : List Lexeme) → AreLexemes pieces text → AreLexemes others text → pieces ≡ others
 cut_unique text [] [] e f = refl
 cut_unique text [] (q ∷ others) e (more, f, is, rest) =

@@ -1,4 +1,4 @@
--- Places: a text that leaves off at a place leaves off at the next one with one more byte.
+-- States: one more byte takes a text's state to the next one.
 use Rattle.std.proofs.Common.{◌≡◌, ℕ, zero, suc, ◌≤◌, ◌==◌, List, [], ◌∷◌, ◌++◌, length, drop, map, Bool, true, false, ◌&&◌, ◌||◌, if◌then◌else◌, refl, sym, ◌∙◌, ap, subst, append_assoc, append-nil, arith, length-append}
 use Rattle.std.proofs.Math.Bool.{and-false, and-true}
 use Rattle.std.proofs.lemmas.Bool.{eqb-true}
@@ -10,33 +10,33 @@ use Rattle.ud_model.specs.text.Scanning.{is_blank}
 use Rattle.ud_model.specs.aids.LexStates.{LexState, in_text, at_slash, in_block, at_star, in_line, in_literal, at_backslash, cells_after, LexesTo, next_state, opens_comment, masked_byte, stays_white, blank_last, mask, Masks}
 use Rattle.ud_model.proofs.text.Steps.{cell, settles, after_step}
 
--- a text has as many cells as bytes, from any place on
+-- A text has as many cells as bytes, from any state on.
 pub length-lex_from : (k : LexemeKind) (n : ℕ) (u : List ℕ) → length (lex_from k n u) ≡ length u
 unfolding lex_from
 length-lex_from k n [] = refl
 length-lex_from k zero (a ∷ u) = ap (λ (m : ℕ). suc m) (length-lex_from (lexeme_at a u).kind (lexeme_at a u).more u)
 length-lex_from k (suc n) (a ∷ u) = ap (λ (m : ℕ). suc m) (length-lex_from k n u)
 
--- a text has as many cells as bytes
+-- A text has as many cells as bytes.
 pub length-lex : (u : List ℕ) → length (lex u) ≡ length u
 unfolding lex
 length-lex u = length-lex_from single 0 u
 
--- a text as it is shown has as many bytes
+-- A text has as many bytes when it is masked.
 pub length-mask : (u : List ℕ) → length (mask u) ≡ length u
 unfolding mask
 length-mask u = length-map (lex u) shown ∙ length-lex u
 
--- the open line of cells, and further ones
+-- The open line of cells, and further ones.
 pub open_line-append : (x xs ys : List Cell) → open_line x (xs ++ ys) ≡ open_line (open_line x xs) ys
 open_line-append x [] ys = refl
 open_line-append x (c ∷ xs) ys = open_line-append (if ends_line c then [] else x ++ c ∷ []) xs ys
 
--- cells are white where those in front and those after are
+-- Cells are white if the first ones and the others are.
 pub is_blank-append : (xs ys : List Cell) → is_blank (xs ++ ys) ≡ (is_blank xs && is_blank ys)
 is_blank-append xs ys = list_all-append (λ (c : Cell). is_white (shown c)) xs ys
 
--- cells are white with one more where that is shown as white space
+-- Cells with one more are white if they are, and that one is shown as white space.
 pub is_blank_last : (xs : List Cell) (c : Cell) → is_blank (xs ++ c ∷ []) ≡ (is_blank xs && is_white (shown c))
 is_blank_last xs c = is_blank-append xs (c ∷ []) ∙ ap (λ (b : Bool). is_blank xs && b) (and-true (is_white (shown c)))
 
@@ -46,7 +46,7 @@ comment_last xs c e = is_blank_last xs c ∙ ap (λ (b : Bool). is_blank xs && b
 black_last : (xs : List Cell) (c : Cell) → is_white (shown c) ≡ false → is_blank (xs ++ c ∷ []) ≡ false
 black_last xs c e = is_blank_last xs c ∙ ap (λ (b : Bool). is_blank xs && b) e ∙ and-false (is_blank xs)
 
--- a quote is no new-line
+-- A quote is no newline.
 pub quote_is_no_feed : (b : ℕ) → is_quote b ≡ true → (b == newline) ≡ false
 quote_is_no_feed b q = by_feed (b == newline) refl
   where
@@ -126,7 +126,7 @@ white_inside b x = by_feed (b == newline) refl
     by_feed true e = single_white b x ∙ ap (λ (t : Bool). if t then true else is_blank x && is_white b) e
     by_feed false e = is_blank_last x (cell literal b)
 
--- whether the open line stays white with a byte
+-- The open line after a byte is white as `stays_white` computes it.
 pub white_step : (w : LexState) (b : ℕ) (x : List Cell) → is_blank (open_line x (settles w b)) ≡ stays_white w (is_blank x) b
 white_step in_text b x = white-in_text b x
 white_step at_slash b x = white-at_slash b x
@@ -136,7 +136,7 @@ white_step in_line b x = white-in_line b x
 white_step (in_literal q) b x = white_inside b x
 white_step (at_backslash q) b x = white_inside b x
 
--- a text leaves off at the next place with one more byte
+-- One more byte takes the text to the next state.
 pub LexesTo-step : {text : List ℕ} {w : LexState} {white : Bool} (b : ℕ) → LexesTo text w white → LexesTo (text ++ b ∷ []) (next_state w b) (stays_white w white b)
 LexesTo-step {text} {w} {white} b r = record {
   settled = r.settled ++ settles w b;
@@ -148,12 +148,12 @@ LexesTo-step {text} {w} {white} b r = record {
       ∙ ap is_blank (sym (open_line-append [] r.settled (settles w b)));
 }
 
--- the empty text leaves off between pieces
+-- The empty text ends between lexemes.
 pub LexesTo-nil : LexesTo [] in_text true
 unfolding lex cells_after
 LexesTo-nil = record { settled = []; splits = λ rest. refl; white_is = refl }
 
--- a text as it is shown: its settled cells, and a slash where one may begin a comment
+-- The masked text is that of its settled cells, and a slash if one may begin a comment.
 pub mask_is : (text : List ℕ) (w : LexState) (white : Bool) (r : LexesTo text w white) → mask text ≡ map shown r.settled ++ map shown (cells_after w [])
 unfolding mask
 mask_is text w white r =
@@ -246,19 +246,19 @@ tail_shown in_line b = tail-in_line b
 tail_shown (in_literal q) b = tail-in_literal q b
 tail_shown (at_backslash q) b = tail-at_backslash q b
 
--- of bytes with one more, that one is blanked
+-- Of bytes with one more, that one is blanked.
 pub blank_last-last : (xs : List ℕ) (y : ℕ) → blank_last (xs ++ y ∷ []) ≡ xs ++ space ∷ []
 blank_last-last [] y = refl
 blank_last-last (x ∷ []) y = refl
 blank_last-last (x ∷ z ∷ xs) y = ap (λ (l : List ℕ). x ∷ l) (blank_last-last (z ∷ xs) y)
 
--- blanking the last byte keeps the number of bytes
+-- Blanking the last byte keeps the number of bytes.
 pub length-blank_last : (xs : List ℕ) → length (blank_last xs) ≡ length xs
 length-blank_last [] = refl
 length-blank_last (x ∷ []) = refl
 length-blank_last (x ∷ y ∷ xs) = ap (λ (n : ℕ). suc n) (length-blank_last (y ∷ xs))
 
--- the last byte stays the last where bytes in front are left out
+-- The last byte stays the last if bytes before it are dropped.
 pub blank_last-drop : (n : ℕ) (xs : List ℕ) → drop n (blank_last xs) ≡ blank_last (drop n xs)
 blank_last-drop zero xs = refl
 blank_last-drop (suc n) [] = refl
@@ -286,7 +286,7 @@ opened in_line b xs y = sym (append_assoc xs [] (y ∷ []))
 opened (in_literal q) b xs y = sym (append_assoc xs [] (y ∷ []))
 opened (at_backslash q) b xs y = sym (append_assoc xs [] (y ∷ []))
 
--- a text as it is shown with one more byte: a slash at its end may become a space
+-- In the masked text with one more byte, a slash at the end may become a space.
 pub mask_step : (text : List ℕ) (w : LexState) (white : Bool) (b : ℕ) → LexesTo text w white →
     mask (text ++ b ∷ []) ≡ (if opens_comment w b then blank_last (mask text) else mask text) ++ masked_byte w b ∷ []
 unfolding LexesTo-step
@@ -305,7 +305,7 @@ cond_drop true n xs y h =
     ∙ ap (λ (l : List ℕ). l ++ y ∷ []) (blank_last-drop n xs)
 cond_drop false n xs y h = drop-append-le n xs (y ∷ []) h
 
--- so it is after the first n bytes
+-- The masked text after its first `n` bytes, with one more byte.
 pub Masks-step : {n : ℕ} {text : List ℕ} {w : LexState} {white : Bool} {masked : List ℕ} (b : ℕ) → Masks n text w white masked →
     Masks n (text ++ b ∷ []) (next_state w b) (stays_white w white b) ((if opens_comment w b then blank_last masked else masked) ++ masked_byte w b ∷ [])
 Masks-step {n} {text} {w} {white} {masked} b m = record {

@@ -1,4 +1,4 @@
--- Lines: the lemmas on the cut of a text into its lines, and on the lines of a longer text.
+-- Lines: lemmas on the lines of a text, and on those of a longer one.
 use Rattle.std.proofs.Common.{◌≡◌, ◌≢◌, ℕ, suc, ◌+◌, ◌-◌, List, [], ◌∷◌, ◌++◌, length, take, map, ◌⊎◌, inl, inr, refl, sym, ◌∙◌, ap, ap₂, subst, append_assoc, append-nil, take_all, ne_eqb, nat_eq, Bool, true, false, if◌then◌else◌, arith}
 use Rattle.std.specs.List.{concat, ends_with}
 use Rattle.std.proofs.lemmas.List.Folds.{concat-append}
@@ -8,38 +8,38 @@ use Rattle.std.proofs.lemmas.Slice.Eq.{ends_is}
 pub use Rattle.ud_model.specs.text.Lines.{AreWhole}
 use Rattle.ud_model.specs.text.Lines.{NoNewline, IsWhole, AreFormed, AreLines, SplitLines, AreSplitLines, prepend_byte, prepend_to_first, split_lines, whole_lines, partial_line, last_line, texts_of, ending_of, is_ending, Line, text_of, line_at, numbered_from, lines_of}
 
--- a byte that isn't a line feed goes in front of the first part
+-- A byte that isn't a newline goes before the first part.
 pub prepend_byte-other : (b : ℕ) (p : SplitLines) → b ≢ 10 → prepend_byte b p ≡ prepend_to_first b p.whole p.rest
 prepend_byte-other b p other = rw (ne_eqb b 10 other) refl
 
--- a rest that isn't empty is a line of its own
+-- A nonempty rest is a line of its own.
 pub last_line-some : (r : List ℕ) → r ≢ [] → last_line r ≡ r ∷ []
 last_line-some [] some = absurd (some refl)
 last_line-some (b ∷ bs) some = refl
 
--- a text with a front that isn't empty isn't empty
+-- A text with a nonempty prefix isn't empty.
 pub some_front : (p q : List ℕ) → p ≢ [] → p ++ q ≢ []
 some_front [] q some e = some refl
 some_front (b ∷ bs) q some e = cc
 
--- the rest as a line joined is the rest
+-- The rest as a line, joined, is the rest.
 pub concat-last_line : (r : List ℕ) → concat (last_line r) ≡ r
 concat-last_line [] = refl
 concat-last_line (b ∷ bs) = append-nil (b ∷ bs)
 
--- no line feed stands in two texts, so none stands in both joined
+-- If neither of two texts has a newline, both joined have none.
 pub no_feed-append : (p q : List ℕ) → NoNewline p → NoNewline q → NoNewline (p ++ q)
 no_feed-append [] q hp hq = hq
 no_feed-append (b ∷ bs) q hp hq = (hp.0, no_feed-append bs q hp.1 hq)
 
--- the parts of a text without a line feed: it is all rest
+-- A text without a newline is all rest.
 pub split_lines-open : (p : List ℕ) → NoNewline p → split_lines p ≡ record { whole = []; rest = p }
 unfolding split_lines
 split_lines-open [] h = refl
 split_lines-open (b ∷ bs) h =
     prepend_byte-other b (split_lines bs) h.0 ∙ ap (λ (q : SplitLines). prepend_to_first b q.whole q.rest) (split_lines-open bs h.1)
 
--- up to the first line feed a text is its first line
+-- Up to its first newline a text is its first line.
 pub split_lines-front : (p t : List ℕ) → NoNewline p →
     split_lines (p ++ 10 ∷ t) ≡ record { whole = (p ++ 10 ∷ []) ∷ whole_lines t; rest = partial_line t }
 unfolding split_lines
@@ -47,17 +47,17 @@ split_lines-front [] t h = refl
 split_lines-front (b ∷ bs) t h =
     prepend_byte-other b (split_lines (bs ++ 10 ∷ t)) h.0 ∙ ap (λ (q : SplitLines). prepend_to_first b q.whole q.rest) (split_lines-front bs t h.1)
 
--- a whole line in front of a text is its first line
+-- A whole line that a text begins with is its first line.
 pub split_lines-line-front : (l t : List ℕ) → IsWhole l → split_lines (l ++ t) ≡ record { whole = l ∷ whole_lines t; rest = partial_line t }
 split_lines-line-front l t (front, none, is) =
     subst (λ (m : List ℕ). split_lines (m ++ t) ≡ record { whole = m ∷ whole_lines t; rest = partial_line t }) (sym is)
     (ap split_lines (append_assoc front (10 ∷ []) t) ∙ split_lines-front front t none)
 
--- the parts of a text that goes on from these parts
+-- The parts of a text that goes on from these parts.
 abbrev pub going_on : SplitLines → List ℕ → SplitLines
 going_on q s = record { whole = q.whole ++ whole_lines (q.rest ++ s); rest = partial_line (q.rest ++ s) }
 
--- a byte in front of a text goes in front of the text that goes on
+-- A byte before a text comes before the text that goes on.
 pub prepend_byte-going_on : (b : ℕ) (q : SplitLines) (s : List ℕ) → (b ≡ 10) ⊎ (b ≢ 10) → prepend_byte b (going_on q s) ≡ going_on (prepend_byte b q) s
 unfolding split_lines
 prepend_byte-going_on b q s (inl e) = subst (λ (n : ℕ). prepend_byte n (going_on q s) ≡ going_on (prepend_byte n q) s) (sym e) refl
@@ -69,13 +69,13 @@ prepend_byte-going_on b q s (inr other) =
     by_whole [] r = sym (prepend_byte-other b (split_lines (r ++ s)) other)
     by_whole (l ∷ ls) r = refl
 
--- the parts of two texts joined: the second goes on from the rest of the first
+-- The parts of two texts joined: the second goes on from the rest of the first.
 pub split_lines-append : (t s : List ℕ) → split_lines (t ++ s) ≡ going_on (split_lines t) s
 unfolding split_lines
 split_lines-append [] s = refl
 split_lines-append (b ∷ bs) s = ap (prepend_byte b) (split_lines-append bs s) ∙ prepend_byte-going_on b (split_lines bs) s (cases_eq b 10)
 
--- put in front of parts of a text, a byte gives parts of the text with the byte in front
+-- A byte before parts of a text gives parts of the text with the byte before it.
 pub put_parts : (b : ℕ) (bs : List ℕ) (q : SplitLines) → (b ≡ 10) ⊎ (b ≢ 10) → AreSplitLines bs q → AreSplitLines (b ∷ bs) (prepend_byte b q)
 put_parts b bs q (inl e) h =
     subst (λ (n : ℕ). AreSplitLines (n ∷ bs) (prepend_byte n q)) (sym e)
@@ -91,32 +91,32 @@ put_parts b bs q (inr other) h =
       no_newline = no_newline;
     }
 
--- the parts of a text are parts of it
+-- The computed parts of a text are parts of it.
 pub split_lines-are : (t : List ℕ) → AreSplitLines t (split_lines t)
 unfolding split_lines
 split_lines-are [] = record { joined = refl; whole = tt; no_newline = tt }
 split_lines-are (b ∷ bs) = put_parts b bs (split_lines bs) (cases_eq b 10) (split_lines-are bs)
 
--- a text is its whole lines and its rest
+-- A text is its whole lines and its rest.
 pub parts_joined : (t : List ℕ) → t ≡ concat (whole_lines t) ++ partial_line t
 parts_joined t = (split_lines-are t).joined
 
--- each of the whole lines is whole
+-- Each of the whole lines is whole.
 pub are_whole : (t : List ℕ) → AreWhole (whole_lines t)
 are_whole t = (split_lines-are t).whole
 
--- no line feed stands after the last one
+-- No newline follows the last one.
 pub partial_line-open : (t : List ℕ) → NoNewline (partial_line t)
 partial_line-open t = (split_lines-are t).no_newline
 
--- bytes without a line feed go to the rest
+-- Bytes without a newline are added to the rest.
 pub split_lines-append-open : (t p : List ℕ) → NoNewline p → split_lines (t ++ p) ≡ record { whole = whole_lines t; rest = partial_line t ++ p }
 split_lines-append-open t p h =
     split_lines-append t p ∙ ap (λ (q : SplitLines). record { whole = whole_lines t ++ q.whole; rest = q.rest })
     (split_lines-open (partial_line t ++ p) (no_feed-append (partial_line t) p (partial_line-open t) h))
     ∙ ap (λ (ls : List (List ℕ)). record { whole = ls; rest = partial_line t ++ p }) (append-nil (whole_lines t))
 
--- a line feed ends the line that the rest begins
+-- A newline ends the line that the rest begins.
 pub split_lines-append-line : (t p : List ℕ) → NoNewline p →
     split_lines (t ++ (p ++ 10 ∷ [])) ≡ record { whole = whole_lines t ++ (partial_line t ++ (p ++ 10 ∷ [])) ∷ []; rest = [] }
 unfolding split_lines
@@ -128,16 +128,18 @@ split_lines-append-line t p h =
         subst (λ (x : List ℕ). split_lines x ≡ record { whole = x ∷ []; rest = [] }) (append_assoc (partial_line t) p (10 ∷ []))
         (split_lines-front (partial_line t ++ p) [] (no_feed-append (partial_line t) p (partial_line-open t) h))
 
--- the whole lines of a longer text begin with those of the text, and their rest is that of the text's rest
+-- The whole lines of a longer text begin with those of the text. Its rest is that of the text's
+-- rest with the bytes after.
 pub whole_grows : (t more : List ℕ) → (later : List (List ℕ)) × (whole_lines (t ++ more) ≡ whole_lines t ++ later)
 whole_grows t more = (whole_lines (partial_line t ++ more), ap (λ (q : SplitLines). q.whole) (split_lines-append t more))
 
--- these are the parts of a text that goes on from this rest: the rest still stands, or a whole line begins with it
+-- The parts of a text that goes on from this rest: the rest is still open, or a whole line begins
+-- with it.
 pub data GoesOn (r more : List ℕ) : SplitLines → Type 0 where
   still_open : GoesOn r more (record { whole = []; rest = r ++ more })
   made_whole : (x : List ℕ) (ls : List (List ℕ)) (rest : List ℕ) → GoesOn r more (record { whole = (r ++ x) ∷ ls; rest = rest })
 
--- the parts of a rest that goes on
+-- A rest that goes on has such parts.
 pub rest_goes_on : (r more : List ℕ) → NoNewline r → GoesOn r more (split_lines (r ++ more))
 unfolding split_lines
 rest_goes_on [] more h = by_whole (whole_lines more) (partial_line more) (parts_joined more)
@@ -152,12 +154,12 @@ rest_goes_on (b ∷ r) more h =
     put_in _ still_open = still_open
     put_in _ (made_whole x ls rest) = made_whole x ls rest
 
--- a text that goes on: its rest still stands, longer, or a whole line begins with it
+-- A text that goes on: its rest is still open, and longer, or a whole line begins with it.
 pub data Growth (t more : List ℕ) : Type 0 where
   stays_open : whole_lines (t ++ more) ≡ whole_lines t → partial_line (t ++ more) ≡ partial_line t ++ more → Growth t more
   ends_line : (x : List ℕ) (later : List (List ℕ)) → whole_lines (t ++ more) ≡ whole_lines t ++ (partial_line t ++ x) ∷ later → Growth t more
 
--- what becomes of the rest of a text that goes on
+-- The rest of a text that goes on does so in one of these ways.
 pub grows : (t more : List ℕ) → Growth t more
 grows t more = by_parts (split_lines (partial_line t ++ more)) (split_lines-append t more) (rest_goes_on (partial_line t) more (partial_line-open t))
   where
@@ -167,7 +169,7 @@ grows t more = by_parts (split_lines (partial_line t ++ more)) (split_lines-appe
         stays_open (ap (λ (p : SplitLines). p.whole) e ∙ append-nil (whole_lines t)) (ap (λ (p : SplitLines). p.rest) e)
     by_parts _ e (made_whole x ls rest) = ends_line x ls (ap (λ (p : SplitLines). p.whole) e)
 
--- where a text has a rest, one of the lines of a longer text begins with it
+-- If a text has a rest, one of the lines of a longer text begins with it.
 pub texts_of_grows : (t more : List ℕ) → partial_line t ≢ [] →
     (x : List ℕ) × (later : List (List ℕ)) × (texts_of (t ++ more) ≡ whole_lines t ++ (partial_line t ++ x) ∷ later)
 texts_of_grows t more some = by_growth (grows t more)
@@ -187,7 +189,7 @@ texts_of_grows t more some = by_growth (grows t more)
           ∙ append_assoc (whole_lines t) ((partial_line t ++ x) ∷ later) (last_line (partial_line (t ++ more))),
     )
 
--- whole lines stay lines when the text goes on or ends
+-- Whole lines stay lines when the text goes on or ends.
 pub texts_of-whole : (t more : List ℕ) → (later : List (List ℕ)) × (texts_of (t ++ more) ≡ whole_lines t ++ later)
 texts_of-whole t more = (
   whole_lines (partial_line t ++ more) ++ last_line (partial_line (t ++ more)),
@@ -195,7 +197,7 @@ texts_of-whole t more = (
       ∙ append_assoc (whole_lines t) (whole_lines (partial_line t ++ more)) (last_line (partial_line (t ++ more))),
 )
 
--- whole lines and a last one without a line feed are formed
+-- Whole lines and a last one without a newline are formed.
 pub formed : (ls : List (List ℕ)) (r : List ℕ) → AreWhole ls → NoNewline r → AreFormed (ls ++ last_line r)
 formed [] [] whole h = tt
 formed [] (b ∷ bs) whole h = inr ((λ e. cc), h)
@@ -203,7 +205,7 @@ formed (l ∷ []) [] whole h = inl whole.0
 formed (l ∷ []) (b ∷ bs) whole h = (whole.0, formed [] (b ∷ bs) tt h)
 formed (l ∷ m ∷ ls) r whole h = (whole.0, formed (m ∷ ls) r whole.1 h)
 
--- a text has lines
+-- A text has lines.
 pub lines_exist : (t : List ℕ) → AreLines t (texts_of t)
 lines_exist t = record {
   joined = parts_joined t ∙ ap (λ (r : List ℕ). concat (whole_lines t) ++ r) (sym (concat-last_line (partial_line t)))
@@ -211,7 +213,7 @@ lines_exist t = record {
   formed = formed (whole_lines t) (partial_line t) (are_whole t) (partial_line-open t);
 }
 
--- formed lines are the lines of the text that they are joined
+-- Formed lines are the lines of the text that they form when joined.
 pub texts_of-formed : (ls : List (List ℕ)) → AreFormed ls → ls ≡ texts_of (concat ls)
 unfolding split_lines
 texts_of-formed [] h = refl
@@ -223,15 +225,15 @@ texts_of-formed (l ∷ m ∷ ls) (whole, rest) =
     ap (λ (ms : List (List ℕ)). l ∷ ms) (texts_of-formed (m ∷ ls) rest)
     ∙ sym (ap (λ (q : SplitLines). q.whole ++ last_line q.rest) (split_lines-line-front l (concat (m ∷ ls)) whole))
 
--- the lines of a text are these and no others
+-- The lines of a text are these and no others.
 pub lines_are : (t : List ℕ) (ls : List (List ℕ)) → AreLines t ls → ls ≡ texts_of t
 lines_are t ls h = texts_of-formed ls h.formed ∙ ap texts_of (sym h.joined)
 
--- a text has its lines once
+-- A text has its lines in one way.
 pub lines_unique : (t : List ℕ) (ls ms : List (List ℕ)) → AreLines t ls → AreLines t ms → ls ≡ ms
 lines_unique t ls ms h k = lines_are t ls h ∙ sym (lines_are t ms k)
 
--- a line without its ending, and the ending after it, is the line
+-- A line is its body and its ending.
 pub body-ending : (l : List ℕ) → take (length l - length (ending_of l)) l ++ ending_of l ≡ l
 body-ending l =
     by_tests (ends_with nat_eq l (13 ∷ 10 ∷ [])) (ends_with nat_eq l (10 ∷ []))
@@ -247,59 +249,59 @@ body-ending l =
     by_tests false true both one = sym (one refl)
     by_tests false false both one = append-nil (take (length l - length {A = ℕ} []) l) ∙ take_all (length l - length {A = ℕ} []) l (omega arith)
 
--- the line of a number and a text has this text
+-- The line of a number and a text has this text.
 pub text_of-line_at : (n : ℕ) (l : List ℕ) → text_of (line_at n l) ≡ l
 text_of-line_at n l = body-ending l
 
--- numbered lines have their texts
+-- Numbered lines have their texts.
 pub map-numbered_from : (n : ℕ) (ls : List (List ℕ)) → map text_of (numbered_from n ls) ≡ ls
 map-numbered_from n [] = refl
 map-numbered_from n (l ∷ ls) = ap₂ (λ (x : List ℕ) (xs : List (List ℕ)). x ∷ xs) (text_of-line_at n l) (map-numbered_from (suc n) ls)
 
--- as many lines are numbered as there are
+-- Numbering keeps the number of lines.
 pub length-numbered_from : (n : ℕ) (ls : List (List ℕ)) → length (numbered_from n ls) ≡ length ls
 length-numbered_from n [] = refl
 length-numbered_from n (l ∷ ls) = ap (λ (k : ℕ). suc k) (length-numbered_from (suc n) ls)
 
--- the lines after these are numbered on from them
+-- The lines after these are numbered on from them.
 pub numbered_from-append : (n : ℕ) (xs ys : List (List ℕ)) → numbered_from n (xs ++ ys) ≡ numbered_from n xs ++ numbered_from (n + length xs) ys
 numbered_from-append n [] ys = ap (λ (k : ℕ). numbered_from k ys) (omega arith)
 numbered_from-append n (x ∷ xs) ys =
     ap (λ (ls : List Line). line_at n x ∷ ls)
     (numbered_from-append (suc n) xs ys ∙ ap (λ (k : ℕ). numbered_from (suc n) xs ++ numbered_from k ys) (omega arith))
 
--- a line after these is numbered on from them, where the first has number 1
+-- A line after these is numbered on from them, if the first has the number 1.
 pub numbered_from-next : (xs : List (List ℕ)) (l : List ℕ) (ys : List (List ℕ)) →
     numbered_from 1 (xs ++ l ∷ ys) ≡ numbered_from 1 xs ++ line_at (suc (length xs)) l ∷ numbered_from (suc (suc (length xs))) ys
 numbered_from-next xs l ys =
     numbered_from-append 1 xs (l ∷ ys) ∙ ap (λ (k : ℕ). numbered_from 1 xs ++ numbered_from k (l ∷ ys)) (omega arith)
 
--- the whole lines of a text are the first lines of a longer one that goes on
+-- The whole lines of a text are the first lines of a longer one that goes on.
 pub lines_so_far-append : (t more : List ℕ) → (later : List Line) × (numbered_from 1 (whole_lines (t ++ more)) ≡ numbered_from 1 (whole_lines t) ++ later)
 lines_so_far-append t more = (
   numbered_from (1 + length (whole_lines t)) (whole_grows t more).0,
   ap (numbered_from 1) (whole_grows t more).1 ∙ numbered_from-append 1 (whole_lines t) (whole_grows t more).0,
 )
 
--- the whole lines of a text are the first lines of a longer one that has ended
+-- The whole lines of a text are the first lines of a longer one that has ended.
 pub lines_of-append : (t more : List ℕ) → (later : List Line) × (lines_of (t ++ more) ≡ numbered_from 1 (whole_lines t) ++ later)
 lines_of-append t more = (
   numbered_from (1 + length (whole_lines t)) (texts_of-whole t more).0,
   ap (numbered_from 1) (texts_of-whole t more).1 ∙ numbered_from-append 1 (whole_lines t) (texts_of-whole t more).0,
 )
 
--- whole lines and what comes after them are the parts of the text that they are joined
+-- Whole lines and the bytes after them are the parts of the text that they form when joined.
 split_lines-whole : (ls : List (List ℕ)) (r : List ℕ) → AreWhole ls → NoNewline r → split_lines (concat ls ++ r) ≡ record { whole = ls; rest = r }
 split_lines-whole [] r whole none = split_lines-open r none
 split_lines-whole (l ∷ ls) r whole none =
     ap split_lines (append_assoc l (concat ls) r) ∙ split_lines-line-front l (concat ls ++ r) whole.0
     ∙ ap (λ (q : SplitLines). record { whole = l ∷ q.whole; rest = q.rest }) (split_lines-whole ls r whole.1 none)
 
--- the parts of a text are these and no others
+-- The parts of a text are these and no others.
 pub parts_are : (t : List ℕ) (p : SplitLines) → AreSplitLines t p → p ≡ split_lines t
 parts_are t p h = sym (ap split_lines h.joined ∙ split_lines-whole p.whole p.rest h.whole h.no_newline)
 
--- the lines that come after so many are numbered on from them
+-- The lines that come after so many are numbered on from them.
 pub number_at : (n : ℕ) (ls : List (List ℕ)) (front : List Line) (l : Line) (later : List Line) →
     numbered_from n ls ≡ front ++ l ∷ later → l.number ≡ n + length front
 number_at n [] [] l later e = cc
@@ -307,15 +309,15 @@ number_at n [] (f ∷ front) l later e = cc
 number_at n (k ∷ ls) [] l later e = let q : line_at n k ≡ l = cc in ap (λ (m : Line). m.number) (sym q) ∙ omega arith
 number_at n (k ∷ ls) (f ∷ front) l later e = let q : numbered_from (suc n) ls ≡ front ++ l ∷ later = cc in number_at (suc n) ls front l later q ∙ omega arith
 
--- line k of a text has the number k
+-- Line k of a text has the number k.
 pub number_is : (t : List ℕ) (front : List Line) (l : Line) (later : List Line) → lines_of t ≡ front ++ l ∷ later → l.number ≡ suc (length front)
 number_is t front l later e = number_at 1 (texts_of t) front l later e ∙ omega arith
 
--- the lines of a text have its bytes
+-- The lines of a text have its bytes.
 pub map-lines_of : (t : List ℕ) → map text_of (lines_of t) ≡ texts_of t
 map-lines_of t = map-numbered_from 1 (texts_of t)
 
--- what ends a line is an ending
+-- The ending of a line is an ending.
 pub ending_is : (l : List ℕ) → is_ending (ending_of l) ≡ true
 ending_is l = by_tests (ends_with nat_eq l (13 ∷ 10 ∷ [])) (ends_with nat_eq l (10 ∷ []))
   where

@@ -1,4 +1,4 @@
--- Scans: masked bytes stand where they stand in the body, and the numbers of lines never count.
+-- Scans: a masked byte has its position in the body, and the numbers of lines never count.
 use Rattle.std.proofs.Common.{◌≡◌, ℕ, zero, suc, ◌-◌, List, [], ◌∷◌, ◌++◌, length, take, drop, map, Bool, true, false, ◌||◌, if◌then◌else◌, refl, sym, ◌∙◌, ap, ap₂, append-nil}
 use Rattle.std.proofs.lemmas.List.{take_at, drop_at, length-map, take-map, drop-map, map-append, take-append-drop}
 use Rattle.ud_model.specs.text.Lines.{Line}
@@ -9,19 +9,19 @@ use Rattle.ud_model.specs.text.Scanning.{is_block, joins, content_cells, scan_af
 use Rattle.ud_model.specs.declared.kind.Mode.{Mode}
 use Rattle.ud_model.specs.declared.kind.Mode.TheVariants.{C, Plain}
 
--- the cells of a text have its bytes, from any place on
+-- The cells of a text have its bytes, from any state on.
 bytes-lex_from : (k : LexemeKind) (n : ℕ) (u : List ℕ) → map (λ (c : Cell). c.byte) (lex_from k n u) ≡ u
 unfolding lex_from
 bytes-lex_from k n [] = refl
 bytes-lex_from k zero (a ∷ u) = ap (λ (l : List ℕ). a ∷ l) (bytes-lex_from (lexeme_at a u).kind (lexeme_at a u).more u)
 bytes-lex_from k (suc n) (a ∷ u) = ap (λ (l : List ℕ). a ∷ l) (bytes-lex_from k n u)
 
--- the cells of a text have its bytes
+-- The cells of a text have its bytes.
 pub bytes-lex : (u : List ℕ) → map (λ (c : Cell). c.byte) (lex u) ≡ u
 unfolding lex
 bytes-lex u = bytes-lex_from single 0 u
 
--- the cells of a line have the bytes of its content
+-- The cells of a line have the bytes of its content.
 pub bytes-content_cells : (run : List Line) (line : Line) → map (λ (c : Cell). c.byte) (content_cells run line) ≡ content line
 bytes-content_cells run line =
     sym (take-map (λ (c : Cell). c.byte) (length (content line)) (drop (length (spliced_text run)) (lex (spliced_text run ++ spliced_part line))))
@@ -31,19 +31,19 @@ bytes-content_cells run line =
     ∙ drop_at (spliced_text run) (spliced_part line) (length (spliced_text run)) refl)
     ∙ take_at (content line) (newline_of line) (length (content line)) refl
 
--- the masked line shows the cells of the line's content
+-- The masked line shows the cells of the line's content.
 pub masked-content_cells : (before : List Reading) (line : Line) → (scan_after before C line).masked ≡ map shown (content_cells (c_run_of before) line)
 unfolding scan_after_run
 masked-content_cells before line = refl
 
--- the masked line has as many bytes as the line's content
+-- The masked line has as many bytes as the line's content.
 pub length-masked : (before : List Reading) (line : Line) → length (scan_after before C line).masked ≡ length (content line)
 length-masked before line =
     ap (λ (l : List ℕ). length l) (masked-content_cells before line) ∙ length-map (content_cells (c_run_of before) line) shown
     ∙ sym (length-map (content_cells (c_run_of before) line) (λ (c : Cell). c.byte))
     ∙ ap (λ (l : List ℕ). length l) (bytes-content_cells (c_run_of before) line)
 
--- the body begins with the line's content
+-- The body begins with the line's content.
 pub content-front : (line : Line) → (rest : List ℕ) × (line.body ≡ content line ++ rest)
 content-front line = by_splice (is_spliced line)
   where
@@ -51,11 +51,11 @@ content-front line = by_splice (is_spliced line)
     by_splice true = (drop (length line.body - 1) line.body, sym (take-append-drop (length line.body - 1) line.body))
     by_splice false = ([], sym (append-nil line.body))
 
--- a line without its number
+-- A line without its number.
 abbrev pub unnumbered : Line → Line
 unnumbered line = record { body = line.body; ending = line.ending; number = 0 }
 
--- a reading without the number of its line, and without its scan
+-- A reading without the number of its line, and without its scan.
 abbrev pub bare : Reading → Reading
 bare r = record { line = unnumbered r.line; mode = r.mode; scan = plain_scan (unnumbered r.line) }
 
@@ -96,7 +96,7 @@ scan_after-bare before C line =
     ap (λ (run : List Line). scan_after_run run (unnumbered line)) (c_run_from-bare [] before) ∙ scan_after_run-unnumbered (c_run_of before) line
 scan_after-bare before Plain line = refl
 
--- a scan depends on the bodies, endings and modes of the lines alone
+-- A scan depends on the bodies, endings and modes of the lines alone.
 pub scan_after-same : (before others : List Reading) (m : Mode) (line other : Line) → map bare before ≡ map bare others →
     line.body ≡ other.body → line.ending ≡ other.ending → scan_after before m line ≡ scan_after others m other
 scan_after-same before others m line other same body ending =

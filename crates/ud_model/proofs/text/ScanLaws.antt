@@ -13,22 +13,22 @@ use Rattle.ud_model.specs.declared.kind.Mode.TheVariants.{C, Plain}
 use Rattle.ud_model.proofs.text.LexStateLemmas.{LexesTo-nil, Masks-step}
 use Rattle.ud_model.proofs.text.ScanLemmas.{LexesTo-same, LexesTo-close, Masks-start, kind_at_place, spliced_text-append, joined_last, joins_last, scan_behind_is, run_of_last}
 
--- where a text leaves off with further bytes
+-- The state after further bytes.
 abbrev pub place_after : LexState → List ℕ → LexState
 place_after w [] = w
 place_after w (b ∷ bytes) = place_after (next_state w b) bytes
 
--- whether its last logical line is white with them
+-- The last logical line is white with the further bytes.
 abbrev pub white_after : LexState → Bool → List ℕ → Bool
 white_after w white [] = white
 white_after w white (b ∷ bytes) = white_after (next_state w b) (stays_white w white b) bytes
 
--- how it is shown with them
+-- The masked text with the further bytes.
 abbrev pub masked_after : LexState → List ℕ → List ℕ → List ℕ
 masked_after w masked [] = masked
 masked_after w masked (b ∷ bytes) = masked_after (next_state w b) ((if opens_comment w b then blank_last masked else masked) ++ masked_byte w b ∷ []) bytes
 
--- a text as it is shown with further bytes
+-- A masked text goes on with further bytes.
 pub Masks-append : {n : ℕ} (bytes text : List ℕ) (w : LexState) (white : Bool) (masked : List ℕ) → Masks n text w white masked →
     Masks n (text ++ bytes) (place_after w bytes) (white_after w white bytes) (masked_after w masked bytes)
 Masks-append {n} [] text w white masked m = subst (λ (t : List ℕ). Masks n t w white masked) (sym (append-nil text)) m
@@ -39,16 +39,16 @@ Masks-append {n} (b ∷ bytes) text w white masked m =
     (append_assoc text (b ∷ []) bytes)
     (Masks-append bytes (text ++ b ∷ []) (next_state w b) v now (Masks-step b m))
 
--- a text leaves off somewhere with further bytes
+-- A text with further bytes ends in a state.
 pub LexesTo-append : (text : List ℕ) (w : LexState) (white : Bool) (bytes : List ℕ) → LexesTo text w white →
     LexesTo (text ++ bytes) (place_after w bytes) (white_after w white bytes)
 LexesTo-append text w white bytes r = (Masks-append bytes text w white [] (Masks-start r)).reads
 
--- each text leaves off somewhere
+-- Each text ends in a state.
 pub LexesTo-all : (text : List ℕ) → LexesTo text (place_after in_text text) (white_after in_text true text)
 LexesTo-all text = LexesTo-append [] in_text true text LexesTo-nil
 
--- what is seen of a line, by where the text before it leaves off and whether the line before joins it
+-- The scan of a line, by the state after the text before it and whether the line before joins it.
 unfoldable pub scan_from : LexState → Bool → Bool → Line → Scan
 scan_from w white before line =
     let v = place_after w (content line) in
@@ -61,7 +61,7 @@ scan_from w white before line =
       comment = comment_at (is_spliced line) (kind_in_state (state_after_line (stays_open line) v));
     }
 
--- a scan after a run is seen from the place at which the run's joined text leaves off
+-- A scan after a C run is the scan from the state after the run's spliced text.
 pub scan_after_run-from : (run : List Line) (line : Line) (w : LexState) (white before : Bool) → LexesTo (spliced_text run) w white → before ≡ joins run →
     scan_after_run run line ≡ scan_from w white before line
 unfolding scan_from
@@ -69,7 +69,7 @@ scan_after_run-from run line w white before r j =
     scan_behind_is run line (masked_after w [] (content line)) w (place_after w (content line)) white
     (white_after w white (content line)) before r j (Masks-append (content line) (spliced_text run) w white [] (Masks-start r))
 
--- after a new-line at which no block comment is open, a text leaves off between pieces
+-- After a newline at which no block comment is open, a text ends between lexemes.
 ended : (w : LexState) → is_block (kind_in_state (next_state w newline)) ≡ false → (next_state w newline ≡ in_text) × ((white : Bool) → stays_white w white newline ≡ true)
 ended in_text e = (refl, λ white. refl)
 ended at_slash e = (refl, λ white. refl)
@@ -83,7 +83,8 @@ not_empty : (bytes : List ℕ) → bytes ≢ [] → is_empty bytes ≡ false
 not_empty [] some = absurd (some refl)
 not_empty (b ∷ bytes) some = ne_eqb (length (b ∷ bytes)) 0 (λ e. omega arith)
 
--- after lines of which the last has an ending and joins nothing, the joined text leaves off between pieces
+-- After lines of which the last has an ending and joins nothing, the spliced text ends between
+-- lexemes.
 pub starts_anew : (run : List Line) (last : Line) → joins (run ++ last ∷ []) ≡ false → last.ending ≢ [] → LexesTo (spliced_text (run ++ last ∷ [])) in_text true
 starts_anew run last alone some =
     let parts : (is_spliced last ≡ false) × (is_block (kind_at_end (spliced_text run ++ spliced_part last)) ≡ false) =
@@ -109,7 +110,7 @@ kind_from run group r =
     ap kind_at_end (spliced_text-append run group) ∙ kind_at_place (LexesTo-append (spliced_text run) in_text true (spliced_text group) r)
     ∙ sym (kind_at_place (LexesTo-all (spliced_text group)))
 
--- whether a group of lines joins the next one doesn't depend on lines before it that don't join it
+-- Lines before a group that don't join it never change whether the group joins the next line.
 pub group_joins : (run group : List Line) → LexesTo (spliced_text run) in_text true → joins run ≡ false → joins (run ++ group) ≡ joins group
 unfolding joins
 group_joins run [] r j =
@@ -117,7 +118,7 @@ group_joins run [] r j =
 group_joins run (l ∷ group) r j =
     ap₂ (λ (s : Bool) (k : LexemeKind). s || is_block k) (last_is_spliced-append run l group) (kind_from run (l ∷ group) r)
 
--- a scan doesn't depend on lines before its logical line
+-- A scan doesn't depend on lines before its logical line.
 pub own_logical_line : (run group : List Line) (line : Line) → LexesTo (spliced_text run) in_text true → joins run ≡ false →
     scan_after_run (run ++ group) line ≡ scan_after_run group line
 own_logical_line run group line r j =
@@ -132,7 +133,7 @@ c_run_from-append : (run : List Line) (before more : List Reading) → c_run_fro
 c_run_from-append run [] more = refl
 c_run_from-append run (r ∷ before) more = c_run_from-append (extended_run run r.mode r.line) before more
 
--- a run that starts anew goes on like an empty one
+-- A C run that starts anew goes on like an empty one.
 scan_from_run : (run rest : List Line) (group : List Reading) (line : Line) → LexesTo (spliced_text run) in_text true → joins run ≡ false →
     scan_after_run (c_run_from (run ++ rest) group) line ≡ scan_after_run (c_run_from rest group) line
 scan_from_run run rest [] line r j = own_logical_line run rest line r j
@@ -169,14 +170,15 @@ anew_plain front group last line =
     (c_run_from-append [] (front ++ next_reading front Plain last ∷ []) group
     ∙ ap (λ (ls : List Line). c_run_from ls group) (run_of_last front (next_reading front Plain last)))
 
--- after a line that has an ending and doesn't join the next one, lines are seen as if no line stood before them
+-- After a line that has an ending and doesn't join the next one, lines are scanned as if no line
+-- came before them.
 pub scan_alone : (front group : List Reading) (m n : Mode) (last line : Line) → (scan_after front m last).joins_after ≡ false → last.ending ≢ [] →
     scan_after ((front ++ next_reading front m last ∷ []) ++ group) n line ≡ scan_after group n line
 scan_alone front group m Plain last line alone some = refl
 scan_alone front group C C last line alone some = anew_code front group last line alone some
 scan_alone front group Plain C last line alone some = anew_plain front group last line
 
--- so further lines are read as if no line stood before them
+-- So further lines are read as if no line came before them.
 pub readings_alone : (front group : List Reading) (m : Mode) (last : Line) (lines : List (Mode × Line)) → (scan_after front m last).joins_after ≡ false →
     last.ending ≢ [] → readings_after ((front ++ next_reading front m last ∷ []) ++ group) lines ≡ (front ++ next_reading front m last ∷ []) ++ readings_after group lines
 readings_alone front group m last [] alone some = refl
@@ -186,13 +188,13 @@ readings_alone front group m last (l ∷ lines) alone some =
     ∙ ap (λ (rs : List Reading). readings_after rs lines) (append_assoc before group (next_reading group l.0 l.1 ∷ []))
     ∙ readings_alone front (group ++ next_reading group l.0 l.1 ∷ []) m last lines alone some
 
--- lines are read after those before them
+-- Lines are read after those before them.
 pub readings_after-append : (before : List Reading) (lines more : List (Mode × Line)) →
     readings_after before (lines ++ more) ≡ readings_after (readings_after before lines) more
 readings_after-append before [] more = refl
 readings_after-append before (l ∷ lines) more = readings_after-append (before ++ next_reading before l.0 l.1 ∷ []) lines more
 
--- the readings before stay as they are
+-- The readings before stay as they are.
 pub readings_after-front : (before : List Reading) (lines : List (Mode × Line)) → (rest : List Reading) × (readings_after before lines ≡ before ++ rest)
 readings_after-front before [] = ([], sym (append-nil before))
 readings_after-front before (l ∷ lines) =
@@ -200,7 +202,7 @@ readings_after-front before (l ∷ lines) =
     readings_after-front (before ++ next_reading before l.0 l.1 ∷ []) lines in
     (next_reading before l.0 l.1 ∷ later.0, later.1 ∙ append_assoc before (next_reading before l.0 l.1 ∷ []) later.0)
 
--- a longer list of lines begins with the readings of the shorter one
+-- A longer list of lines begins with the readings of the shorter one.
 pub readings_grow : (lines more : List (Mode × Line)) → (rest : List Reading) × (readings_of (lines ++ more) ≡ readings_of lines ++ rest)
 readings_grow lines more =
     let later : (rest : List Reading) × (readings_after (readings_of lines) more ≡ readings_of lines ++ rest) = readings_after-front (readings_of lines) more in

@@ -1,4 +1,4 @@
--- Scans: what is seen of a line, from the place at which the text before it leaves off.
+-- Scans: the scan of a line, from the state after the text before it.
 use Rattle.std.proofs.Common.{◌≡◌, ℕ, suc, ◌+◌, ◌==◌, List, [], ◌∷◌, ◌++◌, length, take, drop, map, Bool, true, false, ◌&&◌, ◌||◌, if◌then◌else◌, refl, sym, ◌∙◌, ap, ap₂, subst, append_assoc, append-nil, arith, length-append, length-drop}
 use Rattle.std.proofs.lemmas.List.{take_at, take_all, take-map, drop-map, drop-append-le, drop_all}
 use Rattle.std.proofs.lemmas.Grind.{flat_map-append}
@@ -15,12 +15,12 @@ use Rattle.ud_model.specs.declared.kind.CommentAt.{CommentAt}
 use Rattle.ud_model.proofs.text.Steps.{cell}
 use Rattle.ud_model.proofs.text.LexStateLemmas.{length-lex, length-mask, open_line-append, is_blank_last, LexesTo-step, mask_step}
 
--- facts of a text that leaves off at a place, under other names of the same things
+-- The facts of a state, rewritten along equalities.
 pub LexesTo-same : {t u : List ℕ} {w x : LexState} {b c : Bool} → t ≡ u → w ≡ x → b ≡ c → LexesTo t w b → LexesTo u x c
 LexesTo-same {t} {u} {w} {x} {b} {c} e f g r =
     subst (λ (s : List ℕ). LexesTo s x c) e (subst (λ (v : LexState). LexesTo t v c) f (subst (λ (v : Bool). LexesTo t w v) g r))
 
--- the kind of the last of cells, and of further ones
+-- The kind of the last of cells, and of further ones.
 pub last_kind-append : (k : LexemeKind) (xs ys : List Cell) → last_kind k (xs ++ ys) ≡ last_kind (last_kind k xs) ys
 last_kind-append k [] ys = refl
 last_kind-append k (c ∷ xs) ys = last_kind-append c.kind xs ys
@@ -39,14 +39,14 @@ last_space k (in_literal q) = by_quote (32 == q)
     by_quote false = refl
 last_space k (at_backslash q) = refl
 
--- what the end of a text lies in, from the place at which it leaves off
+-- The kind at the end of a text, from its state.
 pub kind_at_place : {text : List ℕ} {w : LexState} {white : Bool} → LexesTo text w white → kind_at_end text ≡ kind_in_state w
 unfolding kind_at_end
 kind_at_place {text} {w} r =
     ap (λ (cells : List Cell). last_kind single cells) (r.splits (space ∷ []))
     ∙ last_kind-append single r.settled (cells_after w (space ∷ [])) ∙ last_space (last_kind single r.settled) w
 
--- the cells that are settled, and a slash that isn't, are as many as the text has bytes
+-- The settled cells, and a slash that isn't settled, are as many as the text has bytes.
 pub settled_all : {text : List ℕ} {w : LexState} {white : Bool} (r : LexesTo text w white) → length r.settled + length (cells_after w []) ≡ length text
 settled_all {text} {w} r =
     sym (length-append r.settled (cells_after w [])) ∙ sym (ap (λ (cells : List Cell). length cells) (r.splits []))
@@ -83,7 +83,7 @@ fresh_slash text white s r =
     ∙ slash_first (starts_with_byte star s) (starts_with_byte slash s) s (open_line [] r.settled) (suc (comment_size (drop 1 s))) (suc (line_comment_size (drop 1 s)))
     ∙ ap (λ (v : Bool). v && (starts_with_byte star s || starts_with_byte slash s)) (sym r.white_is)
 
--- whether the line is fresh that follows a text, from the place at which that leaves off
+-- The line that follows a text is fresh, or it isn't, by the state after the text.
 pub fresh_at_place : (text : List ℕ) (w : LexState) (white : Bool) (s : List ℕ) → LexesTo text w white →
     is_blank (open_line [] (take (length text) (lex (text ++ s)))) ≡ fresh_at w white s
 unfolding cells_after lex_from lexeme_at
@@ -109,7 +109,7 @@ starts_with_byte-close b [] true e = refl
 starts_with_byte-close b [] false e = e
 starts_with_byte-close b (x ∷ c) o e = refl
 
--- the new-line after a line decides nothing of whether that is fresh
+-- The newline after a line doesn't change whether the line is fresh.
 pub fresh-close : (w : LexState) (white : Bool) (line : Line) → fresh_at w white (spliced_part line) ≡ fresh_at w white (content line)
 fresh-close in_text white line = refl
 fresh-close at_slash white line =
@@ -126,7 +126,7 @@ close_by : (o : Bool) (text : List ℕ) (w : LexState) (white : Bool) → LexesT
 close_by true text w white r = subst (λ (t : List ℕ). LexesTo t w white) (sym (append-nil text)) r
 close_by false text w white r = LexesTo-step newline r
 
--- a text with a line's content leaves off with the line's new-line too
+-- The state after a line's content and its newline.
 pub LexesTo-close : (text : List ℕ) (line : Line) (w : LexState) (white : Bool) → LexesTo (text ++ content line) w white →
     LexesTo (text ++ spliced_part line) (state_after_line (stays_open line) w) (white_after_line (stays_open line) w white)
 LexesTo-close text line w white r =
@@ -148,7 +148,7 @@ shown_at_end false text c w white r =
     ∙ take_at (drop (length text) (mask (text ++ c))) (masked_byte w newline ∷ []) (length c)
     (omega (arith, length-drop (length text) (mask (text ++ c)), length-mask (text ++ c), length-append text c))
 
--- the masked line: the text as it is shown, up to the end of the line's content
+-- The masked line is the masked text up to the end of the line's content.
 pub masked_is : (text : List ℕ) (line : Line) {w : LexState} {white : Bool} {masked : List ℕ} → Masks (length text) (text ++ content line) w white masked →
     map shown (take (length (content line)) (drop (length text) (lex (text ++ spliced_part line)))) ≡ masked
 unfolding mask
@@ -158,15 +158,15 @@ masked_is text line {w} {white} {masked} m =
     ∙ ap (λ (t : List ℕ). take (length (content line)) (drop (length text) (mask t))) (sym (append_assoc text (content line) (newline_of line)))
     ∙ shown_at_end (stays_open line) text (content line) w white m.reads ∙ sym m.masked_is
 
--- the joined text of lines, and of further ones
+-- The spliced text of lines, and of further ones.
 pub spliced_text-append : (lines more : List Line) → spliced_text (lines ++ more) ≡ spliced_text lines ++ spliced_text more
 spliced_text-append lines more = flat_map-append spliced_part lines more
 
--- the joined text of lines with one more
+-- The spliced text of lines with one more.
 pub joined_last : (lines : List Line) (line : Line) → spliced_text (lines ++ line ∷ []) ≡ spliced_text lines ++ spliced_part line
 joined_last lines line = spliced_text-append lines (line ∷ []) ∙ ap (λ (l : List ℕ). spliced_text lines ++ l) (append-nil (spliced_part line))
 
--- whether the last of lines with one more is spliced
+-- The last of lines with one more is spliced if that one is.
 pub last_is_spliced_last : (lines : List Line) (line : Line) → last_is_spliced (lines ++ line ∷ []) ≡ is_spliced line
 last_is_spliced_last [] line = refl
 last_is_spliced_last (l ∷ []) line = refl
@@ -176,29 +176,29 @@ run_from_last : (run : List Line) (readings : List Reading) (r : Reading) → c_
 run_from_last run [] r = refl
 run_from_last run (q ∷ readings) r = run_from_last (extended_run run q.mode q.line) readings r
 
--- the run after readings with one more
+-- The C run after readings with one more.
 pub run_of_last : (readings : List Reading) (r : Reading) → c_run_of (readings ++ r ∷ []) ≡ extended_run (c_run_of readings) r.mode r.line
 run_of_last readings r = run_from_last [] readings r
 
--- the joined text after a further line in C mode
+-- The spliced text after a further line in C mode.
 pub joined_run_last : (readings : List Reading) (r : Reading) → r.mode ≡ C → spliced_text (c_run_of (readings ++ r ∷ [])) ≡ spliced_text (c_run_of readings) ++ spliced_part r.line
 joined_run_last readings r e =
     ap spliced_text (run_of_last readings r) ∙ ap (λ (m : Mode). spliced_text (extended_run (c_run_of readings) m r.line)) e ∙ joined_last (c_run_of readings) r.line
 
--- whether lines with one more join the next one
+-- Lines with one more join the next line by the splice of that one, or by the lexeme at their end.
 pub joins_last : (lines : List Line) (line : Line) → joins (lines ++ line ∷ []) ≡ (is_spliced line || is_block (kind_at_end (spliced_text lines ++ spliced_part line)))
 unfolding joins
 joins_last lines line =
     ap₂ (λ (s : Bool) (t : List ℕ). s || is_block (kind_at_end t)) (last_is_spliced_last lines line) (joined_last lines line)
 
--- two scans with the same parts are the same
+-- Two scans with equal parts are equal.
 same_scan : {m n : List ℕ} {f f' b b' a a' : Bool} {s : Bool} {k k' : CommentAt} → m ≡ n → f ≡ f' → b ≡ b' → a ≡ a' → k ≡ k' →
     ◌≡◌ {A = Scan} (record { masked = m; fresh = f; joins_before = b; joins_after = a; spliced = s; comment = k })
     (record { masked = n; fresh = f'; joins_before = b'; joins_after = a'; spliced = s; comment = k' })
 same_scan e f g h i = cc
 
--- What is seen of a line: by the place at which the text before it leaves off, by how the line's content is shown, and
--- by the place at which the text with it leaves off.
+-- The scan of a line: by the state after the text before it, by the masked content of the line, and
+-- by the state after the text with it.
 pub scan_behind_is : (run : List Line) (line : Line) (masked : List ℕ) (w v : LexState) (white now_white : Bool) (before : Bool) →
     LexesTo (spliced_text run) w white → before ≡ joins run → Masks (length (spliced_text run)) (spliced_text run ++ content line) v now_white masked →
     scan_after_run run line ≡ record {
@@ -219,7 +219,7 @@ scan_behind_is run line masked w v white now_white before r j m =
     (joins_last run line ∙ ap (λ (k : LexemeKind). is_spliced line || is_block k) at_end)
     (ap (λ (k : LexemeKind). comment_at (is_spliced line) k) at_end)
 
--- nothing is shown yet after the text itself
+-- Nothing is shown yet after the text itself.
 pub Masks-start : {text : List ℕ} {w : LexState} {white : Bool} → LexesTo text w white → Masks (length text) text w white []
 Masks-start {text} r = record {
   reads = r;

@@ -1,4 +1,4 @@
--- Steps: the pieces of a text, a byte at a time.
+-- Steps: the lexemes of a text, a byte at a time.
 use Rattle.std.proofs.Common.{◌≡◌, ℕ, suc, ◌==◌, List, [], ◌∷◌, ◌++◌, Bool, true, false, ◌&&◌, if◌then◌else◌, refl, sym, ◌∙◌, ap, subst}
 use Rattle.std.proofs.lemmas.Bool.{eqb-true}
 use Rattle.ud_model.specs.text.Bytes.{newline, slash, star, backslash, is_quote}
@@ -8,7 +8,7 @@ use Rattle.ud_model.specs.aids.LexStates.{LexState, in_text, at_slash, in_block,
 abbrev pub cell : LexemeKind → ℕ → Cell
 cell kind b = record { byte = b; kind = kind }
 
--- the cells that a byte settles after a text that leaves off there
+-- The cells that a byte settles after a text with this state.
 abbrev pub settles : LexState → ℕ → List Cell
 settles in_text b = if b == slash then [] else if is_quote b then cell literal b ∷ [] else cell single b ∷ []
 settles at_slash b =
@@ -22,13 +22,13 @@ settles in_line b = if b == newline then cell single b ∷ [] else cell line_com
 settles (in_literal quote) b = if b == newline then cell single b ∷ [] else cell literal b ∷ []
 settles (at_backslash quote) b = if b == newline then cell single b ∷ [] else cell literal b ∷ []
 
--- where a piece begins, it counts for nothing which one has ended
+-- At the beginning of a lexeme, the one that has ended doesn't count.
 pub lex_from-zero : (k l : LexemeKind) (u : List ℕ) → lex_from k 0 u ≡ lex_from l 0 u
 unfolding lex_from
 lex_from-zero k l [] = refl
 lex_from-zero k l (a ∷ u) = refl
 
--- a new-line at which a piece begins is a piece of its own
+-- A newline at which a lexeme begins is a lexeme of its own.
 at_feed : (k : LexemeKind) (b : ℕ) (u : List ℕ) → (b == newline) ≡ true → lex_from k 0 (b ∷ u) ≡ cell single b ∷ lex_from single 0 u
 unfolding lex_from lexeme_at
 at_feed k b u e = subst (λ (n : ℕ). lex_from k 0 (n ∷ u) ≡ cell single n ∷ lex_from single 0 u) (sym (eqb-true b newline e)) refl
@@ -97,7 +97,7 @@ step-in_literal : (q b : ℕ) (u : List ℕ) → cells_after (in_literal q) (b �
 unfolding cells_after
 step-in_literal q b u = literal_by q (b == newline) (b == q) (b == backslash) b u refl
 
--- the cells from a piece on
+-- The cells from a lexeme on.
 cells_from : ℕ → Extent → List ℕ → List Cell
 cells_from b e u = cell e.kind b ∷ lex_from e.kind e.more u
 
@@ -113,7 +113,7 @@ text_by true q b u x y e = cc
 text_by false true b u x y e = refl
 text_by false false b u x y e = refl
 
--- a byte other than a slash where a piece begins
+-- A byte other than a slash where a lexeme begins.
 text_other : (b : ℕ) (u : List ℕ) → (b == slash) ≡ false →
     lex_from single 0 (b ∷ u) ≡ (if is_quote b then cell literal b ∷ [] else cell single b ∷ []) ++ cells_after (if is_quote b then in_literal b else in_text) u
 unfolding lex_from lexeme_at cells_from
@@ -152,7 +152,7 @@ step-at_slash : (b : ℕ) (u : List ℕ) → cells_after at_slash (b ∷ u) ≡ 
 unfolding cells_after lex_from lexeme_at cells_from
 step-at_slash b u = slash_by (b == star) (b == slash) b u refl
 
--- a byte settles these cells, and the text goes on from the next place
+-- A byte settles these cells, and the text goes on from the next state.
 pub after_step : (w : LexState) (b : ℕ) (u : List ℕ) → cells_after w (b ∷ u) ≡ settles w b ++ cells_after (next_state w b) u
 after_step in_text b u = step-in_text b u
 after_step at_slash b u = step-at_slash b u

@@ -1,6 +1,8 @@
--- So far: the marks of a text by the groups up to each line, with which the table over the whole section agrees.
+-- So far: the marks of a text's lines, by the groups up to each line. The table over the whole
+-- section agrees with them.
 --
--- The condition of no later group changes an opener's verdict, so a line's mark is the same in every longer text.
+-- The condition of no later group changes an opener's verdict, so a line's mark is the same in
+-- every longer text.
 use Rattle.std.specs.Prelude.{List, [], ◌∷◌, ◌++◌, Bool, not, ◌&&◌, if◌then◌else◌}
 use Rattle.ud_model.specs.declared.cond.Cond.{Cond}
 use Rattle.ud_model.specs.declared.cond.Cond.TheVariants.{Yes}
@@ -15,7 +17,8 @@ use Rattle.ud_model.specs.sections.Pruning.{any_true, ends_with_first_true, firs
 use Rattle.ud_model.specs.sections.Pruning.{later_verdict, endif_verdict, conds_of_elifs}
 use Rattle.ud_model.specs.sections.Pruning.{conds_of_groups}
 
--- an opener's verdict as if its group were the last one
+-- `verdict_so_far before part c`: the verdict of an opener as if its group were the section's last
+-- one.
 abbrev pub verdict_so_far : List Cond → Part → Cond → Verdict
 verdict_so_far before part c =
     if gives_way (before ++ c ∷ []) then Remove
@@ -26,6 +29,8 @@ verdict_so_far before part c =
 
 module _ {L : Type 0} where
   abbrev mutual
+    -- `nodes_so_far kept ns`: the marks of the nodes' lines; `kept` means that all groups around
+    -- are kept.
     pub nodes_so_far : Bool → Nodes L → List Mark
     nodes_so_far kept nothing = []
     nodes_so_far kept (text ns l) = nodes_so_far kept ns ++ marked kept Keep ∷ []
@@ -33,12 +38,14 @@ module _ {L : Type 0} where
         (nodes_so_far kept ns ++ groups_so_far kept gs) ++
         marked kept (endif_verdict (conds_of_groups gs)) ∷ []
 
+    -- `groups_so_far kept gs`: the marks of the groups' lines.
     pub groups_so_far : Bool → Groups L → List Mark
     groups_so_far kept (conditional es) = elifs_so_far kept es
     groups_so_far kept (otherwise es l ns) =
         (elifs_so_far kept es ++ marked kept (verdict_so_far (conds_of_elifs es) an_else Yes) ∷ [])
         ++ nodes_so_far (kept && is_kept (conds_of_elifs es) Yes) ns
 
+    -- `elifs_so_far kept es`: the marks of the lines of the groups with a condition.
     pub elifs_so_far : Bool → Elifs L → List Mark
     elifs_so_far kept (first o ns) =
         (marked kept (verdict_so_far [] an_if o.cond) ∷ []) ++
@@ -48,6 +55,7 @@ module _ {L : Type 0} where
         [])
         ++ nodes_so_far (kept && is_kept (conds_of_elifs es) o.cond) ns
 
+  -- `head_so_far kept h`: the marks of the lines up to the opener of the last group.
   abbrev pub head_so_far : Bool → Head L → List Mark
   head_so_far kept (if_head o) = marked kept (verdict_so_far [] an_if o.cond) ∷ []
   head_so_far kept (elif_head es o) =
@@ -55,6 +63,7 @@ module _ {L : Type 0} where
   head_so_far kept (else_head es l) =
       elifs_so_far kept es ++ marked kept (verdict_so_far (conds_of_elifs es) an_else Yes) ∷ []
 
+  -- `marks_so_far kept t`: the marks of a text's lines, by the groups up to each line.
   abbrev pub marks_so_far : Bool → Tree L → List Mark
   marks_so_far kept (closed ns) = nodes_so_far kept ns
   marks_so_far kept (open_section ns h t) =

@@ -1,12 +1,15 @@
--- The answer: what the tool writes, says and gives back for words and an input. All other definitions meet here.
+-- The answer: the output, the message and the exit status for arguments and an input. All other
+-- definitions meet here.
 --
---   Answer                     output, message and status
---   IsAnswer words input a     a is the answer to these words and this input; there is one and no other
---   copy_answer words text     the answer of a run that copies this text
+--   Answer                  output, message and status
+--   IsAnswer args input a   `a` is the answer to these arguments and this input; there is one and
+--                           no other
+--   copy_answer args text   the answer of a run that copies this text
 --
--- The words are read (CommandLine). The input is cut into lines (Lines); each is scanned (Scans), read as text or a
--- directive (Directives) with its condition (Conditions), and so they have a tree (Tree). The tree is pruned (Pruning)
--- and printed (Printing), or its names are listed (Listing), up to the first fault (Faults, Runs).
+-- The arguments are parsed (CommandLine). The input is split into lines (Lines). Each line is
+-- scanned (Scans), read as text or a directive (Directives) with its condition (Conditions), so the
+-- lines have a tree (Tree). The tree is pruned (Pruning) and printed (Printing), or its names are
+-- listed (Listing), up to the first fault (Faults, Outcomes).
 use Rattle.std.specs.Prelude.{◌≡◌, ℕ, List, [], Bool, true, false, Option, Some, None}
 use Rattle.ud_model.specs.answer.CommandLine.{UsageFault, usage_fault, options_of, display_name}
 use Rattle.ud_model.specs.answer.CommandLine.{usage_message}
@@ -19,13 +22,13 @@ use Rattle.ud_model.specs.declared.settings.Listing.TheVariants.{Off, Names, Dep
 use Rattle.ud_model.specs.declared.settings.ExitMode.{ExitMode}
 use Rattle.ud_model.specs.declared.settings.ExitMode.TheVariants.{Zero, One, Two}
 
--- what a run leaves: bytes on the output and on the error stream, and the status
+-- The answer of a run: the bytes on the output, those on the error stream, and the exit status.
 pub record Answer : Type 0 where
   pub output : List ℕ
   pub message : List ℕ
   pub status : ℕ
 
--- the status of a text without a fault, by whether some line differs
+-- `status_by mode differs`: the status for a text without a fault, by whether some line differs.
 abbrev pub status_by : ExitMode → Bool → ℕ
 status_by Zero true = 1
 status_by Zero false = 0
@@ -33,25 +36,31 @@ status_by One true = 0
 status_by One false = 1
 status_by Two d = 0
 
--- where names are listed, the status is 0 in every mode
+-- `status_under listing mode differs`: the status for a text without a fault. If names are listed,
+-- it is 0 in every mode.
 abbrev pub status_under : Listing → ExitMode → Bool → ℕ
 status_under Off mode d = status_by mode d
 status_under Names mode d = 0
 status_under Depths mode d = 0
 
+-- `status_of s differs fault`: the status of a run under the settings `s`, which is 2 after a
+-- fault.
 abbrev pub status_of : Settings → Bool → Option Fault → ℕ
 status_of s d (Some f) = 2
 status_of s d None = status_under s.listing s.exit_mode d
 
+-- `message_or_none name fault`: the message of the fault of the input `name`, or no bytes if there
+-- is none.
 abbrev pub message_or_none : List ℕ → Option Fault → List ℕ
 message_or_none name (Some f) = message_of name f
 message_or_none name None = []
 
--- nothing is read where the words have a fault
+-- `usage_answer f`: the answer to arguments with the fault `f`. Nothing is read.
 abbrev pub usage_answer : UsageFault → Answer
 usage_answer f = record { output = []; message = usage_message f; status = 2 }
 
--- the answer of a run under these settings over the input of this name
+-- `run_answer s name r`: the answer of a run under the settings `s` over the input `name`, with the
+-- outcome `r`.
 abbrev pub run_answer : Settings → List ℕ → Outcome → Answer
 run_answer s name r = record {
   output = r.output;
@@ -60,18 +69,19 @@ run_answer s name r = record {
       status_of s r.differs r.fault;
 }
 
--- the answer of a run whose output is a copy of its input
+-- `copy_answer args text`: the answer of a run whose output is a copy of its input `text`.
 abbrev pub copy_answer : List (List ℕ) → List ℕ → Answer
 copy_answer args text =
     run_answer (options_of args).settings (display_name args)
     (record { output = text; fault = None; differs = false })
 
--- the answer to these words and this input: a message on the first fault of the words, or what the run leaves
+-- `IsAnswer args input a`: `a` is the answer to these arguments and this input: a message on the
+-- first fault of the arguments, or the answer of the run.
 pub data IsAnswer (args : List (List ℕ)) (input : List ℕ) : Answer → Type 0 where
   refused : (f : UsageFault) → usage_fault args ≡ Some f → IsAnswer args input (usage_answer f)
   ran : (r : Outcome) → usage_fault args ≡ None → HasOutcome (options_of args) input r →
       IsAnswer args input (run_answer (options_of args).settings (display_name args) r)
 
--- what is answered if memory is refused
+-- The answer if memory can't be allocated.
 abbrev pub memory_answer : Answer
 memory_answer = record { output = []; message = out_of_memory; status = 2 }

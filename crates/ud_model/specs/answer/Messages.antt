@@ -1,25 +1,26 @@
--- Messages: the text of each fault, which ends in a line feed.
+-- Messages: the text of each fault, which ends with a newline.
 --
---   message_of name fault     of a text's fault, with the input's name and the line
---   read_error name           of a read that fails; write_error name of a write
---   out_of_memory             if memory for the symbols is refused
+--   message_of name fault   of a text's fault, with the input's name and the line
+--   read_error name         of a read that fails; `write_error name` of a write
+--   out_of_memory           if memory for the symbols can't be allocated
 --
--- The messages of the words' faults stand in CommandLine.
+-- The messages for faults of the arguments are in CommandLine.
 use Rattle.std.specs.Prelude.{ℕ, List, ◌++◌, codes, decimal}
 use Rattle.ud_model.specs.sections.Faults.{Fault, too_many_lines, line_too_long, obfuscated}
 use Rattle.ud_model.specs.sections.Faults.{inappropriate_elif, inappropriate_else}
 use Rattle.ud_model.specs.sections.Faults.{inappropriate_endif, too_many_levels, eof_in_comment}
 use Rattle.ud_model.specs.sections.Faults.{premature_eof}
 
--- a message about the input of this name
+-- `about name text`: the message `text` about the input `name`.
 abbrev pub about : List ℕ → List ℕ → List ℕ
 about name text = codes "unifdef: " ++ name ++ codes ": " ++ text ++ codes "\n"
 
--- and about a line of it
+-- `about_line name line text`: the message `text` about a line of the input `name`.
 abbrev pub about_line : List ℕ → ℕ → List ℕ → List ℕ
 about_line name line text = codes "unifdef: " ++ name ++ codes ": " ++ decimal line ++ codes ": " ++
     text ++ codes "\n"
 
+-- `message_of name fault`: the message of a text's fault, with the input's name and the line.
 abbrev pub message_of : List ℕ → Fault → List ℕ
 message_of name (too_many_lines line) = about_line name line (codes "Too many lines")
 message_of name (line_too_long line) = about_line name line (codes "Line too long")
@@ -33,11 +34,14 @@ message_of name (eof_in_comment line) = about_line name line (codes "EOF in comm
 message_of name (premature_eof line if_line) =
     about_line name line (codes "Premature EOF (#if line " ++ decimal if_line ++ codes ")")
 
+-- `read_error name`: the message if a read of the input `name` fails.
 abbrev pub read_error : List ℕ → List ℕ
 read_error name = about name (codes "Read error")
 
+-- `write_error name`: the message if a write fails, with the input's name.
 abbrev pub write_error : List ℕ → List ℕ
 write_error name = about name (codes "Write error")
 
+-- The message if memory for the symbols can't be allocated.
 abbrev pub out_of_memory : List ℕ
 out_of_memory = codes "unifdef: Out of memory\n"

@@ -4,9 +4,10 @@
 --   IsOptionWord w c cs        w is a word of options, with the letters c and cs, and not `--`
 --   AreOptions args            args give options and their option-arguments, and nothing else
 --   IsSymbolOption name w      w is `-Dname`, `-Dname=VALUE` or `-Uname`
---   AddsSymbol before name w   w names the symbol, and is read as an option after the arguments before it
+--   AddsSymbol before name w   w names the symbol, and is read as an option after `before`
 --
--- Example: `-k`, `-D`, `A`, `-bUB` are options; `-k`, `-D` are not, since `-D` lacks its argument, nor are `-k`, `a.c`.
+-- Example: `-k`, `-D`, `A`, `-bUB` are options. `-k`, `-D` are not, since `-D` lacks its argument,
+-- nor are `-k`, `a.c`.
 use Rattle.std.specs.Prelude.{◌≡◌, ℕ, List, [], ◌∷◌, ◌++◌, true, false, Some, None}
 use Rattle.std.specs.Prelude.{bytes_eq, codes, IsUtf8}
 use Rattle.ud_model.specs.text.Bytes.{equals_sign}
@@ -14,12 +15,12 @@ use Rattle.ud_model.specs.answer.CommandLine.{option_letters}
 use Rattle.ud_model.specs.answer.SymbolArguments.{is_name}
 use Rattle.ud_model.specs.answer.SingleArguments.{letters_give}
 
--- `IsOptionWord w c cs`: w is a word of options, with the letters c and cs, and not `--`
+-- `IsOptionWord w c cs`: `w` is a word of options, with the letters `c` and `cs`, and not `--`.
 pub record IsOptionWord (w : List ℕ) (c : ℕ) (cs : List ℕ) : Type 0 where
   pub no_end : bytes_eq w (codes "--") ≡ false
   pub letters : option_letters w ≡ c ∷ cs
 
--- `AreOptions args`: each of args is a word of options, or the option-argument of the word before it
+-- `AreOptions args`: each of `args` is a word of options, or the option-argument of the one before.
 pub data AreOptions : List (List ℕ) → Type 0 where
   no_options : AreOptions []
   -- a word whose options have their arguments
@@ -30,14 +31,14 @@ pub data AreOptions : List (List ℕ) → Type 0 where
       IsOptionWord w c cs → (letters_give 0 (c ∷ cs)).waits ≡ Some d →
       AreOptions args → AreOptions (w ∷ v ∷ args)
 
--- `IsSymbolOption name w`: w is an option that names the symbol in its own word
+-- `IsSymbolOption name w`: `w` is an option that names the symbol `name` in its own word.
 pub data IsSymbolOption (name : List ℕ) : List ℕ → Type 0 where
   defines : IsSymbolOption name (codes "-D" ++ name)
   defines_as : (value : List ℕ) → IsUtf8 value →
       IsSymbolOption name (codes "-D" ++ (name ++ equals_sign ∷ value))
   undefines : IsSymbolOption name (codes "-U" ++ name)
 
--- `AddsSymbol before name w`: w names the symbol, and is read as an option after the arguments before it
+-- `AddsSymbol before name w`: `w` names the symbol `name`, and is read as an option after `before`.
 pub record AddsSymbol (before : List (List ℕ)) (name w : List ℕ) : Type 0 where
   pub options : AreOptions before
   pub is_symbol : is_name name ≡ true

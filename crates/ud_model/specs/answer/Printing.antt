@@ -1,13 +1,18 @@
--- Printing: what is printed of a line.
--- unifdef(1): the lines that are left, with edited directives where a neighbour went; `-b`, `-c`, `-n`.
+-- Printing: the output for a line.
+-- unifdef(1): the lines that are kept, with edited directives if a neighbour was removed; `-b`,
+-- `-c`, `-n`.
 --
---   piece_by verdict keyword l   what is printed of a line by its verdict alone, without options
---   piece_after style before j   what is printed of a judged line that follows others, in a style
---   pieces_by piece before js    the pieces of judged lines that follow others, each by all lines before it
---   printed_by settings xs ms    the pieces of these lines under these settings, joined in order
---   some_differ_by settings ..   some line's piece isn't the line itself
+--   piece_by verdict keyword l      the piece of a line by its verdict alone, without options
+--   piece_after style before j      the piece of a judged line that follows others, in a style
+--   pieces_by piece before js       the pieces of judged lines that follow others, each by all
+--                                   lines before it
+--   printed_by settings xs ms       the pieces of these lines under these settings, joined in order
+--   some_differ_by settings xs ms   some line's piece isn't the line itself
 --
--- Example: of a line `x` that follows a removed one, `#line 5` and the line are printed under `-n`, 5 being its number.
+-- The piece of a line is what is printed for it.
+--
+-- Example: for a line `x` after a removed one, `#line 5` and the line are printed under `-n`, 5
+-- being its number.
 use Rattle.std.specs.Prelude.{ℕ, ◌+◌, ◌==◌, List, [], ◌∷◌, ◌++◌, take, drop, map, Bool, false, not}
 use Rattle.std.specs.Prelude.{◌&&◌, ◌||◌, bytes_eq, codes, decimal, if◌then◌else◌}
 use Rattle.std.specs.List.{concat}
@@ -23,22 +28,26 @@ use Rattle.ud_model.specs.declared.settings.Settings.{Settings}
 use Rattle.ud_model.specs.declared.verdict.Verdict.{Verdict}
 use Rattle.ud_model.specs.declared.verdict.Verdict.TheVariants.{Keep, Remove, ToIf, ToElse, ToEndif}
 
--- the place of the keyword; a text line has none
+-- `keyword_in content`: the span of the keyword. A text line has none.
 abbrev pub keyword_in : Content → Span
 keyword_in cut_keyword = record { at = 0; len = 0 }
 keyword_in (directive d) = d.keyword
 keyword_in text = record { at = 0; len = 0 }
 
--- one of three by a keyword's length: the first for that of `elifdef`, the second for that of `elifndef`, else the third
+-- `by_length len a b c`: `a` for a keyword as long as `elifdef`, `b` for one as long as `elifndef`,
+-- else `c`.
 abbrev pub by_length : {A : Type 0} → ℕ → A → A → A → A
 by_length len a b c = if len == 7 then a else if len == 8 then b else c
 
--- What stands in place of a keyword of this length in a directive that becomes the first one of its section: `ifdef` in
--- place of `elifdef`, `ifndef` in place of `elifndef`, else `if`, each with two spaces for the bytes that are lost.
+-- `opener_keyword len`: the replacement of a keyword of this length in a directive that becomes the
+-- first of its section. `elifdef` becomes `ifdef`, `elifndef` becomes `ifndef`, and any other
+-- keyword `if`, each with two spaces for the bytes that are lost.
 abbrev pub opener_keyword : ℕ → List ℕ
 opener_keyword len = by_length len (codes "ifdef  ") (codes "ifndef  ") (codes "if  ")
 
--- An edited directive keeps what stands before its keyword. One that becomes the first of its section keeps what follows, too.
+-- `piece_by verdict keyword l`: the piece of the line `l` by its verdict. An edited directive keeps
+-- the bytes before its keyword. One that becomes the first of its section also keeps the bytes
+-- after.
 abbrev pub piece_by : Verdict → Span → Line → List ℕ
 piece_by Keep keyword l = text_of l
 piece_by Remove keyword l = []
@@ -47,79 +56,90 @@ piece_by ToIf keyword l = take keyword.at l.body ++ opener_keyword keyword.len +
 piece_by ToElse keyword l = take keyword.at l.body ++ codes "else" ++ l.ending
 piece_by ToEndif keyword l = take keyword.at l.body ++ codes "endif" ++ l.ending
 
--- a line with what becomes of it: its verdict, and where its keyword lies
+-- A judged line: a line with its verdict, and the span of its keyword.
 pub record Judged : Type 0 where
   pub line : Line
   pub verdict : Verdict
   pub keyword : Span
 
--- how lines are printed: removed ones blanked (`-b`), kept and removed ones exchanged (`-c`), numbers put in (`-n`)
+-- The style in which lines are printed: removed ones blanked (`-b`), kept and removed ones
+-- exchanged (`-c`), numbers inserted (`-n`).
 pub record Style : Type 0 where
   pub blank : Bool
   pub complement : Bool
   pub renumber : Bool
 
--- without options
+-- The style without options.
 abbrev pub plain_style : Style
 plain_style = record { blank = false; complement = false; renumber = false }
 
+-- `style_of s`: the style under the settings `s`.
 abbrev pub style_of : Settings → Style
 style_of s = record { blank = s.blank; complement = s.complement; renumber = s.renumber }
 
--- a line that would be removed is kept, and each other one is removed
+-- `complement_verdict v`: Keep if the line would be removed, else Remove.
 abbrev pub complement_verdict : Verdict → Verdict
 complement_verdict v = if is_removed v then Keep else Remove
 
+-- `complemented j`: the judged line `j` with its verdict under `-c`.
 abbrev pub complemented : Judged → Judged
 complemented j = record j { verdict = complement_verdict j.verdict }
 
--- the last one of these lines is removed
+-- `last_removed js`: the last of these lines is removed.
 abbrev pub last_removed : List Judged → Bool
 last_removed [] = false
 last_removed (j ∷ []) = is_removed j.verdict
 last_removed (j ∷ k ∷ js) = last_removed (k ∷ js)
 
--- an ending, or a line feed if there is none
+-- `ending_or_newline ending`: the ending, or a newline if it is empty.
 abbrev pub ending_or_newline : List ℕ → List ℕ
 ending_or_newline [] = newline ∷ []
 ending_or_newline (b ∷ bs) = b ∷ bs
 
--- a directive that gives the next line the number that it has in the input (C11 6.10.4)
+-- `number_line l`: the `#line` that gives the next line the number of `l` in the input (C11
+-- 6.10.4).
 abbrev pub number_line : Line → List ℕ
 number_line l = codes "#line " ++ decimal l.number ++ ending_or_newline l.ending
 
--- what is printed of a line by itself: of a removed one nothing, or under `-b` its ending
+-- `piece_alone blank j`: the piece of a line by itself. For a removed line it is empty, or under
+-- `-b` the line's ending.
 abbrev pub piece_alone : Bool → Judged → List ℕ
 piece_alone blank j =
     if blank && is_removed j.verdict then j.line.ending
     else piece_by j.verdict j.keyword j.line
 
--- a line that isn't removed is numbered where the line before is removed; where lines are blanked, none is
+-- `is_numbered style before j`: a `#line` comes before `j`: under `-n`, if `j` isn't removed and
+-- the line before it is. If lines are blanked, none comes.
 abbrev pub is_numbered : Style → List Judged → Judged → Bool
 is_numbered style before j = style.renumber && not style.blank && last_removed before &&
     not (is_removed j.verdict)
 
+-- `uncomplemented_piece style before j`: the piece of `j` after the lines `before`, by the verdicts
+-- as they are.
 abbrev pub uncomplemented_piece : Style → List Judged → Judged → List ℕ
 uncomplemented_piece style before j =
     (if is_numbered style before j then number_line j.line else []) ++ piece_alone style.blank j
 
--- what is printed of a line that follows these; `-c` counts before all else
+-- `piece_after style before j`: the piece of `j` after the lines `before`. `-c` counts before all
+-- else.
 abbrev pub piece_after : Style → List Judged → Judged → List ℕ
 piece_after style before j =
     if style.complement then uncomplemented_piece style (map complemented before) (complemented j)
     else uncomplemented_piece style before j
 
--- the pieces of the second lines, which follow the first ones, where this is the piece of a line after others
+-- `pieces_by piece before js`: the pieces of the lines `js`, which follow `before`, if `piece`
+-- gives the piece of a line after others.
 abbrev pub pieces_by : (List Judged → Judged → List ℕ) → List Judged → List Judged → List (List ℕ)
 pieces_by piece before [] = []
 pieces_by piece before (j ∷ js) = piece before j ∷ pieces_by piece (before ++ j ∷ []) js
 
--- some of these pieces isn't the line itself
+-- `some_other pieces js`: some piece isn't the line itself.
 abbrev pub some_other : List (List ℕ) → List Judged → Bool
 some_other [] js = false
 some_other (p ∷ ps) [] = false
 some_other (p ∷ ps) (j ∷ js) = not (bytes_eq p (text_of j.line)) || some_other ps js
 
+-- `judged_line x m`: the line `x` with the mark `m`.
 abbrev pub judged_line : Item Reading → Mark → Judged
 judged_line x m = record {
   line = line_of x;
@@ -128,17 +148,20 @@ judged_line x m = record {
       keyword_in (content_of (reading_of x).scan);
 }
 
--- these lines with these marks
+-- `judged_lines xs ms`: the lines `xs` with the marks `ms`.
 abbrev pub judged_lines : List (Item Reading) → List Mark → List Judged
 judged_lines [] ms = []
 judged_lines (x ∷ xs) [] = []
 judged_lines (x ∷ xs) (m ∷ ms) = judged_line x m ∷ judged_lines xs ms
 
+-- `pieces_under settings xs ms`: the pieces of the lines `xs` with the marks `ms`.
 abbrev pub pieces_under : Settings → List (Item Reading) → List Mark → List (List ℕ)
 pieces_under settings xs ms = pieces_by (piece_after (style_of settings)) [] (judged_lines xs ms)
 
+-- `printed_by settings xs ms`: the output for the lines `xs` with the marks `ms`.
 abbrev pub printed_by : Settings → List (Item Reading) → List Mark → List ℕ
 printed_by settings xs ms = concat (pieces_under settings xs ms)
 
+-- `some_differ_by settings xs ms`: the piece of some line isn't the line itself.
 abbrev pub some_differ_by : Settings → List (Item Reading) → List Mark → Bool
 some_differ_by settings xs ms = some_other (pieces_under settings xs ms) (judged_lines xs ms)

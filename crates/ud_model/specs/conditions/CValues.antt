@@ -1,19 +1,22 @@
--- C values: what C makes of a condition's expression, whatever stands for the names that the table leaves open.
--- C11 6.10.1p4: all signed integers are those of intmax_t and all unsigned ones those of uintmax_t, here of 64 bits in two's
--- complement. 6.5 and 6.3.1.8 for the operators.
+-- C values: the values that C may give a condition's expression, whatever the names are that the
+-- table leaves open.
+-- C11 6.10.1p4: all signed integers have the type intmax_t and all unsigned ones uintmax_t, here of
+-- 64 bits in two's complement. 6.5 and 6.3.1.8 for the operators.
 --
---   Number              a number of one of the two types; `number` is the number alone
---   IsConstantValue w   what a constant is (6.4.4.1p5)
---   GivesUnary o x      what an operator before an operand gives
---   Gives o x y         what an operator between two operands gives, `&&` and `||` aside
---   CValue table u e    what the tree may be, u saying whether a `u` stands in the whole expression
---   IsCValue table e    what an expression may be
+--   Number                a number of one of the two types; `number` is the number alone
+--   IsConstantValue w c   the constant `w` has the value `c` (6.4.4.1p5)
+--   GivesUnary o x c      an operator before the operand `x` may give `c`
+--   Gives o x y c         an operator between two operands may give `c`, `&&` and `||` aside
+--   CValue table u e c    the tree `e` may have the value `c`; `u` means that the whole expression
+--                         has a `u`
+--   IsCValue table e c    the expression `e` may have the value `c`
 --
--- A name whose value the table tells has this value, in the type of the constant at which it ends. Each other one stands for
--- any number of either type, at each place where it stands; `defined` and an unlisted name is 0 or 1. Where C gives no
--- value (a divisor of 0, a signed result out of range, a constant without a type) none is related.
+-- A name whose value the table decides has this value, in the type of the constant to which it
+-- resolves. Each other name may be any number of either type, and another one at each of its uses.
+-- `defined` and an unlisted name is 0 or 1. No value is related if C gives none: a divisor of 0, a
+-- signed result out of range, a constant without a type.
 --
--- Example: with A undefined and X unlisted, `A && X` can be 0 alone, and `X - X` any number.
+-- Example: with A undefined and X unlisted, `A && X` can only be 0, and `X - X` can be any number.
 use Rattle.std.specs.Prelude.{◌≡◌, ◌≢◌, ℕ, ◌+◌, ◌-◌, ◌*◌, ◌/◌, ◌%◌, ◌^◌, ◌<◌, ◌≤◌, Bool, true}
 use Rattle.std.specs.Prelude.{false, if◌then◌else◌, List, Some, None, ◌⊎◌, ℤ, pos, ◌+ℤ◌, ◌-ℤ◌, ◌*ℤ◌}
 use Rattle.std.specs.Prelude.{neg_ℤ, ◌<ℤ◌, ◌≤ℤ◌, int_div, int_rem, bit_and, bit_or, bit_xor}
@@ -32,45 +35,48 @@ use Rattle.ud_model.specs.declared.operator.Operator.TheVariants.{Greater, Great
 use Rattle.ud_model.specs.declared.operator.Operator.TheVariants.{Minus, Times, Over, Remainder}
 use Rattle.ud_model.specs.declared.operator.Operator.TheVariants.{Not, Complement}
 
--- a number with its type
+-- A number with its type.
 pub data Number : Type 0 where
-  -- of intmax_t
+  -- A number of intmax_t.
   signed : ℤ → Number
-  -- of uintmax_t
+  -- A number of uintmax_t.
   unsigned : ℕ → Number
 
--- the number alone
+-- `number x`: the number alone.
 abbrev pub number : Number → ℤ
 number (signed z) = z
 number (unsigned n) = pos n
 
--- it lies in the range of its type
+-- `IsInRange x`: the number is in the range of its type.
 abbrev pub IsInRange : Number → Type 0
 IsInRange (signed z) = FitsSigned w64 z
 IsInRange (unsigned n) = n < 2 ^ 64
 
--- converted to uintmax_t: a negative number has 2^64 added (6.3.1.3p2), so its bits stay
+-- `as_unsigned x`: `x` converted to uintmax_t. A negative number has 2^64 added (6.3.1.3p2), so its
+-- bits stay.
 abbrev pub as_unsigned : Number → ℕ
 as_unsigned (signed z) = cast_unsigned w64 z
 as_unsigned (unsigned n) = n
 
--- 1 where a fact holds, and 0 where it doesn't (6.5.3.3p5, 6.5.8p6, 6.5.9p3)
+-- `IsTruth Holds c`: `c` is 1 if the fact `Holds` is true, and 0 if it isn't (6.5.3.3p5, 6.5.8p6,
+-- 6.5.9p3).
 abbrev pub IsTruth : Type 0 → Number → Type 0
 IsTruth Holds c = (Holds × (c ≡ signed (pos 1))) ⊎ ((Holds → ⊥) × (c ≡ signed (pos 0)))
 
--- the number is 0
+-- `IsZero x`: the number is 0.
 abbrev pub IsZero : Number → Type 0
 IsZero x = number x ≡ pos 0
 
--- a result of intmax_t; out of its range there is none (6.5p5)
+-- `IsResult z c`: `c` is the result `z` in intmax_t. Out of the range of this type there is none
+-- (6.5p5).
 abbrev pub IsResult : ℤ → Number → Type 0
 IsResult z c = FitsSigned w64 z × (c ≡ signed z)
 
--- by the bits of both operands (6.2.6.2)
+-- `bitwise f a b`: `f` applied to the bits of both operands (6.2.6.2).
 abbrev pub bitwise : (ℕ → ℕ → ℕ) → ℤ → ℤ → ℤ
 bitwise f a b = cast_signed w64 (f (cast_unsigned w64 a) (cast_unsigned w64 b))
 
--- two operands of intmax_t
+-- `GivesSigned o a b c`: `o` between two operands of intmax_t gives `c`.
 abbrev pub GivesSigned : Operator → ℤ → ℤ → Number → Type 0
 GivesSigned BitOr a b c = c ≡ signed (bitwise bit_or a b)
 GivesSigned BitXor a b c = c ≡ signed (bitwise bit_xor a b)
@@ -89,7 +95,7 @@ GivesSigned Remainder a b c = (b ≢ pos 0) × FitsSigned w64 (int_div a b) ×
     (c ≡ signed (int_rem a b))
 GivesSigned _ a b c = ⊥
 
--- two operands of uintmax_t: modulo 2^64 (6.2.5p9)
+-- `GivesUnsigned o a b c`: `o` between two operands of uintmax_t gives `c`, modulo 2^64 (6.2.5p9).
 abbrev pub GivesUnsigned : Operator → ℕ → ℕ → Number → Type 0
 GivesUnsigned BitOr a b c = c ≡ unsigned (bit_or a b)
 GivesUnsigned BitXor a b c = c ≡ unsigned (bit_xor a b)
@@ -107,14 +113,15 @@ GivesUnsigned Over a b c = (0 < b) × (c ≡ unsigned (a / b))
 GivesUnsigned Remainder a b c = (0 < b) × (c ≡ unsigned (a % b))
 GivesUnsigned _ a b c = ⊥
 
--- the usual arithmetic conversions (6.3.1.8): beside one of uintmax_t the other operand is converted to it
+-- `Gives o x y c`: `o` between `x` and `y` gives `c`. By the usual arithmetic conversions
+-- (6.3.1.8), an operand beside one of uintmax_t is converted to that type.
 abbrev pub Gives : Operator → Number → Number → Number → Type 0
 Gives o (signed a) (signed b) c = GivesSigned o a b c
 Gives o (signed a) (unsigned b) c = GivesUnsigned o (as_unsigned (signed a)) b c
 Gives o (unsigned a) (signed b) c = GivesUnsigned o a (as_unsigned (signed b)) c
 Gives o (unsigned a) (unsigned b) c = GivesUnsigned o a b c
 
--- an operator before one operand (6.5.3.3)
+-- `GivesUnary o x c`: `o` before the operand `x` gives `c` (6.5.3.3).
 abbrev pub GivesUnary : Operator → Number → Number → Type 0
 GivesUnary Not x c = IsTruth (IsZero x) c
 GivesUnary Minus (signed a) c = IsResult (neg_ℤ a) c
@@ -123,7 +130,8 @@ GivesUnary Complement (signed a) c = c ≡ signed (cast_signed w64 (2 ^ 64 - 1 -
 GivesUnary Complement (unsigned a) c = c ≡ unsigned (2 ^ 64 - 1 - a)
 GivesUnary _ x c = ⊥
 
--- of uintmax_t with a `u`, or where only that type holds it and it isn't decimal
+-- `IsConstantValue w c`: the constant `w` has the value `c`. It has the type uintmax_t with a `u`,
+-- or if only this type holds it and it isn't decimal (6.4.4.1p5).
 pub data IsConstantValue (w : List ℕ) : Number → Type 0 where
   plain : has_u w ≡ false → constant_number w < 2 ^ 63 →
       IsConstantValue w (signed (pos (constant_number w)))
@@ -133,12 +141,12 @@ pub data IsConstantValue (w : List ℕ) : Number → Type 0 where
       constant_number w < 2 ^ 64 →
       IsConstantValue w (unsigned (constant_number w))
 
--- a known value in the type of its constant
+-- `typed b z`: the known value `z` as a number of uintmax_t if `b`, else of intmax_t.
 abbrev pub typed : Bool → ℤ → Number
 typed b z = if b then unsigned (cast_unsigned w64 z) else signed z
 
--- What a tree may be: `&&` and `||` look at their right operand only if the left one leaves them open (6.5.13p4,
--- 6.5.14p4).
+-- `CValue table u e c`: the tree `e` may have the value `c`. `&&` and `||` evaluate their right
+-- operand only if the left one leaves them open (6.5.13p4, 6.5.14p4).
 pub data CValue (table : List Argument) (u : Bool) : Expression → Number → Type 0 where
   of_constant : {w : List ℕ} {c : Number} → IsConstantValue w c → CValue table u (constant w) c
   of_known_name : {n : List ℕ} {arguments : Bool} {z : ℤ} → name_value table u n ≡ Some z →
@@ -168,6 +176,6 @@ pub data CValue (table : List Argument) (u : Bool) : Expression → Number → T
       CValue table u (binary Or a b) c
   of_parens : {a : Expression} {c : Number} → CValue table u a c → CValue table u (parens a) c
 
--- what an expression may be
+-- `IsCValue table e c`: the expression `e` may have the value `c`.
 abbrev pub IsCValue : List Argument → Expression → Number → Type 0
 IsCValue table e c = CValue table (has_unsigned table e) e c

@@ -1,14 +1,16 @@
--- Conditions: what the table decides of a directive.
--- C11 6.10.1; unifdef(1): where a condition isn't decided or not understood, it is unknown.
+-- Conditions: the decision of the table on a directive.
+-- C11 6.10.1; unifdef(1): a condition that isn't decided or not understood is unknown.
 --
 --   Decision                                  a condition, and whether its section is plain text
---   tree_cond e table rules                   what is decided of the tree of an `#if` or `#elif`
---   expression_cond after table rules         the same of its text; a text without a tree is unknown
---   decision_by_test test after table rules   the decision on a text by what makes its condition true
+--   tree_cond e table rules                   the condition of the tree of an `#if` or `#elif`
+--   expression_cond after table rules         the condition of its text; a text without a tree is
+--                                             unknown
+--   decision_by_test test after table rules   the decision on a text by the test that it is for
 --   condition_of kind after table rules       the decision on the text after a keyword
 --   decision_on scan d table rules            the decision on a directive in its line
 --
--- Example: with A undefined, `A && X` is no, and unknown under `strict`; `X || 1` is unknown unless `constants`.
+-- Example: with A undefined, `A && X` is no, and unknown under `strict`; `X || 1` is unknown unless
+-- `constants`.
 use Rattle.std.specs.Prelude.{ℕ, List, Bool, true, false, not, ◌&&◌, ◌||◌, Option, Some, None}
 use Rattle.std.specs.Prelude.{is_some, if◌then◌else◌, ℤ}
 use Rattle.ud_model.specs.text.Bytes.{skip_white, leading_word, skip_word, are_white, is_identifier}
@@ -27,27 +29,29 @@ use Rattle.ud_model.specs.declared.kind.Role.TheVariants.{IfGroup, ElifGroup, El
 use Rattle.ud_model.specs.declared.kind.Test.{Test}
 use Rattle.ud_model.specs.declared.kind.Test.TheVariants.{Nonzero, Defined, Undefined, Nothing}
 
--- a condition, and whether its section is plain text
+-- A decision on a directive: its condition, and whether its section is plain text.
 pub record Decision : Type 0 where
   pub cond : Cond
   pub ignoring : Bool
 
--- how expressions are valued: those that name no listed symbol too; `&&` and `||` unknown where an operand is
+-- The rules for expressions. `constants`: an expression that names no listed symbol has a value
+-- too. `strict`: `&&` and `||` are unknown if an operand is.
 pub record Rules : Type 0 where
   pub constants : Bool
   pub strict : Bool
 
--- nothing is decided
+-- The decision of an unknown condition.
 abbrev pub undecided : Decision
 undecided = record { cond = Unknown; ignoring = false }
 
--- the one identifier that a text is but for white space around it, if it is so
+-- `sole_name after`: the identifier that `after` consists of, but for white space around it, or
+-- None.
 abbrev pub sole_name : List ℕ → Option (List ℕ)
 sole_name after =
     if is_identifier (leading_word (skip_white after)) && are_white (skip_word (skip_white after))
     then Some (leading_word (skip_white after)) else None
 
--- `#ifdef` by the entry of its name
+-- `ifdef_by entry`: the decision on an `#ifdef` by the entry of its name.
 abbrev pub ifdef_by : Option Entry → Decision
 ifdef_by None = undecided
 ifdef_by (Some e) = record { cond = defined_by e.value; ignoring = e.ignoring }
@@ -56,28 +60,29 @@ ifdef_by (Some e) = record { cond = defined_by e.value; ignoring = e.ignoring }
     defined_by None = No
     defined_by (Some value) = Yes
 
--- `#ifdef` with its name, if its text is one
+-- `ifdef_decision name table`: the decision on an `#ifdef` of `name`, or undecided if its text is
+-- no name.
 abbrev pub ifdef_decision : Option (List ℕ) → List Argument → Decision
 ifdef_decision None table = undecided
 ifdef_decision (Some name) table = ifdef_by (entry_in table name)
 
--- the other way round
+-- `negate c`: yes for no, no for yes, and unknown for unknown.
 abbrev pub negate : Cond → Cond
 negate Yes = No
 negate No = Yes
 negate Unknown = Unknown
 
--- an entry undefines its name
+-- `undefined_by entry`: the entry undefines its name.
 abbrev pub undefined_by : Option Entry → Bool
 undefined_by None = false
 undefined_by (Some e) = not (is_some e.value)
 
 module _ (table : List Argument) where
-  -- an argument names it
+  -- `is_listed n`: an argument of the table names `n`.
   abbrev pub is_listed : List ℕ → Bool
   is_listed n = is_some (entry_in table n)
 
-  -- a name that the table lists stands in the expression, as an operand or after `defined`
+  -- `mentions_listed e`: a name that the table lists is in `e`, as an operand or after `defined`.
   abbrev pub mentions_listed : Expression → Bool
   mentions_listed (constant w) = false
   mentions_listed (named n arguments) = is_listed n
@@ -86,7 +91,7 @@ module _ (table : List Argument) where
   mentions_listed (binary o a b) = mentions_listed a || mentions_listed b
   mentions_listed (parens a) = mentions_listed a
 
-  -- a name that the table undefines stands there with arguments
+  -- `calls_undefined e`: a name that the table undefines is in `e` with arguments.
   abbrev pub calls_undefined : Expression → Bool
   calls_undefined (constant w) = false
   calls_undefined (named n arguments) = arguments && undefined_by (entry_in table n)
@@ -95,28 +100,30 @@ module _ (table : List Argument) where
   calls_undefined (binary o a b) = calls_undefined a || calls_undefined b
   calls_undefined (parens a) = calls_undefined a
 
--- a known 0 is false, and each other known number true
+-- `truth_of value`: no if the value is 0, yes if it is another known number, else unknown.
 abbrev pub truth_of : Option ℤ → Cond
 truth_of None = Unknown
 truth_of (Some z) = if is_zero z then No else Yes
 
--- unknown where an undefined name has arguments; and, unless `constants`, if no name is listed
+-- `tree_cond e table rules`: the condition of the tree `e`, by its value. It is unknown if an
+-- undefined name has arguments, and, unless `constants`, if no name is listed.
 abbrev pub tree_cond : Expression → List Argument → Rules → Cond
 tree_cond e table rules =
     if calls_undefined table e || not (rules.constants || mentions_listed table e) then Unknown
     else truth_of (value_of table rules.strict e)
 
--- the condition of a tree, if there is one
+-- `tree_cond_if tree table rules`: the condition of a tree, or unknown if there is none.
 abbrev pub tree_cond_if : Option Expression → List Argument → Rules → Cond
 tree_cond_if None table rules = Unknown
 tree_cond_if (Some e) table rules = tree_cond e table rules
 
--- A text has one tree at most, and `expression_of` finds it: for every tree e for which the text is written, this is
--- what `tree_cond` says of e.
+-- `expression_cond after table rules`: the condition of the tree of `after`, or unknown if there is
+-- none. A text has one tree at most, and `expression_of` finds it.
 unfoldable pub expression_cond : List ℕ → List Argument → Rules → Cond
 expression_cond after table rules = tree_cond_if (expression_of after) table rules
 
--- the decision on a text by what makes its condition true
+-- `decision_by_test test after table rules`: the decision on the text `after` by its test: the
+-- value of an expression, or that a name is defined or isn't.
 abbrev pub decision_by_test : Test → List ℕ → List Argument → Rules → Decision
 decision_by_test Nonzero after table rules =
     record { cond = expression_cond after table rules; ignoring = false }
@@ -128,14 +135,15 @@ decision_by_test Undefined after table rules =
     }
 decision_by_test Nothing after table rules = undecided
 
--- a directive with this role begins a section
+-- `begins_section role`: a directive with this role begins a section.
 abbrev pub begins_section : Role → Bool
 begins_section IfGroup = true
 begins_section ElifGroup = false
 begins_section ElseGroup = false
 begins_section EndifLine = false
 
--- the decision on the text after a keyword; only a directive that begins a section makes it plain text
+-- `condition_of kind after table rules`: the decision on the text `after` a keyword of this kind.
+-- Only a directive that begins a section makes it plain text.
 abbrev pub condition_of : Kind → List ℕ → List Argument → Rules → Decision
 condition_of kind after table rules =
     record (decision_by_test (test_of kind) after table rules) {
@@ -144,7 +152,8 @@ condition_of kind after table rules =
           (decision_by_test (test_of kind) after table rules).ignoring;
     }
 
--- a broken directive is undecided; one that joins the next line isn't ignoring
+-- `decision_on scan d table rules`: the decision on the directive `d`. A broken directive is
+-- undecided, and one that joins the next line doesn't make its section plain text.
 abbrev pub decision_on : Scan → Directive → List Argument → Rules → Decision
 decision_on scan d table rules =
     if d.broken then undecided

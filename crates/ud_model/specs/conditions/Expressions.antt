@@ -1,13 +1,14 @@
--- Expressions: the trees that texts are written for.
--- C11 6.5 and 6.10.1p1. Each operator has a level, 1 being the loosest; operators of one level take their operands from
--- the left.
+-- Expressions: the trees of texts that are expressions.
+-- C11 6.5 and 6.10.1p1. Each operator has a precedence, of which 1 is the loosest. Operators of one
+-- precedence take their operands from the left.
 --
 --   Expression          a tree of operands and operators; parentheses are a node of their own
---   spelling e          the tokens that a tree is written with
---   HasPrecedence k e   its outermost operator is of level k or tighter, and so on inside
---   IsWritten text e    the text is written for this tree; a text is so for one tree at most
+--   spelling e          the tokens of a tree
+--   HasPrecedence k e   no operator of the tree outside parentheses is looser than `k`, and its
+--                       operands are nested by precedence
+--   IsWritten text e    `e` is the tree of `text`; a text has one tree at most
 --
--- Example: `1 - 2 - 3` is written for (1 - 2) - 3 and for no other tree.
+-- Example: `1 - 2 - 3` has the tree (1 - 2) - 3 and no other tree.
 use Rattle.std.specs.Prelude.{ℕ, ◌+◌, ◌≤◌, Bool, true, false, IsTrue, List, [], ◌∷◌, ◌++◌}
 use Rattle.ud_model.specs.conditions.Tokens.{Token, number, name, defined, operator, opening}
 use Rattle.ud_model.specs.conditions.Tokens.{closing, AreTokens}
@@ -18,7 +19,7 @@ use Rattle.ud_model.specs.declared.operator.Operator.TheVariants.{Greater, Great
 use Rattle.ud_model.specs.declared.operator.Operator.TheVariants.{Minus, Times, Over, Remainder}
 use Rattle.ud_model.specs.declared.operator.Operator.TheVariants.{Not, Complement}
 
--- the level of an operator between two operands; 0 where it stands between none
+-- `precedence o`: the precedence of `o` between two operands, or 0 if `o` is never between two.
 abbrev pub precedence : Operator → ℕ
 precedence Or = 1
 precedence And = 2
@@ -39,26 +40,26 @@ precedence Remainder = 9
 precedence Not = 0
 precedence Complement = 0
 
--- the operator may stand before its one operand
+-- `is_prefix o`: `o` may precede its one operand.
 abbrev pub is_prefix : Operator → Bool
 is_prefix Not = true
 is_prefix Complement = true
 is_prefix Minus = true
 is_prefix _ = false
 
--- a tree of operands and operators
+-- A tree of operands and operators.
 pub data Expression : Type 0 where
   constant : List ℕ → Expression
-  -- a name, and whether it has arguments
+  -- A name, and whether it has arguments.
   named : List ℕ → Bool → Expression
-  -- `defined` and a name, and whether the name stands in parentheses
+  -- `defined` and a name, and whether the name is in parentheses.
   is_defined : List ℕ → Bool → Expression
   unary : Operator → Expression → Expression
   binary : Operator → Expression → Expression → Expression
-  -- an expression in parentheses
+  -- An expression in parentheses.
   parens : Expression → Expression
 
--- the tokens that a tree is written with
+-- `spelling e`: the tokens of the tree `e`, in order.
 abbrev pub spelling : Expression → List Token
 spelling (constant w) = number w ∷ []
 spelling (named n arguments) = name n arguments ∷ []
@@ -68,8 +69,9 @@ spelling (unary o a) = operator o ∷ spelling a
 spelling (binary o a b) = spelling a ++ operator o ∷ spelling b
 spelling (parens a) = opening ∷ spelling a ++ closing ∷ []
 
--- The tree is of level k or tighter: the left operand of an operator is of the operator's level or tighter, the right one
--- is tighter; what stands after a prefix operator is tighter than each operator between two operands.
+-- `HasPrecedence k e`: the tree `e` has precedence `k` or a tighter one. The left operand of an
+-- operator is at least as tight as the operator, and the right one is tighter. The operand of a
+-- prefix operator is tighter than each operator between two operands.
 abbrev pub HasPrecedence : ℕ → Expression → Type 0
 HasPrecedence k (constant w) = Unit {0}
 HasPrecedence k (named n arguments) = Unit {0}
@@ -79,6 +81,7 @@ HasPrecedence k (binary o a b) = (k ≤ precedence o) × HasPrecedence (preceden
     HasPrecedence (precedence o + 1) b
 HasPrecedence k (parens a) = HasPrecedence 1 a
 
--- The text is written for this tree.
+-- `IsWritten text e`: `e` is the tree of `text`: `text` has the tokens of `e`, and `e` is nested by
+-- precedence.
 abbrev pub IsWritten : List ℕ → Expression → Type 0
 IsWritten text e = HasPrecedence 1 e × AreTokens text (spelling e)

@@ -1,10 +1,11 @@
 -- Names: the names of a condition, as they are listed.
 -- unifdef(1), `-s` and `-S`.
 --
---   names_in e             the name of each operand and each `defined` of a tree, in order and with repeats
---   names_by test after    the names of a text by what makes its condition true, where it is understood
---   names_of kind after    the names of the text after a keyword
---   names_on d             the names of a directive; a broken one has none
+--   names_in e            the names of a tree: of each operand and each `defined`, in order and
+--                         with repeats
+--   names_by test after   the names of a text by the test that it is for, if it is understood
+--   names_of kind after   the names of the text after a keyword
+--   names_on d            the names of a directive; a broken one has none
 --
 -- Example: ` F(X) + defined(Y) > 1` has the names F and Y.
 use Rattle.std.specs.Prelude.{ℕ, List, [], ◌∷◌, ◌++◌, Option, Some, None, if◌then◌else◌}
@@ -17,7 +18,8 @@ use Rattle.ud_model.specs.declared.kind.Kind.{Kind}
 use Rattle.ud_model.specs.declared.kind.Test.{Test}
 use Rattle.ud_model.specs.declared.kind.Test.TheVariants.{Nonzero, Defined, Undefined, Nothing}
 
--- the names of a tree
+-- `names_in e`: the name of each operand and each `defined` of the tree `e`, in order and with
+-- repeats.
 abbrev pub names_in : Expression → List (List ℕ)
 names_in (constant w) = []
 names_in (named n arguments) = n ∷ []
@@ -26,27 +28,27 @@ names_in (unary o a) = names_in a
 names_in (binary o a b) = names_in a ++ names_in b
 names_in (parens a) = names_in a
 
--- the names of a tree, if there is one
+-- `names_in_tree tree`: the names of a tree, or none if there is no tree.
 abbrev pub names_in_tree : Option Expression → List (List ℕ)
 names_in_tree None = []
 names_in_tree (Some e) = names_in e
 
--- a name, if there is one
+-- `name_alone name`: the name alone, or none if there is no name.
 abbrev pub name_alone : Option (List ℕ) → List (List ℕ)
 name_alone None = []
 name_alone (Some name) = name ∷ []
 
--- the names of a text by what makes its condition true
+-- `names_by test after`: the names of the text `after`, by the test that it is for.
 abbrev pub names_by : Test → List ℕ → List (List ℕ)
 names_by Nonzero after = names_in_tree (expression_of after)
 names_by Defined after = name_alone (sole_name after)
 names_by Undefined after = name_alone (sole_name after)
 names_by Nothing after = []
 
--- the names of the text after a keyword
+-- `names_of kind after`: the names of the text `after` a keyword of this kind.
 abbrev pub names_of : Kind → List ℕ → List (List ℕ)
 names_of kind after = names_by (test_of kind) after
 
--- the names of a directive
+-- `names_on d`: the names of the directive `d`, or none if it is broken.
 abbrev pub names_on : Directive → List (List ℕ)
 names_on d = if d.broken then [] else names_of d.kind d.after

@@ -1,12 +1,16 @@
--- Tokens: the words and signs of an expression.
--- C11 6.4, 6.4.2, 6.4.4.1, 6.4.6 and 6.4.8: white space separates tokens, and the longest token is taken.
+-- Tokens: the tokens of an expression.
+-- C11 6.4, 6.4.2, 6.4.4.1, 6.4.6 and 6.4.8: white space separates tokens, and the longest token is
+-- taken.
 --
---   Token              a constant, a name with or without arguments, `defined`, an operator, a parenthesis
---   next_token text    the token at the front of a text and what follows it; none at the end, or if none can be read
---   AreTokens text ts  the text is these tokens, from its front to its end
+--   Token               a constant, a name with or without arguments, `defined`, an operator, a
+--                       parenthesis
+--   next_token text     the first token of `text` and the rest, or that there is none, or that it
+--                       can't be read
+--   AreTokens text ts   `ts` are the tokens of `text`, from its beginning to its end
 --
--- A name's arguments are the bytes from a `(` after it to the `)` that matches it, by these two bytes alone; no tokens are
--- in them. C reads two minus signs as one token, and `0xE-9` as one too; both are none here.
+-- A name's arguments are the bytes from a `(` after the name to the `)` that matches it. Only these
+-- two bytes count in them, and no tokens are read there. C reads two minus signs as one token, and
+-- `0xE-9` as one too; both are unreadable here.
 --
 -- Example: ` F(X)>0` is the name F with arguments, the operator `>` and the constant 0.
 use Rattle.std.specs.Prelude.{◌≡◌, ℕ, zero, suc, ◌-◌, ◌==◌, List, [], ◌∷◌, length, drop}
@@ -21,27 +25,28 @@ use Rattle.ud_model.specs.declared.operator.Operator.TheVariants.{Greater, Great
 use Rattle.ud_model.specs.declared.operator.Operator.TheVariants.{Minus, Times, Over, Remainder}
 use Rattle.ud_model.specs.declared.operator.Operator.TheVariants.{Not, Complement}
 
--- what an expression is written with
+-- A token of an expression.
 pub data Token : Type 0 where
-  -- an integer constant, as it is spelled
+  -- An integer constant, as it is spelled.
   number : List ℕ → Token
-  -- an identifier other than `defined`, and whether it has arguments
+  -- An identifier other than `defined`, and whether it has arguments.
   name : List ℕ → Bool → Token
   defined : Token
   operator : Operator → Token
   opening : Token
   closing : Token
 
--- what stands at the front of a text
+-- The beginning of a text: a token, or the reason why there is none.
 pub data NextToken : Type 0 where
-  -- white space alone
+  -- White space alone.
   at_end : NextToken
-  -- no token
+  -- No token.
   unreadable : NextToken
-  -- a token, and the text after it
+  -- A token, and the text after it.
   found : Token → List ℕ → NextToken
 
--- what stands after the `)` that closes a parenthesis, in which so many more are open
+-- `after_matching_paren n text`: the rest of `text` after the `)` that closes a parenthesis, inside
+-- which `n` more are open. It is None if `text` doesn't close it.
 abbrev pub after_matching_paren : ℕ → List ℕ → Option (List ℕ)
 after_matching_paren n [] = None
 after_matching_paren zero (b ∷ text) =
@@ -53,24 +58,27 @@ after_matching_paren (suc n) (b ∷ text) =
     else if b == 41 then after_matching_paren n text
     else after_matching_paren (suc n) text
 
--- the name with its arguments, where they end
+-- `with_arguments w rest`: the name `w` with arguments that end before `rest`; unreadable if they
+-- don't end.
 abbrev pub with_arguments : List ℕ → Option (List ℕ) → NextToken
 with_arguments w None = unreadable
 with_arguments w (Some rest) = found (name w true) rest
 
--- a name and the arguments after it, if a `(` comes next
+-- `name_token w rest`: the name `w` before `rest`, with its arguments if a `(` comes next.
 abbrev pub name_token : List ℕ → List ℕ → NextToken
 name_token w rest =
     if starts_with_byte 40 (skip_white rest)
     then with_arguments w (after_matching_paren 0 (drop 1 (skip_white rest)))
     else found (name w false) rest
 
--- the constant ends in `e` or `E`, and a sign follows: C reads both as one token
+-- `has_exponent_sign w rest`: the constant `w` ends in `e` or `E`, and a sign follows. C reads both
+-- as one token.
 abbrev pub has_exponent_sign : List ℕ → List ℕ → Bool
 has_exponent_sign w rest = (slice_index w (length w - 1) == 101 || slice_index w (length w - 1) ==
     69) && (starts_with_byte 43 rest || starts_with_byte 45 rest)
 
--- a word that begins with a digit is a constant as a whole
+-- `word_token w rest`: the token of the word `w` before `rest`. A word that begins with a digit is
+-- a constant as a whole, or unreadable.
 abbrev pub word_token : List ℕ → List ℕ → NextToken
 word_token w rest =
     if is_digit (slice_index w 0) then (if is_constant w && not (has_exponent_sign w rest)
@@ -78,13 +86,14 @@ word_token w rest =
     else if bytes_eq w (codes "defined") then found defined rest
     else name_token w rest
 
--- the operator of two bytes where the second one follows, else the one of one byte
+-- `one_or_two_bytes c long short rest`: the operator `long` if its second byte `c` follows, else
+-- `short`, which has one byte.
 abbrev pub one_or_two_bytes : ℕ → Operator → Operator → List ℕ → NextToken
 one_or_two_bytes c long short rest =
     if starts_with_byte c rest then found (operator long) (drop 1 rest)
     else found (operator short) rest
 
--- the token that begins with this byte, which is in no word
+-- `punctuator b rest`: the operator or parenthesis that begins with `b`, which is no word byte.
 abbrev pub punctuator : ℕ → List ℕ → NextToken
 punctuator b rest =
     if b == 40 then found opening rest
@@ -106,18 +115,18 @@ punctuator b rest =
     else if b == 126 then found (operator Complement) rest
     else unreadable
 
--- the token in front of a text without white space in front
+-- `leading_token text`: the token that `text` begins with. White space doesn't come first.
 abbrev pub leading_token : List ℕ → NextToken
 leading_token [] = at_end
 leading_token (b ∷ text) =
     if is_word_byte b then word_token (leading_word (b ∷ text)) (skip_word (b ∷ text))
     else punctuator b text
 
--- the token at the front of a text, white space left out
+-- `next_token text`: the first token of `text` after its leading white space.
 unfoldable pub next_token : List ℕ → NextToken
 next_token text = leading_token (skip_white text)
 
--- The tokens of a text: the one at its front, and then those of the text after it.
+-- `AreTokens text ts`: `ts` are the tokens of `text`: the first one, and then those of the rest.
 abbrev pub AreTokens : List ℕ → List Token → Type 0
 AreTokens text [] = next_token text ≡ at_end
 AreTokens text (t ∷ ts) = (rest : List ℕ) × (next_token text ≡ found t rest) × AreTokens rest ts

@@ -1,18 +1,21 @@
--- Values: the number that an expression is, as far as the table tells it.
+-- Values: the value of an expression, as far as the table decides it.
 -- C11 6.10.1p4 and 6.5. A value is a whole number, or unknown (None).
 --
---   fits u z                      z lies between the least number and 2^63-1; u says that a `u` stands in the expression
---   apply_binary_known u o a b    two known operands and an operator
---   apply_binary strict u o a b   two operands, of which one or both may be unknown
---   apply_unary u o a             an operator before one operand
---   name_value table u n          a name as an operand
---   defined_value table n         `defined` and a name
---   number_of table strict u e the value of a tree, with that least number
---   has_unsigned table e       a constant of the tree, or one at which an operand's symbol value ends, has a `u`
---   value_of table strict e    the value of a tree
+--   fits u z                      `z` is from the least number to 2^63-1; `u` means that the
+--                                 expression has a `u`
+--   apply_binary_known u o a b    the value of an operator with two known operands
+--   apply_binary strict u o a b   the value of an operator with two operands, known or not
+--   apply_unary u o a             the value of an operator before one operand
+--   name_value table u n          the value of a name as an operand
+--   defined_value table n         the value of `defined` and a name
+--   number_of table strict u e    the value of a tree, with that least number
+--   has_unsigned table e          a constant of the tree, or one to which an operand's name
+--                                 resolves, has a `u`
+--   value_of table strict e       the value of an expression
 --
--- The least number is -2^63, or 0 where the expression has a `u`. A result outside is unknown: C gives it no value there,
--- or another one than whole numbers do. Under `strict`, `&&` and `||` are unknown where an operand is.
+-- The least number is -2^63, or 0 if the expression has a `u`. A result out of this range is
+-- unknown: C gives no value there, or another one than whole numbers do. Under `strict`, `&&` and
+-- `||` are unknown if an operand is.
 --
 -- Example: with A as 5, `-A / 2` is -2, `~A < 0u` is unknown, and `X && !A` is 0 unless `strict`.
 use Rattle.std.specs.Prelude.{ℕ, ◌^◌, ◌==◌, nat_eq, nat_lt, Bool, true, false, not, ◌&&◌, ◌||◌}
@@ -33,34 +36,35 @@ use Rattle.ud_model.specs.declared.operator.Operator.TheVariants.{Greater, Great
 use Rattle.ud_model.specs.declared.operator.Operator.TheVariants.{Minus, Times, Over, Remainder}
 use Rattle.ud_model.specs.declared.operator.Operator.TheVariants.{Not, Complement}
 
--- from -2^63, or from 0 beside a `u`, to 2^63-1
+-- `fits u z`: `z` is from -2^63, or from 0 if `u`, to 2^63-1.
 abbrev pub fits : Bool → ℤ → Bool
 fits u (pos n) = nat_lt n (2 ^ 63)
 fits u (negsuc n) = not u && nat_lt n (2 ^ 63)
 
--- a result outside is unknown
+-- `fit u z`: `z` if it is in range, else unknown.
 abbrev pub fit : Bool → ℤ → Option ℤ
 fit u z = if fits u z then Some z else None
 
--- 1 for true, 0 for false
+-- `truth b`: 1 for true, 0 for false.
 abbrev pub truth : Bool → ℤ
 truth b = if b then pos 1 else pos 0
 
--- the number is 0
+-- `is_zero z`: `z` is 0.
 abbrev pub is_zero : ℤ → Bool
 is_zero (pos n) = nat_eq n 0
 is_zero (negsuc n) = false
 
--- the numbers are the same
+-- `equal_numbers a b`: `a` and `b` are the same number.
 abbrev pub equal_numbers : ℤ → ℤ → Bool
 equal_numbers a b = int_le a b && int_le b a
 
--- on 64-bit two's complement
+-- `by_bits f a b`: `f` applied to `a` and `b` in two's complement of 64 bits.
 abbrev pub by_bits : (ℕ → ℕ → ℕ) → ℤ → ℤ → ℤ
 by_bits f a b = to_z w64 (f (of_z w64 a) (of_z w64 b))
 
--- Two known operands: `/` truncates toward zero and `%` is the remainder that goes with it; both are unknown where the
--- divisor is 0 or the quotient is outside. Comparisons, `&&` and `||` give 0 or 1.
+-- `apply_binary_known u o a b`: the value of `o` between the known operands `a` and `b`.
+-- Comparisons, `&&` and `||` give 0 or 1. `/` truncates toward zero, and `%` is the remainder that
+-- goes with it. Both are unknown if the divisor is 0 or the quotient is out of range.
 unfoldable pub apply_binary_known : Bool → Operator → ℤ → ℤ → Option ℤ
 apply_binary_known u Or a b = Some (truth (not (is_zero a) || not (is_zero b)))
 apply_binary_known u And a b = Some (truth (not (is_zero a) && not (is_zero b)))
@@ -83,100 +87,107 @@ apply_binary_known u Remainder a b =
     else None
 apply_binary_known u _ a b = None
 
--- one known operand decides `&&` where it is 0, and `||` where it isn't
+-- `short_circuit o a`: the value that one known operand `a` decides: `&&` is 0 if `a` is 0, and
+-- `||` is 1 if `a` isn't 0. Else it is unknown.
 abbrev pub short_circuit : Operator → ℤ → Option ℤ
 short_circuit And a = if is_zero a then Some (pos 0) else None
 short_circuit Or a = if is_zero a then None else Some (pos 1)
 short_circuit _ a = None
 
--- but not under `strict`
+-- `short_circuits strict o a`: the value that one known operand decides, but unknown under
+-- `strict`.
 abbrev pub short_circuits : Bool → Operator → ℤ → Option ℤ
 short_circuits true o a = None
 short_circuits false o a = short_circuit o a
 
--- two operands, known or not
+-- `apply_binary strict u o a b`: the value of `o` between the operands `a` and `b`, known or not.
 abbrev pub apply_binary : Bool → Bool → Operator → Option ℤ → Option ℤ → Option ℤ
 apply_binary strict u o (Some a) (Some b) = apply_binary_known u o a b
 apply_binary strict u o (Some a) None = short_circuits strict o a
 apply_binary strict u o None (Some b) = short_circuits strict o b
 apply_binary strict u o None None = None
 
--- an operator before a known operand
+-- `apply_unary_known u o a`: the value of `o` before the known operand `a`.
 unfoldable pub apply_unary_known : Bool → Operator → ℤ → Option ℤ
 apply_unary_known u Not a = Some (truth (is_zero a))
 apply_unary_known u Minus a = fit u (neg_ℤ a)
 apply_unary_known u Complement a = fit u (neg_ℤ a -ℤ pos 1)
 apply_unary_known u _ a = None
 
--- an operator before an operand, known or not
+-- `apply_unary u o a`: the value of `o` before the operand `a`, known or not.
 abbrev pub apply_unary : Bool → Operator → Option ℤ → Option ℤ
 apply_unary u o (Some a) = apply_unary_known u o a
 apply_unary u o None = None
 
--- a constant above 2^63-1 is unknown
+-- `limited n`: `n`, or unknown above 2^63-1.
 abbrev pub limited : ℕ → Option ℤ
 limited n = if nat_lt n (2 ^ 63) then Some (pos n) else None
 
--- the value of a constant
+-- `constant_value w`: the value of the constant `w`.
 abbrev pub constant_value : List ℕ → Option ℤ
 constant_value w = limited (constant_number w)
 
--- a value with a `-` before it
+-- `negated_value u z`: the value of `z` with a `-` before it.
 abbrev pub negated_value : Bool → Option ℤ → Option ℤ
 negated_value u None = None
 negated_value u (Some z) = fit u (neg_ℤ z)
 
--- the text at which a symbol's value ends: a constant, or a `-` and a constant, and nothing else
+-- `text_value u text`: the value of a text to which a symbol resolves. It is known for a constant,
+-- or a `-` and a constant, and nothing else.
 abbrev pub text_value : Bool → List ℕ → Option ℤ
 text_value u [] = None
 text_value u (b ∷ w) =
     if b == 45 then (if is_constant w then negated_value u (constant_value w) else None)
     else if is_constant (b ∷ w) then constant_value (b ∷ w) else None
 
--- its constant has a `u`
+-- `text_has_u text`: the constant of such a text has a `u`.
 abbrev pub text_has_u : List ℕ → Bool
 text_has_u [] = false
 text_has_u (b ∷ w) = if b == 45 then has_u w else has_u (b ∷ w)
 
--- the value of what a way ends at
+-- `end_value u end`: the value of the text to which a name resolves, if it does.
 abbrev pub end_value : Bool → Option (List ℕ) → Option ℤ
 end_value u None = None
 end_value u (Some text) = text_value u text
 
--- a defined name by the text at which its value ends
+-- `defined_name_value u end value`: the value of a listed name that resolves to `end`. An undefined
+-- name, whose `value` is None, is 0.
 abbrev pub defined_name_value : Bool → Option (List ℕ) → Option (List ℕ) → Option ℤ
 defined_name_value u end None = Some (pos 0)
 defined_name_value u end (Some text) = end_value u end
 
--- a name as an operand: unknown where it is unlisted, 0 where it is undefined
+-- `name_value_by u end entry`: the value of a name as an operand, by its entry. An unlisted name is
+-- unknown, and an undefined one is 0.
 abbrev pub name_value_by : Bool → Option (List ℕ) → Option Entry → Option ℤ
 name_value_by u end None = None
 name_value_by u end (Some e) = defined_name_value u end e.value
 
--- the value of a name as an operand
+-- `name_value table u n`: the value of the name `n` as an operand.
 unfoldable pub name_value : List Argument → Bool → List ℕ → Option ℤ
 name_value table u n = name_value_by u (resolve table n) (entry_in table n)
 
--- there is an end, and its constant has a `u`
+-- `end_has_u end`: a name resolves to a text, and the constant of this text has a `u`.
 abbrev pub end_has_u : Option (List ℕ) → Bool
 end_has_u None = false
 end_has_u (Some text) = text_has_u text
 
--- the constant at which the name's value ends has a `u`
+-- `name_has_u table n`: the constant to which `n` resolves has a `u`.
 unfoldable pub name_has_u : List Argument → List ℕ → Bool
 name_has_u table n = end_has_u (resolve table n)
 
--- 1 where the entry defines its name, and 0 where it undefines it
+-- `defined_value_by entry`: 1 if the entry defines its name, 0 if it undefines it, unknown without
+-- an entry.
 abbrev pub defined_value_by : Option Entry → Option ℤ
 defined_value_by None = None
 defined_value_by (Some e) = Some (truth (is_some e.value))
 
--- `defined` and a name: unknown where it is unlisted
+-- `defined_value table n`: the value of `defined n`, which is unknown if `n` is unlisted.
 unfoldable pub defined_value : List Argument → List ℕ → Option ℤ
 defined_value table n = defined_value_by (entry_in table n)
 
 module _ (table : List Argument) where
-  -- the value of a tree, u saying whether the expression has a `u`
+  -- `number_of strict u e`: the value of the tree `e`; `u` means that the whole expression has a
+  -- `u`.
   abbrev pub number_of : Bool → Bool → Expression → Option ℤ
   number_of strict u (constant w) = constant_value w
   number_of strict u (named n arguments) = name_value table u n
@@ -186,7 +197,8 @@ module _ (table : List Argument) where
       apply_binary strict u o (number_of strict u a) (number_of strict u b)
   number_of strict u (parens a) = number_of strict u a
 
-  -- a `u` stands in the expression
+  -- `has_unsigned e`: a constant of `e`, or one to which a name of `e` resolves as an operand, has
+  -- a `u`.
   abbrev pub has_unsigned : Expression → Bool
   has_unsigned (constant w) = has_u w
   has_unsigned (named n arguments) = name_has_u table n
@@ -195,6 +207,6 @@ module _ (table : List Argument) where
   has_unsigned (binary o a b) = has_unsigned a || has_unsigned b
   has_unsigned (parens a) = has_unsigned a
 
-  -- the value of a tree
+  -- `value_of strict e`: the value of the expression `e`.
   abbrev pub value_of : Bool → Expression → Option ℤ
   value_of strict e = number_of strict (has_unsigned e) e

@@ -1,16 +1,21 @@
--- Lines put in: how the lines of an output under `-n` and `-b` are counted and seen.
--- C11 6.10.4p3: `#line n` makes n the number of the next line, and each further line counts on. unifdef(1), `-n`, `-b`.
+-- Inserted lines: how the lines of an output under `-n` and `-b` are numbered and scanned.
+-- C11 6.10.4p3: `#line n` makes n the number of the next line, and each further line counts on.
+-- unifdef(1), `-n`, `-b`.
 --
 --   with_blank_renumber b n o   the same options, with `-b` and `-n` or without
---   KeepsNumbers args more      the arguments more say what args say, with `-b`, `-n` or both
+--   KeepsNumbers args more      `more` mean what `args` mean, with `-b`, `-n` or both
 --   read_as mode text           the lines of a text, each read in this mode
---   IsLone s                    the line is seen as it stands, by itself: nothing joins it to its neighbours, and it lies in no comment
---   IsPrinted j r s             r and s are printed of the judged line j: the same bytes, seen alike
---   Counted js rs ss n          rs is read of what is printed of these judged lines without `-b` and `-n`, and ss of what is printed
---                               with one of them. Counting on in ss, and anew after each `#line`, each line of rs has its own number
---                               in the input; the line that comes next would have the number n
+--   IsLone s                    the line is scanned by itself: nothing joins it to its neighbours,
+--                               and it lies in no comment
+--   IsPrinted j r s             `r` and `s` are the output for the judged line `j`: the same bytes
+--                               with the same scan
+--   Counted js rs ss n          `rs` is the output for the judged lines without `-b` and `-n`, and
+--                               `ss` the output with one of them, both as they are read. Counting
+--                               on in `ss`, and anew after each `#line`, each line of `rs` has its
+--                               own number in the input. The next line would have the number `n`.
 --
--- Example: under `-n -UA` of `x`, `#ifdef A`, `y`, `#endif`, `z` the lines `x`, `#line 5`, `z` are read, and z has number 5.
+-- Example: under `-n -UA` the output for `x`, `#ifdef A`, `y`, `#endif`, `z` is `x`, `#line 5`,
+-- `z`, and `z` has the number 5.
 use Rattle.std.specs.Prelude.{◌≡◌, ℕ, suc, List, [], ◌∷◌, ◌++◌, map, Bool, true, false, codes}
 use Rattle.std.specs.Prelude.{decimal, ◌||◌, None}
 use Rattle.ud_model.specs.text.Lines.{Line, text_of, lines_of}
@@ -22,14 +27,15 @@ use Rattle.ud_model.specs.answer.CommandLine.{usage_fault, options_of}
 use Rattle.ud_model.specs.answer.Printing.{Judged, piece_by}
 use Rattle.ud_model.specs.declared.kind.Mode.{Mode}
 
--- the same options, with `-b` and `-n` or without
+-- `with_blank_renumber b n o`: the options `o`, with `-b` if `b` and `-n` if `n`, else without.
 abbrev pub with_blank_renumber : Bool → Bool → Options → Options
 with_blank_renumber b n o = record {
   settings = record o.settings { blank = b; renumber = n };
   table = o.table;
 }
 
--- `KeepsNumbers args more`: the arguments more have no fault, and say what args say, with `-b`, `-n` or both
+-- `KeepsNumbers args more`: the arguments `more` have no fault, and mean what `args` mean, with
+-- `-b`, `-n` or both.
 pub record KeepsNumbers (args more : List (List ℕ)) : Type 0 where
   pub blank : Bool
   pub renumber : Bool
@@ -37,51 +43,55 @@ pub record KeepsNumbers (args more : List (List ℕ)) : Type 0 where
   pub options : options_of more ≡ with_blank_renumber blank renumber (options_of args)
   pub no_fault : usage_fault more ≡ None
 
+-- `in_mode m l`: the line `l` with the mode `m`.
 abbrev pub in_mode : Mode → Line → Mode × Line
 in_mode m l = (m, l)
 
--- these lines, each read in this mode
+-- `read_in m ls`: the readings of the lines `ls`, each read in the mode `m`.
 abbrev pub read_in : Mode → List Line → List Reading
 read_in m ls = readings_of (map (in_mode m) ls)
 
--- the lines of a text, each read in this mode
+-- `read_as m t`: the readings of the lines of the text `t`, each read in the mode `m`.
 abbrev pub read_as : Mode → List ℕ → List Reading
 read_as m t = read_in m (lines_of t)
 
--- the line is seen as it stands, by itself
+-- `IsLone s`: the line is scanned by itself, as in plain mode.
 abbrev pub IsLone : Reading → Type 0
 IsLone s = s.scan ≡ plain_scan s.line
 
--- a blank line by itself
+-- `IsBlankLine s`: the line has an empty body, and is scanned by itself.
 abbrev pub IsBlankLine : Reading → Type 0
 IsBlankLine s = (s.line.body ≡ []) × IsLone s
 
--- a `#line` by itself that gives the next line this number
+-- `IsNumberLine n s`: the line is a `#line` that gives the next line the number `n`, and is scanned
+-- by itself.
 abbrev pub IsNumberLine : ℕ → Reading → Type 0
 IsNumberLine n s = (s.line.body ≡ codes "#line " ++ decimal n) × IsLone s
 
--- both are printed of the judged line, with the same bytes, and seen alike
+-- `IsPrinted j r s`: `r` and `s` are the output for the judged line `j`, with the same bytes and
+-- the same scan.
 pub record IsPrinted (j : Judged) (r s : Reading) : Type 0 where
   pub stays : is_removed j.verdict ≡ false
   pub bytes : text_of r.line ≡ piece_by j.verdict j.keyword j.line
   pub same : text_of s.line ≡ text_of r.line
   pub seen : s.scan ≡ r.scan
 
--- each line of rs is in ss too, and counted there by its number in the input
+-- `Counted js rs ss n`: each line of `rs` is in `ss` too, and counted there by its number in the
+-- input. The next line would have the number `n`.
 pub data Counted : List Judged → List Reading → List Reading → ℕ → Type 0 where
   no_line : Counted [] [] [] 1
-  -- a removed line, of which nothing is printed
+  -- A removed line, for which nothing is printed.
   goes : {js : List Judged} {rs ss : List Reading} {n : ℕ} → Counted js rs ss n → (j : Judged) →
       is_removed j.verdict ≡ true → Counted (js ++ j ∷ []) rs ss n
-  -- a removed line that is blanked
+  -- A removed line that is blanked.
   blanked : {js : List Judged} {rs ss : List Reading} → (j : Judged) →
       Counted js rs ss j.line.number → is_removed j.verdict ≡ true →
       (d : Reading) → IsBlankLine d → Counted (js ++ j ∷ []) rs (ss ++ d ∷ []) (suc j.line.number)
-  -- a line that counts on
+  -- A line that counts on.
   counts_on : {js : List Judged} {rs ss : List Reading} → (j : Judged) →
       Counted js rs ss j.line.number → (r s : Reading) → IsPrinted j r s →
       Counted (js ++ j ∷ []) (rs ++ r ∷ []) (ss ++ s ∷ []) (suc j.line.number)
-  -- a line with which the count starts anew
+  -- A line with which the count starts anew.
   starts_anew : {js : List Judged} {rs ss : List Reading} {n : ℕ} → Counted js rs ss n →
       (j : Judged) → (d : Reading) → IsNumberLine j.line.number d →
       (r s : Reading) → IsPrinted j r s →

@@ -1,12 +1,15 @@
--- Woven nodes: the tree of an output under `-b` or `-n`, beside the tree of the output without them.
+-- Inserted nodes: the tree of an output under `-b` or `-n`, beside the tree of the output without
+-- them.
 -- C11 6.10: a blank line and a `#line` begin no section, and end none.
 --
---   IsSame r s                both lines have the same bytes, and are seen alike
+--   IsSame r s                both lines have the same bytes and the same scan
 --   IsInserted d              a blank line by itself, or a `#line`
---   NodesWithInserted ns ms   ms are the nodes ns, each line seen alike and each condition decided alike, with text lines put in
---   LinesWithInserted rs ss   ss are the lines rs, each seen alike, with lines put in
+--   NodesWithInserted ns ms   `ms` are the nodes `ns`, each line with the same scan and each
+--                             condition decided alike, with text lines inserted
+--   LinesWithInserted rs ss   `ss` are the lines `rs`, each with the same scan, with lines inserted
 --
--- Example: under `-n -UA` of `#if X`, `#ifdef A`, `#endif`, `y`, `#endif` the section of X has the text lines `#line 4` and `y`.
+-- Example: under `-n -UA` the section of X in `#if X`, `#ifdef A`, `#endif`, `y`, `#endif` has the
+-- text lines `#line 4` and `y`.
 use Rattle.std.specs.Prelude.{◌≡◌, ℕ, List, [], ◌∷◌, ◌⊎◌, map}
 use Rattle.ud_model.specs.text.Lines.{text_of}
 use Rattle.ud_model.specs.text.Scans.{Reading}
@@ -17,23 +20,23 @@ use Rattle.ud_model.specs.output.Rereading.{IsTreeOf, line_bytes}
 use Rattle.ud_model.specs.output.Worlds.{World, selected, openers}
 use Rattle.ud_model.specs.output.InsertedLines.{IsBlankLine, IsNumberLine}
 
--- the same bytes, seen alike
+-- `IsSame r s`: both lines have the same bytes and the same scan.
 pub record IsSame (r s : Reading) : Type 0 where
   pub bytes : text_of s.line ≡ text_of r.line
   pub seen : s.scan ≡ r.scan
 
--- and decided alike
+-- `IsSameOpener o p`: both openers have the same bytes and the same scan, and are decided alike.
 pub record IsSameOpener (o p : Opener Reading) : Type 0 where
   pub line : IsSame o.line p.line
   pub cond : p.cond ≡ o.cond
   pub ignoring : p.ignoring ≡ o.ignoring
 
--- a blank line by itself, or a `#line`
+-- `IsInserted d`: `d` is a blank line by itself, or a `#line`.
 abbrev pub IsInserted : Reading → Type 0
 IsInserted d = IsBlankLine d ⊎ ((n : ℕ) × IsNumberLine n d)
 
 mutual
-  -- the same nodes, with text lines put in
+  -- `NodesWithInserted ns ms`: `ms` are the nodes `ns` with text lines inserted.
   pub data NodesWithInserted : Nodes Reading → Nodes Reading → Type 0 where
     no_nodes : NodesWithInserted nothing nothing
     same_text : {ns ms : Nodes Reading} {r s : Reading} → NodesWithInserted ns ms → IsSame r s →
@@ -44,6 +47,7 @@ mutual
         NodesWithInserted ns ms → GroupsWithInserted gs hs → IsSame r s →
         NodesWithInserted (section ns gs r) (section ms hs s)
 
+  -- `GroupsWithInserted gs hs`: `hs` are the groups `gs` with text lines inserted.
   pub data GroupsWithInserted : Groups Reading → Groups Reading → Type 0 where
     all_conditional : {es fs : Elifs Reading} → ElifsWithInserted es fs →
         GroupsWithInserted (conditional es) (conditional fs)
@@ -51,6 +55,7 @@ mutual
         ElifsWithInserted es fs → IsSame r s → NodesWithInserted ns ms →
         GroupsWithInserted (otherwise es r ns) (otherwise fs s ms)
 
+  -- `ElifsWithInserted es fs`: `fs` are the groups `es` with text lines inserted.
   pub data ElifsWithInserted : Elifs Reading → Elifs Reading → Type 0 where
     same_first : {o p : Opener Reading} {ns ms : Nodes Reading} → IsSameOpener o p →
         NodesWithInserted ns ms → ElifsWithInserted (first o ns) (first p ms)
@@ -58,7 +63,7 @@ mutual
         ElifsWithInserted es fs → IsSameOpener o p → NodesWithInserted ns ms →
         ElifsWithInserted (elif es o ns) (elif fs p ms)
 
--- the same lines, with lines put in
+-- `LinesWithInserted rs ss`: `ss` are the lines `rs` with lines inserted.
 pub data LinesWithInserted : List Reading → List Reading → Type 0 where
   no_lines : LinesWithInserted [] []
   same_line : {r s : Reading} {rs ss : List Reading} → IsSame r s → LinesWithInserted rs ss →
@@ -66,8 +71,9 @@ pub data LinesWithInserted : List Reading → List Reading → Type 0 where
   put_line : {d : Reading} {rs ss : List Reading} → IsInserted d → LinesWithInserted rs ss →
       LinesWithInserted rs (d ∷ ss)
 
--- `SelectsWithInserted o text us v ls`: the text has a tree in which, if its openers have the truths that v gives those of
--- us, C selects lines of the bytes ls, with lines inserted
+-- `SelectsWithInserted o text us v ls`: `text` has a tree of the nodes `us` with lines inserted. If
+-- each of its openers has the truth that `v` gives it in `us`, C selects lines of the bytes `ls`,
+-- with lines inserted.
 pub record SelectsWithInserted (o : Options) (text : List ℕ) (us : Nodes Reading)
     (v : World Reading) (ls : List (List ℕ)) : Type 0 where
   pub nodes : Nodes Reading

@@ -1,13 +1,14 @@
--- ListedNames: which symbols count for a text, by the list of its names.
+-- ListedNames: the symbols that count for a text, by the list of its names.
 -- unifdef(1), `-s`.
 --
 --   with_listing o           the same options, but that names are listed (`-s`)
---   IsListed n list          the list has the line n
---   LeadsTo table n m        m is the name n, or the value of a name to which n leads
---   AgreeOnListed list t u   both tables say the same of each name to which a listed one leads
---   IsNoValue table n        no symbol has the name n as its value
---   DifferAtMostAt n t u     the tables say the same of every other name
---   ExtendsTable t u         u says of each name that t lists what t says
+--   IsListed n list          the list has the line `n`
+--   LeadsTo table n m        `m` is the name `n`, or the value of a name to which `n` leads
+--   AgreeOnListed list t u   both tables have the same entry for each name to which a listed one
+--                            leads
+--   IsNoValue table n        no symbol has the name `n` as its value
+--   DifferAtMostAt n t u     both tables have the same entry for every other name
+--   ExtendsTable t u         `u` has the entries of `t`, and perhaps more
 --
 -- Example: of `#if A > 2` the list is `A`; under `-DA=B` A leads to A and to B.
 use Rattle.std.specs.Prelude.{◌≡◌, ◌≢◌, ℕ, List, [], ◌∷◌, ◌++◌, true, Some}
@@ -19,37 +20,39 @@ use Rattle.ud_model.specs.sections.Items.{Options}
 use Rattle.ud_model.specs.declared.settings.Settings.{Settings}
 use Rattle.ud_model.specs.declared.settings.Listing.TheVariants.{Names}
 
+-- `listing_settings s`: the settings `s` with `-s`.
 abbrev pub listing_settings : Settings → Settings
 listing_settings s = record s { listing = Names }
 
--- the same options, and `-s`
+-- `with_listing o`: the options `o` with `-s`.
 abbrev pub with_listing : Options → Options
 with_listing o = record { settings = listing_settings o.settings; table = o.table }
 
--- the list has the line n: whole lines stand before it, and its line feed behind it
+-- `IsListed n list`: `n` is a line of `list`, with whole lines before it and a newline after it.
 abbrev pub IsListed : List ℕ → List ℕ → Type 0
 IsListed n list = (before : List ℕ) × (later : List ℕ) × (partial_line before ≡ []) ×
     (list ≡ before ++ n ++ newline ∷ later)
 
--- m is n, or a name from which the value of n is taken
+-- `LeadsTo table n m`: `m` is `n`, or a name from which the value of `n` is taken.
 pub data LeadsTo (table : List Argument) : List ℕ → List ℕ → Type 0 where
   itself : (n : List ℕ) → LeadsTo table n n
   by_value : (n v m : List ℕ) → defined_text table n ≡ Some v → is_identifier v ≡ true →
       LeadsTo table v m → LeadsTo table n m
 
--- the tables say the same of each name that is listed, and of each to which it leads
+-- `AgreeOnListed list t u`: the tables have the same entry for each listed name, and for each to
+-- which it leads.
 abbrev pub AgreeOnListed : List ℕ → List Argument → List Argument → Type 0
 AgreeOnListed list t u = (n m : List ℕ) → IsListed n list → LeadsTo t n m →
     entry_in t m ≡ entry_in u m
 
--- no symbol has this name as its value
+-- `IsNoValue table name`: no symbol has the value `name`.
 abbrev pub IsNoValue : List Argument → List ℕ → Type 0
 IsNoValue table name = (n : List ℕ) → defined_text table n ≢ Some name
 
--- the tables say the same of every other name
+-- `DifferAtMostAt name t u`: the tables have the same entry for every name but `name`.
 abbrev pub DifferAtMostAt : List ℕ → List Argument → List Argument → Type 0
 DifferAtMostAt name t u = (n : List ℕ) → n ≢ name → entry_in t n ≡ entry_in u n
 
--- the second table says of each name that the first one lists what that says
+-- `ExtendsTable t u`: `u` has the same entry as `t` for each name that `t` lists.
 abbrev pub ExtendsTable : List Argument → List Argument → Type 0
 ExtendsTable t u = (n : List ℕ) → (e : Entry) → entry_in t n ≡ Some e → entry_in u n ≡ Some e

@@ -1,18 +1,20 @@
--- The pruned tree: what is left of a text whose sections are all closed.
--- unifdef(1): a section whose directives all go gives way to the nodes of its kept group, if there is one; each other one
--- keeps its kept groups in order, with edited directives; and so it is inside.
+-- The pruned tree: the output for a text whose sections are all closed, as a tree.
+-- unifdef(1): a section whose directives are all removed gives way to the nodes of its kept group,
+-- if there is one. Each other section keeps its kept groups in order, with edited directives. The
+-- nodes inside are pruned alike.
 --
---   Edited L         a line of the output: the line that it comes from, and what became of that
---   KeptGroups L     what is left of a section's groups
+--   Edited L         a line of the output: the line that it comes from, and the verdict on that
+--   KeptGroups L     the rest of a section's groups
 --   pruned ns        the pruned nodes
---   printed xs ms    the lines that are left of these with these marks: removed ones go, an edited one is another directive
+--   printed xs ms    the rest of these lines with these marks: a removed line is left out, and an
+--                    edited one is another directive
 --   IsUndecided ns   each condition but that of an `#else` is unknown
 --
--- The first true group is the last one that is kept, and the kept groups are those that aren't false. So the directives
--- all go if no group is kept, or the first kept one is true.
+-- The first true group is the last one that is kept, and the kept groups are those that aren't
+-- false. So the directives are all removed if no group is kept, or the first kept one is true.
 --
--- Example: of `#if X`, `#elif defined A`, `#elif Y`, `#else`, `#endif` under -DA an `#if X`, an `#else` from the second
--- line and an `#endif` from the third are left.
+-- Example: of `#if X`, `#elif defined A`, `#elif Y`, `#else`, `#endif` under -DA three lines are
+-- left: an `#if X`, an `#else` from the second line and an `#endif` from the third.
 use Rattle.std.specs.Prelude.{◌≡◌, List, [], ◌∷◌, ◌++◌, Option, Some, None}
 use Rattle.ud_model.specs.declared.cond.Cond.{Cond}
 use Rattle.ud_model.specs.declared.cond.Cond.TheVariants.{Yes, No, Unknown}
@@ -23,38 +25,40 @@ use Rattle.ud_model.specs.sections.Tree.{elif_line, else_line, endif_line, nothi
 use Rattle.ud_model.specs.sections.Tree.{conditional, otherwise, first, elif}
 use Rattle.ud_model.specs.sections.Pruning.{Part, an_if, an_elif, Mark, first_kept_verdict}
 
--- a line of the output: the line that it comes from, and what became of that
+-- A line of the output: the line that it comes from, and the verdict on that.
 pub record Edited (L : Type 0) : Type 0 where
   pub line : L
   pub verdict : Verdict
 
--- what is left of a section's groups
+-- The rest of a section's groups.
 pub data KeptGroups (L : Type 0) : Type 0 where
-  -- no group is kept
+  -- No group is kept.
   none_kept : KeptGroups L
-  -- the first kept group is true: its nodes
+  -- The first kept group is true: its nodes.
   replaced : Nodes (Edited L) → KeptGroups L
-  -- the kept groups, of which none is true
+  -- The kept groups, of which none is true.
   kept_groups : Elifs (Edited L) → KeptGroups L
-  -- the kept groups, of which the last one is true and stands under an `#else`; and the opener after it, if there is one
+  -- The kept groups, of which the last one is true and comes under an `#else`; and the opener after
+  -- it, if there is one.
   ended : Elifs (Edited L) → Edited L → Nodes (Edited L) → Option (Edited L) → KeptGroups L
 
--- these nodes, and then those
+-- `then_nodes ms ns`: the nodes `ms` and then the nodes `ns`.
 abbrev pub then_nodes : {L : Type 0} → Nodes L → Nodes L → Nodes L
 then_nodes ms nothing = ms
 then_nodes ms (text ns l) = text (then_nodes ms ns) l
 then_nodes ms (section ns gs e) = section (then_nodes ms ns) gs e
 
 module _ {L : Type 0} where
-  -- what became of a line
+  -- `edited v l`: the line `l` with the verdict `v`.
   abbrev pub edited : Verdict → L → Edited L
   edited v l = record { line = l; verdict = v }
 
-  -- what became of an opener
+  -- `edited_opener v o`: the opener `o` with the verdict `v` on its line.
   abbrev pub edited_opener : Verdict → Opener L → Opener (Edited L)
   edited_opener v o = record { line = edited v o.line; cond = o.cond; ignoring = o.ignoring }
 
-  -- one group more after what is left: its opener, the opener's condition, and its pruned nodes
+  -- `with_group kept part o c ns`: the rest `kept` of the groups with one more: its opener `o`, the
+  -- opener's condition `c`, and its pruned nodes `ns`.
   abbrev pub with_group : KeptGroups L → Part → Opener L → Cond → Nodes (Edited L) → KeptGroups L
   with_group none_kept part o Yes ns = replaced ns
   with_group none_kept part o No ns = none_kept
@@ -67,7 +71,8 @@ module _ {L : Type 0} where
   with_group (ended es l ms None) part o c ns = ended es l ms (Some (edited ToEndif o.line))
   with_group (ended es l ms (Some k)) part o c ns = ended es l ms (Some k)
 
-  -- the group of an `#else` more
+  -- `with_else kept l ns`: the rest `kept` of the groups with the group of an `#else` on the line
+  -- `l`.
   abbrev pub with_else : KeptGroups L → L → Nodes (Edited L) → KeptGroups L
   with_else none_kept l ns = replaced ns
   with_else (replaced ms) l ns = replaced ms
@@ -75,7 +80,8 @@ module _ {L : Type 0} where
   with_else (ended es k ms None) l ns = ended es k ms (Some (edited ToEndif l))
   with_else (ended es k ms (Some j)) l ns = ended es k ms (Some j)
 
-  -- nodes, and then what is left of a section with this `#endif`
+  -- `then_kept ns kept e`: the nodes `ns`, and then the rest of a section with the `#endif` on the
+  -- line `e`.
   abbrev pub then_kept : Nodes (Edited L) → KeptGroups L → L → Nodes (Edited L)
   then_kept ns none_kept e = ns
   then_kept ns (replaced ms) e = then_nodes ns ms
@@ -84,23 +90,24 @@ module _ {L : Type 0} where
   then_kept ns (ended es l ms (Some k)) e = section ns (otherwise es l ms) k
 
   abbrev mutual
-    -- the pruned nodes
+    -- `pruned ns`: the pruned nodes.
     pub pruned : Nodes L → Nodes (Edited L)
     pruned nothing = nothing
     pruned (text ns l) = text (pruned ns) (edited Keep l)
     pruned (section ns gs e) = then_kept (pruned ns) (kept_groups_of gs) e
 
-    -- what is left of a section's groups
+    -- `kept_groups_of gs`: the rest of a section's groups.
     pub kept_groups_of : Groups L → KeptGroups L
     kept_groups_of (conditional es) = kept_elifs_of es
     kept_groups_of (otherwise es l ns) = with_else (kept_elifs_of es) l (pruned ns)
 
-    -- what is left of the groups with a condition
+    -- `kept_elifs_of es`: the rest of the groups with a condition.
     pub kept_elifs_of : Elifs L → KeptGroups L
     kept_elifs_of (first o ns) = with_group none_kept an_if o o.cond (pruned ns)
     kept_elifs_of (elif es o ns) = with_group (kept_elifs_of es) an_elif o o.cond (pruned ns)
 
-  -- a line as an item of the output, if it is left: an edited directive is another one
+  -- `kept_line v x`: the line `x` with the verdict `v` as an item of the output, unless it is
+  -- removed. An edited directive is another one.
   abbrev pub kept_line : Verdict → Item L → List (Item (Edited L))
   kept_line Remove x = []
   kept_line ToIf (elif_line o) = if_line (edited_opener ToIf o) ∷ []
@@ -109,25 +116,25 @@ module _ {L : Type 0} where
   kept_line ToEndif (else_line l) = endif_line (edited ToEndif l) ∷ []
   kept_line v x = item_with (edited v) x ∷ []
 
-  -- the lines that are left of these with these marks
+  -- `printed xs ms`: the items of the output for the lines `xs` with the marks `ms`.
   abbrev pub printed : List (Item L) → List Mark → List (Item (Edited L))
   printed [] ms = []
   printed (x ∷ xs) [] = []
   printed (x ∷ xs) (m ∷ ms) = kept_line m.verdict x ++ printed xs ms
 
   abbrev mutual
-    -- each condition but that of an `#else` is unknown
+    -- `IsUndecided ns`: each condition in the nodes but that of an `#else` is unknown.
     pub IsUndecided : Nodes L → Type 0
     IsUndecided nothing = Unit {0}
     IsUndecided (text ns l) = IsUndecided ns
     IsUndecided (section ns gs e) = IsUndecided ns × GroupsUndecided gs
 
-    -- so it is in a section
+    -- `GroupsUndecided gs`: each condition in the groups but that of an `#else` is unknown.
     pub GroupsUndecided : Groups L → Type 0
     GroupsUndecided (conditional es) = ElifsUndecided es
     GroupsUndecided (otherwise es l ns) = ElifsUndecided es × IsUndecided ns
 
-    -- and in the groups with a condition
+    -- `ElifsUndecided es`: each condition of these groups, and inside them, is unknown.
     pub ElifsUndecided : Elifs L → Type 0
     ElifsUndecided (first o ns) = (o.cond ≡ Unknown) × IsUndecided ns
     ElifsUndecided (elif es o ns) = ElifsUndecided es × (o.cond ≡ Unknown) × IsUndecided ns

@@ -1,16 +1,19 @@
--- Reading again: the tree of a text, and the runs whose output is read again.
+-- Rereading: the tree of a text, and the runs whose output is read again.
 --
---   IsPlain o                 the options say nothing of how lines are printed, and no section is plain text by its symbol
---   AreRead o xs t            these are items with this tree, each line read in the mode that the lines before it give
---   IsTreeOf o text t         the text has this tree
---   IsClean o input r         a run under plain options, without a fault
---   CleanRun                  such a run, with the trees of its input and output
---   line_bytes l              a line of the input or output, with its ending
---   edited_bytes e            what is printed of a line of the pruned tree
---   KeepsTruths w b v a       each opener of the output a has in v the truth that the opener from which it comes has in w
+--   IsPlain o             the options change nothing about how lines are printed, and no symbol
+--                         makes its sections plain text
+--   AreRead o xs t        the items `xs` have the tree `t`, and each line was read in the mode that
+--                         the lines before it give
+--   IsTreeOf o text t     `t` is the tree of the text
+--   IsClean o input r     a run without a fault, under plain options
+--   CleanRun              such a run, with the trees of its input and its output
+--   line_bytes l          a line of the input or output, with its ending
+--   edited_bytes e        the output for a line of the pruned tree
+--   KeepsTruths w b v a   each opener of the output `a` has in `v` the truth that the opener from
+--                         which it comes has in `w`
 --
--- Example: of `#if X`, `#elif defined A`, `#endif` under -DA the output's one opener with a condition is `#if X`, and comes
--- from the first line.
+-- Example: of `#if X`, `#elif defined A`, `#endif` under -DA the output's one opener with a
+-- condition is `#if X`, which comes from the first line.
 use Rattle.std.specs.Prelude.{◌≡◌, ◌≤◌, ℕ, List, [], ◌∷◌, ◌++◌, length, map, false, None}
 use Rattle.ud_model.specs.text.Lines.{Line, text_of, lines_of}
 use Rattle.ud_model.specs.text.Scans.{Reading}
@@ -25,12 +28,12 @@ use Rattle.ud_model.specs.output.Pruned.{Edited, pruned}
 use Rattle.ud_model.specs.declared.settings.Listing.TheVariants.{Off}
 use Rattle.ud_model.specs.declared.limits.TheConstants.{LINE_BYTES}
 
--- no argument has plain sections
+-- `NoneIgnores table`: no argument makes its sections plain text.
 abbrev pub NoneIgnores : List Argument → Type 0
 NoneIgnores [] = Unit {0}
 NoneIgnores (a ∷ table) = (a.entry.ignoring ≡ false) × NoneIgnores table
 
--- none of `-s`, `-S`, `-b`, `-l`, `-c`, `-n`, `-iD` and `-iU` is given
+-- `IsPlain o`: none of -s, -S, -b, -l, -c, -n, -iD and -iU is given.
 pub record IsPlain (o : Options) : Type 0 where
   pub unlisted : o.settings.listing ≡ Off
   pub unblanked : o.settings.blank ≡ false
@@ -38,26 +41,29 @@ pub record IsPlain (o : Options) : Type 0 where
   pub unnumbered : o.settings.renumber ≡ false
   pub none_ignores : NoneIgnores o.table
 
--- these items have this tree, and each line was read in the mode that the lines before give
+-- `AreRead o xs t`: the items `xs` have the tree `t`, and each line was read in the mode that the
+-- lines before give.
 pub data AreRead (o : Options) : List (Item Reading) → Tree Reading → Type 0 where
   no_items : AreRead o [] (closed nothing)
   one_item : (xs : List (Item Reading)) (t : Tree Reading) → AreRead o xs t →
       (l : Line) (u : Tree Reading) →
       lines u ≡ xs ++ next_item o xs t l ∷ [] → AreRead o (xs ++ next_item o xs t l ∷ []) u
 
--- the text has this tree
+-- `IsTreeOf o text t`: `t` is the tree of `text`.
 pub record IsTreeOf (o : Options) (text : List ℕ) (t : Tree Reading) : Type 0 where
   pub items : List (Item Reading)
   pub read : AreRead o items t
   pub are : lines_of text ≡ map line_of items
 
--- a run without a fault, under plain options
+-- `IsClean o input r`: a run over `input` has the outcome `r` without a fault, and the options are
+-- plain.
 pub record IsClean (o : Options) (input : List ℕ) (r : Outcome) : Type 0 where
   pub plain : IsPlain o
   pub runs : HasOutcome o input r
   pub faultless : r.fault ≡ None
 
--- such a run: the nodes of its input before it, and those of its output after it
+-- A run under plain options without a fault: the nodes of its input, `before`, and those of its
+-- output, `after`.
 pub record CleanRun : Type 0 where
   pub options : Options
   pub input : List ℕ
@@ -68,19 +74,20 @@ pub record CleanRun : Type 0 where
   pub after : Nodes Reading
   pub of_output : IsTreeOf options outcome.output (closed after)
 
--- no line is too long
+-- `LinesFit ls`: no line of `ls` is too long.
 abbrev pub LinesFit : List Line → Type 0
 LinesFit [] = Unit {0}
 LinesFit (l ∷ ls) = (length (text_of l) ≤ LINE_BYTES) × LinesFit ls
 
--- a line that was read, with its ending
+-- `line_bytes l`: the bytes of a line that was read, with its ending.
 abbrev pub line_bytes : Reading → List ℕ
 line_bytes l = text_of l.line
 
--- what is printed of a line of the pruned tree
+-- `edited_bytes e`: the output for a line of the pruned tree.
 abbrev pub edited_bytes : Edited Reading → List ℕ
 edited_bytes e = piece_by e.verdict (keyword_in (content_of e.line.scan)) e.line.line
 
--- each opener of the output has in v the truth that the opener from which it comes has in w
+-- `KeepsTruths w before v after`: each opener of the output has in `v` the truth that the opener
+-- from which it comes has in `w`.
 abbrev pub KeepsTruths : World Reading → Nodes Reading → World Reading → Nodes Reading → Type 0
 KeepsTruths w before v after = map v (openers after) ≡ map (λ e. w e.line) (openers (pruned before))

@@ -3,9 +3,11 @@
 --
 --   OnlyDecides o       none of `-s`, `-S`, `-b`, `-l`, `-c` and `-n` is given
 --   with_complement o   the same options, and `-c`
---   ShareLines js a b   each of these judged lines is printed once: in a, as its verdict says, if it isn't removed; else in b, as it is
+--   ShareLines js a b   each of the judged lines is printed once: in `a`, as its verdict demands,
+--                       if it isn't removed; else in `b`, unchanged
 --
--- Example: under `-UA` of `#ifdef A`, `x`, `#endif`, `y` the run prints `y`, and with `-c` the three lines before.
+-- Example: under `-UA` the run over `#ifdef A`, `x`, `#endif`, `y` prints `y`, and with `-c` the
+-- three lines before.
 use Rattle.std.specs.Prelude.{◌≡◌, ℕ, List, [], ◌∷◌, ◌++◌, true, false}
 use Rattle.ud_model.specs.text.Lines.{text_of}
 use Rattle.ud_model.specs.sections.Pruning.{is_removed}
@@ -13,14 +15,14 @@ use Rattle.ud_model.specs.sections.Items.{Options}
 use Rattle.ud_model.specs.answer.Printing.{Judged, piece_by}
 use Rattle.ud_model.specs.declared.settings.Listing.TheVariants.{Off}
 
--- `OnlyDecides o`: o has none of `-s`, `-S`, `-b`, `-l`, `-c` and `-n`
+-- `OnlyDecides o`: `o` has none of `-s`, `-S`, `-b`, `-l`, `-c` and `-n`
 pub record OnlyDecides (o : Options) : Type 0 where
   pub unlisted : o.settings.listing ≡ Off
   pub unblanked : o.settings.blank ≡ false
   pub uncomplemented : o.settings.complement ≡ false
   pub unnumbered : o.settings.renumber ≡ false
 
--- the same options, and `-c`
+-- `with_complement o`: the options `o` with `-c`.
 abbrev pub with_complement : Options → Options
 with_complement o = record {
   settings = record o.settings { complement = true };
@@ -28,13 +30,13 @@ with_complement o = record {
       o.table;
 }
 
--- each line is printed in a or in b, and not in both
+-- `ShareLines js a b`: each line of `js` is printed in `a` or in `b`, and not in both.
 pub data ShareLines : List Judged → List ℕ → List ℕ → Type 0 where
   no_line : ShareLines [] [] []
-  -- a line that isn't removed, perhaps edited
+  -- A line that isn't removed, perhaps edited.
   stays : {j : Judged} {js : List Judged} {a b : List ℕ} → is_removed j.verdict ≡ false →
       ShareLines js a b →
       ShareLines (j ∷ js) (piece_by j.verdict j.keyword j.line ++ a) b
-  -- a removed one
+  -- A removed line.
   goes : {j : Judged} {js : List Judged} {a b : List ℕ} → is_removed j.verdict ≡ true →
       ShareLines js a b → ShareLines (j ∷ js) a (text_of j.line ++ b)

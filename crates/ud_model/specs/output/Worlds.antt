@@ -1,15 +1,16 @@
--- Worlds: which text lines a compiler sees, if it decides each condition in some way.
--- C11 6.10.1p6: of a section the first group whose condition is true is processed, else the group of `#else`. No condition
--- after a true one is evaluated, and none in a group that is skipped.
+-- Worlds: the text lines that a compiler sees, if it decides each condition in some way.
+-- C11 6.10.1p6: of a section the first group whose condition is true is processed, else the group
+-- of `#else`. No condition after a true one is evaluated, and none in a group that is skipped.
 --
 --   World L               the truth of each opener with a condition, by its line
---   selected w ns         the text lines that are processed in the world w, in order
---   EachReached w Is ns   each opener whose condition is evaluated in the world w is so
---   Agrees w ns           the world has true for each Yes and false for each No, of the openers that are reached
+--   selected w ns         the text lines that are processed in the world `w`, in order
+--   EachReached w Is ns   each opener whose condition is evaluated in the world `w` satisfies `Is`
+--   Agrees w ns           of the openers that are reached, each Yes is true in the world and each
+--                         No false
 --   openers ns            the lines of the openers with a condition, in order
 --
--- Example: of `#if X`, `a`, `#elif Y`, `b`, `#else`, `c`, `#endif` the line a is selected in a world in which X is true, and
--- Y isn't reached in it; else b or c.
+-- Example: of `#if X`, `a`, `#elif Y`, `b`, `#else`, `c`, `#endif` the line `a` is selected in a
+-- world in which X is true, and Y isn't reached. In any other world `b` or `c` is selected.
 use Rattle.std.specs.Prelude.{◌≡◌, List, [], ◌∷◌, ◌++◌, Bool, true, false, Option, Some, None}
 use Rattle.ud_model.specs.declared.cond.Cond.{Cond}
 use Rattle.ud_model.specs.declared.cond.Cond.TheVariants.{Yes, No, Unknown}
@@ -17,39 +18,40 @@ use Rattle.ud_model.specs.sections.Tree.{Opener, Nodes, Groups, Elifs, nothing, 
 use Rattle.ud_model.specs.sections.Tree.{conditional, otherwise, first, elif}
 use Rattle.ud_model.specs.sections.Tree as tree
 
--- the truth of an opener, by its line
+-- A world: the truth of each opener with a condition, by its line.
 abbrev pub World : Type 0 → Type 0
 World L = L → Bool
 
--- the first of these that is there, else the second
+-- `or_else first later`: `first` if it is there, else `later`.
 abbrev pub or_else : {X : Type 0} → Option X → Option X → Option X
 or_else None later = later
 or_else (Some x) later = Some x
 
--- these lines if they are there, else those
+-- `lines_or first others`: the lines `first` if they are there, else `others`.
 abbrev pub lines_or : {L : Type 0} → Option (List L) → List L → List L
 lines_or None others = others
 lines_or (Some ls) others = ls
 
--- the lines of a group if its condition is true
+-- `where_true truth ls`: the lines `ls` of a group if its condition is true.
 abbrev pub where_true : {L : Type 0} → Bool → List L → Option (List L)
 where_true true ls = Some ls
 where_true false ls = None
 
 module _ {L : Type 0} (w : World L) where
   abbrev mutual
-    -- the text lines of nodes that are processed
+    -- `selected w ns`: the text lines of the nodes that are processed in the world `w`, in order.
     pub selected : Nodes L → List L
     selected nothing = []
     selected (tree.text ns l) = selected ns ++ l ∷ []
     selected (section ns gs e) = selected ns ++ selected_groups gs
 
-    -- those of the one group that is processed, if there is one
+    -- `selected_groups w gs`: the text lines of the one group that is processed, if there is one.
     pub selected_groups : Groups L → List L
     selected_groups (conditional es) = lines_or (selected_elifs es) []
     selected_groups (otherwise es l ns) = lines_or (selected_elifs es) (selected ns)
 
-    -- the lines of the first group whose condition is true, if there is one
+    -- `selected_elifs w es`: the text lines of the first group whose condition is true, if there is
+    -- one.
     pub selected_elifs : Elifs L → Option (List L)
     selected_elifs (first o ns) = where_true (w o.line) (selected ns)
     selected_elifs (elif es o ns) =
@@ -57,49 +59,53 @@ module _ {L : Type 0} (w : World L) where
 
 module _ {L : Type 0} (w : World L) (Is : Opener L → Type 0) where
   abbrev mutual
-    -- each opener that is reached in nodes that are processed is so
+    -- `EachReached w Is ns`: each opener that is reached in the nodes satisfies `Is`, if the nodes
+    -- are processed.
     pub EachReached : Nodes L → Type 0
     EachReached nothing = Unit {0}
     EachReached (tree.text ns l) = EachReached ns
     EachReached (section ns gs e) = EachReached ns × GroupsReached gs
 
-    -- the group of an `#else` is processed if none before it is
+    -- `GroupsReached w Is gs`: each opener that is reached in the groups satisfies `Is`. The group
+    -- of an `#else` is processed if none before it is.
     pub GroupsReached : Groups L → Type 0
     GroupsReached (conditional es) = ElifsReached es
     GroupsReached (otherwise es l ns) = ElifsReached es ×
         (selected_elifs w es ≡ None → EachReached ns)
 
-    -- an opener is reached if no group before its own is processed, and its group is processed if its condition is true
+    -- `ElifsReached w Is es`: each opener that is reached in these groups satisfies `Is`. An opener
+    -- is reached if no group before its own is processed, and its group is processed if its
+    -- condition is true.
     pub ElifsReached : Elifs L → Type 0
     ElifsReached (first o ns) = Is o × (w o.line ≡ true → EachReached ns)
     ElifsReached (elif es o ns) = ElifsReached es ×
         (selected_elifs w es ≡ None → Is o × (w o.line ≡ true → EachReached ns))
 
 module _ {L : Type 0} (w : World L) where
-  -- the world has the truth of a condition that is decided
+  -- `AgreesWith w cond l`: the world `w` has the truth of a decided condition for the line `l`.
   abbrev pub AgreesWith : Cond → L → Type 0
   AgreesWith Yes l = w l ≡ true
   AgreesWith No l = w l ≡ false
   AgreesWith Unknown l = Unit {0}
 
-  -- so it is for each opener that is reached
+  -- `Agrees w ns`: the world `w` has the truth of each decided condition that is reached.
   abbrev pub Agrees : Nodes L → Type 0
   Agrees ns = EachReached w (λ o. AgreesWith o.cond o.line) ns
 
 module _ {L : Type 0} where
   abbrev mutual
-    -- the lines of the openers with a condition, in order
+    -- `openers ns`: the lines of the openers with a condition in the nodes, in order.
     pub openers : Nodes L → List L
     openers nothing = []
     openers (tree.text ns l) = openers ns
     openers (section ns gs e) = openers ns ++ openers_of_groups gs
 
-    -- those of a section
+    -- `openers_of_groups gs`: the lines of the openers with a condition in the groups, in order.
     pub openers_of_groups : Groups L → List L
     openers_of_groups (conditional es) = openers_of_elifs es
     openers_of_groups (otherwise es l ns) = openers_of_elifs es ++ openers ns
 
-    -- those of the groups with a condition
+    -- `openers_of_elifs es`: the lines of the openers in the groups with a condition, in order.
     pub openers_of_elifs : Elifs L → List L
     openers_of_elifs (first o ns) = o.line ∷ openers ns
     openers_of_elifs (elif es o ns) = (openers_of_elifs es ++ o.line ∷ []) ++ openers ns

@@ -1,12 +1,13 @@
--- Directives: what a scan carries.
+-- Directives: the directive that a scan has, if it has one.
 -- C11 6.10, C23 6.10: a directive is a line whose first byte that isn't white space is `#`.
 --
---   content_of scan      a cut keyword, else a directive, else text
---   Directive            its kind, the keyword's place, what follows the keyword, and whether a continuation cuts it
---   role_of kind         what a directive of this kind is in its section
---   test_of kind         what makes its condition true
+--   content_of scan   a cut keyword, else a directive, else text
+--   Directive         its kind, the keyword's span, what follows the keyword, and whether a
+--                     continuation cuts it
+--   role_of kind      the role of a directive of this kind in its section
+--   test_of kind      the test that makes its condition true
 --
--- Example: `  # ifdef A` is an `#ifdef` whose keyword lies at 4 and has 5 bytes, and ` A` follows it.
+-- Example: `  # ifdef A` is an `#ifdef` whose keyword is at 4 and has 5 bytes, and ` A` follows it.
 use Rattle.std.specs.Prelude.{ℕ, ◌-◌, ◌==◌, List, [], ◌∷◌, length, Bool, true, false, not, ◌&&◌}
 use Rattle.std.specs.Prelude.{◌||◌, if◌then◌else◌, Option, Some, None, bytes_eq, codes}
 use Rattle.std.specs.List.{list_any, starts_with}
@@ -23,35 +24,37 @@ use Rattle.ud_model.specs.declared.kind.Test.TheVariants.{Nonzero, Defined, Unde
 use Rattle.ud_model.specs.declared.kind.CommentAt.{CommentAt}
 use Rattle.ud_model.specs.declared.kind.CommentAt.TheVariants.{Outside, InLine, InBlock}
 
--- a place in a line's body, and how many bytes lie there
+-- A position in a line's body, and the number of bytes from there on.
 pub record Span : Type 0 where
   pub at : ℕ
   pub len : ℕ
 
--- a directive that controls sections, as it stands on its line
+-- A directive that controls sections, as its line has it.
 pub record Directive : Type 0 where
   pub kind : Kind
   pub keyword : Span
-  -- the masked bytes after the keyword
+  -- The masked bytes after the keyword.
   pub after : List ℕ
-  -- a continuation cuts it: the line is spliced outside comments
+  -- A continuation cuts the directive: its line is spliced outside comments.
   pub broken : Bool
 
--- what a line is, as far as sections go
+-- The content of a line, as far as sections go.
 pub data Content : Type 0 where
-  -- it can't be known whether the line carries a directive, since its keyword goes on after a continuation
+  -- A keyword that goes on after a continuation, so it can't be known whether the line has a
+  -- directive.
   cut_keyword : Content
   directive : Directive → Content
   text : Content
 
--- the keywords, each with its kind of directive
+-- The keywords, each with the kind of its directive.
 abbrev pub keywords : List (List ℕ × Kind)
 keywords =
     (codes "if", If) ∷ (codes "ifdef", Ifdef) ∷ (codes "ifndef", Ifndef)
     ∷ (codes "elif", Elif) ∷ (codes "elifdef", Elifdef) ∷ (codes "elifndef", Elifndef)
     ∷ (codes "else", Else) ∷ (codes "endif", Endif) ∷ []
 
--- what a directive is in its section: it begins one, opens a further group with a condition or the last one, or ends it
+-- `role_of kind`: the role of a directive in its section. It begins the section, opens a further
+-- group with a condition or the last one, or ends the section.
 abbrev pub role_of : Kind → Role
 role_of If = IfGroup
 role_of Ifdef = IfGroup
@@ -62,8 +65,8 @@ role_of Elifndef = ElifGroup
 role_of Else = ElseGroup
 role_of Endif = EndifLine
 
--- what makes its condition true: the value of an expression; that a name is defined, or isn't; an `#else` and an `#endif`
--- have none
+-- `test_of kind`: the test that makes the condition of a directive true: the value of an
+-- expression, or that a name is defined or isn't. An `#else` and an `#endif` have none.
 abbrev pub test_of : Kind → Test
 test_of If = Nonzero
 test_of Ifdef = Defined
@@ -74,61 +77,69 @@ test_of Elifndef = Undefined
 test_of Else = Nothing
 test_of Endif = Nothing
 
--- the kind of the first row that has this word
+-- `kind_among rows word`: the kind in the first of `rows` that has this word, or None.
 abbrev pub kind_among : List (List ℕ × Kind) → List ℕ → Option Kind
 kind_among [] word = None
 kind_among (row ∷ rows) word = if bytes_eq word row.0 then Some row.1 else kind_among rows word
 
--- the kind of a keyword, if the word is one
+-- `kind_of word`: the kind of the keyword `word`, or None if it is no keyword.
 abbrev pub kind_of : List ℕ → Option Kind
 kind_of word = kind_among keywords word
 
--- what follows the `#` that comes first but for white space, if one does
+-- `skip_hash text`: the rest of `text` after the `#` that it begins with, or None.
 abbrev pub skip_hash : List ℕ → Option (List ℕ)
 skip_hash [] = None
 skip_hash (b ∷ bs) = if b == 35 then Some bs else None
 
+-- `skip_hash_if_fresh masked`: the rest of `masked` after its leading white space and a `#`, or
+-- None.
 abbrev pub skip_hash_if_fresh : List ℕ → Option (List ℕ)
 skip_hash_if_fresh masked = skip_hash (skip_white masked)
 
+-- `is_outside c`: no comment is unclosed.
 abbrev pub is_outside : CommentAt → Bool
 is_outside Outside = true
 is_outside InLine = false
 is_outside InBlock = false
 
+-- `is_in_line c`: a line comment is unclosed.
 abbrev pub is_in_line : CommentAt → Bool
 is_in_line Outside = false
 is_in_line InLine = true
 is_in_line InBlock = false
 
--- a continuation cuts the line outside comments
+-- `is_continued_outside_comment scan`: a continuation cuts the line outside comments.
 abbrev pub is_continued_outside_comment : Scan → Bool
 is_continued_outside_comment scan = scan.spliced && is_outside scan.comment
 
--- this word is a front of a keyword, or a whole one
+-- `is_prefix_of_keyword word`: `word` is a prefix of a keyword, or a whole keyword.
 abbrev pub is_prefix_of_keyword : List ℕ → Bool
 is_prefix_of_keyword word = list_any (λ (row : List ℕ × Kind). starts_with nat_eq row.0 word)
     keywords
 
--- a nonempty run of word bytes, up to the end, that begins a keyword
+-- `is_keyword_prefix text`: `text` is nonempty, has only word bytes, and is a prefix of a keyword.
 abbrev pub is_keyword_prefix : List ℕ → Bool
 is_keyword_prefix [] = false
 is_keyword_prefix (b ∷ bs) = are_word_bytes (b ∷ bs) && is_prefix_of_keyword (b ∷ bs)
 
--- after the `#`, the white space left out, the keyword can't be known: nothing follows; or the line is cut off and
--- a single `/` follows, which may begin a comment; or it is cut off within a word that may become a keyword
+-- `may_split_keyword scan rest`: the keyword that `rest` begins can't be known. `rest` follows the
+-- `#` and white space. It is empty, or the line is cut outside comments within it: after a single
+-- `/`, which may begin a comment, or after a word that may become a keyword.
 abbrev pub may_split_keyword : Scan → List ℕ → Bool
 may_split_keyword scan [] = true
 may_split_keyword scan (b ∷ bs) = is_continued_outside_comment scan &&
     (bytes_eq (b ∷ bs) (47 ∷ []) || is_keyword_prefix (b ∷ bs))
 
+-- `has_split_keyword scan rest`: the line is fresh and joins the next one, and the keyword in
+-- `rest` can't be known. `rest` follows the `#`, if there is one.
 abbrev pub has_split_keyword : Scan → Option (List ℕ) → Bool
 has_split_keyword scan None = false
 has_split_keyword scan (Some rest) =
     scan.fresh && scan.joins_after && not (is_in_line scan.comment) &&
     may_split_keyword scan (skip_white rest)
 
--- the directive whose keyword stands in front of these bytes, which end the masked line
+-- `directive_at scan rest kind`: the directive whose keyword `rest` begins with, or text if there
+-- is no kind. `rest` is the end of the masked line.
 abbrev pub directive_at : Scan → List ℕ → Option Kind → Content
 directive_at scan rest None = text
 directive_at scan rest (Some kind) = directive (record {
@@ -138,6 +149,8 @@ directive_at scan rest (Some kind) = directive (record {
   broken = is_continued_outside_comment scan;
 })
 
+-- `content_after_hash scan rest`: the content of a line that has `rest` after its `#`, or text if
+-- it has no `#` or isn't fresh.
 abbrev pub content_after_hash : Scan → Option (List ℕ) → Content
 content_after_hash scan None = text
 content_after_hash scan (Some rest) =
@@ -145,8 +158,9 @@ content_after_hash scan (Some rest) =
     (kind_of (leading_word (skip_white rest)))
     else text
 
--- what a scan carries: a directive where the line is fresh and its masked text is white space, `#`, white space, and a
--- longest run of word bytes that is a keyword
+-- `content_of scan`: the content of a line with this scan. It is a directive if the line is fresh,
+-- and its masked text begins with `#` and a keyword, white space before each. The keyword is a
+-- longest run of word bytes.
 abbrev pub content_of : Scan → Content
 content_of scan =
     if has_split_keyword scan (skip_hash_if_fresh scan.masked) then cut_keyword

@@ -1,113 +1,120 @@
--- Lines: the cut of a text into its lines.
--- POSIX XBD 3.206 (a line ends with its line feed); a carriage return before it belongs to the ending.
+-- Lines: a text as its lines. A line ends with its newline (POSIX XBD 3.206); a carriage return
+-- before the newline belongs to the line's ending.
 --
---   AreLines text ls           ls are the lines of the text, with their endings; `texts_of` gives them, and there are no others
---   AreSplitLines text parts   parts are the whole lines of the text and its open rest; `split_lines` gives them, and there are no others
---   whole_lines text           the lines of a text that hasn't ended: those that have their line feed
---   partial_line text          what stands after the last line feed
---   lines_of text              the lines of a text that has ended, each with body, ending and number; line k has the number k
+--   AreLines text ls           `ls` are the lines of `text`: `texts_of text`, and no others
+--   AreSplitLines text parts   `parts` are its whole lines and the rest: `split_lines text`, and no
+--                              others
+--   whole_lines text           the lines of a text that hasn't ended: those that have their newline
+--   partial_line text          the bytes after the last newline
+--   lines_of text              the lines of a text that has ended, numbered from 1
 --
--- Example: "a\r\nb" has the lines "a" with the ending "\r\n" and number 1, and "b" without an ending and number 2.
+-- Example: "a\r\nb" has the lines "a" with the ending "\r\n" and the number 1, and "b" without an
+-- ending and with the number 2.
 use Rattle.std.specs.Prelude.{◌≡◌, ◌≢◌, ℕ, suc, ◌-◌, ◌==◌, nat_eq, List, [], ◌∷◌, ◌++◌, length}
 use Rattle.std.specs.Prelude.{take, if◌then◌else◌, ◌⊎◌, Bool, true, ◌||◌, bytes_eq}
 use Rattle.std.specs.List.{concat, ends_with}
 use Rattle.ud_model.specs.text.Bytes.{newline, carriage_return}
 
--- no byte of these is a line feed
+-- `NoNewline bytes`: `bytes` has no newline.
 abbrev pub NoNewline : List ℕ → Type 0
 NoNewline [] = Unit {0}
 NoNewline (b ∷ bs) = (b ≢ newline) × NoNewline bs
 
--- a whole line: it has a line feed as its last byte, and nowhere else
+-- `IsWhole line`: `line` ends with a newline, and has no other one.
 abbrev pub IsWhole : List ℕ → Type 0
 IsWhole line = (front : List ℕ) × NoNewline front × (line ≡ front ++ newline ∷ [])
 
--- a last line without a line feed, of a byte at least
+-- `IsUnterminated line`: `line` has no newline and is nonempty, as the last line of a text may be.
 abbrev pub IsUnterminated : List ℕ → Type 0
 IsUnterminated line = (line ≢ []) × NoNewline line
 
--- each line is whole, but perhaps the last
+-- `AreFormed ls`: each line is whole, but perhaps the last one, which may be unterminated.
 abbrev pub AreFormed : List (List ℕ) → Type 0
 AreFormed [] = Unit {0}
 AreFormed (l ∷ []) = IsWhole l ⊎ IsUnterminated l
 AreFormed (l ∷ m ∷ ls) = IsWhole l × AreFormed (m ∷ ls)
 
--- these are the lines of the text
+-- `AreLines text ls`: `ls` are the lines of `text`, with their endings. Joined they are the text.
 pub record AreLines (text : List ℕ) (ls : List (List ℕ)) : Type 0 where
   pub joined : text ≡ concat ls
   pub formed : AreFormed ls
 
--- each of these lines is whole
+-- `AreWhole ls`: each line of `ls` is whole.
 abbrev pub AreWhole : List (List ℕ) → Type 0
 AreWhole [] = Unit {0}
 AreWhole (l ∷ ls) = IsWhole l × AreWhole ls
 
--- the whole lines of a text, and the rest after its last line feed
+-- The whole lines of a text, and the rest after its last newline.
 pub record SplitLines : Type 0 where
   pub whole : List (List ℕ)
   pub rest : List ℕ
 
--- these are the parts of the text: joined they are the text, each line is whole, and no line feed is in the rest
+-- `AreSplitLines text parts`: `parts` are the whole lines of `text` and the rest. Joined they are
+-- the text, and no newline is in the rest.
 pub record AreSplitLines (text : List ℕ) (parts : SplitLines) : Type 0 where
   pub joined : text ≡ concat parts.whole ++ parts.rest
   pub whole : AreWhole parts.whole
   pub no_newline : NoNewline parts.rest
 
--- a byte in front of these parts that isn't a line feed
+-- `prepend_to_first b ls rest`: the lines `ls` and `rest` with `b` before them, which is no
+-- newline.
 abbrev pub prepend_to_first : ℕ → List (List ℕ) → List ℕ → SplitLines
 prepend_to_first b [] rest = record { whole = []; rest = b ∷ rest }
 prepend_to_first b (l ∷ ls) rest = record { whole = (b ∷ l) ∷ ls; rest = rest }
 
--- a byte in front of these parts
+-- `prepend_byte b parts`: `parts` with the byte `b` before them.
 abbrev pub prepend_byte : ℕ → SplitLines → SplitLines
 prepend_byte b parts =
     if b == newline then record { whole = (newline ∷ []) ∷ parts.whole; rest = parts.rest }
     else prepend_to_first b parts.whole parts.rest
 
--- the parts of a text
+-- `split_lines text`: the whole lines of `text` and the rest, computed.
 unfoldable pub split_lines : List ℕ → SplitLines
 split_lines [] = record { whole = []; rest = [] }
 split_lines (b ∷ bs) = prepend_byte b (split_lines bs)
 
+-- `whole_lines text`: the whole lines of `text`, with their newlines.
 abbrev pub whole_lines : List ℕ → List (List ℕ)
 whole_lines text = (split_lines text).whole
 
+-- `partial_line text`: the bytes of `text` after its last newline.
 abbrev pub partial_line : List ℕ → List ℕ
 partial_line text = (split_lines text).rest
 
--- the rest as a line of its own, if there is one
+-- `last_line rest`: `rest` as a line of its own, or no line if `rest` is empty.
 abbrev pub last_line : List ℕ → List (List ℕ)
 last_line [] = []
 last_line (b ∷ bs) = (b ∷ bs) ∷ []
 
--- the lines of a text, with their endings
+-- `texts_of text`: the lines of `text`, with their endings.
 abbrev pub texts_of : List ℕ → List (List ℕ)
 texts_of text = whole_lines text ++ last_line (partial_line text)
 
--- the ending of a line: `\r\n` where it ends so, else `\n` where it ends so, else nothing
+-- `ending_of line`: `\r\n` if `line` ends with it, else `\n` if `line` ends with it, else nothing.
 abbrev pub ending_of : List ℕ → List ℕ
 ending_of line =
     if ends_with nat_eq line (carriage_return ∷ newline ∷ []) then carriage_return ∷ newline ∷ []
     else if ends_with nat_eq line (newline ∷ []) then newline ∷ []
     else []
 
--- what may end a line: `\r\n`, `\n` or nothing
+-- `is_ending bytes`: `bytes` is `\r\n`, `\n` or nothing, one of which ends each line.
 abbrev pub is_ending : List ℕ → Bool
 is_ending [] = true
 is_ending (b ∷ bs) = bytes_eq (b ∷ bs) (newline ∷ []) ||
     bytes_eq (b ∷ bs) (carriage_return ∷ newline ∷ [])
 
--- a line of a text: its body, its ending and its number from 1
+-- A line of a text: its body, its ending, and its number, counted from 1.
 pub record Line : Type 0 where
   pub body : List ℕ
   pub ending : List ℕ
   pub number : ℕ
 
--- a line with its ending
+-- `text_of line`: the bytes of `line`, with its ending.
 abbrev pub text_of : Line → List ℕ
 text_of line = line.body ++ line.ending
 
--- the line of this number and this text: the body is what is left without the ending
+-- `line_at number text`: the line with this number and these bytes. Its body is `text` without the
+-- ending.
 abbrev pub line_at : ℕ → List ℕ → Line
 line_at number text = record {
   body = take (length text - length (ending_of text)) text;
@@ -116,11 +123,11 @@ line_at number text = record {
   number = number;
 }
 
--- these lines, numbered from here on
+-- `numbered_from n ls`: the lines `ls`, numbered from `n`.
 abbrev pub numbered_from : ℕ → List (List ℕ) → List Line
 numbered_from n [] = []
 numbered_from n (l ∷ ls) = line_at n l ∷ numbered_from (suc n) ls
 
--- the lines of a text that has ended
+-- `lines_of text`: the lines of `text`, which has ended, numbered from 1.
 abbrev pub lines_of : List ℕ → List Line
 lines_of text = numbered_from 1 (texts_of text)

@@ -1,4 +1,4 @@
--- Scans: what is seen of a line when it is read.
+-- Scans: the result of scanning a line.
 -- C11 5.1.1.2, phases 2 and 3, and 6.4.9; unifdef(1), `-t`.
 --
 --   Scan               the masked line, and how the line is joined to its neighbours
@@ -6,37 +6,41 @@
 --   plain_scan line    the scan of a line in plain mode
 --   is_spanning scan   the line is joined to a neighbour
 --
--- In plain mode strings, comments and continuations are ignored, and each line is seen as it stands. What is seen in C
--- mode stands in Scanning.
+-- In plain mode strings, comments and continuations are ignored, and each line is scanned as it is.
+-- The scan of a line in C mode is defined in Scanning.
 --
--- Example: the line `x /* c` is seen in plain mode as it is, fresh and joined to nothing.
+-- Example: in plain mode the masked line of `x /* c` is the line itself. It is fresh, and joined to
+-- no other line.
 use Rattle.std.specs.Prelude.{ℕ, List, Bool, true, false, ◌||◌}
 use Rattle.ud_model.specs.text.Lines.{Line}
 use Rattle.ud_model.specs.declared.kind.Mode.{Mode}
 use Rattle.ud_model.specs.declared.kind.CommentAt.{CommentAt}
 use Rattle.ud_model.specs.declared.kind.CommentAt.TheVariants.{Outside}
 
--- how a line is seen: its masked bytes, and how it hangs together with its neighbours
+-- The scan of a line: the masked line, and how the line is joined to its neighbours.
 pub record Scan : Type 0 where
-  -- the line's body without a splice's backslash, each byte of a comment replaced by a space
+  -- The body without a splice's backslash, each byte of a comment replaced by a space.
   pub masked : List ℕ
-  -- all masked bytes of this logical line that lie on earlier lines are white space
+  -- Only white space precedes the line on its logical line: the masked bytes that lie on earlier
+  -- lines are white.
   pub fresh : Bool
-  -- the line before joins this one; this one joins the next, by a splice or a comment
+  -- The line before joins this one, by a splice or a comment.
   pub joins_before : Bool
+  -- This line joins the next one, by a splice or a comment.
   pub joins_after : Bool
-  -- the line ends in a backslash that deletes its ending
+  -- The line ends in a backslash that deletes its ending.
   pub spliced : Bool
-  -- what is unclosed at the line's end
+  -- The comment that is unclosed at the line's end, if there is one.
   pub comment : CommentAt
 
--- a line, the mode in which it is read, and how it is seen
+-- A line, the mode in which it is read, and its scan.
 pub record Reading : Type 0 where
   pub line : Line
   pub mode : Mode
   pub scan : Scan
 
--- the masked line is the body; it is fresh and joins nothing
+-- `plain_scan line`: the scan of `line` in plain mode. The masked line is the body; the line is
+-- fresh and joins no other.
 abbrev pub plain_scan : Line → Scan
 plain_scan line = record {
   masked = line.body;
@@ -48,6 +52,6 @@ plain_scan line = record {
   comment = Outside;
 }
 
--- the line joins a neighbour: a directive on it spans several lines
+-- `is_spanning scan`: the line is joined to a neighbour, so a directive on it spans several lines.
 abbrev pub is_spanning : Scan → Bool
 is_spanning scan = scan.joins_before || scan.joins_after

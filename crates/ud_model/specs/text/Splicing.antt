@@ -1,16 +1,16 @@
--- Splicing: the text that lines read in C mode make when they are joined.
+-- Splicing: the text that lines read in C mode form when their splices are deleted.
 -- C11 5.1.1.2, phase 2.
 --
 --   is_spliced line         the line ends in a backslash that deletes its ending
 --   content line            its body without a splice's backslash
---   spliced_part line       what the line puts into the joined text
---   spliced_text lines      the joined text
---   c_run_of readings       the lines in C mode after the last one in plain mode
+--   spliced_part line       the bytes that the line adds to the spliced text
+--   spliced_text lines      the spliced text
+--   c_run_of readings       the C run: the lines in C mode after the last one in plain mode
 --   last_is_spliced lines   the last of the lines is spliced
 --
 -- A line counts by its body and its ending alone, never by its number.
 --
--- Example: the lines `a\` and `b`, each with a line feed, make the text `ab` and one line feed.
+-- Example: the lines `a\` and `b`, each with a newline, form the text `ab` with one newline.
 use Rattle.std.specs.Prelude.{ℕ, ◌-◌, ◌==◌, nat_eq, List, [], ◌∷◌, ◌++◌, length, take, Bool, false}
 use Rattle.std.specs.Prelude.{not, ◌&&◌, ◌||◌, if◌then◌else◌}
 use Rattle.std.specs.List.{flat_map, ends_with}
@@ -20,49 +20,54 @@ use Rattle.ud_model.specs.text.Scans.{Reading}
 use Rattle.ud_model.specs.declared.kind.Mode.{Mode}
 use Rattle.ud_model.specs.declared.kind.Mode.TheVariants.{C, Plain}
 
--- there are no bytes
+-- `is_empty bytes`: `bytes` has no byte.
 abbrev pub is_empty : List ℕ → Bool
 is_empty bytes = length bytes == 0
 
--- a backslash just before the ending carries the line on
+-- `is_spliced line`: `line` has an ending and a backslash just before it, so the next line
+-- continues it.
 abbrev pub is_spliced : Line → Bool
 is_spliced line = ends_with nat_eq line.body (backslash ∷ []) && not (is_empty line.ending)
 
--- the body without a splice's backslash
+-- `content line`: the body of `line` without a splice's backslash.
 abbrev pub content : Line → List ℕ
 content line = if is_spliced line then take (length line.body - 1) line.body else line.body
 
--- the line puts no new-line into the joined text
+-- `stays_open line`: `line` adds no newline to the spliced text, since it is spliced or has no
+-- ending.
 abbrev pub stays_open : Line → Bool
 stays_open line = is_spliced line || is_empty line.ending
 
--- the new-line that it puts there
+-- `newline_of line`: the newline that `line` adds to the spliced text, or nothing if the line stays
+-- open.
 abbrev pub newline_of : Line → List ℕ
 newline_of line = if stays_open line then [] else newline ∷ []
 
--- what the line puts into the joined text
+-- `spliced_part line`: the bytes that `line` adds to the spliced text: its content and its newline.
 abbrev pub spliced_part : Line → List ℕ
 spliced_part line = content line ++ newline_of line
 
--- the joined text of lines
+-- `spliced_text lines`: the spliced text of `lines`.
 abbrev pub spliced_text : List Line → List ℕ
 spliced_text lines = flat_map spliced_part lines
 
--- the run after a line of this mode, where run stands before it
+-- `extended_run run mode line`: the C run after `line`, which is read in this mode after the C run
+-- `run`. A line in plain mode ends the run.
 abbrev pub extended_run : List Line → Mode → Line → List Line
 extended_run run C line = run ++ line ∷ []
 extended_run run Plain line = []
 
--- the run after these readings, where run stands before them
+-- `c_run_from run readings`: the C run after `readings`, which follow the C run `run`.
 abbrev pub c_run_from : List Line → List Reading → List Line
 c_run_from run [] = run
 c_run_from run (r ∷ readings) = c_run_from (extended_run run r.mode r.line) readings
 
--- the lines in C mode after the last one in plain mode
+-- `c_run_of readings`: the C run after `readings`: the lines in C mode after the last one in plain
+-- mode.
 abbrev pub c_run_of : List Reading → List Line
 c_run_of readings = c_run_from [] readings
 
--- the last of the lines is spliced
+-- `last_is_spliced lines`: the last of `lines` is spliced.
 abbrev pub last_is_spliced : List Line → Bool
 last_is_spliced [] = false
 last_is_spliced (line ∷ []) = is_spliced line

@@ -1,4 +1,4 @@
--- Both words make the same of the input, and say no message.
+-- Both command lines have the same outcome for the input, and no message.
 use Rattle.ud_model.proofs.output.ListAnswers.{answered_by_list}
 use Rattle.ud_model.proofs.output.FlagArguments.{lists_names}
 use Rattle.ud_model.proofs.answer_option_laws.law_answer_by_list.Goals as goal

@@ -1,10 +1,10 @@
--- All are white space if none is left after the white space in front.
+-- All bytes are white space if none is left after the leading white space.
 use Rattle.std.proofs.Common.{◌≡◌, ◌==◌, ℕ, Bool, true, false, List, [], ◌∷◌, if◌then◌else◌, ◌&&◌, length, refl, ap, ◌∙◌, ◌≢◌, arith}
 use Rattle.std.proofs.lemmas.Bool.Decides.{nat_tests}
 use Rattle.ud_model.specs.text.Bytes.{is_white, are_white, skip_white}
 use Rattle.ud_model.proofs.bytes.are_white.Goals as goal
 
--- by the first byte
+-- By the first byte.
 none_left : (t : Bool) (b : ℕ) (bs : List ℕ) → (length (skip_white bs) == 0) ≡ are_white bs →
     (length (if t then skip_white bs else b ∷ bs) == 0) ≡ (t && are_white bs)
 none_left true b bs e = e

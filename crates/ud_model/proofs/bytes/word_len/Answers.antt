@@ -6,7 +6,7 @@ use Rattle.ud_model.proofs.text.ByteLemmas.{front_len, unwrap_or-position, take-
 use Rattle.ud_model.proofs.bytes.word_len.Goals as goal
 use Rattle.ud_model.proofs.bytes.word_len.Goals.{After-unwrap_or}
 
--- the result is how many word bytes stand in front
+-- The result is the length of the leading word.
 len : (c : After-unwrap_or) → c.unwrap_or.result ≡ front_len c.args.bytes.now
 len c =
     let at = position_from_yields_List (λ b. not (is_word_byte b)) _ _ c.position.result c.position.ensures.ran (YieldsList-from_slice c.args.bytes.now cc) (λ x b q k. search (rules, tests)) in

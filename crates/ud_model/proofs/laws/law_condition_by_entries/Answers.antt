@@ -1,4 +1,4 @@
--- The value of a symbol ends at the same text by both tables.
+-- A symbol resolves to the same text by both tables.
 use Rattle.ud_model.proofs.conditions.ConditionLemmas.{condition_of_same}
 use Rattle.ud_model.proofs.laws.law_condition_by_entries.Goals as goal
 

@@ -1,4 +1,4 @@
--- A line more gives a mark and a level more.
+-- One more line has one more mark and one more level.
 use Rattle.std.proofs.Common.{true}
 use Rattle.ud_model.specs.sections.Tree.{lines}
 use Rattle.ud_model.specs.sections.Pruning.{marks}

@@ -1,4 +1,4 @@
--- The computed tree is the one for which the text is written.
+-- The computed tree is the one that the text has.
 use Rattle.ud_model.proofs.conditions.DecidedConditions.{cond_of_tree, cond_without_tree, names_of_tree, names_without_tree}
 use Rattle.ud_model.proofs.laws.law_expression_cond.Goals as goal
 

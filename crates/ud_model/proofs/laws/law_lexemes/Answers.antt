@@ -1,4 +1,4 @@
--- By the size of a piece, which the text decides.
+-- By the length of a lexeme, which the text decides.
 use Rattle.ud_model.proofs.text.LexLemmas.{cut_cells, cut_unique}
 use Rattle.ud_model.proofs.text.LexExists.{cut_exists}
 use Rattle.ud_model.proofs.laws.law_lexemes.Goals as goal

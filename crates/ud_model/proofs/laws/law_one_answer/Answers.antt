@@ -1,4 +1,4 @@
--- A text has one run, and the answer follows from it.
+-- A text has one outcome, and the answer follows from it.
 use Rattle.ud_model.proofs.sections.Exists.{answer_exists}
 use Rattle.ud_model.proofs.sections.Soundness.{one_answer}
 use Rattle.ud_model.proofs.laws.law_one_answer.Goals as goal

@@ -1,4 +1,4 @@
--- What is read is written so, and what is written is read so.
+-- A text has the tree as which it is parsed, and is parsed as the tree that it has.
 use Rattle.ud_model.proofs.conditions.OneExpression.{one_expression, expression_only, expression_is}
 use Rattle.ud_model.proofs.laws.law_one_expression.Goals as goal
 

@@ -1,4 +1,4 @@
--- Lines are gone through up to the first faulty one or to their end, in one way.
+-- Lines are read up to the first faulty one or to their end, in one way.
 use Rattle.ud_model.proofs.sections.Exists.{reading_exists, reading_so_far_exists}
 use Rattle.ud_model.proofs.sections.Soundness.{reads_once, reads_so_far_once}
 use Rattle.ud_model.proofs.answer.Onward.{read_lines, read_so_far_lines}

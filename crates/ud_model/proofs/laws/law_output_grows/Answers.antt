@@ -1,4 +1,4 @@
--- The lines so far are sound, so a longer text is read as they are, and then on.
+-- The lines so far have no fault, so a longer text is read as they are, and then on.
 use Rattle.ud_model.proofs.answer.Onward.{reads_on, reads_further, pieces_grow, prints_on, prints_further}
 use Rattle.ud_model.proofs.laws.law_output_grows.Goals as goal
 

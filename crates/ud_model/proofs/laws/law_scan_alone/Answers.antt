@@ -1,4 +1,4 @@
--- After such a line the joined text leaves off between pieces.
+-- After such a line the spliced text ends between lexemes.
 use Rattle.ud_model.proofs.text.ScanLaws.{scan_alone, readings_alone}
 use Rattle.ud_model.proofs.laws.law_scan_alone.Goals as goal
 

@@ -1,4 +1,4 @@
--- A way that ends does so in as many steps as there are arguments.
+-- A path that ends does so in as many steps as there are arguments.
 use Rattle.ud_model.proofs.conditions.SymbolLemmas.{end_found, end_is}
 use Rattle.ud_model.proofs.laws.law_symbol_end.Goals as goal
 

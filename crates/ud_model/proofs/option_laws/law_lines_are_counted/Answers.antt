@@ -1,4 +1,4 @@
--- What is put in stands where the output leaves off between lines.
+-- The inserted lines come where the output ends between lines.
 use Rattle.ud_model.proofs.output.CountedText.{counted_text}
 use Rattle.ud_model.proofs.option_laws.law_lines_are_counted.Goals as goal
 

@@ -1,4 +1,4 @@
--- Each piece is a line again, with the ending of the line of which it is printed.
+-- Each piece is a line again, with the ending of the line that it is the output for.
 use Rattle.ud_model.proofs.output.BlankedLineLemmas.{as_many, blanked_places}
 use Rattle.ud_model.proofs.option_laws.law_lines_keep_their_place.Goals as goal
 

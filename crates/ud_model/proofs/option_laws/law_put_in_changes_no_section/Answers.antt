@@ -1,4 +1,4 @@
--- What is put in is read as text lines, each of which goes into the nodes where it stands.
+-- The inserted lines are read as text lines, each of which is added to the nodes at its position.
 use Rattle.ud_model.proofs.output.InsertedText.{woven_text}
 use Rattle.ud_model.proofs.output.InsertedSelected.{woven_selected}
 use Rattle.ud_model.proofs.option_laws.law_put_in_changes_no_section.Goals as goal

@@ -1,4 +1,4 @@
--- A world that C may give the input agrees with what is decided.
+-- A world that C may give the input agrees with the decided conditions.
 use Rattle.ud_model.proofs.output.RereadLaws.{c_selected_again, conditions_same, c_world_again}
 use Rattle.ud_model.proofs.output_laws.law_c_selects.Goals as goal
 

@@ -1,4 +1,4 @@
--- Lines are as long as before, or the text gets shorter.
+-- Lines are as long as before, or the text is shorter.
 use Rattle.ud_model.proofs.output.Changed.{changed}
 use Rattle.ud_model.proofs.output_laws.law_changed.Goals as goal
 

@@ -1,4 +1,4 @@
--- Line by line the output is read as what is left of the input.
+-- Line by line the output is read as the rest of the input.
 use Rattle.ud_model.proofs.output.RereadLaws.{reread, what_is_left, after_undecided, runs_output}
 use Rattle.ud_model.proofs.output_laws.law_reread.Goals as goal
 

@@ -1,4 +1,4 @@
--- From the lines of a run.
+-- From the lines of an outcome.
 use Rattle.ud_model.proofs.sections.Soundness.{one_tree_of}
 use Rattle.ud_model.proofs.output.RereadLaws.{input_tree}
 use Rattle.ud_model.proofs.output_laws.law_tree_of.Goals as goal
