@@ -12,7 +12,7 @@ use Rattle.test_sections.specs.declared.printing.Ruled.{Ruled}
 -- so far.
 pub record Goes (Stands : List Judged → Type 0) (piece : List Judged → Judged → List ℕ) (before all : List Judged) (left : List Judged) (old now : List ℕ) (same : Bool) : Type 0 where
   pub passed : List Judged
-  pub stands : Stands passed
+  pub represents : Stands passed
   pub printed : now ++ concat (pieces_by piece passed left) ≡ old ++ concat (pieces_by piece before all)
   pub others : (not same || some_other (pieces_by piece passed left) left) ≡ some_other (pieces_by piece before all) all
 
@@ -25,9 +25,9 @@ pub goes_on : (Stands Later : List Judged → Type 0) (piece : List Judged → J
     (old now new : List ℕ) (same kept : Bool) → (g : Goes Stands piece before all (here ∷ left) old now same) →
     new ≡ now ++ piece g.passed here → kept ≡ bytes_eq (piece g.passed here) (text_of here.line) → Later (g.passed ++ here ∷ []) →
     Goes Later piece before all left old new (same && kept)
-goes_on Stands Later piece before all left here old now new same kept g bytes is stands = record {
+goes_on Stands Later piece before all left here old now new same kept g bytes is represents = record {
   passed = g.passed ++ here ∷ [];
-  stands = stands;
+  represents = represents;
   printed =
       ap (λ (t : List ℕ). t ++ concat (pieces_by piece (g.passed ++ here ∷ []) left)) bytes
       ∙ append_assoc now (piece g.passed here) (concat (pieces_by piece (g.passed ++ here ∷ []) left)) ∙ g.printed;

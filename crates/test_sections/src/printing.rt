@@ -46,7 +46,7 @@ fn print_next<S: Show>(
     ensures same { (before : List Judged) → S.represents show.old before → IfOk result (λ same.
         same ≡ bytes_eq (S.piece show.old before (judged_step line.now step))
         (text_of (as_line line.now))) }
-    ensures stands { (before : List Judged) → S.represents show.old before →
+    ensures represents { (before : List Judged) → S.represents show.old before →
         S.represents show.new (before ++ judged_step line.now step ∷ []) }
     ensures piece { (before : List Judged) → (j : Judged) →
         S.piece show.new before j ≡ S.piece show.old before j }

@@ -8,9 +8,9 @@ use Rattle.ud_args.specs.ParsedSettings.{after_first}
 abbrev pub equals_at : List ℕ → ℕ
 equals_at bytes = position_or_len (λ b. b == 61) bytes
 
-name_one : (e : Bool) (n b : ℕ) (bs front : List ℕ) → take n bs ≡ front → take (cond (not e) (1 + n) 0) (b ∷ bs) ≡ (if e then [] else b ∷ front)
-name_one true n b bs front h = refl
-name_one false n b bs front h = rw one-add (ap (λ l. b ∷ l) h)
+name_one : (e : Bool) (n b : ℕ) (bs prefix : List ℕ) → take n bs ≡ prefix → take (cond (not e) (1 + n) 0) (b ∷ bs) ≡ (if e then [] else b ∷ prefix)
+name_one true n b bs prefix h = refl
+name_one false n b bs prefix h = rw one-add (ap (λ l. b ∷ l) h)
 
 -- the bytes before the first `=` are the name
 pub take-equals_at : (bytes : List ℕ) → take (equals_at bytes) bytes ≡ name_before_equals bytes

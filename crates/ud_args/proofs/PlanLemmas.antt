@@ -38,12 +38,12 @@ exit_mode_of s t mode e = rw e refl
 represents_last : (old new : PlanState) (gs : List ParsedArg) (g : ParsedArg) → PlanRepresents old gs → old.operand ≡ None → first_fault (g ∷ []) ≡ None
     → new.settings ≡ settings_in (gs ++ g ∷ []) → TableRepresents new.symbols (filter_map argument_in gs ++ filter_map argument_in (g ∷ []))
     → new.operand ≡ operand_index (operand_in (g ∷ [])) → PlanRepresents new (gs ++ g ∷ [])
-represents_last old new gs g p free right said stands index =
+represents_last old new gs g p free right said represents index =
     let none : operand_in gs ≡ None = place_none (operand_in gs) (sym p.index ∙ free) in
     record {
       right = first_fault-append gs (g ∷ []) p.right none ∙ right;
       said = said;
-      stands = rw (filter_map-append argument_in gs (g ∷ [])) stands;
+      represents = rw (filter_map-append argument_in gs (g ∷ [])) represents;
       index = index ∙ ap operand_index (sym (operand_in-append gs (g ∷ []) none));
     }
 
@@ -52,8 +52,8 @@ represents_same : (old new : PlanState) (gs : List ParsedArg) (g : ParsedArg) �
     → filter_map argument_in (g ∷ []) ≡ [] → new.settings ≡ settings_in (gs ++ g ∷ []) → new.symbols ≡ old.symbols
     → new.operand ≡ operand_index (operand_in (g ∷ [])) → PlanRepresents new (gs ++ g ∷ [])
 represents_same old new gs g p free right none said same index =
-    let stands : TableRepresents new.symbols (filter_map argument_in gs ++ filter_map argument_in (g ∷ [])) = rw (none, append-nil, same) p.stands in
-    represents_last old new gs g p free right said stands index
+    let represents : TableRepresents new.symbols (filter_map argument_in gs ++ filter_map argument_in (g ∷ [])) = rw (none, append-nil, same) p.represents in
+    represents_last old new gs g p free right said represents index
 
 -- a flag changes the settings
 pub represents_flag : (old new : PlanState) (gs : List ParsedArg) (c : ℕ) → PlanRepresents old gs → old.operand ≡ None
@@ -77,12 +77,12 @@ represents_mode old new gs word argument mode p free e said same index =
 pub represents_symbol : (old new : PlanState) (gs : List ParsedArg) (g : ParsedArg) (a : Argument) → PlanRepresents old gs → old.operand ≡ None → SetsSymbol g a
     → new.settings ≡ old.settings → TableRepresents new.symbols (filter_map argument_in gs ++ a ∷ []) → new.operand ≡ old.operand
     → PlanRepresents new (gs ++ g ∷ [])
-represents_symbol old new gs g a p free s said stands index =
-    let right : first_fault (option s.letter s.word s.argument ∷ []) ≡ None = rw (s.other, s.says) refl in
+represents_symbol old new gs g a p free s said represents index =
+    let right : first_fault (option s.letter s.word s.argument ∷ []) ≡ None = rw (s.other, s.sets) refl in
     let last : mode_from (mode_from Zero gs) (option s.letter s.word s.argument ∷ []) ≡ mode_from Zero gs = rw s.other refl in
     let settings : new.settings ≡ settings_in (gs ++ option s.letter s.word s.argument ∷ []) =
     said ∙ p.said ∙ sym (settings_in-last gs (option s.letter s.word s.argument) (mode_from Zero gs) (λ ls. refl) last) in
-    let table : TableRepresents new.symbols (filter_map argument_in gs ++ filter_map argument_in (option s.letter s.word s.argument ∷ [])) = rw s.says stands in
+    let table : TableRepresents new.symbols (filter_map argument_in gs ++ filter_map argument_in (option s.letter s.word s.argument ∷ [])) = rw s.sets represents in
     rw s.is (represents_last old new gs (option s.letter s.word s.argument) p free right settings table (index ∙ free))
 
 -- an operand sets the index
@@ -97,7 +97,7 @@ represents_operand old new gs n name p free said same index =
 pub first_fault-said : (g : ParsedArg) (s : Setting) → IsSetting g s → first_fault (g ∷ []) ≡ None
 first_fault-said g (said.Flag letter) h = rw h refl
 first_fault-said g (said.Mode mode) h = rw (h.2, h.3) refl
-first_fault-said g (said.Symbol a) h = rw (h.is, h.other, h.says) refl
+first_fault-said g (said.Symbol a) h = rw (h.is, h.other, h.sets) refl
 first_fault-said g (said.Operand index name) h = rw h refl
 
 -- a fault of the command line is one that `plan` may return
@@ -119,7 +119,7 @@ IsUsageOf-memory gs more g s u right none is h =
       more = more;
       is = refl;
       right = first_fault-append gs (g ∷ []) right none ∙ first_fault-said g s is;
-      says = h.1;
+      sets = h.1;
     } in
     rw h.0 puts
 

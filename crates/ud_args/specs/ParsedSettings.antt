@@ -41,7 +41,7 @@ pub record SetsSymbol (g : GivenInWords) (s : Argument) : Type 0 where
   pub argument : List ℕ
   pub is : g ≡ option letter word argument
   pub other : has_letter (codes "x") letter ≡ false
-  pub says : parse_symbol letter argument ≡ Some s
+  pub sets : parse_symbol letter argument ≡ Some s
 
 -- `IsSetting g said`: the option or operand `g` is valid, and `said` is its setting
 abbrev pub IsSetting : GivenInWords → Setting → Type 0

@@ -26,7 +26,7 @@ pub record PlanState : Type 0 where
 pub record IsPlanOf (args : List (List ℕ)) (plan : PlanState) : Type 0 where
   pub right : usage_fault args ≡ None
   pub said : plan.settings ≡ (options_of args).settings
-  pub stands : TableRepresents plan.symbols (options_of args).table
+  pub represents : TableRepresents plan.symbols (options_of args).table
   pub index : plan.operand ≡ operand_of args
 
 -- `PlanRepresents plan gs`: the options and operands `gs` have no fault, and the plan has their
@@ -34,7 +34,7 @@ pub record IsPlanOf (args : List (List ℕ)) (plan : PlanState) : Type 0 where
 pub record PlanRepresents (plan : PlanState) (gs : List ParsedArg) : Type 0 where
   pub right : first_fault gs ≡ None
   pub said : plan.settings ≡ settings_in gs
-  pub stands : TableRepresents plan.symbols (filter_map argument_in gs)
+  pub represents : TableRepresents plan.symbols (filter_map argument_in gs)
   pub index : plan.operand ≡ operand_index (operand_in gs)
 
 -- `as_operand o`: the code's operand, as the definitions have it

@@ -12,4 +12,4 @@ pub record StoresSymbol (gs : List ParsedArg) : Type 0 where
   pub more : List ParsedArg
   pub is : gs ≡ before ++ symbol ∷ more
   pub right : first_fault (before ++ symbol ∷ []) ≡ None
-  pub says : IsSome (argument_in symbol)
+  pub sets : IsSome (argument_in symbol)

@@ -86,17 +86,17 @@ impl<'a> CommandLine<'a> {
             parsed_then result }
     {
         let (word, args) = self.args.split_first()?;
-        let behind = CommandLine {
+        let after = CommandLine {
             letters: "",
             args,
             read: self.read + 1,
             only_operands: false,
         };
         if word.as_bytes() == b"--".as_slice() {
-            return behind.operand();
+            return after.operand();
         }
         match split_first_letter(option_letters(word)) {
-            Some((letter, letters)) => Some(behind.option(letter, letters)),
+            Some((letter, letters)) => Some(after.option(letter, letters)),
             None => self.operand(),
         }
     }
@@ -108,27 +108,27 @@ impl<'a> CommandLine<'a> {
     {
         let (word, args) = self.args.split_first()?;
         let name = word.as_bytes();
-        let behind = CommandLine {
+        let after = CommandLine {
             letters: "",
             args,
             read: self.read + 1,
             only_operands: true,
         };
         let index = self.read;
-        Some((ParsedArg::Operand { index, name }, behind))
+        Some((ParsedArg::Operand { index, name }, after))
     }
 
-    /// Reads a letter of the argument that was read last. The letters `behind` follow it.
-    fn option(&self, letter: char, behind: &'a str) -> (ParsedArg<'a>, CommandLine<'a>)
-        ensures { parsed_letters self.now.read (letter ∷ chars behind.now)
+    /// Reads a letter of the argument that was read last. The letters `after` follow it.
+    fn option(&self, letter: char, after: &'a str) -> (ParsedArg<'a>, CommandLine<'a>)
+        ensures { parsed_letters self.now.read (letter ∷ chars after.now)
             (λ c. parsed_after_option c self.now.read (map string_bytes self.now.args.now))
             (parsed_from self.now.read (map string_bytes self.now.args.now)) ≡ parsed_arg result.0 ∷
             remaining_args result.1 }
     {
         if takes_argument(letter) {
-            return self.option_with_argument(letter, behind);
+            return self.option_with_argument(letter, after);
         }
-        let rest = self.with_letters(behind);
+        let rest = self.with_letters(after);
         if is_flag(letter) {
             (ParsedArg::Flag { letter }, rest)
         } else {
@@ -136,21 +136,17 @@ impl<'a> CommandLine<'a> {
         }
     }
 
-    /// Reads an option with its argument. The letters `behind` follow the option's: they are its
+    /// Reads an option with its argument. The letters `after` follow the option's: they are its
     /// argument or, if there are none, the next command-line argument is.
-    fn option_with_argument(
-        &self,
-        letter: char,
-        behind: &'a str,
-    ) -> (ParsedArg<'a>, CommandLine<'a>)
-        ensures { parsed_option letter self.now.read (chars behind.now)
+    fn option_with_argument(&self, letter: char, after: &'a str) -> (ParsedArg<'a>, CommandLine<'a>)
+        ensures { parsed_option letter self.now.read (chars after.now)
             (parsed_after_option letter self.now.read (map string_bytes self.now.args.now))
             (parsed_from self.now.read (map string_bytes self.now.args.now)) ≡ parsed_arg result.0 ∷
             remaining_args result.1 }
     {
-        if !behind.is_empty() {
+        if !after.is_empty() {
             let word = self.read;
-            let argument = behind.as_bytes();
+            let argument = after.as_bytes();
             return (
                 ParsedArg::WithArgument {
                     letter,

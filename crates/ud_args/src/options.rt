@@ -135,10 +135,10 @@ fn parse_symbol(letter: char, argument: &[u8]) -> Option<Symbol<'_>>
 fn parse_ignoring_symbol(argument: &[u8]) -> Option<Symbol<'_>>
     ensures { option_map as_argument result ≡ parse_ignoring_symbol argument.now }
 {
-    let (letter, behind) = argument.split_first()?;
+    let (letter, after) = argument.split_first()?;
     match *letter {
-        b'D' => parse_define(behind, true),
-        b'U' => parse_undefine(behind, true),
+        b'D' => parse_define(after, true),
+        b'U' => parse_undefine(after, true),
         _ => None,
     }
 }

@@ -34,8 +34,8 @@ pub fn plan(alloc: Global, args: &[String]) -> Result<Plan, Usage>
 {
     let mut plan = Plan::new(alloc);
     let mut line = CommandLine::new(args);
-    'given: while let Some((given, behind)) = line.next() {
-        line = behind;
+    'given: while let Some((given, after)) = line.next() {
+        line = after;
         plan.apply(given)?;
     }
     Ok(plan)
@@ -116,19 +116,19 @@ fn find_operand(args: &[String]) -> Result<Option<Operand<'_>>, Usage>
 {
     let mut line = CommandLine::new(args);
     let mut operand = None;
-    'given: while let Some((given, behind)) = line.next() {
-        line = behind;
+    'given: while let Some((given, after)) = line.next() {
+        line = after;
         operand = as_operand(parse_arg(given, operand.is_some())?);
     }
     Ok(operand)
 }
 
 /// Returns the operand, if the setting is one.
-fn as_operand(said: Setting<'_>) -> Option<Operand<'_>>
-    ensures { (g : ParsedArg) → IsSetting g said.entry →
+fn as_operand(setting: Setting<'_>) -> Option<Operand<'_>>
+    ensures { (g : ParsedArg) → IsSetting g setting.entry →
         option_map as_operand result ≡ operand_in (g ∷ []) }
 {
-    match said {
+    match setting {
         Setting::Operand { index, name } => Some(Operand { index, name }),
         Setting::Flag { .. } | Setting::Mode { .. } | Setting::Symbol { .. } => None,
     }

@@ -90,7 +90,7 @@ impl Plan {
     {
         match parse_arg(given, self.operand.is_some()) {
             Err(fault) => Err(fault),
-            Ok(said) => self.set(said),
+            Ok(setting) => self.set(setting),
         }
     }
 
@@ -98,14 +98,14 @@ impl Plan {
     ///
     /// # Errors
     /// `OutOfMemory` if an allocation for a symbol fails.
-    fn set(&mut self, said: Setting<'_>) -> Result<(), Usage>
+    fn set(&mut self, setting: Setting<'_>) -> Result<(), Usage>
         ensures ok { (gs : List GivenInWords) → (g : GivenInWords) → PlanRepresents self.old gs →
-            self.old.operand ≡ None → IsSetting g said.entry
+            self.old.operand ≡ None → IsSetting g setting.entry
             → OnOk result (PlanRepresents self.new (gs ++ g ∷ [])) }
-        ensures err { (g : GivenInWords) → IsSetting g said.entry →
+        ensures err { (g : GivenInWords) → IsSetting g setting.entry →
             IfErr result (λ u. (u ≡ Usage.OutOfMemory) × IsSome (argument_in g)) }
     {
-        match said {
+        match setting {
             Setting::Flag { letter } => {
                 self.settings = with_flag(self.settings, letter);
                 Ok(())
@@ -134,10 +134,10 @@ impl Plan {
             (self.new.operand ≡ self.old.operand) }
         ensures err { IfErr result (λ u. u ≡ Usage.OutOfMemory) }
     {
-        let said = match symbol.value {
+        let setting = match symbol.value {
             Some(value) => self.symbols.define(symbol.name, value, symbol.ignoring),
             None => self.symbols.undefine(symbol.name, symbol.ignoring),
         };
-        said.map_err(|_| Usage::OutOfMemory)
+        setting.map_err(|_| Usage::OutOfMemory)
     }
 }

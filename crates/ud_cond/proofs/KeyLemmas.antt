@@ -83,12 +83,12 @@ module _ (a b : List ℕ) (h : AreBytes a) (k : AreBytes b) (l : length a ≡ le
   -- a name of at most sixteen bytes is determined by its first bytes too
   pub same-middle : 8 ≤ length a → length a ≤ 16 → key_in (take 8 a) ≡ key_in (take 8 b) → a ≡ b
   same-middle some few f =
-      let front : key_in a ≡ key_in b = sym (ap (from_le_bytes w64) (key_in-take a)) ∙ f ∙ ap (from_le_bytes w64) (key_in-take b) in
-      same-by-bytes a b l (λ i m. by_place i m (cases_lt i 8) front)
+      let prefix : key_in a ≡ key_in b = sym (ap (from_le_bytes w64) (key_in-take a)) ∙ f ∙ ap (from_le_bytes w64) (key_in-take b) in
+      same-by-bytes a b l (λ i m. by_place i m (cases_lt i 8) prefix)
     where
       by_place : (i : ℕ) → i < length a → (i < 8) ⊎ (8 ≤ i) → key_in a ≡ key_in b → get_or a i 0 ≡ get_or b i 0
-      by_place i m (inl low) front = at-key_in a b (first_eight-key_in a b h k front) i low
-      by_place i m (inr high) front = near-end (i - (length a - 8)) i (omega arith) (omega arith)
+      by_place i m (inl low) prefix = at-key_in a b (first_eight-key_in a b h k prefix) i low
+      by_place i m (inr high) prefix = near-end (i - (length a - 8)) i (omega arith) (omega arith)
 
 -- equal texts
 pub equal : (a b : List ℕ) → a ≡ b → bytes_eq a b ≡ true

@@ -22,9 +22,9 @@ entry_from-push e [] a name = refl
 entry_from-push e (r ∷ rows) a name = entry_from-push (if bytes_eq r.name name then Some r.entry else e) rows a name
 
 -- a table that sets the entry of a call represents the calls with this one after them
-pub stands-changes : (old new calls : List Argument) (a : Argument) → SetsEntry old new a → TableRepresents old calls → TableRepresents new (calls ++ a ∷ [])
-stands-changes old new calls a change stands name =
-    change name ∙ ap (λ x. if bytes_eq a.name name then Some a.entry else x) (stands name) ∙ sym (entry_from-push None calls a name)
+pub represents-changes : (old new calls : List Argument) (a : Argument) → SetsEntry old new a → TableRepresents old calls → TableRepresents new (calls ++ a ∷ [])
+represents-changes old new calls a change represents name =
+    change name ∙ ap (λ x. if bytes_eq a.name name then Some a.entry else x) (represents name) ∙ sym (entry_from-push None calls a name)
 
 -- rows of other names give a name no entry
 pub entry_from-none : (e : Option Entry) (rows : List Argument) (name : List ℕ) → NoneFrom rows 0 name → entry_from e rows name ≡ e

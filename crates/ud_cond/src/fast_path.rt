@@ -277,8 +277,8 @@ pub(crate) fn evaluate_fast(scope: &Scope<'_>, text: &[u8]) -> Option<Value>
     let mut rest = text;
     'operands: loop {
         let mut value = NO_VALUE;
-        let behind = operand(scope, rest, &mut value)?;
-        match next_token(behind) {
+        let after = operand(scope, rest, &mut value)?;
+        match next_token(after) {
             NextToken::AtEnd => {
                 few.reduce(scope, 0, &mut value);
                 if few.is_empty() {

@@ -78,8 +78,8 @@ impl<'a> Iterator for Names<'a> {
             self.alone = None;
             return Some(name);
         }
-        let (name, behind) = next_name(self.rest)?;
-        self.rest = behind;
+        let (name, after) = next_name(self.rest)?;
+        self.rest = after;
         Some(name)
     }
 }
@@ -106,11 +106,11 @@ fn next_name(text: &[u8]) -> Option<(&[u8], &[u8])>
         match next_token(rest) {
             NextToken::AtEnd => return None,
             NextToken::Unreadable => return None,
-            NextToken::Found(token, behind) => {
+            NextToken::Found(token, after) => {
                 if let Some(name) = name_in(token) {
-                    return Some((name, behind));
+                    return Some((name, after));
                 }
-                rest = behind;
+                rest = after;
             }
         }
     }

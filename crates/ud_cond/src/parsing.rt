@@ -131,7 +131,7 @@ fn read_operand<'a, const BYTES: usize, const OPERANDS: usize>(
     ensures some { IfSome result (λ r. spec.reads (value_meaning_in scope.now)
         (spec.step (value_meaning_in scope.now) (spec.needs stacks.old) (as_token token.entry))
         rest.now ≡ spec.reads (value_meaning_in scope.now) (parse_state r.0 stacks.new) r.1.now) }
-    ensures room { IfSome result (λ r.
+    ensures fits { IfSome result (λ r.
         (weight stacks.new + operand_weight r.0 ≤ weight stacks.old + 1) ×
         (length r.1.now ≤ length rest.now)) }
 {
@@ -179,7 +179,7 @@ fn read_operator<const BYTES: usize, const OPERANDS: usize>(
         (as_token token.entry) ≡ spec.stuck) }
     ensures some { IfSome result (λ r. spec.step (value_meaning_in scope.now)
         (spec.has value stacks.old) (as_token token.entry) ≡ parse_state r stacks.new) }
-    ensures room { IfSome result
+    ensures fits { IfSome result
         (λ r. weight stacks.new + operand_weight r ≤ weight stacks.old + 2) }
 {
     match token {
@@ -236,15 +236,15 @@ fn evaluate_with_stacks<const BYTES: usize, const OPERANDS: usize>(
         match next_token(rest) {
             NextToken::AtEnd => return finish(scope, &mut stacks, operand),
             NextToken::Unreadable => return None,
-            NextToken::Found(token, behind) => match operand {
+            NextToken::Found(token, after) => match operand {
                 None => {
-                    let (next, end) = read_operand(scope, &mut stacks, token, behind)?;
+                    let (next, end) = read_operand(scope, &mut stacks, token, after)?;
                     operand = next;
                     rest = end;
                 }
                 Some(value) => {
                     operand = read_operator(scope, &mut stacks, value, token)?;
-                    rest = behind;
+                    rest = after;
                 }
             },
         }

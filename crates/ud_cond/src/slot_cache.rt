@@ -26,7 +26,7 @@ impl SlotCache {
 
     /// Sets the position of the row of a name with this key. A position above the greatest `u16` is
     /// cached as the greatest one.
-    pub(crate) fn set(&mut self, key: u64, place: usize) {
-        self.positions[slot_of(key)] = u16::try_from(place).unwrap_or(u16::MAX);
+    pub(crate) fn set(&mut self, key: u64, position: usize) {
+        self.positions[slot_of(key)] = u16::try_from(position).unwrap_or(u16::MAX);
     }
 }

@@ -37,15 +37,15 @@ pub fn report_usage<E: Write>(err: &mut Watched<E>, usage: Usage)
 }
 
 /// Writes a message with a letter between two texts.
-fn report_letter<E: Write>(err: &mut Watched<E>, before: &[u8], letter: char, behind: &[u8])
+fn report_letter<E: Write>(err: &mut Watched<E>, before: &[u8], letter: char, after: &[u8])
     requires not_failed { err.old.failed ≡ false }
     ensures { AppendsAllOrPrefix err.new.failed (E.contents err.old.inner)
         (E.contents err.new.inner)
-        (before.now ++ encode_utf8 letter ++ behind.now) }
+        (before.now ++ encode_utf8 letter ++ after.now) }
 {
     let mut buffer = [0; 4];
     let bytes = letter.encode_utf8(&mut buffer).as_bytes();
-    write_parts(err, &[before, bytes, behind]);
+    write_parts(err, &[before, bytes, after]);
 }
 
 /// Writes a message that ends in the number of an argument, after `text`.

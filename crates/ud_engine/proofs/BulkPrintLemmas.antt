@@ -67,9 +67,9 @@ pub dropped_differ : (verdict : Verdict) (n : ℕ) (bytes : List ℕ) → AreWho
     some_other (map (λ (l : Line). []) (numbered_from n (whole_lines bytes))) (map (judged_text verdict) (numbered_from n (whole_lines bytes))) ≡ true
 dropped_differ verdict n bytes ends some = by_lines (whole_lines bytes) (ended_lines bytes ends) (are_whole bytes)
   where
-    some_text : (front : List ℕ) (d : Bool) → (not (bytes_eq [] (front ++ 10 ∷ [])) || d) ≡ true
+    some_text : (prefix : List ℕ) (d : Bool) → (not (bytes_eq [] (prefix ++ 10 ∷ [])) || d) ≡ true
     some_text [] d = refl
-    some_text (b ∷ front) d = refl
+    some_text (b ∷ prefix) d = refl
 
     by_lines : (ls : List (List ℕ)) → bytes ≡ concat ls → AreWhole ls →
         some_other (map (λ (l : Line). []) (numbered_from n ls)) (map (judged_text verdict) (numbered_from n ls)) ≡ true
@@ -96,23 +96,23 @@ pub or_some : (b : Bool) → true ≡ (b || true)
 or_some true = refl
 or_some false = refl
 
-module _ {S : Type 0} (stands : S → List Judged → Type 0) (piece_of : S → List Judged → Judged → List ℕ) (o : Options)
-    (piece : List Judged → Judged → List ℕ) (xs : List (Item Reading)) (t : Tree Reading) (p : LineProcessor S) (h : ProcessorRepresents stands piece_of p o piece xs t) where
+module _ {S : Type 0} (represents : S → List Judged → Type 0) (piece_of : S → List Judged → Judged → List ℕ) (o : Options)
+    (piece : List Judged → Judged → List ℕ) (xs : List (Item Reading)) (t : Tree Reading) (p : LineProcessor S) (h : ProcessorRepresents represents piece_of p o piece xs t) where
   -- No line is printed.
-  pub prints_none : (n : ℕ) → PrintsBulk stands piece_of p o piece xs t (numbered_from n (whole_lines [])) []
+  pub prints_none : (n : ℕ) → PrintsBulk represents piece_of p o piece xs t (numbered_from n (whole_lines [])) []
   unfolding split_lines
   prints_none n = record {
     items = [];
     tree = t;
-    has = subst (λ ys. ProcessorRepresents stands piece_of p o piece ys t) (sym (append-nil xs)) h;
+    has = subst (λ ys. ProcessorRepresents represents piece_of p o piece ys t) (sym (append-nil xs)) h;
     lines_are = refl;
     is_more = ap (λ ys. text_by o.settings.listing piece ys t) (append-nil xs) ∙ sym (append-nil (text_by o.settings.listing piece xs t));
   }
 
   -- The output for each of these lines is `own`.
   pub prints_run : (q : LineProcessor S) (ls : List Line) (verdict : Verdict) (own : Line → List ℕ) (other : Bool) (more : List ℕ) → p.lister ≡ None → q.lister ≡ p.lister →
-      q.printer ≡ p.printer → q.differs ≡ (p.differs || other) → DecidesBulk o q.decider xs t ls verdict → PrintsEach (stands p.printer) (piece_of p.printer) verdict own →
-      some_other (map own ls) (map (judged_text verdict) ls) ≡ other → concat (map own ls) ≡ more → PrintsBulk stands piece_of q o piece xs t ls more
+      q.printer ≡ p.printer → q.differs ≡ (p.differs || other) → DecidesBulk o q.decider xs t ls verdict → PrintsEach (represents p.printer) (piece_of p.printer) verdict own →
+      some_other (map own ls) (map (judged_text verdict) ls) ≡ other → concat (map own ls) ≡ more → PrintsBulk represents piece_of q o piece xs t ls more
   prints_run q ls verdict own other more e same_lister same_printer differs one each others joined =
       let off : o.settings.listing ≡ Off = is_off o.settings.listing (sym h.lister ∙ e) in
       let before : List Judged = judged_lines xs (marks t) in
@@ -120,8 +120,8 @@ module _ {S : Type 0} (stands : S → List Judged → Type 0) (piece_of : S → 
       let all : judged_lines (xs ++ one.items) (marks one.tree) ≡ before ++ next =
       ap (judged_lines (xs ++ one.items)) one.marks_are
       ∙ judged_line-append xs one.items (marks t) one.own (length_marks true t ∙ ap length (sound_lines h.has.read.sound))
-      ∙ ap (λ js. before ++ js) one.judged_so in
-      let shown : (pieces_by (piece_of p.printer) before next ≡ map own ls) × stands p.printer (before ++ next) = each before ls (h.shown off) in
+      ∙ ap (λ js. before ++ js) one.decided in
+      let shown : (pieces_by (piece_of p.printer) before next ≡ map own ls) × represents p.printer (before ++ next) = each before ls (h.shown off) in
       let pieces : pieces_by piece [] (before ++ next) ≡ pieces_by piece [] before ++ map own ls =
       pieces_by-append piece [] before next
       ∙ ap (λ ps. pieces_by piece [] before ++ ps) (sym (pieces_by-same (piece_of p.printer) piece h.stays before next) ∙ shown.0) in
@@ -131,7 +131,7 @@ module _ {S : Type 0} (stands : S → List Judged → Type 0) (piece_of : S → 
         has = record {
           has = one.has;
           lister = same_lister ∙ h.lister;
-          shown = λ f. subst (λ s. stands s (judged_lines (xs ++ one.items) (marks one.tree))) (sym same_printer) (subst (stands p.printer) (sym all) shown.1);
+          shown = λ f. subst (λ s. represents s (judged_lines (xs ++ one.items) (marks one.tree))) (sym same_printer) (subst (represents p.printer) (sym all) shown.1);
           stays = λ bs j. ap (λ s. piece_of s bs j) same_printer ∙ h.stays bs j;
           differs =
               differs ∙ ap (λ d. d || other) h.differs

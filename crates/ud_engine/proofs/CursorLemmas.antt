@@ -68,18 +68,18 @@ tried_done bytes r next untried tried forth =
     let b : flag next.bulk_tried ≡ 0 = ap flag tried in
     omega (arith, forth, a, b)
 
-module _ {S : Type 0} (stands : S → List Judged → Type 0) (piece_of : S → List Judged → Judged → List ℕ) (o : Options) (piece : List Judged → Judged → List ℕ)
-    (e : EngineState S) (text printed : List ℕ) (h : EngineRepresentsBuffered stands piece_of e o piece text printed) (f : EngineState S) (bytes more : List ℕ)
+module _ {S : Type 0} (represents : S → List Judged → Type 0) (piece_of : S → List Judged → Judged → List ℕ) (o : Options) (piece : List Judged → Judged → List ℕ)
+    (e : EngineState S) (text printed : List ℕ) (h : EngineRepresentsBuffered represents piece_of e o piece text printed) (f : EngineState S) (bytes more : List ℕ)
     (can : CanConsume e.lines bytes) (symbols : f.symbols ≡ e.symbols) (given_up : f.lines ≡ consumed e.lines bytes) (took : LinesRepresent f.lines (text ++ bytes))
-    (prints : PrintsBulk stands piece_of f.printer o piece h.items h.tree (numbered_from (suc e.lines.before) (whole_lines bytes)) more) where
+    (prints : PrintsBulk represents piece_of f.printer o piece h.items h.tree (numbered_from (suc e.lines.before) (whole_lines bytes)) more) where
   all_lines : lines_so_far (text ++ bytes) ≡ lines_so_far text ++ numbered_from (suc e.lines.before) (whole_lines bytes)
   all_lines =
-      ap (numbered_from 1) (lines_joined text bytes (rest_is stands piece_of o piece e text printed h ∙ can.unheld))
+      ap (numbered_from 1) (lines_joined text bytes (rest_is represents piece_of o piece e text printed h ∙ can.unheld))
       ∙ numbered_from-append 1 (whole_lines text) (whole_lines bytes)
-      ∙ ap (λ n. lines_so_far text ++ numbered_from n (whole_lines bytes)) (let b = before_is stands piece_of o piece e text printed h in omega (arith, b))
+      ∙ ap (λ n. lines_so_far text ++ numbered_from n (whole_lines bytes)) (let b = before_is represents piece_of o piece e text printed h in omega (arith, b))
 
   -- The lines of `bytes` were also taken.
-  pub run_taken : EngineRepresentsBuffered stands piece_of f o piece (text ++ bytes) (printed ++ more)
+  pub run_taken : EngineRepresentsBuffered represents piece_of f o piece (text ++ bytes) (printed ++ more)
   run_taken = record {
     items = h.items ++ prints.items;
     tree = prints.tree;
@@ -99,11 +99,11 @@ module _ {S : Type 0} (stands : S → List Judged → Type 0) (piece_of : S → 
   }
 
 -- Skipped lines in a chunk.
-module _ {S : Type 0} (stands : S → List Judged → Type 0) (piece_of : S → List Judged → Judged → List ℕ) (o : Options) (piece : List Judged → Judged → List ℕ)
+module _ {S : Type 0} (represents : S → List Judged → Type 0) (piece_of : S → List Judged → Judged → List ℕ) (o : Options) (piece : List Judged → Judged → List ℕ)
     (text printed : List ℕ) (a b : Option (List ℕ)) (f : EngineState S) (g : List ℕ) (bytes : List ℕ) (from at end : ℕ) (ordered : from ≤ at) (later : at ≤ end) where
   -- Copied lines extend the pending bytes.
-  pub run_kept : EngineRepresentsBuffered stands piece_of f o piece (text ++ slice_between bytes at end) (printed ++ slice_between bytes at end) → f.buffered ≡ g →
-      Advances stands piece_of f o piece text printed (slice_between bytes at end) a a (g ++ slice_between bytes from at) (f.buffered ++ slice_between bytes from end)
+  pub run_kept : EngineRepresentsBuffered represents piece_of f o piece (text ++ slice_between bytes at end) (printed ++ slice_between bytes at end) → f.buffered ≡ g →
+      Advances represents piece_of f o piece text printed (slice_between bytes at end) a a (g ++ slice_between bytes from at) (f.buffered ++ slice_between bytes from end)
   run_kept taken same =
       let joined : f.buffered ++ slice_between bytes from end ≡ (g ++ slice_between bytes from at) ++ slice_between bytes at end =
       ap₂ (λ x y. x ++ y) same (between_more bytes from at end ordered later) ∙ sym (append_assoc g (slice_between bytes from at) (slice_between bytes at end)) in
@@ -114,8 +114,8 @@ module _ {S : Type 0} (stands : S → List Judged → Type 0) (piece_of : S → 
       }
 
   -- Before dropped lines, the pending bytes are appended.
-  pub run_dropped : EngineRepresentsBuffered stands piece_of f o piece (text ++ slice_between bytes at end) (printed ++ []) → AppendsAllBut a b (g ++ slice_between bytes from at) f.buffered →
-      Advances stands piece_of f o piece text printed (slice_between bytes at end) a b (g ++ slice_between bytes from at) (f.buffered ++ slice_between bytes end end)
+  pub run_dropped : EngineRepresentsBuffered represents piece_of f o piece (text ++ slice_between bytes at end) (printed ++ []) → AppendsAllBut a b (g ++ slice_between bytes from at) f.buffered →
+      Advances represents piece_of f o piece text printed (slice_between bytes at end) a b (g ++ slice_between bytes from at) (f.buffered ++ slice_between bytes end end)
   run_dropped taken sent = record {
     more = [];
     taken = taken;
@@ -155,50 +155,50 @@ pub place_after_line : (room : ℕ) (lines new : LinesState) (bytes rest : List 
     CanBorrow lines rest (length (text_of l)) → (end : ℕ) → end ≡ r.pos + length (text_of l) → new ≡ record lines { before = lines.before + 1 } →
     (from : ℕ) → from ≤ end → IsCursor room new bytes (record { pending_start = from; pos = end; whole_end = r.whole_end; bulk_tried = false })
 place_after_line room lines new bytes rest r rest_from place l lends end ends counted from ordered =
-    let front : take (length (text_of l)) rest ≡ slice_between bytes r.pos end = ap₂ (λ n x. take n x) (let e : length (text_of l) ≡ end - r.pos = omega (arith, ends) in e) rest_from in
-    let one = one_line_front rest (length (text_of l)) lends.front in
+    let prefix : take (length (text_of l)) rest ≡ slice_between bytes r.pos end = ap₂ (λ n x. take n x) (let e : length (text_of l) ≡ end - r.pos = omega (arith, ends) in e) rest_from in
+    let one = one_line_front rest (length (text_of l)) lends.prefix in
     record {
       from = ordered;
-      at = let w = lends.front.within in let k = ap length rest_from in let m = length-drop r.pos bytes in let p = place.at in omega (arith, w, k, m, p, ends);
+      at = let w = lends.prefix.within in let k = ap length rest_from in let m = length-drop r.pos bytes in let p = place.at in omega (arith, w, k, m, p, ends);
       whole = place.whole;
       ready = λ later.
-          ready_after lines new bytes r.pos end r.whole_end (omega (arith, ends)) later (place.ready (omega (arith, ends, later))) (subst AreWholeLines front one.0)
-          (counted ∙ ap (λ n. record lines { before = lines.before + n }) (sym one.1 ∙ ap (λ x. length (whole_lines x)) front));
+          ready_after lines new bytes r.pos end r.whole_end (omega (arith, ends)) later (place.ready (omega (arith, ends, later))) (subst AreWholeLines prefix one.0)
+          (counted ∙ ap (λ n. record lines { before = lines.before + n }) (sym one.1 ∙ ap (λ x. length (whole_lines x)) prefix));
       fits = λ small. let f = place.fits small in let z = ap (λ (k : LinesState). length k.held) counted in omega (arith, f, z, ends);
     }
 
 -- The skipped lines were also taken.
-module _ {S : Type 0} (stands : S → List Judged → Type 0) (piece_of : S → List Judged → Judged → List ℕ) (o : Options) (piece : List Judged → Judged → List ℕ)
-    (e f : EngineState S) (text printed : List ℕ) (h : EngineRepresentsBuffered stands piece_of e o piece text printed) (bytes : List ℕ) (at whole : ℕ) (passed : SkippedText)
+module _ {S : Type 0} (represents : S → List Judged → Type 0) (piece_of : S → List Judged → Judged → List ℕ) (o : Options) (piece : List Judged → Judged → List ℕ)
+    (e f : EngineState S) (text printed : List ℕ) (h : EngineRepresentsBuffered represents piece_of e o piece text printed) (bytes : List ℕ) (at whole : ℕ) (passed : SkippedText)
     (can : CanConsume e.lines (slice_between bytes at whole)) (within : passed.count ≤ length (slice_between bytes at whole))
     (ends : AreWholeLines (take passed.count (slice_between bytes at whole))) (symbols : f.symbols ≡ e.symbols)
     (given_up : f.lines ≡ consumed e.lines (take passed.count (slice_between bytes at whole)))
     (took : LinesRepresent f.lines (text ++ take passed.count (slice_between bytes at whole)))
-    (prints : PrintsBulk stands piece_of f.printer o piece h.items h.tree (numbered_from (suc e.lines.before) (whole_lines (take passed.count (slice_between bytes at whole))))
+    (prints : PrintsBulk represents piece_of f.printer o piece h.items h.tree (numbered_from (suc e.lines.before) (whole_lines (take passed.count (slice_between bytes at whole))))
     (printed_of passed (slice_between bytes at whole))) where
-  lines_taken : EngineRepresentsBuffered stands piece_of f o piece (text ++ take passed.count (slice_between bytes at whole)) (printed ++ printed_of passed (slice_between bytes at whole))
+  lines_taken : EngineRepresentsBuffered represents piece_of f o piece (text ++ take passed.count (slice_between bytes at whole)) (printed ++ printed_of passed (slice_between bytes at whole))
   lines_taken =
-      run_taken stands piece_of o piece e text printed h f (take passed.count (slice_between bytes at whole)) (printed_of passed (slice_between bytes at whole))
+      run_taken represents piece_of o piece e text printed h f (take passed.count (slice_between bytes at whole)) (printed_of passed (slice_between bytes at whole))
       (can_skip_take e.lines (slice_between bytes at whole) passed.count ends can) symbols given_up took prints
 
   taken_as : (kept : Bool) → passed.kept ≡ kept →
-      EngineRepresentsBuffered stands piece_of f o piece (text ++ slice_between bytes at (at + passed.count)) (printed ++ (if kept then slice_between bytes at (at + passed.count) else []))
+      EngineRepresentsBuffered represents piece_of f o piece (text ++ slice_between bytes at (at + passed.count)) (printed ++ (if kept then slice_between bytes at (at + passed.count) else []))
   taken_as kept is =
       let cut : take passed.count (slice_between bytes at whole) ≡ slice_between bytes at (at + passed.count) = first_between bytes at whole passed.count within in
-      subst (λ x. EngineRepresentsBuffered stands piece_of f o piece (text ++ x) (printed ++ (if kept then x else []))) cut
-      (subst (λ k. EngineRepresentsBuffered stands piece_of f o piece (text ++ take passed.count (slice_between bytes at whole)) (printed ++ (if k then take passed.count (slice_between bytes at whole) else [])))
+      subst (λ x. EngineRepresentsBuffered represents piece_of f o piece (text ++ x) (printed ++ (if kept then x else []))) cut
+      (subst (λ k. EngineRepresentsBuffered represents piece_of f o piece (text ++ take passed.count (slice_between bytes at whole)) (printed ++ (if k then take passed.count (slice_between bytes at whole) else [])))
       is lines_taken)
 
   module _ (a b : Option (List ℕ)) (from : ℕ) (ordered : from ≤ at) where
     -- Copied lines extend the pending bytes.
     pub passed_kept : passed.kept ≡ true → f.buffered ≡ e.buffered →
-        Advances stands piece_of f o piece text printed (slice_between bytes at (at + passed.count)) a a (e.buffered ++ slice_between bytes from at) (f.buffered ++ slice_between bytes from (at + passed.count))
+        Advances represents piece_of f o piece text printed (slice_between bytes at (at + passed.count)) a a (e.buffered ++ slice_between bytes from at) (f.buffered ++ slice_between bytes from (at + passed.count))
     passed_kept kept same =
-        run_kept stands piece_of o piece text printed a a f e.buffered bytes from at (at + passed.count) ordered (omega arith) (taken_as true kept) same
+        run_kept represents piece_of o piece text printed a a f e.buffered bytes from at (at + passed.count) ordered (omega arith) (taken_as true kept) same
 
     -- Before dropped lines, the pending bytes are appended.
     pub passed_dropped : passed.kept ≡ false → AppendsAllBut a b (e.buffered ++ slice_between bytes from at) f.buffered →
-        Advances stands piece_of f o piece text printed (slice_between bytes at (at + passed.count)) a b (e.buffered ++ slice_between bytes from at)
+        Advances represents piece_of f o piece text printed (slice_between bytes at (at + passed.count)) a b (e.buffered ++ slice_between bytes from at)
         (f.buffered ++ slice_between bytes (at + passed.count) (at + passed.count))
     passed_dropped kept sent =
-        run_dropped stands piece_of o piece text printed a b f e.buffered bytes from at (at + passed.count) ordered (omega arith) (taken_as false kept) sent
+        run_dropped represents piece_of o piece text printed a b f e.buffered bytes from at (at + passed.count) ordered (omega arith) (taken_as false kept) sent

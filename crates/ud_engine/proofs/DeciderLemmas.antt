@@ -34,7 +34,7 @@ module _ (o : Options) (new : TheReader) (xs : List (Item Reading)) (t : Tree Re
     has = has_next a.tree a.read b c;
     mark = a.mark;
     marks_are = a.marks_are;
-    judged_so = a.judged_so;
+    decided = a.decided;
   }
 
 pub second : (P Q : Type 0) (answer : Result Step SectionFault) → OnOk answer (P × Q) → OnOk answer Q

@@ -30,13 +30,13 @@ no_last : (r : List ℕ) → (0 < length r → ⊥) → last_line r ≡ []
 no_last [] none = refl
 no_last (b ∷ bs) none = absurd (none (omega arith))
 
-module _ {S : Type 0} (stands : S → List Judged → Type 0) (piece_of : S → List Judged → Judged → List ℕ) (o : Options) (piece : List Judged → Judged → List ℕ)
-    (e : EngineState S) (text printed : List ℕ) (fed : EngineRepresents stands piece_of e o piece text printed) where
-  abbrev h : EngineRepresentsBuffered stands piece_of e o piece text printed
+module _ {S : Type 0} (represents : S → List Judged → Type 0) (piece_of : S → List Judged → Judged → List ℕ) (o : Options) (piece : List Judged → Judged → List ℕ)
+    (e : EngineState S) (text printed : List ℕ) (fed : EngineRepresents represents piece_of e o piece text printed) where
+  abbrev h : EngineRepresentsBuffered represents piece_of e o piece text printed
   h = fed.taken
 
   -- The engine by its parts.
-  pub rests : (symbols : List Argument) → symbols ≡ e.symbols → EngineRepresents stands piece_of (without_fault symbols e.lines e.printer e.buffered) o piece text printed
+  pub rests : (symbols : List Argument) → symbols ≡ e.symbols → EngineRepresents represents piece_of (without_fault symbols e.lines e.printer e.buffered) o piece text printed
   rests symbols same = record {
     taken = record {
       items = h.items;
@@ -59,10 +59,10 @@ module _ {S : Type 0} (stands : S → List Judged → Type 0) (piece_of : S → 
   pub all_read : (0 < length e.lines.held → ⊥) → lines_of text ≡ lines_so_far text
   all_read none =
       ap (numbered_from 1)
-      (ap (λ (r : List ℕ). whole_lines text ++ last_line r) (rest_is stands piece_of o piece e text printed h)
+      (ap (λ (r : List ℕ). whole_lines text ++ last_line r) (rest_is represents piece_of o piece e text printed h)
       ∙ ap (λ (ls : List (List ℕ)). whole_lines text ++ ls) (no_last e.lines.held none) ∙ append-nil (whole_lines text))
 
-  pub ends_held : (a : Option (List ℕ)) → (0 < length e.lines.held → ⊥) → PrintsAll stands piece_of e.printer o piece text printed a a
+  pub ends_held : (a : Option (List ℕ)) → (0 < length e.lines.held → ⊥) → PrintsAll represents piece_of e.printer o piece text printed a a
   ends_held a none = record {
     items = h.items;
     tree = h.tree;
@@ -78,14 +78,14 @@ module _ {S : Type 0} (stands : S → List Judged → Type 0) (piece_of : S → 
     pub last_is : lines_of text ≡ lines_so_far text ++ l ∷ []
     last_is =
         ap (numbered_from 1)
-        (ap (λ (r : List ℕ). whole_lines text ++ last_line r) (rest_is stands piece_of o piece e text printed h)
+        (ap (λ (r : List ℕ). whole_lines text ++ last_line r) (rest_is represents piece_of o piece e text printed h)
         ∙ ap (λ (ls : List (List ℕ)). whole_lines text ++ ls) (last_line-some e.lines.held (λ none. let z = ap length none in omega (arith, z, some))))
         ∙ numbered_from-next (whole_lines text) e.lines.held []
         ∙ ap (λ k. lines_so_far text ++ k ∷ [])
-        (ap (λ n. line_at (suc n) e.lines.held) (sym (before_is stands piece_of o piece e text printed h))
+        (ap (λ n. line_at (suc n) e.lines.held) (sym (before_is represents piece_of o piece e text printed h))
         ∙ sym (ap (λ (k : LinesState). line_at (suc k.before) k.held) closed) ∙ sym is)
 
-    module _ (p : LineProcessor S) (a b : Option (List ℕ)) (left : List ℕ) (prints : PrintsLine stands piece_of p o piece h.items h.tree l true a b e.buffered left []) where
+    module _ (p : LineProcessor S) (a b : Option (List ℕ)) (left : List ℕ) (prints : PrintsLine represents piece_of p o piece h.items h.tree l true a b e.buffered left []) where
       last_goes : HasNoFault o (lines_of text) (h.items ++ next_item o h.items h.tree l ∷ []) prints.tree
       last_goes = record {
         sound = prints.has.has.read.sound;
@@ -96,7 +96,7 @@ module _ {S : Type 0} (stands : S → List Judged → Type 0) (piece_of : S → 
       last_sent = subst (λ x. AppendsAllBut a b (x ++ ([] ++ prints.more)) left) fed.written prints.goes
 
       -- The last line is printed, and all output is written.
-      pub last_printed : (c : Option (List ℕ)) → AppendsAllBut b c left [] → PrintsAll stands piece_of p o piece text printed a c
+      pub last_printed : (c : Option (List ℕ)) → AppendsAllBut b c left [] → PrintsAll represents piece_of p o piece text printed a c
       last_printed c s = record {
         items = h.items ++ next_item o h.items h.tree l ∷ [];
         tree = prints.tree;
@@ -106,21 +106,21 @@ module _ {S : Type 0} (stands : S → List Judged → Type 0) (piece_of : S → 
         printed_is = ap (λ x. x ++ prints.more) h.printed_is ∙ sym prints.is_more;
         appended =
             let all = appends_all_but_part a b c prints.more left [] (subst (λ x. AppendsAllBut a b prints.more x) (sym (append-nil left)) last_sent)
-            (subst (λ x. Appends b c x) (sym (s.joined ∙ append-nil s.front)) s.appended) in
-            subst (λ x. Appends a c x) (sym (all.joined ∙ append-nil all.front)) all.appended;
+            (subst (λ x. Appends b c x) (sym (s.joined ∙ append-nil s.prefix)) s.appended) in
+            subst (λ x. Appends a c x) (sym (all.joined ∙ append-nil all.prefix)) all.appended;
       }
 
       -- A write fails after the last line is printed.
       pub last_cut : (c : Option (List ℕ)) → AppendsPrefix b c left → FinishTruncated o piece text printed a c
-      last_cut c front = record {
+      last_cut c prefix = record {
         items = h.items ++ next_item o h.items h.tree l ∷ [];
         tree = prints.tree;
         goes = last_goes;
         more = prints.more;
         printed_is = ap (λ x. x ++ prints.more) h.printed_is ∙ sym prints.is_more;
-        front =
+        prefix =
             subst (λ x. AppendsPrefix a c x) (append-nil prints.more)
-            (appends_all_but_then_front a b c prints.more left [] last_sent (subst (λ x. AppendsPrefix b c x) (sym (append-nil left)) front));
+            (appends_all_but_then_front a b c prints.more left [] last_sent (subst (λ x. AppendsPrefix b c x) (sym (append-nil left)) prefix));
       }
 
     -- The last line is faulty, or a write fails.
@@ -152,14 +152,14 @@ module _ {S : Type 0} (stands : S → List Judged → Type 0) (piece_of : S → 
         goes = record { sound = fails.sound; are = last_is ∙ ap (λ ls. ls ++ l ∷ []) h.goes.are ∙ sym (lines_more o h.items h.tree l) };
         more = fails.more;
         printed_is = ap (λ x. x ++ fails.more) h.printed_is ∙ sym fails.is_more;
-        front = subst (λ x. AppendsPrefix (contents old.inner) (contents new.inner) (x ++ ([] ++ fails.more))) none fails.front;
+        prefix = subst (λ x. AppendsPrefix (contents old.inner) (contents new.inner) (x ++ ([] ++ fails.more))) none fails.prefix;
       },
     )
     last_fails contents old new buffered left none works (Text f) fails leaves = absurd fails
     last_fails contents old new buffered left none works Read fails leaves = absurd fails
 
-module _ {S : Type 0} (stands : S → List Judged → Type 0) (piece_of : S → List Judged → Judged → List ℕ) (p : LineProcessor S) (o : Options) (piece : List Judged → Judged → List ℕ)
-    (text printed : List ℕ) (a b : Option (List ℕ)) (all : PrintsAll stands piece_of p o piece text printed a b) where
+module _ {S : Type 0} (represents : S → List Judged → Type 0) (piece_of : S → List Judged → Judged → List ℕ) (p : LineProcessor S) (o : Options) (piece : List Judged → Judged → List ℕ)
+    (text printed : List ℕ) (a b : Option (List ℕ)) (all : PrintsAll represents piece_of p o piece text printed a b) where
   -- The end has a fault.
   pub ends_at : (f : Fault) → Some f ≡ end_fault all.items all.tree → FinishFault o piece text printed a b f
   ends_at f e = record {

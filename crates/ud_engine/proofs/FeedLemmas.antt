@@ -51,29 +51,29 @@ pub none_begun : (lines : LinesState) → lines ≡ record { held = []; whole = 
     0 < length lines.held → lines.before < TEXT_LINES
 none_begun lines is some = let z = ap (λ (l : LinesState). length l.held) is in omega (arith, z, some)
 
-module _ {S : Type 0} (stands : S → List Judged → Type 0) (piece_of : S → List Judged → Judged → List ℕ) (o : Options) (piece : List Judged → Judged → List ℕ)
+module _ {S : Type 0} (represents : S → List Judged → Type 0) (piece_of : S → List Judged → Judged → List ℕ) (o : Options) (piece : List Judged → Judged → List ℕ)
     (text printed : List ℕ) where
   -- Before the first byte of a chunk.
-  pub feed_begins : (e : EngineState S) (a : Option (List ℕ)) (bytes : List ℕ) → EngineRepresents stands piece_of e o piece text printed →
-      Advances stands piece_of e o piece text printed (take 0 bytes) a a [] (e.buffered ++ slice_between bytes 0 0)
+  pub feed_begins : (e : EngineState S) (a : Option (List ℕ)) (bytes : List ℕ) → EngineRepresents represents piece_of e o piece text printed →
+      Advances represents piece_of e o piece text printed (take 0 bytes) a a [] (e.buffered ++ slice_between bytes 0 0)
   feed_begins e a bytes h = record {
     more = [];
-    taken = subst (λ x. EngineRepresentsBuffered stands piece_of e o piece (text ++ []) x) (sym (append-nil printed))
-        (subst (λ x. EngineRepresentsBuffered stands piece_of e o piece x printed) (sym (append-nil text)) h.taken);
+    taken = subst (λ x. EngineRepresentsBuffered represents piece_of e o piece (text ++ []) x) (sym (append-nil printed))
+        (subst (λ x. EngineRepresentsBuffered represents piece_of e o piece x printed) (sym (append-nil text)) h.taken);
     sent = subst (λ x. AppendsAllBut a a [] x) (sym (ap₂ (λ x y. x ++ y) h.written (between_none bytes 0))) (appends_all_but_none a []);
   }
 
   -- One step more.
   pub feed_goes_on : (e f : EngineState S) (a b c : Option (List ℕ)) (bytes : List ℕ) (at end : ℕ) (left rest : List ℕ) → at ≤ end →
-      (h : Advances stands piece_of e o piece text printed (take at bytes) a b [] left) →
-      Advances stands piece_of f o piece (text ++ take at bytes) (printed ++ h.more) (slice_between bytes at end) b c left rest →
-      Advances stands piece_of f o piece text printed (take end bytes) a c [] rest
+      (h : Advances represents piece_of e o piece text printed (take at bytes) a b [] left) →
+      Advances represents piece_of f o piece (text ++ take at bytes) (printed ++ h.more) (slice_between bytes at end) b c left rest →
+      Advances represents piece_of f o piece text printed (take end bytes) a c [] rest
   feed_goes_on e f a b c bytes at end left rest later h k = record {
     more = h.more ++ k.more;
     taken =
-        subst (λ x. EngineRepresentsBuffered stands piece_of f o piece x (printed ++ (h.more ++ k.more)))
+        subst (λ x. EngineRepresentsBuffered represents piece_of f o piece x (printed ++ (h.more ++ k.more)))
         (append_assoc text (take at bytes) (slice_between bytes at end) ∙ ap (λ x. text ++ x) (take_more_of bytes at end later))
-        (subst (λ x. EngineRepresentsBuffered stands piece_of f o piece ((text ++ take at bytes) ++ slice_between bytes at end) x) (append_assoc printed h.more k.more) k.taken);
+        (subst (λ x. EngineRepresentsBuffered represents piece_of f o piece ((text ++ take at bytes) ++ slice_between bytes at end) x) (append_assoc printed h.more k.more) k.taken);
     sent = appends_all_but_then a b c h.more left k.more rest h.sent k.sent;
   }
 
@@ -85,20 +85,20 @@ module _ {S : Type 0} (stands : S → List Judged → Type 0) (piece_of : S → 
     (
       more ++ k.more,
       subst (λ x. PrintsPrefix o piece longer x) (append_assoc printed more k.more) k.reaches,
-      appends_all_but_then_front a b c more pending k.more s k.front,
+      appends_all_but_then_front a b c more pending k.more s k.prefix,
     ),
   )
 
-  module _ (e : EngineState S) (a b : Option (List ℕ)) (bytes : List ℕ) (at : ℕ) (left : List ℕ) (h : Advances stands piece_of e o piece text printed (take at bytes) a b [] left) where
+  module _ (e : EngineState S) (a b : Option (List ℕ)) (bytes : List ℕ) (at : ℕ) (left : List ℕ) (h : Advances represents piece_of e o piece text printed (take at bytes) a b [] left) where
     whole_text : (text ++ take at bytes) ++ drop at bytes ≡ text ++ bytes
     whole_text = append_assoc text (take at bytes) (drop at bytes) ∙ ap (λ x. text ++ x) (take-append-drop at bytes)
 
     -- A write fails within the pending bytes.
     left_fails : (c : Option (List ℕ)) (failed : Bool) → failed ≡ true → AppendsPrefix b c left → FeedFails o piece failed a c (text ++ bytes) printed Write
-    left_fails c failed f front =
+    left_fails c failed f prefix =
         write_fails a b c (text ++ bytes) h.more left failed f h.sent
         (subst (λ x. WriteStops o piece x (printed ++ h.more) b c left) whole_text
-        (run_falls_short stands piece_of o piece e (text ++ take at bytes) (printed ++ h.more) h.taken (drop at bytes) b c left front))
+        (run_falls_short represents piece_of o piece e (text ++ take at bytes) (printed ++ h.more) h.taken (drop at bytes) b c left prefix))
 
     -- The pending bytes are written, and the fault ends the run.
     text_ends : (c : Option (List ℕ)) → Appends b c left → Appends a c h.more
@@ -153,21 +153,21 @@ module _ {S : Type 0} (stands : S → List Judged → Type 0) (piece_of : S → 
 
     -- All of the chunk is processed, and all output is written.
     pub feed_ends : (f : EngineState S) (c : Option (List ℕ)) (buffered : List ℕ) → f ≡ record e { buffered = buffered } → buffered ≡ [] → e.fault ≡ None → length bytes ≤ at →
-        AppendsAllBut b c left [] → Continues stands piece_of f o piece (text ++ bytes) printed a c
+        AppendsAllBut b c left [] → Continues represents piece_of f o piece (text ++ bytes) printed a c
     feed_ends f c buffered is none works end s = record {
       more = h.more;
       fed = fed;
-      appended = text_ends c (subst (λ x. Appends b c x) (sym (s.joined ∙ append-nil s.front)) s.appended);
-      right = reads_so_far stands piece_of o piece f (text ++ bytes) (printed ++ h.more) fed.taken;
-      one_line = one_line stands piece_of o piece f (text ++ bytes) (printed ++ h.more) fed.taken;
-      few_sections = few_sections stands piece_of o piece f (text ++ bytes) (printed ++ h.more) fed.taken;
+      appended = text_ends c (subst (λ x. Appends b c x) (sym (s.joined ∙ append-nil s.prefix)) s.appended);
+      right = reads_so_far represents piece_of o piece f (text ++ bytes) (printed ++ h.more) fed.taken;
+      one_line = one_line represents piece_of o piece f (text ++ bytes) (printed ++ h.more) fed.taken;
+      few_sections = few_sections represents piece_of o piece f (text ++ bytes) (printed ++ h.more) fed.taken;
     }
       where
-        taken : EngineRepresentsBuffered stands piece_of e o piece (text ++ bytes) (printed ++ h.more)
-        taken = subst (λ x. EngineRepresentsBuffered stands piece_of e o piece (text ++ x) (printed ++ h.more)) (take_all at bytes end) h.taken
+        taken : EngineRepresentsBuffered represents piece_of e o piece (text ++ bytes) (printed ++ h.more)
+        taken = subst (λ x. EngineRepresentsBuffered represents piece_of e o piece (text ++ x) (printed ++ h.more)) (take_all at bytes end) h.taken
 
-        fed : EngineRepresents stands piece_of f o piece (text ++ bytes) (printed ++ h.more)
-        fed = subst (λ x. EngineRepresents stands piece_of x o piece (text ++ bytes) (printed ++ h.more)) (sym is) (record {
+        fed : EngineRepresents represents piece_of f o piece (text ++ bytes) (printed ++ h.more)
+        fed = subst (λ x. EngineRepresents represents piece_of x o piece (text ++ bytes) (printed ++ h.more)) (sym is) (record {
           taken = record {
             items = taken.items;
             tree = taken.tree;
@@ -187,4 +187,4 @@ module _ {S : Type 0} (stands : S → List Judged → Type 0) (piece_of : S → 
 
     -- A write fails at the end of the chunk.
     pub feed_falls_short : (c : Option (List ℕ)) (failed : Bool) → failed ≡ true → AppendsPrefix b c left → FeedFails o piece failed a c (text ++ bytes) printed Write
-    feed_falls_short c failed f front = left_fails c failed f front
+    feed_falls_short c failed f prefix = left_fails c failed f prefix

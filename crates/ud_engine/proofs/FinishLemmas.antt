@@ -11,7 +11,7 @@ use Rattle.ud_engine.specs.declared.pump.TheConstants.{CHUNK_BYTES}
 use Rattle.ud_engine.specs.Finishing.{FinishOk, FinishErr, RunAnswers}
 use Rattle.ud_engine.specs.Feeding.{EngineState, EngineRepresents, FeedFails, Continues}
 use Rattle.ud_engine.specs.Runs.{InProgress, RunFinished, ErrorMatchesStreams}
-use Rattle.ud_engine.proofs.RunLemmas.{own_piece, input_is, input_begins, kept_up, ended_ran, ended_appended, ended_read, ended_write, fed_read, fed_write, feed_appended, ran_early, the_err}
+use Rattle.ud_engine.proofs.RunLemmas.{own_piece, input_is, input_begins, lag, ended_ran, ended_appended, ended_read, ended_write, fed_read, fed_write, feed_appended, ran_early, the_err}
 use Rattle.ud_engine.proofs.RunEndedLemmas.{printed_so_far, fed_ends, end_ends}
 
 -- A run begins.
@@ -25,10 +25,10 @@ module _ (o : Options) (e : EngineState Printer) (r₀ r₁ w₀ w₁ : Option (
       let all : Consumes r₀ r₂ u.given = Consumes-kept r₀ r₁ r₂ u.given u.consumed kept in
       record {
         ran = λ reads writes. cc;
-        kept_up =
-            kept_up o printer_represents printer_piece e u.given u.printed u.fed.taken r₀ r₂ w₀ w₁ w₁ [] []
+        lag =
+            lag o printer_represents printer_piece e u.given u.printed u.fed.taken r₀ r₂ w₀ w₁ w₁ [] []
             (subst (λ (x : List ℕ). Consumes r₀ r₂ x) (sym (append-nil u.given)) all) (omega arith) u.appended (Appends-nil w₁);
-        went = record {
+        ended = record {
           given = u.given;
           consumed = all;
           ends = printed_so_far o printer_represents printer_piece e u.given u.printed u.fed.taken w₀ w₁ u.appended;
@@ -47,8 +47,8 @@ module _ (o : Options) (e : EngineState Printer) (r₀ r₁ w₀ w₁ : Option (
         ran = λ reads writes.
             input_is r₀ r₂ u.given (λ input. RunAnswers o input w₀ w₂ result) all left
             (ended_ran o w₀ w₁ w₂ u.given u.printed writer u.appended result well ill writes);
-        kept_up = kept_up o printer_represents printer_piece e u.given u.printed u.fed.taken r₀ r₂ w₀ w₁ w₂ [] more.0 joined (omega arith) u.appended more.1;
-        went = record { given = u.given; consumed = all; ends = end_ends o r₂ w₀ w₁ w₂ u.printed u.appended writer u.given left result well ill };
+        lag = lag o printer_represents printer_piece e u.given u.printed u.fed.taken r₀ r₂ w₀ w₁ w₂ [] more.0 joined (omega arith) u.appended more.1;
+        ended = record { given = u.given; consumed = all; ends = end_ends o r₂ w₀ w₁ w₂ u.printed u.appended writer u.given left result well ill };
       }
 
   module _ (r₂ w₂ : Option (List ℕ)) (piece : List ℕ) (read : Consumes r₁ r₂ piece) where
@@ -62,8 +62,8 @@ module _ (o : Options) (e : EngineState Printer) (r₀ r₁ w₀ w₁ : Option (
           ran = λ reads writes.
               input_begins r₀ r₂ (u.given ++ piece) (λ input. RunAnswers o input w₀ w₂ (the_err f)) all
               (ran_early o w₀ w₁ w₂ (u.given ++ piece) u.printed writer f writes u.appended fails);
-          kept_up = kept_up o printer_represents printer_piece e u.given u.printed u.fed.taken r₀ r₂ w₀ w₁ w₂ piece more.0 all few u.appended more.1;
-          went = record { given = u.given ++ piece; consumed = all; ends = fed_ends o r₂ w₀ w₁ w₂ u.printed u.appended writer (u.given ++ piece) f fails };
+          lag = lag o printer_represents printer_piece e u.given u.printed u.fed.taken r₀ r₂ w₀ w₁ w₂ piece more.0 all few u.appended more.1;
+          ended = record { given = u.given ++ piece; consumed = all; ends = fed_ends o r₂ w₀ w₁ w₂ u.printed u.appended writer (u.given ++ piece) f fails };
         }
 
     -- A chunk was fed.

@@ -27,14 +27,14 @@ use Rattle.ud_io.specs.Watched.{AppendsPrefix}
 -- The split lines of a text with the prefix of a chunk up to its first newline, if `rest` is the
 -- text's partial line.
 abbrev pub parts_behind : List ℕ → List ℕ → List ℕ → Bool → SplitLines
-parts_behind text held front true = record { whole = whole_lines text ++ (held ++ front) ∷ []; rest = [] }
-parts_behind text held front false = record { whole = whole_lines text; rest = held ++ front }
+parts_behind text held prefix true = record { whole = whole_lines text ++ (held ++ prefix) ∷ []; rest = [] }
+parts_behind text held prefix false = record { whole = whole_lines text; rest = held ++ prefix }
 
 -- The prefix of a chunk up to its first newline ends the partial line of the text, or lengthens it.
 pub split_lines-front_of : (text held piece : List ℕ) (used : ℕ) (whole : Bool) → partial_line text ≡ held → UpToNewline piece used whole →
     split_lines (text ++ take used piece) ≡ parts_behind text held (take used piece) whole
 split_lines-front_of text held piece used true rest to =
-    let line : (front : List ℕ) × NoNewline front × (take used piece ≡ front ++ 10 ∷ []) = to.line refl in
+    let line : (prefix : List ℕ) × NoNewline prefix × (take used piece ≡ prefix ++ 10 ∷ []) = to.line refl in
     subst (λ (h : List ℕ). split_lines (text ++ take used piece) ≡ parts_behind text h (take used piece) true) rest
     (subst (λ (p : List ℕ). split_lines (text ++ p) ≡ parts_behind text (partial_line text) p true) (sym line.2)
     (split_lines-append-line text line.0 line.1))
@@ -77,8 +77,8 @@ long_fault xs x l n is number fits long = record {
   limit = by_bytes;
 }
 
-module _ {S : Type 0} (stands : S → List Judged → Type 0) (piece_of : S → List Judged → Judged → List ℕ) (o : Options) (piece : List Judged → Judged → List ℕ)
-    (e : EngineState S) (text printed : List ℕ) (h : EngineRepresentsBuffered stands piece_of e o piece text printed) where
+module _ {S : Type 0} (represents : S → List Judged → Type 0) (piece_of : S → List Judged → Judged → List ℕ) (o : Options) (piece : List Judged → Judged → List ℕ)
+    (e : EngineState S) (text printed : List ℕ) (h : EngineRepresentsBuffered represents piece_of e o piece text printed) where
   pub before_is : e.lines.before ≡ length (whole_lines text)
   before_is = represent_before e.lines text h.opened.part h.took
 
@@ -89,8 +89,8 @@ module _ {S : Type 0} (stands : S → List Judged → Type 0) (piece_of : S → 
   pub line_taken : (f : EngineState S) (bytes line : List ℕ) (l : Line) (tree : Tree Reading) (more : List ℕ) →
       whole_lines (text ++ bytes) ≡ whole_lines text ++ line ∷ [] → l ≡ line_at (suc (length (whole_lines text))) line →
       f.symbols ≡ e.symbols → IsOpen f.lines → LinesRepresent f.lines (text ++ bytes) → f.lines.fault ≡ None → f.lines.held ≡ [] → f.lines.before ≤ TEXT_LINES →
-      ProcessorRepresents stands piece_of f.printer o piece (h.items ++ next_item o h.items h.tree l ∷ []) tree → PrintsMore o piece h.items h.tree l tree more →
-      EngineRepresentsBuffered stands piece_of f o piece (text ++ bytes) (printed ++ more)
+      ProcessorRepresents represents piece_of f.printer o piece (h.items ++ next_item o h.items h.tree l ∷ []) tree → PrintsMore o piece h.items h.tree l tree more →
+      EngineRepresentsBuffered represents piece_of f o piece (text ++ bytes) (printed ++ more)
   line_taken f bytes line l tree more lines is symbols opened took unrefused none count has is_more = record {
     items = h.items ++ next_item o h.items h.tree l ∷ [];
     tree = tree;
@@ -113,12 +113,12 @@ module _ {S : Type 0} (stands : S → List Judged → Type 0) (piece_of : S → 
   -- Bytes without a newline.
   pub open_taken : (f : EngineState S) (bytes : List ℕ) → whole_lines (text ++ bytes) ≡ whole_lines text → f.symbols ≡ e.symbols → f.printer ≡ e.printer →
       IsOpen f.lines → LinesRepresent f.lines (text ++ bytes) → f.lines.fault ≡ None → (0 < length f.lines.held → f.lines.before < TEXT_LINES) → f.lines.before ≤ TEXT_LINES →
-      EngineRepresentsBuffered stands piece_of f o piece (text ++ bytes) (printed ++ [])
+      EngineRepresentsBuffered represents piece_of f o piece (text ++ bytes) (printed ++ [])
   open_taken f bytes lines symbols printer opened took unrefused begun count = record {
     items = h.items;
     tree = h.tree;
     goes = record { sound = h.goes.sound; are = ap (numbered_from 1) lines ∙ h.goes.are };
-    has = subst (λ p. ProcessorRepresents stands piece_of p o piece h.items h.tree) (sym printer) h.has;
+    has = subst (λ p. ProcessorRepresents represents piece_of p o piece h.items h.tree) (sym printer) h.has;
     printed_is = append-nil printed ∙ h.printed_is;
     symbols = subst (λ s. TableRepresents s o.table) (sym symbols) h.symbols;
     opened = opened;
@@ -153,12 +153,12 @@ module _ {S : Type 0} (stands : S → List Judged → Type 0) (piece_of : S → 
       goes = record { sound = k.sound; are = ap (λ ls. ls ++ l ∷ []) h.goes.are ∙ sym (lines_more o h.items h.tree l) };
       printed_is = ap (λ p. p ++ k.more) h.printed_is ∙ sym k.is_more;
     };
-    front = subst (λ x. AppendsPrefix a b x) (sym (append_assoc buffered pending k.more)) k.front;
+    prefix = subst (λ x. AppendsPrefix a b x) (sym (append_assoc buffered pending k.more)) k.prefix;
   }
 
   -- A write fails within the output pending before the next line.
   pub run_falls_short : (rest : List ℕ) (a b : Option (List ℕ)) (pending : List ℕ) → AppendsPrefix a b pending → StopsShort o piece (text ++ rest) printed a b pending
-  run_falls_short rest a b pending front = record {
+  run_falls_short rest a b pending prefix = record {
     more = [];
     reaches = record {
       items = h.items;
@@ -169,7 +169,7 @@ module _ {S : Type 0} (stands : S → List Judged → Type 0) (piece_of : S → 
       goes = h.goes;
       printed_is = append-nil printed ∙ h.printed_is;
     };
-    front = subst (λ x. AppendsPrefix a b x) (sym (append-nil pending)) front;
+    prefix = subst (λ x. AppendsPrefix a b x) (sym (append-nil pending)) prefix;
   }
 
   -- The line that the prefix of a chunk ends is the next line of every longer text.

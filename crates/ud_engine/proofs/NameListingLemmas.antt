@@ -146,7 +146,7 @@ module _ (o : Options) (depths : Bool) (xs : List (Item Reading)) (t u : Tree Re
     sound = v;
     more = own_text;
     is_more = lists_more o depths xs t u l s v own_names refl;
-    front = pending_failed a b old pending own_text h;
+    prefix = pending_failed a b old pending own_text h;
   }
 
   module _ (names : List (List ℕ)) (are : names ≡ own_names) (prefix : List ℕ) (p : prefix ≡ depth_prefix depths (depth u - 1)) where
@@ -161,7 +161,7 @@ module _ (o : Options) (depths : Bool) (xs : List (Item Reading)) (t u : Tree Re
       sound = v;
       more = own_text;
       is_more = lists_more o depths xs t u l s v own_names refl;
-      front = parts_failed_after a b c old pending mid (listed_names prefix names) own_text named sent h;
+      prefix = parts_failed_after a b c old pending mid (listed_names prefix names) own_text named sent h;
     }
 
     -- The line is read, and its names are appended.

@@ -96,12 +96,12 @@ not_off Off depths e f = cc
 not_off Names depths e f = cc
 not_off Depths depths e f = cc
 
-module _ {S : Type 0} (stands : S → List Judged → Type 0) (piece_of : S → List Judged → Judged → List ℕ) (o : Options)
+module _ {S : Type 0} (represents : S → List Judged → Type 0) (piece_of : S → List Judged → Judged → List ℕ) (o : Options)
     (piece : List Judged → Judged → List ℕ) (xs : List (Item Reading)) (t : Tree Reading) (l : Line) where
   -- The line whose names were listed was printed.
-  pub lists_line : (p q : LineProcessor S) (depths : Bool) (old new : Option (List ℕ)) (buffered left pending : List ℕ) → ProcessorRepresents stands piece_of p o piece xs t →
+  pub lists_line : (p q : LineProcessor S) (depths : Bool) (old new : Option (List ℕ)) (buffered left pending : List ℕ) → ProcessorRepresents represents piece_of p o piece xs t →
       p.lister ≡ Some depths → q.lister ≡ p.lister → q.printer ≡ p.printer → q.differs ≡ p.differs →
-      ListsLine o q.decider xs t l depths old new buffered left pending → PrintsLine stands piece_of q o piece xs t l true old new buffered left pending
+      ListsLine o q.decider xs t l depths old new buffered left pending → PrintsLine represents piece_of q o piece xs t l true old new buffered left pending
   lists_line p q depths old new buffered left pending h e same_lister same_printer same_differs one =
       let d : lister_of o.settings.listing ≡ Some depths = sym h.lister ∙ e in
       record {
@@ -118,7 +118,7 @@ module _ {S : Type 0} (stands : S → List Judged → Type 0) (piece_of : S → 
         goes = one.sent;
       }
 
-  pub list_fails : (p : LineProcessor S) (depths : Bool) (old new : Option (List ℕ)) (buffered pending : List ℕ) (f : RunFault) → ProcessorRepresents stands piece_of p o piece xs t →
+  pub list_fails : (p : LineProcessor S) (depths : Bool) (old new : Option (List ℕ)) (buffered pending : List ℕ) (f : RunFault) → ProcessorRepresents represents piece_of p o piece xs t →
       p.lister ≡ Some depths → ListErr o xs t l depths old new buffered pending f → PrintErr o piece xs t l old new buffered pending f
   list_fails p depths old new buffered pending (Section f) h e k = k
   list_fails p depths old new buffered pending (Text f) h e k = k
@@ -128,36 +128,36 @@ module _ {S : Type 0} (stands : S → List Judged → Type 0) (piece_of : S → 
     sound = k.sound;
     more = k.more;
     is_more = lists_more_text o piece xs t k.tree l depths k.more (sym h.lister ∙ e) k.is_more;
-    front = k.front;
+    prefix = k.prefix;
   }
 
   -- The printer's piece of the line is the definition's.
-  piece_is : (p : LineProcessor S) (r : LineDecider) (step : Step) → (h : ProcessorRepresents stands piece_of p o piece xs t) → (one : DecidesLine o r xs t l step) →
+  piece_is : (p : LineProcessor S) (r : LineDecider) (step : Step) → (h : ProcessorRepresents represents piece_of p o piece xs t) → (one : DecidesLine o r xs t l step) →
       piece_of p.printer (judged_lines xs (marks t)) (record { line = l; verdict = step.verdict; keyword = as_span step.keyword })
       ≡ piece (judged_lines xs (marks t)) (judged_line (next_item o xs t l) one.mark)
-  piece_is p r step h one = h.stays (judged_lines xs (marks t)) _ ∙ ap (piece (judged_lines xs (marks t))) one.judged_so
+  piece_is p r step h one = h.stays (judged_lines xs (marks t)) _ ∙ ap (piece (judged_lines xs (marks t))) one.decided
 
-  pub show_fails : (p : LineProcessor S) (r : LineDecider) (step : Step) (old new : Option (List ℕ)) (buffered pending : List ℕ) → ProcessorRepresents stands piece_of p o piece xs t →
+  pub show_fails : (p : LineProcessor S) (r : LineDecider) (step : Step) (old new : Option (List ℕ)) (buffered pending : List ℕ) → ProcessorRepresents represents piece_of p o piece xs t →
       p.lister ≡ None → DecidesLine o r xs t l step →
-      (stands p.printer (judged_lines xs (marks t)) → AppendsPrefix old new (buffered ++ (pending ++ piece_of p.printer (judged_lines xs (marks t))
+      (represents p.printer (judged_lines xs (marks t)) → AppendsPrefix old new (buffered ++ (pending ++ piece_of p.printer (judged_lines xs (marks t))
       (record { line = l; verdict = step.verdict; keyword = as_span step.keyword })))) → WriteFails o piece xs t l old new buffered pending
-  show_fails p r step old new buffered pending h e one front =
+  show_fails p r step old new buffered pending h e one prefix =
       let off : o.settings.listing ≡ Off = is_off o.settings.listing (sym h.lister ∙ e) in
       record {
         tree = one.tree;
         sound = one.has.read.sound;
         more = piece (judged_lines xs (marks t)) (judged_line (next_item o xs t l) one.mark);
         is_more = shows_more o piece xs t one.tree l h.has.read.sound one.mark one.marks_are off;
-        front = subst (λ x. AppendsPrefix old new (buffered ++ (pending ++ x))) (piece_is p r step h one) (front (h.shown off));
+        prefix = subst (λ x. AppendsPrefix old new (buffered ++ (pending ++ x))) (piece_is p r step h one) (prefix (h.shown off));
       }
 
-  pub shows_line : (p q : LineProcessor S) (step : Step) (put : Bool) (old new : Option (List ℕ)) (buffered left pending : List ℕ) → ProcessorRepresents stands piece_of p o piece xs t →
+  pub shows_line : (p q : LineProcessor S) (step : Step) (put : Bool) (old new : Option (List ℕ)) (buffered left pending : List ℕ) → ProcessorRepresents represents piece_of p o piece xs t →
       p.lister ≡ None → q.lister ≡ p.lister → q.differs ≡ (p.differs || put) → DecidesLine o q.decider xs t l step →
-      ((before : List Judged) → stands p.printer before → stands q.printer (before ++ record { line = l; verdict = step.verdict; keyword = as_span step.keyword } ∷ [])) →
+      ((before : List Judged) → represents p.printer before → represents q.printer (before ++ record { line = l; verdict = step.verdict; keyword = as_span step.keyword } ∷ [])) →
       ((before : List Judged) → (j : Judged) → piece_of q.printer before j ≡ piece_of p.printer before j) →
-      (stands p.printer (judged_lines xs (marks t)) → ShowsLine put old new buffered left pending (piece_of p.printer (judged_lines xs (marks t))
+      (represents p.printer (judged_lines xs (marks t)) → ShowsLine put old new buffered left pending (piece_of p.printer (judged_lines xs (marks t))
       (record { line = l; verdict = step.verdict; keyword = as_span step.keyword })) (text_of l)) →
-      PrintsLine stands piece_of q o piece xs t l put old new buffered left pending
+      PrintsLine represents piece_of q o piece xs t l put old new buffered left pending
   shows_line p q step put old new buffered left pending h e same_lister differs one given stays shown =
       let off : o.settings.listing ≡ Off = is_off o.settings.listing (sym h.lister ∙ e) in
       let s = h.has.read.sound in
@@ -171,8 +171,8 @@ module _ {S : Type 0} (stands : S → List Judged → Type 0) (piece_of : S → 
           has = one.has;
           lister = same_lister ∙ h.lister;
           shown = λ f.
-              subst (stands q.printer)
-              (ap (λ j. judged_lines xs (marks t) ++ j ∷ []) one.judged_so ∙ sym (judged_next o piece xs t one.tree l s one.mark one.marks_are off))
+              subst (represents q.printer)
+              (ap (λ j. judged_lines xs (marks t) ++ j ∷ []) one.decided ∙ sym (judged_next o piece xs t one.tree l s one.mark one.marks_are off))
               (given (judged_lines xs (marks t)) (h.shown off));
           stays = λ before j. stays before j ∙ h.stays before j;
           differs =

@@ -27,11 +27,11 @@ module _ (o : Options) where
   appended_is xs t f a c all is h = subst (λ x. Appends a c x) (is ∙ same_text o.settings.listing o.settings xs t) h
 
   -- A read failed.
-  pub printed_so_far : {S : Type 0} (stands : S → List Judged → Type 0) (piece_of : S → List Judged → Judged → List ℕ) (e : EngineState S) (text printed : List ℕ) →
-      (h : EngineRepresentsBuffered stands piece_of e o (own_piece o) text printed) → (a b : Option (List ℕ)) → Appends a b printed → PrintsSoFar o text a b
-  printed_so_far stands piece_of e text printed h a b before = record {
+  pub printed_so_far : {S : Type 0} (represents : S → List Judged → Type 0) (piece_of : S → List Judged → Judged → List ℕ) (e : EngineState S) (text printed : List ℕ) →
+      (h : EngineRepresentsBuffered represents piece_of e o (own_piece o) text printed) → (a b : Option (List ℕ)) → Appends a b printed → PrintsSoFar o text a b
+  printed_so_far represents piece_of e text printed h a b before = record {
     outcome = outcome_of o.settings h.items h.tree None;
-    runs = came_as (reads_so_far stands piece_of o (own_piece o) e text printed h);
+    runs = came_as (reads_so_far represents piece_of o (own_piece o) e text printed h);
     right = refl;
     appended = appended_is h.items h.tree None a b printed h.printed_is before;
   }
@@ -40,8 +40,8 @@ module _ (o : Options) where
     -- A write failed, after the output for some lines before.
     front_is : (xs : List (Item Reading)) (t : Tree Reading) (more : List ℕ) → printed ++ more ≡ text_by o.settings.listing (own_piece o) xs t → AppendsPrefix b c more →
         AppendsPrefix a c (output_by o.settings.listing o.settings xs t)
-    front_is xs t more is front =
-        subst (λ x. AppendsPrefix a c x) (is ∙ same_text o.settings.listing o.settings xs t) (prefix_of_second a b c printed more before front)
+    front_is xs t more is prefix =
+        subst (λ x. AppendsPrefix a c x) (is ∙ same_text o.settings.listing o.settings xs t) (prefix_of_second a b c printed more before prefix)
 
     fault_found : (longer more : List ℕ) (f : Fault) → FaultsAfter o (own_piece o) longer (printed ++ more) f → Appends b c more → StoppedAtFault o longer left a c f
     fault_found longer more f s after = record {
@@ -58,7 +58,7 @@ module _ (o : Options) where
     fed_ends failed longer Read w = absurd w
     fed_ends failed longer Write w =
         let r = w.1.1 in
-        in_course r.lines r.later r.are (record { items = r.items; tree = r.tree; goes = r.goes; front = front_is r.items r.tree w.1.0 (r.printed_is) w.1.2 })
+        in_course r.lines r.later r.are (record { items = r.items; tree = r.tree; goes = r.goes; prefix = front_is r.items r.tree w.1.0 (r.printed_is) w.1.2 })
 
     end_found : (given : List ℕ) (f : Fault) → IsAtEnd left → FinishFault o (own_piece o) given printed b c f → StoppedAtFault o given left a c f
     end_found given f ended e = record {
@@ -73,7 +73,7 @@ module _ (o : Options) where
     end_fails failed given ended (Section f) w = end_found given (fault_of f) ended w.1
     end_fails failed given ended Read w = absurd w
     end_fails failed given ended Write w =
-        at_end ended (record { items = w.1.items; tree = w.1.tree; goes = w.1.goes; front = front_is w.1.items w.1.tree w.1.more w.1.printed_is w.1.front })
+        at_end ended (record { items = w.1.items; tree = w.1.tree; goes = w.1.goes; prefix = front_is w.1.items w.1.tree w.1.more w.1.printed_is w.1.prefix })
 
     -- The text has ended.
     pub end_ends : (failed : Bool) (given : List ℕ) → IsAtEnd left → (r : Result Bool RunFault) → IfOk r (FinishOk o (own_piece o) given printed b c) →

@@ -78,9 +78,9 @@ module _ (o : Options) where
 
   ran_at : (a b c : Option (List ℕ)) (given printed : List ℕ) (f : Fault) (by : RunFault) → text_fault_of by ≡ Some f → Appends a b printed →
       FinishFault o own_piece given printed b c f → RunAnswers o given a c (Err by)
-  ran_at a b c given printed f by told before w =
+  ran_at a b c given printed f by reported before w =
       outcome_at given w.items w.tree (Some f) a c (Err by) (printed ++ w.more) w.reads w.printed_is
-      (Appends-trans a b c printed w.more before w.appended) (sym told, λ none. cc)
+      (Appends-trans a b c printed w.more before w.appended) (sym reported, λ none. cc)
 
   -- The text has ended, and has a fault.
   pub ran_ill : (a b c : Option (List ℕ)) (given printed : List ℕ) (failed : Bool) (f : RunFault) → failed ≡ false → Appends a b printed →
@@ -92,9 +92,9 @@ module _ (o : Options) where
 
   ran_stopped : (a b c : Option (List ℕ)) (longer printed more : List ℕ) (f : Fault) (by : RunFault) → text_fault_of by ≡ Some f → Appends a b printed → Appends b c more →
       FaultsAfter o own_piece longer (printed ++ more) f → (later : List ℕ) → RunAnswers o (longer ++ later) a c (Err by)
-  ran_stopped a b c longer printed more f by told before appended w later =
+  ran_stopped a b c longer printed more f by reported before appended w later =
       outcome_at (longer ++ later) w.items w.tree (Some f) a c (Err by) (printed ++ more) (reads_stay later w.reads).1 w.printed_is
-      (Appends-trans a b c printed more before appended) (sym told, λ none. cc)
+      (Appends-trans a b c printed more before appended) (sym reported, λ none. cc)
 
   -- The text has a fault before its end.
   pub ran_early : (a b c : Option (List ℕ)) (longer printed : List ℕ) (failed : Bool) (f : RunFault) → failed ≡ false → Appends a b printed →
@@ -104,8 +104,8 @@ module _ (o : Options) where
   ran_early a b c longer printed failed Read works before w later = absurd w
   ran_early a b c longer printed failed Write works before w later = cc
 
-  module _ {S : Type 0} (stands : S → List Judged → Type 0) (piece_of : S → List Judged → Judged → List ℕ) (e : EngineState S) (text printed : List ℕ)
-      (h : EngineRepresentsBuffered stands piece_of e o own_piece text printed) where
+  module _ {S : Type 0} (represents : S → List Judged → Type 0) (piece_of : S → List Judged → Judged → List ℕ) (e : EngineState S) (text printed : List ℕ)
+      (h : EngineRepresentsBuffered represents piece_of e o own_piece text printed) where
     abbrev so_far : Outcome
     so_far = outcome_of o.settings h.items h.tree None
 
@@ -113,22 +113,22 @@ module _ (o : Options) where
     right q more r is runs None e₁ = refl
     right q more r is runs (Some f) e₁ =
         let longer : HasOutcomeSoFar o text r = subst (λ x. HasOutcomeSoFar o x r) is (fault_stays o q more r runs f e₁).0 in
-        let same : r ≡ so_far = one_run_so_far longer (came_as (reads_so_far stands piece_of o own_piece e text printed h)) in
+        let same : r ≡ so_far = one_run_so_far longer (came_as (reads_so_far represents piece_of o own_piece e text printed h)) in
         let no : r.fault ≡ None = ap (λ (s : Outcome). s.fault) same in
         sym e₁ ∙ no
 
     -- The output for all before the last chunk is written.
-    pub kept_up : (r₀ r₁ a b c : Option (List ℕ)) (last more : List ℕ) → Consumes r₀ r₁ (text ++ last) → length last ≤ CHUNK_BYTES → Appends a b printed → Appends b c more →
+    pub lag : (r₀ r₁ a b c : Option (List ℕ)) (last more : List ℕ) → Consumes r₀ r₁ (text ++ last) → length last ≤ CHUNK_BYTES → Appends a b printed → Appends b c more →
         LagsOneRead o r₀ r₁ a c
-    kept_up r₀ r₁ a b c last more consumed few before after =
+    lag r₀ r₁ a b c last more consumed few before after =
         let n : ℕ = length (text ++ last) - CHUNK_BYTES in
         let len = length-append text last in
         let within : n ≤ length text = omega (arith, len, few) in
-        let front : all_but_last_chunk (text ++ last) ≡ take n text = take-append-le n text last within in
-        let joined : all_but_last_chunk (text ++ last) ++ drop n text ≡ text = ap (λ x. x ++ drop n text) front ∙ take-append-drop n text in
+        let prefix : all_but_last_chunk (text ++ last) ≡ take n text = take-append-le n text last within in
+        let joined : all_but_last_chunk (text ++ last) ++ drop n text ≡ text = ap (λ x. x ++ drop n text) prefix ∙ take-append-drop n text in
         let r : (r : Outcome) × HasOutcomeSoFar o (all_but_last_chunk (text ++ last)) r = run_so_far_exists o (all_but_last_chunk (text ++ last)) in
         let grown : (rest : List ℕ) × (so_far.output ≡ r.0.output ++ rest) =
-        prints_further o (all_but_last_chunk (text ++ last)) (drop n text) r.1 (subst (λ x. HasOutcomeSoFar o x so_far) (sym joined) (came_as (reads_so_far stands piece_of o own_piece e text printed h))) in
+        prints_further o (all_but_last_chunk (text ++ last)) (drop n text) r.1 (subst (λ x. HasOutcomeSoFar o x so_far) (sym joined) (came_as (reads_so_far represents piece_of o own_piece e text printed h))) in
         record {
           given = text ++ last;
           consumed = consumed;
@@ -143,21 +143,21 @@ module _ (o : Options) where
         }
 
     -- The more is fed, the less fits below the limits.
-    pub fed_room : (f : EngineState S) (bytes later : List ℕ) → EngineRepresentsBuffered stands piece_of f o own_piece (text ++ bytes) later → 0 < length bytes → bytes_to_limit f.lines < bytes_to_limit e.lines
+    pub fed_room : (f : EngineState S) (bytes later : List ℕ) → EngineRepresentsBuffered represents piece_of f o own_piece (text ++ bytes) later → 0 < length bytes → bytes_to_limit f.lines < bytes_to_limit e.lines
     fed_room f bytes later k some = by_growth (grows text bytes)
       where
         before : e.lines.before ≡ length (whole_lines text)
-        before = before_is stands piece_of o own_piece e text printed h
+        before = before_is represents piece_of o own_piece e text printed h
 
         before_more : f.lines.before ≡ length (whole_lines (text ++ bytes))
-        before_more = before_is stands piece_of o own_piece f (text ++ bytes) later k
+        before_more = before_is represents piece_of o own_piece f (text ++ bytes) later k
 
         by_growth : Growth text bytes → bytes_to_limit f.lines < bytes_to_limit e.lines
         by_growth (stays_open lines rest) =
             let n = ap length lines in
             let held : length f.lines.held ≡ length e.lines.held + length bytes =
-            ap length (sym (rest_is stands piece_of o own_piece f (text ++ bytes) later k) ∙ rest
-            ∙ ap (λ (r : List ℕ). r ++ bytes) (rest_is stands piece_of o own_piece e text printed h)) ∙ length-append e.lines.held bytes in
+            ap length (sym (rest_is represents piece_of o own_piece f (text ++ bytes) later k) ∙ rest
+            ∙ ap (λ (r : List ℕ). r ++ bytes) (rest_is represents piece_of o own_piece e text printed h)) ∙ length-append e.lines.held bytes in
             let s = k.opened.short in
             omega (arith, before, before_more, n, held, s, some)
         by_growth (ends_line x l lines) =
@@ -170,7 +170,7 @@ module _ (o : Options) where
   end_appended failed b c given printed (Text f) w = (w.1.more, w.1.appended)
   end_appended failed b c given printed (Section f) w = (w.1.more, w.1.appended)
   end_appended failed b c given printed Read w = absurd w
-  end_appended failed b c given printed Write w = (w.1.front.0, w.1.front.3)
+  end_appended failed b c given printed Write w = (w.1.prefix.0, w.1.prefix.3)
 
   -- Whatever the result of a chunk, something was appended.
   pub feed_appended : (failed : Bool) (b c : Option (List ℕ)) (longer printed : List ℕ) (f : RunFault) → FeedFails o own_piece failed b c longer printed f → (x : List ℕ) × Appends b c x

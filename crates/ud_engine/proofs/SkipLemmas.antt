@@ -103,22 +103,22 @@ module _ (o : Options) (old new : LineDecider) (xs : List (Item Reading)) (t : T
   -- No line was read.
   pub reads_none : (mode : Mode) → new.machine ≡ old.machine → SkipsText mode old.scanner new.scanner [] → DecidesBulk o new xs t (numbered_from (suc n) (whole_lines [])) verdict
   unfolding split_lines
-  reads_none mode same passes = record {
+  reads_none mode same skips = record {
     items = [];
     tree = t;
     has = record {
       read = subst (λ ys. MachineRepresents new.machine o ys t) (sym (append-nil xs)) (subst (λ m. MachineRepresents m o xs t) (sym same) h.read);
       unrefused = ap machine_fault same ∙ h.unrefused;
-      carries = subst (λ ys. ScannerRepresents new.scanner (map reading_of ys)) (sym (append-nil xs)) (passes.stands 0 (map reading_of xs) h.carries);
+      carries = subst (λ ys. ScannerRepresents new.scanner (map reading_of ys)) (sym (append-nil xs)) (skips.represents 0 (map reading_of xs) h.carries);
     };
     lines_are = refl;
     own = [];
     marks_are = sym (append-nil (marks t));
-    judged_so = refl;
+    decided = refl;
   }
 
   module _ (mode : Mode) (m : mode ≡ mode_after o t) (bytes : List ℕ) (fits : EachFits (whole_lines bytes)) (few : n + length (whole_lines bytes) ≤ TEXT_LINES)
-      (passes : SkipsText mode old.scanner new.scanner bytes) (last : ℕ) (counted : last ≡ n + length (whole_lines bytes)) (unrefused : machine_fault new.machine ≡ machine_fault old.machine)
+      (skips : SkipsText mode old.scanner new.scanner bytes) (last : ℕ) (counted : last ≡ n + length (whole_lines bytes)) (unrefused : machine_fault new.machine ≡ machine_fault old.machine)
       (reads : (r : Reading) (rs : List Reading) → AreTextLines o (mode_after o t) xs (r ∷ rs) → last ≡ last_number (xs ++ map text_line (r ∷ rs)) →
       StepsText new.machine o xs t (r ∷ rs) verdict) where
     by_lines : (l : List ℕ) (ls : List (List ℕ)) → EachFits (l ∷ ls) → n + length (l ∷ ls) ≤ TEXT_LINES → last ≡ n + length (l ∷ ls) →
@@ -142,13 +142,13 @@ module _ (o : Options) (old new : LineDecider) (xs : List (Item Reading)) (t : T
           lines_are = lines_are mode xs all;
           own = map (λ r. done.mark) (first ∷ rest);
           marks_are = done.marks_are;
-          judged_so = judged_are mode xs all done.mark verdict done.verdict_is texts;
+          decided = judged_are mode xs all done.mark verdict done.verdict_is texts;
         }
 
     -- The lines of these bytes were read, one at least.
     pub reads_all : 0 < length (whole_lines bytes) → DecidesBulk o new xs t (numbered_from (suc n) (whole_lines bytes)) verdict
     reads_all some =
-        by_case (whole_lines bytes) fits few counted some (passes.stands (suc n) (map reading_of xs) h.carries) (passes.texts (suc n) (map reading_of xs) h.carries)
+        by_case (whole_lines bytes) fits few counted some (skips.represents (suc n) (map reading_of xs) h.carries) (skips.texts (suc n) (map reading_of xs) h.carries)
       where
         by_case : (ls : List (List ℕ)) → EachFits ls → n + length ls ≤ TEXT_LINES → last ≡ n + length ls → 0 < length ls →
             ScannerRepresents new.scanner (readings_after (map reading_of xs) (lines_in_mode mode (suc n) ls)) → passing.HaveNoDirective mode (map reading_of xs) (numbered_from (suc n) ls) →

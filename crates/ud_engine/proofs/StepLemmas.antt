@@ -7,10 +7,10 @@ use Rattle.ud_model.specs.sections.Items.{Options}
 use Rattle.ud_model.specs.answer.Printing.{Judged}
 use Rattle.ud_model.specs.answer.Outcomes.{lines_so_far}
 use Rattle.ud_model.specs.declared.limits.TheConstants.{LINE_BYTES, TEXT_LINES}
-use Rattle.ud_model.proofs.text.LinesLemmas.{no_feed-append, text_of-line_at}
+use Rattle.ud_model.proofs.text.LinesLemmas.{no_newline-append, text_of-line_at}
 use Rattle.ud_text.specs.LinesState.{LinesState, LinesRepresent, UpToNewline, HasCapacity}
 use Rattle.ud_text.specs.Borrowing.{CanBorrow}
-use Rattle.ud_text.proofs.MaskLemmas.{no_feed-take}
+use Rattle.ud_text.proofs.MaskLemmas.{no_newline-take}
 use Rattle.ud_text.proofs.StepLemmas.{drop_both}
 use Rattle.ud_sections.specs.Limits.{IsWithinLimits}
 use Rattle.ud_sections.specs.MachineState.{fault_of}
@@ -26,13 +26,13 @@ use Rattle.ud_engine.proofs.LinePartLemmas.{before_is, rest_is, split_lines-fron
 
 -- A last line without a newline has none in its body.
 pub rest_feedless : (n : ℕ) (l : List ℕ) → NoNewline l → NoNewline (line_at n l).body
-rest_feedless n l h = no_feed-take (length l - length (ending_of l)) l h
+rest_feedless n l h = no_newline-take (length l - length (ending_of l)) l h
 
 -- The buffered line with the bytes of a chunk that end it.
 pub held_whole : (held rest : List ℕ) (used : ℕ) (whole : Bool) → whole ≡ true → NoNewline held → UpToNewline rest used whole → IsWhole (held ++ take used rest)
 held_whole held rest used whole e h to =
-    let line : (front : List ℕ) × NoNewline front × (take used rest ≡ front ++ 10 ∷ []) = to.line e in
-    (held ++ line.0, no_feed-append held line.0 h line.1, ap (λ x. held ++ x) line.2 ∙ sym (append_assoc held line.0 (10 ∷ [])))
+    let line : (prefix : List ℕ) × NoNewline prefix × (take used rest ≡ prefix ++ 10 ∷ []) = to.line e in
+    (held ++ line.0, no_newline-append held line.0 h line.1, ap (λ x. held ++ x) line.2 ∙ sym (append_assoc held line.0 (10 ∷ [])))
 
 -- A line of this number within the limits.
 pub is_within : (l : Line) (n : ℕ) (bytes : List ℕ) → l ≡ line_at n bytes → n ≤ TEXT_LINES → length bytes ≤ LINE_BYTES → IsWithinLimits l
@@ -53,7 +53,7 @@ still_open lines mid rest used whole e h to is short =
       short = short;
       no_newline =
           subst (λ (x : List ℕ). NoNewline x) (sym (ap (λ (l : LinesState). l.held) is))
-          (no_feed-append lines.held (take used rest) h.no_newline (no_feed-take used rest all.1));
+          (no_newline-append lines.held (take used rest) h.no_newline (no_newline-take used rest all.1));
     }
 
 -- The rest of a chunk fits after the bytes that were taken.
@@ -81,21 +81,21 @@ open_refused lines new f h is = record {
   no_newline = subst (λ (x : List ℕ). NoNewline x) (sym (ap (λ (l : LinesState). l.held) is)) h.no_newline;
 }
 
-module _ {S : Type 0} (stands : S → List Judged → Type 0) (piece_of : S → List Judged → Judged → List ℕ) (o : Options) (piece : List Judged → Judged → List ℕ)
-    (e : EngineState S) (text printed : List ℕ) (h : EngineRepresentsBuffered stands piece_of e o piece text printed) (a b : Option (List ℕ)) (g pending rest : List ℕ) (ge : e.buffered ≡ g) where
+module _ {S : Type 0} (represents : S → List Judged → Type 0) (piece_of : S → List Judged → Judged → List ℕ) (o : Options) (piece : List Judged → Judged → List ℕ)
+    (e : EngineState S) (text printed : List ℕ) (h : EngineRepresentsBuffered represents piece_of e o piece text printed) (a b : Option (List ℕ)) (g pending rest : List ℕ) (ge : e.buffered ≡ g) where
   -- Bytes without a newline are buffered, and the pending bytes before them are appended.
   pub open_step : (f : EngineState S) (used : ℕ) (whole : Bool) → whole ≡ false → UpToNewline rest used whole → f.symbols ≡ e.symbols → f.printer ≡ e.printer →
       f.lines ≡ record e.lines { held = e.lines.held ++ take used rest; whole = whole } → LinesRepresent f.lines (text ++ take used rest) → f.lines.fault ≡ None →
       (length f.lines.held ≤ LINE_BYTES) × (e.lines.before < e.lines.last_line) → AppendsAllBut a b (e.buffered ++ pending) f.buffered →
-      Advances stands piece_of f o piece text printed (take used rest) a b (g ++ pending) f.buffered
+      Advances represents piece_of f o piece text printed (take used rest) a b (g ++ pending) f.buffered
   open_step f used whole w to symbols printer is took unrefused limits sent =
-      let parts = split_lines-front_of text e.lines.held rest used whole (rest_is stands piece_of o piece e text printed h) to in
+      let parts = split_lines-front_of text e.lines.held rest used whole (rest_is represents piece_of o piece e text printed h) to in
       let lines : whole_lines (text ++ take used rest) ≡ whole_lines text =
       ap (λ (q : SplitLines). q.whole) (parts ∙ ap (parts_behind text e.lines.held (take used rest)) w) in
       record {
         more = [];
         taken =
-            open_taken stands piece_of o piece e text printed h f (take used rest) lines symbols printer
+            open_taken represents piece_of o piece e text printed h f (take used rest) lines symbols printer
             (still_open e.lines f.lines rest used whole w h.opened to is limits.0) took unrefused
             (λ some. let k = limits.1 in let m = h.opened.limit in let n = ap (λ (l : LinesState). l.before) is in omega (arith, k, m, n))
             (let k = h.count in let n = ap (λ (l : LinesState). l.before) is in omega (arith, k, n));
@@ -109,18 +109,18 @@ module _ {S : Type 0} (stands : S → List Judged → Type 0) (piece_of : S → 
       mid ≡ record e.lines { held = e.lines.held ++ take used rest; whole = whole } →
       f.lines ≡ record mid { held = []; whole = false; before = mid.before + 1 } → LinesRepresent f.lines (text ++ take used rest) → mid.fault ≡ None → e.lines.before < e.lines.last_line →
       l ≡ line_at (suc mid.before) mid.held →
-      PrintsLine stands piece_of f.printer o piece h.items h.tree l true a b e.buffered f.buffered pending →
-      Advances stands piece_of f o piece text printed (take used rest) a b (g ++ pending) f.buffered
+      PrintsLine represents piece_of f.printer o piece h.items h.tree l true a b e.buffered f.buffered pending →
+      Advances represents piece_of f o piece text printed (take used rest) a b (g ++ pending) f.buffered
   line_step f mid used whole l w to symbols is cleared took unrefused few line prints =
-      let parts = split_lines-front_of text e.lines.held rest used whole (rest_is stands piece_of o piece e text printed h) to in
+      let parts = split_lines-front_of text e.lines.held rest used whole (rest_is represents piece_of o piece e text printed h) to in
       let lines : whole_lines (text ++ take used rest) ≡ whole_lines text ++ (e.lines.held ++ take used rest) ∷ [] =
       ap (λ (q : SplitLines). q.whole) (parts ∙ ap (parts_behind text e.lines.held (take used rest)) w) in
       let at : line_at (suc mid.before) mid.held ≡ line_at (suc (length (whole_lines text))) (e.lines.held ++ take used rest) =
-      ap (λ (k : LinesState). line_at (suc k.before) k.held) is ∙ ap (λ n. line_at (suc n) (e.lines.held ++ take used rest)) (before_is stands piece_of o piece e text printed h) in
+      ap (λ (k : LinesState). line_at (suc k.before) k.held) is ∙ ap (λ n. line_at (suc n) (e.lines.held ++ take used rest)) (before_is represents piece_of o piece e text printed h) in
       record {
         more = prints.more;
         taken =
-            line_taken stands piece_of o piece e text printed h f (take used rest) (e.lines.held ++ take used rest) l prints.tree prints.more lines (line ∙ at) symbols
+            line_taken represents piece_of o piece e text printed h f (take used rest) (e.lines.held ++ take used rest) l prints.tree prints.more lines (line ∙ at) symbols
             (open_again e.lines mid f.lines rest used whole h.opened is cleared) took (ap (λ (k : LinesState). k.fault) cleared ∙ unrefused)
             (ap (λ (k : LinesState). k.held) cleared)
             (let m = h.opened.limit in let n = ap (λ (k : LinesState). k.before) is in let q = ap (λ (k : LinesState). k.before) cleared in omega (arith, few, m, n, q))
@@ -133,10 +133,10 @@ module _ {S : Type 0} (stands : S → List Judged → Type 0) (piece_of : S → 
   -- The next line is faulty, or a write fails.
   pub refused_by : (l : Line) (f : RunFault) (later : List Line) → lines_so_far (text ++ rest) ≡ lines_so_far text ++ l ∷ later →
       PrintErr o piece h.items h.tree l a b e.buffered pending f → StepFails o piece (text ++ rest) printed a b (g ++ pending) f
-  refused_by l (Section f) later are fails = line_stops stands piece_of o piece e text printed h (text ++ rest) l later (fault_of f) are fails
+  refused_by l (Section f) later are fails = line_stops represents piece_of o piece e text printed h (text ++ rest) l later (fault_of f) are fails
   refused_by l Write later are fails =
       subst (λ x. StepFails o piece (text ++ rest) printed a b (x ++ pending) Write) ge
-      (line_falls_short stands piece_of o piece e text printed h (text ++ rest) l later a b e.buffered pending are fails)
+      (line_falls_short represents piece_of o piece e text printed h (text ++ rest) l later a b e.buffered pending are fails)
   refused_by l (Text f) later are fails = absurd fails
   refused_by l Read later are fails = absurd fails
 
@@ -145,17 +145,17 @@ module _ {S : Type 0} (stands : S → List Judged → Type 0) (piece_of : S → 
       mid ≡ record e.lines { held = e.lines.held ++ take used rest; whole = whole } → l ≡ line_at (suc mid.before) mid.held →
       PrintErr o piece h.items h.tree l a b e.buffered pending f → StepFails o piece (text ++ rest) printed a b (g ++ pending) f
   line_refused mid used whole l f w to is line fails =
-      let parts = split_lines-front_of text e.lines.held rest used whole (rest_is stands piece_of o piece e text printed h) to in
+      let parts = split_lines-front_of text e.lines.held rest used whole (rest_is represents piece_of o piece e text printed h) to in
       let lines : whole_lines (text ++ take used rest) ≡ whole_lines text ++ (e.lines.held ++ take used rest) ∷ [] =
       ap (λ (q : SplitLines). q.whole) (parts ∙ ap (parts_behind text e.lines.held (take used rest)) w) in
       let at : l ≡ line_at (suc (length (whole_lines text))) (e.lines.held ++ take used rest) =
-      line ∙ ap (λ (k : LinesState). line_at (suc k.before) k.held) is ∙ ap (λ n. line_at (suc n) (e.lines.held ++ take used rest)) (before_is stands piece_of o piece e text printed h) in
-      let next = line_next stands piece_of o piece e text printed h rest used (e.lines.held ++ take used rest) lines in
+      line ∙ ap (λ (k : LinesState). line_at (suc k.before) k.held) is ∙ ap (λ n. line_at (suc n) (e.lines.held ++ take used rest)) (before_is represents piece_of o piece e text printed h) in
+      let next = line_next represents piece_of o piece e text printed h rest used (e.lines.held ++ take used rest) lines in
       refused_by l f next.0 (next.1 ∙ ap (λ k. lines_so_far text ++ k ∷ next.0) (sym at)) fails
 
   pub run_refused_by : AppendsPrefix a b (e.buffered ++ pending) → StepFails o piece (text ++ rest) printed a b (g ++ pending) Write
-  run_refused_by front =
-      run_falls_short stands piece_of o piece e text printed h rest a b (g ++ pending) (subst (λ x. AppendsPrefix a b (x ++ pending)) ge front)
+  run_refused_by prefix =
+      run_falls_short represents piece_of o piece e text printed h rest a b (g ++ pending) (subst (λ x. AppendsPrefix a b (x ++ pending)) ge prefix)
 
 -- The slice from a position to the end.
 pub slice_from : (p : List ℕ) (n : ℕ) → take (length p - n) (drop n p) ≡ drop n p
@@ -173,11 +173,11 @@ between_more p from at end h k =
     ap (λ i. take i (drop from p)) n
     ∙ sym (take-append-drop (at - from) (take ((at - from) + (end - at)) (drop from p)))
     ∙ ap₂ (λ x y. x ++ y)
-    (take-front (at - from) (end - at) (drop from p))
+    (take-prefix (at - from) (end - at) (drop from p))
     (drop-take (at - from) (end - at) (drop from p) ∙ ap (take (end - at)) (sym (drop_both p from (at - from)) ∙ ap (λ i. drop i p) m))
   where
-    take-front : (i j : ℕ) (q : List ℕ) → take i (take (i + j) q) ≡ take i q
-    take-front i j q = grind (arith, common_steps)
+    take-prefix : (i j : ℕ) (q : List ℕ) → take i (take (i + j) q) ≡ take i q
+    take-prefix i j q = grind (arith, common_steps)
 
 -- The bytes up to a position, and those from there to another, from the beginning.
 pub take_more_of : (p : List ℕ) (at end : ℕ) → at ≤ end → take at p ++ slice_between p at end ≡ take end p
@@ -186,8 +186,8 @@ take_more_of p at end h =
     let m : end - 0 ≡ end = omega arith in
     ap (λ k. take k p ++ slice_between p at end) (sym n) ∙ sym (between_more p 0 at end (omega arith) h) ∙ ap (λ k. take k p) m
 
-module _ {S : Type 0} (stands : S → List Judged → Type 0) (piece_of : S → List Judged → Judged → List ℕ) (o : Options) (piece : List Judged → Judged → List ℕ)
-    (e : EngineState S) (text printed : List ℕ) (h : EngineRepresentsBuffered stands piece_of e o piece text printed) (a b : Option (List ℕ)) (g : List ℕ) (ge : e.buffered ≡ g)
+module _ {S : Type 0} (represents : S → List Judged → Type 0) (piece_of : S → List Judged → Judged → List ℕ) (o : Options) (piece : List Judged → Judged → List ℕ)
+    (e : EngineState S) (text printed : List ℕ) (h : EngineRepresentsBuffered represents piece_of e o piece text printed) (a b : Option (List ℕ)) (g : List ℕ) (ge : e.buffered ≡ g)
     (bytes rest : List ℕ) (from at end : ℕ) (rest_from : rest ≡ drop at bytes) (ordered : from ≤ at) (later : at ≤ end)
     (f : EngineState S) (l : Line) (lends : CanBorrow e.lines rest (length (text_of l))) (is : text_of l ≡ take (length (text_of l)) rest) (ends : length (text_of l) ≡ end - at)
     (value : l ≡ line_at (suc e.lines.before) (take (length (text_of l)) rest)) (counted : f.lines ≡ record e.lines { before = e.lines.before + 1 })
@@ -198,10 +198,10 @@ module _ {S : Type 0} (stands : S → List Judged → Type 0) (piece_of : S → 
   own_line : whole_lines (text ++ text_of l) ≡ whole_lines text ++ text_of l ∷ []
   own_line =
       subst (λ x. whole_lines (text ++ x) ≡ whole_lines text ++ x ∷ []) (sym is)
-      (ap (λ (q : SplitLines). q.whole) (split_lines-front_of text [] rest (length (text_of l)) true (rest_is stands piece_of o piece e text printed h ∙ lends.unheld) lends.front))
+      (ap (λ (q : SplitLines). q.whole) (split_lines-front_of text [] rest (length (text_of l)) true (rest_is represents piece_of o piece e text printed h ∙ lends.unheld) lends.prefix))
 
   own_number : l ≡ line_at (suc (length (whole_lines text))) (text_of l)
-  own_number = value ∙ ap₂ (λ n x. line_at (suc n) x) (before_is stands piece_of o piece e text printed h) (sym is)
+  own_number = value ∙ ap₂ (λ n x. line_at (suc n) x) (before_is represents piece_of o piece e text printed h) (sym is)
 
   own_open : IsOpen f.lines
   own_open = record {
@@ -212,17 +212,17 @@ module _ {S : Type 0} (stands : S → List Judged → Type 0) (piece_of : S → 
     no_newline = subst (λ (x : List ℕ). NoNewline x) (sym (ap (λ (k : LinesState). k.held) counted)) h.opened.no_newline;
   }
 
-  lent_taken : (put : Bool) (p : PrintsLine stands piece_of f.printer o piece h.items h.tree l put a b e.buffered f.buffered (slice_between bytes from at)) →
-      EngineRepresentsBuffered stands piece_of f o piece (text ++ slice_between bytes at end) (printed ++ p.more)
+  lent_taken : (put : Bool) (p : PrintsLine represents piece_of f.printer o piece h.items h.tree l put a b e.buffered f.buffered (slice_between bytes from at)) →
+      EngineRepresentsBuffered represents piece_of f o piece (text ++ slice_between bytes at end) (printed ++ p.more)
   lent_taken put p =
-      subst (λ x. EngineRepresentsBuffered stands piece_of f o piece (text ++ x) (printed ++ p.more)) own_bytes
-      (line_taken stands piece_of o piece e text printed h f (text_of l) (text_of l) l p.tree p.more own_line own_number symbols own_open took
+      subst (λ x. EngineRepresentsBuffered represents piece_of f o piece (text ++ x) (printed ++ p.more)) own_bytes
+      (line_taken represents piece_of o piece e text printed h f (text_of l) (text_of l) l p.tree p.more own_line own_number symbols own_open took
       (ap (λ (k : LinesState). k.fault) counted ∙ h.unrefused) (ap (λ (k : LinesState). k.held) counted ∙ lends.unheld)
       (let m = h.opened.limit in let n = ap (λ (k : LinesState). k.before) counted in let q = lends.numbered in omega (arith, m, n, q)) p.has p.is_more)
 
   -- The output for a line is appended after the pending bytes, and nothing is pending after it.
-  pub lent_put : (put : Bool) → put ≡ true → PrintsLine stands piece_of f.printer o piece h.items h.tree l put a b e.buffered f.buffered (slice_between bytes from at) →
-      Advances stands piece_of f o piece text printed (slice_between bytes at end) a b (g ++ slice_between bytes from at) (f.buffered ++ slice_between bytes end end)
+  pub lent_put : (put : Bool) → put ≡ true → PrintsLine represents piece_of f.printer o piece h.items h.tree l put a b e.buffered f.buffered (slice_between bytes from at) →
+      Advances represents piece_of f o piece text printed (slice_between bytes at end) a b (g ++ slice_between bytes from at) (f.buffered ++ slice_between bytes end end)
   lent_put false w p = cc
   lent_put true w p = record {
     more = p.more;
@@ -234,8 +234,8 @@ module _ {S : Type 0} (stands : S → List Judged → Type 0) (piece_of : S → 
   }
 
   -- An unchanged line extends the pending bytes.
-  pub lent_kept : (put : Bool) → put ≡ false → PrintsLine stands piece_of f.printer o piece h.items h.tree l put a b e.buffered f.buffered (slice_between bytes from at) →
-      Advances stands piece_of f o piece text printed (slice_between bytes at end) a b (g ++ slice_between bytes from at) (f.buffered ++ slice_between bytes from end)
+  pub lent_kept : (put : Bool) → put ≡ false → PrintsLine represents piece_of f.printer o piece h.items h.tree l put a b e.buffered f.buffered (slice_between bytes from at) →
+      Advances represents piece_of f o piece text printed (slice_between bytes at end) a b (g ++ slice_between bytes from at) (f.buffered ++ slice_between bytes from end)
   lent_kept true w p = cc
   lent_kept false w p =
       let joined : f.buffered ++ slice_between bytes from end ≡ (g ++ slice_between bytes from at) ++ p.more =
@@ -254,23 +254,23 @@ module _ {S : Type 0} (stands : S → List Judged → Type 0) (piece_of : S → 
   pub lent_refused : (fault : RunFault) → PrintErr o piece h.items h.tree l a b e.buffered (slice_between bytes from at) fault →
       StepFails o piece (text ++ drop at bytes) printed a b (g ++ slice_between bytes from at) fault
   lent_refused fault fails =
-      let next = line_next stands piece_of o piece e text printed h rest (length (text_of l)) (text_of l)
+      let next = line_next represents piece_of o piece e text printed h rest (length (text_of l)) (text_of l)
       (subst (λ x. whole_lines (text ++ x) ≡ whole_lines text ++ text_of l ∷ []) is own_line) in
       subst (λ x. StepFails o piece (text ++ x) printed a b (g ++ slice_between bytes from at) fault) rest_from
-      (refused_by stands piece_of o piece e text printed h a b g (slice_between bytes from at) rest ge l fault next.0
+      (refused_by represents piece_of o piece e text printed h a b g (slice_between bytes from at) rest ge l fault next.0
       (next.1 ∙ ap (λ k. lines_so_far text ++ k ∷ next.0) (sym own_number)) fails)
 
 -- Bytes that were taken through the line buffer.
-module _ {S : Type 0} (stands : S → List Judged → Type 0) (piece_of : S → List Judged → Judged → List ℕ) (o : Options) (piece : List Judged → Judged → List ℕ)
+module _ {S : Type 0} (represents : S → List Judged → Type 0) (piece_of : S → List Judged → Judged → List ℕ) (o : Options) (piece : List Judged → Judged → List ℕ)
     (text printed : List ℕ) (a b : Option (List ℕ)) (bytes rest : List ℕ) (at used : ℕ) (rest_from : rest ≡ drop at bytes) (f : EngineState S) (pending : List ℕ) where
-  pub held_taken : Advances stands piece_of f o piece text printed (take used rest) a b pending f.buffered →
-      Advances stands piece_of f o piece text printed (slice_between bytes at (at + used)) a b pending (f.buffered ++ slice_between bytes (at + used) (at + used))
+  pub held_taken : Advances represents piece_of f o piece text printed (take used rest) a b pending f.buffered →
+      Advances represents piece_of f o piece text printed (slice_between bytes at (at + used)) a b pending (f.buffered ++ slice_between bytes (at + used) (at + used))
   held_taken p =
       let n : (at + used) - at ≡ used = omega arith in
       let same : take used rest ≡ slice_between bytes at (at + used) = ap₂ (λ i r. take i r) (sym n) rest_from in
       record {
         more = p.more;
-        taken = subst (λ x. EngineRepresentsBuffered stands piece_of f o piece (text ++ x) (printed ++ p.more)) same p.taken;
+        taken = subst (λ x. EngineRepresentsBuffered represents piece_of f o piece (text ++ x) (printed ++ p.more)) same p.taken;
         sent =
             subst (λ x. AppendsAllBut a b (pending ++ p.more) x)
             (sym (ap (λ x. f.buffered ++ x) (between_none bytes (at + used)) ∙ append-nil f.buffered)) p.sent;

@@ -41,13 +41,15 @@ measure piece r = (length piece - r.pos) + (length piece - r.pos) + (if r.bulk_t
 -- `Advances .. e o piece text printed bytes old new pending left`: a step took `bytes`, which
 -- follow `text`. `pending` and the output for `bytes` were appended, but for `left`, which is
 -- pending now.
-pub record Advances {S : Type 0} (stands : S → List Judged → Type 0) (piece_of : S → List Judged →
+pub record Advances {S : Type 0} (represents : S → List Judged → Type 0) (piece_of : S →
+    List Judged →
     Judged → List ℕ) (e : EngineState S) (o : Options)
     (piece : List Judged → Judged →
     List ℕ) (text printed : List ℕ) (bytes : List ℕ) (old new : Option (List ℕ))
     (pending left : List ℕ) : Type 0 where
   pub more : List ℕ
-  pub taken : EngineRepresentsBuffered stands piece_of e o piece (text ++ bytes) (printed ++ more)
+  pub taken : EngineRepresentsBuffered represents piece_of e o piece (text ++ bytes) (printed ++
+      more)
   pub sent : AppendsAllBut old new (pending ++ more) left
 
 -- `WriteStops o piece longer printed old new pending`: a write failed. A prefix of `pending` and of
@@ -56,7 +58,7 @@ pub record WriteStops (o : Options) (piece : List Judged → Judged →
     List ℕ) (longer printed : List ℕ) (old new : Option (List ℕ)) (pending : List ℕ) : Type 0 where
   pub more : List ℕ
   pub reaches : PrintsPrefix o piece longer (printed ++ more)
-  pub front : AppendsPrefix old new (pending ++ more)
+  pub prefix : AppendsPrefix old new (pending ++ more)
 
 -- `StepFails o piece longer printed old new pending f`: a step failed with `f`. The next line of
 -- `longer` is faulty, and nothing is printed for it; or a write failed.

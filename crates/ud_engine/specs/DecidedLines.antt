@@ -36,7 +36,7 @@ pub record DecidesLine (o : Options) (r : LineDecider) (xs : List (Item Reading)
   pub has : DeciderRepresents o r (xs ++ next_item o xs t l ∷ []) tree
   pub mark : Mark
   pub marks_are : marks tree ≡ marks t ++ mark ∷ []
-  pub judged_so : record { line = l; verdict = step.verdict; keyword = as_span step.keyword } ≡
+  pub decided : record { line = l; verdict = step.verdict; keyword = as_span step.keyword } ≡
       judged_line (next_item o xs t l) mark
 
 -- `consumed lines bytes`: `lines` once the whole lines of `bytes` are consumed too.
@@ -53,4 +53,4 @@ pub record DecidesBulk (o : Options) (r : LineDecider) (xs : List (Item Reading)
   pub lines_are : map line_of items ≡ ls
   pub own : List Mark
   pub marks_are : marks tree ≡ marks t ++ own
-  pub judged_so : judged_lines items own ≡ map (judged_text verdict) ls
+  pub decided : judged_lines items own ≡ map (judged_text verdict) ls

@@ -49,13 +49,14 @@ pub record IsOpen (lines : LinesState) : Type 0 where
 
 -- `EngineRepresentsBuffered .. e o piece text printed`: `e` took `text`, none of whose lines is
 -- faulty. `printed` is the output for its whole lines, of which some may be pending.
-pub record EngineRepresentsBuffered {S : Type 0} (stands : S → List Judged → Type 0) (piece_of : S →
+pub record EngineRepresentsBuffered {S : Type 0} (represents : S → List Judged →
+    Type 0) (piece_of : S →
     List Judged → Judged → List ℕ) (e : EngineState S) (o : Options)
     (piece : List Judged → Judged → List ℕ) (text printed : List ℕ) : Type 0 where
   pub items : List (Item Reading)
   pub tree : Tree Reading
   pub goes : HasNoFault o (lines_so_far text) items tree
-  pub has : ProcessorRepresents stands piece_of e.printer o piece items tree
+  pub has : ProcessorRepresents represents piece_of e.printer o piece items tree
   pub printed_is : printed ≡ text_by o.settings.listing piece items tree
   pub symbols : TableRepresents e.symbols o.table
   pub opened : IsOpen e.lines
@@ -66,22 +67,23 @@ pub record EngineRepresentsBuffered {S : Type 0} (stands : S → List Judged →
 
 -- `EngineRepresents .. e o piece text printed`: `EngineRepresentsBuffered`, no fault occurred, and
 -- nothing is pending.
-pub record EngineRepresents {S : Type 0} (stands : S → List Judged → Type 0) (piece_of : S →
+pub record EngineRepresents {S : Type 0} (represents : S → List Judged → Type 0) (piece_of : S →
     List Judged → Judged → List ℕ) (e : EngineState S) (o : Options)
     (piece : List Judged → Judged → List ℕ) (text printed : List ℕ) : Type 0 where
-  pub taken : EngineRepresentsBuffered stands piece_of e o piece text printed
+  pub taken : EngineRepresentsBuffered represents piece_of e o piece text printed
   pub works : e.fault ≡ None
   pub written : e.buffered ≡ []
 
 -- `Continues .. e o piece longer printed old new`: `e` was fed `longer`, and the output for its
 -- lines after `printed` was appended. The text has no fault so far. The line that it begins and its
 -- open sections are within the limits.
-pub record Continues {S : Type 0} (stands : S → List Judged → Type 0) (piece_of : S → List Judged →
+pub record Continues {S : Type 0} (represents : S → List Judged → Type 0) (piece_of : S →
+    List Judged →
     Judged → List ℕ) (e : EngineState S) (o : Options)
     (piece : List Judged → Judged →
     List ℕ) (longer printed : List ℕ) (old new : Option (List ℕ)) : Type 0 where
   pub more : List ℕ
-  pub fed : EngineRepresents stands piece_of e o piece longer (printed ++ more)
+  pub fed : EngineRepresents represents piece_of e o piece longer (printed ++ more)
   pub appended : Appends old new more
   pub right : ReadsSoFar o longer fed.taken.items fed.taken.tree None
   pub one_line : length (partial_line longer) ≤ LINE_BYTES

@@ -40,14 +40,15 @@ without_fault symbols lines printer buffered =
 
 -- `PrintsAll .. p o piece text printed old new`: `p` has read all lines of `text`, none of which is
 -- faulty. The output for them, after `printed`, was appended.
-pub record PrintsAll {S : Type 0} (stands : S → List Judged → Type 0) (piece_of : S → List Judged →
+pub record PrintsAll {S : Type 0} (represents : S → List Judged → Type 0) (piece_of : S →
+    List Judged →
     Judged → List ℕ) (p : LineProcessor S) (o : Options)
     (piece : List Judged → Judged →
     List ℕ) (text printed : List ℕ) (old new : Option (List ℕ)) : Type 0 where
   pub items : List (Item Reading)
   pub tree : Tree Reading
   pub goes : HasNoFault o (lines_of text) items tree
-  pub has : ProcessorRepresents stands piece_of p o piece items tree
+  pub has : ProcessorRepresents represents piece_of p o piece items tree
   pub more : List ℕ
   pub printed_is : printed ++ more ≡ text_by o.settings.listing piece items tree
   pub appended : Appends old new more
@@ -84,7 +85,7 @@ pub record FinishTruncated (o : Options) (piece : List Judged → Judged →
   pub goes : HasNoFault o (lines_of text) items tree
   pub more : List ℕ
   pub printed_is : printed ++ more ≡ text_by o.settings.listing piece items tree
-  pub front : AppendsPrefix old new more
+  pub prefix : AppendsPrefix old new more
 
 -- `FinishErr o piece failed old new text printed f`: finishing failed with `f`. The text has this
 -- fault, or a write failed.

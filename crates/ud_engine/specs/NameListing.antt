@@ -45,7 +45,7 @@ pub record ListingFails (o : Options) (xs : List (Item Reading)) (t : Tree Readi
   pub sound : AreFaultless o (xs ++ next_item o xs t l ∷ []) tree
   pub more : List ℕ
   pub is_more : ListsMore o xs t l depths tree more
-  pub front : AppendsPrefix old new (buffered ++ (pending ++ more))
+  pub prefix : AppendsPrefix old new (buffered ++ (pending ++ more))
 
 -- `ListErr o xs t l depths old new buffered pending f`: listing the line `l` failed with `f`. The
 -- line is faulty, or a write failed.

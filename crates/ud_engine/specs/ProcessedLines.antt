@@ -53,15 +53,15 @@ lister_of Off = None
 lister_of Names = Some false
 lister_of Depths = Some true
 
--- `ProcessorRepresents stands piece_of p o piece xs t`: `p` has read the items `xs`, none of which
+-- `ProcessorRepresents represents piece_of p o piece xs t`: `p` has read the items `xs`, none of which
 -- is faulty, and `t` is their tree. The printer got each of them, unless names are listed.
-pub record ProcessorRepresents {S : Type 0} (stands : S → List Judged → Type 0) (piece_of : S →
+pub record ProcessorRepresents {S : Type 0} (represents : S → List Judged → Type 0) (piece_of : S →
     List Judged → Judged → List ℕ) (p : LineProcessor S) (o : Options)
     (piece : List Judged → Judged →
     List ℕ) (xs : List (Item Reading)) (t : Tree Reading) : Type 0 where
   pub has : DeciderRepresents o p.decider xs t
   pub lister : p.lister ≡ lister_of o.settings.listing
-  pub shown : o.settings.listing ≡ Off → stands p.printer (judged_lines xs (marks t))
+  pub shown : o.settings.listing ≡ Off → represents p.printer (judged_lines xs (marks t))
   pub stays : (before : List Judged) → (j : Judged) → piece_of p.printer before j ≡ piece before j
   pub differs : p.differs ≡ differs_in o.settings.listing piece xs t
 
@@ -96,13 +96,14 @@ IsLeftOf left ending = (left ≡ []) ⊎ (left ≡ ending)
 
 -- `PrintsLine .. p o piece xs t l put old new buffered left pending`: `p` has also read the line
 -- `l`, and its output `IsAppended`.
-pub record PrintsLine {S : Type 0} (stands : S → List Judged → Type 0) (piece_of : S → List Judged →
+pub record PrintsLine {S : Type 0} (represents : S → List Judged → Type 0) (piece_of : S →
+    List Judged →
     Judged → List ℕ) (p : LineProcessor S) (o : Options)
     (piece : List Judged → Judged →
     List ℕ) (xs : List (Item Reading)) (t : Tree Reading) (l : Line) (put : Bool)
     (old new : Option (List ℕ)) (buffered left pending : List ℕ) : Type 0 where
   pub tree : Tree Reading
-  pub has : ProcessorRepresents stands piece_of p o piece (xs ++ next_item o xs t l ∷ []) tree
+  pub has : ProcessorRepresents represents piece_of p o piece (xs ++ next_item o xs t l ∷ []) tree
   pub more : List ℕ
   pub is_more : PrintsMore o piece xs t l tree more
   pub goes : IsAppended put old new buffered left pending more (text_of l)
@@ -114,14 +115,15 @@ printed_of passed bytes = if passed.kept then take passed.count bytes else []
 
 -- `PrintsBulk .. p o piece xs t ls more`: `p` has also read the lines `ls`, if any, and `more` is
 -- the output for them.
-pub record PrintsBulk {S : Type 0} (stands : S → List Judged → Type 0) (piece_of : S → List Judged →
+pub record PrintsBulk {S : Type 0} (represents : S → List Judged → Type 0) (piece_of : S →
+    List Judged →
     Judged → List ℕ) (p : LineProcessor S) (o : Options)
     (piece : List Judged → Judged →
     List ℕ) (xs : List (Item Reading)) (t : Tree Reading) (ls : List Line) (more : List ℕ) :
     Type 0 where
   pub items : List (Item Reading)
   pub tree : Tree Reading
-  pub has : ProcessorRepresents stands piece_of p o piece (xs ++ items) tree
+  pub has : ProcessorRepresents represents piece_of p o piece (xs ++ items) tree
   pub lines_are : map line_of items ≡ ls
   pub is_more : text_by o.settings.listing piece (xs ++ items) tree ≡
       text_by o.settings.listing piece xs t ++ more
@@ -135,7 +137,7 @@ pub record WriteFails (o : Options) (piece : List Judged → Judged →
   pub sound : AreFaultless o (xs ++ next_item o xs t l ∷ []) tree
   pub more : List ℕ
   pub is_more : PrintsMore o piece xs t l tree more
-  pub front : AppendsPrefix old new (buffered ++ (pending ++ more))
+  pub prefix : AppendsPrefix old new (buffered ++ (pending ++ more))
 
 -- `PrintErr o piece xs t l old new buffered pending f`: printing the line `l` failed with `f`. The
 -- line is faulty, or a write failed.

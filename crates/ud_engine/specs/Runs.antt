@@ -85,7 +85,7 @@ pub record AppendsPrefixOfOutput (o : Options) (lines : List Line) (old new : Op
   pub items : List (Item Reading)
   pub tree : Tree Reading
   pub goes : HasNoFault o lines items tree
-  pub front : AppendsPrefix old new (output_by o.settings.listing o.settings items tree)
+  pub prefix : AppendsPrefix old new (output_by o.settings.listing o.settings items tree)
 
 -- `Truncated o given left old new`: `AppendsPrefixOfOutput` for some first whole lines of `given`;
 -- or for all lines, if no byte is left to read.
@@ -130,8 +130,8 @@ pub record RunFinished (o : Options) (read_old read_new old new : Option (List �
     (reader writer : Bool) (result : Result Bool RunFault) : Type 0 where
   pub ran : reader ≡ false → writer ≡ false →
       IfSome read_old (λ input. RunAnswers o input old new result)
-  pub kept_up : LagsOneRead o read_old read_new old new
-  pub went : RunEnded o read_old read_new old new result
+  pub lag : LagsOneRead o read_old read_new old new
+  pub ended : RunEnded o read_old read_new old new result
 
 -- `ErrorMatchesStreams reader writer result`: `result` is `Read` exactly if a read has failed, and
 -- `Write` exactly if a write has.

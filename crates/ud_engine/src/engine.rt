@@ -259,8 +259,8 @@ impl<'p, S: Show, H: LineBuffer> Engine<'p, S, H> {
             IfErr result (ErrorMatchesWriter out.new.failed) }
         ensures fused { IfSome self.old.fault (λ f. (result ≡ Err f) × (out.new ≡ out.old)) }
     {
-        if let Some(refused) = self.fault {
-            return Err(refused);
+        if let Some(earlier) = self.fault {
+            return Err(earlier);
         }
         let ended = print_last_line(
             &mut self.lines,
@@ -437,9 +437,9 @@ impl<'p, S: Show, H: LineBuffer> Engine<'p, S, H> {
     {
         let pending = &chunk[cursor.pending_start..cursor.pos];
         let lines = &chunk[cursor.pos..cursor.whole_end];
-        let passed = self.printer.skip_text(lines, &mut self.lines);
-        let at = cursor.pos + passed.count;
-        if passed.kept {
+        let skipped = self.printer.skip_text(lines, &mut self.lines);
+        let at = cursor.pos + skipped.count;
+        if skipped.kept {
             return Ok(Cursor {
                 pending_start: cursor.pending_start,
                 pos: at,

@@ -11,14 +11,14 @@ use Rattle.ud_io.specs.Buffering.{AppendsAllBut, AppendsAllButOrPrefix}
 
 -- at first, nothing is appended
 pub appends_all_but_none : (a : Option (List ℕ)) (bytes : List ℕ) → AppendsAllBut a a bytes bytes
-appends_all_but_none a bytes = record { front = []; joined = refl; appended = Appends-nil a }
+appends_all_but_none a bytes = record { prefix = []; joined = refl; appended = Appends-nil a }
 
 -- then a prefix of the rest is appended
 pub appends_all_but_part : (a b c : Option (List ℕ)) (bytes part rest : List ℕ) → AppendsAllBut a b bytes (part ++ rest) → Appends b c part → AppendsAllBut a c bytes rest
 appends_all_but_part a b c bytes part rest s p = record {
-  front = s.front ++ part;
-  joined = s.joined ∙ sym (append_assoc s.front part rest);
-  appended = Appends-trans a b c s.front part s.appended p;
+  prefix = s.prefix ++ part;
+  joined = s.joined ∙ sym (append_assoc s.prefix part rest);
+  appended = Appends-trans a b c s.prefix part s.appended p;
 }
 
 -- then the first `n` bytes of the rest are appended
@@ -29,15 +29,15 @@ appends_all_but_bytes a b c bytes rest n s p =
 -- if the rest is empty, all is appended
 pub appends_all_but_all : (a b : Option (List ℕ)) (bytes rest : List ℕ) → AppendsAllBut a b bytes rest → rest ≡ [] → Appends a b bytes
 appends_all_but_all a b bytes rest s e =
-    subst (λ x. Appends a b x) (sym (s.joined ∙ ap (λ r. s.front ++ r) e ∙ append-nil s.front)) s.appended
+    subst (λ x. Appends a b x) (sym (s.joined ∙ ap (λ r. s.prefix ++ r) e ∙ append-nil s.prefix)) s.appended
 
 -- if a prefix of the next part was appended, a prefix of all was
 pub appends_all_but_prefix : (a b c : Option (List ℕ)) (bytes part rest : List ℕ) → AppendsAllBut a b bytes (part ++ rest) → AppendsPrefix b c part → AppendsPrefix a c bytes
-appends_all_but_prefix a b c bytes part rest s (front, back, joined, p) = (
-  s.front ++ front,
+appends_all_but_prefix a b c bytes part rest s (prefix, back, joined, p) = (
+  s.prefix ++ prefix,
   back ++ rest,
-  s.joined ∙ ap (λ x. s.front ++ (x ++ rest)) joined ∙ ap (λ x. s.front ++ x) (append_assoc front back rest) ∙ sym (append_assoc s.front front (back ++ rest)),
-  Appends-trans a b c s.front front s.appended p,
+  s.joined ∙ ap (λ x. s.prefix ++ (x ++ rest)) joined ∙ ap (λ x. s.prefix ++ x) (append_assoc prefix back rest) ∙ sym (append_assoc s.prefix prefix (back ++ rest)),
+  Appends-trans a b c s.prefix prefix s.appended p,
 )
 
 -- appended bytes stay appended while the contents stay
@@ -49,7 +49,7 @@ appends_kept (Some u) (Some v) (Some w) x p q = q ∙ p
 
 -- if nothing more is appended, a prefix was
 pub prefix_if_nothing_more : (a b c : Option (List ℕ)) (bytes rest : List ℕ) → AppendsAllBut a b bytes rest → Keeps b c → AppendsPrefix a c bytes
-prefix_if_nothing_more a b c bytes rest s k = (s.front, rest, s.joined, appends_kept a b c s.front s.appended k)
+prefix_if_nothing_more a b c bytes rest s k = (s.prefix, rest, s.joined, appends_kept a b c s.prefix s.appended k)
 
 pub prefix_of_failed : (failed : Bool) (a b : Option (List ℕ)) (bytes : List ℕ) → failed ≡ true → AppendsPrefix a b bytes → AppendsAllOrPrefix failed a b bytes
 prefix_of_failed true a b bytes e h = h
@@ -109,7 +109,7 @@ suffix_nil (b ∷ bs) y e = cc
 
 -- no bytes have no rest
 pub appends_all_but_empty : (a b : Option (List ℕ)) (bytes rest : List ℕ) → AppendsAllBut a b bytes rest → bytes ≡ [] → rest ≡ []
-appends_all_but_empty a b bytes rest s e = suffix_nil s.front rest (sym s.joined ∙ e)
+appends_all_but_empty a b bytes rest s e = suffix_nil s.prefix rest (sym s.joined ∙ e)
 
 -- an empty list has length 0
 pub empty_len : (rest : List ℕ) → rest ≡ [] → false ≡ (length rest == 0) → ⊥
@@ -135,19 +135,19 @@ prefix_of_second a b c x y h k =
 -- more bytes follow the rest
 pub appends_all_but_then : (a b c : Option (List ℕ)) (bytes rest more left : List ℕ) → AppendsAllBut a b bytes rest → AppendsAllBut b c (rest ++ more) left → AppendsAllBut a c (bytes ++ more) left
 appends_all_but_then a b c bytes rest more left s t = record {
-  front = s.front ++ t.front;
+  prefix = s.prefix ++ t.prefix;
   joined =
-      ap (λ x. x ++ more) s.joined ∙ append_assoc s.front rest more ∙ ap (λ x. s.front ++ x) t.joined ∙ sym (append_assoc s.front t.front left);
-  appended = Appends-trans a b c s.front t.front s.appended t.appended;
+      ap (λ x. x ++ more) s.joined ∙ append_assoc s.prefix rest more ∙ ap (λ x. s.prefix ++ x) t.joined ∙ sym (append_assoc s.prefix t.prefix left);
+  appended = Appends-trans a b c s.prefix t.prefix s.appended t.appended;
 }
 
 -- a write fails within the rest or the bytes that follow it
 pub appends_all_but_then_front : (a b c : Option (List ℕ)) (bytes rest more : List ℕ) → AppendsAllBut a b bytes rest → AppendsPrefix b c (rest ++ more) → AppendsPrefix a c (bytes ++ more)
-appends_all_but_then_front a b c bytes rest more s (front, back, joined, p) = (
-  s.front ++ front,
+appends_all_but_then_front a b c bytes rest more s (prefix, back, joined, p) = (
+  s.prefix ++ prefix,
   back,
-  ap (λ x. x ++ more) s.joined ∙ append_assoc s.front rest more ∙ ap (λ x. s.front ++ x) joined ∙ sym (append_assoc s.front front back),
-  Appends-trans a b c s.front front s.appended p,
+  ap (λ x. x ++ more) s.joined ∙ append_assoc s.prefix rest more ∙ ap (λ x. s.prefix ++ x) joined ∙ sym (append_assoc s.prefix prefix back),
+  Appends-trans a b c s.prefix prefix s.appended p,
 )
 
 -- new bytes are buffered or written after the rest

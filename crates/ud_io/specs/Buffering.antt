@@ -8,9 +8,9 @@ use Rattle.ud_io.specs.Watched.{AppendsPrefix}
 
 -- `AppendsAllBut old new bytes rest`: all of `bytes` but its suffix `rest` was appended.
 pub record AppendsAllBut (old new : Option (List ℕ)) (bytes rest : List ℕ) : Type 0 where
-  pub front : List ℕ
-  pub joined : bytes ≡ front ++ rest
-  pub appended : Appends old new front
+  pub prefix : List ℕ
+  pub joined : bytes ≡ prefix ++ rest
+  pub appended : Appends old new prefix
 
 -- `AppendsAllButOrPrefix done old new bytes rest`: if `done`, all of `bytes` but `rest` was
 -- appended. If not, a write failed, and a prefix of `bytes` was appended.

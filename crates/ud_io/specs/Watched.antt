@@ -35,8 +35,8 @@ WritesOnce old new None bytes = Keeps old new
 
 -- `AppendsPrefix old new bytes`: a prefix of `bytes` was appended, which may be empty or all of it.
 abbrev pub AppendsPrefix : Option (List ℕ) → Option (List ℕ) → List ℕ → Type 0
-AppendsPrefix old new bytes = (front : List ℕ) × (back : List ℕ) × (bytes ≡ front ++ back) ×
-    Appends old new front
+AppendsPrefix old new bytes = (prefix : List ℕ) × (back : List ℕ) × (bytes ≡ prefix ++ back) ×
+    Appends old new prefix
 
 -- `AppendsAllOrPrefix failed old new bytes`: all of `bytes` was appended or, if `failed`, a prefix.
 abbrev pub AppendsAllOrPrefix : Bool → Option (List ℕ) → Option (List ℕ) → List ℕ → Type 0

@@ -45,8 +45,8 @@ pub fn law_lines()
     ensures exists { (text : List ℕ) → AreLines text (texts_of text) }
     ensures only { (text : List ℕ) → (ls : List (List ℕ)) → AreLines text ls → ls ≡ texts_of text }
     ensures bytes { (text : List ℕ) → map text_of (lines_of text) ≡ texts_of text }
-    ensures number { (text : List ℕ) → (front : List Line) → (l : Line) → (later : List Line) →
-        lines_of text ≡ front ++ l ∷ later → l.number ≡ suc (length front) }
+    ensures number { (text : List ℕ) → (prefix : List Line) → (l : Line) → (later : List Line) →
+        lines_of text ≡ prefix ++ l ∷ later → l.number ≡ suc (length prefix) }
     ensures whole { (text : List ℕ) →
         AreSplitLines text (record { whole = whole_lines text; rest = partial_line text }) }
     ensures only_whole { (text : List ℕ) → (ls : List (List ℕ)) → (rest : List ℕ) →
@@ -67,14 +67,15 @@ pub fn law_lexemes()
 /// A scan depends on the logical line alone: after a line that has an ending and doesn't join the
 /// next one, lines are scanned as if no line came before them.
 pub fn law_scan_alone()
-    ensures line { (front : List Reading) → (group : List Reading) → (m : Mode) → (n : Mode) →
-        (last : Line) → (l : Line) → (scan_after front m last).joins_after ≡ false →
-        last.ending ≢ [] → scan_after ((front ++ next_reading front m last ∷ []) ++ group) n l ≡
+    ensures line { (prefix : List Reading) → (group : List Reading) → (m : Mode) → (n : Mode) →
+        (last : Line) → (l : Line) → (scan_after prefix m last).joins_after ≡ false →
+        last.ending ≢ [] → scan_after ((prefix ++ next_reading prefix m last ∷ []) ++ group) n l ≡
         scan_after group n l }
-    ensures lines { (front : List Reading) → (group : List Reading) → (m : Mode) → (last : Line) →
-        (ls : List (Mode × Line)) → (scan_after front m last).joins_after ≡ false →
-        last.ending ≢ [] → readings_after ((front ++ next_reading front m last ∷ []) ++ group) ls ≡
-        (front ++ next_reading front m last ∷ []) ++ readings_after group ls }
+    ensures lines { (prefix : List Reading) → (group : List Reading) → (m : Mode) → (last : Line) →
+        (ls : List (Mode × Line)) → (scan_after prefix m last).joins_after ≡ false →
+        last.ending ≢ [] → readings_after ((prefix ++ next_reading prefix m last ∷ []) ++ group) ls
+        ≡
+        (prefix ++ next_reading prefix m last ∷ []) ++ readings_after group ls }
 {}
 
 /// Position i of a masked line is position i of the body: the masked line shows a cell for each
@@ -86,7 +87,7 @@ pub fn law_scan_bytes()
         map (λ (c : Cell). c.byte) (content_cells run l) ≡ content l }
     ensures len { (before : List Reading) → (l : Line) →
         length (scan_after before Mode.C l).masked ≡ length (content l) }
-    ensures front { (l : Line) → (rest : List ℕ) × (l.body ≡ content l ++ rest) }
+    ensures prefix { (l : Line) → (rest : List ℕ) × (l.body ≡ content l ++ rest) }
 {}
 
 /// Further lines never change the scans of the lines before them.

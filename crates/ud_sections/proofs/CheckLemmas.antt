@@ -110,7 +110,7 @@ module _ (p : Bool) (t : Tree Reading) (x : Item Reading) where
       omega (arith, c, f, g, n)
 
   spoils : (s : ClassifiedLine) (a : Action) → IsSeen x s → is_obfuscated_by (ends_removed (marks t)) s a ≡ is_obfuscated (marks t) x (mark_of a)
-  spoils s a seen = rw (seen.kind, seen.spans, seen.joins, directive_shape x) refl
+  spoils s a scanned = rw (scanned.kind, scanned.spans, scanned.joins, directive_shape x) refl
 
   misplaced_is : act p (section_at None true p t) (item_kind x) (line_of x).number ≡ None →
       misplaced_fault x ≡ Some (fault_of (misplaced_fault_by (item_kind x) (line_of x).number))
@@ -124,7 +124,7 @@ module _ (p : Bool) (t : Tree Reading) (x : Item Reading) where
       by_item (else_line r) e = refl
       by_item (endif_line r) e = refl
 
-  module _ (s : ClassifiedLine) (seen : IsSeen x s) (w : IsWithinLimits (line_of x)) (whole : is_cut_item x ≡ false) (d : depth t ≤ OPEN_SECTIONS) where
+  module _ (s : ClassifiedLine) (scanned : IsSeen x s) (w : IsWithinLimits (line_of x)) (whole : is_cut_item x ≡ false) (d : depth t ≤ OPEN_SECTIONS) where
     well_by : (c a : Action) → Taken p t x c → (k q : Bool) → (opens_section c.change && (depth t == OPEN_SECTIONS)) ≡ k →
         is_obfuscated_by (ends_removed (marks t)) s c ≡ q →
         (if k then Err (TooManyLevels (line_of x).number) else if q then Err (Obfuscated (line_of x).number) else Ok c) ≡ Ok a → Follows p t x a
@@ -137,7 +137,7 @@ module _ (p : Bool) (t : Tree Reading) (x : Item Reading) where
           lines_are = h.lines_are;
           clear =
               clear_line (lines t) x w whole h.tree h.lines_are (marks t) (mark_of c)
-              (shallow c h (opens_section c.change) refl d push) h.marks_are (sym (spoils s c seen) ∙ spoil);
+              (shallow c h (opens_section c.change) refl d push) h.marks_are (sym (spoils s c scanned) ∙ spoil);
           marks_are = h.marks_are;
           changes = h.changes;
         })
@@ -153,7 +153,7 @@ module _ (p : Bool) (t : Tree Reading) (x : Item Reading) where
         let same : Obfuscated (line_of x).number ≡ f = cc in
         subst (λ g. FaultOf (lines t) x (fault_of g)) same
         (spoiled_fault (lines t) x w whole h.tree h.lines_are (marks t) (mark_of c)
-        (shallow c h (opens_section c.change) refl d push) h.marks_are (sym (spoils s c seen) ∙ spoil))
+        (shallow c h (opens_section c.change) refl d push) h.marks_are (sym (spoils s c scanned) ∙ spoil))
     ill_by c f h false false push spoil e = cc
 
     well_at : (r : Option Action) (a : Action) → act p (section_at None true p t) (item_kind x) (line_of x).number ≡ r →
@@ -168,12 +168,12 @@ module _ (p : Bool) (t : Tree Reading) (x : Item Reading) where
         let same : misplaced_fault_by s.kind (line_of x).number ≡ f = cc in
         subst (λ g. FaultOf (lines t) x (fault_of g)) same
         (out_of_place_fault (lines t) x w t (fault_of (misplaced_fault_by s.kind (line_of x).number)) whole refl (not_taken none)
-        (misplaced_is none ∙ ap (λ k. Some (fault_of (misplaced_fault_by k (line_of x).number))) (sym seen.kind)))
+        (misplaced_is none ∙ ap (λ k. Some (fault_of (misplaced_fault_by k (line_of x).number))) (sym scanned.kind)))
     ill_at (Some c) f acts e =
         ill_by c f (taken c acts) (opens_section c.change && (depth t == OPEN_SECTIONS)) (is_obfuscated_by (ends_removed (marks t)) s c) refl refl e
 
     acts_alike : act p (section_at None true p t) (item_kind x) (line_of x).number ≡ act p (section_at None true p t) s.kind (line_of x).number
-    acts_alike = ap (λ k. act p (section_at None true p t) k (line_of x).number) (sym seen.kind)
+    acts_alike = ap (λ k. act p (section_at None true p t) k (line_of x).number) (sym scanned.kind)
 
     -- a line with an action is sound
     pub judged_well : (a : Action) → checked_by (before_next p t) s (line_of x).number ≡ Ok a → Follows p t x a

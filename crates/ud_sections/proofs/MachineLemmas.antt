@@ -46,7 +46,7 @@ reads_line m new o xs t l turn h w settings sections removed last = record {
     sound = one_more xs t h.sound l w.tree w.lines_are w.clear;
     sections = sections ∙ ap (applied turn.change) h.sections ∙ changed_is turn.change _ _ w.changes;
     removed =
-        removed ∙ ap (λ j. is_removed j.verdict) w.judged_so
+        removed ∙ ap (λ j. is_removed j.verdict) w.decided
         ∙ sym (ap ends_removed w.marks_are ∙ ends_removed_last (marks t) w.mark);
     last =
         last ∙ ap (λ (k : Line). k.number) (sym (reading_of-next o xs t l))
@@ -54,7 +54,7 @@ reads_line m new o xs t l turn h w settings sections removed last = record {
   };
   mark = w.mark;
   marks_are = w.marks_are;
-  judged_so = w.judged_so;
+  decided = w.decided;
 }
 
 -- text lines were added
@@ -147,9 +147,9 @@ pub reads_text : (m new : Machine) (o : Options) (xs : List (Item Reading)) (t :
     length m.open_sections.items ≤ OPEN_SECTIONS → AreTextLines o (mode_after o t) xs (r ∷ rs) →
     verdict ≡ (text_action (kept_at (innermost_of m.open_sections.items))).verdict → new.settings ≡ m.settings → new.open_sections.items ≡ m.open_sections.items →
     new.removed ≡ is_removed verdict → new.last ≡ last_number (xs ++ map text_line (r ∷ rs)) → StepsText new o xs t (r ∷ rs) verdict
-reads_text m new o xs t r rs verdict h fits a told settings sections removed last =
+reads_text m new o xs t r rs verdict h fits a reported settings sections removed last =
     let here : verdict ≡ (text_action (place_of o t)).verdict =
-    told ∙ ap (λ ls. (text_action (kept_at (innermost_of ls))).verdict) h.sections ∙ ap (λ s. (text_action (kept_at s)).verdict) (innermost_level o.settings.plain t) in
+    reported ∙ ap (λ ls. (text_action (kept_at (innermost_of ls))).verdict) h.sections ∙ ap (λ s. (text_action (kept_at s)).verdict) (innermost_level o.settings.plain t) in
     let more : MoreText o xs t (r ∷ rs) (place_of o t) = more_text o xs t (r ∷ rs) h.sound (shallow_by m o xs t h fits) a in
     record {
       tree = more.tree;

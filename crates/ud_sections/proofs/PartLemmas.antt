@@ -24,31 +24,31 @@ other_front : (x more y : List ℕ) → bytes_eq (take (length x) y) x ≡ false
 other_front x more y h =
     not_true (bytes_eq (x ++ more) y) (λ e.
     let same : x ++ more ≡ y = (bytes_eq-Decides (x ++ more) y).0 e in
-    let front : take (length x) y ≡ x = ap (take (length x)) (sym same) ∙ take-append_seam x more in
-    cc (h, (bytes_eq-Decides (take (length x) y) x).1 front))
+    let prefix : take (length x) y ≡ x = ap (take (length x)) (sym same) ∙ take-append_seam x more in
+    cc (h, (bytes_eq-Decides (take (length x) y) x).1 prefix))
 
 -- A part is split where a body ends: its prefix is in the body, and if something follows, the body
 -- has no more.
-pub record Split (p body front back : List ℕ) : Type 0 where
-  pub whole : p ≡ front ++ back
-  pub within : length front ≤ length body
-  pub ends : (back ≡ []) ⊎ (length body ≡ length front)
+pub record Split (p body prefix back : List ℕ) : Type 0 where
+  pub whole : p ≡ prefix ++ back
+  pub within : length prefix ≤ length body
+  pub ends : (back ≡ []) ⊎ (length body ≡ length prefix)
 
 drop_all : (p : List ℕ) (n : ℕ) → n ≡ length p → drop n p ≡ []
 drop_all p n e = ap (λ (k : ℕ). drop k p) e ∙ drop-length p
 
 -- a part is split at the lesser of its length and the body's
-pub split_part : (p body front back : List ℕ) (n : ℕ) → n ≡ min (length p) (length body) → front ≡ take n p → back ≡ drop n p → Split p body front back
-split_part p body front back n least f b = record {
+pub split_part : (p body prefix back : List ℕ) (n : ℕ) → n ≡ min (length p) (length body) → prefix ≡ take n p → back ≡ drop n p → Split p body prefix back
+split_part p body prefix back n least f b = record {
   whole = sym (take-append-drop n p) ∙ ap₂ (λ (x y : List ℕ). x ++ y) (sym f) (sym b);
   within = omega (arith, len, least);
   ends = by_less (nat_le (length p) (length body)) refl;
 }
   where
-    len : length front ≡ min n (length p)
+    len : length prefix ≡ min n (length p)
     len = ap length f ∙ length-take n p
 
-    by_less : (t : Bool) → t ≡ nat_le (length p) (length body) → (back ≡ []) ⊎ (length body ≡ length front)
+    by_less : (t : Bool) → t ≡ nat_le (length p) (length body) → (back ≡ []) ⊎ (length body ≡ length prefix)
     by_less true h = inl (b ∙ drop_all p n (grind (arith, nat_tests, h, least)))
     by_less false h = inr (grind (arith, nat_tests, h, least, len))
 
@@ -60,36 +60,36 @@ no_rest x [] s e h = refl
 no_rest x (c ∷ r) s e h = let k : length s ≡ length x + length (c ∷ r) = ap length e ∙ length-append x (c ∷ r) in absurd (omega (arith, k, h))
 
 -- the rests of a part and of a line whose bodies have one prefix
-in_body : (front back more b ending : List ℕ) → (back ≡ []) ⊎ (b ≡ []) →
-    bytes_eq ((front ++ back) ++ more) ((front ++ b) ++ ending) ≡ bytes_eq (back ++ more) (b ++ ending)
-in_body front back more b ending ends =
-    ap₂ (λ (x y : List ℕ). bytes_eq x y) (append_assoc front back more) (append_assoc front b ending) ∙ same_front front (back ++ more) (b ++ ending)
+in_body : (prefix back more b ending : List ℕ) → (back ≡ []) ⊎ (b ≡ []) →
+    bytes_eq ((prefix ++ back) ++ more) ((prefix ++ b) ++ ending) ≡ bytes_eq (back ++ more) (b ++ ending)
+in_body prefix back more b ending ends =
+    ap₂ (λ (x y : List ℕ). bytes_eq x y) (append_assoc prefix back more) (append_assoc prefix b ending) ∙ same_front prefix (back ++ more) (b ++ ending)
 
 -- the rests of a part and of a line whose endings have one prefix, too
 in_ending : (back more b e : List ℕ) → (back ≡ []) ⊎ (b ≡ []) → bytes_eq (back ++ more) (b ++ (back ++ e)) ≡ bytes_eq more (b ++ e)
 in_ending back more b e (inl none) = subst (λ (x : List ℕ). bytes_eq (x ++ more) (b ++ (x ++ e)) ≡ bytes_eq more (b ++ e)) (sym none) refl
 in_ending back more b e (inr none) = subst (λ (x : List ℕ). bytes_eq (back ++ more) (x ++ (back ++ e)) ≡ bytes_eq more (x ++ e)) (sym none) (same_front back more e)
 
-module _ (p more body ending front back : List ℕ) (split : Split p body front back) where
+module _ (p more body ending prefix back : List ℕ) (split : Split p body prefix back) where
   -- the body doesn't begin with the part's prefix
-  pub other_body : bytes_eq (take (length front) body) front ≡ false → bytes_eq (p ++ more) (body ++ ending) ≡ false
+  pub other_body : bytes_eq (take (length prefix) body) prefix ≡ false → bytes_eq (p ++ more) (body ++ ending) ≡ false
   other_body h =
-      ap (λ (x : List ℕ). bytes_eq x (body ++ ending)) (ap (λ (x : List ℕ). x ++ more) split.whole ∙ append_assoc front back more)
-      ∙ other_front front (back ++ more) (body ++ ending)
-      (ap (λ (x : List ℕ). bytes_eq x front) (take-append-le (length front) body ending split.within) ∙ h)
+      ap (λ (x : List ℕ). bytes_eq x (body ++ ending)) (ap (λ (x : List ℕ). x ++ more) split.whole ∙ append_assoc prefix back more)
+      ∙ other_front prefix (back ++ more) (body ++ ending)
+      (ap (λ (x : List ℕ). bytes_eq x prefix) (take-append-le (length prefix) body ending split.within) ∙ h)
 
-  module _ (b : List ℕ) (is : bytes_eq (take (length front) body) front ≡ true) (rest : b ≡ drop (length front) body) where
+  module _ (b : List ℕ) (is : bytes_eq (take (length prefix) body) prefix ≡ true) (rest : b ≡ drop (length prefix) body) where
     ends : (back ≡ []) ⊎ (b ≡ [])
     ends = or_end split.ends
       where
-        or_end : (back ≡ []) ⊎ (length body ≡ length front) → (back ≡ []) ⊎ (b ≡ [])
+        or_end : (back ≡ []) ⊎ (length body ≡ length prefix) → (back ≡ []) ⊎ (b ≡ [])
         or_end (inl none) = inl none
-        or_end (inr e) = inr (no_rest front b body (stripped body front b is rest) e)
+        or_end (inr e) = inr (no_rest prefix b body (stripped body prefix b is rest) e)
 
     behind_body : bytes_eq (p ++ more) (body ++ ending) ≡ bytes_eq (back ++ more) (b ++ ending)
     behind_body =
-        ap₂ (λ (x y : List ℕ). bytes_eq (x ++ more) (y ++ ending)) split.whole (stripped body front b is rest)
-        ∙ in_body front back more b ending ends
+        ap₂ (λ (x y : List ℕ). bytes_eq (x ++ more) (y ++ ending)) split.whole (stripped body prefix b is rest)
+        ∙ in_body prefix back more b ending ends
 
     -- the ending doesn't begin with the rest of the part
     pub other_ending : bytes_eq (take (length back) ending) back ≡ false → bytes_eq (p ++ more) (body ++ ending) ≡ false

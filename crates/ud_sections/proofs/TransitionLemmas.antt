@@ -44,7 +44,7 @@ shape_of_role r EndifLine d = refl
 
 -- the classified line of a line that carries this
 pub record SeenOn (o : Options) (r : Reading) (c : Content) (s : ClassifiedLine) : Type 0 where
-  pub seen : IsSeen (item_by o r c) s
+  pub scanned : IsSeen (item_by o r c) s
   pub whole : is_cut c ≡ false
   pub keyword : as_span s.keyword ≡ keyword_in c
 
@@ -53,12 +53,12 @@ module _ (o : Options) (r : Reading) where
   seen_well cut_keyword s e = cc
   seen_well text s e =
       let q : classified_with r.scan (record { at = 0; len = 0 }) (item_kind (item_by o r text)) ≡ s = cc in
-      subst (SeenOn o r text) q (record { seen = record { kind = refl; spans = refl; joins = refl }; whole = refl; keyword = refl })
+      subst (SeenOn o r text) q (record { scanned = record { kind = refl; spans = refl; joins = refl }; whole = refl; keyword = refl })
   seen_well (directive d) s e =
       let q : classified_with r.scan d.keyword (line_kind_in (role_of d.kind) (decision_on r.scan d o.table (rules_of o.settings))) ≡ s = cc in
       let k : reading_of (item_by o r (directive d)) ≡ r = reading_of-item_by o r (directive d) in
       subst (SeenOn o r (directive d)) q (record {
-        seen = record {
+        scanned = record {
           kind = sym (shape_of_role r (role_of d.kind) (decision_on r.scan d o.table (rules_of o.settings)));
           spans = ap (λ (v : Reading). is_spanning v.scan) (sym k);
           joins = ap (λ (v : Reading). v.scan.joins_before) (sym k);
@@ -80,7 +80,7 @@ pub record TurnsWell (o : Options) (xs : List (Item Reading)) (t : Tree Reading)
   pub mark : Mark
   pub marks_are : marks tree ≡ marks t ++ mark ∷ []
   pub changes : Applies turn.change (open_sections_of true o.settings.plain t) (open_sections_of true o.settings.plain tree)
-  pub judged_so : record { line = l; verdict = turn.step.verdict; keyword = as_span turn.step.keyword } ≡ judged_line (next_item o xs t l) mark
+  pub decided : record { line = l; verdict = turn.step.verdict; keyword = as_span turn.step.keyword } ≡ judged_line (next_item o xs t l) mark
 
 -- a machine keeps the context of the line
 pub before_is : (m : Machine) (o : Options) (xs : List (Item Reading)) (t : Tree Reading) → MachineRepresents m o xs t →
@@ -105,9 +105,9 @@ module _ (o : Options) (xs : List (Item Reading)) (t : Tree Reading) (l : Line) 
   well_seen : (s : ClassifiedLine) → SeenOn o (read_after xs (mode_after o t) l) carried s → (a : Action) →
       checked_by (before_next o.settings.plain t) s l.number ≡ Ok a →
       TurnsWell o xs t l (record { step = record { verdict = a.verdict; keyword = s.keyword }; change = a.change })
-  well_seen s seen a j =
+  well_seen s scanned a j =
       let f : Follows o.settings.plain t (next_item o xs t l) a =
-      judged_well o.settings.plain t (next_item o xs t l) s seen.seen within_item (ap is_cut carried_item ∙ seen.whole) shallow a
+      judged_well o.settings.plain t (next_item o xs t l) s scanned.scanned within_item (ap is_cut carried_item ∙ scanned.whole) shallow a
       (ap (λ n. checked_by (before_next o.settings.plain t) s n) (sym number_is) ∙ j) in
       record {
         tree = f.tree;
@@ -116,48 +116,48 @@ module _ (o : Options) (xs : List (Item Reading)) (t : Tree Reading) (l : Line) 
         mark = mark_of a;
         marks_are = f.marks_are;
         changes = f.changes;
-        judged_so =
+        decided =
             ap₂ (λ (k : Line) (q : Span). record { line = k; verdict = a.verdict; keyword = q }) (sym (reading_of-next o xs t l))
-            (seen.keyword ∙ ap keyword_in (sym carried_item));
+            (scanned.keyword ∙ ap keyword_in (sym carried_item));
       }
 
   ill_seen : (s : ClassifiedLine) → SeenOn o (read_after xs (mode_after o t) l) carried s → (f : SectionFault) →
       checked_by (before_next o.settings.plain t) s l.number ≡ Err f → FaultOf xs (next_item o xs t l) (fault_of f)
-  ill_seen s seen f j =
+  ill_seen s scanned f j =
       subst (λ ys. FaultOf ys (next_item o xs t l) (fault_of f)) e
-      (judged_ill o.settings.plain t (next_item o xs t l) s seen.seen within_item (ap is_cut carried_item ∙ seen.whole) shallow f
+      (judged_ill o.settings.plain t (next_item o xs t l) s scanned.scanned within_item (ap is_cut carried_item ∙ scanned.whole) shallow f
       (ap (λ n. checked_by (before_next o.settings.plain t) s n) (sym number_is) ∙ j))
 
   well_by : (s : ClassifiedLine) → SeenOn o (read_after xs (mode_after o t) l) carried s → (a : Result Action SectionFault) →
       checked_by (before_next o.settings.plain t) s l.number ≡ a → (turn : Transition) → transition_with s.keyword a ≡ Ok turn → TurnsWell o xs t l turn
-  well_by s seen (Ok a) j turn q =
+  well_by s scanned (Ok a) j turn q =
       let same : record { step = record { verdict = a.verdict; keyword = s.keyword }; change = a.change } ≡ turn = cc in
-      subst (TurnsWell o xs t l) same (well_seen s seen a j)
-  well_by s seen (Err f) j turn q = cc
+      subst (TurnsWell o xs t l) same (well_seen s scanned a j)
+  well_by s scanned (Err f) j turn q = cc
 
   ill_by : (s : ClassifiedLine) → SeenOn o (read_after xs (mode_after o t) l) carried s → (a : Result Action SectionFault) →
       checked_by (before_next o.settings.plain t) s l.number ≡ a → (f : SectionFault) → transition_with s.keyword a ≡ Err f →
       FaultOf xs (next_item o xs t l) (fault_of f)
-  ill_by s seen (Ok a) j f q = cc
-  ill_by s seen (Err g) j f q =
+  ill_by s scanned (Ok a) j f q = cc
+  ill_by s scanned (Err g) j f q =
       let same : g ≡ f = cc in
-      subst (λ h. FaultOf xs (next_item o xs t l) (fault_of h)) same (ill_seen s seen g j)
+      subst (λ h. FaultOf xs (next_item o xs t l) (fault_of h)) same (ill_seen s scanned g j)
 
   well_at : (s : Result ClassifiedLine Cut) → classified (read_after xs (mode_after o t) l).scan o.table (rules_of o.settings) carried ≡ s →
       (turn : Transition) → transition_of (before_next o.settings.plain t) l.number s ≡ Ok turn → TurnsWell o xs t l turn
-  well_at (Ok s) seen turn q =
-      well_by s (seen_well o (read_after xs (mode_after o t) l) carried s seen) (checked_by (before_next o.settings.plain t) s l.number) refl turn q
-  well_at (Err cut) seen turn q = cc
+  well_at (Ok s) scanned turn q =
+      well_by s (seen_well o (read_after xs (mode_after o t) l) carried s scanned) (checked_by (before_next o.settings.plain t) s l.number) refl turn q
+  well_at (Err cut) scanned turn q = cc
 
   ill_at : (s : Result ClassifiedLine Cut) → classified (read_after xs (mode_after o t) l).scan o.table (rules_of o.settings) carried ≡ s →
       (f : SectionFault) → transition_of (before_next o.settings.plain t) l.number s ≡ Err f → FaultOf xs (next_item o xs t l) (fault_of f)
-  ill_at (Ok s) seen f q =
-      ill_by s (seen_well o (read_after xs (mode_after o t) l) carried s seen) (checked_by (before_next o.settings.plain t) s l.number) refl f q
-  ill_at (Err cut) seen f q =
+  ill_at (Ok s) scanned f q =
+      ill_by s (seen_well o (read_after xs (mode_after o t) l) carried s scanned) (checked_by (before_next o.settings.plain t) s l.number) refl f q
+  ill_at (Err cut) scanned f q =
       let same : Obfuscated l.number ≡ f = cc in
       subst (λ h. FaultOf xs (next_item o xs t l) (fault_of h)) same
       (subst (λ n. FaultOf xs (next_item o xs t l) (obfuscated n)) (sym number_is)
-      (cut_fault xs (next_item o xs t l) within_item (ap is_cut carried_item ∙ seen_ill o (read_after xs (mode_after o t) l) carried cut seen)))
+      (cut_fault xs (next_item o xs t l) within_item (ap is_cut carried_item ∙ seen_ill o (read_after xs (mode_after o t) l) carried cut scanned)))
 
 -- the transition of the machine for the line that comes next
 abbrev pub asked : Machine → Options → Scan → Line → Result Transition SectionFault
@@ -168,7 +168,7 @@ asked_is : (m : Machine) (o : Options) (xs : List (Item Reading)) (t : Tree Read
     transition_of (before_next o.settings.plain t) l.number
     (classified (read_after xs (mode_after o t) l).scan o.table (rules_of o.settings) (content_of (read_after xs (mode_after o t) l).scan))
     ≡ asked m o scan l
-asked_is m o xs t scan l table h next = rw (before_is m o xs t h, h.settings, next.seen) refl
+asked_is m o xs t scan l table h next = rw (before_is m o xs t h, h.settings, next.scanned) refl
 
 pub shallow_by : (m : Machine) (o : Options) (xs : List (Item Reading)) (t : Tree Reading) → MachineRepresents m o xs t →
     length m.open_sections.items ≤ OPEN_SECTIONS → depth t ≤ OPEN_SECTIONS

@@ -58,8 +58,8 @@ pub record MachineRepresents (m : Machine) (o : Options) (xs : List (Item Readin
 -- these give. `table` gives every name the meaning that the options give it.
 pub record ComesNext (o : Options) (xs : List (Item Reading)) (t : Tree Reading) (scan : Scan)
     (l : Line) (table : List Argument) : Type 0 where
-  pub seen : scan ≡ scan_after (map reading_of xs) (mode_after o t) l
-  pub stands : TableRepresents table o.table
+  pub scanned : scan ≡ scan_after (map reading_of xs) (mode_after o t) l
+  pub represents : TableRepresents table o.table
 
 -- `StepsLine m o xs t l step`: the machine has read `l` after `xs`. The step has the verdict of its
 -- mark, which is the last one, and the span of its keyword.
@@ -69,7 +69,7 @@ pub record StepsLine (m : Machine) (o : Options) (xs : List (Item Reading)) (t :
   pub read : MachineRepresents m o (xs ++ next_item o xs t l ∷ []) tree
   pub mark : Mark
   pub marks_are : marks tree ≡ marks t ++ mark ∷ []
-  pub judged_so : record { line = l; verdict = step.verdict; keyword = as_span step.keyword } ≡
+  pub decided : record { line = l; verdict = step.verdict; keyword = as_span step.keyword } ≡
       judged_line (next_item o xs t l) mark
 
 -- `AreTextLines o mode xs rs`: the lines `rs` are text within the limits, as they are read in this

@@ -41,5 +41,5 @@ transition_with keyword (Err f) = Err f
 -- sections. A cut keyword is a fault.
 abbrev pub transition_of : LineContext → ℕ → Result ClassifiedLine Cut →
     Result Transition SectionFault
-transition_of before n (Ok seen) = transition_with seen.keyword (checked_by before seen n)
+transition_of before n (Ok scanned) = transition_with scanned.keyword (checked_by before scanned n)
 transition_of before n (Err cut) = Err (Obfuscated n)

@@ -33,18 +33,18 @@ pub(crate) struct LineContext {
 #[inline(always)]
 pub(crate) fn check_line(
     before: LineContext,
-    seen: ClassifiedLine,
+    classified: ClassifiedLine,
     number: u32,
 ) -> Result<Action, SectionFault>
-    ensures { result ≡ checked_by before seen number }
+    ensures { result ≡ checked_by before classified number }
 {
-    let Some(action) = before.enclosing.action_for(seen.kind, number) else {
-        return Err(misplaced_fault(seen.kind, number));
+    let Some(action) = before.enclosing.action_for(classified.kind, number) else {
+        return Err(misplaced_fault(classified.kind, number));
     };
     if opens_section(action.change) && before.depth == OPEN_SECTIONS {
         return Err(SectionFault::TooManyLevels { line: number });
     }
-    if is_obfuscated(before.removed, seen, action) {
+    if is_obfuscated(before.removed, classified, action) {
         return Err(SectionFault::Obfuscated { line: number });
     }
     Ok(action)
@@ -62,20 +62,20 @@ fn opens_section(change: StackOp) -> bool
 
 /// Returns whether the line is a directive that spans lines and would have to be edited or removed.
 /// `removed` is whether the line before it is removed.
-fn is_obfuscated(removed: bool, seen: ClassifiedLine, action: Action) -> bool
-    ensures { result ≡ is_obfuscated_by removed seen action }
+fn is_obfuscated(removed: bool, classified: ClassifiedLine, action: Action) -> bool
+    ensures { result ≡ is_obfuscated_by removed classified action }
 {
-    is_directive(seen.kind)
-        && seen.spans
+    is_directive(classified.kind)
+        && classified.spans
         && action.kept
-        && (!keeps_rest(action.verdict) || (seen.joins_before && removed))
+        && (!keeps_rest(action.verdict) || (classified.joins_before && removed))
 }
 
 /// Returns whether a line of this kind is a directive.
-fn is_directive(shape: LineKind) -> bool
-    ensures { result ≡ is_directive_kind shape }
+fn is_directive(kind: LineKind) -> bool
+    ensures { result ≡ is_directive_kind kind }
 {
-    match shape {
+    match kind {
         LineKind::If { .. } | LineKind::Elif { .. } | LineKind::Else | LineKind::Endif => true,
         LineKind::Text => false,
     }
@@ -93,10 +93,10 @@ fn keeps_rest(verdict: Verdict) -> bool
 }
 
 /// Returns the fault of a misplaced directive. Text and `#if` are never misplaced.
-fn misplaced_fault(shape: LineKind, line: u32) -> SectionFault
-    ensures { result ≡ misplaced_fault_by shape line }
+fn misplaced_fault(kind: LineKind, line: u32) -> SectionFault
+    ensures { result ≡ misplaced_fault_by kind line }
 {
-    match shape {
+    match kind {
         LineKind::Elif { .. } => SectionFault::InappropriateElif { line },
         LineKind::Else => SectionFault::InappropriateElse { line },
         LineKind::Text | LineKind::If { .. } | LineKind::Endif => SectionFault::InappropriateEndif {

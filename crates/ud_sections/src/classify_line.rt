@@ -34,7 +34,7 @@ pub(crate) struct ClassifiedLine {
     pub joins_before: bool,
 }
 
-/// Classifies a line, with what the symbols decide of its condition. `behind` follows the `#` of
+/// Classifies a line, with what the symbols decide of its condition. `after` follows the `#` of
 /// the line.
 ///
 /// # Errors
@@ -42,24 +42,25 @@ pub(crate) struct ClassifiedLine {
 #[inline(always)]
 pub(crate) fn classify<'a>(
     scan: &Scan<'a>,
-    behind: &'a [u8],
+    after: &'a [u8],
     symbols: &Symbols,
     settings: Settings,
 ) -> Result<ClassifiedLine, Cut>
     requires fits { length scan.now.masked.now ≤ LINE_BYTES }
-    requires after_hash { skip_hash_if_fresh scan.now.masked.now ≡ Some behind.now }
+    requires after_hash { skip_hash_if_fresh scan.now.masked.now ≡ Some after.now }
     ensures value { (calls : List Argument) → TableRepresents symbols.now calls →
         result ≡ classified (as_scan scan.now) calls (rules_of settings)
         (content_of (as_scan scan.now)) }
-    ensures place { IfOk result (λ seen. seen.keyword.at + seen.keyword.len ≤ length
+    ensures keyword_within { IfOk result
+        (λ classified. classified.keyword.at + classified.keyword.len ≤ length
         scan.now.masked.now) }
 {
-    let (shape, keyword) = match directive_after_hash(scan, behind)? {
+    let (kind, keyword) = match directive_after_hash(scan, after)? {
         Some(found) => (line_kind_of(scan, &found, symbols, settings), found.keyword),
         None => (LineKind::Text, Span { at: 0, len: 0 }),
     };
     Ok(ClassifiedLine {
-        kind: shape,
+        kind,
         keyword,
         spans: joins_a_neighbor(scan),
         joins_before: scan.joins_before,

@@ -37,11 +37,11 @@ impl<S: Show> Show for Complement<S> {
     ghost piece = { λ c before j. S.piece c.inner (map complemented before) (complemented j) };
 
     fn pieces<'a>(&'a mut self, line: &Line<'a>, step: Step) -> Pieces<'a> {
-        let turned = Step {
+        let complemented = Step {
             verdict: complement_of(step.verdict),
             keyword: step.keyword,
         };
-        self.inner.pieces(line, turned)
+        self.inner.pieces(line, complemented)
     }
 
     #[inline(always)]

@@ -145,7 +145,7 @@ impl Machine {
             ComesNext o xs t (as_scan scan.now) (as_line line.now) symbols.now →
             machine_fault self.old ≡ None →
             IfErr result (λ f. FaultOf xs (next_item o xs t (as_line line.now)) (fault_of f)) }
-        ensures place { IfOk result (λ step. HoldsKeyword step line.now) }
+        ensures keyword_within { IfOk result (λ step. HoldsKeyword step line.now) }
         ensures no_fault { OnOk result ((machine_fault self.old ≡ None) ×
             (machine_fault self.new ≡ None)) }
         ensures records_fault { IfErr result (λ f. self.new ≡ machine_with_fault self.old f) }
@@ -157,18 +157,18 @@ impl Machine {
         if let Some(fault) = self.fault {
             return Err(fault);
         }
-        let Some(behind) = after_hash(scan) else {
+        let Some(after) = after_hash(scan) else {
             return Ok(Step {
                 verdict: self.note_text(line.number),
                 keyword: Span { at: 0, len: 0 },
             });
         };
-        match self.transition(scan, behind, line.number, symbols) {
-            Ok(turn) => {
-                apply(&mut self.open_sections, turn.change);
-                self.removed = turn.step.verdict.is_removed();
+        match self.transition(scan, after, line.number, symbols) {
+            Ok(next) => {
+                apply(&mut self.open_sections, next.change);
+                self.removed = next.step.verdict.is_removed();
                 self.last = line.number;
-                Ok(turn.step)
+                Ok(next.step)
             }
             Err(fault) => {
                 self.fault = Some(fault);
@@ -223,7 +223,7 @@ impl Machine {
 
     /// Returns the position of the next line among the sections.
     fn enclosing(&self) -> Enclosing
-        ensures place { result ≡ record {
+        ensures keyword_within { result ≡ record {
           section = innermost_of self.now.open_sections.items;
           plain = self.now.settings.plain;
         } }
@@ -235,26 +235,27 @@ impl Machine {
         }
     }
 
-    /// Returns the step of the next line and its change of the open sections. `behind` follows the
+    /// Returns the step of the next line and its change of the open sections. `after` follows the
     /// `#` of the line.
     #[inline(always)]
     fn transition<'a>(
         &self,
         scan: &Scan<'a>,
-        behind: &'a [u8],
+        after: &'a [u8],
         number: u32,
         symbols: &Symbols,
     ) -> Result<Transition, SectionFault>
         requires fits { length scan.now.masked.now ≤ LINE_BYTES }
-        requires after_hash { skip_hash_if_fresh scan.now.masked.now ≡ Some behind.now }
+        requires after_hash { skip_hash_if_fresh scan.now.masked.now ≡ Some after.now }
         ensures value { (calls : List Argument) → TableRepresents symbols.now calls →
             result ≡ transition_of (context_of self.now) number
             (classified (as_scan scan.now) calls (rules_of self.now.settings)
             (content_of (as_scan scan.now))) }
-        ensures place { IfOk result (λ turn. turn.step.keyword.at + turn.step.keyword.len ≤ length
+        ensures keyword_within { IfOk result
+            (λ next. next.step.keyword.at + next.step.keyword.len ≤ length
             scan.now.masked.now) }
         ensures fits { array_vec_len self.now.open_sections ≤ OPEN_SECTIONS }
-        ensures has_space { IfOk result (λ turn. IsTrue (opens_section turn.change) →
+        ensures has_space { IfOk result (λ next. IsTrue (opens_section next.change) →
             array_vec_len self.now.open_sections < OPEN_SECTIONS) }
     {
         let before = LineContext {
@@ -262,13 +263,13 @@ impl Machine {
             depth: self.open_sections.len(),
             removed: self.removed,
         };
-        let Ok(seen) = classify(scan, behind, symbols, self.settings) else {
+        let Ok(classified) = classify(scan, after, symbols, self.settings) else {
             return Err(SectionFault::Obfuscated { line: number });
         };
-        let action = check_line(before, seen, number)?;
+        let action = check_line(before, classified, number)?;
         let step = Step {
             verdict: action.verdict,
-            keyword: seen.keyword,
+            keyword: classified.keyword,
         };
         Ok(Transition {
             step,
@@ -286,9 +287,9 @@ impl Machine {
             return Err(SectionFault::EofInComment { line });
         }
         match self.enclosing().section {
-            Some(level) => Err(SectionFault::PrematureEof {
+            Some(inner) => Err(SectionFault::PrematureEof {
                 line,
-                if_line: level.if_line,
+                if_line: inner.if_line,
             }),
             None => Ok(()),
         }
@@ -305,10 +306,10 @@ fn apply(open_sections: &mut ArrayVec<OpenSection, OPEN_SECTIONS>, change: Stack
 {
     match change {
         StackOp::Stay => {}
-        StackOp::Push(level) => open_sections.push(level),
-        StackOp::Replace(level) => {
+        StackOp::Push(inner) => open_sections.push(inner),
+        StackOp::Replace(inner) => {
             let _ = open_sections.pop();
-            open_sections.push(level);
+            open_sections.push(inner);
         }
         StackOp::Pop => {
             let _ = open_sections.pop();

@@ -84,16 +84,16 @@ impl OpenSection {
     #[inline(always)]
     fn with_group(self, part: Part, cond: Cond) -> (Verdict, OpenSection)
         ensures verdict { result.0 ≡ opener_verdict_in self.state (part_of part) cond }
-        ensures level { result.1 ≡ section_with_group self (part_of part) cond }
+        ensures inner { result.1 ≡ section_with_group self (part_of part) cond }
     {
-        let (verdict, phase) = self.state.next_group(part, cond);
-        let level = OpenSection {
-            state: phase,
+        let (verdict, state) = self.state.next_group(part, cond);
+        let inner = OpenSection {
+            state,
             else_seen: part == Part::AnElse,
             ignoring: self.ignoring,
             if_line: self.if_line,
         };
-        (verdict, level)
+        (verdict, inner)
     }
 
     /// Returns the action of another opener, or `None` after an `#else`.
@@ -104,11 +104,11 @@ impl OpenSection {
         if self.else_seen {
             return None;
         }
-        let (verdict, level) = self.with_group(part, cond);
+        let (verdict, inner) = self.with_group(part, cond);
         Some(Action {
             verdict,
             kept: !self.state.is_in_removed(),
-            change: StackOp::Replace(level),
+            change: StackOp::Replace(inner),
         })
     }
 
@@ -131,7 +131,7 @@ impl Enclosing {
         ensures { result ≡ kept_at self.section }
     {
         match self.section {
-            Some(level) => level.state.is_kept(),
+            Some(inner) => inner.state.is_kept(),
             None => true,
         }
     }
@@ -141,7 +141,7 @@ impl Enclosing {
         ensures { result ≡ plain_at self.plain self.section }
     {
         match self.section {
-            Some(level) => level.ignoring,
+            Some(inner) => inner.ignoring,
             None => self.plain,
         }
     }
@@ -167,21 +167,21 @@ impl Enclosing {
     {
         let kept = self.is_kept();
         let section = OpenSection::new(kept, self.is_plain() || ignoring, number);
-        let (verdict, level) = section.with_group(Part::AnIf, cond);
+        let (verdict, inner) = section.with_group(Part::AnIf, cond);
         Action {
             verdict,
             kept,
-            change: StackOp::Push(level),
+            change: StackOp::Push(inner),
         }
     }
 
     /// Returns the action of a line of this kind and number, or `None` if it is a misplaced
     /// directive.
     #[inline(always)]
-    pub(crate) fn action_for(self, shape: LineKind, number: u32) -> Option<Action>
-        ensures { result ≡ act self.plain self.section shape number }
+    pub(crate) fn action_for(self, kind: LineKind, number: u32) -> Option<Action>
+        ensures { result ≡ act self.plain self.section kind number }
     {
-        match shape {
+        match kind {
             LineKind::Text => Some(self.text_action()),
             LineKind::If { cond, ignoring } => Some(self.if_action(cond, ignoring, number)),
             LineKind::Elif { cond } => self.section?.opener_action(Part::AnElif, cond),

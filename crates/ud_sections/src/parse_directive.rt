@@ -27,11 +27,11 @@ use ud_text::Scan;
 /// or a continuation cuts the line after a single `/` or after what may become a keyword.
 pub fn directive<'a>(scan: &Scan<'a>) -> Result<Option<Directive<'a>>, Cut>
     ensures value { content_found result ≡ content_of (as_scan scan.now) }
-    ensures places { IfOk result (λ found. IfSome found (λ d.
+    ensures keyword_within { IfOk result (λ found. IfSome found (λ d.
         d.keyword.at + d.keyword.len + length d.after.now ≡ length scan.now.masked.now)) }
 {
     match after_hash(scan) {
-        Some(behind) => directive_after_hash(scan, behind),
+        Some(after) => directive_after_hash(scan, after),
         None => Ok(None),
     }
 }
@@ -41,8 +41,8 @@ pub fn directive<'a>(scan: &Scan<'a>) -> Result<Option<Directive<'a>>, Cut>
 #[inline(always)]
 pub(crate) fn after_hash<'a>(scan: &Scan<'a>) -> Option<&'a [u8]>
     ensures none { IfNone result (content_of (as_scan scan.now) ≡ text) }
-    ensures some { IfSome result (λ behind. skip_hash_if_fresh scan.now.masked.now ≡
-        Some behind.now) }
+    ensures some { IfSome result (λ after. skip_hash_if_fresh scan.now.masked.now ≡
+        Some after.now) }
 {
     if scan.fresh {
         skip_hash(scan.masked)
@@ -51,24 +51,24 @@ pub(crate) fn after_hash<'a>(scan: &Scan<'a>) -> Option<&'a [u8]>
     }
 }
 
-/// Parses the directive of a line. `behind` follows the `#` of the line.
+/// Parses the directive of a line. `after` follows the `#` of the line.
 ///
 /// # Errors
 /// The errors of `directive`.
 #[inline(always)]
 pub(crate) fn directive_after_hash<'a>(
     scan: &Scan<'a>,
-    behind: &'a [u8],
+    after: &'a [u8],
 ) -> Result<Option<Directive<'a>>, Cut>
-    requires { skip_hash_if_fresh scan.now.masked.now ≡ Some behind.now }
+    requires { skip_hash_if_fresh scan.now.masked.now ≡ Some after.now }
     ensures value { content_found result ≡ content_of (as_scan scan.now) }
-    ensures places { IfOk result (λ found. IfSome found (λ d.
+    ensures keyword_within { IfOk result (λ found. IfSome found (λ d.
         d.keyword.at + d.keyword.len + length d.after.now ≡ length scan.now.masked.now)) }
 {
-    if has_split_keyword(scan, behind) {
+    if has_split_keyword(scan, after) {
         return Err(Cut);
     }
-    Ok(parse_after_hash(scan, behind))
+    Ok(parse_after_hash(scan, after))
 }
 
 /// Returns what follows the `#`, if one comes first but for white space.
@@ -84,13 +84,13 @@ fn skip_hash(masked: &[u8]) -> Option<&[u8]>
 
 /// Returns whether a continuation may split the keyword after `#`.
 #[inline(always)]
-fn has_split_keyword(scan: &Scan<'_>, behind: &[u8]) -> bool
-    ensures { result ≡ has_split_keyword (as_scan scan.now) (Some behind.now) }
+fn has_split_keyword(scan: &Scan<'_>, after: &[u8]) -> bool
+    ensures { result ≡ has_split_keyword (as_scan scan.now) (Some after.now) }
 {
     scan.fresh
         && scan.joins_after
         && scan.comment != CommentAt::InLine
-        && may_split_keyword(is_continued_outside_comment(scan), skip_white(behind))
+        && may_split_keyword(is_continued_outside_comment(scan), skip_white(after))
 }
 
 /// Returns whether the keyword can't be known if the line has no more of it than `rest`. `cut_off`
@@ -122,17 +122,17 @@ fn is_keyword_prefix(text: &[u8]) -> bool
 
 /// Parses the directive whose keyword follows the `#` of a line, if the line is fresh.
 #[inline(always)]
-fn parse_after_hash<'a>(scan: &Scan<'a>, behind: &'a [u8]) -> Option<Directive<'a>>
-    requires { skip_hash_if_fresh scan.now.masked.now ≡ Some behind.now }
+fn parse_after_hash<'a>(scan: &Scan<'a>, after: &'a [u8]) -> Option<Directive<'a>>
+    requires { skip_hash_if_fresh scan.now.masked.now ≡ Some after.now }
     ensures value { directive_or_text result ≡
-        content_after_hash (as_scan scan.now) (Some behind.now) }
-    ensures places { IfSome result (λ d. d.keyword.at + d.keyword.len + length d.after.now ≡
+        content_after_hash (as_scan scan.now) (Some after.now) }
+    ensures keyword_within { IfSome result (λ d. d.keyword.at + d.keyword.len + length d.after.now ≡
         length scan.now.masked.now) }
 {
     if !scan.fresh {
         return None;
     }
-    let rest = skip_white(behind);
+    let rest = skip_white(after);
     let keyword = leading_keyword(rest)?;
     Some(Directive {
         kind: keyword.kind,

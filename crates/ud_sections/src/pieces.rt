@@ -90,9 +90,9 @@ impl<'a> Pieces<'a> {
             Verdict::Remove => Pieces::new([blank, &[], &[], &[], &[]], 1, line),
             Verdict::ToIf => {
                 let before = &line.body[..step.keyword.at];
-                let behind = &line.body[step.keyword.at + step.keyword.len..];
+                let after = &line.body[step.keyword.at + step.keyword.len..];
                 let word = opener_keyword(step.keyword.len);
-                Pieces::new([before, word, behind, line.ending, &[]], 4, line)
+                Pieces::new([before, word, after, line.ending, &[]], 4, line)
             }
             Verdict::ToElse => {
                 let before = &line.body[..step.keyword.at];

@@ -58,7 +58,7 @@ impl SectionState {
     #[inline(always)]
     pub(crate) fn next_group(self, part: Part, cond: Cond) -> (Verdict, SectionState)
         ensures verdict { result.0 ≡ opener_verdict_in self (part_of part) cond }
-        ensures phase { result.1 ≡ next_section_state self cond }
+        ensures state { result.1 ≡ next_section_state self cond }
     {
         match self {
             SectionState::InRemoved => (Verdict::Remove, SectionState::InRemoved),

@@ -8,7 +8,7 @@ use Rattle.ud_text.specs.BulkStates.{next_bulk_state, BulkState, code_state, sto
 use Rattle.ud_text.proofs.QuietLemmas.{bulk_state_after-append, HasNoStop-append, HasNoStop-feed}
 use Rattle.ud_text.proofs.QuietLineLemmas.{passed_quiet, Skipped-append}
 use Rattle.ud_text.proofs.ProgressLemmas.{begins-append, rest_of, read_on, read_base}
-use Rattle.ud_text.specs.BulkLexemes.{after_feed, NoStarPair, at_start, LastLineStarts, IsLineStart}
+use Rattle.ud_text.specs.BulkLexemes.{after_newline, NoStarPair, at_start, LastLineStarts, IsLineStart}
 use Rattle.ud_text.specs.Progress.{ReadTo, ReadOutside}
 use Rattle.ud_model.specs.text.Bytes.{slash, number_sign, newline, carriage_return, star, backslash}
 
@@ -128,7 +128,7 @@ module _ {start : BulkState} {bytes : List ℕ} {line : ℕ} {kept : BulkState} 
       n ≤ length (take count (drop at bytes)) → 0 < n → ReadTo start bytes (at + n) (block_state u) (at + count) (inside_state on.now u)
   unfolding on
   later_at n _ at_start e h k z = absurd (let f : 0 ≡ n = ap length e ∙ length-take-le n (take count (drop at bytes)) k in omega arith)
-  later_at n _ (after_feed x) e h k z =
+  later_at n _ (after_newline x) e h k z =
       let run : List ℕ = take count (drop at bytes) in
       let y : List ℕ = drop n run in
       let split : run ≡ (x ++ newline ∷ []) ++ y = sym (take-append-drop n run) ∙ ap (λ (l : List ℕ). l ++ drop n run) (sym e) in
@@ -140,27 +140,27 @@ module _ {start : BulkState} {bytes : List ℕ} {line : ℕ} {kept : BulkState} 
       HasNoStop-feed (block_state u) x y (subst (λ (l : List ℕ). HasNoStop (block_state u) l) whole on.quiet) in
       let mid : List ℕ = r.mid ++ (x ++ newline ∷ []) in
       record {
-        front = r.front ++ (r.mid ++ (x ++ newline ∷ []));
+        prefix = r.prefix ++ (r.mid ++ (x ++ newline ∷ []));
         mid = y;
         rest = drop count (drop at bytes);
         is = r.is
-            ∙ ap (λ (l : List ℕ). r.front ++ (r.mid ++ l)) (sym (rest_of r) ∙ sym (take-append-drop count (drop at bytes)) ∙ ap (λ (l : List ℕ). l ++ drop count (drop at bytes)) split
+            ∙ ap (λ (l : List ℕ). r.prefix ++ (r.mid ++ l)) (sym (rest_of r) ∙ sym (take-append-drop count (drop at bytes)) ∙ ap (λ (l : List ℕ). l ++ drop count (drop at bytes)) split
             ∙ append_assoc (x ++ newline ∷ []) y (drop count (drop at bytes)))
-            ∙ ap (λ (l : List ℕ). r.front ++ l) (sym (append_assoc r.mid (x ++ newline ∷ []) (y ++ drop count (drop at bytes))))
-            ∙ sym (append_assoc r.front (r.mid ++ (x ++ newline ∷ [])) (y ++ drop count (drop at bytes)));
-        line_is = (let f : at ≡ length r.front + length r.mid = r.at_is in
+            ∙ ap (λ (l : List ℕ). r.prefix ++ l) (sym (append_assoc r.mid (x ++ newline ∷ []) (y ++ drop count (drop at bytes))))
+            ∙ sym (append_assoc r.prefix (r.mid ++ (x ++ newline ∷ [])) (y ++ drop count (drop at bytes)));
+        line_is = (let f : at ≡ length r.prefix + length r.mid = r.at_is in
             let g : length (x ++ newline ∷ []) ≡ n = ap length e ∙ length-take-le n run k in
-            omega (arith, length-append r.front (r.mid ++ (x ++ newline ∷ [])), length-append r.mid (x ++ newline ∷ [])));
-        at_is = (let f : at ≡ length r.front + length r.mid = r.at_is in
+            omega (arith, length-append r.prefix (r.mid ++ (x ++ newline ∷ [])), length-append r.mid (x ++ newline ∷ [])));
+        at_is = (let f : at ≡ length r.prefix + length r.mid = r.at_is in
             let g : count ≡ length (x ++ newline ∷ []) + length y = sym (length-take-le count (drop at bytes) fits) ∙ ap length split ∙ length-append (x ++ newline ∷ []) y in
-            omega (arith, length-append r.front (r.mid ++ (x ++ newline ∷ [])), length-append r.mid (x ++ newline ∷ [])));
-        passed = Skipped-append r.front (r.mid ++ (x ++ newline ∷ [])) r.passed
+            omega (arith, length-append r.prefix (r.mid ++ (x ++ newline ∷ [])), length-append r.mid (x ++ newline ∷ [])));
+        passed = Skipped-append r.prefix (r.mid ++ (x ++ newline ∷ [])) r.passed
             (subst (λ (s : BulkState). Skipped kept (r.mid ++ (x ++ newline ∷ [])) s)
             (bulk_state_after-append kept r.mid (x ++ newline ∷ []) ∙ ap (λ (s : BulkState). bulk_state_after s (x ++ newline ∷ [])) r.leads ∙ there)
-            (passed_quiet kept (r.mid ++ (x ++ newline ∷ [])) r.passed.at_line (begins-append r.mid x (after_feed x))
+            (passed_quiet kept (r.mid ++ (x ++ newline ∷ [])) r.passed.at_line (begins-append r.mid x (after_newline x))
             (HasNoStop-append kept r.mid (x ++ newline ∷ []) r.quiet (subst (λ (s : BulkState). HasNoStop s (x ++ newline ∷ [])) (sym r.leads) parts.0))));
         quiet = subst (λ (s : BulkState). HasNoStop s y) there parts.1;
-        no_feed = keeps_one_line y (block_state u) h;
+        no_newline = keeps_one_line y (block_state u) h;
         leads = ap (λ (s : BulkState). bulk_state_after s y) (sym there) ∙ sym (bulk_state_after-append (block_state u) (x ++ newline ∷ []) y)
             ∙ ap (λ (l : List ℕ). bulk_state_after (block_state u) l) (sym split) ∙ on.leads;
       }

@@ -10,7 +10,7 @@ use Rattle.ud_model.proofs.text.LinesLemmas.{text_of-line_at}
 use Rattle.ud_text.specs.LinesState.{LinesState, LinesRepresent, UpToNewline, IsLineOf}
 use Rattle.ud_text.specs.Borrowing.{CanBorrow, IsFirstLine}
 use Rattle.ud_text.proofs.NewlineLemmas.{up_to_newline-once, whole_newlineless, newline_at_end}
-use Rattle.ud_text.proofs.MaskLemmas.{no_feed-take}
+use Rattle.ud_text.proofs.MaskLemmas.{no_newline-take}
 use Rattle.ud_text.proofs.LinesLemmas.{represent_take, represent_clear}
 
 -- there are no bytes, if their number is 0
@@ -34,20 +34,20 @@ none_here rest size e none used to =
     elim (cases_lt LINE_BYTES used) [
       | inl long ↦ long
       | inr short ↦
-          let line : (front : List ℕ) × NoNewline front × (take used rest ≡ front ++ 10 ∷ []) = to.line refl in
-          absurd (newline_at_end line.0 (subst NoNewline (take-take used size rest (omega (arith, e, to.within)) ∙ line.2) (no_feed-take used (take size rest) none)))
+          let line : (prefix : List ℕ) × NoNewline prefix × (take used rest ≡ prefix ++ 10 ∷ []) = to.line refl in
+          absurd (newline_at_end line.0 (subst NoNewline (take-take used size rest (omega (arith, e, to.within)) ∙ line.2) (no_newline-take used (take size rest) none)))
     ]
 
 -- no line comes at the beginning of nothing
 pub none_after : (rest : List ℕ) → length rest ≡ 0 → (used : ℕ) → UpToNewline rest used true → LINE_BYTES < used
 none_after rest e used to =
-    let line : (front : List ℕ) × NoNewline front × (take used rest ≡ front ++ 10 ∷ []) = to.line refl in
+    let line : (prefix : List ℕ) × NoNewline prefix × (take used rest ≡ prefix ++ 10 ∷ []) = to.line refl in
     absurd (omega (arith, e, ap length line.2, length-append line.0 (10 ∷ []), length-take used rest))
 
 -- the first line of a chunk is whole
 first_whole : (chunk line : List ℕ) → IsFirstLine chunk line → IsWhole line
 first_whole chunk line f =
-    let to : (front : List ℕ) × NoNewline front × (take (length line) chunk ≡ front ++ 10 ∷ []) = f.front.line refl in
+    let to : (prefix : List ℕ) × NoNewline prefix × (take (length line) chunk ≡ prefix ++ 10 ∷ []) = f.prefix.line refl in
     (to.0, to.1, f.bytes ∙ to.2)
 
 -- a body and an ending are the bytes of their line
@@ -79,7 +79,7 @@ can_borrow lines chunk body ending line n unheld unrefused numbered f e =
     subst (λ (l : List ℕ). CanBorrow lines chunk (length l)) (sym (joined_is body ending line n e)) (record {
       unheld = unheld;
       unrefused = unrefused;
-      front = f.front;
+      prefix = f.prefix;
       fits = f.fits;
       numbered = numbered;
     })
@@ -97,4 +97,4 @@ pub represent_borrowed : (lines : LinesState) (text chunk body ending line : Lis
     IsFirstLine chunk line → IsLineOf body ending n (line_at n line) → LinesRepresent lines text → LinesRepresent (record lines { before = lines.before + 1 }) (text ++ (body ++ ending))
 represent_borrowed lines text chunk body ending line n unheld part f e h =
     subst (λ (l : List ℕ). LinesRepresent (record lines { before = lines.before + 1 }) (text ++ l)) (sym (f.bytes) ∙ sym (joined_is body ending line n e))
-    (consumed_line lines text chunk (length line) unheld part f.front h)
+    (consumed_line lines text chunk (length line) unheld part f.prefix h)

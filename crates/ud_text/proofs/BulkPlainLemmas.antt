@@ -11,7 +11,7 @@ use Rattle.ud_model.proofs.text.LinesLemmas.{split_lines-append-line}
 use Rattle.ud_text.specs.BulkScanning.{AreWholeLines}
 use Rattle.ud_text.specs.BulkStates.{next_bulk_state, BulkState, code_state, stops_bulk, NoNewlineInBlock, bulk_state_after, is_other_word, HasNoStop}
 use Rattle.ud_text.proofs.NewlineLemmas.{no_newline_front}
-use Rattle.ud_text.specs.BulkLexemes.{after_feed, NoSignificant, at_start, NoComment, LastLineStarts, CodeLexeme, is_significant, IsLineStart}
+use Rattle.ud_text.specs.BulkLexemes.{after_newline, NoSignificant, at_start, NoComment, LastLineStarts, CodeLexeme, is_significant, IsLineStart}
 use Rattle.std.proofs.Math.Bool.{and-false}
 
 no_feed_back : (s : List ℕ) (n : ℕ) → Nowhere (Passes (is_byte newline) s) n (length s) → NoNewline (drop n s)
@@ -27,7 +27,7 @@ last_begins-none s h = record { within = omega arith; begins = at_start; one_lin
 pub last_begins-found : (s : List ℕ) (k : ℕ) → NoneAfter (Passes (is_byte newline) s) 0 (length s) k → Passes (is_byte newline) s k → LastLineStarts s (k + 1)
 last_begins-found s k h is = record {
   within = (let l : k < length s = h.high in omega arith);
-  begins = subst IsLineStart (sym (take_more s k 0 h.high ∙ ap (λ (b : ℕ). take k s ++ b ∷ []) (eqb-true (get_or s k 0) newline is))) (after_feed (take k s));
+  begins = subst IsLineStart (sym (take_more s k 0 h.high ∙ ap (λ (b : ℕ). take k s ++ b ∷ []) (eqb-true (get_or s k 0) newline is))) (after_newline (take k s));
   one_line = no_feed_back s (k + 1) h.after;
 }
 
@@ -35,7 +35,7 @@ last_begins-found s k h is = record {
 pub begins_ends : (bytes : List ℕ) → IsLineStart bytes → AreWholeLines bytes
 unfolding split_lines
 begins_ends _ at_start = refl
-begins_ends _ (after_feed front) = ap (λ (q : SplitLines). q.rest) (split_lines-append-line front [] tt)
+begins_ends _ (after_newline prefix) = ap (λ (q : SplitLines). q.rest) (split_lines-append-line prefix [] tt)
 
 or4 : (a b c d : Bool) → (a || b || c || d) ≡ false → (a ≡ false) × (b ≡ false) × (c ≡ false) × (d ≡ false)
 or4 false false false false e = (refl, refl, refl, refl)
@@ -70,7 +70,7 @@ stops_plain b white rest e = by_tests (b == newline) (b == number_sign) (not_spe
 
 -- plain text leads from outside comments and literals to outside them
 pub plain_read : (bytes : List ℕ) (white : Bool) → NoSignificant bytes → CodeLexeme white bytes
-plain_read [] white h = record { now_white = white; leads = refl; quiet = tt; no_feed = tt; no_comment = tt }
+plain_read [] white h = record { now_white = white; leads = refl; quiet = tt; no_newline = tt; no_comment = tt }
 plain_read (b ∷ bytes) white h =
     let now : Bool = stays_white in_text white b in
     let more : CodeLexeme now bytes = plain_read bytes now h.1 in
@@ -79,7 +79,7 @@ plain_read (b ∷ bytes) white h =
       now_white = more.now_white;
       leads = ap (λ (s : BulkState). bulk_state_after s bytes) (sym there) ∙ more.leads;
       quiet = (stops_plain b white bytes h.0, subst (λ (s : BulkState). HasNoStop s bytes) there more.quiet);
-      no_feed = (and-false (b == newline), subst (λ (s : BulkState). NoNewlineInBlock s bytes) there more.no_feed);
+      no_newline = (and-false (b == newline), subst (λ (s : BulkState). NoNewlineInBlock s bytes) there more.no_newline);
       no_comment = (refl, subst (λ (w : LexState). NoComment w bytes) (ap (λ (s : BulkState). s.state) there) more.no_comment);
     }
 

@@ -49,12 +49,12 @@ pub lines_few : (bytes : List ℕ) → length (whole_lines bytes) ≤ length byt
 lines_few bytes = omega (arith, lines_counted bytes, count_by-le-length is_newline bytes)
 
 -- the lines of bytes that follow whole lines
-pub lines_joined : (front rest : List ℕ) → AreWholeLines front → whole_lines (front ++ rest) ≡ whole_lines front ++ whole_lines rest
-lines_joined front rest ends =
-    ap (λ (q : SplitLines). q.whole) (split_lines-append front rest) ∙ ap (λ (r : List ℕ). whole_lines front ++ whole_lines (r ++ rest)) ends
+pub lines_joined : (prefix rest : List ℕ) → AreWholeLines prefix → whole_lines (prefix ++ rest) ≡ whole_lines prefix ++ whole_lines rest
+lines_joined prefix rest ends =
+    ap (λ (q : SplitLines). q.whole) (split_lines-append prefix rest) ∙ ap (λ (r : List ℕ). whole_lines prefix ++ whole_lines (r ++ rest)) ends
 
-pub ends_joined : (front rest : List ℕ) → AreWholeLines front → partial_line (front ++ rest) ≡ partial_line rest
-ends_joined front rest ends = ap (λ (q : SplitLines). q.rest) (split_lines-append front rest) ∙ ap (λ (r : List ℕ). partial_line (r ++ rest)) ends
+pub ends_joined : (prefix rest : List ℕ) → AreWholeLines prefix → partial_line (prefix ++ rest) ≡ partial_line rest
+ends_joined prefix rest ends = ap (λ (q : SplitLines). q.rest) (split_lines-append prefix rest) ∙ ap (λ (r : List ℕ). partial_line (r ++ rest)) ends
 
 fits_append : (ls ms : List (List ℕ)) → EachFits ls → EachFits ms → EachFits (ls ++ ms)
 fits_append [] ms h k = k
@@ -118,28 +118,28 @@ represent_consumed lines text bytes can h = record {
 }
 
 -- the first of lines that can be consumed can be consumed
-pub can_consume_front : (lines : LinesState) (front rest : List ℕ) → AreWholeLines front → CanConsume lines (front ++ rest) → CanConsume lines front
-can_consume_front lines front rest ends can =
-    let all = lines_joined front rest ends in
+pub can_consume_front : (lines : LinesState) (prefix rest : List ℕ) → AreWholeLines prefix → CanConsume lines (prefix ++ rest) → CanConsume lines prefix
+can_consume_front lines prefix rest ends can =
+    let all = lines_joined prefix rest ends in
     record {
       unheld = can.unheld;
       part = can.part;
       unrefused = can.unrefused;
       ends = ends;
-      fits = fits_front (whole_lines front) (whole_lines rest) (subst EachFits all can.fits);
-      numbered = omega (arith, can.numbered, ap length all, length-append (whole_lines front) (whole_lines rest));
+      fits = fits_front (whole_lines prefix) (whole_lines rest) (subst EachFits all can.fits);
+      numbered = omega (arith, can.numbered, ap length all, length-append (whole_lines prefix) (whole_lines rest));
     }
 
 -- the other lines can be consumed after the first ones
-pub can_consume_rest : (lines : LinesState) (front rest : List ℕ) → AreWholeLines front → CanConsume lines (front ++ rest) →
-    CanConsume (record lines { before = lines.before + length (whole_lines front) }) rest
-can_consume_rest lines front rest ends can =
-    let all = lines_joined front rest ends in
+pub can_consume_rest : (lines : LinesState) (prefix rest : List ℕ) → AreWholeLines prefix → CanConsume lines (prefix ++ rest) →
+    CanConsume (record lines { before = lines.before + length (whole_lines prefix) }) rest
+can_consume_rest lines prefix rest ends can =
+    let all = lines_joined prefix rest ends in
     record {
       unheld = can.unheld;
       part = can.part;
       unrefused = can.unrefused;
-      ends = sym (ends_joined front rest ends) ∙ can.ends;
-      fits = fits_rest (whole_lines front) (whole_lines rest) (subst EachFits all can.fits);
-      numbered = omega (arith, can.numbered, ap length all, length-append (whole_lines front) (whole_lines rest));
+      ends = sym (ends_joined prefix rest ends) ∙ can.ends;
+      fits = fits_rest (whole_lines prefix) (whole_lines rest) (subst EachFits all can.fits);
+      numbered = omega (arith, can.numbered, ap length all, length-append (whole_lines prefix) (whole_lines rest));
     }

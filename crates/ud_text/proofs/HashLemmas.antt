@@ -73,7 +73,7 @@ plain_carried l (k ∷ ls) n before = plain_carried k ls (suc n) (before ++ next
 -- whole lines without a `#` are skipped
 pub passes_hashless : (old : ScannerState) (bytes : List ℕ) → AreWholeLines bytes → NoHash bytes → 0 < length bytes → SkipsText Plain old initial_scanner_state bytes
 passes_hashless old bytes ends none some = record {
-  stands = λ n before h. by_lines (whole_lines bytes) (ended_lines bytes ends) n before;
+  represents = λ n before h. by_lines (whole_lines bytes) (ended_lines bytes ends) n before;
   texts = λ n before h. hashless_text (whole_lines bytes) n before (subst NoHash (ended_lines bytes ends) none);
 }
   where
@@ -82,12 +82,12 @@ passes_hashless old bytes ends none some = record {
     by_lines (l ∷ ls) e n before = plain_carried l ls n before
 
 -- the lines before the last one of a prefix
-pub hashless_ends : (bytes front : List ℕ) (n : ℕ) → front ≡ take (length front) bytes → LastLineStarts front n → AreWholeLines (take n bytes)
-hashless_ends bytes front n e last = subst AreWholeLines (front_of bytes front n e last.within) (begins_ends (take n front) last.begins)
+pub hashless_ends : (bytes prefix : List ℕ) (n : ℕ) → prefix ≡ take (length prefix) bytes → LastLineStarts prefix n → AreWholeLines (take n bytes)
+hashless_ends bytes prefix n e last = subst AreWholeLines (front_of bytes prefix n e last.within) (begins_ends (take n prefix) last.begins)
   where
-    front_of : (bytes front : List ℕ) (n : ℕ) → front ≡ take (length front) bytes → n ≤ length front → take n front ≡ take n bytes
-    front_of bytes front n e k = ap (take n) e ∙ take-take n (length front) bytes k
+    front_of : (bytes prefix : List ℕ) (n : ℕ) → prefix ≡ take (length prefix) bytes → n ≤ length prefix → take n prefix ≡ take n bytes
+    front_of bytes prefix n e k = ap (take n) e ∙ take-take n (length prefix) bytes k
 
-pub hashless_plain : (bytes front : List ℕ) (n : ℕ) → front ≡ take (length front) bytes → LastLineStarts front n → NoHash front → NoHash (take n bytes)
-hashless_plain bytes front n e last none =
-    subst NoHash (ap (take n) e ∙ take-take n (length front) bytes last.within) (no_hash_take n front none)
+pub hashless_plain : (bytes prefix : List ℕ) (n : ℕ) → prefix ≡ take (length prefix) bytes → LastLineStarts prefix n → NoHash prefix → NoHash (take n bytes)
+hashless_plain bytes prefix n e last none =
+    subst NoHash (ap (take n) e ∙ take-take n (length prefix) bytes last.within) (no_hash_take n prefix none)

@@ -22,7 +22,7 @@ pub record LiteralFront (white : Bool) (quote : ℕ) (bytes : List ℕ) : Type 0
   pub spliced : Bool
   pub leads : bulk_state_after (code_state white) bytes ≡ record { state = in_literal quote; white = false; spliced = spliced }
   pub quiet : HasNoStop (code_state white) bytes
-  pub no_feed : NoNewlineInBlock (code_state white) bytes
+  pub no_newline : NoNewlineInBlock (code_state white) bytes
   pub no_comment : NoComment in_text bytes
 
 -- a slash that begins no comment, and the byte after it
@@ -33,7 +33,7 @@ slash_read x white e f =
       now_white = stays_white at_slash white x;
       leads = rw (f, n.0, n.1, n.2) (by_return (x == carriage_return) (if x == newline then true else false));
       quiet = (refl, (rw n.3 (by_feed (x == newline)), tt));
-      no_feed = (refl, (and-false (x == newline), tt));
+      no_newline = (refl, (and-false (x == newline), tt));
       no_comment = (refl, (rw (f, n.0) refl, tt));
     }
   where
@@ -53,7 +53,7 @@ backslash_read x white e f g =
       now_white = stays_white in_text (white && false) x;
       leads = rw (n.0, n.1, n.2, g) refl;
       quiet = (refl, (rw (f, n.3) refl, tt));
-      no_feed = (refl, (and-false (x == newline), tt));
+      no_newline = (refl, (and-false (x == newline), tt));
       no_comment = (refl, (refl, tt));
     }
 
@@ -65,7 +65,7 @@ sign_read bytes white h why =
       now_white = more.now_white;
       leads = more.leads;
       quiet = (by_reason why, more.quiet);
-      no_feed = (refl, more.no_feed);
+      no_newline = (refl, more.no_newline);
       no_comment = (refl, more.no_comment);
     }
   where
@@ -79,9 +79,9 @@ quote_read q white e = by_quote (q == 34) (q == 39) refl refl e
   where
     by_quote : (t u : Bool) → (q == 34) ≡ t → (q == 39) ≡ u → (t || u) ≡ true → LiteralFront white q (q ∷ [])
     by_quote true u f g h = subst (λ (n : ℕ). LiteralFront white n (n ∷ [])) (sym (eqb-true q 34 f))
-        (record { spliced = false; leads = ap (λ (v : Bool). record { state = in_literal 34; white = v; spliced = false }) (and-false white); quiet = (refl, tt); no_feed = (refl, tt); no_comment = (refl, tt) })
+        (record { spliced = false; leads = ap (λ (v : Bool). record { state = in_literal 34; white = v; spliced = false }) (and-false white); quiet = (refl, tt); no_newline = (refl, tt); no_comment = (refl, tt) })
     by_quote false true f g h = subst (λ (n : ℕ). LiteralFront white n (n ∷ [])) (sym (eqb-true q 39 g))
-        (record { spliced = false; leads = ap (λ (v : Bool). record { state = in_literal 39; white = v; spliced = false }) (and-false white); quiet = (refl, tt); no_feed = (refl, tt); no_comment = (refl, tt) })
+        (record { spliced = false; leads = ap (λ (v : Bool). record { state = in_literal 39; white = v; spliced = false }) (and-false white); quiet = (refl, tt); no_newline = (refl, tt); no_comment = (refl, tt) })
     by_quote false false f g h = cc
 
 stops_white : (p : LexState) (c : Bool) (b : ℕ) (rest : List ℕ) → (b == newline) ≡ false → stops_bulk (record { state = p; white = false; spliced = c }) b rest ≡ false
@@ -100,7 +100,7 @@ literal_byte white q bytes b r e f g =
       spliced = spliced_after (in_literal q) r.spliced b;
       leads = bulk_state_after-append (code_state white) bytes (b ∷ []) ∙ ap (λ (s : BulkState). bulk_state_after s (b ∷ [])) r.leads ∙ rw (e, f, g) refl;
       quiet = HasNoStop-append (code_state white) bytes (b ∷ []) r.quiet (subst (λ (s : BulkState). HasNoStop s (b ∷ [])) (sym r.leads) (stops_white (in_literal q) r.spliced b [] e, tt));
-      no_feed = NoNewlineInBlock-append (code_state white) bytes (b ∷ []) r.no_feed (subst (λ (s : BulkState). NoNewlineInBlock s (b ∷ [])) (sym r.leads) (and-false (b == newline), tt));
+      no_newline = NoNewlineInBlock-append (code_state white) bytes (b ∷ []) r.no_newline (subst (λ (s : BulkState). NoNewlineInBlock s (b ∷ [])) (sym r.leads) (and-false (b == newline), tt));
       no_comment = NoComment-append (code_state white) bytes (b ∷ []) r.no_comment (subst (λ (s : BulkState). NoComment s.state (b ∷ [])) (sym r.leads) (refl, tt));
     }
 
@@ -112,20 +112,20 @@ literal_pair white q bytes b r k e =
     record {
       spliced = spliced_after (at_backslash q) true b;
       leads = bulk_state_after-append (code_state white) bytes (backslash ∷ b ∷ []) ∙ ap (λ (s : BulkState). bulk_state_after s (backslash ∷ b ∷ [])) r.leads
-          ∙ ap (λ (s : BulkState). bulk_state_after s (b ∷ [])) passes ∙ rw e refl;
+          ∙ ap (λ (s : BulkState). bulk_state_after s (b ∷ [])) skips ∙ rw e refl;
       quiet = HasNoStop-append (code_state white) bytes (backslash ∷ b ∷ []) r.quiet
           (subst (λ (s : BulkState). HasNoStop s (backslash ∷ b ∷ [])) (sym r.leads)
-          (refl, subst (λ (s : BulkState). HasNoStop s (b ∷ [])) (sym passes) (stops_white (at_backslash q) true b [] e, tt)));
-      no_feed = NoNewlineInBlock-append (code_state white) bytes (backslash ∷ b ∷ []) r.no_feed
+          (refl, subst (λ (s : BulkState). HasNoStop s (b ∷ [])) (sym skips) (stops_white (at_backslash q) true b [] e, tt)));
+      no_newline = NoNewlineInBlock-append (code_state white) bytes (backslash ∷ b ∷ []) r.no_newline
           (subst (λ (s : BulkState). NoNewlineInBlock s (backslash ∷ b ∷ [])) (sym r.leads)
-          (refl, subst (λ (s : BulkState). NoNewlineInBlock s (b ∷ [])) (sym passes) (and-false (b == newline), tt)));
+          (refl, subst (λ (s : BulkState). NoNewlineInBlock s (b ∷ [])) (sym skips) (and-false (b == newline), tt)));
       no_comment = NoComment-append (code_state white) bytes (backslash ∷ b ∷ []) r.no_comment
           (subst (λ (s : BulkState). NoComment s.state (backslash ∷ b ∷ [])) (sym r.leads)
-          (refl, subst (λ (s : BulkState). NoComment s.state (b ∷ [])) (sym passes) (refl, tt)));
+          (refl, subst (λ (s : BulkState). NoComment s.state (b ∷ [])) (sym skips) (refl, tt)));
     }
   where
-    passes : next_bulk_state (record { state = in_literal q; white = false; spliced = r.spliced }) backslash ≡ record { state = at_backslash q; white = false; spliced = true }
-    passes = by_quote (backslash == q) refl
+    skips : next_bulk_state (record { state = in_literal q; white = false; spliced = r.spliced }) backslash ≡ record { state = at_backslash q; white = false; spliced = true }
+    skips = by_quote (backslash == q) refl
       where
         by_quote : (t : Bool) → (backslash == q) ≡ t → ◌≡◌ {A = BulkState} (record { state = if t then in_text else at_backslash q; white = false; spliced = true })
             (record { state = at_backslash q; white = false; spliced = true })
@@ -143,7 +143,7 @@ literal_closed white q bytes r k = by_quote (q == 34) (q == 39) refl refl k
           now_white = false;
           leads = bulk_state_after-append (code_state white) bytes (n ∷ []) ∙ ap (λ (s : BulkState). bulk_state_after s (n ∷ [])) s.leads ∙ rw (f, i, g, h) refl;
           quiet = HasNoStop-append (code_state white) bytes (n ∷ []) s.quiet (subst (λ (s : BulkState). HasNoStop s (n ∷ [])) (sym s.leads) (stops_white (in_literal n) s.spliced n [] f, tt));
-          no_feed = NoNewlineInBlock-append (code_state white) bytes (n ∷ []) s.no_feed (subst (λ (s : BulkState). NoNewlineInBlock s (n ∷ [])) (sym s.leads) (and-false (n == newline), tt));
+          no_newline = NoNewlineInBlock-append (code_state white) bytes (n ∷ []) s.no_newline (subst (λ (s : BulkState). NoNewlineInBlock s (n ∷ [])) (sym s.leads) (and-false (n == newline), tt));
           no_comment = NoComment-append (code_state white) bytes (n ∷ []) s.no_comment (subst (λ (s : BulkState). NoComment s.state (n ∷ [])) (sym s.leads) (refl, tt));
         }) r
 
@@ -233,5 +233,5 @@ line_comment_read bytes white h e =
     record {
       leads = bulk_state_after-append (line_comment white false) bytes (newline ∷ []) ∙ ap (λ (s : BulkState). bulk_state_after s (newline ∷ [])) leads;
       quiet = (refl, (refl, HasNoStop-append (line_comment white false) bytes (newline ∷ []) on.1 (subst (λ (s : BulkState). HasNoStop s (newline ∷ [])) (sym leads) (refl, tt))));
-      no_feed = (refl, (refl, NoNewlineInBlock-append (line_comment white false) bytes (newline ∷ []) on.2 (subst (λ (s : BulkState). NoNewlineInBlock s (newline ∷ [])) (sym leads) (refl, tt))));
+      no_newline = (refl, (refl, NoNewlineInBlock-append (line_comment white false) bytes (newline ∷ []) on.2 (subst (λ (s : BulkState). NoNewlineInBlock s (newline ∷ [])) (sym leads) (refl, tt))));
     }

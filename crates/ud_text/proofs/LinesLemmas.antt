@@ -31,7 +31,7 @@ pub represent_take : (l : LinesState) (text chunk : List ℕ) (used : ℕ) (whol
 represent_take l text chunk used true part to h = record {
   consumed = h.consumed;
   cut =
-      let line : (front : List ℕ) × NoNewline front × (take used chunk ≡ front ++ 10 ∷ []) = to.line refl in
+      let line : (prefix : List ℕ) × NoNewline prefix × (take used chunk ≡ prefix ++ 10 ∷ []) = to.line refl in
       subst (λ (p : List ℕ). split_lines (text ++ p) ≡ record { whole = h.consumed ++ (l.held ++ p) ∷ []; rest = [] }) (sym line.2)
       (split_lines-append-line text line.0 line.1
       ∙ ap (λ (q : SplitLines). record { whole = q.whole ++ (q.rest ++ (line.0 ++ 10 ∷ [])) ∷ []; rest = [] }) (represent_part l text part h));

@@ -172,19 +172,19 @@ white_stays plain false w = black_on plain (code_state false) refl w
 pub shows_white : (plain : List ℕ) (base v now : Bool) → NoComment in_text plain → bulk_state_after (code_state base) plain ≡ code_state now →
     IsWhiteAfter plain base v → now ≡ v
 shows_white plain base _ now c e (all_white w) = ap (λ (s : BulkState). s.white) (sym e) ∙ white_stays plain base w
-shows_white plain base _ now c e (new_line front rest is w) =
-    let out : (outside (bulk_state_after (code_state base) front).state ≡ true) × NoComment (bulk_state_after (code_state base) front).state (newline ∷ rest) =
-    outside_on (code_state base) front (newline ∷ rest) refl (subst (λ (l : List ℕ). NoComment in_text l) is c) in
+shows_white plain base _ now c e (new_line prefix rest is w) =
+    let out : (outside (bulk_state_after (code_state base) prefix).state ≡ true) × NoComment (bulk_state_after (code_state base) prefix).state (newline ∷ rest) =
+    outside_on (code_state base) prefix (newline ∷ rest) refl (subst (λ (l : List ℕ). NoComment in_text l) is c) in
     ap (λ (s : BulkState). s.white)
-    (sym e ∙ ap (λ (l : List ℕ). bulk_state_after (code_state base) l) is ∙ bulk_state_after-append (code_state base) front (newline ∷ rest)
-    ∙ ap (λ (s : BulkState). bulk_state_after s rest) (feed_step (bulk_state_after (code_state base) front) out.0) ∙ white_on rest w)
-shows_white plain base _ now c e (black front b rest is k i w) =
-    let s : BulkState = bulk_state_after (code_state base) front in
-    let out : (outside (bulk_state_after (code_state base) front).state ≡ true) × NoComment (bulk_state_after (code_state base) front).state (b ∷ rest) =
-    outside_on (code_state base) front (b ∷ rest) refl (subst (λ (l : List ℕ). NoComment in_text l) is c) in
-    let there : bulk_state_after (next_bulk_state (bulk_state_after (code_state base) front) b) rest ≡ code_state now =
-    sym (ap (λ (l : List ℕ). bulk_state_after (code_state base) l) is ∙ bulk_state_after-append (code_state base) front (b ∷ rest)) ∙ e in
-    by_step (bulk_state_after (code_state base) front) there (black_step (bulk_state_after (code_state base) front).state (bulk_state_after (code_state base) front).white b out.0 out.1.0 k i)
+    (sym e ∙ ap (λ (l : List ℕ). bulk_state_after (code_state base) l) is ∙ bulk_state_after-append (code_state base) prefix (newline ∷ rest)
+    ∙ ap (λ (s : BulkState). bulk_state_after s rest) (feed_step (bulk_state_after (code_state base) prefix) out.0) ∙ white_on rest w)
+shows_white plain base _ now c e (black prefix b rest is k i w) =
+    let s : BulkState = bulk_state_after (code_state base) prefix in
+    let out : (outside (bulk_state_after (code_state base) prefix).state ≡ true) × NoComment (bulk_state_after (code_state base) prefix).state (b ∷ rest) =
+    outside_on (code_state base) prefix (b ∷ rest) refl (subst (λ (l : List ℕ). NoComment in_text l) is c) in
+    let there : bulk_state_after (next_bulk_state (bulk_state_after (code_state base) prefix) b) rest ≡ code_state now =
+    sym (ap (λ (l : List ℕ). bulk_state_after (code_state base) l) is ∙ bulk_state_after-append (code_state base) prefix (b ∷ rest)) ∙ e in
+    by_step (bulk_state_after (code_state base) prefix) there (black_step (bulk_state_after (code_state base) prefix).state (bulk_state_after (code_state base) prefix).white b out.0 out.1.0 k i)
   where
     by_step : (s : BulkState) → bulk_state_after (next_bulk_state s b) rest ≡ code_state now → (stays_white s.state s.white b ≡ false) ⊎ (next_state s.state b ≡ at_slash) → now ≡ false
     by_step s t (inl h) = sym (ap (λ (x : BulkState). x.white) t) ∙ black_on rest (next_bulk_state s b) h w

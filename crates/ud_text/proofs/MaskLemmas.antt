@@ -144,16 +144,16 @@ first_star-bound bytes None h = omega arith
 first_star-bound bytes (Some k) h = let l : k < length bytes = h.0.high in omega arith
 
 -- a prefix of bytes without a newline has none
-pub no_feed-take : (k : ℕ) (bytes : List ℕ) → NoNewline bytes → NoNewline (take k bytes)
-no_feed-take zero bytes h = tt
-no_feed-take (suc k) [] h = tt
-no_feed-take (suc k) (b ∷ bytes) h = (h.0, no_feed-take k bytes h.1)
+pub no_newline-take : (k : ℕ) (bytes : List ℕ) → NoNewline bytes → NoNewline (take k bytes)
+no_newline-take zero bytes h = tt
+no_newline-take (suc k) [] h = tt
+no_newline-take (suc k) (b ∷ bytes) h = (h.0, no_newline-take k bytes h.1)
 
 -- the rest of bytes without a newline has none
-pub no_feed-drop : (k : ℕ) (bytes : List ℕ) → NoNewline bytes → NoNewline (drop k bytes)
-no_feed-drop zero bytes h = h
-no_feed-drop (suc k) [] h = tt
-no_feed-drop (suc k) (b ∷ bytes) h = no_feed-drop k bytes h.1
+pub no_newline-drop : (k : ℕ) (bytes : List ℕ) → NoNewline bytes → NoNewline (drop k bytes)
+no_newline-drop zero bytes h = h
+no_newline-drop (suc k) [] h = tt
+no_newline-drop (suc k) (b ∷ bytes) h = no_newline-drop k bytes h.1
 
 -- a prefix of bytes, and a prefix of the rest, are a longer prefix
 pub take_run : (bytes : List ℕ) (at count : ℕ) → take at bytes ++ take count (take (length bytes - at) (drop at bytes)) ≡ take (at + count) bytes
@@ -184,7 +184,7 @@ pub text_run : {n : ℕ} (text rest old new : List ℕ) {w : LexState} {white : 
 text_run text rest old new {w} {white} now_white count m e f h p q =
     let none : NoMark (take count rest) = subst (λ (k : ℕ). NoMark (take k rest)) (sym f) (no_mark_before rest) in
     Masks-same refl refl (sym q) (sym p)
-    (Masks-text (take count rest) text white old none (no_feed-take count rest h) (Masks-same refl e refl refl m))
+    (Masks-text (take count rest) text white old none (no_newline-take count rest h) (Masks-same refl e refl refl m))
 
 -- the text as it is shown with the bytes before the first star
 pub block_run : {n : ℕ} (text rest old new : List ℕ) {w : LexState} {white : Bool} (r : Option ℕ) (count : ℕ) →

@@ -5,9 +5,9 @@ use Rattle.std.specs.List.{position_or_len}
 use Rattle.ud_text.specs.LinesState.{UpToNewline}
 use Rattle.ud_text.specs.Searches.{is_one_of}
 
--- `feeds`: the newline, five times
-abbrev pub feeds : List ℕ
-feeds = 10 ∷ 10 ∷ 10 ∷ 10 ∷ 10 ∷ []
+-- `newlines`: the newline, five times
+abbrev pub newlines : List ℕ
+newlines = 10 ∷ 10 ∷ 10 ∷ 10 ∷ 10 ∷ []
 
 one_of_five : (x t : Bool) → (x || x || x || x || x) ≡ t → x ≡ t
 one_of_five true t e = e
@@ -36,10 +36,10 @@ one_byte true b s k n at is e below rest = subst (λ u. UpToNewline (b ∷ s) u 
 one_byte false b s k n at other e below rest = subst (λ u. UpToNewline (b ∷ s) u true) {x = suc (k + 1)} (omega arith) (later b s (k + 1) other (rest (omega arith)))
 
 -- the first newline among the first bytes
-pub near_found : (n : ℕ) (s : List ℕ) (at : ℕ) → at ≡ position_or_len (is_one_of feeds) (take n s) → at < n → n ≤ length s → UpToNewline s (at + 1) true
+pub near_found : (n : ℕ) (s : List ℕ) (at : ℕ) → at ≡ position_or_len (is_one_of newlines) (take n s) → at < n → n ≤ length s → UpToNewline s (at + 1) true
 near_found zero s at e below fits = absurd (omega arith)
 near_found (suc n) [] at e below fits = absurd (omega arith)
 near_found (suc n) (b ∷ s) at e below fits =
-    let same : nat_eq b 10 ≡ is_one_of feeds b = one_of_five (nat_eq b 10) (is_one_of feeds b) refl in
-    one_byte (is_one_of feeds b) b s (position_or_len (is_one_of feeds) (take n s)) n at same e below
-    (λ less. near_found n s (position_or_len (is_one_of feeds) (take n s)) refl less (omega arith))
+    let same : nat_eq b 10 ≡ is_one_of newlines b = one_of_five (nat_eq b 10) (is_one_of newlines b) refl in
+    one_byte (is_one_of newlines b) b s (position_or_len (is_one_of newlines) (take n s)) n at same e below
+    (λ less. near_found n s (position_or_len (is_one_of newlines) (take n s)) refl less (omega arith))

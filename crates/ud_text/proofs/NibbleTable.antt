@@ -25,8 +25,8 @@ unfolding all_below
 copies = refl
 
 -- the table as it is read at each low nibble
-told : (v js : List ℕ) → length v ≡ 64 → js ≡ map (λ x. bit_and x 15) v → swz_l w8 16 BY_LOW_NIBBLE 0 js ≡ map told_by v
-told v js long e =
+reported : (v js : List ℕ) → length v ≡ 64 → js ≡ map (λ x. bit_and x 15) v → swz_l w8 16 BY_LOW_NIBBLE 0 js ≡ map told_by v
+reported v js long e =
     let size : length js ≡ 64 = ap length e ∙ length-map v (λ x. bit_and x 15) ∙ long in
     ext_get_or 0 _ _ (length-swz_l w8 16 BY_LOW_NIBBLE 0 js ∙ size ∙ sym (length-map v told_by ∙ long)) (λ i h.
     let lt : i < 64 = omega (arith, length-swz_l w8 16 BY_LOW_NIBBLE 0 js, h, size) in
@@ -61,4 +61,4 @@ map_id (x ∷ xs) = ap (λ (l : List ℕ). x ∷ l) (map_id xs)
 pub lanes_told : (v : List ℕ) → length v ≡ 64 →
     zip2 (λ a b. cond (eqb a b) (2 ^ 8 - 1) 0) v (swz_l w8 16 BY_LOW_NIBBLE 0 (zip2 bit_and v (replicate 64 15))) ≡ map (λ x. lane (is_told x)) v
 lanes_told v long =
-    zip2_of_maps (λ (a b : ℕ). cond (eqb a b) (2 ^ 8 - 1) 0) (λ (x : ℕ). x) told_by v (map_id v) (told v (zip2 bit_and v (replicate 64 15)) long (zip2_splat bit_and v 64 15 long))
+    zip2_of_maps (λ (a b : ℕ). cond (eqb a b) (2 ^ 8 - 1) 0) (λ (x : ℕ). x) told_by v (map_id v) (reported v (zip2 bit_and v (replicate 64 15)) long (zip2_splat bit_and v 64 15 long))

@@ -81,13 +81,13 @@ module _ (bytes : List ℕ) (at : ℕ) (is : at ≡ position_or_len is_found (pa
   pub pair_bound : at ≤ length bytes - 1
   pair_bound = omega (arith, is, length-pairs_of bytes, prefix_len-le-length (λ t. not (is_found t)) (pairs_of bytes))
 
-  front : (n : ℕ) → n ≤ at → NoStarPair (take (suc n) bytes)
-  front n h = none_before bytes n (λ k low high.
+  prefix : (n : ℕ) → n ≤ at → NoStarPair (take (suc n) bytes)
+  prefix n h = none_before bytes n (λ k low high.
       sym (get_or-pairs_of bytes k high) ∙ fails_before_first is_found (pairs_of bytes) k false (omega (arith, is)))
 
   -- no pair comes before the first one
   pub before_first_pair : NoStarPair (take (at + 1) bytes)
-  before_first_pair = subst (λ (n : ℕ). NoStarPair (take n bytes)) (sym (add-one at)) (front at (omega arith))
+  before_first_pair = subst (λ (n : ℕ). NoStarPair (take n bytes)) (sym (add-one at)) (prefix at (omega arith))
 
   -- there is no pair, if there is no next byte
   pub no_pair : length bytes ≤ at + 1 → NoStarPair (take (length bytes + 1) bytes)

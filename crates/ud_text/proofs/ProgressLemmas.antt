@@ -8,7 +8,7 @@ use Rattle.ud_text.proofs.QuietLemmas.{bulk_state_after-append, HasNoStop-append
 use Rattle.ud_text.proofs.QuietLineLemmas.{passed_none, passed_quiet, Skipped-append}
 use Rattle.ud_text.proofs.SpliceLemmas.{passed_splice}
 use Rattle.ud_text.proofs.LexemeLemmas.{NoComment-append}
-use Rattle.ud_text.specs.BulkLexemes.{after_feed, at_start, LineLexeme, NoComment, LastLineStarts, CodeLexeme, IsLineStart, IsSplice}
+use Rattle.ud_text.specs.BulkLexemes.{after_newline, at_start, LineLexeme, NoComment, LastLineStarts, CodeLexeme, IsLineStart, IsSplice}
 use Rattle.ud_text.specs.Progress.{ReadTo, ReadOutside}
 use Rattle.std.proofs.Math.Seq.{drop-append_seam, take-append_seam}
 use Rattle.ud_model.specs.text.Bytes.{newline}
@@ -21,7 +21,7 @@ take_front p q n e = ap (λ (k : ℕ). take k (p ++ q)) e ∙ take-append_seam p
 
 -- a line begins after bytes that end with a newline, whatever comes before them
 pub begins-append : (p q : List ℕ) → IsLineStart (q ++ newline ∷ []) → IsLineStart (p ++ (q ++ newline ∷ []))
-begins-append p q h = subst IsLineStart (append_assoc p q (newline ∷ [])) (after_feed (p ++ q))
+begins-append p q h = subst IsLineStart (append_assoc p q (newline ∷ [])) (after_newline (p ++ q))
 
 feed_open : (s : BulkState) → is_block (kind_in_state s.state) ≡ false → next_bulk_state s newline ≡ code_state true
 feed_open s e = by_place s.state e
@@ -39,66 +39,66 @@ module _ {start : BulkState} {bytes : List ℕ} {line : ℕ} {kept : BulkState} 
     (r : ReadTo start bytes line kept at now) where
   -- the bytes from the position on
   pub rest_of : drop at bytes ≡ r.rest
-  rest_of = ap (λ (l : List ℕ). drop at l) (r.is ∙ sym (append_assoc r.front r.mid r.rest))
-      ∙ drop_front (r.front ++ r.mid) r.rest at (r.at_is ∙ sym (length-append r.front r.mid))
+  rest_of = ap (λ (l : List ℕ). drop at l) (r.is ∙ sym (append_assoc r.prefix r.mid r.rest))
+      ∙ drop_front (r.prefix ++ r.mid) r.rest at (r.at_is ∙ sym (length-append r.prefix r.mid))
 
   -- the bytes from the beginning of the line up to the position
   pub mid_of : take (at - line) (drop line bytes) ≡ r.mid
-  mid_of = ap (λ (l : List ℕ). take (at - line) l) (ap (λ (l : List ℕ). drop line l) r.is ∙ drop_front r.front (r.mid ++ r.rest) line r.line_is)
-      ∙ take_front r.mid r.rest (at - line) (let e : at ≡ length r.front + length r.mid = r.at_is in let f : line ≡ length r.front = r.line_is in omega arith)
+  mid_of = ap (λ (l : List ℕ). take (at - line) l) (ap (λ (l : List ℕ). drop line l) r.is ∙ drop_front r.prefix (r.mid ++ r.rest) line r.line_is)
+      ∙ take_front r.mid r.rest (at - line) (let e : at ≡ length r.prefix + length r.mid = r.at_is in let f : line ≡ length r.prefix = r.line_is in omega arith)
 
   -- the lines before that beginning are skipped
   pub passed_of : Skipped start (take line bytes) kept
   passed_of = subst (λ (l : List ℕ). Skipped start l kept)
-      (sym (ap (λ (l : List ℕ). take line l) r.is ∙ take_front r.front (r.mid ++ r.rest) line r.line_is)) r.passed
+      (sym (ap (λ (l : List ℕ). take line l) r.is ∙ take_front r.prefix (r.mid ++ r.rest) line r.line_is)) r.passed
 
   -- further bytes are read
   pub read_on : (k : ℕ) (run : List ℕ) → run ≡ take k (drop at bytes) → k ≤ length (drop at bytes) → HasNoStop now run → NoNewlineInBlock now run →
       (v : BulkState) → bulk_state_after now run ≡ v → ReadTo start bytes line kept (at + k) v
   unfolding rest_of
   read_on k run e h q l v there = record {
-    front = r.front;
+    prefix = r.prefix;
     mid = r.mid ++ run;
     rest = drop k (drop at bytes);
     is = r.is
-        ∙ ap (λ (x : List ℕ). r.front ++ (r.mid ++ x)) (sym rest_of ∙ sym (take-append-drop k (drop at bytes)) ∙ ap (λ (x : List ℕ). x ++ drop k (drop at bytes)) (sym e))
-        ∙ ap (λ (x : List ℕ). r.front ++ x) (sym (append_assoc r.mid run (drop k (drop at bytes))));
+        ∙ ap (λ (x : List ℕ). r.prefix ++ (r.mid ++ x)) (sym rest_of ∙ sym (take-append-drop k (drop at bytes)) ∙ ap (λ (x : List ℕ). x ++ drop k (drop at bytes)) (sym e))
+        ∙ ap (λ (x : List ℕ). r.prefix ++ x) (sym (append_assoc r.mid run (drop k (drop at bytes))));
     line_is = r.line_is;
-    at_is = (let f : at ≡ length r.front + length r.mid = r.at_is in
+    at_is = (let f : at ≡ length r.prefix + length r.mid = r.at_is in
         let g : length run ≡ k = ap length e ∙ length-take-le k (drop at bytes) h in
         omega (arith, length-append r.mid run));
     passed = r.passed;
     quiet = HasNoStop-append kept r.mid run r.quiet (subst (λ (s : BulkState). HasNoStop s run) (sym r.leads) q);
-    no_feed = NoNewlineInBlock-append kept r.mid run r.no_feed (subst (λ (s : BulkState). NoNewlineInBlock s run) (sym r.leads) l);
+    no_newline = NoNewlineInBlock-append kept r.mid run r.no_newline (subst (λ (s : BulkState). NoNewlineInBlock s run) (sym r.leads) l);
     leads = bulk_state_after-append kept r.mid run ∙ ap (λ (s : BulkState). bulk_state_after s run) r.leads ∙ there;
   }
 
   -- what is read, from the beginning of a later line
   settled_at : (n : ℕ) (m : List ℕ) → IsLineStart m → m ≡ take n r.mid → n ≤ length r.mid → 0 < n → ReadTo start bytes (line + n) (code_state true) at now
   settled_at n _ at_start e h k = absurd (let f : 0 ≡ n = ap length e ∙ length-take-le n r.mid h in omega arith)
-  settled_at n _ (after_feed x) e h k =
+  settled_at n _ (after_newline x) e h k =
       let y : List ℕ = drop n r.mid in
       let split : r.mid ≡ (x ++ newline ∷ []) ++ y = sym (take-append-drop n r.mid) ∙ ap (λ (l : List ℕ). l ++ drop n r.mid) (sym e) in
       let whole : r.mid ≡ x ++ newline ∷ y = split ∙ append_assoc x (newline ∷ []) y in
       let parts : HasNoStop kept (x ++ newline ∷ []) × HasNoStop (bulk_state_after kept (x ++ newline ∷ [])) y = HasNoStop-feed kept x y (subst (λ (l : List ℕ). HasNoStop kept l) whole r.quiet) in
-      let kept_on : NoNewlineInBlock (bulk_state_after kept x) (newline ∷ y) = NoNewlineInBlock-rest kept x (newline ∷ y) (subst (λ (l : List ℕ). NoNewlineInBlock kept l) whole r.no_feed) in
+      let kept_on : NoNewlineInBlock (bulk_state_after kept x) (newline ∷ y) = NoNewlineInBlock-rest kept x (newline ∷ y) (subst (λ (l : List ℕ). NoNewlineInBlock kept l) whole r.no_newline) in
       let there : bulk_state_after kept (x ++ newline ∷ []) ≡ code_state true = bulk_state_after-append kept x (newline ∷ []) ∙ feed_open (bulk_state_after kept x) kept_on.0 in
       record {
-        front = r.front ++ (x ++ newline ∷ []);
+        prefix = r.prefix ++ (x ++ newline ∷ []);
         mid = y;
         rest = r.rest;
-        is = r.is ∙ ap (λ (l : List ℕ). r.front ++ (l ++ r.rest)) split ∙ ap (λ (l : List ℕ). r.front ++ l) (append_assoc (x ++ newline ∷ []) y r.rest)
-            ∙ sym (append_assoc r.front (x ++ newline ∷ []) (y ++ r.rest));
-        line_is = (let f : line ≡ length r.front = r.line_is in
+        is = r.is ∙ ap (λ (l : List ℕ). r.prefix ++ (l ++ r.rest)) split ∙ ap (λ (l : List ℕ). r.prefix ++ l) (append_assoc (x ++ newline ∷ []) y r.rest)
+            ∙ sym (append_assoc r.prefix (x ++ newline ∷ []) (y ++ r.rest));
+        line_is = (let f : line ≡ length r.prefix = r.line_is in
             let g : length (x ++ newline ∷ []) ≡ n = ap length e ∙ length-take-le n r.mid h in
-            omega (arith, length-append r.front (x ++ newline ∷ [])));
-        at_is = (let f : at ≡ length r.front + length r.mid = r.at_is in
+            omega (arith, length-append r.prefix (x ++ newline ∷ [])));
+        at_is = (let f : at ≡ length r.prefix + length r.mid = r.at_is in
             let g : length r.mid ≡ length (x ++ newline ∷ []) + length y = ap length split ∙ length-append (x ++ newline ∷ []) y in
-            omega (arith, length-append r.front (x ++ newline ∷ [])));
-        passed = Skipped-append r.front (x ++ newline ∷ []) r.passed
-            (subst (λ (s : BulkState). Skipped kept (x ++ newline ∷ []) s) there (passed_quiet kept (x ++ newline ∷ []) r.passed.at_line (after_feed x) parts.0));
+            omega (arith, length-append r.prefix (x ++ newline ∷ [])));
+        passed = Skipped-append r.prefix (x ++ newline ∷ []) r.passed
+            (subst (λ (s : BulkState). Skipped kept (x ++ newline ∷ []) s) there (passed_quiet kept (x ++ newline ∷ []) r.passed.at_line (after_newline x) parts.0));
         quiet = subst (λ (t : BulkState). HasNoStop t y) there parts.1;
-        no_feed = subst (λ (t : BulkState). NoNewlineInBlock t y) (sym (bulk_state_after-append kept x (newline ∷ [])) ∙ there) kept_on.1;
+        no_newline = subst (λ (t : BulkState). NoNewlineInBlock t y) (sym (bulk_state_after-append kept x (newline ∷ [])) ∙ there) kept_on.1;
         leads = ap (λ (t : BulkState). bulk_state_after t y) (sym there) ∙ sym (bulk_state_after-append kept (x ++ newline ∷ []) y) ∙ ap (λ (l : List ℕ). bulk_state_after kept l) (sym split) ∙ r.leads;
       }
 
@@ -115,31 +115,31 @@ module _ {start : BulkState} {bytes : List ℕ} {line : ℕ} {kept : BulkState} 
   unfolding rest_of
   read_splice e k h s =
       let splice : List ℕ = take k (drop at bytes) in
-      let ends : at + k ≡ length (r.front ++ (r.mid ++ take k (drop at bytes))) =
-      (let f : at ≡ length r.front + length r.mid = r.at_is in
+      let ends : at + k ≡ length (r.prefix ++ (r.mid ++ take k (drop at bytes))) =
+      (let f : at ≡ length r.prefix + length r.mid = r.at_is in
       let g : length (take k (drop at bytes)) ≡ k = length-take-le k (drop at bytes) h in
-      omega (arith, length-append r.front (r.mid ++ take k (drop at bytes)), length-append r.mid (take k (drop at bytes)))) in
+      omega (arith, length-append r.prefix (r.mid ++ take k (drop at bytes)), length-append r.mid (take k (drop at bytes)))) in
       record {
-        front = r.front ++ (r.mid ++ take k (drop at bytes));
+        prefix = r.prefix ++ (r.mid ++ take k (drop at bytes));
         mid = [];
         rest = drop k (drop at bytes);
         is = r.is
-            ∙ ap (λ (x : List ℕ). r.front ++ (r.mid ++ x)) (sym rest_of ∙ sym (take-append-drop k (drop at bytes)))
-            ∙ ap (λ (x : List ℕ). r.front ++ x) (sym (append_assoc r.mid (take k (drop at bytes)) (drop k (drop at bytes))))
-            ∙ sym (append_assoc r.front (r.mid ++ take k (drop at bytes)) (drop k (drop at bytes)));
+            ∙ ap (λ (x : List ℕ). r.prefix ++ (r.mid ++ x)) (sym rest_of ∙ sym (take-append-drop k (drop at bytes)))
+            ∙ ap (λ (x : List ℕ). r.prefix ++ x) (sym (append_assoc r.mid (take k (drop at bytes)) (drop k (drop at bytes))))
+            ∙ sym (append_assoc r.prefix (r.mid ++ take k (drop at bytes)) (drop k (drop at bytes)));
         line_is = ends;
         at_is = omega (arith, ends);
-        passed = Skipped-append r.front (r.mid ++ take k (drop at bytes)) r.passed
+        passed = Skipped-append r.prefix (r.mid ++ take k (drop at bytes)) r.passed
             (passed_splice kept r.mid (take k (drop at bytes)) r.passed.at_line r.quiet (r.leads ∙ e) s);
         quiet = tt;
-        no_feed = tt;
+        no_newline = tt;
         leads = refl;
       }
 
 -- nothing is read yet
 pub read_none : (start : BulkState) (bytes : List ℕ) → AtLine start → ReadTo start bytes 0 start 0 start
 read_none start bytes at = record {
-  front = [];
+  prefix = [];
   mid = [];
   rest = bytes;
   is = refl;
@@ -147,7 +147,7 @@ read_none start bytes at = record {
   at_is = omega arith;
   passed = passed_none start at;
   quiet = tt;
-  no_feed = tt;
+  no_newline = tt;
   leads = refl;
 }
 
@@ -189,12 +189,12 @@ module _ {start : BulkState} {bytes : List ℕ} {line : ℕ} {kept : BulkState} 
   -- the bytes after the base
   pub plain_of : take (at - base) (drop base bytes) ≡ r.plain
   plain_of = ap (λ (l : List ℕ). take (at - base) l)
-      (ap (λ (l : List ℕ). drop base l) (r.so_far.is ∙ ap (λ (l : List ℕ). r.so_far.front ++ (l ++ r.so_far.rest)) r.mid_is
-      ∙ ap (λ (l : List ℕ). r.so_far.front ++ l) (append_assoc r.before r.plain r.so_far.rest) ∙ sym (append_assoc r.so_far.front r.before (r.plain ++ r.so_far.rest)))
-      ∙ drop_front (r.so_far.front ++ r.before) (r.plain ++ r.so_far.rest) base (r.base_is ∙ sym (length-append r.so_far.front r.before)))
+      (ap (λ (l : List ℕ). drop base l) (r.so_far.is ∙ ap (λ (l : List ℕ). r.so_far.prefix ++ (l ++ r.so_far.rest)) r.mid_is
+      ∙ ap (λ (l : List ℕ). r.so_far.prefix ++ l) (append_assoc r.before r.plain r.so_far.rest) ∙ sym (append_assoc r.so_far.prefix r.before (r.plain ++ r.so_far.rest)))
+      ∙ drop_front (r.so_far.prefix ++ r.before) (r.plain ++ r.so_far.rest) base (r.base_is ∙ sym (length-append r.so_far.prefix r.before)))
       ∙ take_front r.plain r.so_far.rest (at - base)
-      (let e : at ≡ length r.so_far.front + length r.so_far.mid = r.so_far.at_is in
-      let f : base ≡ length r.so_far.front + length r.before = r.base_is in
+      (let e : at ≡ length r.so_far.prefix + length r.so_far.mid = r.so_far.at_is in
+      let f : base ≡ length r.so_far.prefix + length r.before = r.base_is in
       let g : length r.so_far.mid ≡ length r.before + length r.plain = ap length r.mid_is ∙ length-append r.before r.plain in
       omega arith)
 
@@ -203,7 +203,7 @@ module _ {start : BulkState} {bytes : List ℕ} {line : ℕ} {kept : BulkState} 
   unfolding read_on
   read_text k h t = record {
     now_white = t.now_white;
-    so_far = read_on r.so_far k (take k (drop at bytes)) refl h t.quiet t.no_feed (code_state t.now_white) t.leads;
+    so_far = read_on r.so_far k (take k (drop at bytes)) refl h t.quiet t.no_newline (code_state t.now_white) t.leads;
     before = r.before;
     plain = r.plain ++ take k (drop at bytes);
     mid_is = ap (λ (l : List ℕ). l ++ take k (drop at bytes)) r.mid_is ∙ append_assoc r.before r.plain (take k (drop at bytes));
@@ -216,4 +216,4 @@ module _ {start : BulkState} {bytes : List ℕ} {line : ℕ} {kept : BulkState} 
   -- further bytes are read up to the beginning of a line, with a new base
   pub read_line : (k : ℕ) → k ≤ length (drop at bytes) → LineLexeme r.now_white (take k (drop at bytes)) → ReadOutside start bytes line kept (at + k) true (at + k)
   read_line k h t = read_base true
-      (read_on r.so_far k (take k (drop at bytes)) refl h t.quiet t.no_feed (code_state true) t.leads)
+      (read_on r.so_far k (take k (drop at bytes)) refl h t.quiet t.no_newline (code_state true) t.leads)

@@ -19,10 +19,10 @@ use Rattle.ud_model.proofs.text.ScanLemmas.{Masks-start}
 use Rattle.ud_text.specs.ScannerState.{ScannerState, ScannerRepresents}
 use Rattle.ud_text.specs.BulkScanning.{lines_in_mode, HaveNoDirective, AreWholeLines, SkipsText}
 use Rattle.ud_text.specs.BulkStates.{line_state, BulkState, bulk_state_after, next_bulk_state, is_other_word, Skipped, HasNoStop, can_start, ignores_splice, continues_line, scanner_state_at, AtLine}
-use Rattle.ud_text.specs.BulkLexemes.{IsLineStart, at_start, after_feed}
+use Rattle.ud_text.specs.BulkLexemes.{IsLineStart, at_start, after_newline}
 use Rattle.ud_text.proofs.BulkPlainLemmas.{begins_ends}
 use Rattle.ud_text.proofs.ConsumeLemmas.{lines_joined, ends_joined}
-use Rattle.ud_text.proofs.MaskLemmas.{no_feed-take}
+use Rattle.ud_text.proofs.MaskLemmas.{no_newline-take}
 use Rattle.ud_text.proofs.ScannerLemmas.{scan_carried, represents_code, no_newline-content}
 use Rattle.ud_text.proofs.QuietLemmas.{bulk_state_after-append, bulk_state_after-place, bulk_state_after-white, HasNoStop-feed, HasNoStop-rest}
 use Rattle.ud_text.proofs.TextLemmas.{Unsigned, text_not_fresh, text_unsigned, unsigned, NoWord}
@@ -33,7 +33,7 @@ use Rattle.std.proofs.Math.Bool.{or-false}
 pub data IsTail : Bool → List ℕ → Type 0 where
   feed : IsTail false (newline ∷ [])
   return_feed : IsTail false (carriage_return ∷ newline ∷ [])
-  splice_feed : IsTail true (backslash ∷ newline ∷ [])
+  splice_newline : IsTail true (backslash ∷ newline ∷ [])
   splice_return_feed : IsTail true (backslash ∷ carriage_return ∷ newline ∷ [])
 
 -- `Shape line bytes`: a whole line is its content and a tail
@@ -50,9 +50,9 @@ pub data IsFeed : List ℕ → Type 0 where
   two : IsFeed (carriage_return ∷ newline ∷ [])
 
 whole_ending : (l : List ℕ) → IsWhole l → IsFeed (ending_of l)
-whole_ending l (front, none, is) =
+whole_ending l (prefix, none, is) =
     by_tests (ends_with nat_eq l (carriage_return ∷ newline ∷ [])) (ends_with nat_eq l (newline ∷ []))
-    ((ends_is Decides-eqb l (newline ∷ []) (ends_with nat_eq l (newline ∷ [])) refl).1 front is)
+    ((ends_is Decides-eqb l (newline ∷ []) (ends_with nat_eq l (newline ∷ [])) refl).1 prefix is)
   where
     by_tests : (a b : Bool) → b ≡ true → IsFeed (if a then carriage_return ∷ newline ∷ [] else if b then newline ∷ [] else [])
     by_tests true b e = two
@@ -64,10 +64,10 @@ feed_length _ one = omega arith
 feed_length _ two = omega arith
 
 body_one_line : (l : List ℕ) (k : ℕ) → IsWhole l → 1 ≤ k → NoNewline (take (length l - k) l)
-body_one_line l k (front, none, is) h =
+body_one_line l k (prefix, none, is) h =
     subst (λ (x : List ℕ). NoNewline (take (length x - k) x)) (sym is)
-    (subst NoNewline (sym (take-append-le (length (front ++ newline ∷ []) - k) front (newline ∷ []) (omega (arith, length-append front (newline ∷ [])))))
-    (no_feed-take (length (front ++ newline ∷ []) - k) front none))
+    (subst NoNewline (sym (take-append-le (length (prefix ++ newline ∷ []) - k) prefix (newline ∷ []) (omega (arith, length-append prefix (newline ∷ [])))))
+    (no_newline-take (length (prefix ++ newline ∷ []) - k) prefix none))
 
 body_split : (line : Line) → line.body ≡ content line ++ (if is_spliced line then backslash ∷ [] else [])
 body_split line = by_splice (ends_with nat_eq line.body (backslash ∷ [])) (not (is_empty line.ending))
@@ -87,7 +87,7 @@ feed_closes line f = by_ending line.ending f (is_spliced line)
     by_ending _ two s = or-false s
 
 tail_kind : (s : Bool) (e : List ℕ) → IsFeed e → IsTail s ((if s then backslash ∷ [] else []) ++ e)
-tail_kind true _ one = splice_feed
+tail_kind true _ one = splice_newline
 tail_kind true _ two = splice_return_feed
 tail_kind false _ one = feed
 tail_kind false _ two = return_feed
@@ -188,20 +188,20 @@ tail_leads s _ _ return_feed q = record {
   in_comment = λ e. cc;
   begins_white = feed_white (next_state s.state carriage_return) (stays_white s.state s.white carriage_return);
 }
-tail_leads s _ _ splice_feed q = leads_spliced s.state s.white s.spliced q.1.0
+tail_leads s _ _ splice_newline q = leads_spliced s.state s.white s.spliced q.1.0
 tail_leads s _ _ splice_return_feed q = leads_spliced_return s.state s.white s.spliced q.1.1.0
 
 -- a tail ends the line's word
 tail_names : (spliced : Bool) (tail : List ℕ) → IsTail spliced tail → (is_other_word tail ≡ false) × NoWord tail
 tail_names _ _ feed = (refl, refl)
 tail_names _ _ return_feed = (refl, refl)
-tail_names _ _ splice_feed = (refl, refl)
+tail_names _ _ splice_newline = (refl, refl)
 tail_names _ _ splice_return_feed = (refl, refl)
 
 -- `QuietLine w white before line now`: a line that is read without a stop is text, and leads to the
 -- state `now`
 pub record QuietLine (w : LexState) (white : Bool) (before : List Reading) (line : Line) (now : BulkState) : Type 0 where
-  pub stands : ScannerRepresents (scanner_state_at now.state now.white) (before ++ next_reading before C line ∷ [])
+  pub represents : ScannerRepresents (scanner_state_at now.state now.white) (before ++ next_reading before C line ∷ [])
   pub is_text : content_of (scan_after before C line) ≡ text
   pub at_line : AtLine now
 
@@ -221,9 +221,9 @@ module _ (w : LexState) (white : Bool) (before : List Reading) (line : Line) (ca
     comment = comment_at (is_spliced line) (kind_in_state (state_after_line (stays_open line) (place_after w (content line))));
   }
 
-  pub seen : scan_after before C line ≡ scan_is
+  pub scanned : scan_after before C line ≡ scan_is
   unfolding shown
-  seen = scan_carried (scanner_state_at w white) before line (masked_after w [] (content line)) (place_after w (content line)) (white_after w white (content line)) carried shown
+  scanned = scan_carried (scanner_state_at w white) before line (masked_after w [] (content line)) (place_after w (content line)) (white_after w white (content line)) carried shown
 
   not_fresh : (p : LexState) → can_start p ≡ true → fresh_at p white (content line) ≡ white
   not_fresh in_text e = refl
@@ -247,7 +247,7 @@ module _ (w : LexState) (white : Bool) (before : List Reading) (line : Line) (ca
   -- the line is text, if its content is read without a stop and no word continues after it
   pub line_is_text : (tail : List ℕ) → can_start w ≡ true → NoNewline (content line) → is_other_word tail ≡ false → NoWord tail →
       HasNoStop (line_state w white) (content line ++ tail) → content_of (scan_after before C line) ≡ text
-  line_is_text tail at o f n q = ap content_of seen ∙ by_white white refl
+  line_is_text tail at o f n q = ap content_of scanned ∙ by_white white refl
     where
       by_white : (u : Bool) → white ≡ u → content_of scan_is ≡ text
       by_white false e = text_not_fresh scan_is (not_fresh w at ∙ e)
@@ -292,7 +292,7 @@ module _ (w : LexState) (white : Bool) (before : List Reading) (line : Line) (by
   -- the line is text, and the state after it is carried
   pub line_read : QuietLine w white before line (bulk_state_after (line_state w white) bytes)
   line_read = record {
-    stands = line_stands;
+    represents = line_stands;
     is_text = line_is_text w white before line carried shape.tail at shape.one_line (tail_names (is_spliced line) shape.tail shape.kind).0
         (tail_names (is_spliced line) shape.tail shape.kind).1 quiet_split;
     at_line = record {
@@ -304,19 +304,19 @@ module _ (w : LexState) (white : Bool) (before : List Reading) (line : Line) (by
 -- `QuietLines before n ls now`: lines that are read without a stop are text, and lead to the state
 -- `now`
 pub record QuietLines (before : List Reading) (n : ℕ) (ls : List (List ℕ)) (now : BulkState) : Type 0 where
-  pub stands : ScannerRepresents (scanner_state_at now.state now.white) (readings_after before (lines_in_mode C n ls))
+  pub represents : ScannerRepresents (scanner_state_at now.state now.white) (readings_after before (lines_in_mode C n ls))
   pub texts : HaveNoDirective C before (numbered_from n ls)
 
 -- lines that are read without a stop, one after another
 pub lines_read : (ls : List (List ℕ)) (n : ℕ) (w : LexState) (white : Bool) (before : List Reading) → AreWhole ls → can_start w ≡ true →
     HasNoStop (line_state w white) (concat ls) → ScannerRepresents (scanner_state_at w white) before → QuietLines before n ls (bulk_state_after (line_state w white) (concat ls))
-lines_read [] n w white before whole at quiet carried = record { stands = carried; texts = tt }
+lines_read [] n w white before whole at quiet carried = record { represents = carried; texts = tt }
 lines_read (l ∷ ls) n w white before whole at quiet carried =
-    let front : List ℕ = whole.0.0 in
-    let split : l ++ concat ls ≡ front ++ newline ∷ concat ls =
-    ap (λ (x : List ℕ). x ++ concat ls) whole.0.2 ∙ append_assoc front (newline ∷ []) (concat ls) in
-    let parts : HasNoStop (line_state w white) (front ++ newline ∷ []) × HasNoStop (bulk_state_after (line_state w white) (front ++ newline ∷ [])) (concat ls) =
-    HasNoStop-feed (line_state w white) front (concat ls) (subst (λ (x : List ℕ). HasNoStop (line_state w white) x) split quiet) in
+    let prefix : List ℕ = whole.0.0 in
+    let split : l ++ concat ls ≡ prefix ++ newline ∷ concat ls =
+    ap (λ (x : List ℕ). x ++ concat ls) whole.0.2 ∙ append_assoc prefix (newline ∷ []) (concat ls) in
+    let parts : HasNoStop (line_state w white) (prefix ++ newline ∷ []) × HasNoStop (bulk_state_after (line_state w white) (prefix ++ newline ∷ [])) (concat ls) =
+    HasNoStop-feed (line_state w white) prefix (concat ls) (subst (λ (x : List ℕ). HasNoStop (line_state w white) x) split quiet) in
     let first : HasNoStop (line_state w white) l = subst (λ (x : List ℕ). HasNoStop (line_state w white) x) (sym whole.0.2) parts.0 in
     let rest : HasNoStop (bulk_state_after (line_state w white) l) (concat ls) = subst (λ (x : List ℕ). HasNoStop (bulk_state_after (line_state w white) x) (concat ls)) (sym whole.0.2) parts.1 in
     let ran : QuietLine w white before (line_at n l) (bulk_state_after (line_state w white) l) =
@@ -324,11 +324,11 @@ lines_read (l ∷ ls) n w white before whole at quiet carried =
     let now : BulkState = bulk_state_after (line_state w white) l in
     let more : QuietLines (before ++ next_reading before C (line_at n l) ∷ []) (suc n) ls (bulk_state_after (line_state now.state now.white) (concat ls)) =
     lines_read ls (suc n) now.state now.white (before ++ next_reading before C (line_at n l) ∷ []) whole.1 ran.at_line.starts
-    (subst (λ (s : BulkState). HasNoStop s (concat ls)) ran.at_line.is rest) ran.stands in
+    (subst (λ (s : BulkState). HasNoStop s (concat ls)) ran.at_line.is rest) ran.represents in
     let there : bulk_state_after (line_state now.state now.white) (concat ls) ≡ bulk_state_after (line_state w white) (l ++ concat ls) =
     ap (λ (s : BulkState). bulk_state_after s (concat ls)) (sym ran.at_line.is) ∙ sym (bulk_state_after-append (line_state w white) l (concat ls)) in
     record {
-      stands = subst (λ (s : BulkState). ScannerRepresents (scanner_state_at s.state s.white) (readings_after (before ++ next_reading before C (line_at n l) ∷ []) (lines_in_mode C (suc n) ls))) there more.stands;
+      represents = subst (λ (s : BulkState). ScannerRepresents (scanner_state_at s.state s.white) (readings_after (before ++ next_reading before C (line_at n l) ∷ []) (lines_in_mode C (suc n) ls))) there more.represents;
       texts = (ran.is_text, more.texts);
     }
 
@@ -339,11 +339,11 @@ ended_lines bytes e = parts_joined bytes ∙ ap (λ (r : List ℕ). concat (whol
 -- no lines change nothing
 pub passes_none : (mode : Mode) (c : ScannerState) → SkipsText mode c c []
 unfolding split_lines
-passes_none mode c = record { stands = λ n before h. h; texts = λ n before h. tt }
+passes_none mode c = record { represents = λ n before h. h; texts = λ n before h. tt }
 
 -- no lines lead to the same state
 pub passed_none : (start : BulkState) → AtLine start → Skipped start [] start
-passed_none start at = record { ends = begins_ends [] at_start; passes = passes_none C (scanner_state_at start.state start.white); at_line = at }
+passed_none start at = record { ends = begins_ends [] at_start; skips = passes_none C (scanner_state_at start.state start.white); at_line = at }
 
 -- a line begins after a newline
 feed_at_line : (s : BulkState) → AtLine (next_bulk_state s newline)
@@ -351,8 +351,8 @@ feed_at_line s = record { is = refl; starts = starts_after s.state }
 
 begins_at_line : (start : BulkState) (bytes : List ℕ) → AtLine start → IsLineStart bytes → AtLine (bulk_state_after start bytes)
 begins_at_line start _ at at_start = at
-begins_at_line start _ at (after_feed front) =
-    subst AtLine (sym (bulk_state_after-append start front (newline ∷ []))) (feed_at_line (bulk_state_after start front))
+begins_at_line start _ at (after_newline prefix) =
+    subst AtLine (sym (bulk_state_after-append start prefix (newline ∷ []))) (feed_at_line (bulk_state_after start prefix))
 
 quiet_passes : (w : LexState) (white : Bool) (bytes : List ℕ) → can_start w ≡ true → AreWholeLines bytes → HasNoStop (line_state w white) bytes →
     SkipsText C (scanner_state_at w white) (scanner_state_at (bulk_state_after (line_state w white) bytes).state (bulk_state_after (line_state w white) bytes).white) bytes
@@ -361,8 +361,8 @@ quiet_passes w white bytes at ends quiet =
     let is : bytes ≡ concat ls = ended_lines bytes ends in
     let on : HasNoStop (line_state w white) (concat ls) = subst (λ (x : List ℕ). HasNoStop (line_state w white) x) is quiet in
     record {
-      stands = λ n before h. subst (λ (x : List ℕ). ScannerRepresents (scanner_state_at (bulk_state_after (line_state w white) x).state (bulk_state_after (line_state w white) x).white) (readings_after before (lines_in_mode C n ls))) (sym is)
-          (lines_read ls n w white before (are_whole bytes) at on h).stands;
+      represents = λ n before h. subst (λ (x : List ℕ). ScannerRepresents (scanner_state_at (bulk_state_after (line_state w white) x).state (bulk_state_after (line_state w white) x).white) (readings_after before (lines_in_mode C n ls))) (sym is)
+          (lines_read ls n w white before (are_whole bytes) at on h).represents;
       texts = λ n before h. (lines_read ls n w white before (are_whole bytes) at on h).texts;
     }
 
@@ -370,7 +370,7 @@ quiet_passes w white bytes at ends quiet =
 pub passed_quiet : (start : BulkState) (bytes : List ℕ) → AtLine start → IsLineStart bytes → HasNoStop start bytes → Skipped start bytes (bulk_state_after start bytes)
 passed_quiet start bytes at b quiet = record {
   ends = begins_ends bytes b;
-  passes = subst (λ (s : BulkState). SkipsText C (scanner_state_at start.state start.white) (scanner_state_at (bulk_state_after s bytes).state (bulk_state_after s bytes).white) bytes) (sym at.is)
+  skips = subst (λ (s : BulkState). SkipsText C (scanner_state_at start.state start.white) (scanner_state_at (bulk_state_after s bytes).state (bulk_state_after s bytes).white) bytes) (sym at.is)
       (quiet_passes start.state start.white bytes at.starts (begins_ends bytes b) (subst (λ (s : BulkState). HasNoStop s bytes) at.is quiet));
   at_line = begins_at_line start bytes at b;
 }
@@ -399,20 +399,20 @@ pub passes_append : (mode : Mode) (old mid new : ScannerState) (p q : List ℕ) 
 passes_append mode old mid new p q ends h k =
     let is : whole_lines (p ++ q) ≡ whole_lines p ++ whole_lines q = lines_joined p q ends in
     record {
-      stands = λ n before c.
+      represents = λ n before c.
           subst (λ (ls : List (List ℕ)). ScannerRepresents new (readings_after before (lines_in_mode mode n ls))) (sym is)
           (subst (ScannerRepresents new) (sym (stands_append mode n before (whole_lines p) (whole_lines q)))
-          (k.stands (n + length (whole_lines p)) (readings_after before (lines_in_mode mode n (whole_lines p))) (h.stands n before c)));
+          (k.represents (n + length (whole_lines p)) (readings_after before (lines_in_mode mode n (whole_lines p))) (h.represents n before c)));
       texts = λ n before c.
           subst (λ (ls : List (List ℕ)). HaveNoDirective mode before (numbered_from n ls)) (sym is)
           (texts_append mode n before (whole_lines p) (whole_lines q) (h.texts n before c)
-          (k.texts (n + length (whole_lines p)) (readings_after before (lines_in_mode mode n (whole_lines p))) (h.stands n before c)));
+          (k.texts (n + length (whole_lines p)) (readings_after before (lines_in_mode mode n (whole_lines p))) (h.represents n before c)));
     }
 
 pub Skipped-append : {start now later : BulkState} (p q : List ℕ) → Skipped start p now → Skipped now q later → Skipped start (p ++ q) later
 Skipped-append {start} {now} {later} p q h k = record {
   ends = ends_joined p q h.ends ∙ k.ends;
-  passes = passes_append C (scanner_state_at start.state start.white) (scanner_state_at now.state now.white) (scanner_state_at later.state later.white) p q h.ends h.passes k.passes;
+  skips = passes_append C (scanner_state_at start.state start.white) (scanner_state_at now.state now.white) (scanner_state_at later.state later.white) p q h.ends h.skips k.skips;
   at_line = k.at_line;
 }
 
@@ -422,4 +422,4 @@ pub passes_run : (w : LexState) (white j : Bool) (bytes : List ℕ) (now : LexSt
     SkipsText C (record { state = w; white = white; joins = j }) (record { state = now; white = now_white; joins = k }) bytes
 passes_run w white j bytes now now_white k e f p =
     subst (λ (x : Bool). SkipsText C (record { state = w; white = white; joins = x }) (record { state = now; white = now_white; joins = k }) bytes) (sym e)
-    (subst (λ (x : Bool). SkipsText C (scanner_state_at w white) (record { state = now; white = now_white; joins = x }) bytes) (sym f) p.passes)
+    (subst (λ (x : Bool). SkipsText C (scanner_state_at w white) (record { state = now; white = now_white; joins = x }) bytes) (sym f) p.skips)

@@ -16,7 +16,7 @@ use Rattle.ud_model.proofs.text.LexStateLemmas.{LexesTo-nil}
 use Rattle.ud_model.proofs.text.ScanLaws.{scan_after_run-from}
 use Rattle.ud_model.proofs.text.ScanLemmas.{LexesTo-same, LexesTo-close, kind_at_place, joined_run_last, run_of_last, joins_last, scan_behind_is}
 use Rattle.ud_text.specs.ScannerState.{ScannerState, ScannerRepresents, initial_scanner_state, ends_in_block}
-use Rattle.ud_text.proofs.MaskLemmas.{no_feed-take}
+use Rattle.ud_text.proofs.MaskLemmas.{no_newline-take}
 
 -- readings with one more end in a block comment if and only if that one does
 pub ends_in_block_last : (before : List Reading) (r : Reading) → ends_in_block (before ++ r ∷ []) ≡ is_in_block r.scan.comment
@@ -90,7 +90,7 @@ pub no_newline-content : (line : Line) → NoNewline line.body → NoNewline (co
 no_newline-content line h = by_splice (is_spliced line)
   where
     by_splice : (t : Bool) → NoNewline (if t then take (length line.body - 1) line.body else line.body)
-    by_splice true = no_feed-take (length line.body - 1) line.body h
+    by_splice true = no_newline-take (length line.body - 1) line.body h
     by_splice false = h
 
 -- the carried state decides the scan of the next line

@@ -10,12 +10,12 @@ use Rattle.ud_model.specs.text.Splicing.{is_spliced, is_empty, content, stays_op
 use Rattle.ud_model.specs.text.Scanning.{next_reading, readings_after}
 use Rattle.ud_model.specs.aids.LexStates.{LexState, in_text, state_after_line, white_after_line}
 use Rattle.ud_model.specs.declared.kind.Mode.TheVariants.{C}
-use Rattle.ud_model.proofs.text.LinesLemmas.{no_feed-append, split_lines-front}
+use Rattle.ud_model.proofs.text.LinesLemmas.{no_newline-append, split_lines-prefix}
 use Rattle.ud_model.proofs.text.ScanLaws.{place_after, white_after, masked_after}
 use Rattle.ud_text.specs.ScannerState.{ScannerRepresents}
 use Rattle.ud_text.specs.BulkScanning.{lines_in_mode, HaveNoDirective, SkipsText}
 use Rattle.ud_text.specs.BulkStates.{line_state, code_state, BulkState, bulk_state_after, Skipped, HasNoStop, can_start, scanner_state_at, AtLine}
-use Rattle.ud_text.specs.BulkLexemes.{IsLineStart, at_start, after_feed, IsSplice, splice_feed, splice_return_feed}
+use Rattle.ud_text.specs.BulkLexemes.{IsLineStart, at_start, after_newline, IsSplice, splice_newline, splice_return_feed}
 use Rattle.ud_text.proofs.ScannerLemmas.{represents_code}
 use Rattle.ud_text.proofs.QuietLemmas.{bulk_state_after-append, bulk_state_after-place, bulk_state_after-white, HasNoStop-feed}
 use Rattle.ud_text.proofs.QuietLineLemmas.{shown, line_is_text, passed_quiet, Skipped-append}
@@ -83,18 +83,18 @@ module _ (cont : List ℕ) (n : ℕ) where
           ∙ rw (end_of (cont ++ backslash ∷ []) (carriage_return ∷ newline ∷ []) 2 refl) refl
 
   pub joined_by : (s : List ℕ) → IsSplice s → IsJoined (cont ++ s)
-  joined_by _ splice_feed = joined_feed
+  joined_by _ splice_newline = joined_feed
   joined_by _ splice_return_feed = joined_return
 
 -- a splice ends the only line of bytes without a newline
 one_line : (cont s : List ℕ) → NoNewline cont → IsSplice s → split_lines (cont ++ s) ≡ record { whole = (cont ++ s) ∷ []; rest = [] }
 unfolding split_lines
-one_line cont _ none splice_feed =
+one_line cont _ none splice_newline =
     subst (λ (x : List ℕ). split_lines x ≡ record { whole = x ∷ []; rest = [] }) (append_assoc cont (backslash ∷ []) (newline ∷ []))
-    (split_lines-front (cont ++ backslash ∷ []) [] (no_feed-append cont (backslash ∷ []) none ((λ e. cc), tt)))
+    (split_lines-prefix (cont ++ backslash ∷ []) [] (no_newline-append cont (backslash ∷ []) none ((λ e. cc), tt)))
 one_line cont _ none splice_return_feed =
     subst (λ (x : List ℕ). split_lines x ≡ record { whole = x ∷ []; rest = [] }) (append_assoc cont (backslash ∷ carriage_return ∷ []) (newline ∷ []))
-    (split_lines-front (cont ++ backslash ∷ carriage_return ∷ []) [] (no_feed-append cont (backslash ∷ carriage_return ∷ []) none ((λ e. cc), ((λ e. cc), tt))))
+    (split_lines-prefix (cont ++ backslash ∷ carriage_return ∷ []) [] (no_newline-append cont (backslash ∷ carriage_return ∷ []) none ((λ e. cc), ((λ e. cc), tt))))
 
 module _ (w : LexState) (white : Bool) (cont : List ℕ) (at : can_start w ≡ true) (none : NoNewline cont) (quiet : HasNoStop (line_state w white) cont)
     (leads : bulk_state_after (line_state w white) cont ≡ code_state false) (s : List ℕ) (splice : IsSplice s) where
@@ -132,12 +132,12 @@ module _ (w : LexState) (white : Bool) (cont : List ℕ) (at : can_start w ≡ t
   spliced_passes =
       let is : whole_lines (cont ++ s) ≡ (cont ++ s) ∷ [] = ap (λ (q : SplitLines). q.whole) (one_line cont s none splice) in
       record {
-        stands = λ n before h. subst (λ (ls : List (List ℕ)). ScannerRepresents (scanner_state_at in_text false) (readings_after before (lines_in_mode C n ls))) (sym is) (spliced_stands n before h);
+        represents = λ n before h. subst (λ (ls : List (List ℕ)). ScannerRepresents (scanner_state_at in_text false) (readings_after before (lines_in_mode C n ls))) (sym is) (spliced_stands n before h);
         texts = λ n before h. subst (λ (ls : List (List ℕ)). HaveNoDirective C before (numbered_from n ls)) (sym is) (spliced_texts n before h);
       }
 
   pub passed_line : Skipped (line_state w white) (cont ++ s) (code_state false)
-  passed_line = record { ends = ap (λ (q : SplitLines). q.rest) (one_line cont s none splice); passes = spliced_passes; at_line = record { is = refl; starts = refl } }
+  passed_line = record { ends = ap (λ (q : SplitLines). q.rest) (one_line cont s none splice); skips = spliced_passes; at_line = record { is = refl; starts = refl } }
 
 -- `Cut bytes`: bytes as their whole lines and the last line
 record Cut (bytes : List ℕ) : Type 0 where
@@ -159,21 +159,21 @@ cut_at_last (b ∷ bytes) = put_first b bytes (cases_eq b newline) (cut_at_last 
           lines = b ∷ [];
           last = c.last;
           is = ap (λ (x : List ℕ). b ∷ x) i;
-          begins = subst (λ (x : ℕ). IsLineStart (x ∷ [])) (sym f) (after_feed []);
+          begins = subst (λ (x : ℕ). IsLineStart (x ∷ [])) (sym f) (after_newline []);
           no_newline = c.no_newline;
         }
         by_begins _ at_start i (inr f) = record { lines = []; last = b ∷ c.last; is = ap (λ (x : List ℕ). b ∷ x) i; begins = at_start; no_newline = (f, c.no_newline) }
-        by_begins _ (after_feed front) i g = record {
-          lines = b ∷ (front ++ newline ∷ []);
+        by_begins _ (after_newline prefix) i g = record {
+          lines = b ∷ (prefix ++ newline ∷ []);
           last = c.last;
           is = ap (λ (x : List ℕ). b ∷ x) i;
-          begins = after_feed (b ∷ front);
+          begins = after_newline (b ∷ prefix);
           no_newline = c.no_newline;
         }
 
 quiet_front : (s : BulkState) (p q : List ℕ) → IsLineStart p → HasNoStop s (p ++ q) → HasNoStop s p × HasNoStop (bulk_state_after s p) q
 quiet_front s _ q at_start h = (tt, h)
-quiet_front s _ q (after_feed front) h = HasNoStop-feed s front q (subst (λ (x : List ℕ). HasNoStop s x) (append_assoc front (newline ∷ []) q) h)
+quiet_front s _ q (after_newline prefix) h = HasNoStop-feed s prefix q (subst (λ (x : List ℕ). HasNoStop s x) (append_assoc prefix (newline ∷ []) q) h)
 
 -- lines that are read without a stop, up to a splice on a logical line that isn't white, are
 -- skipped with the splice

@@ -127,11 +127,11 @@ comment_spans (a ∷ b ∷ l) k e f h g m white =
     there : (n m : ℕ) → n ≡ suc (suc m) → get_or (a ∷ b ∷ l) n 0 ≡ get_or l m 0
     there n m e = ap (λ (x : ℕ). get_or (a ∷ b ∷ l) x 0) e
 
-    front : (n m : ℕ) → n ≡ suc (suc m) → take n (a ∷ b ∷ l) ≡ a ∷ b ∷ take m l
-    front n m e = ap (λ (x : ℕ). take x (a ∷ b ∷ l)) e
+    prefix : (n m : ℕ) → n ≡ suc (suc m) → take n (a ∷ b ∷ l) ≡ a ∷ b ∷ take m l
+    prefix n m e = ap (λ (x : ℕ). take x (a ∷ b ∷ l)) e
 
     is : take (2 + k + 1) (a ∷ b ∷ l) ≡ slash ∷ slash ∷ (take k l ++ newline ∷ [])
-    is = front (2 + k + 1) (k + 1) (omega arith)
+    is = prefix (2 + k + 1) (k + 1) (omega arith)
         ∙ ap (λ (x : List ℕ). a ∷ b ∷ x) (take_more l k 0 (omega arith) ∙ ap (λ (n : ℕ). take k l ++ n ∷ []) (sym (there (2 + k) k (omega arith)) ∙ g))
         ∙ (let x : a ≡ slash = cc in let y : b ≡ slash = cc in cc)
 
@@ -228,13 +228,13 @@ module _ {start : BulkState} {bytes : List ℕ} {line : ℕ} {kept : BulkState} 
   -- the beginning of a block comment
   pub block_begun : (v : Bool) → IsWhiteAfter (take (at - base) (drop base bytes)) begins v → 2 ≤ length (drop at bytes) → take 2 (drop at bytes) ≡ slash ∷ star ∷ [] →
       ReadTo start bytes line kept (at + 2) (block_state v)
-  block_begun v seen h e =
-      block_opened v (subst (λ (u : Bool). ReadTo start bytes line kept at (code_state u)) (looked v seen) r.so_far) h (sym e)
+  block_begun v scanned h e =
+      block_opened v (subst (λ (u : Bool). ReadTo start bytes line kept at (code_state u)) (looked v scanned) r.so_far) h (sym e)
 
   -- a splice on a logical line that isn't white
   pub splice_step_read : IsWhiteAfter (take (at - base) (drop base bytes)) begins false → (k : ℕ) → k ≤ length (drop at bytes) → IsSplice (take k (drop at bytes)) →
       ReadOutside start bytes (at + k) (code_state false) (at + k) false (at + k)
-  splice_step_read seen k h s = read_base false (read_splice r.so_far (ap (λ (u : Bool). code_state u) (looked false seen)) k h s)
+  splice_step_read scanned k h s = read_base false (read_splice r.so_far (ap (λ (u : Bool). code_state u) (looked false scanned)) k h s)
 
   -- a `#` that belongs to no directive, and the plain bytes after it
   pub sign_step_read : take 1 (drop at bytes) ≡ number_sign ∷ [] → (k : ℕ) → k ≤ length (drop (at + 1) bytes) → NoSignificant (take k (drop (at + 1) bytes)) →
@@ -262,9 +262,9 @@ module _ {start : BulkState} {bytes : List ℕ} {line : ℕ} {kept : BulkState} 
 
   -- the `#` alone
   pub sign_alone_read : take 1 (drop at bytes) ≡ number_sign ∷ [] → IsWhiteAfter (take (at - base) (drop base bytes)) begins false → ReadOutside start bytes line kept base begins (at + 1)
-  sign_alone_read first seen =
+  sign_alone_read first scanned =
       let there : at + 1 + 0 ≡ at + 1 = omega arith in
-      subst (λ (n : ℕ). ReadOutside start bytes line kept base begins n) there (sign_step_read first 0 (omega arith) tt (inr seen))
+      subst (λ (n : ℕ). ReadOutside start bytes line kept base begins n) there (sign_step_read first 0 (omega arith) tt (inr scanned))
 
 module _ {start : BulkState} {bytes : List ℕ} {line : ℕ} {kept : BulkState} {at : ℕ} {u : Bool}
     (r : ReadTo start bytes line kept at (block_state u)) (count : ℕ) (fits : at + count ≤ length bytes)

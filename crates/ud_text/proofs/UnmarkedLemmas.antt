@@ -17,9 +17,9 @@ use Rattle.ud_text.proofs.MaskLemmas.{NoMark, no_mark_before, plain_run}
 use Rattle.ud_text.proofs.ScannerLemmas.{scan_carried, represents_code, same_parts}
 
 -- bytes that end in a backslash have a mark
-ends_marked : (front : List ℕ) → NoMark (front ++ backslash ∷ []) → ⊥
+ends_marked : (prefix : List ℕ) → NoMark (prefix ++ backslash ∷ []) → ⊥
 ends_marked [] h = let e : true ≡ false = h.0 in cc
-ends_marked (b ∷ front) h = ends_marked front h.1
+ends_marked (b ∷ prefix) h = ends_marked prefix h.1
 
 -- a line without a mark isn't spliced
 unspliced : (line : Line) → NoMark line.body → is_spliced line ≡ false

@@ -13,7 +13,7 @@ use Rattle.ud_text.specs.LinesState.{LinesState, UpToNewline}
 -- `IsFirstLine chunk line`: `line` is the first line of `chunk`, whole, and no longer than a line
 -- may be
 pub record IsFirstLine (chunk line : List ℕ) : Type 0 where
-  pub front : UpToNewline chunk (length line) true
+  pub prefix : UpToNewline chunk (length line) true
   pub bytes : line ≡ take (length line) chunk
   pub fits : length line ≤ LINE_BYTES
 
@@ -23,6 +23,6 @@ pub record IsFirstLine (chunk line : List ℕ) : Type 0 where
 pub record CanBorrow (lines : LinesState) (chunk : List ℕ) (used : ℕ) : Type 0 where
   pub unheld : lines.held ≡ []
   pub unrefused : lines.fault ≡ None
-  pub front : UpToNewline chunk used true
+  pub prefix : UpToNewline chunk used true
   pub fits : used ≤ LINE_BYTES
   pub numbered : lines.before < lines.last_line

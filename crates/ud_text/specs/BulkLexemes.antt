@@ -52,7 +52,7 @@ NoStarPair (a ∷ b ∷ bytes) = (is_star_pair a b ≡ false) × NoStarPair (b �
 -- `IsLineStart bytes`: a line begins after `bytes`, which end with a newline or are none
 pub data IsLineStart : List ℕ → Type 0 where
   at_start : IsLineStart []
-  after_feed : (front : List ℕ) → IsLineStart (front ++ newline ∷ [])
+  after_newline : (prefix : List ℕ) → IsLineStart (prefix ++ newline ∷ [])
 
 -- `LastLineStarts bytes n`: the last line of `bytes` begins after the first `n` of them; at their
 -- end, if they end a line
@@ -72,7 +72,7 @@ pub record CodeLexeme (white : Bool) (bytes : List ℕ) : Type 0 where
   pub now_white : Bool
   pub leads : bulk_state_after (code_state white) bytes ≡ code_state now_white
   pub quiet : HasNoStop (code_state white) bytes
-  pub no_feed : NoNewlineInBlock (code_state white) bytes
+  pub no_newline : NoNewlineInBlock (code_state white) bytes
   pub no_comment : NoComment in_text bytes
 
 -- `LineLexeme white bytes`: the bytes lead from outside comments and literals to the beginning of a
@@ -80,7 +80,7 @@ pub record CodeLexeme (white : Bool) (bytes : List ℕ) : Type 0 where
 pub record LineLexeme (white : Bool) (bytes : List ℕ) : Type 0 where
   pub leads : bulk_state_after (code_state white) bytes ≡ code_state true
   pub quiet : HasNoStop (code_state white) bytes
-  pub no_feed : NoNewlineInBlock (code_state white) bytes
+  pub no_newline : NoNewlineInBlock (code_state white) bytes
 
 -- `may_splice a b`: a newline may end a splice, if `a` and `b` come directly before it
 abbrev pub may_splice : ℕ → ℕ → Bool
@@ -89,15 +89,15 @@ may_splice a b = (b == backslash) ||
 
 -- `IsSplice bytes`: a backslash and the ending that it deletes (C11 5.1.1.2, phase 2)
 pub data IsSplice : List ℕ → Type 0 where
-  splice_feed : IsSplice (backslash ∷ newline ∷ [])
+  splice_newline : IsSplice (backslash ∷ newline ∷ [])
   splice_return_feed : IsSplice (backslash ∷ carriage_return ∷ newline ∷ [])
 
 -- `IsWhiteAfter bytes begins v`: `v` is whether the logical line is white after `bytes`, which have
 -- no comment, as looking back shows. If all of them are white, `v` is `begins`, as before them.
 pub data IsWhiteAfter (bytes : List ℕ) (begins : Bool) : Bool → Type 0 where
   all_white : are_white bytes ≡ true → IsWhiteAfter bytes begins begins
-  new_line : (front rest : List ℕ) → bytes ≡ front ++ newline ∷ rest → are_white rest ≡ true →
+  new_line : (prefix rest : List ℕ) → bytes ≡ prefix ++ newline ∷ rest → are_white rest ≡ true →
       IsWhiteAfter bytes begins true
-  black : (front : List ℕ) (b : ℕ) (rest : List ℕ) → bytes ≡ front ++ b ∷ rest →
+  black : (prefix : List ℕ) (b : ℕ) (rest : List ℕ) → bytes ≡ prefix ++ b ∷ rest →
       is_white b ≡ false →
       (b == newline) ≡ false → are_white rest ≡ true → IsWhiteAfter bytes begins false

@@ -43,7 +43,7 @@ AreWholeLines bytes = partial_line bytes ≡ []
 -- `SkipsText mode old new bytes`: if `old` represents some readings, `new` represents them and
 -- those of the lines of `bytes`. All of these lines are text.
 pub record SkipsText (mode : Mode) (old new : ScannerState) (bytes : List ℕ) : Type 0 where
-  pub stands : (n : ℕ) (before : List Reading) → ScannerRepresents old before →
+  pub represents : (n : ℕ) (before : List Reading) → ScannerRepresents old before →
       ScannerRepresents new (readings_after before (lines_in_mode mode n (whole_lines bytes)))
   pub texts : (n : ℕ) (before : List Reading) → ScannerRepresents old before →
       HaveNoDirective mode before (numbered_from n (whole_lines bytes))

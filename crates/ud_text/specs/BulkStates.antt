@@ -197,6 +197,6 @@ pub record AtLine (s : BulkState) : Type 0 where
 -- to `now`
 pub record Skipped (start : BulkState) (bytes : List ℕ) (now : BulkState) : Type 0 where
   pub ends : AreWholeLines bytes
-  pub passes : SkipsText C (scanner_state_at start.state start.white)
+  pub skips : SkipsText C (scanner_state_at start.state start.white)
       (scanner_state_at now.state now.white) bytes
   pub at_line : AtLine now

@@ -42,8 +42,8 @@ pub record LinesRepresent (lines : LinesState) (text : List ℕ) : Type 0 where
 pub record UpToNewline (chunk : List ℕ) (used : ℕ) (whole : Bool) : Type 0 where
   pub within : used ≤ length chunk
   pub all : whole ≡ false → (used ≡ length chunk) × NoNewline chunk
-  pub line : whole ≡ true → (front : List ℕ) × NoNewline front ×
-      (take used chunk ≡ front ++ 10 ∷ [])
+  pub line : whole ≡ true → (prefix : List ℕ) × NoNewline prefix ×
+      (take used chunk ≡ prefix ++ 10 ∷ [])
 
 -- `with_fault lines fault`: the lines after an error: the buffered bytes stay, and the lines are
 -- fused

@@ -32,15 +32,15 @@ use Rattle.ud_text.specs.declared.lexer.Lexer.{Lexer}
 pub record ReadTo (start : BulkState) (bytes : List ℕ) (line : ℕ) (kept : BulkState) (at : ℕ)
     (now : BulkState) : Type 0 where
   -- the lines before `line`, the bytes from there up to `at`, and the others
-  pub front : List ℕ
+  pub prefix : List ℕ
   pub mid : List ℕ
   pub rest : List ℕ
-  pub is : bytes ≡ front ++ (mid ++ rest)
-  pub line_is : line ≡ length front
-  pub at_is : at ≡ length front + length mid
-  pub passed : Skipped start front kept
+  pub is : bytes ≡ prefix ++ (mid ++ rest)
+  pub line_is : line ≡ length prefix
+  pub at_is : at ≡ length prefix + length mid
+  pub passed : Skipped start prefix kept
   pub quiet : HasNoStop kept mid
-  pub no_feed : NoNewlineInBlock kept mid
+  pub no_newline : NoNewlineInBlock kept mid
   pub leads : bulk_state_after kept mid ≡ now
 
 -- `ReadOutside start bytes line kept base begins at`: as `ReadTo`, outside comments and literals.
@@ -53,7 +53,7 @@ pub record ReadOutside (start : BulkState) (bytes : List ℕ) (line : ℕ) (kept
   pub before : List ℕ
   pub plain : List ℕ
   pub mid_is : so_far.mid ≡ before ++ plain
-  pub base_is : base ≡ length so_far.front + length before
+  pub base_is : base ≡ length so_far.prefix + length before
   pub base_leads : bulk_state_after kept before ≡ code_state begins
   pub no_comment : NoComment in_text plain
 

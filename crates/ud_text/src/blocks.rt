@@ -50,8 +50,10 @@ fn block_bits(bytes: &[u8], at: usize) -> u64
     ensures { result ≡ significant_bits (take BLOCK_BYTES (drop at bytes.now)) }
 {
     let lanes = u8x64::from_slice(&bytes[at..]);
-    let told = u8x64::from_array(BY_LOW_NIBBLE).swizzle_dyn_within::<16>(lanes & u8x64::splat(15));
-    lanes.simd_eq(told).to_bitmask()
+    let expected = u8x64::from_array(BY_LOW_NIBBLE).swizzle_dyn_within::<16>(
+        lanes & u8x64::splat(15),
+    );
+    lanes.simd_eq(expected).to_bitmask()
 }
 
 /// Returns the position of the first significant byte from `begin` on, and its block. The position

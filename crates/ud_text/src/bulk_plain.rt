@@ -11,7 +11,7 @@ use memchr::memchr;
 
 /// Returns the bytes before the first `#`, or all of them.
 fn before_hash(bytes: &[u8]) -> &[u8]
-    ensures front { result.now ≡ take (length result.now) bytes.now }
+    ensures prefix { result.now ≡ take (length result.now) bytes.now }
     ensures bound { length result.now ≤ length bytes.now }
     ensures plain { NoHash result.now }
 {

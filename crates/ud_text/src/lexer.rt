@@ -249,8 +249,8 @@ fn mask_content<const ROOM: usize>(
     let mut inside = lexer;
     let mut at = 0;
     while at < content.len() {
-        let (passed, count) = mask_uniform(inside, &content[at..], masked);
-        inside = passed;
+        let (now_inside, count) = mask_uniform(inside, &content[at..], masked);
+        inside = now_inside;
         at += count;
         if at < content.len() {
             inside = mask_byte(inside, content[at], masked);

@@ -53,7 +53,7 @@ pub struct LongLineBuffer {
 }
 
 impl LineBuffer for LongLineBuffer {
-    ghost items = { λ room. room.line.items };
+    ghost items = { λ buffer. buffer.line.items };
 
     const CAPACITY: usize = LINE_BYTES;
 
@@ -85,7 +85,7 @@ pub struct ShortLineBuffer {
 }
 
 impl LineBuffer for ShortLineBuffer {
-    ghost items = { λ room. room.bytes.items };
+    ghost items = { λ buffer. buffer.bytes.items };
 
     const CAPACITY: usize = SHORT_LINE_BUFFER_BYTES;
 

@@ -63,11 +63,11 @@ fn newlines_by_lanes<const N: usize>(bytes: &[u8]) -> NewlineCount
 pub(crate) fn count_lines(bytes: &[u8]) -> usize
     ensures { result ≡ length (whole_lines bytes.now) }
 {
-    let front = newlines_by_lanes::<64>(bytes);
-    let rest = &bytes[front.at..];
+    let counted = newlines_by_lanes::<64>(bytes);
+    let rest = &bytes[counted.at..];
     let middle = newlines_by_lanes::<16>(rest);
     let more = middle.newlines + newlines_one_by_one(&rest[middle.at..]);
-    front.newlines + more
+    counted.newlines + more
 }
 
 /// Returns the length of the longest prefix that consists of whole lines of at most `LINE_BYTES`

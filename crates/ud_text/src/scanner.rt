@@ -167,7 +167,7 @@ fn scan_code<'a, const ROOM: usize>(
     let spliced = is_spliced(line);
     let bytes = content(line, spliced);
     let fresh = is_fresh(scan_state.lexer, bytes);
-    let (inside, lent) = mask_or_borrow(scan_state.lexer, bytes, masked);
+    let (inside, borrowed) = mask_or_borrow(scan_state.lexer, bytes, masked);
     let lexer = end_line(line, spliced, inside);
     let joins = spliced || is_in_block_comment(lexer.state);
     let facts = LineFlags {
@@ -181,7 +181,7 @@ fn scan_code<'a, const ROOM: usize>(
     ScannedLine {
         scan_state,
         flags: facts,
-        borrowed: lent,
+        borrowed,
     }
 }
 
@@ -203,16 +203,16 @@ fn has_no_mark(body: &[u8]) -> bool
 #[inline(always)]
 fn scan_without_marks<'a>(scan_state: ScanState, line: &Line<'a>) -> Option<ScannedLine<'a>>
     requires one_line { NoNewline line.now.body.now }
-    ensures represents { IfSome result (λ seen. (before : List Reading) →
+    ensures represents { IfSome result (λ scanned. (before : List Reading) →
         ScannerRepresents (scanner_state_of scan_state) before →
-        ScannerRepresents (scanner_state_of seen.scan_state) (before ++
+        ScannerRepresents (scanner_state_of scanned.scan_state) (before ++
         next_reading before Mode.C (as_line line.now) ∷ [])) }
-    ensures value { IfSome result (λ seen. (masked : List ℕ) → (before : List Reading) →
+    ensures value { IfSome result (λ scanned. (masked : List ℕ) → (before : List Reading) →
         ScannerRepresents (scanner_state_of scan_state) before →
-        scan_with (shown_in seen.borrowed masked) seen.flags ≡
+        scan_with (shown_in scanned.borrowed masked) scanned.flags ≡
         scan_after before Mode.C (as_line line.now)) }
-    ensures fits { IfSome result (λ seen. (masked : List ℕ) →
-        length (shown_in seen.borrowed masked) ≤ length line.now.body.now) }
+    ensures fits { IfSome result (λ scanned. (masked : List ℕ) →
+        length (shown_in scanned.borrowed masked) ≤ length line.now.body.now) }
 {
     let LexState::Text = scan_state.lexer.state else {
         return None;
@@ -255,11 +255,11 @@ fn scan_plain<'a>(line: &Line<'a>) -> ScannedLine<'a>
         comment: CommentAt::Outside,
     };
     let scan_state = initial_state();
-    let lent = Some(line.body);
+    let borrowed = Some(line.body);
     ScannedLine {
         scan_state,
         flags: facts,
-        borrowed: lent,
+        borrowed,
     }
 }
 
@@ -285,8 +285,8 @@ pub(crate) fn scan_line<'a, const ROOM: usize>(
 {
     match mode {
         Mode::C => {
-            if let Some(seen) = scan_without_marks(scan_state, line) {
-                return seen;
+            if let Some(scanned) = scan_without_marks(scan_state, line) {
+                return scanned;
             }
             masked.clear();
             scan_code(scan_state, line, masked)
@@ -397,19 +397,19 @@ impl Scanner {
             as_scan result ≡ scan_after before mode (as_line line.now) }
         ensures fits { length result.masked.now ≤ length line.now.body.now }
     {
-        let seen = scan_line(mode, self.scan_state, line, &mut self.masked);
-        self.scan_state = seen.scan_state;
-        let masked = match seen.borrowed {
+        let scanned = scan_line(mode, self.scan_state, line, &mut self.masked);
+        self.scan_state = scanned.scan_state;
+        let masked = match scanned.borrowed {
             Some(bytes) => bytes,
             None => self.masked.as_slice(),
         };
         Scan {
             masked,
-            fresh: seen.flags.fresh,
-            joins_before: seen.flags.joins_before,
-            joins_after: seen.flags.joins_after,
-            spliced: seen.flags.spliced,
-            comment: seen.flags.comment,
+            fresh: scanned.flags.fresh,
+            joins_before: scanned.flags.joins_before,
+            joins_after: scanned.flags.joins_after,
+            spliced: scanned.flags.spliced,
+            comment: scanned.flags.comment,
         }
     }
 

@@ -63,19 +63,19 @@ impl ShortScanner {
             as_scan result ≡ scan_after before mode (as_line line.now) }
         ensures fits { length result.masked.now ≤ length line.now.body.now }
     {
-        let seen = scan_line(mode, self.scan_state, line, &mut self.masked);
-        self.scan_state = seen.scan_state;
-        let masked = match seen.borrowed {
+        let scanned = scan_line(mode, self.scan_state, line, &mut self.masked);
+        self.scan_state = scanned.scan_state;
+        let masked = match scanned.borrowed {
             Some(bytes) => bytes,
             None => self.masked.as_slice(),
         };
         Scan {
             masked,
-            fresh: seen.flags.fresh,
-            joins_before: seen.flags.joins_before,
-            joins_after: seen.flags.joins_after,
-            spliced: seen.flags.spliced,
-            comment: seen.flags.comment,
+            fresh: scanned.flags.fresh,
+            joins_before: scanned.flags.joins_before,
+            joins_after: scanned.flags.joins_after,
+            spliced: scanned.flags.spliced,
+            comment: scanned.flags.comment,
         }
     }
 

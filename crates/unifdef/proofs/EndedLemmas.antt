@@ -16,7 +16,7 @@ module _ (o : Options) (given : List ℕ) (left uo um un : Option (List ℕ)) (k
     items = h.items;
     tree = h.tree;
     goes = h.goes;
-    front = (h.front.0, h.front.1, h.front.2, appends_kept uo um un h.front.0 h.front.3 keeps);
+    prefix = (h.prefix.0, h.prefix.1, h.prefix.2, appends_kept uo um un h.prefix.0 h.prefix.3 keeps);
   }
 
   cut_kept : Truncated o given left uo um → Truncated o given left uo un
@@ -46,16 +46,16 @@ flushed_went o read_old read_new uo um un r w keeps = record {
 }
 
 -- a reader has failed exactly if the run returned a read error
-pub read_told : (failed : Bool) (r : Result Bool RunFault) → (failed ≡ true → r ≡ Err Read) → (r ≡ Err Read → failed ≡ true) → failed ≡ is_read_error r
-read_told failed (Err Read) only if_so = if_so refl
-read_told true (Ok differs) only if_so = let no = only refl in cc
-read_told true (Err (Text f)) only if_so = let no = only refl in cc
-read_told true (Err (Section f)) only if_so = let no = only refl in cc
-read_told true (Err Write) only if_so = let no = only refl in cc
-read_told false (Ok differs) only if_so = refl
-read_told false (Err (Text f)) only if_so = refl
-read_told false (Err (Section f)) only if_so = refl
-read_told false (Err Write) only if_so = refl
+pub read_reported : (failed : Bool) (r : Result Bool RunFault) → (failed ≡ true → r ≡ Err Read) → (r ≡ Err Read → failed ≡ true) → failed ≡ is_read_error r
+read_reported failed (Err Read) only if_so = if_so refl
+read_reported true (Ok differs) only if_so = let no = only refl in cc
+read_reported true (Err (Text f)) only if_so = let no = only refl in cc
+read_reported true (Err (Section f)) only if_so = let no = only refl in cc
+read_reported true (Err Write) only if_so = let no = only refl in cc
+read_reported false (Ok differs) only if_so = refl
+read_reported false (Err (Text f)) only if_so = refl
+read_reported false (Err (Section f)) only if_so = refl
+read_reported false (Err Write) only if_so = refl
 
 -- the output has failed before the flush exactly if the run returned a write error
 wrote_told : (failed : Bool) (r : Result Bool RunFault) → (failed ≡ true → r ≡ Err Write) → (r ≡ Err Write → failed ≡ true) → failed ≡ is_write_error r
@@ -74,6 +74,6 @@ after_flush mid true new flushed e fails again = again e
 after_flush mid false new flushed e fails again = fails e
 
 -- after the flush, the output has failed exactly if a write failed, or the flush
-pub write_told : (mid new flushed : Bool) (r : Result Bool RunFault) → (mid ≡ true → r ≡ Err Write) → (r ≡ Err Write → mid ≡ true) →
+pub write_reported : (mid new flushed : Bool) (r : Result Bool RunFault) → (mid ≡ true → r ≡ Err Write) → (r ≡ Err Write → mid ≡ true) →
     (mid ≡ false → new ≡ not flushed) → (mid ≡ true → new ≡ true) → new ≡ (is_write_error r || not flushed)
-write_told mid new flushed r only if_so fails again = after_flush mid (is_write_error r) new flushed (wrote_told mid r only if_so) fails again
+write_reported mid new flushed r only if_so fails again = after_flush mid (is_write_error r) new flushed (wrote_told mid r only if_so) fails again

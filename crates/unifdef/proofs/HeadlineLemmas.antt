@@ -51,13 +51,13 @@ pub run_answers : (args : List (List ℕ)) (input : List ℕ) (ended : Result Bo
     AppendsAllOrPrefix e eo en (result_message (display_name args) ended) → s ≡ result_status (options_of args).settings ended →
     AnswersSpec args input (streams uo eo) (streams un en) e s
 run_answers args input ended uo um un e eo en s right r keeps said status =
-    let told = tells_outcome (display_name args) (options_of args).settings ended r.outcome r.answered in (
+    let reported = tells_outcome (display_name args) (options_of args).settings ended r.outcome r.answered in (
       _,
       ran r.outcome right r.runs,
       record {
         output = appends_kept uo um un r.outcome.output r.output keeps;
-        message = subst (λ (x : List ℕ). AppendsAllOrPrefix e eo en x) told.message said;
-        answered = status ∙ told.status;
+        message = subst (λ (x : List ℕ). AppendsAllOrPrefix e eo en x) reported.message said;
+        answered = status ∙ reported.status;
       },
     )
 
@@ -165,7 +165,7 @@ lacks_memory args u reader out uo e eo en s right wrong said status = by_case (t
   where
     by_case : TellsFault (usage_fault args) u ⊎ (StoresSymbol (parsed_args args) × (usage_text u ≡ memory_answer.message)) →
         FailsForMemory args reader reader out out (streams uo eo) (streams uo en) e s
-    by_case (inl t) = absurd (none-some t.told (sym right ∙ t.is))
+    by_case (inl t) = absurd (none-some t.reported (sym right ∙ t.is))
     by_case (inr t) = memory_refused args u reader out uo e eo en s t.0 t.1 said status
 
 -- rejected arguments have a fault, or memory for a symbol couldn't be allocated: nothing is read,
@@ -181,8 +181,8 @@ usage_answers args u reader out (Some input) uo e eo en s wrong said status = by
         AnswersSpec args input (streams uo eo) (streams uo en) e s ⊎ FailsForMemory args reader reader out out (streams uo eo) (streams uo en) e s
     by_case (inl t) =
         inl (
-          usage_answer t.told,
-          refused t.told t.is,
+          usage_answer t.reported,
+          refused t.reported t.is,
           record {
             output = Appends-nil uo;
             message = subst (λ (x : List ℕ). AppendsAllOrPrefix e eo en x) t.text said;

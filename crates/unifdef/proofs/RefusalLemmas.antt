@@ -13,18 +13,18 @@ use Rattle.ud_args.specs.declared.usage.Usage.TheVariants.{UnknownOption, Missin
 
 -- the arguments have this fault, and the text is its message
 pub record TellsFault (fault : Option UsageFault) (u : Usage) : Type 0 where
-  pub told : UsageFault
-  pub is : fault ≡ Some told
-  pub text : usage_text u ≡ usage_message told
+  pub reported : UsageFault
+  pub is : fault ≡ Some reported
+  pub text : usage_text u ≡ usage_message reported
 
 -- an error of `plan` is a fault of the arguments with its message, or memory for a symbol couldn't
 -- be allocated
 pub tells-IsUsageOf : (gs : List ParsedArg) (u : Usage) → IsUsageOf gs u → TellsFault (first_fault gs) u ⊎ (StoresSymbol gs × (usage_text u ≡ out_of_memory))
-tells-IsUsageOf gs (UnknownOption letter) h = inl (record { told = unknown_option letter; is = h; text = refl })
-tells-IsUsageOf gs (MissingArgument letter) h = inl (record { told = missing_argument letter; is = h; text = refl })
-tells-IsUsageOf gs (BadSymbol word) h = inl (record { told = bad_symbol_in word; is = h; text = refl })
-tells-IsUsageOf gs (BadMode word) h = inl (record { told = bad_mode_in word; is = h; text = refl })
-tells-IsUsageOf gs TooManyFiles h = inl (record { told = too_many_files; is = h; text = refl })
+tells-IsUsageOf gs (UnknownOption letter) h = inl (record { reported = unknown_option letter; is = h; text = refl })
+tells-IsUsageOf gs (MissingArgument letter) h = inl (record { reported = missing_argument letter; is = h; text = refl })
+tells-IsUsageOf gs (BadSymbol word) h = inl (record { reported = bad_symbol_in word; is = h; text = refl })
+tells-IsUsageOf gs (BadMode word) h = inl (record { reported = bad_mode_in word; is = h; text = refl })
+tells-IsUsageOf gs TooManyFiles h = inl (record { reported = too_many_files; is = h; text = refl })
 tells-IsUsageOf gs OutOfMemory h = inr (h, refl)
 
 -- the first fault of the arguments is reported, or that memory for a symbol couldn't be allocated
@@ -35,7 +35,7 @@ tells_usage gs u (Some fault) e eo en s is wrong said status = by_case (tells-Is
   where
     by_case : TellsFault (first_fault gs) u ⊎ (StoresSymbol gs × (usage_text u ≡ out_of_memory)) → ReportsUsage gs fault e eo en s
     by_case (inl t) =
-        let same : t.told ≡ fault = same_Some t.told fault (sym t.is ∙ is) in
+        let same : t.reported ≡ fault = same_Some t.reported fault (sym t.is ∙ is) in
         record { message = inl (subst (λ (x : List ℕ). AppendsAllOrPrefix e eo en x) (t.text ∙ ap usage_message same) said); answered = status }
     by_case (inr t) = record { message = inr (t.0, subst (λ (x : List ℕ). AppendsAllOrPrefix e eo en x) t.1 said); answered = status }
 

@@ -37,9 +37,9 @@ pub record ToolEnded (args : List (List ℕ)) (reader_failed out_failed : Bool)
     (err_failed : Bool) (status : ℕ) : Type 0 where
   pub ran : Result Bool RunFault
   pub flushed : Bool
-  pub went : RunEnded (options_of args) read_old read_new before.out after.out ran
+  pub ended : RunEnded (options_of args) read_old read_new before.out after.out ran
   pub read_failed : reader_failed ≡ is_read_error ran
   pub write_failed : out_failed ≡ (is_write_error ran || not flushed)
-  pub told : AppendsAllOrPrefix err_failed before.err after.err
+  pub reported : AppendsAllOrPrefix err_failed before.err after.err
       (result_message (display_name args) (final_result ran flushed))
   pub answered : status ≡ result_status (options_of args).settings (final_result ran flushed)

@@ -87,17 +87,17 @@ pub fn tool<R: Read, W: Write, E: Write>(
     // reported, or that memory for a symbol before it couldn't be allocated.
     ensures untouched { IsSome (usage_fault (map string_bytes args.now)) →
         (reader.new ≡ reader.old) × (out.new ≡ out.old) }
-    ensures refused { IfSome (usage_fault (map string_bytes args.now)) (λ fault.
+    ensures usage_reported { IfSome (usage_fault (map string_bytes args.now)) (λ fault.
         ReportsUsage (parsed_args (map string_bytes args.now)) fault err.new.failed
         (E.contents err.old.inner) (E.contents err.new.inner) result) }
     // If a read or a write fails, the status is 2.
     ensures read_fails { reader.new.failed ≡ true → result ≡ 2 }
     ensures write_fails { out.new.failed ≡ true → result ≡ 2 }
     // That failure is reported. Only if the flush alone failed, after a fault, that fault is.
-    ensures read_told { reader.new.failed ≡ true →
+    ensures read_reported { reader.new.failed ≡ true →
         AppendsAllOrPrefix err.new.failed (E.contents err.old.inner) (E.contents err.new.inner)
         (read_error (display_name (map string_bytes args.now))) }
-    ensures write_told { let before : Streams =
+    ensures write_reported { let before : Streams =
         streams (W.contents out.old.inner) (E.contents err.old.inner) in
         let after : Streams = streams (W.contents out.new.inner) (E.contents err.new.inner) in
         out.new.failed ≡ true → reader.new.failed ≡ false →

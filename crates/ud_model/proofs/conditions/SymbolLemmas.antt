@@ -17,7 +17,7 @@ SaySame t u = (n : List ℕ) → entry_in t n ≡ entry_in u n
 -- A step: the text of a name is the end, or a name from which the path goes on.
 pub record Goes (t : List Argument) (k : ℕ) (n v : List ℕ) : Type 0 where
   pub text : List ℕ
-  pub says : defined_text t n ≡ Some text
+  pub sets : defined_text t n ≡ Some text
   pub on : ((is_identifier text ≡ false) × (text ≡ v)) ⊎ ((is_identifier text ≡ true) × (resolve_within k t text ≡ Some v))
 
 goes_by : (f : List ℕ → Option (List ℕ)) (b : Bool) (w v : List ℕ) → (if b then f w else Some w) ≡ Some v →
@@ -27,7 +27,7 @@ goes_by f false w v e = inl (refl, same_Some w v e)
 
 goes_on : (t : List Argument) (k : ℕ) (n v : List ℕ) (o : Option (List ℕ)) → defined_text t n ≡ o → on_text (λ w. resolve_within k t w) o ≡ Some v → Goes t k n v
 goes_on t k n v None d e = absurd (none-some v e)
-goes_on t k n v (Some w) d e = record { text = w; says = d; on = goes_by (λ x. resolve_within k t x) (is_identifier w) w v e }
+goes_on t k n v (Some w) d e = record { text = w; sets = d; on = goes_by (λ x. resolve_within k t x) (is_identifier w) w v e }
 
 -- The first step of a path that ends.
 pub goes : (t : List Argument) (k : ℕ) (n v : List ℕ) → resolve_within (suc k) t n ≡ Some v → Goes t k n v
@@ -57,8 +57,8 @@ step_follows : (j k : ℕ) (t u : List Argument) → Follows t u → (n v : List
 step_follows j k t u f n v g further = by g.on
   where
     by : ((is_identifier g.text ≡ false) × (g.text ≡ v)) ⊎ ((is_identifier g.text ≡ true) × (resolve_within j t g.text ≡ Some v)) → resolve_within (suc k) u n ≡ Some v
-    by (inl p) = ends_here u k n g.text (f n g.text g.says) p.0 ∙ ap Some p.1
-    by (inr p) = ends_behind u k n g.text (f n g.text g.says) p.0 ∙ further g.text p.1
+    by (inl p) = ends_here u k n g.text (f n g.text g.sets) p.0 ∙ ap Some p.1
+    by (inr p) = ends_behind u k n g.text (f n g.text g.sets) p.0 ∙ further g.text p.1
 
 -- More steps, over a table that follows, come to the same end.
 pub ends_more : (j k : ℕ) (t u : List Argument) → Follows t u → (n v : List ℕ) → j ≤ k → resolve_within j t n ≡ Some v → resolve_within k u n ≡ Some v
@@ -149,12 +149,12 @@ split_on k t n w v x d i (inr (j, l, e)) = inr (j, omega arith, e)
 split_other : (k : ℕ) (t : List Argument) (n w v : List ℕ) → bytes_eq n w ≡ false → Goes t k w v → ((x : List ℕ) → resolve_within k t x ≡ Some v → Splits k t n x v) → Splits (suc k) t n w v
 split_other k t n w v q g further = by g.on
   where
-    says : defined_text (without n t) w ≡ Some g.text
-    says = ap text_in (without_other n w q t None) ∙ g.says
+    sets : defined_text (without n t) w ≡ Some g.text
+    sets = ap text_in (without_other n w q t None) ∙ g.sets
 
     by : ((is_identifier g.text ≡ false) × (g.text ≡ v)) ⊎ ((is_identifier g.text ≡ true) × (resolve_within k t g.text ≡ Some v)) → Splits (suc k) t n w v
-    by (inl p) = inl (ends_here (without n t) k w g.text says p.0 ∙ ap Some p.1)
-    by (inr p) = split_on k t n w v g.text says p.0 (further g.text p.1)
+    by (inl p) = inl (ends_here (without n t) k w g.text sets p.0 ∙ ap Some p.1)
+    by (inr p) = split_on k t n w v g.text sets p.0 (further g.text p.1)
 
 split_by : (k : ℕ) (t : List Argument) (n w v : List ℕ) (b : Bool) → bytes_eq n w ≡ b → resolve_within (suc k) t w ≡ Some v → ((x : List ℕ) → resolve_within k t x ≡ Some v → Splits k t n x v) →
     Splits (suc k) t n w v
@@ -195,9 +195,9 @@ soon_step most t smaller within k n v l g = by g.on
   where
     by : ((is_identifier g.text ≡ false) × (g.text ≡ v)) ⊎ ((is_identifier g.text ≡ true) × (resolve_within k t g.text ≡ Some v)) → resolve_within (length t) t n ≡ Some v
     by (inl p) =
-        let q : length (without n t) < length t = fewer n g.text t g.says in
-        ends_more 1 (length t) t t (same_follows t) n v (omega arith) (ends_here t 0 n g.text g.says p.0 ∙ ap Some p.1)
-    by (inr p) = soon_split most t smaller within k n g.text v l g.says p.0 (split k t n g.text v p.1)
+        let q : length (without n t) < length t = fewer n g.text t g.sets in
+        ends_more 1 (length t) t t (same_follows t) n v (omega arith) (ends_here t 0 n g.text g.sets p.0 ∙ ap Some p.1)
+    by (inr p) = soon_split most t smaller within k n g.text v l g.sets p.0 (split k t n g.text v p.1)
 
 soon_within : (t : List Argument) → ((n w : List ℕ) → defined_text t n ≡ Some w → Soon (without n t)) → (most : ℕ) → SoonWithin most t
 soon_within t smaller most zero n v l e = absurd (none-some v e)
@@ -244,8 +244,8 @@ ends_by : (t : List Argument) (k : ℕ) (n v : List ℕ) → ((w : List ℕ) →
 ends_by t k n v further g = by g.on
   where
     by : ((is_identifier g.text ≡ false) × (g.text ≡ v)) ⊎ ((is_identifier g.text ≡ true) × (resolve_within k t g.text ≡ Some v)) → ResolvesTo t n v
-    by (inl p) = subst (ResolvesTo t n) p.1 (at_text n g.text g.says p.0)
-    by (inr p) = by_name n g.text v g.says p.0 (further g.text p.1)
+    by (inl p) = subst (ResolvesTo t n) p.1 (at_text n g.text g.sets p.0)
+    by (inr p) = by_name n g.text v g.sets p.0 (further g.text p.1)
 
 ends_at : (t : List Argument) (k : ℕ) (n v : List ℕ) → resolve_within k t n ≡ Some v → ResolvesTo t n v
 ends_at t zero n v e = absurd (none-some v e)

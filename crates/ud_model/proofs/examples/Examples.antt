@@ -22,7 +22,7 @@ use Rattle.ud_model.specs.declared.kind.CommentAt.TheVariants.{Outside, InLine}
 use Rattle.ud_model.specs.declared.verdict.Verdict.{Verdict}
 use Rattle.ud_model.specs.declared.verdict.Verdict.TheVariants.{Keep, Remove, ToIf, ToElse, ToEndif}
 use Rattle.ud_model.proofs.sections.Counts.{ifs, elifs, elses, endifs, endifs_of_tree, elifs_of_tree, elses_of_tree}
-use Rattle.ud_model.proofs.text.LinesLemmas.{split_lines-front, text_of-line_at}
+use Rattle.ud_model.proofs.text.LinesLemmas.{split_lines-prefix, text_of-line_at}
 
 -- A line of this body, ending and number.
 abbrev pub a_line : List ℕ → List ℕ → ℕ → Line
@@ -69,7 +69,7 @@ feedless_letters (suc n) = ((λ e. omega arith), feedless_letters n)
 pub line_of_letters : (n : ℕ) → lines_of (replicate n 97 ++ 10 ∷ []) ≡ line_at 1 (replicate n 97 ++ 10 ∷ []) ∷ []
 unfolding split_lines
 line_of_letters n =
-    ap (λ (q : SplitLines). numbered_from 1 (q.whole ++ last_line q.rest)) (split_lines-front (replicate n 97) [] (feedless_letters n))
+    ap (λ (q : SplitLines). numbered_from 1 (q.whole ++ last_line q.rest)) (split_lines-prefix (replicate n 97) [] (feedless_letters n))
 
 -- Such a line has a byte more than letters.
 pub bytes_of_letters : (n : ℕ) → length (text_of (line_at 1 (replicate n 97 ++ 10 ∷ []))) ≡ n + 1

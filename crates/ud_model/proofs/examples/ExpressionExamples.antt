@@ -13,12 +13,12 @@ use Rattle.ud_model.specs.declared.cond.Cond.TheVariants.{Yes, No, Unknown}
 use Rattle.ud_model.specs.declared.kind.Kind.TheVariants.{If}
 
 -- The argument that defines a name as a value.
-abbrev pub says : List ℕ → List ℕ → Argument
-says name value = record { name = name; entry = record { value = Some value; ignoring = false } }
+abbrev pub sets : List ℕ → List ℕ → Argument
+sets name value = record { name = name; entry = record { value = Some value; ignoring = false } }
 
 -- A is 5.
 abbrev pub five : List Argument
-five = says (codes "A") (codes "5") ∷ []
+five = sets (codes "A") (codes "5") ∷ []
 
 -- The usual rules.
 abbrev pub usual : Rules
@@ -164,7 +164,7 @@ undefined_with_arguments = refl
 
 -- With A as B and B as A.
 abbrev pub round : List Argument
-round = says (codes "A") (codes "B") ∷ says (codes "B") (codes "A") ∷ []
+round = sets (codes "A") (codes "B") ∷ sets (codes "B") (codes "A") ∷ []
 
 -- A cycle of symbols has no value.
 pub cycle_of_symbols : expression_cond (codes "A == 0") round usual ≡ Unknown
@@ -173,7 +173,7 @@ cycle_of_symbols = refl
 
 -- With A as B and B as -7.
 abbrev pub chain : List Argument
-chain = says (codes "A") (codes "B") ∷ says (codes "B") (codes "-7") ∷ []
+chain = sets (codes "A") (codes "B") ∷ sets (codes "B") (codes "-7") ∷ []
 
 -- A symbol is resolved to its end.
 pub chain_of_symbols : expression_cond (codes "A == -7") chain usual ≡ Yes
@@ -197,7 +197,7 @@ no_names = refl
 
 -- With A as 5, and B as a constant with a `u` above the greatest number.
 abbrev pub with_u : List Argument
-with_u = says (codes "A") (codes "5") ∷ says (codes "B") (codes "99999999999999999999u") ∷ []
+with_u = sets (codes "A") (codes "5") ∷ sets (codes "B") (codes "99999999999999999999u") ∷ []
 
 -- A `u` counts wherever it is in the expression.
 pub u_beside_a_decided_operand : asked (codes "(A || 0u) && ~A < 0") ≡ Unknown
@@ -230,12 +230,12 @@ unfolding expression_cond expression_of reads tokens_of next_token suffix_sign a
 arguments_behind_parentheses = refl
 
 -- `defined` is no name, also as a symbol's value.
-pub defined_as_a_value : expression_cond (codes "A || !A") (says (codes "A") (codes "defined") ∷ []) usual ≡ Unknown
+pub defined_as_a_value : expression_cond (codes "A || !A") (sets (codes "A") (codes "defined") ∷ []) usual ≡ Unknown
 unfolding expression_cond expression_of reads tokens_of next_token suffix_sign apply_binary_known apply_unary_known name_value name_has_u resolve defined_value
 defined_as_a_value = refl
 
 -- A path of names that ends at an undefined one has no end.
 pub chain_to_an_undefined_name :
-    expression_cond (codes "A == 0") (says (codes "A") (codes "B") ∷ record { name = codes "B"; entry = record { value = None; ignoring = false } } ∷ []) usual ≡ Unknown
+    expression_cond (codes "A == 0") (sets (codes "A") (codes "B") ∷ record { name = codes "B"; entry = record { value = None; ignoring = false } } ∷ []) usual ≡ Unknown
 unfolding expression_cond expression_of reads tokens_of next_token suffix_sign apply_binary_known apply_unary_known name_value name_has_u resolve defined_value
 chain_to_an_undefined_name = refl

@@ -25,7 +25,7 @@ use Rattle.ud_model.specs.declared.settings.Listing.{Listing}
 use Rattle.ud_model.specs.declared.settings.Listing.TheVariants.{Off}
 use Rattle.ud_model.proofs.output.Each.{Each, each_parts, each_both}
 use Rattle.ud_model.proofs.text.LinesLemmas.{lines_exist, map-numbered_from}
-use Rattle.ud_model.proofs.text.ScanBytes.{length-masked, content-front}
+use Rattle.ud_model.proofs.text.ScanBytes.{length-masked, content-prefix}
 use Rattle.ud_model.proofs.sections.Stays.{marks_so_far_same}
 use Rattle.ud_model.proofs.sections.Soundness.{sound_lines}
 use Rattle.ud_model.proofs.output.KeywordSizes.{HasWord, HasKeyword, has_keyword}
@@ -232,7 +232,7 @@ nodes_lone b false ns h =
 masked_size : (xs : List Reading) (m : Mode) (l : Line) → length (scan_after xs m l).masked ≤ length l.body
 masked_size xs C l =
     let a : length (scan_after xs C l).masked ≡ length (content l) = length-masked xs l in
-    let b : (rest : List ℕ) × (l.body ≡ content l ++ rest) = content-front l in
+    let b : (rest : List ℕ) × (l.body ≡ content l ++ rest) = content-prefix l in
     let c : length l.body ≡ length (content l ++ b.0) = ap (λ (q : List ℕ). length q) b.1 in
     let d : length (content l ++ b.0) ≡ length (content l) + length b.0 = length-append (content l) b.0 in
     omega arith

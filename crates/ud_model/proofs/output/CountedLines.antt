@@ -338,7 +338,7 @@ module _ (o : Options) (m : Mode) (b n : Bool) (some : (b || n) ≡ true) where
       stays = left_stays v h;
       bytes = text_of-line_at (suc (length (bytes_of s.ys))) p;
       same = text_of-line_at (suc (length r.qs)) p ∙ sym (text_of-line_at (suc (length (bytes_of s.ys))) p);
-      seen = left_seen o m s.ys r.zs r.qs r.weave (suc (length (bytes_of s.ys))) p;
+      scanned = left_seen o m s.ys r.zs r.qs r.weave (suc (length (bytes_of s.ys))) p;
     }
 
     counted_here : (h : IsLeft v) (r : Ready) →

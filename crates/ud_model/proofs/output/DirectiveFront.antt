@@ -134,7 +134,7 @@ inert_byte : (c : ℕ) → is_inert c ≡ true → IsInert c
 inert_byte c e =
     let q : ((not (c == slash) && not (is_quote c)) ≡ true) × (not (c == newline) ≡ true) = and_parts (not (c == slash) && not (is_quote c)) (not (c == newline)) e in
     let r : (not (c == slash) ≡ true) × (not (is_quote c) ≡ true) = and_parts (not (c == slash)) (not (is_quote c)) q.0 in
-    record { no_slash = not-true (c == slash) r.0; no_quote = not-true (is_quote c) r.1; no_feed = not-true (c == newline) q.1 }
+    record { no_slash = not-true (c == slash) r.0; no_quote = not-true (is_quote c) r.1; no_newline = not-true (c == newline) q.1 }
 
 -- Each of the bytes begins no comment and no literal.
 abbrev pub are_inert : List ℕ → Bool

@@ -139,10 +139,10 @@ module _ (scan now : Scan) (d : Directive) (e : content_of scan ≡ directive d)
 pub cut_content : (scan now : Scan) (d : Directive) (word : List ℕ) (k : Kind) → content_of scan ≡ directive d → now.masked ≡ take d.keyword.at scan.masked ++ word →
     now.fresh ≡ scan.fresh → now.joins_after ≡ false → is_continued_outside_comment now ≡ false → StartsDark word → leading_word word ≡ word → skip_word word ≡ [] → kind_of word ≡ Some k →
     content_of now ≡ directive (record { kind = k; keyword = record { at = d.keyword.at; len = length word }; after = []; broken = false })
-cut_content scan now d word k e m f j c dark front rest kind =
+cut_content scan now d word k e m f j c dark prefix rest kind =
     let p : Front scan d = directive_front scan d e in
     let head : take d.keyword.at scan.masked ≡ p.white ++ 35 ∷ p.gap =
     ap₂ (λ (n : ℕ) (t : List ℕ). take n t) p.at_is p.masked_is ∙ take_at (p.white ++ 35 ∷ p.gap) (p.word ++ d.after) (length (p.white ++ 35 ∷ p.gap)) refl in
-    carries now p.white p.gap word k p.whites p.gaps dark (m ∙ ap (λ (t : List ℕ). t ++ word) head) (f ∙ p.fresh_is) (inl j) (ap kind_of front ∙ kind)
+    carries now p.white p.gap word k p.whites p.gaps dark (m ∙ ap (λ (t : List ℕ). t ++ word) head) (f ∙ p.fresh_is) (inl j) (ap kind_of prefix ∙ kind)
     ∙ ap₂ (λ (n : ℕ) (b : Bool). directive (record { kind = k; keyword = record { at = n; len = length (leading_word word) }; after = skip_word word; broken = b })) (sym p.at_is) c
-    ∙ ap₂ (λ (u t : List ℕ). directive (record { kind = k; keyword = record { at = d.keyword.at; len = length u }; after = t; broken = false })) front rest
+    ∙ ap₂ (λ (u t : List ℕ). directive (record { kind = k; keyword = record { at = d.keyword.at; len = length u }; after = t; broken = false })) prefix rest

@@ -45,19 +45,19 @@ fresh_first (in_literal q) white (y ∷ a) t u n e = refl
 fresh_first (at_backslash q) white (y ∷ a) t u n e = refl
 
 -- If a keyword is shown, the text before it ends between lexemes.
-keyword_place : (w : LexState) (bytes front : List ℕ) (c : ℕ) (rest : List ℕ) (n : ℕ) → has_quote front ≡ false → ends_in_slash front ≡ false → c ≢ space → c ≢ newline →
-    Quoted w [] → length front ≡ suc n → masked_after w [] bytes ≡ front ++ c ∷ rest → Found w bytes front c rest
-keyword_place w [] front c rest n u s p q k l e =
-    let f : 0 ≡ length (front ++ c ∷ rest) = ap (λ (t : List ℕ). length t) e in
-    let g : length (front ++ c ∷ rest) ≡ length front + length (c ∷ rest) = length-append front (c ∷ rest) in absurd (omega arith)
-keyword_place w (x ∷ bytes) front c rest n u s p q k l e =
+keyword_place : (w : LexState) (bytes prefix : List ℕ) (c : ℕ) (rest : List ℕ) (n : ℕ) → has_quote prefix ≡ false → ends_in_slash prefix ≡ false → c ≢ space → c ≢ newline →
+    Quoted w [] → length prefix ≡ suc n → masked_after w [] bytes ≡ prefix ++ c ∷ rest → Found w bytes prefix c rest
+keyword_place w [] prefix c rest n u s p q k l e =
+    let f : 0 ≡ length (prefix ++ c ∷ rest) = ap (λ (t : List ℕ). length t) e in
+    let g : length (prefix ++ c ∷ rest) ≡ length prefix + length (c ∷ rest) = length-append prefix (c ∷ rest) in absurd (omega arith)
+keyword_place w (x ∷ bytes) prefix c rest n u s p q k l e =
     let split : (x ∷ take n bytes) ++ drop n bytes ≡ x ∷ bytes = ap (λ (t : List ℕ). x ∷ t) (take-append-drop n bytes) in
     let m = length-masked_after (x ∷ bytes) w [] in
-    let f : length (masked_after w [] (x ∷ bytes)) ≡ length (front ++ c ∷ rest) = ap (λ (t : List ℕ). length t) e in
-    let g : length (front ++ c ∷ rest) ≡ length front + length (c ∷ rest) = length-append front (c ∷ rest) in
-    let long : length (x ∷ take n bytes) ≡ length front = omega (arith, m, f, g, l, length-take n bytes) in
-    subst (λ (t : List ℕ). Found w t front c rest) split
-    (found_by c front u s p q w x (take n bytes) (drop n bytes) rest k long (subst (λ (t : List ℕ). masked_after w [] t ≡ front ++ c ∷ rest) (sym split) e))
+    let f : length (masked_after w [] (x ∷ bytes)) ≡ length (prefix ++ c ∷ rest) = ap (λ (t : List ℕ). length t) e in
+    let g : length (prefix ++ c ∷ rest) ≡ length prefix + length (c ∷ rest) = length-append prefix (c ∷ rest) in
+    let long : length (x ∷ take n bytes) ≡ length prefix = omega (arith, m, f, g, l, length-take n bytes) in
+    subst (λ (t : List ℕ). Found w t prefix c rest) split
+    (found_by c prefix u s p q w x (take n bytes) (drop n bytes) rest k long (subst (λ (t : List ℕ). masked_after w [] t ≡ prefix ++ c ∷ rest) (sym split) e))
 
 -- A line with a directive: the bytes before its keyword, the keyword, and the rest.
 pub record Spelled (w : LexState) (white : Bool) (bytes : List ℕ) (d : Directive) : Type 0 where
@@ -65,13 +65,13 @@ pub record Spelled (w : LexState) (white : Bool) (bytes : List ℕ) (d : Directi
   pub first : ℕ
   pub word : List ℕ
   pub more : List ℕ
-  pub front : List ℕ
+  pub prefix : List ℕ
   pub some : (n : ℕ) × (length before ≡ suc n)
   pub are : bytes ≡ before ++ ((first ∷ word) ++ more)
   pub at_is : d.keyword.at ≡ length before
   pub len_is : d.keyword.len ≡ length (first ∷ word)
   pub place : place_after w before ≡ in_text
-  pub masks : masked_after w [] before ≡ front
+  pub masks : masked_after w [] before ≡ prefix
   pub ends : masked_after in_text [] more ≡ d.after
   pub inert : Each IsInert (first ∷ word)
   pub dark : is_white first ≡ false
@@ -82,8 +82,8 @@ spelled_by : (w : LexState) (white : Bool) (bytes ws gs keyword : List ℕ) (d :
 spelled_by w white bytes ws gs [] d q u s i n k a l e = absurd k
 spelled_by w white bytes ws gs (c ∷ word) d q u s i n k a l e =
     let some : length (ws ++ 35 ∷ gs) ≡ suc (length ws + length gs) = omega (arith, length-append ws (35 ∷ gs)) in
-    let no_feed : c ≢ newline = λ h. let f : true ≡ false = sym (ap (λ (x : ℕ). x == newline) h) ∙ i.0.no_feed in cc in
-    let f : Found w bytes (ws ++ 35 ∷ gs) c (word ++ d.after) = keyword_place w bytes (ws ++ 35 ∷ gs) c (word ++ d.after) (length ws + length gs) u s n.0 no_feed q some e in
+    let no_newline : c ≢ newline = λ h. let f : true ≡ false = sym (ap (λ (x : ℕ). x == newline) h) ∙ i.0.no_newline in cc in
+    let f : Found w bytes (ws ++ 35 ∷ gs) c (word ++ d.after) = keyword_place w bytes (ws ++ 35 ∷ gs) c (word ++ d.after) (length ws + length gs) u s n.0 no_newline q some e in
     let r : (more : List ℕ) × (f.behind ≡ (c ∷ word) ++ more) × (masked_after in_text [] more ≡ d.after) = word_stands (c ∷ word) f.behind d.after i n f.goes_on in
     let long : length (ws ++ 35 ∷ gs) ≡ length f.before = ap (λ (t : List ℕ). length t) (sym f.masks) ∙ length-masked_after f.before w [] ∙ omega arith in
     record {
@@ -91,7 +91,7 @@ spelled_by w white bytes ws gs (c ∷ word) d q u s i n k a l e =
       first = c;
       word = word;
       more = r.0;
-      front = ws ++ 35 ∷ gs;
+      prefix = ws ++ 35 ∷ gs;
       some = (length ws + length gs, sym long ∙ some);
       are = f.are ∙ ap (λ (t : List ℕ). f.before ++ t) r.1;
       at_is = a ∙ long;
@@ -140,21 +140,21 @@ exchanged_scan w white before l k d (c ∷ word) s e i n are =
     ap (λ (t : List ℕ). drop (d.keyword.at + d.keyword.len) t) p.are
     ∙ drop_two p.before (p.first ∷ p.word) p.more (d.keyword.at + d.keyword.len) (ap₂ (λ (a b : ℕ). a + b) p.at_is p.len_is) in
     let now : content k ≡ p.before ++ ((c ∷ word) ++ p.more) = are ∙ ap₂ (λ (a b : List ℕ). a ++ ((c ∷ word) ++ b)) head tail in
-    let was : masked_after w [] (content l) ≡ p.front ++ ((p.first ∷ p.word) ++ d.after) =
-    ap (λ (t : List ℕ). masked_after w [] t) p.are ∙ masked_other w p.before p.more p.front d.after p.place p.masks p.ends (p.first ∷ p.word) p.inert in
-    let long : length p.front ≡ length p.before = ap (λ (t : List ℕ). length t) (sym p.masks) ∙ length-masked_after p.before w [] ∙ omega arith in
-    let front : take d.keyword.at (masked_after w [] (content l)) ≡ p.front =
-    ap₂ (λ (m : ℕ) (t : List ℕ). take m t) p.at_is was ∙ take_at p.front ((p.first ∷ p.word) ++ d.after) (length p.before) long in
+    let was : masked_after w [] (content l) ≡ p.prefix ++ ((p.first ∷ p.word) ++ d.after) =
+    ap (λ (t : List ℕ). masked_after w [] t) p.are ∙ masked_other w p.before p.more p.prefix d.after p.place p.masks p.ends (p.first ∷ p.word) p.inert in
+    let long : length p.prefix ≡ length p.before = ap (λ (t : List ℕ). length t) (sym p.masks) ∙ length-masked_after p.before w [] ∙ omega arith in
+    let prefix : take d.keyword.at (masked_after w [] (content l)) ≡ p.prefix =
+    ap₂ (λ (m : ℕ) (t : List ℕ). take m t) p.at_is was ∙ take_at p.prefix ((p.first ∷ p.word) ++ d.after) (length p.before) long in
     record {
-      masked_is = ap (λ (t : List ℕ). masked_after w [] t) now ∙ masked_other w p.before p.more p.front d.after p.place p.masks p.ends (c ∷ word) i
-          ∙ ap (λ (t : List ℕ). t ++ ((c ∷ word) ++ d.after)) (sym front);
+      masked_is = ap (λ (t : List ℕ). masked_after w [] t) now ∙ masked_other w p.before p.more p.prefix d.after p.place p.masks p.ends (c ∷ word) i
+          ∙ ap (λ (t : List ℕ). t ++ ((c ∷ word) ++ d.after)) (sym prefix);
       fresh_is = ap (λ (t : List ℕ). fresh_at w white t) now
           ∙ fresh_first w white p.before ((c ∷ word) ++ p.more) ((p.first ∷ p.word) ++ p.more) p.some.0 p.some.1 ∙ ap (λ (t : List ℕ). fresh_at w white t) (sym p.are);
-      place_is = ap (λ (t : List ℕ). place_after w t) now ∙ place_other w p.before p.more p.front d.after p.place p.masks p.ends (c ∷ word) i
-          ∙ sym (ap (λ (t : List ℕ). place_after w t) p.are ∙ place_other w p.before p.more p.front d.after p.place p.masks p.ends (p.first ∷ p.word) p.inert);
-      white_is = ap (λ (t : List ℕ). white_after w white t) now ∙ white_other w p.before p.more p.front d.after p.place p.masks p.ends white c word i n
+      place_is = ap (λ (t : List ℕ). place_after w t) now ∙ place_other w p.before p.more p.prefix d.after p.place p.masks p.ends (c ∷ word) i
+          ∙ sym (ap (λ (t : List ℕ). place_after w t) p.are ∙ place_other w p.before p.more p.prefix d.after p.place p.masks p.ends (p.first ∷ p.word) p.inert);
+      white_is = ap (λ (t : List ℕ). white_after w white t) now ∙ white_other w p.before p.more p.prefix d.after p.place p.masks p.ends white c word i n
           ∙ sym (ap (λ (t : List ℕ). white_after w white t) p.are
-          ∙ white_other w p.before p.more p.front d.after p.place p.masks p.ends white p.first p.word p.inert p.dark);
+          ∙ white_other w p.before p.more p.prefix d.after p.place p.masks p.ends white p.first p.word p.inert p.dark);
     }
 
 -- A line that ends after its new keyword is scanned up to there, and ends between lexemes.
@@ -172,15 +172,15 @@ cut_scan w white before l k d word s e i are =
     let head : take d.keyword.at (content l) ≡ p.before =
     ap₂ (λ (m : ℕ) (t : List ℕ). take m t) p.at_is p.are ∙ take_at p.before ((p.first ∷ p.word) ++ p.more) (length p.before) refl in
     let now : content k ≡ p.before ++ (word ++ []) = are ∙ ap₂ (λ (a b : List ℕ). a ++ b) head (sym (append-nil word)) in
-    let was : masked_after w [] (content l) ≡ p.front ++ ((p.first ∷ p.word) ++ d.after) =
-    ap (λ (t : List ℕ). masked_after w [] t) p.are ∙ masked_other w p.before p.more p.front d.after p.place p.masks p.ends (p.first ∷ p.word) p.inert in
-    let long : length p.front ≡ length p.before = ap (λ (t : List ℕ). length t) (sym p.masks) ∙ length-masked_after p.before w [] ∙ omega arith in
-    let front : take d.keyword.at (masked_after w [] (content l)) ≡ p.front =
-    ap₂ (λ (m : ℕ) (t : List ℕ). take m t) p.at_is was ∙ take_at p.front ((p.first ∷ p.word) ++ d.after) (length p.before) long in
+    let was : masked_after w [] (content l) ≡ p.prefix ++ ((p.first ∷ p.word) ++ d.after) =
+    ap (λ (t : List ℕ). masked_after w [] t) p.are ∙ masked_other w p.before p.more p.prefix d.after p.place p.masks p.ends (p.first ∷ p.word) p.inert in
+    let long : length p.prefix ≡ length p.before = ap (λ (t : List ℕ). length t) (sym p.masks) ∙ length-masked_after p.before w [] ∙ omega arith in
+    let prefix : take d.keyword.at (masked_after w [] (content l)) ≡ p.prefix =
+    ap₂ (λ (m : ℕ) (t : List ℕ). take m t) p.at_is was ∙ take_at p.prefix ((p.first ∷ p.word) ++ d.after) (length p.before) long in
     record {
-      masked_is = ap (λ (t : List ℕ). masked_after w [] t) now ∙ masked_other w p.before [] p.front [] p.place p.masks refl word i
-          ∙ ap₂ (λ (a b : List ℕ). a ++ b) (sym front) (append-nil word);
+      masked_is = ap (λ (t : List ℕ). masked_after w [] t) now ∙ masked_other w p.before [] p.prefix [] p.place p.masks refl word i
+          ∙ ap₂ (λ (a b : List ℕ). a ++ b) (sym prefix) (append-nil word);
       fresh_is = ap (λ (t : List ℕ). fresh_at w white t) now
           ∙ fresh_first w white p.before (word ++ []) ((p.first ∷ p.word) ++ p.more) p.some.0 p.some.1 ∙ ap (λ (t : List ℕ). fresh_at w white t) (sym p.are);
-      place_is = ap (λ (t : List ℕ). place_after w t) now ∙ place_other w p.before [] p.front [] p.place p.masks refl word i;
+      place_is = ap (λ (t : List ℕ). place_after w t) now ∙ place_other w p.before [] p.prefix [] p.place p.masks refl word i;
     }

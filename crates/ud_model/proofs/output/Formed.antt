@@ -13,7 +13,7 @@ use Rattle.ud_model.specs.declared.verdict.Verdict.{Verdict}
 use Rattle.ud_model.specs.declared.verdict.Verdict.TheVariants.{Keep, Remove, ToIf, ToElse, ToEndif}
 use Rattle.ud_model.proofs.output.ByLength.{each_length}
 use Rattle.ud_model.proofs.text.Pushes.{ByPush, none, push, by_push}
-use Rattle.ud_model.proofs.text.LinesLemmas.{no_feed-append, body-ending}
+use Rattle.ud_model.proofs.text.LinesLemmas.{no_newline-append, body-ending}
 
 no_feed_parts : (p q : List ℕ) → NoNewline (p ++ q) → NoNewline p × NoNewline q
 no_feed_parts [] q h = (tt, h)
@@ -28,8 +28,8 @@ IsEnd e = (e ≡ 13 ∷ 10 ∷ []) ⊎ (e ≡ 10 ∷ [])
 
 -- A whole line has an ending.
 pub whole_ending : (l : List ℕ) → IsWhole l → IsEnd (ending_of l)
-whole_ending l (front, n, e) =
-    by_tests (ends_with nat_eq l (13 ∷ 10 ∷ [])) (ends_with nat_eq l (10 ∷ [])) ((ends_is Decides-eqb l (10 ∷ []) (ends_with nat_eq l (10 ∷ [])) refl).1 front e)
+whole_ending l (prefix, n, e) =
+    by_tests (ends_with nat_eq l (13 ∷ 10 ∷ [])) (ends_with nat_eq l (10 ∷ [])) ((ends_is Decides-eqb l (10 ∷ []) (ends_with nat_eq l (10 ∷ [])) refl).1 prefix e)
   where
     by_tests : (a b : Bool) → b ≡ true → IsEnd (if a then 13 ∷ 10 ∷ [] else if b then 10 ∷ [] else [])
     by_tests true b h = inl refl
@@ -38,24 +38,24 @@ whole_ending l (front, n, e) =
 
 -- A body and an ending.
 ended : (b e : List ℕ) → NoNewline b → IsEnd e → IsWhole (b ++ e)
-ended b e n (inl h) = (b ++ 13 ∷ [], no_feed-append b (13 ∷ []) n ((λ p. omega arith), tt), ap (λ (t : List ℕ). b ++ t) h ∙ sym (append_assoc b (13 ∷ []) (10 ∷ [])))
+ended b e n (inl h) = (b ++ 13 ∷ [], no_newline-append b (13 ∷ []) n ((λ p. omega arith), tt), ap (λ (t : List ℕ). b ++ t) h ∙ sym (append_assoc b (13 ∷ []) (10 ∷ [])))
 ended b e n (inr h) = (b, n, ap (λ (t : List ℕ). b ++ t) h)
 
 abbrev body_of : List ℕ → List ℕ
 body_of t = take (length t - length (ending_of t)) t
 
 whole_body : (t : List ℕ) → IsWhole t → NoNewline (body_of t)
-whole_body t (front, n, e) = go (whole_ending t (front, n, e))
+whole_body t (prefix, n, e) = go (whole_ending t (prefix, n, e))
   where
     go : IsEnd (ending_of t) → NoNewline (body_of t)
     go (inl h) =
-        let p : (body_of t ++ 13 ∷ []) ++ 10 ∷ [] ≡ front ++ 10 ∷ [] =
+        let p : (body_of t ++ 13 ∷ []) ++ 10 ∷ [] ≡ prefix ++ 10 ∷ [] =
         append_assoc (body_of t) (13 ∷ []) (10 ∷ []) ∙ ap (λ (x : List ℕ). body_of t ++ x) (sym h) ∙ body-ending t ∙ e in
-        let q = same_from_push (body_of t ++ 13 ∷ []) front 10 10 p in
+        let q = same_from_push (body_of t ++ 13 ∷ []) prefix 10 10 p in
         (no_feed_parts (body_of t) (13 ∷ []) (subst NoNewline (sym q.0) n)).0
     go (inr h) =
-        let p : body_of t ++ 10 ∷ [] ≡ front ++ 10 ∷ [] = ap (λ (x : List ℕ). body_of t ++ x) (sym h) ∙ body-ending t ∙ e in
-        subst NoNewline (sym (same_from_push (body_of t) front 10 10 p).0) n
+        let p : body_of t ++ 10 ∷ [] ≡ prefix ++ 10 ∷ [] = ap (λ (x : List ℕ). body_of t ++ x) (sym h) ∙ body-ending t ∙ e in
+        subst NoNewline (sym (same_from_push (body_of t) prefix 10 10 p).0) n
 
 -- The output for a body.
 unfoldable pub edited_body : Verdict → Span → List ℕ → List ℕ
@@ -96,11 +96,11 @@ unfolding edited_body
 edited_no_feed Keep k b n = n
 edited_no_feed Remove k b n = n
 edited_no_feed ToIf k b n =
-    no_feed-append (take k.at b ++ opener_keyword k.len) (drop (k.at + k.len) b)
-    (no_feed-append (take k.at b) (opener_keyword k.len) (no_feed_cut k.at b n).0 (word_no_feed (opener_keyword k.len) (each_length (λ w. has_feed w ≡ false) refl refl refl k.len)))
+    no_newline-append (take k.at b ++ opener_keyword k.len) (drop (k.at + k.len) b)
+    (no_newline-append (take k.at b) (opener_keyword k.len) (no_feed_cut k.at b n).0 (word_no_feed (opener_keyword k.len) (each_length (λ w. has_feed w ≡ false) refl refl refl k.len)))
     (no_feed_cut (k.at + k.len) b n).1
-edited_no_feed ToElse k b n = no_feed-append (take k.at b) (codes "else") (no_feed_cut k.at b n).0 (word_no_feed (codes "else") refl)
-edited_no_feed ToEndif k b n = no_feed-append (take k.at b) (codes "endif") (no_feed_cut k.at b n).0 (word_no_feed (codes "endif") refl)
+edited_no_feed ToElse k b n = no_newline-append (take k.at b) (codes "else") (no_feed_cut k.at b n).0 (word_no_feed (codes "else") refl)
+edited_no_feed ToEndif k b n = no_newline-append (take k.at b) (codes "endif") (no_feed_cut k.at b n).0 (word_no_feed (codes "endif") refl)
 
 -- The piece of a whole line that is left is a whole line.
 pub whole_piece : (v : Verdict) (k : Span) (n : ℕ) (t : List ℕ) → IsLeft v → IsWhole t → IsWhole (piece_by v k (line_at n t))
@@ -126,17 +126,17 @@ unended_piece ToIf k n t h (s, w) =
           (nil_front (take k.at (body_of t) ++ opener_keyword k.len) (drop (k.at + k.len) (body_of t))
           (each_length (λ w. take k.at (body_of t) ++ w ≢ []) (not_nil (take k.at (body_of t)) (codes "fdef  ") 105) (not_nil (take k.at (body_of t)) (codes "fndef  ") 105)
           (not_nil (take k.at (body_of t)) (codes "f  ") 105) k.len)),
-      no_feed-append ((take k.at (body_of t) ++ opener_keyword k.len) ++ drop (k.at + k.len) (body_of t)) (ending_of t) (edited_no_feed ToIf k (body_of t) p.0) p.1,
+      no_newline-append ((take k.at (body_of t) ++ opener_keyword k.len) ++ drop (k.at + k.len) (body_of t)) (ending_of t) (edited_no_feed ToIf k (body_of t) p.0) p.1,
     )
 unended_piece ToElse k n t h (s, w) =
     let p : NoNewline (body_of t) × NoNewline (ending_of t) = no_feed_parts (body_of t) (ending_of t) (subst NoNewline (sym (body-ending t)) w) in (
       nil_front (take k.at (body_of t) ++ codes "else") (ending_of t) (not_nil (take k.at (body_of t)) (codes "lse") 101),
-      no_feed-append (take k.at (body_of t) ++ codes "else") (ending_of t) (edited_no_feed ToElse k (body_of t) p.0) p.1,
+      no_newline-append (take k.at (body_of t) ++ codes "else") (ending_of t) (edited_no_feed ToElse k (body_of t) p.0) p.1,
     )
 unended_piece ToEndif k n t h (s, w) =
     let p : NoNewline (body_of t) × NoNewline (ending_of t) = no_feed_parts (body_of t) (ending_of t) (subst NoNewline (sym (body-ending t)) w) in (
       nil_front (take k.at (body_of t) ++ codes "endif") (ending_of t) (not_nil (take k.at (body_of t)) (codes "ndif") 101),
-      no_feed-append (take k.at (body_of t) ++ codes "endif") (ending_of t) (edited_no_feed ToEndif k (body_of t) p.0) p.1,
+      no_newline-append (take k.at (body_of t) ++ codes "endif") (ending_of t) (edited_no_feed ToEndif k (body_of t) p.0) p.1,
     )
 
 -- A whole line before lines.
@@ -153,11 +153,11 @@ module _ (q : ℕ) where
   unfolding EndsIn
   end_back a d z (c, e) = (same_from_push (a ++ d) c z q (append_assoc a d (z ∷ []) ∙ e)).1
 
-  end_front : (front b : List ℕ) → {d : List ℕ} → ByPush d → d ≡ b → (b ≡ [] → EndsIn q front → ⊥) → EndsIn q (front ++ b) → EndsIn q b
+  end_front : (prefix b : List ℕ) → {d : List ℕ} → ByPush d → d ≡ b → (b ≡ [] → EndsIn q prefix → ⊥) → EndsIn q (prefix ++ b) → EndsIn q b
   unfolding EndsIn
-  end_front front b none e n (c, h) = absurd (n (sym e) (c, sym (append-nil front) ∙ ap (λ (t : List ℕ). front ++ t) e ∙ h))
-  end_front front b (push {xs = d} z p) e n (c, h) =
-      let r : z ≡ q = end_back front d z (c, ap (λ (t : List ℕ). front ++ t) e ∙ h) in (d, sym e ∙ ap (λ (y : ℕ). d ++ y ∷ []) r)
+  end_front prefix b none e n (c, h) = absurd (n (sym e) (c, sym (append-nil prefix) ∙ ap (λ (t : List ℕ). prefix ++ t) e ∙ h))
+  end_front prefix b (push {xs = d} z p) e n (c, h) =
+      let r : z ≡ q = end_back prefix d z (c, ap (λ (t : List ℕ). prefix ++ t) e ∙ h) in (d, sym e ∙ ap (λ (y : ℕ). d ++ y ∷ []) r)
 
   -- A list that ends in another byte doesn't.
   pub not_end : (a d : List ℕ) (z : ℕ) → (z == q) ≡ false → EndsIn q (a ++ (d ++ z ∷ [])) → ⊥

@@ -44,11 +44,11 @@ alike_by o r s cut_keyword k = a_text k
 alike_by o r s text_content k = a_text k
 alike_by o r s (directive d) k =
     alike_role r s (role_of d.kind) (decision_on r.scan d o.table (rules_of o.settings)) (decision_on s.scan d o.table (rules_of o.settings))
-    (ap (λ (t : Scan). decision_on t d o.table (rules_of o.settings)) k.seen) k
+    (ap (λ (t : Scan). decision_on t d o.table (rules_of o.settings)) k.scanned) k
 
 alike_item : (o : Options) (r s : Reading) → IsSame r s → ItemAlike (item_of o r) (item_of o s)
 alike_item o r s k =
-    subst (λ (c : Content). ItemAlike (item_of o r) (item_by o s c)) (ap content_of (sym k.seen)) (alike_by o r s (content_of r.scan) k)
+    subst (λ (c : Content). ItemAlike (item_of o r) (item_by o s c)) (ap content_of (sym k.scanned)) (alike_by o r s (content_of r.scan) k)
 
 plain_line : List ℕ → Scan
 plain_line b = record { masked = b; fresh = true; joins_before = false; joins_after = false; spliced = false; comment = (plain_scan (record { body = b; ending = []; number = 0 })).comment }
@@ -70,7 +70,7 @@ put_one : (o : Options) (d : Reading) → IsInserted d → Strewn [] (item_of o 
 put_one o d k = subst (λ (z : Item Reading). Strewn [] (z ∷ [])) (sym (put_item o d k)) (put k none)
 
 same_one : (o : Options) (j : Judged) (r s : Reading) → IsPrinted j r s → Strewn (item_of o r ∷ []) (item_of o s ∷ [])
-same_one o j r s k = same (alike_item o r s (record { bytes = k.same; seen = k.seen })) none
+same_one o j r s k = same (alike_item o r s (record { bytes = k.same; scanned = k.scanned })) none
 
 abbrev pub items : Options → List Reading → List (Item Reading)
 items o rs = map (λ r. item_of o r) rs
@@ -268,13 +268,13 @@ mutual
       let m : More ns n.nodes g.texts = more_texts ns n.nodes g.texts n.woven g.put_in in
       let r : More (section ns gs e) (section m.nodes g.groups i.0) c.later =
       more_texts (section ns gs e) (section m.nodes g.groups i.0) c.later (same_section m.woven g.woven i.2) c.second_part in
-      let front : lines_of_nodes m.nodes ++ lines_of_groups g.groups ≡ c.before =
+      let prefix : lines_of_nodes m.nodes ++ lines_of_groups g.groups ≡ c.before =
       ap (λ (ws : List (Item Reading)). ws ++ lines_of_groups g.groups) (m.lines ∙ ap (λ (ws : List (Item Reading)). ws ++ g.texts) n.lines)
       ∙ append_assoc b.before g.texts (lines_of_groups g.groups) ∙ ap (λ (ws : List (Item Reading)). b.before ++ ws) (sym g.lines) ∙ sym b.are in
       record {
         nodes = r.nodes;
         lines = r.lines ∙ append_assoc (lines_of_nodes m.nodes ++ lines_of_groups g.groups) (endif_line i.0 ∷ []) c.later
-            ∙ ap₂ (λ (w : List (Item Reading)) (x : Item Reading). w ++ x ∷ c.later) front (sym i.1) ∙ sym c.are;
+            ∙ ap₂ (λ (w : List (Item Reading)) (x : Item Reading). w ++ x ∷ c.later) prefix (sym i.1) ∙ sym c.are;
         woven = r.woven;
       }
 

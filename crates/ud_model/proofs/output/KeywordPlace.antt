@@ -25,12 +25,12 @@ length-masked_after (b ∷ bytes) w m =
 
 -- If the masked line goes on with this byte after these, the text before the byte ends between
 -- lexemes.
-pub record Found (w : LexState) (content front : List ℕ) (c : ℕ) (rest : List ℕ) : Type 0 where
+pub record Found (w : LexState) (content prefix : List ℕ) (c : ℕ) (rest : List ℕ) : Type 0 where
   pub before : List ℕ
   pub behind : List ℕ
   pub are : content ≡ before ++ behind
   pub place : place_after w before ≡ in_text
-  pub masks : masked_after w [] before ≡ front
+  pub masks : masked_after w [] before ≡ prefix
   pub goes_on : masked_after in_text [] behind ≡ c ∷ rest
 
 first_byte : (w : LexState) (b c : ℕ) (bytes rest : List ℕ) → c ≢ space → masked_after w (b ∷ []) bytes ≡ c ∷ rest → b ≡ c
@@ -40,19 +40,19 @@ first_byte w b c bytes rest n e = go (first_shown bytes w b)
     go (t, inl h) = let q : b ∷ t ≡ c ∷ rest = sym h ∙ e in cc
     go (t, inr h) = let q : space ∷ t ≡ c ∷ rest = sym h ∙ e in let r : c ≡ space = cc in absurd (n r)
 
-module _ (c : ℕ) (front : List ℕ) (unquoted : has_quote front ≡ false) (unslashed : ends_in_slash front ≡ false) (no_space : c ≢ space) (no_feed : c ≢ newline) where
-  slash_by : (t s : Bool) (m : List ℕ) (x : ℕ) → ends_in_slash m ≡ true → (if t || s then blank_last m else m) ≡ front →
+module _ (c : ℕ) (prefix : List ℕ) (unquoted : has_quote prefix ≡ false) (unslashed : ends_in_slash prefix ≡ false) (no_space : c ≢ space) (no_newline : c ≢ newline) where
+  slash_by : (t s : Bool) (m : List ℕ) (x : ℕ) → ends_in_slash m ≡ true → (if t || s then blank_last m else m) ≡ prefix →
       (if t then space else if s then space else x) ≡ c → ⊥
   slash_by true s m x h e g = no_space (sym g)
   slash_by false true m x h e g = no_space (sym g)
   slash_by false false m x h e g = let q : true ≡ false = sym h ∙ ap ends_in_slash e ∙ unslashed in cc
 
   line_by : (t : Bool) (x : ℕ) → (x == newline) ≡ t → (if t then x else space) ≡ c → ⊥
-  line_by true x e g = no_feed (sym g ∙ eqb-true x newline e)
+  line_by true x e g = no_newline (sym g ∙ eqb-true x newline e)
   line_by false x e g = no_space (sym g)
 
   -- If the masked line goes on so, the text ends between lexemes.
-  is_text : (p : LexState) (m : List ℕ) (x : ℕ) → Shown p m → (if opens_comment p x then blank_last m else m) ≡ front → masked_byte p x ≡ c → (p ≡ in_text) × (m ≡ front)
+  is_text : (p : LexState) (m : List ℕ) (x : ℕ) → Shown p m → (if opens_comment p x then blank_last m else m) ≡ prefix → masked_byte p x ≡ c → (p ≡ in_text) × (m ≡ prefix)
   is_text in_text m x h e g = (refl, e)
   is_text at_slash m x h e g = absurd (slash_by (x == star) (x == slash) m x h e g)
   is_text in_block m x h e g = absurd (no_space (sym g))
@@ -62,13 +62,13 @@ module _ (c : ℕ) (front : List ℕ) (unquoted : has_quote front ≡ false) (un
   is_text (at_backslash q) m x h e g = let r : true ≡ false = sym h ∙ ap has_quote e ∙ unquoted in cc
 
   -- The position of that byte.
-  pub found_by : (w : LexState) (y : ℕ) (a : List ℕ) (b rest : List ℕ) → Quoted w [] → length (y ∷ a) ≡ length front →
-      masked_after w [] ((y ∷ a) ++ b) ≡ front ++ c ∷ rest → Found w ((y ∷ a) ++ b) front c rest
+  pub found_by : (w : LexState) (y : ℕ) (a : List ℕ) (b rest : List ℕ) → Quoted w [] → length (y ∷ a) ≡ length prefix →
+      masked_after w [] ((y ∷ a) ++ b) ≡ prefix ++ c ∷ rest → Found w ((y ∷ a) ++ b) prefix c rest
   found_by w y a [] rest q l e =
       let m = length-masked_after ((y ∷ a) ++ []) w [] in
       let n : length ((y ∷ a) ++ []) ≡ length (y ∷ a) = ap (λ (k : List ℕ). length k) (append-nil (y ∷ a)) in
-      let f : length (masked_after w [] ((y ∷ a) ++ [])) ≡ length (front ++ c ∷ rest) = ap (λ (k : List ℕ). length k) e in
-      let g : length (front ++ c ∷ rest) ≡ length front + length (c ∷ rest) = length-append front (c ∷ rest) in
+      let f : length (masked_after w [] ((y ∷ a) ++ [])) ≡ length (prefix ++ c ∷ rest) = ap (λ (k : List ℕ). length k) e in
+      let g : length (prefix ++ c ∷ rest) ≡ length prefix + length (c ∷ rest) = length-append prefix (c ∷ rest) in
       absurd (omega arith)
   found_by w y a (x ∷ b) rest q l e =
       let p : LexState = place_after w (y ∷ a) in
@@ -76,11 +76,11 @@ module _ (c : ℕ) (front : List ℕ) (unquoted : has_quote front ≡ false) (un
       let n : List ℕ = if opens_comment p x then blank_last m else m in
       let whole : masked_after w [] ((y ∷ a) ++ x ∷ b) ≡ n ++ masked_after (next_state p x) (masked_byte p x ∷ []) b =
       masked_after-append w [] (y ∷ a) (x ∷ b) ∙ masked_front b (next_state p x) n (masked_byte p x) in
-      let long : length n ≡ length front = length_by (opens_comment p x) m ∙ length-masked_after (y ∷ a) w [] ∙ omega (arith, l) in
-      let s : (n ≡ front) × (masked_after (next_state p x) (masked_byte p x ∷ []) b ≡ c ∷ rest) =
-      parts n front (masked_after (next_state p x) (masked_byte p x ∷ []) b) (c ∷ rest) long (sym whole ∙ e) in
+      let long : length n ≡ length prefix = length_by (opens_comment p x) m ∙ length-masked_after (y ∷ a) w [] ∙ omega (arith, l) in
+      let s : (n ≡ prefix) × (masked_after (next_state p x) (masked_byte p x ∷ []) b ≡ c ∷ rest) =
+      parts n prefix (masked_after (next_state p x) (masked_byte p x ∷ []) b) (c ∷ rest) long (sym whole ∙ e) in
       let first : masked_byte p x ≡ c = first_byte (next_state p x) (masked_byte p x) c b rest no_space s.1 in
-      let t : (p ≡ in_text) × (m ≡ front) = is_text p m x (shown_all y a w [] q) s.0 first in
+      let t : (p ≡ in_text) × (m ≡ prefix) = is_text p m x (shown_all y a w [] q) s.0 first in
       record {
         before = y ∷ a;
         behind = x ∷ b;
@@ -94,7 +94,7 @@ module _ (c : ℕ) (front : List ℕ) (unquoted : has_quote front ≡ false) (un
 pub record IsInert (c : ℕ) : Type 0 where
   pub no_slash : (c == slash) ≡ false
   pub no_quote : is_quote c ≡ false
-  pub no_feed : (c == newline) ≡ false
+  pub no_newline : (c == newline) ≡ false
 
 next_inert : (c : ℕ) → IsInert c → next_state in_text c ≡ in_text
 next_inert c i = ap₂ (λ (s q : Bool). if s then at_slash else if q then in_literal c else in_text) i.no_slash i.no_quote
@@ -125,14 +125,14 @@ word_stands (c ∷ word) (x ∷ behind) rest h n e =
     let r : (more : List ℕ) × (behind ≡ word ++ more) × (masked_after in_text [] more ≡ rest) = word_stands word behind rest h.1 n.1 t in
     (r.0, ap₂ (λ (y : ℕ) (l : List ℕ). y ∷ l) q r.1, r.2)
 
-module _ (w : LexState) (before more front rest : List ℕ) (place : place_after w before ≡ in_text) (masks : masked_after w [] before ≡ front) (ends : masked_after in_text [] more ≡ rest) where
+module _ (w : LexState) (before more prefix rest : List ℕ) (place : place_after w before ≡ in_text) (masks : masked_after w [] before ≡ prefix) (ends : masked_after in_text [] more ≡ rest) where
   -- After another word at this position, the rest is shown as before.
-  pub masked_other : (word : List ℕ) → Each IsInert word → masked_after w [] (before ++ (word ++ more)) ≡ front ++ (word ++ rest)
+  pub masked_other : (word : List ℕ) → Each IsInert word → masked_after w [] (before ++ (word ++ more)) ≡ prefix ++ (word ++ rest)
   masked_other word h =
       masked_after-append w [] before (word ++ more)
       ∙ ap₂ (λ (v : LexState) (m : List ℕ). masked_after v m (word ++ more)) place masks
-      ∙ text_front (word ++ more) front
-      ∙ ap (λ (l : List ℕ). front ++ l)
+      ∙ text_front (word ++ more) prefix
+      ∙ ap (λ (l : List ℕ). prefix ++ l)
       (masked_after-append in_text [] word more ∙ ap₂ (λ (v : LexState) (m : List ℕ). masked_after v m more) (place_inert word h) (masked_inert word h)
       ∙ text_front more word ∙ ap (λ (l : List ℕ). word ++ l) ends)
 
@@ -145,7 +145,7 @@ module _ (w : LexState) (before more front rest : List ℕ) (place : place_after
       ∙ ap (λ (v : LexState). place_after v more) (place_inert word h)
 
   dark_inert : (c : ℕ) → IsInert c → stays_white in_text false c ≡ false
-  dark_inert c i = ap₂ (λ (s f : Bool). if s then false else if f then true else false) i.no_slash i.no_feed
+  dark_inert c i = ap₂ (λ (s f : Bool). if s then false else if f then true else false) i.no_slash i.no_newline
 
   dark_word : (word : List ℕ) → Each IsInert word → white_after in_text false word ≡ false
   dark_word [] h = refl
@@ -153,7 +153,7 @@ module _ (w : LexState) (before more front rest : List ℕ) (place : place_after
 
   dark_first : (c : ℕ) (white : Bool) → IsInert c → is_white c ≡ false → stays_white in_text white c ≡ false
   dark_first c white i d =
-      ap₂ (λ (s f : Bool). if s then white else if f then true else white && is_white c) i.no_slash i.no_feed ∙ ap (λ (t : Bool). white && t) d ∙ and-false white
+      ap₂ (λ (s f : Bool). if s then white else if f then true else white && is_white c) i.no_slash i.no_newline ∙ ap (λ (t : Bool). white && t) d ∙ and-false white
 
   -- After another word, the line is white or not as before.
   pub white_other : (white : Bool) (c : ℕ) (word : List ℕ) → Each IsInert (c ∷ word) → is_white c ≡ false →

@@ -131,28 +131,28 @@ module _ (o : Options) where
         let d = becomes_if o (read_after xs C l) s in
         let f : IfScan w white on l k d.0 =
         if_scan w white on l k d.0 a.sane (ap content_of (sym seen_before) ∙ d.1) (subst (λ (p : Span). LeftLine ToIf p l k) (ap keyword_in d.1) b) in
-        let seen : SeenAsIf (scan_after (map reading_of xs) C l) (scan_after (map reading_of ys) C k) d.0 =
+        let scanned : SeenAsIf (scan_after (map reading_of xs) C l) (scan_after (map reading_of ys) C k) d.0 =
         subst (λ (r : Scan). SeenAsIf r (scan_after (map reading_of ys) C k) d.0) (sym seen_before)
-        (subst (λ (r : Scan). SeenAsIf (scan_from w white on l) r d.0) (sym seen_now) f.seen) in
+        (subst (λ (r : Scan). SeenAsIf (scan_from w white on l) r d.0) (sym seen_now) f.scanned) in
         record {
-          left = left_if o (read_after xs C l) (read_after ys C k) d.0 d.1 d.2 d.3 seen e;
-          carry = kept_carry f.next seen.joins_is;
+          left = left_if o (read_after xs C l) (read_after ys C k) d.0 d.1 d.2 d.3 scanned e;
+          carry = kept_carry f.next scanned.joins_is;
         }
     left_code ToElse h s u m b e =
         let d = becomes_else o (read_after xs C l) s in
-        let seen : SeenCut (scan_after (map reading_of xs) C l) (scan_after (map reading_of ys) C k) d.0 (codes "else") =
+        let scanned : SeenCut (scan_after (map reading_of xs) C l) (scan_after (map reading_of ys) C k) d.0 (codes "else") =
         cut_code d.0 (codes "else") new_else d.1
         (b.body ∙ else_body (keyword_in (content_of (scan_after (map reading_of xs) C l))) l.body ∙ ap (λ (t : Content). take (keyword_in t).at l.body ++ codes "else") d.1) in
         record {
-          left = left_else o (read_after xs C l) (read_after ys C k) d.0 d.1 d.2 seen e;
-          carry = cut_carry (or_parts (scan_after (map reading_of xs) C l).joins_before (scan_after (map reading_of xs) C l).joins_after (m refl)).1 seen.joins_is;
+          left = left_else o (read_after xs C l) (read_after ys C k) d.0 d.1 d.2 scanned e;
+          carry = cut_carry (or_parts (scan_after (map reading_of xs) C l).joins_before (scan_after (map reading_of xs) C l).joins_after (m refl)).1 scanned.joins_is;
         }
     left_code ToEndif h s u m b e =
         let d = becomes_endif o (read_after xs C l) s in
-        let seen : SeenCut (scan_after (map reading_of xs) C l) (scan_after (map reading_of ys) C k) d.0 (codes "endif") =
+        let scanned : SeenCut (scan_after (map reading_of xs) C l) (scan_after (map reading_of ys) C k) d.0 (codes "endif") =
         cut_code d.0 (codes "endif") new_endif d.1
         (b.body ∙ endif_body (keyword_in (content_of (scan_after (map reading_of xs) C l))) l.body ∙ ap (λ (t : Content). take (keyword_in t).at l.body ++ codes "endif") d.1) in
         record {
-          left = left_endif o (read_after xs C l) (read_after ys C k) d.0 d.1 d.2 seen e;
-          carry = cut_carry (or_parts (scan_after (map reading_of xs) C l).joins_before (scan_after (map reading_of xs) C l).joins_after (m refl)).1 seen.joins_is;
+          left = left_endif o (read_after xs C l) (read_after ys C k) d.0 d.1 d.2 scanned e;
+          carry = cut_carry (or_parts (scan_after (map reading_of xs) C l).joins_before (scan_after (map reading_of xs) C l).joins_after (m refl)).1 scanned.joins_is;
         }

@@ -23,20 +23,20 @@ use Rattle.ud_model.proofs.output.Suited.{Suits}
 use Rattle.ud_model.proofs.conditions.DecidedConditions.{unknown_heeds}
 use Rattle.ud_model.proofs.conditions.SpacesInFront.{condition_past, decided_past}
 use Rattle.ud_model.proofs.output.ExchangedContent.{spaced}
-use Rattle.ud_model.proofs.output.SeenLines.{Seen, seen, left_seen}
+use Rattle.ud_model.proofs.output.SeenLines.{Seen, scanned, left_seen}
 
 -- The second item is the output for the first one with this verdict.
 abbrev pub IsLeftOf : Verdict → Item Reading → Item Reading → Type 0
-IsLeftOf v x y = item_with seen y ∷ [] ≡ map (item_with left_seen) (kept_line v x)
+IsLeftOf v x y = item_with scanned y ∷ [] ≡ map (item_with left_seen) (kept_line v x)
 
-kept_seen : (x : Item Reading) → item_with seen x ∷ [] ≡ map (item_with left_seen) (kept_line Keep x)
+kept_seen : (x : Item Reading) → item_with scanned x ∷ [] ≡ map (item_with left_seen) (kept_line Keep x)
 kept_seen (text_line l) = refl
 kept_seen (if_line p) = refl
 kept_seen (elif_line p) = refl
 kept_seen (else_line l) = refl
 kept_seen (endif_line l) = refl
 
-same_role : (r q : Reading) (p : Role) (d e : Decision) → seen q ≡ seen r → d ≡ e → item_with seen (directive_item q p d) ≡ item_with seen (directive_item r p e)
+same_role : (r q : Reading) (p : Role) (d e : Decision) → scanned q ≡ scanned r → d ≡ e → item_with scanned (directive_item q p d) ≡ item_with scanned (directive_item r p e)
 same_role r q IfGroup d e b h = ap₂ (λ (t : Seen) (c : Decision). if_line (record { line = t; cond = c.cond; ignoring = c.ignoring })) b h
 same_role r q ElifGroup d e b h = ap₂ (λ (t : Seen) (c : Decision). elif_line (record { line = t; cond = c.cond; ignoring = c.ignoring })) b h
 same_role r q ElseGroup d e b h = ap else_line b
@@ -72,7 +72,7 @@ spaced_decision s q d k n table rules e u = go d.broken u
         (unknown_heeds (test_of d.kind) d.after table rules v)
 
 module _ (o : Options) where
-  same_content : (r q : Reading) (c : Content) → q.scan ≡ r.scan → seen q ≡ seen r → item_with seen (item_by o q c) ≡ item_with seen (item_by o r c)
+  same_content : (r q : Reading) (c : Content) → q.scan ≡ r.scan → scanned q ≡ scanned r → item_with scanned (item_by o q c) ≡ item_with scanned (item_by o r c)
   same_content r q cut_keyword s b = ap text_line b
   same_content r q text s b = ap text_line b
   same_content r q (directive d) s b =
@@ -82,7 +82,7 @@ module _ (o : Options) where
   -- A line that is scanned as before is the item that it was.
   pub kept_item : (r q : Reading) → q.scan ≡ r.scan → line_bytes q ≡ line_bytes r → IsLeftOf Keep (item_of o r) (item_of o q)
   kept_item r q s b =
-      ap (λ (t : Scan). item_with seen (item_by o q (content_of t)) ∷ []) s
+      ap (λ (t : Scan). item_with scanned (item_by o q (content_of t)) ∷ []) s
       ∙ ap (λ (y : Item Seen). y ∷ []) (same_content r q (content_of r.scan) s (ap₂ (λ (t : List ℕ) (n : Scan). record { bytes = t; condition = condition_by n (content_of n) }) b s)) ∙ kept_seen (item_of o r)
 
   item_as : (r : Reading) (d : Directive) (p : Role) → content_of r.scan ≡ directive d → role_of d.kind ≡ p →
@@ -101,8 +101,8 @@ module _ (o : Options) where
       ∙ ap₂ (λ (t : Bool) (x : Option Expression). if t then None else x) j
       (condition_past (test_of k) 32 (32 ∷ d.after) refl ∙ condition_past (test_of k) 32 d.after refl ∙ ap (λ (p : Test). condition_by_test p d.after) t)
       ∙ sym (ap (λ (c : Content). condition_by r.scan c) e) in
-      let s : seen q ≡ left_seen (edited ToIf r) = ap₂ (λ (t : List ℕ) (x : Option Expression). record { bytes = t; condition = x }) b c in
-      ap (λ (y : Item Reading). item_with seen y ∷ []) (item_as q (spaced d k n) IfGroup f g)
+      let s : scanned q ≡ left_seen (edited ToIf r) = ap₂ (λ (t : List ℕ) (x : Option Expression). record { bytes = t; condition = x }) b c in
+      ap (λ (y : Item Reading). item_with scanned y ∷ []) (item_as q (spaced d k n) IfGroup f g)
       ∙ ap₂ (λ (t : Seen) (c : Decision). if_line (record { line = t; cond = c.cond; ignoring = c.ignoring }) ∷ []) s
       (spaced_decision r.scan q.scan d k n o.table (rules_of o.settings) t u)
       ∙ sym (ap (λ (x : Item Reading). map (item_with left_seen) (kept_line ToIf x)) (item_as r d ElifGroup e h))
@@ -113,7 +113,7 @@ module _ (o : Options) where
 
   -- A line with an `#else` or `#endif` has no condition.
   seen_cut : (r q : Reading) (f : Directive) (k : Kind) (t : List ℕ) → content_of q.scan ≡ directive f → f.kind ≡ k → condition_after k f.after ≡ None → line_bytes q ≡ t →
-      ◌≡◌ {A = Seen} (seen q) (record { bytes = t; condition = None })
+      ◌≡◌ {A = Seen} (scanned q) (record { bytes = t; condition = None })
   seen_cut r q f k t n g c b =
       ap₂ (λ (u : List ℕ) (x : Option Expression). record { bytes = u; condition = x }) b
       (ap (λ (y : Content). condition_by q.scan y) n ∙ ap (λ (i : Kind). if q.scan.joins_after then None else condition_after i f.after) g
@@ -123,17 +123,17 @@ module _ (o : Options) where
   pub else_item : (r q : Reading) (d f : Directive) → content_of r.scan ≡ directive d → role_of d.kind ≡ ElifGroup → content_of q.scan ≡ directive f → f.kind ≡ Else →
       line_bytes q ≡ edited_bytes (edited ToElse r) → IsLeftOf ToElse (item_of o r) (item_of o q)
   else_item r q d f e h n g b =
-      ap (λ (y : Item Reading). item_with seen y ∷ []) (item_as q f ElseGroup n (ap role_of g)) ∙ ap (λ (t : Seen). else_line t ∷ []) (seen_cut r q f Else (edited_bytes (edited ToElse r)) n g refl b)
+      ap (λ (y : Item Reading). item_with scanned y ∷ []) (item_as q f ElseGroup n (ap role_of g)) ∙ ap (λ (t : Seen). else_line t ∷ []) (seen_cut r q f Else (edited_bytes (edited ToElse r)) n g refl b)
       ∙ sym (ap (λ (x : Item Reading). map (item_with left_seen) (kept_line ToElse x)) (item_as r d ElifGroup e h))
 
   -- A directive that opens a further group, or an `#else`, becomes an `#endif`.
   pub endif_item : (r q : Reading) (d f : Directive) → content_of r.scan ≡ directive d → (role_of d.kind ≡ ElifGroup) ⊎ (role_of d.kind ≡ ElseGroup) → content_of q.scan ≡ directive f → f.kind ≡ Endif →
       line_bytes q ≡ edited_bytes (edited ToEndif r) → IsLeftOf ToEndif (item_of o r) (item_of o q)
   endif_item r q d f e (inl h) n g b =
-      ap (λ (y : Item Reading). item_with seen y ∷ []) (item_as q f EndifLine n (ap role_of g)) ∙ ap (λ (t : Seen). endif_line t ∷ []) (seen_cut r q f Endif (edited_bytes (edited ToEndif r)) n g refl b)
+      ap (λ (y : Item Reading). item_with scanned y ∷ []) (item_as q f EndifLine n (ap role_of g)) ∙ ap (λ (t : Seen). endif_line t ∷ []) (seen_cut r q f Endif (edited_bytes (edited ToEndif r)) n g refl b)
       ∙ sym (ap (λ (x : Item Reading). map (item_with left_seen) (kept_line ToEndif x)) (item_as r d ElifGroup e h))
   endif_item r q d f e (inr h) n g b =
-      ap (λ (y : Item Reading). item_with seen y ∷ []) (item_as q f EndifLine n (ap role_of g)) ∙ ap (λ (t : Seen). endif_line t ∷ []) (seen_cut r q f Endif (edited_bytes (edited ToEndif r)) n g refl b)
+      ap (λ (y : Item Reading). item_with scanned y ∷ []) (item_as q f EndifLine n (ap role_of g)) ∙ ap (λ (t : Seen). endif_line t ∷ []) (seen_cut r q f Endif (edited_bytes (edited ToEndif r)) n g refl b)
       ∙ sym (ap (λ (x : Item Reading). map (item_with left_seen) (kept_line ToEndif x)) (item_as r d ElseGroup e h))
 
   if_role : (r : Reading) (p : Role) (d : Decision) → Suits ToIf (directive_item r p d) → (p ≡ ElifGroup) × (d.cond ≡ Unknown)

@@ -13,7 +13,7 @@ use Rattle.ud_model.specs.answer.Printing.{opener_keyword, piece_by}
 use Rattle.ud_model.specs.declared.verdict.Verdict.{Verdict}
 use Rattle.ud_model.specs.declared.verdict.Verdict.TheVariants.{Keep, ToIf, ToElse, ToEndif}
 use Rattle.ud_model.proofs.output.Formed.{EndsIn, edited_end, edited_body, IsLeft, left_line}
-use Rattle.ud_model.proofs.text.ScanBytes.{content-front}
+use Rattle.ud_model.proofs.text.ScanBytes.{content-prefix}
 
 -- The second line is the output for the first one.
 pub record LeftLine (v : Verdict) (keyword : Span) (l k : Line) : Type 0 where
@@ -61,7 +61,7 @@ same_open l k s e = ap₂ (λ (t : Bool) (x : List ℕ). t || is_empty x) s e
 -- A prefix of the body within the content is one of the content.
 front_within : (l : Line) (n : ℕ) → n ≤ length (content l) → take n l.body ≡ take n (content l)
 front_within l n h =
-    let f : (rest : List ℕ) × (l.body ≡ content l ++ rest) = content-front l in
+    let f : (rest : List ℕ) × (l.body ≡ content l ++ rest) = content-prefix l in
     ap (λ (t : List ℕ). take n t) f.1 ∙ take-append-le n (content l) f.0 h
 
 module _ (keyword : Span) (l k : Line) (within : keyword.at + keyword.len ≤ length (content l)) where

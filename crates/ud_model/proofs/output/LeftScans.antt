@@ -89,7 +89,7 @@ keyword_within w white on l d e =
 
 -- The scan of a line that becomes an `#if`.
 pub record IfScan (w : LexState) (white on : Bool) (l k : Line) (d : Directive) : Type 0 where
-  pub seen : SeenAsIf (scan_from w white on l) (scan_from w white on k) d
+  pub scanned : SeenAsIf (scan_from w white on l) (scan_from w white on k) d
   pub next : NextAlike w white l k
 
 -- A line that becomes an `#if` is scanned so, and ends in the same state as before.
@@ -109,7 +109,7 @@ if_scan w white on l k d s e h =
     ≡ comment_at (is_spliced l) (kind_in_state (state_after_line (stays_open l) (place_after w (content l)))) =
     ap₂ (λ (b : Bool) (q : LexState). comment_at b (kind_in_state q)) p v in
     record {
-      seen = record {
+      scanned = record {
         masked_is = x.masked_is;
         fresh_is = x.fresh_is;
         cut_is = ap₂ (λ (b : Bool) (q : CommentAt). b && is_outside q) p c;

@@ -19,7 +19,7 @@ use Rattle.ud_model.specs.output.ListedNames.{with_listing, listing_settings, Is
 use Rattle.ud_model.specs.declared.settings.Settings.{Settings}
 use Rattle.ud_model.specs.declared.kind.Mode.{Mode}
 use Rattle.ud_model.proofs.text.LinesLemmas.{split_lines-append-line}
-use Rattle.ud_model.proofs.text.ScanLaws.{readings_after-append, readings_after-front}
+use Rattle.ud_model.proofs.text.ScanLaws.{readings_after-append, readings_after-prefix}
 use Rattle.ud_model.proofs.conditions.NamedAlike.{Alike, item_alike}
 use Rattle.ud_model.proofs.sections.Soundness.{reading_of-item_of, sound_lines, lines_with_next, one_run}
 use Rattle.ud_model.proofs.answer.LevelLemmas.{length_levels}
@@ -146,7 +146,7 @@ read_more m ls l = ap (λ (ks : List (Mode × Line)). readings_of ks) (map-appen
 read_front : (m : Mode) (ls : List Line) (l : Line) (later : List Line) →
     (rest : List Reading) × (read_in m (ls ++ l ∷ later) ≡ (read_in m ls ++ next_reading (read_in m ls) m l ∷ []) ++ rest)
 read_front m ls l later =
-    let f = readings_after-front (read_in m ls ++ next_reading (read_in m ls) m l ∷ []) (map (in_mode m) later) in (
+    let f = readings_after-prefix (read_in m ls ++ next_reading (read_in m ls) m l ∷ []) (map (in_mode m) later) in (
       f.0,
       ap (λ (ks : List (Mode × Line)). readings_of ks) (map-append (in_mode m) ls (l ∷ later))
           ∙ readings_after-append [] (map (in_mode m) ls) (in_mode m l ∷ map (in_mode m) later) ∙ f.1,

@@ -20,7 +20,7 @@ use Rattle.ud_model.specs.declared.kind.Mode.TheVariants.{C, Plain}
 use Rattle.ud_model.proofs.output.Each.{Each, each_both}
 use Rattle.ud_model.proofs.output.Formed.{IsEnd, EndsIn, ending_both, ending_feed}
 use Rattle.ud_model.proofs.output.LeavesOff.{LeavesOff}
-use Rattle.ud_model.proofs.text.LinesLemmas.{no_feed-append}
+use Rattle.ud_model.proofs.text.LinesLemmas.{no_newline-append}
 use Rattle.ud_model.proofs.text.ScanLaws.{place_after, masked_after, scan_from, scan_after_run-from}
 
 -- A byte that begins nothing and ends nothing.
@@ -28,7 +28,7 @@ pub record Quiet (b : ℕ) : Type 0 where
   pub no_slash : (b == slash) ≡ false
   pub no_quote : is_quote b ≡ false
   pub no_backslash : (b == backslash) ≡ false
-  pub no_feed : b ≢ newline
+  pub no_newline : b ≢ newline
   pub no_return : b ≢ 13
 
 digit_quiet : (n : ℕ) → n < 10 → Quiet (48 + n)
@@ -36,7 +36,7 @@ digit_quiet n h = record {
   no_slash = ne_eqb (48 + n) 47 (λ e. omega arith);
   no_quote = ap₂ (λ (a b : Bool). a || b) (ne_eqb (48 + n) 34 (λ e. omega arith)) (ne_eqb (48 + n) 39 (λ e. omega arith));
   no_backslash = ne_eqb (48 + n) 92 (λ e. omega arith);
-  no_feed = λ e. omega arith;
+  no_newline = λ e. omega arith;
   no_return = λ e. omega arith;
 }
 
@@ -47,16 +47,16 @@ decimal_quiet n h =
 
 word_quiet : Each Quiet (codes "#line ")
 word_quiet = (
-  record { no_slash = refl; no_quote = refl; no_backslash = refl; no_feed = λ e. omega arith; no_return = λ e. omega arith },
+  record { no_slash = refl; no_quote = refl; no_backslash = refl; no_newline = λ e. omega arith; no_return = λ e. omega arith },
   (
-    record { no_slash = refl; no_quote = refl; no_backslash = refl; no_feed = λ e. omega arith; no_return = λ e. omega arith },
+    record { no_slash = refl; no_quote = refl; no_backslash = refl; no_newline = λ e. omega arith; no_return = λ e. omega arith },
     (
-      record { no_slash = refl; no_quote = refl; no_backslash = refl; no_feed = λ e. omega arith; no_return = λ e. omega arith },
+      record { no_slash = refl; no_quote = refl; no_backslash = refl; no_newline = λ e. omega arith; no_return = λ e. omega arith },
       (
-        record { no_slash = refl; no_quote = refl; no_backslash = refl; no_feed = λ e. omega arith; no_return = λ e. omega arith },
+        record { no_slash = refl; no_quote = refl; no_backslash = refl; no_newline = λ e. omega arith; no_return = λ e. omega arith },
         (
-          record { no_slash = refl; no_quote = refl; no_backslash = refl; no_feed = λ e. omega arith; no_return = λ e. omega arith },
-          (record { no_slash = refl; no_quote = refl; no_backslash = refl; no_feed = λ e. omega arith; no_return = λ e. omega arith }, tt),
+          record { no_slash = refl; no_quote = refl; no_backslash = refl; no_newline = λ e. omega arith; no_return = λ e. omega arith },
+          (record { no_slash = refl; no_quote = refl; no_backslash = refl; no_newline = λ e. omega arith; no_return = λ e. omega arith }, tt),
         ),
       ),
     ),
@@ -74,7 +74,7 @@ says_quiet n h = each_both Quiet (codes "#line ") (decimal n) word_quiet (decima
 
 quiet_no_feed : (b : List ℕ) → Each Quiet b → NoNewline b
 quiet_no_feed [] q = tt
-quiet_no_feed (x ∷ b) q = (q.0.no_feed, quiet_no_feed b q.1)
+quiet_no_feed (x ∷ b) q = (q.0.no_newline, quiet_no_feed b q.1)
 
 -- Quiet bytes don't end in this byte, if no quiet byte is so.
 ends_quiet : (z : ℕ) → (Quiet z → ⊥) → (b : List ℕ) → Each Quiet b → EndsIn z b → ⊥
@@ -99,7 +99,7 @@ quiet_line m b e q (inr h) =
 
 pub quiet_whole : (b e : List ℕ) → Each Quiet b → IsEnd e → IsWhole (b ++ e)
 quiet_whole b e q (inl h) =
-    (b ++ 13 ∷ [], no_feed-append b (13 ∷ []) (quiet_no_feed b q) ((λ p. omega arith), tt), ap (λ (t : List ℕ). b ++ t) h ∙ sym (append_assoc b (13 ∷ []) (10 ∷ [])))
+    (b ++ 13 ∷ [], no_newline-append b (13 ∷ []) (quiet_no_feed b q) ((λ p. omega arith), tt), ap (λ (t : List ℕ). b ++ t) h ∙ sym (append_assoc b (13 ∷ []) (10 ∷ [])))
 quiet_whole b e q (inr h) = (b, quiet_no_feed b q, ap (λ (t : List ℕ). b ++ t) h)
 
 -- 2. Their scans.
@@ -111,10 +111,10 @@ pub place_quiet : (b : List ℕ) → Each Quiet b → place_after in_text b ≡ 
 place_quiet [] q = refl
 place_quiet (x ∷ b) q = ap (λ (w : LexState). place_after w b) (next_quiet x q.0) ∙ place_quiet b q.1
 
-masked_quiet : (b seen : List ℕ) → Each Quiet b → masked_after in_text seen b ≡ seen ++ b
-masked_quiet [] seen q = sym (append-nil seen)
-masked_quiet (x ∷ b) seen q =
-    ap (λ (w : LexState). masked_after w (seen ++ x ∷ []) b) (next_quiet x q.0) ∙ masked_quiet b (seen ++ x ∷ []) q.1 ∙ append_assoc seen (x ∷ []) b
+masked_quiet : (b scanned : List ℕ) → Each Quiet b → masked_after in_text scanned b ≡ scanned ++ b
+masked_quiet [] scanned q = sym (append-nil scanned)
+masked_quiet (x ∷ b) scanned q =
+    ap (λ (w : LexState). masked_after w (scanned ++ x ∷ []) b) (next_quiet x q.0) ∙ masked_quiet b (scanned ++ x ∷ []) q.1 ∙ append_assoc scanned (x ∷ []) b
 
 -- A line of quiet bytes with an ending.
 pub record IsQuiet (l : Line) : Type 0 where

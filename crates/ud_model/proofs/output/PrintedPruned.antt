@@ -40,7 +40,7 @@ module _ {L : Type 0} where
 
   -- The rest of the groups, by their conditions.
   record Has (cs : List Cond) (left : KeptGroups L) (xs : List (Item (Edited L))) : Type 0 where
-    pub stands : stage cs ≡ stage_of left
+    pub represents : stage cs ≡ stage_of left
     pub are : xs ≡ left_lines left
 
   two_nils : (xs : List (Item (Edited L))) → (xs ++ []) ++ [] ≡ xs
@@ -175,13 +175,13 @@ module _ {L : Type 0} where
       Has (cs ++ o.cond ∷ []) (with_group left an_elif o o.cond (pruned ns))
       (printed ((xs ++ elif_line o ∷ []) ++ lines_of_nodes ns) ((ms ++ marked true (verdict_so_far cs an_elif o.cond) ∷ []) ++ nodes_so_far (is_kept cs o.cond) ns))
   elif_has cs left o ns xs ms e h n = record {
-    stands = stage_next cs o.cond ∙ ap (λ (s : Stage). next_stage s o.cond) h.stands ∙ stage_with left an_elif o o.cond (pruned ns);
+    represents = stage_next cs o.cond ∙ ap (λ (s : Stage). next_stage s o.cond) h.represents ∙ stage_with left an_elif o o.cond (pruned ns);
     are = printed_between xs (elif_line o) (lines_of_nodes ns) ms (marked true (verdict_so_far cs an_elif o.cond)) (nodes_so_far (is_kept cs o.cond) ns) e
         ∙ ap₂ (λ (zs ws : List (Item (Edited L))). zs ++ ws)
         (ap₂ (λ (zs : List (Item (Edited L))) (v : Verdict). zs ++ kept_line v (elif_line o)) h.are
-        (verdict_by_stage cs an_elif o.cond ∙ ap (λ (s : Stage). verdict_at s an_elif o.cond) h.stands))
+        (verdict_by_stage cs an_elif o.cond ∙ ap (λ (s : Stage). verdict_at s an_elif o.cond) h.represents))
         (by_place (is_kept cs o.cond) ns n
-        ∙ ap (λ (b : Bool). if_lines b (pruned ns)) (kept_by_stage cs o.cond ∙ ap (λ (s : Stage). kept_at s o.cond) h.stands))
+        ∙ ap (λ (b : Bool). if_lines b (pruned ns)) (kept_by_stage cs o.cond ∙ ap (λ (s : Stage). kept_at s o.cond) h.represents))
         ∙ elif_lines left o o.cond (pruned ns);
   }
 
@@ -190,13 +190,13 @@ module _ {L : Type 0} where
       Has (cs ++ Yes ∷ []) (with_else left l (pruned ns))
       (printed ((xs ++ else_line l ∷ []) ++ lines_of_nodes ns) ((ms ++ marked true (verdict_so_far cs an_else Yes) ∷ []) ++ nodes_so_far (is_kept cs Yes) ns))
   else_has cs left l ns xs ms e h n = record {
-    stands = stage_next cs Yes ∙ ap (λ (s : Stage). next_stage s Yes) h.stands ∙ stage_else left l (pruned ns);
+    represents = stage_next cs Yes ∙ ap (λ (s : Stage). next_stage s Yes) h.represents ∙ stage_else left l (pruned ns);
     are = printed_between xs (else_line l) (lines_of_nodes ns) ms (marked true (verdict_so_far cs an_else Yes)) (nodes_so_far (is_kept cs Yes) ns) e
         ∙ ap₂ (λ (zs ws : List (Item (Edited L))). zs ++ ws)
         (ap₂ (λ (zs : List (Item (Edited L))) (v : Verdict). zs ++ kept_line v (else_line l)) h.are
-        (verdict_by_stage cs an_else Yes ∙ ap (λ (s : Stage). verdict_at s an_else Yes) h.stands))
+        (verdict_by_stage cs an_else Yes ∙ ap (λ (s : Stage). verdict_at s an_else Yes) h.represents))
         (by_place (is_kept cs Yes) ns n
-        ∙ ap (λ (b : Bool). if_lines b (pruned ns)) (kept_by_stage cs Yes ∙ ap (λ (s : Stage). kept_at s Yes) h.stands))
+        ∙ ap (λ (b : Bool). if_lines b (pruned ns)) (kept_by_stage cs Yes ∙ ap (λ (s : Stage). kept_at s Yes) h.represents))
         ∙ else_lines left l (pruned ns);
   }
 
@@ -204,7 +204,7 @@ module _ {L : Type 0} where
       Has (o.cond ∷ []) (with_group none_kept an_if o o.cond (pruned ns))
       (printed ((if_line o ∷ []) ++ lines_of_nodes ns) ((marked true (verdict_so_far [] an_if o.cond) ∷ []) ++ nodes_so_far (is_kept [] o.cond) ns))
   first_has o ns n = record {
-    stands = stage_next [] o.cond ∙ stage_with none_kept an_if o o.cond (pruned ns);
+    represents = stage_next [] o.cond ∙ stage_with none_kept an_if o o.cond (pruned ns);
     are = ap₂ (λ (zs ws : List (Item (Edited L))). zs ++ ws)
         (ap (λ (v : Verdict). kept_line v (if_line o)) (verdict_by_stage [] an_if o.cond))
         (by_place (is_kept [] o.cond) ns n ∙ ap (λ (b : Bool). if_lines b (pruned ns)) (kept_by_stage [] o.cond))
@@ -218,7 +218,7 @@ module _ {L : Type 0} where
       printed_behind xs ys (endif_line e) ms ns (marked true (endif_verdict cs)) d f
       ∙ ap₂ (λ (zs : List (Item (Edited L))) (v : Verdict). zs ++ kept_line v (endif_line e))
       (ap₂ (λ (zs ws : List (Item (Edited L))). zs ++ ws) a h.are)
-      (endif_by_stage cs ∙ ap (λ (s : Stage). endif_at s) h.stands)
+      (endif_by_stage cs ∙ ap (λ (s : Stage). endif_at s) h.represents)
       ∙ endif_lines ps left e
 
   mutual

@@ -26,7 +26,7 @@ use Rattle.ud_model.proofs.output.Changed.{whole_lines_are, lines_join, lone, pi
 use Rattle.ud_model.proofs.output.PrintedPruned.{printed-pruned}
 use Rattle.ud_model.proofs.output.SelectedPruned.{selected-pruned}
 use Rattle.ud_model.proofs.output.SameShape.{same_selected, openers-with}
-use Rattle.ud_model.proofs.output.SeenLines.{Seen, seen, left_condition, left_seen, with_lines-twice, map-twice}
+use Rattle.ud_model.proofs.output.SeenLines.{Seen, scanned, left_condition, left_seen, with_lines-twice, map-twice}
 use Rattle.ud_model.proofs.output.ReachedPruned.{pruned_reached}
 use Rattle.ud_model.proofs.output.ReachedAlike.{reached_alike}
 use Rattle.ud_model.proofs.output.WorldsExist.{world_of}
@@ -104,12 +104,12 @@ map_readings : (ys : List (Item Reading)) → map (λ y. line_bytes (reading_of 
 map_readings [] = refl
 map_readings (y ∷ ys) = ap₂ (λ (a : List ℕ) (b : List (List ℕ)). a ∷ b) (ap line_bytes (line_read y)) (map_readings ys)
 
-pub item_bytes : (ys : List (Item Reading)) (zs : List (Item (Edited Reading))) → map (item_with seen) ys ≡ map (item_with left_seen) zs →
+pub item_bytes : (ys : List (Item Reading)) (zs : List (Item (Edited Reading))) → map (item_with scanned) ys ≡ map (item_with left_seen) zs →
     map (λ y. line_bytes (reading_of y)) ys ≡ map left_piece zs
 item_bytes ys zs e =
     let bytes : List Seen → List (List ℕ) = map (λ (s : Seen). s.bytes) in
-    map_readings ys ∙ sym (map-twice (λ (y : Item Reading). seen (line_in y)) (λ (s : Seen). s.bytes) ys)
-    ∙ ap bytes (sym (map_lines seen ys) ∙ ap (λ (l : List (Item Seen)). map line_in l) e ∙ map_lines left_seen zs)
+    map_readings ys ∙ sym (map-twice (λ (y : Item Reading). scanned (line_in y)) (λ (s : Seen). s.bytes) ys)
+    ∙ ap bytes (sym (map_lines scanned ys) ∙ ap (λ (l : List (Item Seen)). map line_in l) e ∙ map_lines left_seen zs)
     ∙ map-twice (λ (z : Item (Edited Reading)). left_seen (line_in z)) (λ (s : Seen). s.bytes) zs
 
 kept_bytes : (ls : List Reading) → map edited_bytes (map (edited Keep) ls) ≡ map line_bytes ls
@@ -129,7 +129,7 @@ module _ (o : Options) (p : IsPlain o) (input : List ℕ) where
   pub record Result (r : Outcome) (ns : Nodes Reading) : Type 0 where
     pub tree : Nodes Reading
     pub is_tree : IsTreeOf o r.output (closed tree)
-    pub alike : with_lines seen tree ≡ with_lines left_seen (pruned ns)
+    pub alike : with_lines scanned tree ≡ with_lines left_seen (pruned ns)
     pub same : with_lines line_bytes tree ≡ with_lines edited_bytes (pruned ns)
     pub uncut : Each IsUncut is_tree.items
     pub few : Each IsFew is_tree.items
@@ -144,10 +144,10 @@ module _ (o : Options) (p : IsPlain o) (input : List ℕ) where
       let z : (ys : List (Item Reading)) × Again o (the_mode o) xs t ys = again o p xs t g.sound (subst AllButLast g.are (lines_end 1 (texts_of input) (lines_exist input).formed)) in
       let left : printed xs (marks t) ≡ lines_of_nodes (pruned ns) =
       ap₂ (λ (ys : List (Item Reading)) (u : Tree Reading). printed ys (marks u)) (sym (sound_lines g.sound) ∙ ap (λ (u : Tree Reading). lines u) same) same ∙ printed-pruned ns in
-      let along : AlongNodes left_seen seen (pruned ns) z.0 =
-      nodes_along left_seen seen (pruned ns) z.0 (z.1.same ∙ ap (λ (l : List (Item (Edited Reading))). map (item_with left_seen) l) left) in
+      let along : AlongNodes left_seen scanned (pruned ns) z.0 =
+      nodes_along left_seen scanned (pruned ns) z.0 (z.1.same ∙ ap (λ (l : List (Item (Edited Reading))). map (item_with left_seen) l) left) in
       let bytes : with_lines line_bytes along.tree ≡ with_lines edited_bytes (pruned ns) =
-      sym (with_lines-twice seen (λ (q : Seen). q.bytes) along.tree) ∙ ap (λ (m : Nodes Seen). with_lines (λ (q : Seen). q.bytes) m) along.same
+      sym (with_lines-twice scanned (λ (q : Seen). q.bytes) along.tree) ∙ ap (λ (m : Nodes Seen). with_lines (λ (q : Seen). q.bytes) m) along.same
       ∙ with_lines-twice left_seen (λ (q : Seen). q.bytes) (pruned ns) in
       let formed : AreFormed (map left_piece (printed xs (marks t))) =
       subst (λ (u : Tree Reading). AreFormed (map left_piece (printed xs (marks u)))) (sym same)
@@ -206,9 +206,9 @@ module _ (k : CleanRun) where
   -- Each opener of the output has the condition of the opener from which it comes.
   pub conditions_same : map condition_in (openers k.after) ≡ map (λ (e : Edited Reading). condition_in e.line) (openers (pruned k.before))
   conditions_same =
-      sym (map-twice seen (λ (q : Seen). q.condition) (openers k.after))
+      sym (map-twice scanned (λ (q : Seen). q.condition) (openers k.after))
       ∙ ap (λ (l : List Seen). map (λ (q : Seen). q.condition) l)
-      (sym (openers-with seen k.after) ∙ ap (λ (m : Nodes Seen). openers m) (ap (with_lines seen) same_tree ∙ result.alike) ∙ openers-with left_seen (pruned k.before))
+      (sym (openers-with scanned k.after) ∙ ap (λ (m : Nodes Seen). openers m) (ap (with_lines scanned) same_tree ∙ result.alike) ∙ openers-with left_seen (pruned k.before))
       ∙ map-twice left_seen (λ (q : Seen). q.condition) (openers (pruned k.before)) ∙ kept_conditions (openers (pruned k.before)) (pruned_keeps k.before)
 
   -- The openers of the output can be given the truths of those from which they come.
@@ -234,8 +234,8 @@ module _ (k : CleanRun) (w : World Reading) (g : IsCWorld k.options.table w k.be
   -- C may give the output the world that keeps its truths.
   pub c_world_again : (v : World Reading) → KeepsTruths w k.before v k.after → IsCWorld k.options.table v k.after
   c_world_again v t =
-      reached_alike seen left_seen v (λ (e : Edited Reading). w e.line) (λ (s : Seen) (b : Bool). MayBe k.options.table s.condition b) k.after (pruned k.before)
-      (ap (with_lines seen) (same_tree k) ∙ (result k).alike) t
+      reached_alike scanned left_seen v (λ (e : Edited Reading). w e.line) (λ (s : Seen) (b : Bool). MayBe k.options.table s.condition b) k.after (pruned k.before)
+      (ap (with_lines scanned) (same_tree k) ∙ (result k).alike) t
       (pruned_reached w (λ (l : Reading). MayBe k.options.table (condition_in l) (w l)) (λ (e : Edited Reading). MayBe k.options.table (left_seen e).condition (w e.line)) still k.before
       c_world_agrees g)
     where

@@ -20,7 +20,7 @@ use Rattle.ud_model.proofs.text.LinesLemmas.{text_of-line_at, numbered_from-next
 use Rattle.ud_model.proofs.output.PrintedPruned.{printed-append}
 use Rattle.ud_model.proofs.output.LeftReadings.{Left}
 use Rattle.ud_model.proofs.output.Rereads.{Again, IsUncut}
-use Rattle.ud_model.proofs.output.SeenLines.{Seen, seen, left_seen}
+use Rattle.ud_model.proofs.output.SeenLines.{Seen, scanned, left_seen}
 
 -- Lines with one more end in a comment if that line does.
 pub last_comment : (xs : List (Item Reading)) (x : Item Reading) → ends_in_comment (xs ++ x ∷ []) ≡ is_in_block (reading_of x).scan.comment
@@ -73,7 +73,7 @@ module _ (o : Options) (m : Mode) (xs : List (Item Reading)) (t u : Tree Reading
       ∙ ap (λ (p : List ℕ). bytes_read ys ++ p ∷ []) (ap line_bytes q_is ∙ text_of-line_at (suc (length (bytes_read ys))) piece) in
       record {
         read = one_read ys a.read (piece_behind_all ys piece);
-        same = map-append (item_with seen) ys (y ∷ [])
+        same = map-append (item_with scanned) ys (y ∷ [])
             ∙ ap₂ (λ (p s : List (Item Seen)). p ++ s) a.same (h.item ∙ ap (λ (z : Item Reading). map (item_with left_seen) (kept_line mark.verdict z)) (sym is))
             ∙ sym (map-append (item_with left_seen) (printed xs (marks t)) (kept_line mark.verdict x))
             ∙ sym (ap (λ (zs : List (Item (Edited Reading))). map (item_with left_seen) zs) printed_next);

@@ -17,7 +17,7 @@ use Rattle.ud_model.proofs.output.Each.{Each}
 use Rattle.ud_model.proofs.output.Heeding.{ReadIn, none_read}
 use Rattle.ud_model.proofs.output.JoinedAlike.{ends_kept}
 use Rattle.ud_model.proofs.output.LeavesOff.{LeavesOff, nowhere, joins_nothing}
-use Rattle.ud_model.proofs.output.SeenLines.{seen, left_seen}
+use Rattle.ud_model.proofs.output.SeenLines.{scanned, left_seen}
 
 -- The lines end between lines, and not in a comment.
 pub record Rests (ys : List (Item Reading)) : Type 0 where
@@ -41,7 +41,7 @@ IsUncut y = is_cut (content_of (reading_of y).scan) ≡ false
 -- a comment only if the lines do.
 pub record Again (o : Options) (m : Mode) (xs : List (Item Reading)) (t : Tree Reading) (ys : List (Item Reading)) : Type 0 where
   pub read : ReadIn o m ys
-  pub same : map (item_with seen) ys ≡ map (item_with left_seen) (printed xs (marks t))
+  pub same : map (item_with scanned) ys ≡ map (item_with left_seen) (printed xs (marks t))
   pub numbered : map line_of ys ≡ numbered_from 1 (map (λ y. line_bytes (reading_of y)) ys)
   pub uncut : Each IsUncut ys
   pub ends : ends_in_comment xs ≡ false → ends_in_comment ys ≡ false

@@ -16,8 +16,8 @@ pub record Seen : Type 0 where
   pub condition : Option Expression
 
 -- The case of a line that was read.
-abbrev pub seen : Reading → Seen
-seen r = record { bytes = line_bytes r; condition = condition_in r }
+abbrev pub scanned : Reading → Seen
+scanned r = record { bytes = line_bytes r; condition = condition_in r }
 
 -- An `#else` and an `#endif` have no condition.
 abbrev pub left_condition : Verdict → Reading → Option Expression

@@ -10,7 +10,7 @@ use Rattle.ud_model.specs.sections.Items.{Options, reading_of, line_of, next_ite
 use Rattle.ud_model.specs.sections.Faults.{AreFaultless, no_lines, one_more}
 use Rattle.ud_model.specs.output.Pruned.{printed}
 use Rattle.ud_model.specs.output.Rereading.{LinesFit, line_bytes}
-use Rattle.ud_model.proofs.output.SeenLines.{Seen, seen, left_seen}
+use Rattle.ud_model.proofs.output.SeenLines.{Seen, scanned, left_seen}
 use Rattle.ud_model.specs.declared.kind.Mode.{Mode}
 use Rattle.ud_model.specs.declared.limits.TheConstants.{LINE_BYTES, TEXT_LINES, OPEN_SECTIONS}
 use Rattle.ud_model.proofs.output.Each.{Each}
@@ -73,8 +73,8 @@ numbered_few n (t ∷ ts) (y ∷ ys) e h =
 -- Neither has the output for it.
 pub again_few : (o : Options) (m : Mode) (xs : List (Item Reading)) (t : Tree Reading) (ys : List (Item Reading)) → Again o m xs t ys → length xs ≤ TEXT_LINES → Each IsFew ys
 again_few o m xs t ys a h =
-    let b : length (map (item_with seen) ys) ≡ length (map (item_with left_seen) (printed xs (marks t))) = ap (λ (l : List (Item Seen)). length l) a.same in
-    let c : length (map (item_with seen) ys) ≡ length ys = length-map ys (item_with seen) in
+    let b : length (map (item_with scanned) ys) ≡ length (map (item_with left_seen) (printed xs (marks t))) = ap (λ (l : List (Item Seen)). length l) a.same in
+    let c : length (map (item_with scanned) ys) ≡ length ys = length-map ys (item_with scanned) in
     let d : length (map (item_with left_seen) (printed xs (marks t))) ≡ length (printed xs (marks t)) = length-map (printed xs (marks t)) (item_with left_seen) in
     let e : length (printed xs (marks t)) ≤ length xs = printed_most xs (marks t) in
     let f : length (map (λ (y : Item Reading). line_bytes (reading_of y)) ys) ≡ length ys = length-map ys (λ (y : Item Reading). line_bytes (reading_of y)) in

@@ -145,9 +145,9 @@ module _ (xs : List (Item Reading)) (t : Tree Reading) (are : lines t ≡ xs) (x
     by_place (out_of f e none) = without_tree f e none
 
   -- The line after lines with a tree is faultless, or has a fault.
-  pub stands : Stands xs x
+  pub represents : Stands xs x
   unfolding Either
-  stands = at_number (either_less TEXT_LINES (line_of x).number) (either_less LINE_BYTES (length (text_of (line_of x)))) (either_true (is_cut (content_of (reading_of x).scan)))
+  represents = at_number (either_less TEXT_LINES (line_of x).number) (either_less LINE_BYTES (length (text_of (line_of x)))) (either_true (is_cut (content_of (reading_of x).scan)))
     where
       at_number : Holds xs x past_last ⊎ (Holds xs x past_last → ⊥) → Holds xs x too_long ⊎ (Holds xs x too_long → ⊥) → Holds xs x cut ⊎ (Holds xs x cut → ⊥) → Stands xs x
       at_number (inl h) b c = faulty (too_many_lines (line_of x).number) (record { which = past_last; holds = h; first = tt; named = refl })
@@ -163,7 +163,7 @@ pub data Gone (o : Options) (ls : List Line) : Type 0 where
 module _ (o : Options) (ls : List Line) where
   gone_from : (rest : List Line) (xs : List (Item Reading)) (t : Tree Reading) → AreFaultless o xs t → ls ≡ map line_of xs ++ rest → Gone o ls
   gone_from [] xs t s e = through xs t (record { sound = s; are = e ∙ append-nil (map line_of xs) })
-  gone_from (l ∷ rest) xs t s e = go (stands xs t (sound_lines s) (next_item o xs t l)) (λ ys u r d. gone_from rest ys u r d)
+  gone_from (l ∷ rest) xs t s e = go (represents xs t (sound_lines s) (next_item o xs t l)) (λ ys u r d. gone_from rest ys u r d)
     where
       further : ls ≡ map line_of (xs ++ next_item o xs t l ∷ []) ++ rest
       further =

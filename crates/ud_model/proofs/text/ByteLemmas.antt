@@ -20,9 +20,9 @@ list_all-word (b ∷ bs) = ap (λ t. is_word_byte b && t) (list_all-word bs)
 abbrev pub front_len : List ℕ → ℕ
 front_len bytes = position_or_len (λ b. not (is_word_byte b)) bytes
 
-take_one : (w : Bool) (n b : ℕ) (bs front : List ℕ) → take n bs ≡ front → take (cond (not (not w)) (1 + n) 0) (b ∷ bs) ≡ (if w then b ∷ front else [])
-take_one true n b bs front h = rw one-add (ap (λ l. b ∷ l) h)
-take_one false n b bs front h = refl
+take_one : (w : Bool) (n b : ℕ) (bs prefix : List ℕ) → take n bs ≡ prefix → take (cond (not (not w)) (1 + n) 0) (b ∷ bs) ≡ (if w then b ∷ prefix else [])
+take_one true n b bs prefix h = rw one-add (ap (λ l. b ∷ l) h)
+take_one false n b bs prefix h = refl
 
 drop_one : (w : Bool) (n b : ℕ) (bs rest : List ℕ) → drop n bs ≡ rest → drop (cond (not (not w)) (1 + n) 0) (b ∷ bs) ≡ (if w then rest else b ∷ bs)
 drop_one true n b bs rest h = rw one-add h
@@ -62,9 +62,9 @@ pub length-skip_white : (bytes : List ℕ) → length (skip_white bytes) ≤ len
 length-skip_white [] = omega arith
 length-skip_white (b ∷ bs) = one_off (is_white b) b bs (skip_white bs) (length-skip_white bs)
 
-one_word : (w : Bool) (b : ℕ) (front : List ℕ) → is_word_byte b ≡ w → are_word_bytes front ≡ true → are_word_bytes (if w then b ∷ front else []) ≡ true
-one_word true b front e h = rw e h
-one_word false b front e h = refl
+one_word : (w : Bool) (b : ℕ) (prefix : List ℕ) → is_word_byte b ≡ w → are_word_bytes prefix ≡ true → are_word_bytes (if w then b ∷ prefix else []) ≡ true
+one_word true b prefix e h = rw e h
+one_word false b prefix e h = refl
 
 -- The leading word has word bytes alone.
 pub leading_word-word : (bytes : List ℕ) → are_word_bytes (leading_word bytes) ≡ true

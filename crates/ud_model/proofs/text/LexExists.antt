@@ -56,13 +56,13 @@ data LiteralEnd (q : ℕ) (u : List ℕ) : Type 0 where
   left_open : (inside rest : List ℕ) → IsLiteralBody q inside → u ≡ inside ++ rest → IsLineEnd rest → LiteralEnd q u
   left_at_backslash : (inside rest : List ℕ) → IsLiteralBody q inside → u ≡ inside ++ backslash ∷ rest → IsLineEnd rest → LiteralEnd q u
 
-longer : (q : ℕ) (front u : List ℕ) → ((i : List ℕ) → IsLiteralBody q i → IsLiteralBody q (front ++ i)) → LiteralEnd q u → LiteralEnd q (front ++ u)
-longer q front u more (quoted inside rest i is) =
-    quoted (front ++ inside) rest (more inside i) (ap (λ (l : List ℕ). front ++ l) is ∙ sym (append_assoc front inside (q ∷ rest)))
-longer q front u more (left_open inside rest i is at_end) =
-    left_open (front ++ inside) rest (more inside i) (ap (λ (l : List ℕ). front ++ l) is ∙ sym (append_assoc front inside rest)) at_end
-longer q front u more (left_at_backslash inside rest i is at_end) =
-    left_at_backslash (front ++ inside) rest (more inside i) (ap (λ (l : List ℕ). front ++ l) is ∙ sym (append_assoc front inside (backslash ∷ rest))) at_end
+longer : (q : ℕ) (prefix u : List ℕ) → ((i : List ℕ) → IsLiteralBody q i → IsLiteralBody q (prefix ++ i)) → LiteralEnd q u → LiteralEnd q (prefix ++ u)
+longer q prefix u more (quoted inside rest i is) =
+    quoted (prefix ++ inside) rest (more inside i) (ap (λ (l : List ℕ). prefix ++ l) is ∙ sym (append_assoc prefix inside (q ∷ rest)))
+longer q prefix u more (left_open inside rest i is at_end) =
+    left_open (prefix ++ inside) rest (more inside i) (ap (λ (l : List ℕ). prefix ++ l) is ∙ sym (append_assoc prefix inside rest)) at_end
+longer q prefix u more (left_at_backslash inside rest i is at_end) =
+    left_at_backslash (prefix ++ inside) rest (more inside i) (ap (λ (l : List ℕ). prefix ++ l) is ∙ sym (append_assoc prefix inside (backslash ∷ rest))) at_end
 
 -- The text with a backslash before it, or without.
 abbrev behind : Bool → List ℕ → List ℕ

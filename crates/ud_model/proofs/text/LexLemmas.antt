@@ -50,17 +50,17 @@ not_a_quote q n h none = ne_eqb q n (λ e. not_this_quote q n h none (sym e))
 inside_size : (q : ℕ) {inside : List ℕ} (rest : List ℕ) → is_quote q ≡ true → IsLiteralBody q inside →
     literal_size q false (inside ++ rest) ≡ length inside + literal_size q false rest
 inside_size q rest h nothing = sym (zero-add (literal_size q false rest))
-inside_size q rest h (plain {a = a} {rest = inside} no_feed no_quote no_backslash i) =
-    ap (λ (t : Bool). if t then 0 else if a == q then 1 else suc (literal_size q (a == backslash) (inside ++ rest))) (ne_eqb a 10 no_feed)
+inside_size q rest h (plain {a = a} {rest = inside} no_newline no_quote no_backslash i) =
+    ap (λ (t : Bool). if t then 0 else if a == q then 1 else suc (literal_size q (a == backslash) (inside ++ rest))) (ne_eqb a 10 no_newline)
     ∙ ap (λ (t : Bool). if t then 1 else suc (literal_size q (a == backslash) (inside ++ rest))) (ne_eqb a q no_quote)
     ∙ ap (λ (t : Bool). suc (literal_size q t (inside ++ rest))) (ne_eqb a 92 no_backslash)
     ∙ more (literal_size q false (inside ++ rest)) (length inside) (literal_size q false rest) (inside_size q rest h i)
   where
     more : (x n m : ℕ) → x ≡ n + m → suc x ≡ suc n + m
     more x n m e = omega arith
-inside_size q rest h (passed {b = b} {rest = inside} no_feed i) =
+inside_size q rest h (passed {b = b} {rest = inside} no_newline i) =
     ap (λ (t : Bool). if t then 1 else suc (if b == 10 then 0 else suc (literal_size q false (inside ++ rest)))) (ne_eqb 92 q (not_this_quote q 92 h refl))
-    ∙ ap (λ (t : Bool). suc (if t then 0 else suc (literal_size q false (inside ++ rest)))) (ne_eqb b 10 no_feed)
+    ∙ ap (λ (t : Bool). suc (if t then 0 else suc (literal_size q false (inside ++ rest)))) (ne_eqb b 10 no_newline)
     ∙ more (literal_size q false (inside ++ rest)) (length inside) (literal_size q false rest) (inside_size q rest h i)
   where
     more : (x n m : ℕ) → x ≡ n + m → suc (suc x) ≡ suc (suc n) + m
@@ -198,8 +198,8 @@ first_same k l (a ∷ s) (b ∷ t) rest more p q e =
     let behind : s ++ rest ≡ t ++ more = cc in
     let reach : ◌≡◌ {A = Extent} (record { kind = k; more = length s }) (record { kind = l; more = length t }) =
     sym (piece_size a s rest p) ∙ ap₂ lexeme_at same behind ∙ piece_size b t more q in
-    let front : (s ≡ t) × (rest ≡ more) = same_front s t rest more behind (ap (λ (x : Extent). x.more) reach) in
-    (ap (λ (x : Extent). x.kind) reach, ap₂ (λ (x : ℕ) (xs : List ℕ). x ∷ xs) same front.0, front.1)
+    let prefix : (s ≡ t) × (rest ≡ more) = same_front s t rest more behind (ap (λ (x : Extent). x.more) reach) in
+    (ap (λ (x : Extent). x.kind) reach, ap₂ (λ (x : ℕ) (xs : List ℕ). x ∷ xs) same prefix.0, prefix.1)
 
 -- A text has lexemes in one way at most.
 pub cut_unique : (text : List ℕ) (pieces others : List Lexeme) → AreLexemes pieces text → AreLexemes others text → pieces ≡ others

@@ -28,9 +28,9 @@ concat-last_line [] = refl
 concat-last_line (b ∷ bs) = append-nil (b ∷ bs)
 
 -- If neither of two texts has a newline, both joined have none.
-pub no_feed-append : (p q : List ℕ) → NoNewline p → NoNewline q → NoNewline (p ++ q)
-no_feed-append [] q hp hq = hq
-no_feed-append (b ∷ bs) q hp hq = (hp.0, no_feed-append bs q hp.1 hq)
+pub no_newline-append : (p q : List ℕ) → NoNewline p → NoNewline q → NoNewline (p ++ q)
+no_newline-append [] q hp hq = hq
+no_newline-append (b ∷ bs) q hp hq = (hp.0, no_newline-append bs q hp.1 hq)
 
 -- A text without a newline is all rest.
 pub split_lines-open : (p : List ℕ) → NoNewline p → split_lines p ≡ record { whole = []; rest = p }
@@ -40,18 +40,18 @@ split_lines-open (b ∷ bs) h =
     prepend_byte-other b (split_lines bs) h.0 ∙ ap (λ (q : SplitLines). prepend_to_first b q.whole q.rest) (split_lines-open bs h.1)
 
 -- Up to its first newline a text is its first line.
-pub split_lines-front : (p t : List ℕ) → NoNewline p →
+pub split_lines-prefix : (p t : List ℕ) → NoNewline p →
     split_lines (p ++ 10 ∷ t) ≡ record { whole = (p ++ 10 ∷ []) ∷ whole_lines t; rest = partial_line t }
 unfolding split_lines
-split_lines-front [] t h = refl
-split_lines-front (b ∷ bs) t h =
-    prepend_byte-other b (split_lines (bs ++ 10 ∷ t)) h.0 ∙ ap (λ (q : SplitLines). prepend_to_first b q.whole q.rest) (split_lines-front bs t h.1)
+split_lines-prefix [] t h = refl
+split_lines-prefix (b ∷ bs) t h =
+    prepend_byte-other b (split_lines (bs ++ 10 ∷ t)) h.0 ∙ ap (λ (q : SplitLines). prepend_to_first b q.whole q.rest) (split_lines-prefix bs t h.1)
 
 -- A whole line that a text begins with is its first line.
-pub split_lines-line-front : (l t : List ℕ) → IsWhole l → split_lines (l ++ t) ≡ record { whole = l ∷ whole_lines t; rest = partial_line t }
-split_lines-line-front l t (front, none, is) =
+pub split_lines-line-prefix : (l t : List ℕ) → IsWhole l → split_lines (l ++ t) ≡ record { whole = l ∷ whole_lines t; rest = partial_line t }
+split_lines-line-prefix l t (prefix, none, is) =
     subst (λ (m : List ℕ). split_lines (m ++ t) ≡ record { whole = m ∷ whole_lines t; rest = partial_line t }) (sym is)
-    (ap split_lines (append_assoc front (10 ∷ []) t) ∙ split_lines-front front t none)
+    (ap split_lines (append_assoc prefix (10 ∷ []) t) ∙ split_lines-prefix prefix t none)
 
 -- The parts of a text that goes on from these parts.
 abbrev pub going_on : SplitLines → List ℕ → SplitLines
@@ -113,7 +113,7 @@ partial_line-open t = (split_lines-are t).no_newline
 pub split_lines-append-open : (t p : List ℕ) → NoNewline p → split_lines (t ++ p) ≡ record { whole = whole_lines t; rest = partial_line t ++ p }
 split_lines-append-open t p h =
     split_lines-append t p ∙ ap (λ (q : SplitLines). record { whole = whole_lines t ++ q.whole; rest = q.rest })
-    (split_lines-open (partial_line t ++ p) (no_feed-append (partial_line t) p (partial_line-open t) h))
+    (split_lines-open (partial_line t ++ p) (no_newline-append (partial_line t) p (partial_line-open t) h))
     ∙ ap (λ (ls : List (List ℕ)). record { whole = ls; rest = partial_line t ++ p }) (append-nil (whole_lines t))
 
 -- A newline ends the line that the rest begins.
@@ -126,7 +126,7 @@ split_lines-append-line t p h =
     line : split_lines (partial_line t ++ (p ++ 10 ∷ [])) ≡ record { whole = (partial_line t ++ (p ++ 10 ∷ [])) ∷ []; rest = [] }
     line =
         subst (λ (x : List ℕ). split_lines x ≡ record { whole = x ∷ []; rest = [] }) (append_assoc (partial_line t) p (10 ∷ []))
-        (split_lines-front (partial_line t ++ p) [] (no_feed-append (partial_line t) p (partial_line-open t) h))
+        (split_lines-prefix (partial_line t ++ p) [] (no_newline-append (partial_line t) p (partial_line-open t) h))
 
 -- The whole lines of a longer text begin with those of the text. Its rest is that of the text's
 -- rest with the bytes after.
@@ -218,12 +218,12 @@ pub texts_of-formed : (ls : List (List ℕ)) → AreFormed ls → ls ≡ texts_o
 unfolding split_lines
 texts_of-formed [] h = refl
 texts_of-formed (l ∷ []) (inl whole) =
-    sym (ap (λ (q : SplitLines). q.whole ++ last_line q.rest) (split_lines-line-front l [] whole))
+    sym (ap (λ (q : SplitLines). q.whole ++ last_line q.rest) (split_lines-line-prefix l [] whole))
 texts_of-formed (l ∷ []) (inr (some, none)) =
     sym (ap texts_of (append-nil l) ∙ ap (λ (q : SplitLines). q.whole ++ last_line q.rest) (split_lines-open l none) ∙ last_line-some l some)
 texts_of-formed (l ∷ m ∷ ls) (whole, rest) =
     ap (λ (ms : List (List ℕ)). l ∷ ms) (texts_of-formed (m ∷ ls) rest)
-    ∙ sym (ap (λ (q : SplitLines). q.whole ++ last_line q.rest) (split_lines-line-front l (concat (m ∷ ls)) whole))
+    ∙ sym (ap (λ (q : SplitLines). q.whole ++ last_line q.rest) (split_lines-line-prefix l (concat (m ∷ ls)) whole))
 
 -- The lines of a text are these and no others.
 pub lines_are : (t : List ℕ) (ls : List (List ℕ)) → AreLines t ls → ls ≡ texts_of t
@@ -294,7 +294,7 @@ lines_of-append t more = (
 split_lines-whole : (ls : List (List ℕ)) (r : List ℕ) → AreWhole ls → NoNewline r → split_lines (concat ls ++ r) ≡ record { whole = ls; rest = r }
 split_lines-whole [] r whole none = split_lines-open r none
 split_lines-whole (l ∷ ls) r whole none =
-    ap split_lines (append_assoc l (concat ls) r) ∙ split_lines-line-front l (concat ls ++ r) whole.0
+    ap split_lines (append_assoc l (concat ls) r) ∙ split_lines-line-prefix l (concat ls ++ r) whole.0
     ∙ ap (λ (q : SplitLines). record { whole = l ∷ q.whole; rest = q.rest }) (split_lines-whole ls r whole.1 none)
 
 -- The parts of a text are these and no others.
@@ -302,16 +302,16 @@ pub parts_are : (t : List ℕ) (p : SplitLines) → AreSplitLines t p → p ≡ 
 parts_are t p h = sym (ap split_lines h.joined ∙ split_lines-whole p.whole p.rest h.whole h.no_newline)
 
 -- The lines that come after so many are numbered on from them.
-pub number_at : (n : ℕ) (ls : List (List ℕ)) (front : List Line) (l : Line) (later : List Line) →
-    numbered_from n ls ≡ front ++ l ∷ later → l.number ≡ n + length front
+pub number_at : (n : ℕ) (ls : List (List ℕ)) (prefix : List Line) (l : Line) (later : List Line) →
+    numbered_from n ls ≡ prefix ++ l ∷ later → l.number ≡ n + length prefix
 number_at n [] [] l later e = cc
-number_at n [] (f ∷ front) l later e = cc
+number_at n [] (f ∷ prefix) l later e = cc
 number_at n (k ∷ ls) [] l later e = let q : line_at n k ≡ l = cc in ap (λ (m : Line). m.number) (sym q) ∙ omega arith
-number_at n (k ∷ ls) (f ∷ front) l later e = let q : numbered_from (suc n) ls ≡ front ++ l ∷ later = cc in number_at (suc n) ls front l later q ∙ omega arith
+number_at n (k ∷ ls) (f ∷ prefix) l later e = let q : numbered_from (suc n) ls ≡ prefix ++ l ∷ later = cc in number_at (suc n) ls prefix l later q ∙ omega arith
 
 -- Line k of a text has the number k.
-pub number_is : (t : List ℕ) (front : List Line) (l : Line) (later : List Line) → lines_of t ≡ front ++ l ∷ later → l.number ≡ suc (length front)
-number_is t front l later e = number_at 1 (texts_of t) front l later e ∙ omega arith
+pub number_is : (t : List ℕ) (prefix : List Line) (l : Line) (later : List Line) → lines_of t ≡ prefix ++ l ∷ later → l.number ≡ suc (length prefix)
+number_is t prefix l later e = number_at 1 (texts_of t) prefix l later e ∙ omega arith
 
 -- The lines of a text have its bytes.
 pub map-lines_of : (t : List ℕ) → map text_of (lines_of t) ≡ texts_of t

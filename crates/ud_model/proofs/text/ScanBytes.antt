@@ -44,8 +44,8 @@ length-masked before line =
     ∙ ap (λ (l : List ℕ). length l) (bytes-content_cells (c_run_of before) line)
 
 -- The body begins with the line's content.
-pub content-front : (line : Line) → (rest : List ℕ) × (line.body ≡ content line ++ rest)
-content-front line = by_splice (is_spliced line)
+pub content-prefix : (line : Line) → (rest : List ℕ) × (line.body ≡ content line ++ rest)
+content-prefix line = by_splice (is_spliced line)
   where
     by_splice : (t : Bool) → (rest : List ℕ) × (line.body ≡ (if t then take (length line.body - 1) line.body else line.body) ++ rest)
     by_splice true = (drop (length line.body - 1) line.body, sym (take-append-drop (length line.body - 1) line.body))

@@ -153,40 +153,40 @@ pub joins_after-code : (run : List Line) (line : Line) → (scan_after_run run l
 unfolding scan_after_run
 joins_after-code run line = refl
 
-anew_code : (front group : List Reading) (last line : Line) → (scan_after_run (c_run_of front) last).joins_after ≡ false → last.ending ≢ [] →
-    scan_after_run (c_run_of ((front ++ next_reading front C last ∷ []) ++ group)) line ≡ scan_after_run (c_run_of group) line
-anew_code front group last line alone some =
-    let run : List Line = c_run_of front ++ last ∷ [] in
-    let j : joins run ≡ false = sym (joins_after-code (c_run_of front) last) ∙ alone in
+anew_code : (prefix group : List Reading) (last line : Line) → (scan_after_run (c_run_of prefix) last).joins_after ≡ false → last.ending ≢ [] →
+    scan_after_run (c_run_of ((prefix ++ next_reading prefix C last ∷ []) ++ group)) line ≡ scan_after_run (c_run_of group) line
+anew_code prefix group last line alone some =
+    let run : List Line = c_run_of prefix ++ last ∷ [] in
+    let j : joins run ≡ false = sym (joins_after-code (c_run_of prefix) last) ∙ alone in
     ap (λ (ls : List Line). scan_after_run ls line)
-    (c_run_from-append [] (front ++ next_reading front C last ∷ []) group
-    ∙ ap (λ (ls : List Line). c_run_from ls group) (run_of_last front (next_reading front C last) ∙ sym (append-nil run)))
-    ∙ scan_from_run run [] group line (starts_anew (c_run_of front) last j some) j
+    (c_run_from-append [] (prefix ++ next_reading prefix C last ∷ []) group
+    ∙ ap (λ (ls : List Line). c_run_from ls group) (run_of_last prefix (next_reading prefix C last) ∙ sym (append-nil run)))
+    ∙ scan_from_run run [] group line (starts_anew (c_run_of prefix) last j some) j
 
-anew_plain : (front group : List Reading) (last line : Line) →
-    scan_after_run (c_run_of ((front ++ next_reading front Plain last ∷ []) ++ group)) line ≡ scan_after_run (c_run_of group) line
-anew_plain front group last line =
+anew_plain : (prefix group : List Reading) (last line : Line) →
+    scan_after_run (c_run_of ((prefix ++ next_reading prefix Plain last ∷ []) ++ group)) line ≡ scan_after_run (c_run_of group) line
+anew_plain prefix group last line =
     ap (λ (ls : List Line). scan_after_run ls line)
-    (c_run_from-append [] (front ++ next_reading front Plain last ∷ []) group
-    ∙ ap (λ (ls : List Line). c_run_from ls group) (run_of_last front (next_reading front Plain last)))
+    (c_run_from-append [] (prefix ++ next_reading prefix Plain last ∷ []) group
+    ∙ ap (λ (ls : List Line). c_run_from ls group) (run_of_last prefix (next_reading prefix Plain last)))
 
 -- After a line that has an ending and doesn't join the next one, lines are scanned as if no line
 -- came before them.
-pub scan_alone : (front group : List Reading) (m n : Mode) (last line : Line) → (scan_after front m last).joins_after ≡ false → last.ending ≢ [] →
-    scan_after ((front ++ next_reading front m last ∷ []) ++ group) n line ≡ scan_after group n line
-scan_alone front group m Plain last line alone some = refl
-scan_alone front group C C last line alone some = anew_code front group last line alone some
-scan_alone front group Plain C last line alone some = anew_plain front group last line
+pub scan_alone : (prefix group : List Reading) (m n : Mode) (last line : Line) → (scan_after prefix m last).joins_after ≡ false → last.ending ≢ [] →
+    scan_after ((prefix ++ next_reading prefix m last ∷ []) ++ group) n line ≡ scan_after group n line
+scan_alone prefix group m Plain last line alone some = refl
+scan_alone prefix group C C last line alone some = anew_code prefix group last line alone some
+scan_alone prefix group Plain C last line alone some = anew_plain prefix group last line
 
 -- So further lines are read as if no line came before them.
-pub readings_alone : (front group : List Reading) (m : Mode) (last : Line) (lines : List (Mode × Line)) → (scan_after front m last).joins_after ≡ false →
-    last.ending ≢ [] → readings_after ((front ++ next_reading front m last ∷ []) ++ group) lines ≡ (front ++ next_reading front m last ∷ []) ++ readings_after group lines
-readings_alone front group m last [] alone some = refl
-readings_alone front group m last (l ∷ lines) alone some =
-    let before : List Reading = front ++ next_reading front m last ∷ [] in
-    ap (λ (s : Scan). readings_after ((before ++ group) ++ record { line = l.1; mode = l.0; scan = s } ∷ []) lines) (scan_alone front group m l.0 last l.1 alone some)
+pub readings_alone : (prefix group : List Reading) (m : Mode) (last : Line) (lines : List (Mode × Line)) → (scan_after prefix m last).joins_after ≡ false →
+    last.ending ≢ [] → readings_after ((prefix ++ next_reading prefix m last ∷ []) ++ group) lines ≡ (prefix ++ next_reading prefix m last ∷ []) ++ readings_after group lines
+readings_alone prefix group m last [] alone some = refl
+readings_alone prefix group m last (l ∷ lines) alone some =
+    let before : List Reading = prefix ++ next_reading prefix m last ∷ [] in
+    ap (λ (s : Scan). readings_after ((before ++ group) ++ record { line = l.1; mode = l.0; scan = s } ∷ []) lines) (scan_alone prefix group m l.0 last l.1 alone some)
     ∙ ap (λ (rs : List Reading). readings_after rs lines) (append_assoc before group (next_reading group l.0 l.1 ∷ []))
-    ∙ readings_alone front (group ++ next_reading group l.0 l.1 ∷ []) m last lines alone some
+    ∙ readings_alone prefix (group ++ next_reading group l.0 l.1 ∷ []) m last lines alone some
 
 -- Lines are read after those before them.
 pub readings_after-append : (before : List Reading) (lines more : List (Mode × Line)) →
@@ -195,15 +195,15 @@ readings_after-append before [] more = refl
 readings_after-append before (l ∷ lines) more = readings_after-append (before ++ next_reading before l.0 l.1 ∷ []) lines more
 
 -- The readings before stay as they are.
-pub readings_after-front : (before : List Reading) (lines : List (Mode × Line)) → (rest : List Reading) × (readings_after before lines ≡ before ++ rest)
-readings_after-front before [] = ([], sym (append-nil before))
-readings_after-front before (l ∷ lines) =
+pub readings_after-prefix : (before : List Reading) (lines : List (Mode × Line)) → (rest : List Reading) × (readings_after before lines ≡ before ++ rest)
+readings_after-prefix before [] = ([], sym (append-nil before))
+readings_after-prefix before (l ∷ lines) =
     let later : (rest : List Reading) × (readings_after (before ++ next_reading before l.0 l.1 ∷ []) lines ≡ (before ++ next_reading before l.0 l.1 ∷ []) ++ rest) =
-    readings_after-front (before ++ next_reading before l.0 l.1 ∷ []) lines in
+    readings_after-prefix (before ++ next_reading before l.0 l.1 ∷ []) lines in
     (next_reading before l.0 l.1 ∷ later.0, later.1 ∙ append_assoc before (next_reading before l.0 l.1 ∷ []) later.0)
 
 -- A longer list of lines begins with the readings of the shorter one.
 pub readings_grow : (lines more : List (Mode × Line)) → (rest : List Reading) × (readings_of (lines ++ more) ≡ readings_of lines ++ rest)
 readings_grow lines more =
-    let later : (rest : List Reading) × (readings_after (readings_of lines) more ≡ readings_of lines ++ rest) = readings_after-front (readings_of lines) more in
+    let later : (rest : List Reading) × (readings_after (readings_of lines) more ≡ readings_of lines ++ rest) = readings_after-prefix (readings_of lines) more in
     (later.0, readings_after-append [] lines more ∙ later.1)

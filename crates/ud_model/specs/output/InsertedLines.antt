@@ -74,7 +74,7 @@ pub record IsPrinted (j : Judged) (r s : Reading) : Type 0 where
   pub stays : is_removed j.verdict ≡ false
   pub bytes : text_of r.line ≡ piece_by j.verdict j.keyword j.line
   pub same : text_of s.line ≡ text_of r.line
-  pub seen : s.scan ≡ r.scan
+  pub scanned : s.scan ≡ r.scan
 
 -- `Counted js rs ss n`: each line of `rs` is in `ss` too, and counted there by its number in the
 -- input. The next line would have the number `n`.

@@ -23,7 +23,7 @@ use Rattle.ud_model.specs.output.InsertedLines.{IsBlankLine, IsNumberLine}
 -- `IsSame r s`: both lines have the same bytes and the same scan.
 pub record IsSame (r s : Reading) : Type 0 where
   pub bytes : text_of s.line ≡ text_of r.line
-  pub seen : s.scan ≡ r.scan
+  pub scanned : s.scan ≡ r.scan
 
 -- `IsSameOpener o p`: both openers have the same bytes and the same scan, and are decided alike.
 pub record IsSameOpener (o p : Opener Reading) : Type 0 where

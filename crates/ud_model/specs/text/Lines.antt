@@ -22,7 +22,7 @@ NoNewline (b ∷ bs) = (b ≢ newline) × NoNewline bs
 
 -- `IsWhole line`: `line` ends with a newline, and has no other one.
 abbrev pub IsWhole : List ℕ → Type 0
-IsWhole line = (front : List ℕ) × NoNewline front × (line ≡ front ++ newline ∷ [])
+IsWhole line = (prefix : List ℕ) × NoNewline prefix × (line ≡ prefix ++ newline ∷ [])
 
 -- `IsUnterminated line`: `line` has no newline and is nonempty, as the last line of a text may be.
 abbrev pub IsUnterminated : List ℕ → Type 0

@@ -2,7 +2,7 @@
 use Rattle.std.proofs.Common.{refl, subst, sym}
 use Rattle.ud_model.specs.text.Lines.{NoNewline}
 use Rattle.ud_text.proofs.NewlineLemmas.{no_newline_front, up_to_newline-none}
-use Rattle.ud_text.proofs.MaskLemmas.{no_feed-take}
+use Rattle.ud_text.proofs.MaskLemmas.{no_newline-take}
 use Rattle.ref_unifdef.proofs.cutting.cut_line.Goals as goal
 
 pub returns-in_default-clause-one_line : goal.returns-in_default-clause-one_line
@@ -15,4 +15,4 @@ returns-in_default-strip_suffix-clause-one_line c = no_newline_front c.args.text
 pub returns-clause-one_line : goal.returns-clause-one_line
 returns-clause-one_line c =
     subst NoNewline (sym c.in-Some-strip_suffix.ensures.cases.1)
-    (no_feed-take _ _ (no_newline_front c.args.text.now c.in-Some.at c.in-Some.ensures.0.before))
+    (no_newline-take _ _ (no_newline_front c.args.text.now c.in-Some.at c.in-Some.ensures.0.before))

@@ -18,8 +18,8 @@ loop-ruled-preserved g c =
           (next_line c.args.lines.now c.loop-ruled.ruled-index c.ruled-item.result c.loop-ruled-test.true ∙ ap (λ r. judged_of r ∷ left) (sym c.ruled-item.is)) (c.loop-ruled.invariant.goes before h) in
           goes_on (g.S.Show.represents c.loop-ruled.show) (g.S.Show.represents c.print_next.new.show) piece before all left here c.args.out.now.items c.loop-ruled.out.items c.print_next.new.out.items
           c.loop-ruled.same c.in_ok-kept.kept goes
-          (c.in_ok-kept.ensures.printed goes.passed goes.stands ∙ ap (λ (t : List ℕ). c.loop-ruled.out.items ++ t) (c.loop-ruled.invariant.piece goes.passed here))
-          (c.in_ok-kept.ensures.same goes.passed goes.stands ∙ ap (λ (t : List ℕ). bytes_eq t (text_of here.line)) (c.loop-ruled.invariant.piece goes.passed here))
-          (c.in_ok-kept.ensures.stands goes.passed goes.stands);
+          (c.in_ok-kept.ensures.printed goes.passed goes.represents ∙ ap (λ (t : List ℕ). c.loop-ruled.out.items ++ t) (c.loop-ruled.invariant.piece goes.passed here))
+          (c.in_ok-kept.ensures.same goes.passed goes.represents ∙ ap (λ (t : List ℕ). bytes_eq t (text_of here.line)) (c.loop-ruled.invariant.piece goes.passed here))
+          (c.in_ok-kept.ensures.represents goes.passed goes.represents);
       piece = λ js j. c.in_ok-kept.ensures.piece js j ∙ c.loop-ruled.invariant.piece js j;
     }

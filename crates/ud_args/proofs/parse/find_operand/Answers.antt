@@ -11,23 +11,23 @@ pub returns-in_err-parse_arg-clause-err : goal.returns-in_err-parse_arg-clause-e
 returns-in_err-parse_arg-clause-err c =
     let p = err_from_is_err_and c.from_residual.result c.from_residual.ensures.1 in
     let before = c.given.invariant in
-    let seen : is_some (operand_in before.0) ≡ c.is_some.result =
+    let scanned : is_some (operand_in before.0) ≡ c.is_some.result =
     ap is_some (sym before.3) ∙ is_some-turned as_operand c.given.operand ∙ sym c.is_some.ensures in
-    let all : parsed_args (map string_bytes c.args.args.now) ≡ before.0 ++ parsed_arg c.in-Some.given ∷ remaining_args c.in-Some.behind =
+    let all : parsed_args (map string_bytes c.args.args.now) ≡ before.0 ++ parsed_arg c.in-Some.given ∷ remaining_args c.in-Some.after =
     before.1 ∙ ap (λ (gs : List ParsedArg). before.0 ++ gs) c.in-Some.ensures in
-    rw (p.1, p.2, all) (c.in_err-parse_arg.ensures.err before.0 (remaining_args c.in-Some.behind) before.2 seen)
+    rw (p.1, p.2, all) (c.in_err-parse_arg.ensures.err before.0 (remaining_args c.in-Some.after) before.2 scanned)
 
 pub given-preserved : goal.given-preserved
 given-preserved c =
     let before = c.given.invariant in
     let g : ParsedArg = parsed_arg c.in-Some.given in
-    let seen : is_some (operand_in before.0) ≡ c.is_some.result =
+    let scanned : is_some (operand_in before.0) ≡ c.is_some.result =
     ap is_some (sym before.3) ∙ is_some-turned as_operand c.given.operand ∙ sym c.is_some.ensures in
-    let none : operand_in before.0 ≡ None = operand_in-none (operand_in before.0) (seen ∙ c.in_ok-parse_arg.ensures.first) in
-    let all : parsed_args (map string_bytes c.args.args.now) ≡ before.0 ++ g ∷ remaining_args c.in-Some.behind =
+    let none : operand_in before.0 ≡ None = operand_in-none (operand_in before.0) (scanned ∙ c.in_ok-parse_arg.ensures.first) in
+    let all : parsed_args (map string_bytes c.args.args.now) ≡ before.0 ++ g ∷ remaining_args c.in-Some.after =
     before.1 ∙ ap (λ (gs : List ParsedArg). before.0 ++ gs) c.in-Some.ensures in (
       before.0 ++ g ∷ [],
-      all ∙ sym (append_assoc before.0 (g ∷ []) (remaining_args c.in-Some.behind)),
+      all ∙ sym (append_assoc before.0 (g ∷ []) (remaining_args c.in-Some.after)),
       first_fault-append before.0 (g ∷ []) before.2 none ∙ first_fault-said g c.in_ok-parse_arg.field-0 c.in_ok-parse_arg.ensures.ok,
       c.as_operand-operand.ensures g c.in_ok-parse_arg.ensures.ok ∙ sym (operand_in-append before.0 (g ∷ []) none),
     )

@@ -14,16 +14,16 @@ returns-in-Unreadable-clause-none c = absurd (readable c.tokens.rest.now c.in-Un
 
 pub returns-in-Some-clause-some : goal.returns-in-Some-clause-some
 returns-in-Some-clause-some c =
-    let step = steps c.tokens.rest.now (as_token c.in-Found.token) c.in-Found.behind.now c.in-Found.ensures c.tokens.invariant.1 in
-    c.tokens.invariant.0 ∙ step.names ∙ ap (λ o. option_to_list o ++ names_in_text c.in-Found.behind.now) (sym c.in-Some.ensures)
+    let step = steps c.tokens.rest.now (as_token c.in-Found.token) c.in-Found.after.now c.in-Found.ensures c.tokens.invariant.1 in
+    c.tokens.invariant.0 ∙ step.names ∙ ap (λ o. option_to_list o ++ names_in_text c.in-Found.after.now) (sym c.in-Some.ensures)
 
 pub returns-in-Some-clause-whole : goal.returns-in-Some-clause-whole
-returns-in-Some-clause-whole c = (steps c.tokens.rest.now (as_token c.in-Found.token) c.in-Found.behind.now c.in-Found.ensures c.tokens.invariant.1).whole
+returns-in-Some-clause-whole c = (steps c.tokens.rest.now (as_token c.in-Found.token) c.in-Found.after.now c.in-Found.ensures c.tokens.invariant.1).whole
 
 pub tokens-smaller : goal.tokens-smaller
-tokens-smaller c = shorter c.tokens.rest.now c.in-Found.behind.now (as_token c.in-Found.token) (sym c.in-Found.ensures)
+tokens-smaller c = shorter c.tokens.rest.now c.in-Found.after.now (as_token c.in-Found.token) (sym c.in-Found.ensures)
 
 pub tokens-preserved : goal.tokens-preserved
 tokens-preserved c =
-    let step = steps c.tokens.rest.now (as_token c.in-Found.token) c.in-Found.behind.now c.in-Found.ensures c.tokens.invariant.1 in
-    (c.tokens.invariant.0 ∙ step.names ∙ ap (λ o. option_to_list o ++ names_in_text c.in-Found.behind.now) (sym c.in_default.ensures), step.whole)
+    let step = steps c.tokens.rest.now (as_token c.in-Found.token) c.in-Found.after.now c.in-Found.ensures c.tokens.invariant.1 in
+    (c.tokens.invariant.0 ∙ step.names ∙ ap (λ o. option_to_list o ++ names_in_text c.in-Found.after.now) (sym c.in_default.ensures), step.whole)

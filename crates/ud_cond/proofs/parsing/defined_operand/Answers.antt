@@ -14,37 +14,37 @@ returns-in-Unreadable c = step.asks-unreadable (value_meaning_in c.args.scope.no
 
 pub returns-in-Opening : goal.returns-in-Opening
 returns-in-Opening c =
-    let front = ap (λ t. found (as_token t) c.in-Found.rest.now) (sym c.in-Opening.is) ∙ c.in-Found.ensures in
-    step.asks-parens (value_meaning_in c.args.scope.now) c.args.text.now c.in-Found.rest.now _ (sym front) c.defined_in_parens.ensures
+    let prefix = ap (λ t. found (as_token t) c.in-Found.rest.now) (sym c.in-Opening.is) ∙ c.in-Found.ensures in
+    step.asks-parens (value_meaning_in c.args.scope.now) c.args.text.now c.in-Found.rest.now _ (sym prefix) c.defined_in_parens.ensures
 
 pub returns-then-arguments : goal.returns-then-arguments
 returns-then-arguments c =
-    let front = ap (λ t. found (as_token t) c.in-Found.rest.now) (sym c.in-Name.is) ∙ c.in-Found.ensures in
-    let called = ap (λ a. found (name c.in-Name.name.now a) c.in-Found.rest.now) (sym c.if-arguments.true) ∙ front in
+    let prefix = ap (λ t. found (as_token t) c.in-Found.rest.now) (sym c.in-Name.is) ∙ c.in-Found.ensures in
+    let called = ap (λ a. found (name c.in-Name.name.now a) c.in-Found.rest.now) (sym c.if-arguments.true) ∙ prefix in
     step.stuck-at (value_meaning_in c.args.scope.now) (λ s. asks s) c.args.text.now c.in-Found.rest.now (name c.in-Name.name.now true) (λ s. refl) called
 
 pub returns-else-arguments : goal.returns-else-arguments
 returns-else-arguments c =
-    let front = ap (λ t. found (as_token t) c.in-Found.rest.now) (sym c.in-Name.is) ∙ c.in-Found.ensures in
-    let plain = ap (λ a. found (name c.in-Name.name.now a) c.in-Found.rest.now) (sym c.if-arguments.false) ∙ front in
+    let prefix = ap (λ t. found (as_token t) c.in-Found.rest.now) (sym c.in-Name.is) ∙ c.in-Found.ensures in
+    let plain = ap (λ a. found (name c.in-Name.name.now a) c.in-Found.rest.now) (sym c.if-arguments.false) ∙ prefix in
     rw c.defined.ensures (step.asks-plain (value_meaning_in c.args.scope.now) c.args.text.now c.in-Name.name.now c.in-Found.rest.now (sym plain))
 
 pub returns-in-Number : goal.returns-in-Number
 returns-in-Number c =
-    let front = ap (λ t. found (as_token t) c.in-Found.rest.now) (sym c.in-Number.is) ∙ c.in-Found.ensures in
-    step.stuck-at (value_meaning_in c.args.scope.now) (λ s. asks s) c.args.text.now c.in-Found.rest.now _ (λ s. refl) front
+    let prefix = ap (λ t. found (as_token t) c.in-Found.rest.now) (sym c.in-Number.is) ∙ c.in-Found.ensures in
+    step.stuck-at (value_meaning_in c.args.scope.now) (λ s. asks s) c.args.text.now c.in-Found.rest.now _ (λ s. refl) prefix
 
 pub returns-in-Defined : goal.returns-in-Defined
 returns-in-Defined c =
-    let front = ap (λ t. found (as_token t) c.in-Found.rest.now) (sym c.in-Defined.is) ∙ c.in-Found.ensures in
-    step.stuck-at (value_meaning_in c.args.scope.now) (λ s. asks s) c.args.text.now c.in-Found.rest.now _ (λ s. refl) front
+    let prefix = ap (λ t. found (as_token t) c.in-Found.rest.now) (sym c.in-Defined.is) ∙ c.in-Found.ensures in
+    step.stuck-at (value_meaning_in c.args.scope.now) (λ s. asks s) c.args.text.now c.in-Found.rest.now _ (λ s. refl) prefix
 
 pub returns-in-Operator : goal.returns-in-Operator
 returns-in-Operator c =
-    let front = ap (λ t. found (as_token t) c.in-Found.rest.now) (sym c.in-Operator.is) ∙ c.in-Found.ensures in
-    step.stuck-at (value_meaning_in c.args.scope.now) (λ s. asks s) c.args.text.now c.in-Found.rest.now _ (λ s. refl) front
+    let prefix = ap (λ t. found (as_token t) c.in-Found.rest.now) (sym c.in-Operator.is) ∙ c.in-Found.ensures in
+    step.stuck-at (value_meaning_in c.args.scope.now) (λ s. asks s) c.args.text.now c.in-Found.rest.now _ (λ s. refl) prefix
 
 pub returns-in-Closing : goal.returns-in-Closing
 returns-in-Closing c =
-    let front = ap (λ t. found (as_token t) c.in-Found.rest.now) (sym c.in-Closing.is) ∙ c.in-Found.ensures in
-    step.stuck-at (value_meaning_in c.args.scope.now) (λ s. asks s) c.args.text.now c.in-Found.rest.now _ (λ s. refl) front
+    let prefix = ap (λ t. found (as_token t) c.in-Found.rest.now) (sym c.in-Closing.is) ∙ c.in-Found.ensures in
+    step.stuck-at (value_meaning_in c.args.scope.now) (λ s. asks s) c.args.text.now c.in-Found.rest.now _ (λ s. refl) prefix

@@ -7,8 +7,8 @@ use Rattle.ud_text.proofs.SignificantLemmas.{row_bytes}
 use Rattle.ud_text.proofs.NibbleTable.{low_ok, is_told, lanes_told, map_told}
 use Rattle.ud_text.proofs.blocks.block_bits.Goals as goal
 
-pub swizzle-told : goal.swizzle-told
-swizzle-told c = low_ok (take 64 (drop c.args.at c.args.bytes.now)) (length-chunk c.args.at 64 c.args.bytes.now c.requires)
+pub swizzle-expected : goal.swizzle-expected
+swizzle-expected c = low_ok (take 64 (drop c.args.at c.args.bytes.now)) (length-chunk c.args.at 64 c.args.bytes.now c.requires)
 
 pub returns : goal.returns
 returns c =

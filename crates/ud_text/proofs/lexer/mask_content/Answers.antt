@@ -1,7 +1,7 @@
 -- A run and one more byte are read.
 use Rattle.std.proofs.Common.{◌+◌, ◌++◌, sym, ap, refl, append-nil, arith, take_all, length, length-drop, rules}
 use Rattle.ud_model.proofs.text.ScanLemmas.{Masks-start}
-use Rattle.ud_text.proofs.MaskLemmas.{Masks-same, run_read, byte_read, no_feed-take, no_feed-drop}
+use Rattle.ud_text.proofs.MaskLemmas.{Masks-same, run_read, byte_read, no_newline-take, no_newline-drop}
 use Rattle.ud_text.proofs.lexer.mask_content.Goals as goal
 
 pub loop-at-init : goal.loop-at-init
@@ -16,7 +16,7 @@ mask_uniform-count-requires g c = (
   search rules,
   (
     omega (arith, c.loop-at.invariant.size, c.loop-at.invariant.within, length-drop c.loop-at.at c.args.content.now, c.requires.fits),
-    no_feed-take _ _ (no_feed-drop c.loop-at.at c.args.content.now c.requires.one_line),
+    no_newline-take _ _ (no_newline-drop c.loop-at.at c.args.content.now c.requires.one_line),
   ),
 )
 

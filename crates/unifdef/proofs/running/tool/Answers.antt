@@ -5,7 +5,7 @@ use Rattle.ud_engine.specs.declared.fault.RunFault.{RunFault}
 use Rattle.ud_io.specs.Watched.{AppendsAllOrPrefix}
 use Rattle.ud_io.proofs.BufferingLemmas.{all_or_prefix_same}
 use Rattle.ud_diagnostics.specs.RunMessages.{final_result, result_message, result_status}
-use Rattle.unifdef.proofs.EndedLemmas.{flushed_went, read_told, write_told}
+use Rattle.unifdef.proofs.EndedLemmas.{flushed_went, read_reported, write_reported}
 use Rattle.unifdef.proofs.HeadlineLemmas.{usage_answers, lacks_memory, flushed_answers, flushed_kept_up, failed_told, failed_status}
 use Rattle.unifdef.proofs.RefusalLemmas.{tells_usage, none_told, none_found, works_fails}
 use Rattle.unifdef.proofs.running.tool.Goals as goal
@@ -30,7 +30,7 @@ returns-in-Err-clause-answer g c = λ read_works write_works.
 pub returns-in-Ok-clause-lag : goal.returns-in-Ok-clause-lag
 returns-in-Ok-clause-lag g c = λ right.
     inl (flushed_kept_up (options_of (map string_bytes c.args.args.now)) _ _ _ _ _
-    (c.run-ran.ensures.lag (options_of (map string_bytes c.args.args.now)) (sym c.in-Ok.ensures.ok.said) c.in-Ok.ensures.ok.stands)
+    (c.run-ran.ensures.lag (options_of (map string_bytes c.args.args.now)) (sym c.in-Ok.ensures.ok.said) c.in-Ok.ensures.ok.represents)
     c.flush-flushed.ensures.unchanged)
 
 pub returns-in-Ok-clause-ended : goal.returns-in-Ok-clause-ended
@@ -38,13 +38,13 @@ returns-in-Ok-clause-ended g c = λ right.
     inl (record {
       ran = c.run-ran.result;
       flushed = c.flush-flushed.result;
-      went = flushed_went (options_of (map string_bytes c.args.args.now)) _ _ _ _ _ c.run-ran.result
-          (c.run-ran.ensures.ended (options_of (map string_bytes c.args.args.now)) (sym c.in-Ok.ensures.ok.said) c.in-Ok.ensures.ok.stands)
+      ended = flushed_went (options_of (map string_bytes c.args.args.now)) _ _ _ _ _ c.run-ran.result
+          (c.run-ran.ensures.ended (options_of (map string_bytes c.args.args.now)) (sym c.in-Ok.ensures.ok.said) c.in-Ok.ensures.ok.represents)
           c.flush-flushed.ensures.unchanged;
-      read_failed = read_told c.run-ran.new.reader.failed c.run-ran.result c.run-ran.ensures.read_fails.0 c.run-ran.ensures.read_fails.1;
-      write_failed = write_told c.run-ran.new.out.failed c.flush-flushed.new.self.failed c.flush-flushed.result c.run-ran.result
+      read_failed = read_reported c.run-ran.new.reader.failed c.run-ran.result c.run-ran.ensures.read_fails.0 c.run-ran.ensures.read_fails.1;
+      write_failed = write_reported c.run-ran.new.out.failed c.flush-flushed.new.self.failed c.flush-flushed.result c.run-ran.result
           c.run-ran.ensures.write_fails.0 c.run-ran.ensures.write_fails.1 c.flush-flushed.ensures.failed c.flush-flushed.ensures.fused;
-      told = message_is g c;
+      reported = message_is g c;
       answered = status_is g c;
     })
 
@@ -53,15 +53,15 @@ returns-in-Ok-clause-answer g c = λ read_works write_works.
     IfSome_then _
     (flushed_answers (map string_bytes c.args.args.now) _ c.run-ran.result c.run-ran.new.out.failed c.flush-flushed.new.self.failed c.flush-flushed.result _ _ _ _ _ _ _
     c.in-Ok.ensures.ok.right
-    (c.run-ran.ensures.ran (options_of (map string_bytes c.args.args.now)) (sym c.in-Ok.ensures.ok.said) c.in-Ok.ensures.ok.stands read_works)
+    (c.run-ran.ensures.ran (options_of (map string_bytes c.args.args.now)) (sym c.in-Ok.ensures.ok.said) c.in-Ok.ensures.ok.represents read_works)
     c.flush-flushed.ensures.unchanged c.flush-flushed.ensures.failed c.flush-flushed.ensures.fused write_works (message_is g c) (status_is g c))
     (λ input gave. inl gave)
 
-pub returns-in-Ok-clause-write_told : goal.returns-in-Ok-clause-write_told
-returns-in-Ok-clause-write_told g c = λ fails read_works.
+pub returns-in-Ok-clause-write_reported : goal.returns-in-Ok-clause-write_reported
+returns-in-Ok-clause-write_reported g c = λ fails read_works.
     failed_told (map string_bytes c.args.args.now) _ c.run-ran.result c.run-ran.new.out.failed c.flush-flushed.new.self.failed c.flush-flushed.result _ _ _ _ _ _ _
     c.in-Ok.ensures.ok.right
-    (c.run-ran.ensures.ran (options_of (map string_bytes c.args.args.now)) (sym c.in-Ok.ensures.ok.said) c.in-Ok.ensures.ok.stands read_works)
+    (c.run-ran.ensures.ran (options_of (map string_bytes c.args.args.now)) (sym c.in-Ok.ensures.ok.said) c.in-Ok.ensures.ok.represents read_works)
     c.flush-flushed.ensures.unchanged c.run-ran.ensures.write_fails.0 c.flush-flushed.ensures.failed fails (message_is g c) (status_is g c)
 
 -- a failed read has status 2, and is reported
@@ -71,8 +71,8 @@ returns-in-Ok-clause-read_fails g c = λ fails.
     ∙ ap (λ (r : Result Bool RunFault). result_status (options_of (map string_bytes c.args.args.now)).settings (final_result r c.flush-flushed.result))
     (c.run-ran.ensures.read_fails.0 fails)
 
-pub returns-in-Ok-clause-read_told : goal.returns-in-Ok-clause-read_told
-returns-in-Ok-clause-read_told g c = λ fails.
+pub returns-in-Ok-clause-read_reported : goal.returns-in-Ok-clause-read_reported
+returns-in-Ok-clause-read_reported g c = λ fails.
     all_or_prefix_same c.report_result.new.err.failed _ _ _ _
     (ap (λ (r : Result Bool RunFault). result_message (display_name (map string_bytes c.args.args.now)) (final_result r c.flush-flushed.result))
     (c.run-ran.ensures.read_fails.0 fails))
@@ -88,8 +88,8 @@ returns-in-Ok-clause-write_fails g c = λ fails.
 pub returns-in-Ok-clause-untouched : goal.returns-in-Ok-clause-untouched
 returns-in-Ok-clause-untouched g c = λ wrong. absurd (none_found (usage_fault (map string_bytes c.args.args.now)) c.in-Ok.ensures.ok.right wrong)
 
-pub returns-in-Ok-clause-refused : goal.returns-in-Ok-clause-refused
-returns-in-Ok-clause-refused g c = none_told (usage_fault (map string_bytes c.args.args.now)) _ c.in-Ok.ensures.ok.right
+pub returns-in-Ok-clause-usage_reported : goal.returns-in-Ok-clause-usage_reported
+returns-in-Ok-clause-usage_reported g c = none_told (usage_fault (map string_bytes c.args.args.now)) _ c.in-Ok.ensures.ok.right
 
 -- if arguments without a fault are rejected, memory couldn't be allocated
 pub returns-in-Err-clause-lag : goal.returns-in-Err-clause-lag
@@ -104,8 +104,8 @@ returns-in-Err-clause-ended g c = λ right.
 pub returns-in-Err-clause-untouched : goal.returns-in-Err-clause-untouched
 returns-in-Err-clause-untouched g c = λ wrong. (refl, refl)
 
-pub returns-in-Err-clause-refused : goal.returns-in-Err-clause-refused
-returns-in-Err-clause-refused g c =
+pub returns-in-Err-clause-usage_reported : goal.returns-in-Err-clause-usage_reported
+returns-in-Err-clause-usage_reported g c =
     tells_usage (parsed_args (map string_bytes c.args.args.now)) c.in-Err.fault _ _ _ _ 2 refl c.in-Err.ensures.err c.report_usage.ensures refl
 
 pub returns-in-Err-clause-read_fails : goal.returns-in-Err-clause-read_fails
@@ -114,11 +114,11 @@ returns-in-Err-clause-read_fails g c = λ fails. refl
 pub returns-in-Err-clause-write_fails : goal.returns-in-Err-clause-write_fails
 returns-in-Err-clause-write_fails g c = λ fails. refl
 
-pub returns-in-Err-clause-read_told : goal.returns-in-Err-clause-read_told
-returns-in-Err-clause-read_told g c = λ fails. absurd (works_fails c.args.reader.now.failed c.requires.reader fails)
+pub returns-in-Err-clause-read_reported : goal.returns-in-Err-clause-read_reported
+returns-in-Err-clause-read_reported g c = λ fails. absurd (works_fails c.args.reader.now.failed c.requires.reader fails)
 
-pub returns-in-Err-clause-write_told : goal.returns-in-Err-clause-write_told
-returns-in-Err-clause-write_told g c = λ fails read_works. absurd (works_fails c.args.out.now.failed c.requires.out fails)
+pub returns-in-Err-clause-write_reported : goal.returns-in-Err-clause-write_reported
+returns-in-Err-clause-write_reported g c = λ fails read_works. absurd (works_fails c.args.out.now.failed c.requires.out fails)
 
 -- the streams haven't failed before they are used
 pub run-ran-requires : goal.run-ran-requires

@@ -11,15 +11,15 @@ use Rattle.ud_args.proofs.plans.Plan.apply.Goals as goal
 
 pub returns-in-Err-clause-err : goal.returns-in-Err-clause-err
 returns-in-Err-clause-err c = λ gs p more.
-    let seen : is_some (operand_in gs) ≡ c.is_some.result =
+    let scanned : is_some (operand_in gs) ≡ c.is_some.result =
     is_some-operand_in c.args.self.now gs c.self.inside.operand c.is_some.result p (ap (λ (q : PlanState). q.operand) c.self.view_is) c.is_some.ensures in
-    IsUsageOf-fault (gs ++ parsed_arg c.args.given ∷ more) c.in-Err.fault (c.in-Err.ensures.err gs more p.right seen)
+    IsUsageOf-fault (gs ++ parsed_arg c.args.given ∷ more) c.in-Err.fault (c.in-Err.ensures.err gs more p.right scanned)
 
 pub returns-in-Ok-clause-err : goal.returns-in-Ok-clause-err
 returns-in-Ok-clause-err c = λ gs p more.
-    let seen : is_some (operand_in gs) ≡ c.is_some.result =
+    let scanned : is_some (operand_in gs) ≡ c.is_some.result =
     is_some-operand_in c.args.self.now gs c.self.inside.operand c.is_some.result p (ap (λ (q : PlanState). q.operand) c.self.view_is) c.is_some.ensures in
-    let none : operand_in gs ≡ None = operand_in-none (operand_in gs) (seen ∙ c.in-Ok.ensures.first) in
+    let none : operand_in gs ≡ None = operand_in-none (operand_in gs) (scanned ∙ c.in-Ok.ensures.first) in
     IfErr-weaker c.set.result (λ u. (u ≡ OutOfMemory) × IsSome (argument_in (parsed_arg c.args.given))) (IsUsageOf (gs ++ parsed_arg c.args.given ∷ more))
-    (λ u h. IsUsageOf-memory gs more (parsed_arg c.args.given) c.in-Ok.said u p.right none c.in-Ok.ensures.ok h)
+    (λ u h. IsUsageOf-memory gs more (parsed_arg c.args.given) c.in-Ok.setting u p.right none c.in-Ok.ensures.ok h)
     (c.set.ensures.err (parsed_arg c.args.given) c.in-Ok.ensures.ok)

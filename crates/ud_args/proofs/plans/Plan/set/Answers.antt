@@ -22,9 +22,9 @@ returns-in-Mode-clause-ok c = λ gs g p free is.
 
 pub returns-in-Symbol-clause-ok : goal.returns-in-Symbol-clause-ok
 returns-in-Symbol-clause-ok c = λ gs g p free is.
-    let says : SetsSymbol g (as_argument c.in-Symbol.symbol) = rw (c.in-Symbol.is) at is in
+    let sets : SetsSymbol g (as_argument c.in-Symbol.symbol) = rw (c.in-Symbol.is) at is in
     on_ok_weaker c.set_symbol.result
-    (λ stands. represents_symbol c.args.self.now c.set_symbol.new.self gs g (as_argument c.in-Symbol.symbol) p free says c.set_symbol.ensures.same.0 (stands (filter_map argument_in gs) p.stands) c.set_symbol.ensures.same.1)
+    (λ represents. represents_symbol c.args.self.now c.set_symbol.new.self gs g (as_argument c.in-Symbol.symbol) p free sets c.set_symbol.ensures.same.0 (represents (filter_map argument_in gs) p.represents) c.set_symbol.ensures.same.1)
     c.set_symbol.ensures.ok
 
 pub returns-in-Operand-clause-ok : goal.returns-in-Operand-clause-ok

@@ -33,16 +33,16 @@ pub returns-then-not-may_contain-clause-value : goal.returns-then-not-may_contai
 returns-then-not-may_contain-clause-value c = unmarked c
 
 pub returns-then-not-may_contain-clause-represents : goal.returns-then-not-may_contain-clause-represents
-returns-then-not-may_contain-clause-represents c = λ calls stands. unmarked c ∙ stands c.args.name.now
+returns-then-not-may_contain-clause-represents c = λ calls represents. unmarked c ∙ represents c.args.name.now
 
 pub returns-in-Ok-clause-value : goal.returns-in-Ok-clause-value
 returns-in-Ok-clause-value c = found c
 
 pub returns-in-Ok-clause-represents : goal.returns-in-Ok-clause-represents
-returns-in-Ok-clause-represents c = λ calls stands. found c ∙ stands c.args.name.now
+returns-in-Ok-clause-represents c = λ calls represents. found c ∙ represents c.args.name.now
 
 pub returns-in-Err-clause-value : goal.returns-in-Err-clause-value
 returns-in-Err-clause-value c = missed c
 
 pub returns-in-Err-clause-represents : goal.returns-in-Err-clause-represents
-returns-in-Err-clause-represents c = λ calls stands. missed c ∙ stands c.args.name.now
+returns-in-Err-clause-represents c = λ calls represents. missed c ∙ represents c.args.name.now

@@ -1,9 +1,9 @@
 use Rattle.std.proofs.Common.{None}
 use Rattle.std.proofs.lemmas.Result.{on_ok_weaker}
 use Rattle.ud_cond.specs.CondViews.{argument_for}
-use Rattle.ud_cond.proofs.TableLemmas.{stands-changes}
+use Rattle.ud_cond.proofs.TableLemmas.{represents-changes}
 use Rattle.ud_cond.proofs.symbols.Symbols.undefine.Goals as goal
 
 pub returns-clause-represents : goal.returns-clause-represents
 returns-clause-represents c =
-    on_ok_weaker c.update.result (λ changed. λ calls stands. stands-changes c.args.self.now c.update.new.self calls (argument_for c.args.name.now None c.args.ignoring) changed stands) c.update.ensures.ok
+    on_ok_weaker c.update.result (λ changed. λ calls represents. represents-changes c.args.self.now c.update.new.self calls (argument_for c.args.name.now None c.args.ignoring) changed represents) c.update.ensures.ok

@@ -5,32 +5,32 @@ use Rattle.ud_engine.proofs.StepLemmas.{run_refused_by}
 use Rattle.ud_engine.proofs.CursorLemmas.{place_after, passed_kept, passed_dropped}
 use Rattle.ud_engine.proofs.engine.Engine.advance_in_bulk.Goals as goal
 
-pub returns-then-passed-clause-cursor : goal.returns-then-passed-clause-cursor
-returns-then-passed-clause-cursor g c =
+pub returns-then-skipped-clause-cursor : goal.returns-then-skipped-clause-cursor
+returns-then-skipped-clause-cursor g c =
     let place = subst (λ (e : EngineState g.row.S.Denot). IsCursor g.H.LineBuffer.CAPACITY e.lines c.args.chunk.now c.args.cursor) (sym c.self.view_is) c.requires.cursor in
     let from = c.requires.cursor.from in
-    place_after g.H.LineBuffer.CAPACITY c.self.inside.lines c.skip_text-passed.new.lines c.args.chunk.now c.args.cursor place c.requires.some c.skip_text-passed.result.count
-    c.skip_text-passed.ensures.bound c.skip_text-passed.ensures.ends c.skip_text-passed.ensures.consumed c.args.cursor.pending_start (omega (arith, from))
+    place_after g.H.LineBuffer.CAPACITY c.self.inside.lines c.skip_text-skipped.new.lines c.args.chunk.now c.args.cursor place c.requires.some c.skip_text-skipped.result.count
+    c.skip_text-skipped.ensures.bound c.skip_text-skipped.ensures.ends c.skip_text-skipped.ensures.consumed c.args.cursor.pending_start (omega (arith, from))
 
 pub returns-clause-cursor : goal.returns-clause-cursor
 returns-clause-cursor g c =
     let place = subst (λ (e : EngineState g.row.S.Denot). IsCursor g.H.LineBuffer.CAPACITY e.lines c.args.chunk.now c.args.cursor) (sym c.self.view_is) c.requires.cursor in
-    place_after g.H.LineBuffer.CAPACITY c.self.inside.lines c.skip_text-passed.new.lines c.args.chunk.now c.args.cursor place c.requires.some c.skip_text-passed.result.count
-    c.skip_text-passed.ensures.bound c.skip_text-passed.ensures.ends c.skip_text-passed.ensures.consumed (c.args.cursor.pos + c.skip_text-passed.result.count) (omega arith)
+    place_after g.H.LineBuffer.CAPACITY c.self.inside.lines c.skip_text-skipped.new.lines c.args.chunk.now c.args.cursor place c.requires.some c.skip_text-skipped.result.count
+    c.skip_text-skipped.ensures.bound c.skip_text-skipped.ensures.ends c.skip_text-skipped.ensures.consumed (c.args.cursor.pos + c.skip_text-skipped.result.count) (omega arith)
 
-pub returns-then-passed-clause-taken : goal.returns-then-passed-clause-taken
-returns-then-passed-clause-taken g c = λ o pieces text printed old.
+pub returns-then-skipped-clause-taken : goal.returns-then-skipped-clause-taken
+returns-then-skipped-clause-taken g c = λ o pieces text printed old.
     let h = subst (λ (e : EngineState g.row.S.Denot). EngineRepresentsBuffered g.S.Show.represents g.S.Show.piece e o pieces text printed) (sym c.self.view_is) old in
     let place = subst (λ (e : EngineState g.row.S.Denot). IsCursor g.H.LineBuffer.CAPACITY e.lines c.args.chunk.now c.args.cursor) (sym c.self.view_is) c.requires.cursor in
     let out = g.W.Write.contents c.args.out.now.inner in
-    let f : EngineState g.row.S.Denot = record { symbols = c.self.inside.plan.now.symbols; lines = c.skip_text-passed.new.lines; printer = c.skip_text-passed.new.self; buffered = c.self.inside.output; fault = c.self.inside.fault } in
+    let f : EngineState g.row.S.Denot = record { symbols = c.self.inside.plan.now.symbols; lines = c.skip_text-skipped.new.lines; printer = c.skip_text-skipped.new.self; buffered = c.self.inside.output; fault = c.self.inside.fault } in
     subst (λ (e : EngineState g.row.S.Denot). Advances g.S.Show.represents g.S.Show.piece f o pieces text printed
-    (slice_between c.args.chunk.now c.args.cursor.pos (c.args.cursor.pos + c.skip_text-passed.result.count)) out out
+    (slice_between c.args.chunk.now c.args.cursor.pos (c.args.cursor.pos + c.skip_text-skipped.result.count)) out out
     (e.buffered ++ slice_between c.args.chunk.now c.args.cursor.pending_start c.args.cursor.pos)
-    (c.self.inside.output ++ slice_between c.args.chunk.now c.args.cursor.pending_start (c.args.cursor.pos + c.skip_text-passed.result.count))) c.self.view_is
-    (passed_kept g.S.Show.represents g.S.Show.piece o pieces _ f text printed h c.args.chunk.now c.args.cursor.pos c.args.cursor.whole_end c.skip_text-passed.result
-    (place.ready c.requires.some) c.skip_text-passed.ensures.bound c.skip_text-passed.ensures.ends refl c.skip_text-passed.ensures.consumed (c.skip_text-passed.ensures.represents text h.took)
-    (c.skip_text-passed.ensures.printed o pieces h.items h.tree h.has) out out c.args.cursor.pending_start c.requires.cursor.from c.if-passed.true refl)
+    (c.self.inside.output ++ slice_between c.args.chunk.now c.args.cursor.pending_start (c.args.cursor.pos + c.skip_text-skipped.result.count))) c.self.view_is
+    (passed_kept g.S.Show.represents g.S.Show.piece o pieces _ f text printed h c.args.chunk.now c.args.cursor.pos c.args.cursor.whole_end c.skip_text-skipped.result
+    (place.ready c.requires.some) c.skip_text-skipped.ensures.bound c.skip_text-skipped.ensures.ends refl c.skip_text-skipped.ensures.consumed (c.skip_text-skipped.ensures.represents text h.took)
+    (c.skip_text-skipped.ensures.printed o pieces h.items h.tree h.has) out out c.args.cursor.pending_start c.requires.cursor.from c.if-skipped.true refl)
 
 pub returns-then-not-append-clause-stops : goal.returns-then-not-append-clause-stops
 returns-then-not-append-clause-stops g c = λ o pieces text printed old.
@@ -44,12 +44,12 @@ returns-clause-taken g c = λ o pieces text printed old.
     let h = subst (λ (e : EngineState g.row.S.Denot). EngineRepresentsBuffered g.S.Show.represents g.S.Show.piece e o pieces text printed) (sym c.self.view_is) old in
     let place = subst (λ (e : EngineState g.row.S.Denot). IsCursor g.H.LineBuffer.CAPACITY e.lines c.args.chunk.now c.args.cursor) (sym c.self.view_is) c.requires.cursor in
     let out = g.W.Write.contents c.args.out.now.inner in
-    let f : EngineState g.row.S.Denot = record { symbols = c.self.inside.plan.now.symbols; lines = c.skip_text-passed.new.lines; printer = c.skip_text-passed.new.self; buffered = c.append.new.self; fault = c.self.inside.fault } in
+    let f : EngineState g.row.S.Denot = record { symbols = c.self.inside.plan.now.symbols; lines = c.skip_text-skipped.new.lines; printer = c.skip_text-skipped.new.self; buffered = c.append.new.self; fault = c.self.inside.fault } in
     let now = g.W.Write.contents c.append.new.out.inner in
     subst (λ (e : EngineState g.row.S.Denot). Advances g.S.Show.represents g.S.Show.piece f o pieces text printed
-    (slice_between c.args.chunk.now c.args.cursor.pos (c.args.cursor.pos + c.skip_text-passed.result.count)) out now
+    (slice_between c.args.chunk.now c.args.cursor.pos (c.args.cursor.pos + c.skip_text-skipped.result.count)) out now
     (e.buffered ++ slice_between c.args.chunk.now c.args.cursor.pending_start c.args.cursor.pos)
-    (c.append.new.self ++ slice_between c.args.chunk.now (c.args.cursor.pos + c.skip_text-passed.result.count) (c.args.cursor.pos + c.skip_text-passed.result.count))) c.self.view_is
-    (passed_dropped g.S.Show.represents g.S.Show.piece o pieces _ f text printed h c.args.chunk.now c.args.cursor.pos c.args.cursor.whole_end c.skip_text-passed.result
-    (place.ready c.requires.some) c.skip_text-passed.ensures.bound c.skip_text-passed.ensures.ends refl c.skip_text-passed.ensures.consumed (c.skip_text-passed.ensures.represents text h.took)
-    (c.skip_text-passed.ensures.printed o pieces h.items h.tree h.has) out now c.args.cursor.pending_start c.requires.cursor.from (search rules) c.if-not-append.ensures.appends)
+    (c.append.new.self ++ slice_between c.args.chunk.now (c.args.cursor.pos + c.skip_text-skipped.result.count) (c.args.cursor.pos + c.skip_text-skipped.result.count))) c.self.view_is
+    (passed_dropped g.S.Show.represents g.S.Show.piece o pieces _ f text printed h c.args.chunk.now c.args.cursor.pos c.args.cursor.whole_end c.skip_text-skipped.result
+    (place.ready c.requires.some) c.skip_text-skipped.ensures.bound c.skip_text-skipped.ensures.ends refl c.skip_text-skipped.ensures.consumed (c.skip_text-skipped.ensures.represents text h.took)
+    (c.skip_text-skipped.ensures.printed o pieces h.items h.tree h.has) out now c.args.cursor.pending_start c.requires.cursor.from (search rules) c.if-not-append.ensures.appends)

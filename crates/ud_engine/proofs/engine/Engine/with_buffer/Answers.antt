@@ -6,12 +6,12 @@ use Rattle.ud_engine.proofs.FeedLemmas.{none_so_far, none_printed, open_new, non
 use Rattle.ud_engine.proofs.engine.Engine.with_buffer.Goals as goal
 
 pub returns-clause-represents : goal.returns-clause-represents
-returns-clause-represents g c = λ o chunk settings symbols stands stays. record {
+returns-clause-represents g c = λ o chunk settings symbols represents stays. record {
   taken = record {
     items = [];
     tree = closed nothing;
     goes = record { sound = no_lines; are = none_so_far };
-    has = c.new.ensures o chunk (settings ∙ sym c.settings.ensures) stands stays;
+    has = c.new.ensures o chunk (settings ∙ sym c.settings.ensures) represents stays;
     printed_is = none_printed o.settings.listing chunk;
     symbols = symbols;
     opened = open_new c.with_buffer.result c.with_buffer.ensures.value;

@@ -9,43 +9,43 @@ use Rattle.ud_engine.proofs.NameListingLemmas.{lists_one, listing_fails, run_fai
 use Rattle.ud_engine.proofs.line_decider.LineDecider.list_names.Goals as goal
 
 pub returns-in-Err-clause-err : goal.returns-in-Err-clause-err
-returns-in-Err-clause-err g c = λ o xs t stands h.
+returns-in-Err-clause-err g c = λ o xs t represents h.
     let mode = c.mode-mode.ensures o xs t h.read in
     let before = map reading_of xs in
-    let seen = c.read.ensures.value before h.carries ∙ ap (λ m. scan_after before m (as_line c.args.line.now)) mode in
-    c.in-Err.ensures.finds_fault o xs t h.read (record { seen = seen; stands = stands }) h.unrefused
+    let scanned = c.read.ensures.value before h.carries ∙ ap (λ m. scan_after before m (as_line c.args.line.now)) mode in
+    c.in-Err.ensures.finds_fault o xs t h.read (record { scanned = scanned; represents = represents }) h.unrefused
 
 pub returns-then-not-append-clause-err : goal.returns-then-not-append-clause-err
-returns-then-not-append-clause-err g c = λ o xs t stands h.
+returns-then-not-append-clause-err g c = λ o xs t represents h.
     let mode = c.mode-mode.ensures o xs t h.read in
     let before = map reading_of xs in
-    let seen = c.read.ensures.value before h.carries ∙ ap (λ m. scan_after before m (as_line c.args.line.now)) mode in
-    let read = c.in_default.ensures.represents o xs t h.read (record { seen = seen; stands = stands }) in
+    let scanned = c.read.ensures.value before h.carries ∙ ap (λ m. scan_after before m (as_line c.args.line.now)) mode in
+    let read = c.in_default.ensures.represents o xs t h.read (record { scanned = scanned; represents = represents }) in
     run_fails o c.args.lister.now xs t _ (as_line c.args.line.now) h.read.sound read.read.sound (g.W.Write.contents c.args.out.now.inner) (g.W.Write.contents c.append.new.out.inner)
     c.args.output.now c.args.pending.now c.if-not-append.ensures.appends
 
 pub returns-then-not-append_names-clause-err : goal.returns-then-not-append_names-clause-err
-returns-then-not-append_names-clause-err g c = λ o xs t stands h.
+returns-then-not-append_names-clause-err g c = λ o xs t represents h.
     let mode = c.mode-mode.ensures o xs t h.read in
     let before = map reading_of xs in
-    let seen = c.read.ensures.value before h.carries ∙ ap (λ m. scan_after before m (as_line c.args.line.now)) mode in
-    let read = c.in_default.ensures.represents o xs t h.read (record { seen = seen; stands = stands }) in
+    let scanned = c.read.ensures.value before h.carries ∙ ap (λ m. scan_after before m (as_line c.args.line.now)) mode in
+    let read = c.in_default.ensures.represents o xs t h.read (record { scanned = scanned; represents = represents }) in
     let depth = c.depth.ensures.value o _ read.tree read.read in
     listing_fails o c.args.lister.now xs t read.tree (as_line c.args.line.now) h.read.sound read.read.sound _
-    (c.names.ensures ∙ ap (λ s. names_in_content (content_of s)) seen) c.prefix-prefix.result.now
+    (c.names.ensures ∙ ap (λ s. names_in_content (content_of s)) scanned) c.prefix-prefix.result.now
     (c.prefix-prefix.ensures.text ∙ ap (depth_prefix c.args.lister.now) (c.saturating_sub-around.ensures ∙ ap (λ n. n - 1) depth))
     (g.W.Write.contents c.args.out.now.inner) (g.W.Write.contents c.append.new.out.inner) (g.W.Write.contents c.append_names.new.out.inner)
     c.args.output.now c.append.new.self c.args.pending.now c.if-not-append.ensures.appends c.if-not-append_names.ensures.appends
 
 pub returns-clause-ok : goal.returns-clause-ok
-returns-clause-ok g c = λ o xs t stands h.
+returns-clause-ok g c = λ o xs t represents h.
     let mode = c.mode-mode.ensures o xs t h.read in
     let before = map reading_of xs in
-    let seen = c.read.ensures.value before h.carries ∙ ap (λ m. scan_after before m (as_line c.args.line.now)) mode in
-    let read = c.in_default.ensures.represents o xs t h.read (record { seen = seen; stands = stands }) in
+    let scanned = c.read.ensures.value before h.carries ∙ ap (λ m. scan_after before m (as_line c.args.line.now)) mode in
+    let read = c.in_default.ensures.represents o xs t h.read (record { scanned = scanned; represents = represents }) in
     let depth = c.depth.ensures.value o _ read.tree read.read in
     lists_one o c.args.lister.now xs t read.tree (as_line c.args.line.now) h.read.sound read.read.sound _
-    (c.names.ensures ∙ ap (λ s. names_in_content (content_of s)) seen) c.prefix-prefix.result.now
+    (c.names.ensures ∙ ap (λ s. names_in_content (content_of s)) scanned) c.prefix-prefix.result.now
     (c.prefix-prefix.ensures.text ∙ ap (depth_prefix c.args.lister.now) (c.saturating_sub-around.ensures ∙ ap (λ n. n - 1) depth))
     _ (has_next o _ xs t (as_line c.args.line.now) c.mode-mode.result mode read.tree read.read c.in_default.ensures.no_fault.1 (c.read.follows.holds-at-none before h.carries))
     (g.W.Write.contents c.args.out.now.inner) (g.W.Write.contents c.append.new.out.inner) (g.W.Write.contents c.append_names.new.out.inner)

@@ -5,10 +5,10 @@ use Rattle.ud_engine.proofs.ProcessorLemmas.{none_differ}
 use Rattle.ud_engine.proofs.line_processor.LineProcessor.new.Goals as goal
 
 pub returns : goal.returns
-returns g c = λ o piece e stands stays. record {
+returns g c = λ o piece e represents stays. record {
   has = c.new.ensures o e;
   lister = c.lister_of.ensures ∙ ap (λ (s : Settings). lister_of s.listing) (sym e);
-  shown = λ off. stands;
+  shown = λ off. represents;
   stays = stays;
   differs = none_differ o.settings.listing piece;
 }

@@ -6,8 +6,8 @@ use Rattle.ud_sections.proofs.machine.Machine.mode.Goals as goal
 
 pub returns-then-is_plain : goal.returns-then-is_plain
 returns-then-is_plain c = λ o xs t h.
-    ap mode_by (sym c.if-is_plain.true ∙ c.is_plain.ensures ∙ ap (λ q. plain_at q.plain q.section) c.enclosing.ensures.place ∙ plain_is c.args.self.now o xs t h)
+    ap mode_by (sym c.if-is_plain.true ∙ c.is_plain.ensures ∙ ap (λ q. plain_at q.plain q.section) c.enclosing.ensures.keyword_within ∙ plain_is c.args.self.now o xs t h)
 
 pub returns-else-is_plain : goal.returns-else-is_plain
 returns-else-is_plain c = λ o xs t h.
-    ap mode_by (sym c.if-is_plain.false ∙ c.is_plain.ensures ∙ ap (λ q. plain_at q.plain q.section) c.enclosing.ensures.place ∙ plain_is c.args.self.now o xs t h)
+    ap mode_by (sym c.if-is_plain.false ∙ c.is_plain.ensures ∙ ap (λ q. plain_at q.plain q.section) c.enclosing.ensures.keyword_within ∙ plain_is c.args.self.now o xs t h)

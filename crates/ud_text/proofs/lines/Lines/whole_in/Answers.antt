@@ -12,7 +12,7 @@ none_is None p = p
 none_is (Some x) p = tt
 
 pub returns-in_err-line-clause-none : goal.returns-in_err-line-clause-none
-returns-in_err-line-clause-none g c = none_is c.from_residual.result (λ used can. let k = c.in_err-line.ensures.none used can.front in omega (arith, k, can.fits))
+returns-in_err-line-clause-none g c = none_is c.from_residual.result (λ used can. let k = c.in_err-line.ensures.none used can.prefix in omega (arith, k, can.fits))
 
 pub returns-clause-value : goal.returns-clause-value
 returns-clause-value g c =
