@@ -1,6 +1,6 @@
 -- Ruling: lines with their steps, as the definitions have them.
 use Rattle.ud_model.specs.answer.Printing.{Judged}
-use Rattle.ud_sections.specs.StepViews.{judged_step, HoldsKeyword}
+use Rattle.ud_sections.specs.sections.StepViews.{judged_step, HoldsKeyword}
 use Rattle.test_sections.specs.declared.printing.Ruled.{Ruled}
 
 -- `judged_of ruled`: the line with its verdict and the span of its keyword.

@@ -2,7 +2,7 @@
 
 ghost use Rattle.std.specs.Prelude.{All, IsTrue};
 ghost use Rattle.ud_model.specs.text.Lines.{is_ending};
-ghost use Rattle.ud_sections.specs.StepViews.{KeywordIsWithin};
+ghost use Rattle.ud_sections.specs.sections.StepViews.{KeywordIsWithin};
 ghost use Rattle.test_sections.specs.Ruling.{HoldsItsKeyword};
 
 use crate::printing::{Ruled, print_all};

@@ -11,7 +11,7 @@ use Rattle.ud_model.specs.conditions.Table.{Argument}
 use Rattle.ud_model.specs.answer.CommandLine.{ParsedArg, Operand, first_fault, settings_in}
 use Rattle.ud_model.specs.answer.CommandLine.{argument_in, operand_in, operand_index, usage_fault}
 use Rattle.ud_model.specs.answer.CommandLine.{options_of, operand_of}
-use Rattle.ud_cond.specs.SymbolTable.{TableRepresents}
+use Rattle.ud_cond.specs.symbols.SymbolTable.{TableRepresents}
 use Rattle.ud_args.specs.declared.parse.Operand as declared
 
 -- `PlanState`: a plan, as callers see it

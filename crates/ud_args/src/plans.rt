@@ -2,7 +2,7 @@
 
 ghost use Rattle.std.specs.Prelude.{◌≡◌, ◌++◌, ◌∷◌, [], List, None, IsSome, OnOk, IfErr};
 ghost use Rattle.ud_model.specs.conditions.Table.{Argument};
-ghost use Rattle.ud_cond.specs.SymbolTable.{TableRepresents};
+ghost use Rattle.ud_cond.specs.symbols.SymbolTable.{TableRepresents};
 ghost use Rattle.ud_model.specs.answer.CommandLine.{ParsedArg as GivenInWords};
 ghost use Rattle.ud_model.specs.answer.CommandLine.{argument_in};
 ghost use Rattle.ud_args.specs.ParsedArgs.{parsed_arg};

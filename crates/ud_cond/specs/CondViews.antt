@@ -3,13 +3,14 @@ use Rattle.std.specs.Prelude.{List, ℕ, Bool, Option, option_map}
 use Rattle.ud_cond.specs.declared.symbols.Entry as entry
 use Rattle.ud_cond.specs.declared.conditions.Rules as rules
 use Rattle.ud_cond.specs.declared.conditions.Answer as answer
-use Rattle.ud_cond.specs.declared.tokens.Token as token
-use Rattle.ud_cond.specs.declared.tokens.Token.TheVariants as is
-use Rattle.ud_cond.specs.declared.tokens.NextToken as next
-use Rattle.ud_cond.specs.declared.tokens.NextToken.TheVariants as comes
-use Rattle.ud_cond.specs.declared.constants.Base as base
-use Rattle.ud_cond.specs.declared.constants.Base.TheVariants.{Octal, Decimal, Hexadecimal}
-use Rattle.ud_cond.specs.declared.constants.ConstantParts as parts
+use Rattle.ud_cond.specs.declared.expressions.tokens.Token as token
+use Rattle.ud_cond.specs.declared.expressions.tokens.Token.TheVariants as is
+use Rattle.ud_cond.specs.declared.expressions.tokens.NextToken as next
+use Rattle.ud_cond.specs.declared.expressions.tokens.NextToken.TheVariants as comes
+use Rattle.ud_cond.specs.declared.expressions.constants.Base as base
+use Rattle.ud_cond.specs.declared.expressions.constants.Base.TheVariants.{Octal, Decimal}
+use Rattle.ud_cond.specs.declared.expressions.constants.Base.TheVariants.{Hexadecimal}
+use Rattle.ud_cond.specs.declared.expressions.constants.ConstantParts as parts
 use Rattle.ud_model.specs.text.Bytes.{is_digit}
 use Rattle.ud_model.specs.conditions.Constants.{ConstantParts, is_octal_digit, is_hex_digit}
 use Rattle.ud_model.specs.conditions.Tokens.{Token, number, name, defined, operator, opening}

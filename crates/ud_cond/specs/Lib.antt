@@ -1,10 +1,4 @@
-pub mod SymbolTable
-pub mod Keys
-pub mod NameFilters
+pub mod symbols
 pub mod CondViews
-pub mod Evaluation
-pub mod Stacks
-pub mod DefinedOperands
-pub mod TwoSlots
-pub mod Digits
-pub mod NameLists
+pub mod expressions
+pub mod list_names

@@ -8,14 +8,14 @@ ghost use Rattle.ud_model.specs.text.Bytes.{are_word_bytes, is_identifier};
 ghost use Rattle.ud_model.specs.conditions.Table.{Argument};
 ghost use Rattle.ud_model.specs.conditions.Conditions as spec;
 ghost use Rattle.ud_model.specs.declared.limits.TheConstants.{LINE_BYTES};
-ghost use Rattle.ud_cond.specs.SymbolTable.{TableRepresents};
+ghost use Rattle.ud_cond.specs.symbols.SymbolTable.{TableRepresents};
 ghost use Rattle.ud_cond.specs.CondViews.{as_rules, as_decision};
-ghost use Rattle.ud_cond.specs.Evaluation.{cond_of_value};
+ghost use Rattle.ud_cond.specs.expressions.Evaluation.{cond_of_value};
 
-use crate::fast_path::evaluate_fast;
-use crate::parsing::evaluate;
+use crate::expressions::fast_path::evaluate_fast;
+use crate::expressions::parsing::evaluate;
+use crate::expressions::values::{Scope, Value};
 use crate::symbols::Symbols;
-use crate::values::{Scope, Value};
 use ud_model::bytes::{are_white, is_digit, skip_white, word_len};
 use ud_model::{Cond, Kind, Role, Test};
 

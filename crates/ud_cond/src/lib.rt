@@ -9,23 +9,11 @@
 #![tactic(auto)]
 
 mod conditions;
-mod constants;
-mod fast_path;
-mod fault;
-mod keys;
+mod expressions;
 mod list_names;
-mod name_filter;
-mod names_iter;
-mod operators;
-mod parsing;
-mod slot_cache;
-mod stacks;
 mod symbols;
-mod tokens;
-mod values;
 
 pub use conditions::{Answer, Rules, condition};
-pub use fault::SymbolFault;
 pub use list_names::names;
-pub use names_iter::Names;
-pub use symbols::{Entry, Symbols};
+pub use list_names::names_iter::Names;
+pub use symbols::{Entry, SymbolFault, Symbols};

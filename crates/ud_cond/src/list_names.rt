@@ -7,10 +7,12 @@ ghost use Rattle.ud_model.specs.conditions.Conditions.{sole_name};
 ghost use Rattle.ud_model.specs.declared.limits.TheConstants.{LINE_BYTES};
 
 use crate::conditions::sole_name;
-use crate::names_iter::Names;
-use crate::parsing::evaluate;
-use crate::values::Scope;
+use crate::expressions::parsing::evaluate;
+use crate::expressions::values::Scope;
+use names_iter::Names;
 use ud_model::{Kind, Test};
+
+pub(crate) mod names_iter;
 
 /// Returns whether a text is one expression.
 fn is_expression(text: &[u8]) -> bool

@@ -11,19 +11,25 @@ ghost use Rattle.std.specs.List.{insert};
 ghost use Rattle.ud_model.specs.conditions.Table.{Argument, entry_in};
 ghost use Rattle.ud_model.specs.answer.SymbolArguments as names;
 ghost use Rattle.ud_model.specs.conditions.Symbols as ends;
-ghost use Rattle.ud_cond.specs.Keys as spec;
-ghost use Rattle.ud_cond.specs.SymbolTable.{TableRepresents, SetsEntry, name_cmp, same_key_cmp};
-ghost use Rattle.ud_cond.specs.SymbolTable.{IsRowOf, IsGapFor};
+ghost use Rattle.ud_cond.specs.symbols.Keys as spec;
+ghost use Rattle.ud_cond.specs.symbols.SymbolTable.{TableRepresents, SetsEntry, name_cmp};
+ghost use Rattle.ud_cond.specs.symbols.SymbolTable.{same_key_cmp, IsRowOf, IsGapFor};
 ghost use Rattle.ud_cond.specs.CondViews.{as_entry, argument_for};
 
-use crate::fault::SymbolFault;
-use crate::keys::{is_same, key_of};
-use crate::name_filter::NameFilter;
-use crate::slot_cache::SlotCache;
+use keys::{is_same, key_of};
+use name_filter::NameFilter;
+use slot_cache::SlotCache;
 use std::alloc::Global;
 use std::cmp::Ordering;
 use std::marker::Model;
 use ud_model::bytes::{is_identifier, is_name};
+
+mod fault;
+mod keys;
+mod name_filter;
+mod slot_cache;
+
+pub use fault::SymbolFault;
 
 /// The entry of a name: how it is defined, and whether its sections are plain text.
 #[derive(Clone, Copy, Debug, PartialEq, Eq)]
@@ -51,7 +57,7 @@ impl Model for Row {
     ghost use Rattle.std.specs.Prelude.{◌≡◌, option_map};
     ghost use Rattle.ud_model.specs.conditions.Table.{Argument};
     ghost use Rattle.ud_cond.specs.CondViews.{argument_for};
-    ghost use Rattle.ud_cond.specs.Keys.{key_of};
+    ghost use Rattle.ud_cond.specs.symbols.Keys.{key_of};
 
     ghost Value = { Argument };
 
@@ -135,8 +141,8 @@ pub struct Symbols {
 impl Model for Symbols {
     ghost use Rattle.std.specs.Prelude.{List};
     ghost use Rattle.ud_model.specs.conditions.Table.{Argument};
-    ghost use Rattle.ud_cond.specs.SymbolTable.{AreSorted};
-    ghost use Rattle.ud_cond.specs.NameFilters.{AreInFilter};
+    ghost use Rattle.ud_cond.specs.symbols.SymbolTable.{AreSorted};
+    ghost use Rattle.ud_cond.specs.symbols.NameFilters.{AreInFilter};
 
     ghost Value = { List Argument };
 

@@ -8,7 +8,7 @@ use Rattle.std.specs.Prelude.{ℕ, List, [], Bool, true, false, Result, Ok, Err}
 use Rattle.ud_model.specs.answer.Messages.{message_of, read_error, write_error}
 use Rattle.ud_model.specs.answer.Answer.{status_under}
 use Rattle.ud_model.specs.declared.settings.Settings.{Settings}
-use Rattle.ud_sections.specs.MachineState.{fault_of}
+use Rattle.ud_sections.specs.sections.MachineState.{fault_of}
 use Rattle.ud_engine.specs.Feeding.{limit_of}
 use Rattle.ud_engine.specs.declared.fault.RunFault.{RunFault}
 use Rattle.ud_engine.specs.declared.fault.RunFault.TheVariants.{Text, Section, Read, Write}

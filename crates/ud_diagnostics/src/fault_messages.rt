@@ -3,7 +3,7 @@
 ghost use Rattle.std.specs.Prelude.{◌≡◌, false};
 ghost use Rattle.ud_model.specs.answer.Messages.{about, about_line, message_of};
 ghost use Rattle.ud_model.specs.sections.Faults.{premature_eof};
-ghost use Rattle.ud_sections.specs.MachineState.{fault_of};
+ghost use Rattle.ud_sections.specs.sections.MachineState.{fault_of};
 ghost use Rattle.ud_engine.specs.Feeding.{limit_of};
 ghost use Rattle.ud_io.specs.Watched.{AppendsAllOrPrefix};
 ghost use Rattle.ud_diagnostics.specs.RunMessages.{fault_message};

@@ -15,9 +15,9 @@ use Rattle.ud_model.specs.declared.verdict.Verdict.{Verdict}
 use Rattle.ud_model.proofs.sections.Soundness.{sound_lines}
 use Rattle.ud_model.proofs.sections.Stays.{length_marks}
 use Rattle.ud_model.proofs.text.LinesLemmas.{map-numbered_from, text_of-line_at, are_whole}
-use Rattle.ud_text.specs.BulkScanning.{AreWholeLines}
-use Rattle.ud_text.proofs.QuietLineLemmas.{ended_lines}
-use Rattle.ud_sections.specs.PrinterOutputs.{judged_text, PrintsEach}
+use Rattle.ud_text.specs.bulk.BulkScanning.{AreWholeLines}
+use Rattle.ud_text.proofs.lemmas.bulk.QuietLineLemmas.{ended_lines}
+use Rattle.ud_sections.specs.printing.PrinterOutputs.{judged_text, PrintsEach}
 use Rattle.ud_engine.specs.declared.line_processor.LineProcessor.{LineProcessor}
 use Rattle.ud_engine.specs.DecidedLines.{DecidesBulk}
 use Rattle.ud_engine.specs.ProcessedLines.{text_by, differs_in, ProcessorRepresents, PrintsBulk}

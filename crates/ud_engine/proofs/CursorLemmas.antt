@@ -7,12 +7,12 @@ use Rattle.ud_model.specs.sections.Items.{Options, line_of}
 use Rattle.ud_model.specs.answer.Printing.{Judged}
 use Rattle.ud_model.specs.answer.Outcomes.{lines_so_far}
 use Rattle.ud_model.proofs.text.LinesLemmas.{numbered_from-append}
-use Rattle.ud_cond.specs.SymbolTable.{TableRepresents}
-use Rattle.ud_text.specs.LinesState.{LinesState, LinesRepresent, UpToNewline}
-use Rattle.ud_text.specs.Borrowing.{CanBorrow}
-use Rattle.ud_text.specs.BulkScanning.{AreWholeLines}
-use Rattle.ud_text.specs.Consuming.{CanConsume}
-use Rattle.ud_text.proofs.ConsumeLemmas.{lines_joined, can_consume_rest}
+use Rattle.ud_cond.specs.symbols.SymbolTable.{TableRepresents}
+use Rattle.ud_text.specs.lines.LinesState.{LinesState, LinesRepresent, UpToNewline}
+use Rattle.ud_text.specs.lines.Borrowing.{CanBorrow}
+use Rattle.ud_text.specs.bulk.BulkScanning.{AreWholeLines}
+use Rattle.ud_text.specs.lines.Consuming.{CanConsume}
+use Rattle.ud_text.proofs.lemmas.lines.ConsumeLemmas.{lines_joined, can_consume_rest}
 use Rattle.ud_engine.specs.declared.engine.Cursor.{Cursor}
 use Rattle.ud_engine.specs.declared.line_processor.SkippedText.{SkippedText}
 use Rattle.ud_engine.specs.Advancing.{Advances, IsCursor, slice_between, measure}

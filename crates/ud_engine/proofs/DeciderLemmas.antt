@@ -6,11 +6,11 @@ use Rattle.ud_model.specs.text.Scanning.{next_reading}
 use Rattle.ud_model.specs.sections.Tree.{Item, Tree}
 use Rattle.ud_model.specs.sections.Items.{Options, reading_of, mode_after, next_item}
 use Rattle.ud_model.specs.declared.kind.Mode.{Mode}
-use Rattle.ud_text.specs.ScannerState.{ScannerRepresents}
-use Rattle.ud_sections.specs.declared.fault.SectionFault.{SectionFault}
-use Rattle.ud_sections.specs.declared.step.Step.{Step}
-use Rattle.ud_sections.specs.MachineState.{MachineRepresents, StepsLine, machine_fault}
-use Rattle.ud_sections.proofs.NextLemmas.{readings_more}
+use Rattle.ud_text.specs.scan.ScannerState.{ScannerRepresents}
+use Rattle.ud_sections.specs.declared.sections.fault.SectionFault.{SectionFault}
+use Rattle.ud_sections.specs.declared.sections.step.Step.{Step}
+use Rattle.ud_sections.specs.sections.MachineState.{MachineRepresents, StepsLine, machine_fault}
+use Rattle.ud_sections.proofs.lemmas.sections.NextLemmas.{readings_more}
 use Rattle.ud_engine.specs.declared.line_decider.LineDecider.{LineDecider as TheReader}
 use Rattle.ud_engine.specs.DecidedLines.{DeciderRepresents, DecidesLine}
 

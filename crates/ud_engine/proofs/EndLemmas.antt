@@ -9,10 +9,10 @@ use Rattle.ud_model.specs.answer.Printing.{Judged}
 use Rattle.ud_model.specs.answer.Outcomes.{HasNoFault, ReadsAs, lines_so_far, stops, ends}
 use Rattle.ud_model.proofs.text.LinesLemmas.{last_line-some, numbered_from-next}
 use Rattle.ud_model.specs.conditions.Table.{Argument}
-use Rattle.ud_cond.specs.SymbolTable.{TableRepresents}
-use Rattle.ud_text.specs.LinesState.{LinesState}
-use Rattle.ud_sections.proofs.NextLemmas.{lines_more}
-use Rattle.ud_sections.specs.MachineState.{fault_of}
+use Rattle.ud_cond.specs.symbols.SymbolTable.{TableRepresents}
+use Rattle.ud_text.specs.lines.LinesState.{LinesState}
+use Rattle.ud_sections.proofs.lemmas.sections.NextLemmas.{lines_more}
+use Rattle.ud_sections.specs.sections.MachineState.{fault_of}
 use Rattle.ud_engine.specs.declared.fault.RunFault.{RunFault}
 use Rattle.ud_engine.specs.declared.fault.RunFault.TheVariants.{Text, Section, Read, Write}
 use Rattle.ud_engine.specs.declared.line_processor.LineProcessor.{LineProcessor}

@@ -9,8 +9,8 @@ use Rattle.ud_model.specs.answer.Outcomes.{lines_so_far}
 use Rattle.ud_model.specs.declared.settings.Listing.{Listing}
 use Rattle.ud_model.specs.declared.settings.Listing.TheVariants.{Off, Names, Depths}
 use Rattle.ud_model.specs.declared.limits.TheConstants.{TEXT_LINES}
-use Rattle.ud_text.specs.LinesState.{LinesState}
-use Rattle.ud_sections.specs.MachineState.{fault_of}
+use Rattle.ud_text.specs.lines.LinesState.{LinesState}
+use Rattle.ud_sections.specs.sections.MachineState.{fault_of}
 use Rattle.ud_engine.specs.declared.fault.RunFault.{RunFault}
 use Rattle.ud_engine.specs.declared.fault.RunFault.TheVariants.{Text, Section, Read, Write}
 use Rattle.ud_engine.specs.Advancing.{Advances, StepFails, WriteStops, slice_between}

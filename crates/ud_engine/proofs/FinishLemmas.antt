@@ -3,8 +3,8 @@ use Rattle.std.proofs.Common.{◌≡◌, ℕ, ◌≤◌, Bool, true, false, List
 use Rattle.std.specs.Io.KnownBytes.{Consumes, Keeps, IsAtEnd}
 use Rattle.std.proofs.KnownBytes.{Appends-nil, Appends-trans, Consumes-nil, Consumes-trans, Consumes-kept}
 use Rattle.ud_model.specs.sections.Items.{Options}
-use Rattle.ud_sections.specs.Printers.{printer_represents, printer_piece}
-use Rattle.ud_sections.specs.declared.printer.Printer.{Printer}
+use Rattle.ud_sections.specs.printing.Printers.{printer_represents, printer_piece}
+use Rattle.ud_sections.specs.declared.printing.printer.Printer.{Printer}
 use Rattle.ud_engine.specs.declared.fault.RunFault.{RunFault}
 use Rattle.ud_engine.specs.declared.fault.RunFault.TheVariants.{Read}
 use Rattle.ud_engine.specs.declared.pump.TheConstants.{CHUNK_BYTES}

@@ -17,7 +17,7 @@ use Rattle.ud_model.proofs.answer.LevelLemmas.{length_levels}
 use Rattle.ud_model.proofs.sections.Growth.{Adds}
 use Rattle.ud_model.proofs.sections.Soundness.{sound_lines, reading_of-item_of}
 use Rattle.ud_model.proofs.sections.Unique.{grows}
-use Rattle.ud_sections.proofs.ListingLemmas.{has_condition, LevelsGrow, levels_grow}
+use Rattle.ud_sections.proofs.lemmas.printing.ListingLemmas.{has_condition, LevelsGrow, levels_grow}
 use Rattle.ud_engine.specs.NameLines.{name_line}
 use Rattle.ud_io.specs.Buffering.{AppendsAllBut}
 use Rattle.ud_engine.specs.DecidedLines.{DeciderRepresents}

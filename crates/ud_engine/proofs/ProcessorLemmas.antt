@@ -14,8 +14,8 @@ use Rattle.ud_model.specs.declared.settings.Listing.TheVariants.{Off, Names, Dep
 use Rattle.ud_model.proofs.answer.PrintingLemmas.{printed-more, differ-more}
 use Rattle.ud_model.proofs.sections.Soundness.{sound_lines, reading_of-next}
 use Rattle.ud_model.proofs.sections.Stays.{length_marks}
-use Rattle.ud_sections.specs.StepViews.{as_span}
-use Rattle.ud_sections.specs.declared.step.Step.{Step}
+use Rattle.ud_sections.specs.sections.StepViews.{as_span}
+use Rattle.ud_sections.specs.declared.sections.step.Step.{Step}
 use Rattle.ud_engine.specs.declared.fault.RunFault.{RunFault}
 use Rattle.ud_engine.specs.declared.fault.RunFault.TheVariants.{Text, Section, Read, Write}
 use Rattle.ud_engine.specs.declared.line_processor.LineProcessor.{LineProcessor}

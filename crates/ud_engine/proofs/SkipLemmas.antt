@@ -14,17 +14,17 @@ use Rattle.ud_model.specs.declared.kind.Mode.{Mode}
 use Rattle.ud_model.specs.declared.limits.TheConstants.{LINE_BYTES, TEXT_LINES}
 use Rattle.ud_model.specs.declared.verdict.Verdict.{Verdict}
 use Rattle.ud_model.proofs.text.LinesLemmas.{text_of-line_at}
-use Rattle.ud_text.specs.ScannerState.{ScannerRepresents}
-use Rattle.ud_text.specs.BulkScanning as passing
-use Rattle.ud_text.specs.BulkScanning.{SkipsText, line_in_mode, lines_in_mode}
-use Rattle.ud_text.specs.LinesState.{LinesState}
-use Rattle.ud_text.specs.Consuming.{EachFits, CanConsume}
-use Rattle.ud_text.proofs.QuietLineLemmas.{ended_lines}
-use Rattle.ud_text.proofs.ConsumeLemmas.{can_consume_front}
-use Rattle.ud_sections.specs.Limits.{IsWithinLimits}
-use Rattle.ud_sections.specs.PrinterOutputs.{judged_text}
-use Rattle.ud_sections.specs.MachineState.{AreTextLines, StepsText, MachineRepresents, machine_fault}
-use Rattle.ud_sections.proofs.TransitionLemmas.{last_number_last}
+use Rattle.ud_text.specs.scan.ScannerState.{ScannerRepresents}
+use Rattle.ud_text.specs.bulk.BulkScanning as passing
+use Rattle.ud_text.specs.bulk.BulkScanning.{SkipsText, line_in_mode, lines_in_mode}
+use Rattle.ud_text.specs.lines.LinesState.{LinesState}
+use Rattle.ud_text.specs.lines.Consuming.{EachFits, CanConsume}
+use Rattle.ud_text.proofs.lemmas.bulk.QuietLineLemmas.{ended_lines}
+use Rattle.ud_text.proofs.lemmas.lines.ConsumeLemmas.{can_consume_front}
+use Rattle.ud_sections.specs.sections.Limits.{IsWithinLimits}
+use Rattle.ud_sections.specs.printing.PrinterOutputs.{judged_text}
+use Rattle.ud_sections.specs.sections.MachineState.{AreTextLines, StepsText, MachineRepresents, machine_fault}
+use Rattle.ud_sections.proofs.lemmas.sections.TransitionLemmas.{last_number_last}
 use Rattle.ud_engine.specs.declared.line_decider.LineDecider.{LineDecider}
 use Rattle.ud_engine.specs.DecidedLines.{DeciderRepresents, DecidesBulk, consumed}
 

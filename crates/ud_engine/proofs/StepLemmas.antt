@@ -8,12 +8,12 @@ use Rattle.ud_model.specs.answer.Printing.{Judged}
 use Rattle.ud_model.specs.answer.Outcomes.{lines_so_far}
 use Rattle.ud_model.specs.declared.limits.TheConstants.{LINE_BYTES, TEXT_LINES}
 use Rattle.ud_model.proofs.text.LinesLemmas.{no_newline-append, text_of-line_at}
-use Rattle.ud_text.specs.LinesState.{LinesState, LinesRepresent, UpToNewline, HasCapacity}
-use Rattle.ud_text.specs.Borrowing.{CanBorrow}
-use Rattle.ud_text.proofs.MaskLemmas.{no_newline-take}
-use Rattle.ud_text.proofs.StepLemmas.{drop_both}
-use Rattle.ud_sections.specs.Limits.{IsWithinLimits}
-use Rattle.ud_sections.specs.MachineState.{fault_of}
+use Rattle.ud_text.specs.lines.LinesState.{LinesState, LinesRepresent, UpToNewline, HasCapacity}
+use Rattle.ud_text.specs.lines.Borrowing.{CanBorrow}
+use Rattle.ud_text.proofs.lemmas.scan.MaskLemmas.{no_newline-take}
+use Rattle.ud_text.proofs.lemmas.bulk.StepLemmas.{drop_both}
+use Rattle.ud_sections.specs.sections.Limits.{IsWithinLimits}
+use Rattle.ud_sections.specs.sections.MachineState.{fault_of}
 use Rattle.ud_engine.specs.declared.fault.RunFault.{RunFault}
 use Rattle.ud_engine.specs.declared.fault.RunFault.TheVariants.{Text, Section, Read, Write}
 use Rattle.ud_engine.specs.Advancing.{Advances, StepFails, slice_between}

@@ -9,9 +9,9 @@ use Rattle.std.specs.Prelude.{ℕ, ◌+◌, ◌-◌, ◌<◌, ◌≤◌, List, �
 use Rattle.std.specs.Prelude.{Option}
 use Rattle.ud_model.specs.sections.Items.{Options}
 use Rattle.ud_model.specs.answer.Printing.{Judged}
-use Rattle.ud_text.specs.LinesState.{LinesState, HasCapacity}
-use Rattle.ud_text.specs.Consuming.{CanConsume}
-use Rattle.ud_sections.specs.MachineState.{fault_of}
+use Rattle.ud_text.specs.lines.LinesState.{LinesState, HasCapacity}
+use Rattle.ud_text.specs.lines.Consuming.{CanConsume}
+use Rattle.ud_sections.specs.sections.MachineState.{fault_of}
 use Rattle.ud_engine.specs.declared.engine.Cursor.{Cursor}
 use Rattle.ud_engine.specs.declared.fault.RunFault.{RunFault}
 use Rattle.ud_engine.specs.declared.fault.RunFault.TheVariants.{Text, Section, Read, Write}

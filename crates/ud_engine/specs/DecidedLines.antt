@@ -12,12 +12,12 @@ use Rattle.ud_model.specs.sections.Pruning.{Mark, marks}
 use Rattle.ud_model.specs.sections.Items.{Options, reading_of, line_of, next_item}
 use Rattle.ud_model.specs.answer.Printing.{judged_line, judged_lines}
 use Rattle.ud_model.specs.declared.verdict.Verdict.{Verdict}
-use Rattle.ud_text.specs.ScannerState.{ScannerRepresents}
-use Rattle.ud_text.specs.LinesState.{LinesState}
-use Rattle.ud_sections.specs.MachineState.{MachineRepresents, machine_fault}
-use Rattle.ud_sections.specs.PrinterOutputs.{judged_text}
-use Rattle.ud_sections.specs.StepViews.{as_span}
-use Rattle.ud_sections.specs.declared.step.Step.{Step}
+use Rattle.ud_text.specs.scan.ScannerState.{ScannerRepresents}
+use Rattle.ud_text.specs.lines.LinesState.{LinesState}
+use Rattle.ud_sections.specs.sections.MachineState.{MachineRepresents, machine_fault}
+use Rattle.ud_sections.specs.printing.PrinterOutputs.{judged_text}
+use Rattle.ud_sections.specs.sections.StepViews.{as_span}
+use Rattle.ud_sections.specs.declared.sections.step.Step.{Step}
 use Rattle.ud_engine.specs.declared.line_decider.LineDecider.{LineDecider}
 
 -- `DeciderRepresents o r xs t`: the decider `r` has read the items `xs` under the options `o`. None

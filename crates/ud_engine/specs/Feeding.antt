@@ -19,11 +19,11 @@ use Rattle.ud_model.specs.sections.Faults.{Fault, too_many_lines, line_too_long}
 use Rattle.ud_model.specs.answer.Printing.{Judged}
 use Rattle.ud_model.specs.answer.Outcomes.{HasNoFault, ReadsSoFar, lines_so_far}
 use Rattle.ud_model.specs.declared.limits.TheConstants.{LINE_BYTES, TEXT_LINES, OPEN_SECTIONS}
-use Rattle.ud_cond.specs.SymbolTable.{TableRepresents}
-use Rattle.ud_text.specs.LinesState.{LinesState, LinesRepresent}
-use Rattle.ud_text.specs.declared.fault.TextFault.{TextFault}
-use Rattle.ud_text.specs.declared.fault.TextFault.TheVariants.{TooManyLines, LineTooLong}
-use Rattle.ud_sections.specs.MachineState.{fault_of}
+use Rattle.ud_cond.specs.symbols.SymbolTable.{TableRepresents}
+use Rattle.ud_text.specs.lines.LinesState.{LinesState, LinesRepresent}
+use Rattle.ud_text.specs.declared.lines.fault.TextFault.{TextFault}
+use Rattle.ud_text.specs.declared.lines.fault.TextFault.TheVariants.{TooManyLines, LineTooLong}
+use Rattle.ud_sections.specs.sections.MachineState.{fault_of}
 use Rattle.ud_engine.specs.declared.fault.RunFault.{RunFault}
 use Rattle.ud_engine.specs.declared.fault.RunFault.TheVariants.{Text, Section, Read, Write}
 use Rattle.ud_engine.specs.declared.line_processor.LineProcessor.{LineProcessor}

@@ -16,8 +16,8 @@ use Rattle.ud_model.specs.sections.Items.{Options}
 use Rattle.ud_model.specs.sections.Faults.{Fault}
 use Rattle.ud_model.specs.answer.Printing.{Judged}
 use Rattle.ud_model.specs.answer.Outcomes.{HasNoFault, ReadsAs, Outcome, HasOutcome}
-use Rattle.ud_text.specs.LinesState.{LinesState}
-use Rattle.ud_sections.specs.MachineState.{fault_of}
+use Rattle.ud_text.specs.lines.LinesState.{LinesState}
+use Rattle.ud_sections.specs.sections.MachineState.{fault_of}
 use Rattle.ud_engine.specs.declared.fault.RunFault.{RunFault}
 use Rattle.ud_engine.specs.declared.fault.RunFault.TheVariants.{Text, Section, Read, Write}
 use Rattle.ud_engine.specs.declared.line_processor.LineProcessor.{LineProcessor}

@@ -21,7 +21,7 @@ use Rattle.ud_model.specs.answer.Printing.{Judged, judged_lines, pieces_by, some
 use Rattle.ud_model.specs.answer.Listing.{levels, listed}
 use Rattle.ud_model.specs.declared.settings.Listing.{Listing}
 use Rattle.ud_model.specs.declared.settings.Listing.TheVariants.{Off, Names, Depths}
-use Rattle.ud_sections.specs.MachineState.{fault_of}
+use Rattle.ud_sections.specs.sections.MachineState.{fault_of}
 use Rattle.ud_engine.specs.declared.fault.RunFault.{RunFault}
 use Rattle.ud_engine.specs.declared.fault.RunFault.TheVariants.{Text, Section, Read, Write}
 use Rattle.ud_engine.specs.declared.line_processor.LineProcessor.{LineProcessor}
@@ -53,8 +53,8 @@ lister_of Off = None
 lister_of Names = Some false
 lister_of Depths = Some true
 
--- `ProcessorRepresents represents piece_of p o piece xs t`: `p` has read the items `xs`, none of which
--- is faulty, and `t` is their tree. The printer got each of them, unless names are listed.
+-- `ProcessorRepresents represents piece_of p o piece xs t`: `p` has read the items `xs`, none of
+-- which is faulty, and `t` is their tree. The printer got each of them, unless names are listed.
 pub record ProcessorRepresents {S : Type 0} (represents : S → List Judged → Type 0) (piece_of : S →
     List Judged → Judged → List ℕ) (p : LineProcessor S) (o : Options)
     (piece : List Judged → Judged →

@@ -19,10 +19,10 @@ use Rattle.ud_model.specs.answer.Printing.{piece_after, style_of}
 use Rattle.ud_model.specs.answer.Outcomes.{Outcome, HasOutcome, HasOutcomeSoFar, HasNoFault}
 use Rattle.ud_model.specs.answer.Outcomes.{lines_so_far, output_by}
 use Rattle.ud_model.specs.declared.limits.TheConstants.{LINE_BYTES, TEXT_LINES}
-use Rattle.ud_text.specs.LinesState.{LinesState}
-use Rattle.ud_sections.specs.Printers.{printer_represents, printer_piece}
-use Rattle.ud_sections.specs.MachineState.{fault_of}
-use Rattle.ud_sections.specs.declared.printer.Printer.{Printer}
+use Rattle.ud_text.specs.lines.LinesState.{LinesState}
+use Rattle.ud_sections.specs.printing.Printers.{printer_represents, printer_piece}
+use Rattle.ud_sections.specs.sections.MachineState.{fault_of}
+use Rattle.ud_sections.specs.declared.printing.printer.Printer.{Printer}
 use Rattle.ud_engine.specs.declared.fault.RunFault.{RunFault}
 use Rattle.ud_engine.specs.declared.fault.RunFault.TheVariants.{Text, Section, Read, Write}
 use Rattle.ud_engine.specs.declared.pump.TheConstants.{CHUNK_BYTES}

@@ -11,9 +11,9 @@ ghost use Rattle.std.specs.Prelude.{◌≡◌, ◌++◌, [], ◌<◌, ◌≤◌,
 ghost use Rattle.std.specs.Prelude.{false, IfOk, IfErr, OnOk, IfSome, None, Some, Err, take, not};
 ghost use Rattle.ud_model.specs.sections.Items.{Options};
 ghost use Rattle.ud_model.specs.answer.Printing.{Judged};
-ghost use Rattle.ud_cond.specs.SymbolTable.{TableRepresents};
+ghost use Rattle.ud_cond.specs.symbols.SymbolTable.{TableRepresents};
 ghost use Rattle.ud_io.specs.Buffering.{AppendsAllButOrPrefix};
-ghost use Rattle.ud_text.specs.LinesState.{HasCapacity};
+ghost use Rattle.ud_text.specs.lines.LinesState.{HasCapacity};
 ghost use Rattle.ud_engine.specs.Feeding.{IsOpen, EngineRepresents, ErrorMatchesWriter};
 ghost use Rattle.ud_engine.specs.Finishing.{FinishErr, PrintsAll, without_fault};
 ghost use Rattle.ud_engine.specs.Advancing.{IsCursor};

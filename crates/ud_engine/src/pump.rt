@@ -7,7 +7,7 @@
 ghost use Rattle.std.specs.Prelude.{◌≡◌, ◌<◌, ℕ, List, Option, true, false, Ok, Err, IfSome};
 ghost use Rattle.std.specs.Prelude.{IfNone, IfErr, OnOk};
 ghost use Rattle.ud_model.specs.sections.Items.{Options};
-ghost use Rattle.ud_cond.specs.SymbolTable.{TableRepresents};
+ghost use Rattle.ud_cond.specs.symbols.SymbolTable.{TableRepresents};
 ghost use Rattle.ud_engine.specs.Finishing.{RunAnswers};
 ghost use Rattle.ud_engine.specs.Runs.{LagsOneRead, RunEnded, RepresentsSomeText, InProgress};
 ghost use Rattle.ud_engine.specs.Runs.{RunFinished, ErrorMatchesStreams};

@@ -1,7 +1,10 @@
 //! The directive of a line, as it is parsed.
 
-use crate::step::Span;
+use crate::sections::Span;
 use ud_model::Kind;
+
+mod keywords;
+pub(crate) mod parse_directive;
 
 /// A directive on a line (C11 6.10).
 #[derive(Clone, Copy, Debug, PartialEq, Eq)]

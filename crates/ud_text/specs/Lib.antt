@@ -1,12 +1,5 @@
-pub mod LinesState
-pub mod Borrowing
+pub mod lines
 pub mod LineViews
-pub mod Searches
-pub mod ScannerState
-pub mod ScanBorrows
-pub mod BulkScanning
-pub mod BulkStates
-pub mod BulkLexemes
-pub mod Progress
-pub mod Consuming
-pub mod Blocks
+pub mod searching
+pub mod scan
+pub mod bulk

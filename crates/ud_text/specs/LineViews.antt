@@ -12,11 +12,11 @@ use Rattle.ud_model.specs.text.Lines.{Line as TextLine}
 use Rattle.ud_model.specs.text.Scans.{Scan as LineScan}
 use Rattle.ud_model.specs.aids.LexStates.{LexState as TextPlace, in_text, at_slash, in_block}
 use Rattle.ud_model.specs.aids.LexStates.{at_star, in_line, in_literal, at_backslash}
-use Rattle.ud_text.specs.declared.line.Line.{Line}
+use Rattle.ud_text.specs.declared.lines.line.Line.{Line}
 use Rattle.ud_text.specs.declared.scan.Scan.{Scan}
-use Rattle.ud_text.specs.declared.lexer.LexState.{LexState}
-use Rattle.ud_text.specs.declared.lexer.LexState.TheVariants.{Text, Slash, Block, Star, ToLineEnd}
-use Rattle.ud_text.specs.declared.lexer.LexState.TheVariants.{Literal, Backslash}
+use Rattle.ud_text.specs.declared.scan.lexer.LexState.{LexState}
+use Rattle.ud_text.specs.declared.scan.lexer.LexState.TheVariants.{Text, Slash, Block, Star}
+use Rattle.ud_text.specs.declared.scan.lexer.LexState.TheVariants.{ToLineEnd, Literal, Backslash}
 
 -- `as_line line`: the line with its body, its ending and its number
 abbrev pub as_line : Line → TextLine

@@ -11,18 +11,23 @@
 ghost use Rattle.std.specs.Prelude.{◌≡◌, ◌≤◌, ◌<◌, ◌+◌, Bool, [], ◌∷◌, length, take, drop, true};
 ghost use Rattle.std.specs.Prelude.{IfOk, IfErr, MatchResult};
 ghost use Rattle.ud_model.specs.text.Bytes.{slash, star, number_sign};
-ghost use Rattle.ud_text.specs.BulkStates.{BulkState, block_state, can_start};
-ghost use Rattle.ud_text.specs.Blocks.{IsBlock};
-ghost use Rattle.ud_text.specs.BulkLexemes.{NoStarPair, IsSplice};
-ghost use Rattle.ud_text.specs.Progress.{ReadTo, bulk_state_of, InOrder, ReadBy, SkippedBy};
-ghost use Rattle.ud_text.specs.Progress.{InBlock, Steps};
+ghost use Rattle.ud_text.specs.bulk.BulkStates.{BulkState, block_state, can_start};
+ghost use Rattle.ud_text.specs.bulk.Blocks.{IsBlock};
+ghost use Rattle.ud_text.specs.bulk.BulkLexemes.{NoStarPair, IsSplice};
+ghost use Rattle.ud_text.specs.bulk.Progress.{ReadTo, bulk_state_of, InOrder, ReadBy, SkippedBy};
+ghost use Rattle.ud_text.specs.bulk.Progress.{InBlock, Steps};
 ghost use Rattle.ud_text.specs.LineViews.{lex_state_of};
 
-use crate::blocks::{Block, next_significant, no_block};
-use crate::hash_sign::{is_line_white_after, other_word_len};
-use crate::lexeme_lengths::{lexeme_len, line_comment_len, splice_len};
-use crate::lexer::{LexState, Lexer};
+use crate::scan::lexer::{LexState, Lexer};
 use crate::searching::{find_star_pair, last_line_start};
+use blocks::{Block, next_significant, no_block};
+use hash_sign::{is_line_white_after, other_word_len};
+use lexeme_lengths::{lexeme_len, line_comment_len, splice_len};
+
+mod blocks;
+mod hash_sign;
+mod lexeme_lengths;
+pub(crate) mod plain;
 
 /// The beginning of a line.
 #[derive(Clone, Copy)]

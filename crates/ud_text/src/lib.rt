@@ -6,30 +6,11 @@
 //! it skips at once.
 #![tactic(auto)]
 
-mod blocks;
 mod bulk;
-mod bulk_plain;
-mod fault;
-mod hash_sign;
-mod lexeme_lengths;
-mod lexer;
-mod line;
-mod line_buffer;
 mod lines;
-mod marks;
-mod newlines;
 mod scan;
-mod scanner;
 mod searching;
-mod short_scanner;
-mod simd;
 
-pub use fault::TextFault;
-pub use line::Line;
-pub use line_buffer::{LineBuffer, LongLineBuffer, ShortLineBuffer};
-pub use lines::{Lines, Taken};
-pub use marks::first_mark;
-pub use scan::Scan;
-pub use scanner::{Scanner, law_same_scans};
-pub use short_scanner::{SHORT_LINE_BYTES, ShortScanner};
+pub use lines::{Line, LineBuffer, Lines, LongLineBuffer, ShortLineBuffer, Taken, TextFault};
+pub use scan::{SHORT_LINE_BYTES, Scan, Scanner, ShortScanner, first_mark, law_same_scans};
 pub use ud_model::CommentAt;

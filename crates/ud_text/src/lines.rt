@@ -13,20 +13,27 @@ ghost use Rattle.std.specs.Prelude.{take, drop, true, false, Some, None, IfOk, I
 ghost use Rattle.std.specs.Prelude.{IfSome, OnSome, IfNone, Ok, Err, IsTrue, MatchResult};
 ghost use Rattle.ud_model.specs.text.Lines.{NoNewline, whole_lines, partial_line, line_at, text_of};
 ghost use Rattle.ud_model.specs.text.Lines.{is_ending};
-ghost use Rattle.ud_text.specs.Borrowing.{CanBorrow, IsFirstLine};
-ghost use Rattle.ud_text.specs.LinesState.{LinesRepresent, UpToNewline, BreaksLimit, with_fault};
-ghost use Rattle.ud_text.specs.LinesState.{HasCapacity, IsComplete, IsLastLine, IsLineOf};
+ghost use Rattle.ud_text.specs.lines.Borrowing.{CanBorrow, IsFirstLine};
+ghost use Rattle.ud_text.specs.lines.LinesState.{LinesRepresent, UpToNewline, BreaksLimit};
+ghost use Rattle.ud_text.specs.lines.LinesState.{with_fault, HasCapacity, IsComplete, IsLastLine};
+ghost use Rattle.ud_text.specs.lines.LinesState.{IsLineOf};
 ghost use Rattle.ud_text.specs.LineViews.{as_line};
-ghost use Rattle.ud_text.specs.Consuming.{CanConsume};
+ghost use Rattle.ud_text.specs.lines.Consuming.{CanConsume};
 
-use crate::fault::TextFault;
-use crate::line::Line;
-use crate::line_buffer::{LineBuffer, LongLineBuffer};
-use crate::newlines::{count_lines, whole_lines_len};
-use crate::simd::find_in_lanes;
+use crate::searching::simd::find_in_lanes;
 use memchr::memchr;
+use newlines::{count_lines, whole_lines_len};
 use std::marker::Model;
 use ud_model::{LINE_BYTES, TEXT_LINES};
+
+mod fault;
+mod line;
+mod line_buffer;
+mod newlines;
+
+pub use fault::TextFault;
+pub use line::Line;
+pub use line_buffer::{LineBuffer, LongLineBuffer, ShortLineBuffer};
 
 /// The number of bytes that are searched for a newline at once.
 const NEAR_WINDOW_BYTES: usize = 32;
@@ -61,7 +68,7 @@ pub struct Lines<H: LineBuffer = LongLineBuffer> {
 impl<H: LineBuffer> Model for Lines<H> {
     ghost use Rattle.std.specs.Prelude.{◌≡◌, ◌≤◌, ◌<◌, length, true};
     ghost use Rattle.ud_model.specs.declared.limits.TheConstants.{TEXT_LINES};
-    ghost use Rattle.ud_text.specs.LinesState.{LinesState};
+    ghost use Rattle.ud_text.specs.lines.LinesState.{LinesState};
 
     ghost Value = { LinesState };
 

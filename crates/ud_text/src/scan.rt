@@ -2,6 +2,15 @@
 
 use ud_model::CommentAt;
 
+pub(crate) mod lexer;
+mod marks;
+mod scanner;
+mod short_scanner;
+
+pub use marks::first_mark;
+pub use scanner::{Scanner, law_same_scans};
+pub use short_scanner::{SHORT_LINE_BYTES, ShortScanner};
+
 /// The scan of a line: the line as it is read (C11 5.1.1.2, phases 2 and 3, and 6.4.9).
 #[derive(Clone, Copy, Debug, PartialEq, Eq)]
 pub struct Scan<'a> {

@@ -2,15 +2,17 @@
 
 ghost use Rattle.std.specs.Prelude.{◌≡◌, ◌≤◌, ◌<◌, ◌+◌, ◌-◌, length, take, drop, slice_index, true};
 ghost use Rattle.std.specs.List.{position_or_len};
-ghost use Rattle.ud_text.specs.Searches.{pairs_of, is_found};
-ghost use Rattle.ud_text.specs.Blocks.{significant_bits};
-ghost use Rattle.ud_text.specs.BulkLexemes.{is_significant, is_star_pair, NoStarPair};
-ghost use Rattle.ud_text.specs.BulkLexemes.{LastLineStarts};
+ghost use Rattle.ud_text.specs.searching.Searches.{pairs_of, is_found};
+ghost use Rattle.ud_text.specs.bulk.Blocks.{significant_bits};
+ghost use Rattle.ud_text.specs.bulk.BulkLexemes.{is_significant, is_star_pair, NoStarPair};
+ghost use Rattle.ud_text.specs.bulk.BulkLexemes.{LastLineStarts};
 
-use crate::simd::{find_near, lowest_set_bit};
 use memchr::memrchr;
+use simd::{find_near, lowest_set_bit};
 use std::simd::Simd;
 use std::simd::prelude::*;
+
+pub(crate) mod simd;
 
 /// Returns whether `byte` is significant: it may matter outside comments and literals.
 pub(crate) fn is_significant(byte: u8) -> bool

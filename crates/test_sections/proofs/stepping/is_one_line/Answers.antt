@@ -1,5 +1,5 @@
 use Rattle.std.proofs.Common.{refl}
-use Rattle.ud_text.proofs.NewlineLemmas.{up_to_newline-none}
+use Rattle.ud_text.proofs.lemmas.lines.NewlineLemmas.{up_to_newline-none}
 use Rattle.test_sections.proofs.stepping.is_one_line.Goals as goal
 
 pub returns-in-None : goal.returns-in-None

@@ -1,6 +1,6 @@
 use Rattle.std.proofs.Common.{◌≡◌, false, rules}
 use Rattle.ud_cond.specs.CondViews.{as_rules}
-use Rattle.ud_cond.proofs.EvaluationLemmas.{cond-some}
+use Rattle.ud_cond.proofs.lemmas.expressions.EvaluationLemmas.{cond-some}
 use Rattle.ud_cond.proofs.conditions.expression_cond.Goals as goal
 
 pub returns-then-not-value : goal.returns-then-not-value

@@ -1,5 +1,5 @@
 use Rattle.std.proofs.Common.{◌∙◌, sym}
-use Rattle.ud_cond.proofs.NameListLemmas.{whole-tokens, names-tree}
+use Rattle.ud_cond.proofs.lemmas.NameListLemmas.{whole-tokens, names-tree}
 use Rattle.ud_cond.proofs.list_names.expression_names.Goals as goal
 
 pub of_text-requires : goal.of_text-requires

@@ -1,6 +1,6 @@
 use Rattle.std.proofs.Common.{◌∙◌, ap, is_some, false, []}
-use Rattle.ud_cond.specs.Evaluation.{value_meaning}
-use Rattle.ud_cond.proofs.NameListLemmas.{reads-some}
+use Rattle.ud_cond.specs.expressions.Evaluation.{value_meaning}
+use Rattle.ud_cond.proofs.lemmas.NameListLemmas.{reads-some}
 use Rattle.ud_cond.proofs.list_names.is_expression.Goals as goal
 
 pub returns : goal.returns

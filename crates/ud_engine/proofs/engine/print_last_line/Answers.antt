@@ -1,6 +1,6 @@
 use Rattle.std.proofs.Common.{rules, sym, ap, subst, suc, List, ℕ}
 use Rattle.ud_model.specs.text.Lines.{Line, NoNewline}
-use Rattle.ud_text.specs.LinesState.{LinesState}
+use Rattle.ud_text.specs.lines.LinesState.{LinesState}
 use Rattle.ud_text.specs.LineViews.{as_line}
 use Rattle.ud_engine.specs.Finishing.{without_fault}
 use Rattle.ud_io.specs.Buffering.{AppendsAllBut}

@@ -1,7 +1,7 @@
 use Rattle.std.proofs.Common.{rules, subst, ◌≡◌, ◌≤◌, ◌<◌, ◌++◌, length, take, arith, ℕ}
 use Rattle.std.specs.Io.KnownBytes.{Consumes}
 use Rattle.std.proofs.Math.ListN.{length-take}
-use Rattle.ud_sections.specs.Printers.{printer_represents, printer_piece}
+use Rattle.ud_sections.specs.printing.Printers.{printer_represents, printer_piece}
 use Rattle.ud_engine.specs.declared.pump.TheConstants.{CHUNK_BYTES}
 use Rattle.ud_engine.proofs.RunLemmas.{own_piece, fed_room}
 use Rattle.ud_engine.proofs.FinishLemmas.{unread, at_end, stopped, fed_more, read_told, end_told, feed_told}

@@ -1,7 +1,7 @@
 -- By looking back.
-use Rattle.ud_text.specs.BulkStates.{code_state}
-use Rattle.ud_text.proofs.ProgressLemmas.{passed_of}
-use Rattle.ud_text.proofs.StepLemmas.{block_begun}
+use Rattle.ud_text.specs.bulk.BulkStates.{code_state}
+use Rattle.ud_text.proofs.lemmas.bulk.ProgressLemmas.{passed_of}
+use Rattle.ud_text.proofs.lemmas.bulk.StepLemmas.{block_begun}
 use Rattle.ud_text.proofs.bulk.block_step.Goals as goal
 
 pub returns-in-Ok-clause-read : goal.returns-in-Ok-clause-read

@@ -1,10 +1,10 @@
 -- A word that is no keyword, or a line that isn't white.
 use Rattle.std.proofs.Common.{inl, subst, List, ℕ, take, ◌+◌, ◌≤◌, ◌≡◌, length, true}
 use Rattle.std.proofs.lemmas.List.{take_rest}
-use Rattle.ud_text.specs.BulkStates.{code_state, is_other_word}
-use Rattle.ud_text.specs.BulkLexemes.{NoSignificant}
-use Rattle.ud_text.proofs.ProgressLemmas.{passed_of}
-use Rattle.ud_text.proofs.StepLemmas.{sign_step_read, sign_alone_read}
+use Rattle.ud_text.specs.bulk.BulkStates.{code_state, is_other_word}
+use Rattle.ud_text.specs.bulk.BulkLexemes.{NoSignificant}
+use Rattle.ud_text.proofs.lemmas.bulk.ProgressLemmas.{passed_of}
+use Rattle.ud_text.proofs.lemmas.bulk.StepLemmas.{sign_step_read, sign_alone_read}
 use Rattle.ud_text.proofs.bulk.hash_step.Goals as goal
 
 pub returns-then-is_line_white_after-clause-read : goal.returns-then-is_line_white_after-clause-read

@@ -1,6 +1,6 @@
 -- By the last newline.
 
-use Rattle.ud_text.proofs.ProgressLemmas.{settled}
+use Rattle.ud_text.proofs.lemmas.bulk.ProgressLemmas.{settled}
 use Rattle.std.proofs.Math.Nat.{pos_of_ne-zero}
 use Rattle.ud_text.proofs.bulk.last_line.Goals as goal
 

@@ -1,5 +1,5 @@
 -- By the last newline.
-use Rattle.ud_text.proofs.StepLemmas.{held_same, held_later}
+use Rattle.ud_text.proofs.lemmas.bulk.StepLemmas.{held_same, held_later}
 use Rattle.std.proofs.Math.Nat.{pos_of_ne-zero}
 use Rattle.ud_text.proofs.bulk.last_line_in_block.Goals as goal
 

@@ -1,5 +1,5 @@
 -- Up to the first significant byte.
-use Rattle.ud_text.proofs.StepLemmas.{plain_step_read}
+use Rattle.ud_text.proofs.lemmas.bulk.StepLemmas.{plain_step_read}
 use Rattle.ud_text.proofs.bulk.plain_step.Goals as goal
 
 pub returns-clause-read : goal.returns-clause-read

@@ -1,6 +1,6 @@
 -- By the invariant.
-use Rattle.ud_text.specs.BulkStates.{code_state}
-use Rattle.ud_text.proofs.ProgressLemmas.{passed_of}
+use Rattle.ud_text.specs.bulk.BulkStates.{code_state}
+use Rattle.ud_text.proofs.lemmas.bulk.ProgressLemmas.{passed_of}
 use Rattle.ud_text.proofs.bulk.skip_text_from.Goals as goal
 
 pub returns-in-Err-clause-skipped : goal.returns-in-Err-clause-skipped

@@ -1,8 +1,8 @@
 -- The bytes up to `p.at` are read.
 use Rattle.std.proofs.Common.{◌-◌, length}
-use Rattle.ud_text.specs.Progress.{InOrder, ReadBy}
-use Rattle.ud_text.specs.Blocks.{IsBlock}
-use Rattle.ud_text.specs.BulkStates.{BulkState}
+use Rattle.ud_text.specs.bulk.Progress.{InOrder, ReadBy}
+use Rattle.ud_text.specs.bulk.Blocks.{IsBlock}
+use Rattle.ud_text.specs.bulk.BulkStates.{BulkState}
 use Rattle.ud_text.proofs.bulk.skip_text_from.Given as goal
 
 abbrev pub invariant-loop-p : goal.invariant-loop-p

@@ -1,7 +1,7 @@
 -- By the byte after the star.
 use Rattle.std.proofs.Common.{arith}
-use Rattle.ud_text.proofs.ProgressLemmas.{passed_of}
-use Rattle.ud_text.proofs.StepLemmas.{closed_read, free_front}
+use Rattle.ud_text.proofs.lemmas.bulk.ProgressLemmas.{passed_of}
+use Rattle.ud_text.proofs.lemmas.bulk.StepLemmas.{closed_read, free_front}
 use Rattle.ud_text.proofs.bulk.skip_to_block_end.Goals as goal
 
 pub last_line_in_block-last-requires-clause-inside : goal.last_line_in_block-last-requires-clause-inside

@@ -1,7 +1,7 @@
 -- A splice on a logical line that isn't white.
-use Rattle.ud_text.specs.BulkStates.{code_state}
-use Rattle.ud_text.proofs.ProgressLemmas.{passed_of}
-use Rattle.ud_text.proofs.StepLemmas.{splice_step_read}
+use Rattle.ud_text.specs.bulk.BulkStates.{code_state}
+use Rattle.ud_text.proofs.lemmas.bulk.ProgressLemmas.{passed_of}
+use Rattle.ud_text.proofs.lemmas.bulk.StepLemmas.{splice_step_read}
 use Rattle.ud_text.proofs.bulk.splice_step.Goals as goal
 
 pub returns-then-is_line_white_after-clause-read : goal.returns-then-is_line_white_after-clause-read

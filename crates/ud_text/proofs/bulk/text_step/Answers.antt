@@ -1,7 +1,7 @@
 -- The lexeme is read; without one, the lines before the last one that begins are skipped.
-use Rattle.ud_text.specs.BulkStates.{code_state}
-use Rattle.ud_text.proofs.StepLemmas.{text_step_read}
-use Rattle.ud_text.proofs.ProgressLemmas.{passed_of}
+use Rattle.ud_text.specs.bulk.BulkStates.{code_state}
+use Rattle.ud_text.proofs.lemmas.bulk.StepLemmas.{text_step_read}
+use Rattle.ud_text.proofs.lemmas.bulk.ProgressLemmas.{passed_of}
 use Rattle.ud_text.proofs.bulk.text_step.Goals as goal
 
 pub returns-in-None-clause-read : goal.returns-in-None-clause-read

@@ -1,8 +1,8 @@
 -- By a search of all bytes.
 use Rattle.std.proofs.Common.{ℕ, ◌+◌, List, length, Option, Some, None, IfSome, IfNone, true, false}
 use Rattle.memchr.specs.Find.{IsFirstByte, is_byte}
-use Rattle.ud_text.specs.LinesState.{UpToNewline}
-use Rattle.ud_text.proofs.NewlineLemmas.{up_to_newline-found, up_to_newline-none}
+use Rattle.ud_text.specs.lines.LinesState.{UpToNewline}
+use Rattle.ud_text.proofs.lemmas.lines.NewlineLemmas.{up_to_newline-found, up_to_newline-none}
 use Rattle.ud_text.proofs.lines.find_newline.Goals as goal
 
 found : (s : List ℕ) (r : Option ℕ) → IsFirstByte (is_byte 10) s r → IfSome r (λ at. UpToNewline s (at + 1) true)

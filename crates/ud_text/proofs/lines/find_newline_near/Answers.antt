@@ -1,5 +1,5 @@
 use Rattle.std.proofs.Common.{arith}
-use Rattle.ud_text.proofs.NearNewlines.{near_found}
+use Rattle.ud_text.proofs.lemmas.lines.NearNewlines.{near_found}
 use Rattle.ud_text.proofs.lines.find_newline_near.Goals as goal
 
 pub returns-then-at-lt-NEAR_WINDOW_BYTES : goal.returns-then-at-lt-NEAR_WINDOW_BYTES

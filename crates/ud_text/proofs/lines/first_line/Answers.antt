@@ -1,7 +1,7 @@
 -- A chunk has one prefix up to its first newline.
 use Rattle.std.proofs.Common.{◌<◌, ◌≡◌, true}
 use Rattle.ud_model.specs.declared.limits.TheConstants.{LINE_BYTES}
-use Rattle.ud_text.proofs.BorrowLemmas.{none_fits}
+use Rattle.ud_text.proofs.lemmas.lines.BorrowLemmas.{none_fits}
 use Rattle.ud_text.proofs.lines.first_line.Goals as goal
 use Rattle.ud_text.proofs.lines.first_line.Goals.{else-taken-via-then-taken+else-taken-le-LINE_BYTES, else-taken-via-else-taken}
 

@@ -1,7 +1,7 @@
 -- Few bytes are searched one by one.
 use Rattle.std.proofs.Common.{◌∙◌}
-use Rattle.ud_text.specs.BulkLexemes.{is_significant}
-use Rattle.ud_text.proofs.SimdLemmas.{search_specials, search_bound}
+use Rattle.ud_text.specs.bulk.BulkLexemes.{is_significant}
+use Rattle.ud_text.proofs.lemmas.searching.SimdLemmas.{search_specials, search_bound}
 use Rattle.ud_text.proofs.searching.find_significant.Goals as goal
 
 pub returns-then-bytes-ge64-clause-bound : goal.returns-then-bytes-ge64-clause-bound

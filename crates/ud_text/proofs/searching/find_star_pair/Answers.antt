@@ -1,5 +1,5 @@
 -- By the position of the first pair.
-use Rattle.ud_text.proofs.PairLemmas.{before_first_pair, no_pair, at_first_pair}
+use Rattle.ud_text.proofs.lemmas.searching.PairLemmas.{before_first_pair, no_pair, at_first_pair}
 use Rattle.ud_text.proofs.searching.find_star_pair.Goals as goal
 
 pub returns-then-at-bytes-clause-before : goal.returns-then-at-bytes-clause-before

@@ -1,5 +1,5 @@
 -- By the search from the end.
-use Rattle.ud_text.proofs.BulkPlainLemmas.{last_begins-none, last_begins-found}
+use Rattle.ud_text.proofs.lemmas.bulk.BulkPlainLemmas.{last_begins-none, last_begins-found}
 use Rattle.ud_text.proofs.searching.last_line_start.Goals as goal
 
 pub returns-in-Some : goal.returns-in-Some

@@ -1,8 +1,8 @@
 -- The comparisons, as bits.
 use Rattle.std.proofs.Common.{◌≡◌, ◌∙◌, length, take, drop, arith}
 use Rattle.std.proofs.lemmas.Simd.{length-chunk}
-use Rattle.ud_text.proofs.SimdLemmas.{lanes_equal, lanes_or, lane_bits}
-use Rattle.ud_text.proofs.SignificantLemmas.{is_found_special, lanes_equal_with, bits_row}
+use Rattle.ud_text.proofs.lemmas.searching.SimdLemmas.{lanes_equal, lanes_or, lane_bits}
+use Rattle.ud_text.proofs.lemmas.searching.SignificantLemmas.{is_found_special, lanes_equal_with, bits_row}
 use Rattle.ud_text.proofs.searching.significant_bits.Goals as goal
 
 pub returns : goal.returns

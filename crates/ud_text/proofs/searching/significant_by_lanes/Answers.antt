@@ -1,7 +1,7 @@
 -- The first significant byte is among these lanes, or after them.
 use Rattle.std.proofs.Common.{refl, arith}
-use Rattle.ud_text.specs.BulkLexemes.{is_significant}
-use Rattle.ud_text.proofs.SimdLemmas.{first_here, first_later, first_at_last}
+use Rattle.ud_text.specs.bulk.BulkLexemes.{is_significant}
+use Rattle.ud_text.proofs.lemmas.searching.SimdLemmas.{first_here, first_later, first_at_last}
 use Rattle.ud_text.proofs.searching.significant_by_lanes.Goals as goal
 
 pub returns-then-count : goal.returns-then-count

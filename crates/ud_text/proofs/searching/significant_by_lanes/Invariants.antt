@@ -1,7 +1,7 @@
 -- None of the bytes before `at` is significant.
 use Rattle.std.proofs.Common.{◌≤◌, ◌-◌, length}
 use Rattle.std.specs.List.{position_or_len}
-use Rattle.ud_text.specs.BulkLexemes.{is_significant}
+use Rattle.ud_text.specs.bulk.BulkLexemes.{is_significant}
 use Rattle.ud_text.proofs.searching.significant_by_lanes.Given as goal
 
 abbrev pub invariant-loop-at : goal.invariant-loop-at

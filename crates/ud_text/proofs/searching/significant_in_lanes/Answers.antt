@@ -1,9 +1,9 @@
 -- The lowest bit is that of the first significant lane.
 use Rattle.std.proofs.Common.{◌≡◌, ◌∙◌, ℕ, length, take, drop, ap}
 use Rattle.std.proofs.lemmas.Simd.{length-chunk, first_set_mask_l}
-use Rattle.ud_text.specs.Searches.{lowest_set_bit}
-use Rattle.ud_text.specs.BulkLexemes.{is_significant}
-use Rattle.ud_text.proofs.SimdLemmas.{among_bound}
+use Rattle.ud_text.specs.searching.Searches.{lowest_set_bit}
+use Rattle.ud_text.specs.bulk.BulkLexemes.{is_significant}
+use Rattle.ud_text.proofs.lemmas.searching.SimdLemmas.{among_bound}
 use Rattle.ud_text.proofs.searching.significant_in_lanes.Goals as goal
 
 pub returns-clause-value : goal.returns-clause-value

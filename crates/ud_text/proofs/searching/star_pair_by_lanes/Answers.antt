@@ -1,8 +1,8 @@
 -- The first pair is among these lanes, or after them.
 use Rattle.std.proofs.Common.{arith}
-use Rattle.ud_text.specs.Searches.{pairs_of, is_found}
-use Rattle.ud_text.proofs.SimdLemmas.{first_here, first_later, first_at_last}
-use Rattle.ud_text.proofs.PairLemmas.{length-pairs_of}
+use Rattle.ud_text.specs.searching.Searches.{pairs_of, is_found}
+use Rattle.ud_text.proofs.lemmas.searching.SimdLemmas.{first_here, first_later, first_at_last}
+use Rattle.ud_text.proofs.lemmas.searching.PairLemmas.{length-pairs_of}
 use Rattle.ud_text.proofs.searching.star_pair_by_lanes.Goals as goal
 
 pub returns-then-count : goal.returns-then-count

@@ -1,7 +1,7 @@
 -- No pair begins before `at`.
 use Rattle.std.proofs.Common.{◌≤◌, ◌-◌, length}
 use Rattle.std.specs.List.{position_or_len}
-use Rattle.ud_text.specs.Searches.{pairs_of, is_found}
+use Rattle.ud_text.specs.searching.Searches.{pairs_of, is_found}
 use Rattle.ud_text.proofs.searching.star_pair_by_lanes.Given as goal
 
 abbrev pub invariant-loop-at : goal.invariant-loop-at

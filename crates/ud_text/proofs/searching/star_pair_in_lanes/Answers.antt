@@ -2,9 +2,9 @@
 use Rattle.std.proofs.Common.{◌≡◌, ◌+◌, ◌∙◌, ◌==◌, ◌||◌, length, map, take, drop, ap, arith}
 use Rattle.std.proofs.lemmas.Simd.{length-chunk}
 use Rattle.ud_model.specs.text.Bytes.{star, slash, backslash}
-use Rattle.ud_text.specs.Searches.{pairs_of, is_found}
-use Rattle.ud_text.proofs.SimdLemmas.{lane, lanes_equal, lanes_or, lowest_lane, among_bound}
-use Rattle.ud_text.proofs.PairLemmas.{lanes_and, length-pairs_of, zip-pairs_at}
+use Rattle.ud_text.specs.searching.Searches.{pairs_of, is_found}
+use Rattle.ud_text.proofs.lemmas.searching.SimdLemmas.{lane, lanes_equal, lanes_or, lowest_lane, among_bound}
+use Rattle.ud_text.proofs.lemmas.searching.PairLemmas.{lanes_and, length-pairs_of, zip-pairs_at}
 use Rattle.ud_text.proofs.searching.star_pair_in_lanes.Goals as goal
 
 pub returns-clause-value : goal.returns-clause-value

@@ -1,5 +1,5 @@
 -- The first pair begins before the last byte.
-use Rattle.ud_text.proofs.PairLemmas.{pair_bound}
+use Rattle.ud_text.proofs.lemmas.searching.PairLemmas.{pair_bound}
 use Rattle.ud_text.proofs.searching.star_pair_offset.Goals as goal
 
 pub returns-then-bytes-gt64-clause-bound : goal.returns-then-bytes-gt64-clause-bound

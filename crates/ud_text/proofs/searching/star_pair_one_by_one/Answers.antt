@@ -1,6 +1,6 @@
 -- No pair begins before `at`; one begins at it, or there is no next byte.
 use Rattle.std.proofs.Common.{◌∙◌, sym, arith}
-use Rattle.ud_text.proofs.PairLemmas.{first_pair_is}
+use Rattle.ud_text.proofs.lemmas.searching.PairLemmas.{first_pair_is}
 use Rattle.ud_text.proofs.searching.star_pair_one_by_one.Goals as goal
 
 pub returns-then-is_star_pair : goal.returns-then-is_star_pair

@@ -1,6 +1,6 @@
 -- No pair begins before `at`.
 use Rattle.std.proofs.Common.{◌≡◌, ◌≤◌, ◌<◌, ◌-◌, ◌+◌, ℕ, false, length, get_or}
-use Rattle.ud_text.specs.BulkLexemes.{is_star_pair}
+use Rattle.ud_text.specs.bulk.BulkLexemes.{is_star_pair}
 use Rattle.ud_text.proofs.searching.star_pair_one_by_one.Given as goal
 
 abbrev pub invariant-loop-at : goal.invariant-loop-at

@@ -2,8 +2,8 @@ use Rattle.std.proofs.Common.{rules, ◌≡◌, Err, subst}
 use Rattle.std.specs.List.Sorted.{IsBinarySearchResult}
 use Rattle.std.specs.Ordering.{nat_cmp}
 use Rattle.std.proofs.lemmas.Fn.{always_returns_same}
-use Rattle.ud_cond.specs.Keys.{key_of}
-use Rattle.ud_cond.proofs.SortedLemmas.{gap-keys}
+use Rattle.ud_cond.specs.symbols.Keys.{key_of}
+use Rattle.ud_cond.proofs.lemmas.symbols.SortedLemmas.{gap-keys}
 use Rattle.ud_cond.proofs.symbols.Symbols.binary_search.Goals as goal
 
 -- the closure returns a row's key, and the slice is the table's rows

@@ -1,7 +1,7 @@
 use Rattle.std.proofs.Common.{rules, ◌≡◌}
 use Rattle.std.proofs.lemmas.Fn.{always_returns_same}
-use Rattle.ud_cond.specs.SymbolTable.{name_cmp}
-use Rattle.ud_cond.proofs.SortedLemmas.{searched}
+use Rattle.ud_cond.specs.symbols.SymbolTable.{name_cmp}
+use Rattle.ud_cond.proofs.lemmas.symbols.SortedLemmas.{searched}
 use Rattle.ud_cond.proofs.symbols.Symbols.binary_search_same_key.Goals as goal
 
 -- the closure compares a row's name, and the slice is the table's rows

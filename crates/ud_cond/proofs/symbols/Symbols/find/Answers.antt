@@ -1,12 +1,12 @@
 use Rattle.std.proofs.Common.{Some, None, ◌≡◌, ◌∙◌, sym, ap, subst, get_or}
 use Rattle.std.proofs.lemmas.List.{get_or_read}
 use Rattle.ud_model.specs.conditions.Table.{entry_in}
-use Rattle.ud_cond.specs.SymbolTable.{no_row, IsRowOf}
+use Rattle.ud_cond.specs.symbols.SymbolTable.{no_row, IsRowOf}
 use Rattle.ud_cond.specs.CondViews.{as_entry}
-use Rattle.ud_cond.specs.NameFilters.{slot_is_set}
-use Rattle.ud_cond.proofs.TableLemmas.{entry_from-none, entry_from-last}
-use Rattle.ud_cond.proofs.FilterLemmas.{none-unmarked}
-use Rattle.ud_cond.proofs.SortedLemmas.{last-row, none-at_all}
+use Rattle.ud_cond.specs.symbols.NameFilters.{slot_is_set}
+use Rattle.ud_cond.proofs.lemmas.symbols.TableLemmas.{entry_from-none, entry_from-last}
+use Rattle.ud_cond.proofs.lemmas.symbols.FilterLemmas.{none-unmarked}
+use Rattle.ud_cond.proofs.lemmas.symbols.SortedLemmas.{last-row, none-at_all}
 use Rattle.ud_cond.proofs.symbols.Symbols.find.Goals as goal
 use Rattle.ud_cond.proofs.symbols.Symbols.find.Goals.{After-entry, In-Err, Then-not-may_contain}
 

@@ -1,9 +1,9 @@
 use Rattle.std.proofs.Common.{◌≡◌, ◌∙◌, true, is_ok, sym, ap, subst}
-use Rattle.ud_cond.specs.Keys.{key_of}
-use Rattle.ud_cond.specs.SymbolTable.{IsGapFor}
-use Rattle.ud_cond.specs.NameFilters.{slot_is_set}
-use Rattle.ud_cond.proofs.SortedLemmas.{sorted-added}
-use Rattle.ud_cond.proofs.FilterLemmas.{noted-kept, noted-added}
+use Rattle.ud_cond.specs.symbols.Keys.{key_of}
+use Rattle.ud_cond.specs.symbols.SymbolTable.{IsGapFor}
+use Rattle.ud_cond.specs.symbols.NameFilters.{slot_is_set}
+use Rattle.ud_cond.proofs.lemmas.symbols.SortedLemmas.{sorted-added}
+use Rattle.ud_cond.proofs.lemmas.symbols.FilterLemmas.{noted-kept, noted-added}
 use Rattle.ud_cond.proofs.symbols.Symbols.insert_at.Goals as goal
 
 pub invariant_of-self : goal.invariant_of-self

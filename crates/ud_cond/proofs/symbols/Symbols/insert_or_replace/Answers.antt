@@ -1,11 +1,11 @@
 use Rattle.std.proofs.Common.{◌≡◌, ◌∙◌, sym, ap, ap₂, subst, get_or, refl}
 use Rattle.std.proofs.lemmas.List.{get_or_read}
 use Rattle.std.proofs.lemmas.Result.{on_ok_weaker}
-use Rattle.ud_cond.specs.SymbolTable.{no_row, IsRowOf}
+use Rattle.ud_cond.specs.symbols.SymbolTable.{no_row, IsRowOf}
 use Rattle.ud_cond.specs.CondViews.{argument_for}
-use Rattle.ud_cond.proofs.TableLemmas.{changes-set, changes-insert}
-use Rattle.ud_cond.proofs.SortedLemmas.{last-row, none-gap, sorted-set}
-use Rattle.ud_cond.proofs.FilterLemmas.{noted-set}
+use Rattle.ud_cond.proofs.lemmas.symbols.TableLemmas.{changes-set, changes-insert}
+use Rattle.ud_cond.proofs.lemmas.symbols.SortedLemmas.{last-row, none-gap, sorted-set}
+use Rattle.ud_cond.proofs.lemmas.symbols.FilterLemmas.{noted-set}
 use Rattle.ud_cond.proofs.symbols.Symbols.insert_or_replace.Goals as goal
 
 pub invariant_of-self : goal.invariant_of-self

@@ -1,7 +1,7 @@
 use Rattle.std.proofs.Common.{None}
 use Rattle.std.proofs.lemmas.Result.{on_ok_weaker}
 use Rattle.ud_cond.specs.CondViews.{argument_for}
-use Rattle.ud_cond.proofs.TableLemmas.{represents-changes}
+use Rattle.ud_cond.proofs.lemmas.symbols.TableLemmas.{represents-changes}
 use Rattle.ud_cond.proofs.symbols.Symbols.undefine.Goals as goal
 
 pub returns-clause-represents : goal.returns-clause-represents

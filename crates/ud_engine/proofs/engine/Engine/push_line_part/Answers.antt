@@ -1,10 +1,10 @@
 use Rattle.std.proofs.Common.{rules, refl, sym, ap, subst, suc, Option, IfNone, arith}
-use Rattle.ud_cond.specs.SymbolTable.{TableRepresents}
+use Rattle.ud_cond.specs.symbols.SymbolTable.{TableRepresents}
 use Rattle.ud_model.specs.text.Lines.{Line, NoNewline, IsWhole}
-use Rattle.ud_text.specs.LinesState.{LinesState, BreaksLimit}
+use Rattle.ud_text.specs.lines.LinesState.{LinesState, BreaksLimit}
 use Rattle.ud_text.specs.LineViews.{as_line}
-use Rattle.ud_text.specs.declared.fault.TextFault.{TextFault}
-use Rattle.ud_text.proofs.NewlineLemmas.{up_to_newline-some, whole_newlineless}
+use Rattle.ud_text.specs.declared.lines.fault.TextFault.{TextFault}
+use Rattle.ud_text.proofs.lemmas.lines.NewlineLemmas.{up_to_newline-some, whole_newlineless}
 use Rattle.ud_engine.specs.Feeding.{EngineState, EngineRepresentsBuffered}
 use Rattle.ud_engine.proofs.LinePartLemmas.{limit_stops}
 use Rattle.ud_engine.proofs.StepLemmas.{held_whole, is_within, still_open, open_step, line_step, line_refused, run_refused_by}

@@ -1,7 +1,7 @@
 use Rattle.std.proofs.Common.{refl, sym, ap, ◌∙◌, []}
 use Rattle.ud_model.specs.sections.Tree.{closed, nothing}
 use Rattle.ud_model.specs.sections.Faults.{no_lines}
-use Rattle.ud_text.specs.LinesState.{LinesState}
+use Rattle.ud_text.specs.lines.LinesState.{LinesState}
 use Rattle.ud_engine.proofs.FeedLemmas.{none_so_far, none_printed, open_new, none_begun, none_count}
 use Rattle.ud_engine.proofs.engine.Engine.with_buffer.Goals as goal
 

@@ -1,7 +1,7 @@
 use Rattle.std.proofs.Common.{◌++◌, ◌∷◌, [], sym, subst, map, ap, ◌∙◌}
 use Rattle.ud_model.specs.text.Scanning.{scan_after, next_reading}
 use Rattle.ud_model.specs.sections.Items.{reading_of}
-use Rattle.ud_text.specs.ScannerState.{ScannerRepresents}
+use Rattle.ud_text.specs.scan.ScannerState.{ScannerRepresents}
 use Rattle.ud_text.specs.LineViews.{as_line}
 use Rattle.ud_engine.proofs.DeciderLemmas.{reads_one, second}
 use Rattle.ud_engine.proofs.line_decider.LineDecider.decide_long.Goals as goal

@@ -1,6 +1,6 @@
 use Rattle.std.proofs.Common.{map, ◌∙◌}
 use Rattle.ud_model.specs.sections.Items.{reading_of}
-use Rattle.ud_sections.proofs.NextLemmas.{block_is_comment}
+use Rattle.ud_sections.proofs.lemmas.sections.NextLemmas.{block_is_comment}
 use Rattle.ud_engine.proofs.line_decider.LineDecider.finish.Goals as goal
 
 pub returns : goal.returns

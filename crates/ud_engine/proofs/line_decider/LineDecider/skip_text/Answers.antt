@@ -1,9 +1,9 @@
 use Rattle.std.proofs.Common.{◌∷◌, take, refl, ap, ◌∙◌, subst, arith}
 use Rattle.std.proofs.Math.ListN.{length-take}
-use Rattle.ud_text.specs.LinesState.{LinesState}
-use Rattle.ud_text.specs.BulkScanning.{SkipsText}
-use Rattle.ud_sections.specs.MachineState.{StepsText}
-use Rattle.ud_sections.specs.Transitions.{text_verdict}
+use Rattle.ud_text.specs.lines.LinesState.{LinesState}
+use Rattle.ud_text.specs.bulk.BulkScanning.{SkipsText}
+use Rattle.ud_sections.specs.sections.MachineState.{StepsText}
+use Rattle.ud_sections.specs.sections.Transitions.{text_verdict}
 use Rattle.ud_engine.proofs.SkipLemmas.{can_skip_take, reads_none, reads_all, some_line, skips_none}
 use Rattle.ud_engine.proofs.line_decider.LineDecider.skip_text.Goals as goal
 

@@ -1,10 +1,10 @@
 use Rattle.std.proofs.Common.{◌≡◌, rules, [], suc, take, true, false, refl, subst, arith}
 use Rattle.std.proofs.Math.ListN.{length-take}
 use Rattle.ud_model.specs.text.Lines.{text_of, numbered_from, whole_lines}
-use Rattle.ud_sections.specs.Transitions.{text_verdict}
-use Rattle.ud_sections.specs.PrinterOutputs.{PrintsEach}
-use Rattle.ud_text.specs.BulkLexemes.{at_start}
-use Rattle.ud_text.proofs.BulkPlainLemmas.{begins_ends}
+use Rattle.ud_sections.specs.sections.Transitions.{text_verdict}
+use Rattle.ud_sections.specs.printing.PrinterOutputs.{PrintsEach}
+use Rattle.ud_text.specs.bulk.BulkLexemes.{at_start}
+use Rattle.ud_text.proofs.lemmas.bulk.BulkPlainLemmas.{begins_ends}
 use Rattle.ud_engine.specs.DecidedLines.{DecidesBulk}
 use Rattle.ud_engine.proofs.SkipLemmas.{skips_none}
 use Rattle.ud_engine.proofs.BulkPrintLemmas.{prints_none, prints_run, kept_same, kept_text, dropped_differ, dropped_text, no_lines, none_other, or_none, or_some}

@@ -1,9 +1,9 @@
 -- The lines are taken and consumed.
 use Rattle.std.proofs.Common.{◌+◌, ℕ, ◌++◌, sym, subst}
-use Rattle.ud_text.specs.LinesState.{LinesState, LinesRepresent}
-use Rattle.ud_text.specs.Consuming.{CanConsume}
+use Rattle.ud_text.specs.lines.LinesState.{LinesState, LinesRepresent}
+use Rattle.ud_text.specs.lines.Consuming.{CanConsume}
 use Rattle.ud_text.specs.contracts.lines.Lines.{the_view}
-use Rattle.ud_text.proofs.ConsumeLemmas.{represent_consumed}
+use Rattle.ud_text.proofs.lemmas.lines.ConsumeLemmas.{represent_consumed}
 use Rattle.ud_text.proofs.lines.Lines.consume.Goals as goal
 
 pub returns-clause-represents : goal.returns-clause-represents

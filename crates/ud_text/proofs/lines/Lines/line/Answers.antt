@@ -1,8 +1,8 @@
 use Rattle.std.proofs.Common.{◌≡◌, true, suc, ◌+◌, ◌<◌, length, inl, inr, sym, subst, ap, add-one}
 use Rattle.ud_model.specs.text.Lines.{SplitLines, line_at}
-use Rattle.ud_text.specs.LinesState.{LinesState, IsLineOf, IsComplete}
+use Rattle.ud_text.specs.lines.LinesState.{LinesState, IsLineOf, IsComplete}
 use Rattle.ud_text.specs.contracts.lines.Lines.{the_view}
-use Rattle.ud_text.proofs.LinesLemmas.{represent_last, represent_whole, represent_rest}
+use Rattle.ud_text.proofs.lemmas.lines.LinesLemmas.{represent_last, represent_whole, represent_rest}
 use Rattle.ud_text.proofs.lines.Lines.line.Goals as goal
 
 -- a line that can be read has bytes

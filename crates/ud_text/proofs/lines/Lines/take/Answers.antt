@@ -1,7 +1,7 @@
 use Rattle.std.proofs.Common.{rules, ◌≡◌, false, ◌++◌, take, sym, ◌∙◌, ap, subst}
-use Rattle.ud_text.specs.LinesState.{LinesState, LinesRepresent}
+use Rattle.ud_text.specs.lines.LinesState.{LinesState, LinesRepresent}
 use Rattle.ud_text.specs.contracts.lines.Lines.{the_view}
-use Rattle.ud_text.proofs.LinesLemmas.{represent_take}
+use Rattle.ud_text.proofs.lemmas.lines.LinesLemmas.{represent_take}
 use Rattle.ud_text.proofs.lines.Lines.take.Goals as goal
 
 pub returns-clause-represents : goal.returns-clause-represents

@@ -1,10 +1,10 @@
 -- The line is that of the chunk's prefix, and is taken and consumed at once.
 use Rattle.std.proofs.Common.{rules, arith, Option, Some, IfNone, take, ◌≡◌, suc, ◌+◌, [], ◌++◌, length, None, false, add-one, sym, ◌∙◌, ap, subst}
 use Rattle.ud_model.specs.text.Lines.{line_at}
-use Rattle.ud_text.specs.LinesState.{LinesState, LinesRepresent, IsLineOf}
-use Rattle.ud_text.specs.Borrowing.{CanBorrow}
+use Rattle.ud_text.specs.lines.LinesState.{LinesState, LinesRepresent, IsLineOf}
+use Rattle.ud_text.specs.lines.Borrowing.{CanBorrow}
 use Rattle.ud_text.specs.contracts.lines.Lines.{the_view}
-use Rattle.ud_text.proofs.BorrowLemmas.{none_held, borrowed_value, borrowed_bytes, borrowed_no_newline, can_borrow, represent_borrowed}
+use Rattle.ud_text.proofs.lemmas.lines.BorrowLemmas.{none_held, borrowed_value, borrowed_bytes, borrowed_no_newline, can_borrow, represent_borrowed}
 use Rattle.ud_text.proofs.lines.Lines.whole_in.Goals as goal
 
 none_is : {T P : Type 0} (o : Option T) → P → IfNone o P

@@ -1,10 +1,10 @@
 -- The lines are whole and fit, and there are no more of them than bytes.
 use Rattle.std.proofs.Common.{rules, ◌≡◌, [], None, take, sym, ◌∙◌, subst, arith}
 use Rattle.std.proofs.Math.ListN.{length-take}
-use Rattle.ud_text.specs.LinesState.{LinesState}
-use Rattle.ud_text.specs.Consuming.{CanConsume}
-use Rattle.ud_text.proofs.BorrowLemmas.{none_held}
-use Rattle.ud_text.proofs.ConsumeLemmas.{lines_few, not_whole}
+use Rattle.ud_text.specs.lines.LinesState.{LinesState}
+use Rattle.ud_text.specs.lines.Consuming.{CanConsume}
+use Rattle.ud_text.proofs.lemmas.lines.BorrowLemmas.{none_held}
+use Rattle.ud_text.proofs.lemmas.lines.ConsumeLemmas.{lines_few, not_whole}
 use Rattle.ud_text.proofs.lines.Lines.whole_lines_len.Goals as goal
 
 pub returns-clause-whole_lines : goal.returns-clause-whole_lines

@@ -1,0 +1,4 @@
+-- Lemmas by subject.
+pub mod expressions
+pub mod symbols
+pub mod NameListLemmas

@@ -1,0 +1,8 @@
+-- Lemmas on the evaluation of expressions.
+pub mod ReadingLemmas
+pub mod DefinedLemmas
+pub mod FastPathLemmas
+pub mod StackLemmas
+pub mod NamedLemmas
+pub mod EvaluationLemmas
+pub mod DigitLemmas

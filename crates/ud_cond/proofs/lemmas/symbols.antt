@@ -1,0 +1,5 @@
+-- Lemmas on the table of symbols.
+pub mod TableLemmas
+pub mod SortedLemmas
+pub mod FilterLemmas
+pub mod KeyLemmas

@@ -1,7 +1,0 @@
-use Rattle.std.proofs.Common.{refl}
-use Rattle.ud_cond.specs.NameFilters.{slot_of}
-use Rattle.ud_cond.proofs.name_filter.slot_of.Goals as goal
-
-pub returns-clause-value : goal.returns-clause-value
-unfolding slot_of
-returns-clause-value c = refl

@@ -1,0 +1,6 @@
+-- The evaluation of expressions.
+pub mod Evaluation
+pub mod Stacks
+pub mod DefinedOperands
+pub mod TwoSlots
+pub mod Digits

@@ -1,0 +1,2 @@
+-- The names of a directive's text.
+pub mod NameLists

@@ -1,0 +1,4 @@
+-- The table of symbols.
+pub mod SymbolTable
+pub mod Keys
+pub mod NameFilters

@@ -1,0 +1,16 @@
+//! Evaluates the expressions of `#if` and `#elif` (C11 6.10.1).
+//!
+//! `fast_path` evaluates the common ones, in which few operators are pending and only `defined` has
+//! parentheses. `parsing` evaluates every other one, over the two stacks of `stacks`. Both read the
+//! text by `tokens`, build no tree and allocate nothing. The value of a part is `values.Value`:
+//! `constants` has those of constants, and `operators` the precedence of each operator.
+//!
+//! A new operator needs a token, a precedence, and its value in `values`.
+
+mod constants;
+pub(crate) mod fast_path;
+mod operators;
+pub(crate) mod parsing;
+mod stacks;
+pub(crate) mod tokens;
+pub(crate) mod values;

@@ -1,0 +1,338 @@
+//! The values of the parts of an expression.
+//!
+//! `ud_model.specs.conditions.Values` defines the numbers (C11 6.10.1p4 and 6.5), and
+//! `specs.Evaluation` the facts that are kept beside them.
+
+ghost use Rattle.std.specs.Prelude.{◌≡◌, Some, option_and_then, option_map};
+ghost use Rattle.ud_model.specs.conditions.Table.{entry_in};
+ghost use Rattle.ud_model.specs.conditions.Symbols.{resolve, defined_text};
+ghost use Rattle.ud_model.specs.conditions.Values as spec;
+ghost use Rattle.ud_cond.specs.CondViews.{as_entry};
+ghost use Rattle.ud_cond.specs.expressions.Evaluation.{table_in, constant_value_of, name_value_of};
+ghost use Rattle.ud_cond.specs.expressions.Evaluation.{defined_name_value_of, defined_value_of};
+ghost use Rattle.ud_cond.specs.expressions.Evaluation.{unary_value_of, binary_value_of};
+
+use crate::expressions::constants::{constant_value, has_u, is_constant, single_digit_value};
+use crate::symbols::{Entry, Symbols};
+use ud_model::Operator;
+use ud_model::bytes::is_identifier;
+
+/// The value of a part of an expression.
+#[derive(Clone, Copy)]
+pub(crate) struct Value {
+    /// The number; `None` if it is unknown.
+    pub(crate) number: Option<i64>,
+    /// `true` if a constant in the part, or one to which a symbol in the part resolves, has a `u`.
+    pub(crate) unsigned: bool,
+    /// `true` if the part names a symbol of the table.
+    pub(crate) listed: bool,
+    /// `true` if the part has an undefined symbol with arguments.
+    pub(crate) calls_undefined: bool,
+}
+
+/// The context in which an expression is evaluated.
+#[derive(Clone, Copy)]
+pub(crate) struct Scope<'a> {
+    /// The table; without one, no name has an entry.
+    pub(crate) symbols: Option<&'a Symbols>,
+    /// `true` if `&&` and `||` are unknown whenever an operand is.
+    pub(crate) strict: bool,
+    /// `true` if the expression has a `u`, so its least number is 0.
+    pub(crate) unsigned: bool,
+}
+
+impl Scope<'_> {
+    /// Returns the entry of a name.
+    #[inline(always)]
+    fn find(&self, name: &[u8]) -> Option<Entry<'_>>
+        ensures { option_map as_entry result ≡ entry_in (table_in self.now) name.now }
+    {
+        self.symbols?.find(name)
+    }
+
+    /// Resolves `name`, which is defined as `text`.
+    fn resolve_from<'a>(&'a self, name: &'a [u8], text: &'a [u8]) -> Option<&'a [u8]>
+        requires { defined_text (table_in self.now) name.now ≡ Some text.now }
+        ensures { option_map (λ v. v.now) result ≡ resolve (table_in self.now) name.now }
+    {
+        if is_identifier(text) {
+            self.resolve(name)
+        } else {
+            Some(text)
+        }
+    }
+
+    /// Resolves `name`: returns the text at which its value ends.
+    #[tactic(auto, unfolding(ud_model::specs::conditions::Symbols::resolve))]
+    fn resolve<'a>(&'a self, name: &'a [u8]) -> Option<&'a [u8]>
+        ensures { option_map (λ v. v.now) result ≡ resolve (table_in self.now) name.now }
+    {
+        self.symbols?.resolve(name)
+    }
+}
+
+/// A value before it is set: nothing is known of it.
+pub(crate) const NO_VALUE: Value = Value {
+    number: None,
+    unsigned: false,
+    listed: false,
+    calls_undefined: false,
+};
+
+/// Evaluates a constant into `value`.
+#[inline(always)]
+pub(crate) fn constant(word: &[u8], value: &mut Value)
+    ensures { value.new ≡ constant_value_of word.now }
+{
+    value.listed = false;
+    value.calls_undefined = false;
+    let digit = single_digit_value(word);
+    if digit.is_some() {
+        value.number = digit;
+        value.unsigned = false;
+        return;
+    }
+    value.number = constant_value(word);
+    value.unsigned = has_u(word);
+}
+
+/// Returns the number of the text to which a symbol resolves: a constant, or a `-` and a constant.
+fn text_value(unsigned: bool, text: &[u8]) -> Option<i64>
+    ensures { result ≡ spec.text_value unsigned text.now }
+{
+    match text {
+        [b'-', rest @ ..] => {
+            if !is_constant(rest) {
+                return None;
+            }
+            fit_checked(unsigned, constant_value(rest)?.checked_neg())
+        }
+        _ => {
+            if is_constant(text) {
+                constant_value(text)
+            } else {
+                None
+            }
+        }
+    }
+}
+
+/// Returns whether the constant of such a text has a `u`.
+fn text_has_u(text: &[u8]) -> bool
+    ensures { result ≡ spec.text_has_u text.now }
+{
+    match text {
+        [b'-', rest @ ..] => has_u(rest),
+        _ => has_u(text),
+    }
+}
+
+/// Evaluates a name that is defined as `text` into `value`.
+#[tactic(auto, unfolding(ud_model::specs::conditions::Values::name_has_u))]
+#[inline(always)]
+fn defined_as(scope: &Scope<'_>, name: &[u8], text: &[u8], value: &mut Value)
+    requires { defined_text (table_in scope.now) name.now ≡ Some text.now }
+    ensures { value.new ≡ defined_name_value_of (table_in scope.now) scope.now.unsigned name.now }
+{
+    value.listed = true;
+    value.calls_undefined = false;
+    let digit = single_digit_value(text);
+    if digit.is_some() {
+        value.number = digit;
+        value.unsigned = false;
+        return;
+    }
+    match scope.resolve_from(name, text) {
+        Some(end) => {
+            value.number = text_value(scope.unsigned, end);
+            value.unsigned = text_has_u(end);
+        }
+        None => {
+            value.number = None;
+            value.unsigned = false;
+        }
+    }
+}
+
+/// Evaluates a name with or without arguments into `value`.
+#[inline(always)]
+pub(crate) fn named(scope: &Scope<'_>, name: &[u8], arguments: bool, value: &mut Value)
+    ensures { value.new ≡ name_value_of (table_in scope.now) scope.now.unsigned name.now arguments }
+{
+    match scope.find(name) {
+        None => {
+            value.number = None;
+            value.unsigned = false;
+            value.listed = false;
+            value.calls_undefined = false;
+        }
+        Some(entry) => match entry.value {
+            None => {
+                value.number = Some(0);
+                value.unsigned = false;
+                value.listed = true;
+                value.calls_undefined = arguments;
+            }
+            Some(text) => defined_as(scope, name, text, value),
+        },
+    }
+}
+
+/// Evaluates `defined` and a name into `value`.
+#[tactic(auto, unfolding(ud_model::specs::conditions::Values::defined_value))]
+#[inline(always)]
+pub(crate) fn defined(scope: &Scope<'_>, name: &[u8], value: &mut Value)
+    ensures { value.new ≡ defined_value_of (table_in scope.now) name.now }
+{
+    value.unsigned = false;
+    value.calls_undefined = false;
+    match scope.find(name) {
+        None => {
+            value.number = None;
+            value.listed = false;
+        }
+        Some(entry) => {
+            value.number = Some(truth(entry.value.is_some()));
+            value.listed = true;
+        }
+    }
+}
+
+/// Returns `number`, or `None` if it is below the least number.
+fn fit(unsigned: bool, number: i64) -> Option<i64>
+    ensures { result ≡ spec.fit unsigned number }
+{
+    if unsigned && number < 0 {
+        None
+    } else {
+        Some(number)
+    }
+}
+
+/// Returns the result of a checked operation as `fit` does; `None` if there is no result.
+fn fit_checked(unsigned: bool, number: Option<i64>) -> Option<i64>
+    ensures { result ≡ option_and_then (spec.fit unsigned) number }
+{
+    fit(unsigned, number?)
+}
+
+/// Returns 1 if `holds`, else 0.
+fn truth(holds: bool) -> i64
+    ensures { result ≡ spec.truth holds }
+{
+    if holds { 1 } else { 0 }
+}
+
+/// Returns the remainder of `a` by `b`, if the quotient is a number too.
+#[tactic(auto, unfolding(ud_model::specs::conditions::Values::apply_binary_known))]
+fn remainder(unsigned: bool, a: i64, b: i64) -> Option<i64>
+    ensures { result ≡ spec.apply_binary_known unsigned Operator.Remainder a b }
+{
+    fit_checked(unsigned, a.checked_div(b))?;
+    fit_checked(unsigned, a.checked_rem(b))
+}
+
+/// Applies a binary operator to two known operands.
+#[tactic(auto, unfolding(ud_model::specs::conditions::Values::apply_binary_known))]
+#[inline(never)]
+fn apply_binary_known(unsigned: bool, operator: Operator, a: i64, b: i64) -> Option<i64>
+    ensures { result ≡ spec.apply_binary_known unsigned operator a b }
+{
+    match operator {
+        Operator::Or => Some(truth(a != 0 || b != 0)),
+        Operator::And => Some(truth(a != 0 && b != 0)),
+        Operator::BitOr => fit(unsigned, a | b),
+        Operator::BitXor => fit(unsigned, a ^ b),
+        Operator::BitAnd => fit(unsigned, a & b),
+        Operator::Equal => Some(truth(a == b)),
+        Operator::NotEqual => Some(truth(a != b)),
+        Operator::Less => Some(truth(a < b)),
+        Operator::LessEqual => Some(truth(a <= b)),
+        Operator::Greater => Some(truth(b < a)),
+        Operator::GreaterEqual => Some(truth(b <= a)),
+        Operator::Plus => fit_checked(unsigned, a.checked_add(b)),
+        Operator::Minus => fit_checked(unsigned, a.checked_sub(b)),
+        Operator::Times => fit_checked(unsigned, a.checked_mul(b)),
+        Operator::Over => fit_checked(unsigned, a.checked_div(b)),
+        Operator::Remainder => remainder(unsigned, a, b),
+        Operator::Not | Operator::Complement => None,
+    }
+}
+
+/// Returns the number that one known operand decides, whatever the other one is.
+fn short_circuits(strict: bool, operator: Operator, a: i64) -> Option<i64>
+    ensures { result ≡ spec.short_circuits strict operator a }
+{
+    if strict {
+        return None;
+    }
+    match operator {
+        Operator::And if a == 0 => Some(0),
+        Operator::Or if a != 0 => Some(1),
+        _ => None,
+    }
+}
+
+/// Applies a binary operator to two operands.
+#[inline(always)]
+pub(crate) fn apply_binary(
+    strict: bool,
+    unsigned: bool,
+    operator: Operator,
+    a: Option<i64>,
+    b: Option<i64>,
+) -> Option<i64>
+    ensures { result ≡ spec.apply_binary strict unsigned operator a b }
+{
+    match (a, b) {
+        (Some(a), Some(b)) => apply_binary_known(unsigned, operator, a, b),
+        (Some(known), None) | (None, Some(known)) => short_circuits(strict, operator, known),
+        (None, None) => None,
+    }
+}
+
+/// Applies a prefix operator to a known operand.
+#[tactic(auto, unfolding(ud_model::specs::conditions::Values::apply_unary_known))]
+fn apply_unary_known(unsigned: bool, operator: Operator, a: i64) -> Option<i64>
+    ensures { result ≡ spec.apply_unary_known unsigned operator a }
+{
+    match operator {
+        Operator::Not => Some(truth(a == 0)),
+        Operator::Minus => fit_checked(unsigned, a.checked_neg()),
+        Operator::Complement => fit(unsigned, !a),
+        _ => None,
+    }
+}
+
+/// Applies a prefix operator to its operand.
+pub(crate) fn apply_unary(unsigned: bool, operator: Operator, a: Option<i64>) -> Option<i64>
+    ensures { result ≡ spec.apply_unary unsigned operator a }
+{
+    apply_unary_known(unsigned, operator, a?)
+}
+
+/// Returns the value of a prefix operator and its operand.
+#[inline(always)]
+pub(crate) fn unary(scope: &Scope<'_>, operator: Operator, a: Value) -> Value
+    ensures { result ≡ unary_value_of scope.now.unsigned operator a }
+{
+    Value {
+        number: apply_unary(scope.unsigned, operator, a.number),
+        unsigned: a.unsigned,
+        listed: a.listed,
+        calls_undefined: a.calls_undefined,
+    }
+}
+
+/// Returns the value of two operands and the operator between them.
+#[inline(always)]
+pub(crate) fn binary(scope: &Scope<'_>, operator: Operator, a: Value, b: Value) -> Value
+    ensures { result ≡ binary_value_of scope.now.strict scope.now.unsigned operator a b }
+{
+    Value {
+        number: apply_binary(scope.strict, scope.unsigned, operator, a.number, b.number),
+        unsigned: a.unsigned || b.unsigned,
+        listed: a.listed || b.listed,
+        calls_undefined: a.calls_undefined || b.calls_undefined,
+    }
+}

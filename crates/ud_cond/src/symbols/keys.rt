@@ -1,0 +1,80 @@
+//! The keys of names: numbers by which most names differ.
+
+ghost use Rattle.std.specs.Prelude.{◌≡◌, slice_index, IsTrue, bytes_eq, true};
+ghost use Rattle.ud_cond.specs.symbols.Keys as spec;
+
+/// The number of bytes of a name that its key is made of.
+pub(crate) const KEY_BYTES: usize = 8;
+
+/// Returns the key of a name: its last bytes as one number, since names often begin alike.
+#[inline(always)]
+pub(crate) fn key_of(name: &[u8]) -> u64
+    ensures { result ≡ spec.key_of name.now }
+{
+    key_in(&name[name.len().saturating_sub(KEY_BYTES)..])
+}
+
+/// Returns the first bytes of a text as one number. Missing bytes count as 0.
+#[inline(always)]
+fn key_in(bytes: &[u8]) -> u64
+    ensures { result ≡ spec.key_in bytes.now }
+{
+    match bytes {
+        [a, b, c, d, e, f, g, h] => u64::from_le_bytes([*a, *b, *c, *d, *e, *f, *g, *h]),
+        _ => byte_by_byte(bytes),
+    }
+}
+
+/// Returns whether two names with the same key are equal.
+///
+/// For names of at most twice `KEY_BYTES` bytes, a comparison of the first bytes suffices.
+#[inline(always)]
+pub(crate) fn is_same(a: &[u8], b: &[u8]) -> bool
+    requires { spec.key_of a.now ≡ spec.key_of b.now }
+    ensures { IsTrue result → bytes_eq a.now b.now ≡ true }
+{
+    if a.len() != b.len() {
+        return false;
+    }
+    if a.len() <= KEY_BYTES {
+        return true;
+    }
+    if a.len() <= 2 * KEY_BYTES {
+        return key_in(&a[..KEY_BYTES]) == key_in(&b[..KEY_BYTES]);
+    }
+    is_same_text(a, b)
+}
+
+/// Returns whether two texts are equal.
+#[inline(never)]
+fn is_same_text(a: &[u8], b: &[u8]) -> bool
+    ensures { result ≡ bytes_eq a.now b.now }
+{
+    a == b
+}
+
+/// Returns the first bytes of a text as one number, if the text may be shorter than a key.
+fn byte_by_byte(bytes: &[u8]) -> u64
+    ensures { result ≡ spec.key_in bytes.now }
+{
+    u64::from_le_bytes([
+        byte_at(bytes, 0),
+        byte_at(bytes, 1),
+        byte_at(bytes, 2),
+        byte_at(bytes, 3),
+        byte_at(bytes, 4),
+        byte_at(bytes, 5),
+        byte_at(bytes, 6),
+        byte_at(bytes, 7),
+    ])
+}
+
+/// Returns a byte of a text, or 0 if the text is shorter.
+fn byte_at(bytes: &[u8], i: usize) -> u8
+    ensures { result ≡ slice_index bytes.now i }
+{
+    match bytes.get(i) {
+        Some(byte) => *byte,
+        None => 0,
+    }
+}

@@ -1,0 +1,4 @@
+-- Lemmas by subject.
+pub mod printing
+pub mod sections
+pub mod ParseLemmas

@@ -1,0 +1,61 @@
+-- PrintedRuns: the output for the next line by its verdict, and for many text lines by that for
+-- one.
+use Rattle.std.proofs.Common.{◌≡◌, ◌∙◌, ℕ, List, [], ◌∷◌, ◌++◌, Bool, true, false, if◌then◌else◌, map, refl, sym, ap, ap₂, subst, append_assoc, append-nil}
+use Rattle.ud_model.specs.text.Lines.{Line, text_of}
+use Rattle.ud_model.specs.answer.Printing.{Judged, last_removed, piece_by, piece_after, complement_verdict, complemented}
+use Rattle.ud_model.specs.sections.Pruning.{is_removed}
+use Rattle.ud_model.specs.declared.verdict.Verdict.{Verdict}
+use Rattle.ud_model.specs.declared.verdict.Verdict.TheVariants.{Keep, Remove}
+use Rattle.ud_model.proofs.answer.PrintingLemmas.{last_removed-more}
+use Rattle.ud_sections.specs.printing.Styles.{renumber_style}
+use Rattle.ud_sections.specs.printing.PrinterOutputs.{judged_text, PrintsEach, PrintsOne, GivesLineOutput}
+use Rattle.ud_sections.specs.declared.printing.line_output.LineOutput.{LineOutput}
+use Rattle.ud_sections.specs.declared.printing.line_output.LineOutput.TheVariants.{Whole, Nothing, Ending, Parts}
+use Rattle.ud_sections.proofs.lemmas.printing.RenumberLemmas.{removed_piece, following_piece}
+
+module _ (given : List Judged → Type 0) (piece : List Judged → Judged → List ℕ) (verdict : Verdict) (own : Line → List ℕ) (one : PrintsOne given piece verdict own) where
+  -- what is printed for one line after any lines is printed for each of many
+  pub each_of : PrintsEach given piece verdict own
+  each_of before [] h = (refl, subst given (sym (append-nil before)) h)
+  each_of before (l ∷ ls) h =
+      let k = one before (judged_text verdict l) h refl in
+      let r = each_of (before ++ judged_text verdict l ∷ []) ls k.1 in (
+        ap₂ (λ x xs. x ∷ xs) k.0 r.0,
+        subst given (append_assoc before (judged_text verdict l ∷ []) (map (judged_text verdict) ls)) r.1,
+      )
+
+-- after a line that isn't removed, a kept line is printed as it is, and not numbered
+pub kept_one : (removed : Bool) → removed ≡ false → PrintsOne (λ before. removed ≡ last_removed before) (piece_after renumber_style) Keep text_of
+kept_one removed e before j h v = (
+  sym (following_piece before j (sym h ∙ e)) ∙ ap (λ w. if is_removed w then [] else piece_by w j.keyword j.line) v,
+  e ∙ sym (ap is_removed v) ∙ sym (last_removed-more before j),
+)
+
+-- after a removed line, nothing is printed for a removed one
+pub removed_one : (removed : Bool) → removed ≡ true → PrintsOne (λ before. removed ≡ last_removed before) (piece_after renumber_style) Remove (λ l. [])
+removed_one removed e before j h v = (
+  sym (removed_piece before j (ap is_removed v)) ∙ ap (λ w. if is_removed w then [] else piece_by w j.keyword j.line) v,
+  e ∙ sym (ap is_removed v) ∙ sym (last_removed-more before j),
+)
+
+module _ (given : List Judged → Type 0) (piece : List Judged → Judged → List ℕ) where
+  map_more : (before js : List Judged) → map complemented (before ++ js) ≡ map complemented before ++ map complemented js
+  map_more [] js = refl
+  map_more (j ∷ before) js = ap (λ ks. complemented j ∷ ks) (map_more before js)
+
+  complement_one : (verdict other : Verdict) (own : Line → List ℕ) → other ≡ complement_verdict verdict → PrintsOne given piece other own →
+      PrintsOne (λ bs. given (map complemented bs)) (λ bs j. piece (map complemented bs) (complemented j)) verdict own
+  complement_one verdict other own e one before j h v =
+      let k = one (map complemented before) (complemented j) h (ap complement_verdict v ∙ sym e) in (
+        k.0,
+        subst given (sym (map_more before (j ∷ []))) k.1,
+      )
+
+  -- the complement prints for lines with this verdict what the printer prints for lines with the
+  -- other one
+  pub complement_leaves : (verdict other : Verdict) (left : LineOutput) → other ≡ complement_verdict verdict → GivesLineOutput given piece other left →
+      GivesLineOutput (λ bs. given (map complemented bs)) (λ bs j. piece (map complemented bs) (complemented j)) verdict left
+  complement_leaves verdict other Whole e h = complement_one verdict other text_of e h
+  complement_leaves verdict other Nothing e h = complement_one verdict other (λ l. []) e h
+  complement_leaves verdict other Ending e h = complement_one verdict other (λ l. l.ending) e h
+  complement_leaves verdict other Parts e h = tt

@@ -1,0 +1,184 @@
+-- CheckLemmas: what the check of a line means for the line after sound ones.
+use Rattle.std.proofs.Common.{◌≡◌, ◌≢◌, ℕ, suc, ◌<◌, ◌≤◌, ◌==◌, [], ◌∷◌, ◌++◌, length, Bool, true, false, ◌&&◌, if◌then◌else◌, Option, Some, None, Ok, Err, refl, sym, ◌∙◌, ap, subst, arith}
+use Rattle.std.proofs.lemmas.Bool.{eqb-true}
+use Rattle.ud_model.specs.text.Scans.{Reading, is_spanning}
+use Rattle.ud_model.specs.sections.Tree.{Item, Tree, text_line, if_line, elif_line, else_line, endif_line, lines, depth}
+use Rattle.ud_model.specs.sections.Pruning.{marks}
+use Rattle.ud_model.specs.sections.Items.{reading_of, line_of}
+use Rattle.ud_model.specs.sections.Faults.{FaultOf, is_obfuscated, is_directive, misplaced_fault, ends_removed, NoneHolds, cases}
+use Rattle.ud_model.specs.declared.limits.TheConstants.{OPEN_SECTIONS}
+use Rattle.ud_model.proofs.sections.Growth.{Adds, lines-add}
+use Rattle.ud_model.proofs.sections.Unique.{grows}
+use Rattle.ud_model.proofs.sections.Stays.{marks_so_far_same}
+use Rattle.ud_sections.specs.declared.sections.fault.SectionFault.{SectionFault}
+use Rattle.ud_sections.specs.declared.sections.fault.SectionFault.TheVariants.{TooManyLevels, Obfuscated}
+use Rattle.ud_sections.specs.declared.sections.check.LineContext.{LineContext}
+use Rattle.ud_sections.specs.declared.sections.open_section.Action.{Action}
+use Rattle.ud_sections.specs.declared.sections.classify_line.ClassifiedLine.{ClassifiedLine}
+use Rattle.ud_sections.specs.sections.Actions.{act, Applies}
+use Rattle.ud_sections.specs.sections.Checking.{is_directive_kind, opens_section, is_obfuscated_by, misplaced_fault_by, checked_action, checked_by}
+use Rattle.ud_sections.specs.sections.OpenSections.{open_sections_of, section_at}
+use Rattle.ud_sections.specs.sections.Limits.{IsWithinLimits}
+use Rattle.ud_sections.specs.sections.MachineState.{fault_of}
+use Rattle.ud_sections.specs.sections.ClassifiedLines.{item_kind}
+use Rattle.ud_sections.proofs.lemmas.sections.LineFaults.{is_cut_item, out_of_place_fault, too_deep_fault, spoiled_fault, clear_line}
+use Rattle.ud_sections.proofs.lemmas.sections.ActionLemmas.{mark_of, Moved, moves, takes, depth_levels, changes_depth, changes_deeper}
+
+-- the context of the line after a text
+abbrev pub before_next : Bool → Tree Reading → LineContext
+before_next p t = record {
+  enclosing = record { section = section_at None true p t; plain = p };
+  depth = depth t;
+  removed = ends_removed (marks t);
+}
+
+-- the classified line of the item
+pub record IsSeen (x : Item Reading) (s : ClassifiedLine) : Type 0 where
+  pub kind : s.kind ≡ item_kind x
+  pub spans : s.spans ≡ is_spanning (reading_of x).scan
+  pub joins : s.joins_before ≡ (reading_of x).scan.joins_before
+
+-- the line is sound after the text, with this action
+pub record Follows (p : Bool) (t : Tree Reading) (x : Item Reading) (a : Action) : Type 0 where
+  pub tree : Tree Reading
+  pub lines_are : lines tree ≡ lines t ++ x ∷ []
+  pub clear : NoneHolds (lines t) x cases
+  pub marks_are : marks tree ≡ marks t ++ mark_of a ∷ []
+  pub changes : Applies a.change (open_sections_of true p t) (open_sections_of true p tree)
+
+directive_shape : (x : Item Reading) → is_directive_kind (item_kind x) ≡ is_directive x
+directive_shape (text_line r) = refl
+directive_shape (if_line o) = refl
+directive_shape (elif_line o) = refl
+directive_shape (else_line r) = refl
+directive_shape (endif_line r) = refl
+
+-- the line is added, with this action
+pub record Taken (p : Bool) (t : Tree Reading) (x : Item Reading) (a : Action) : Type 0 where
+  pub tree : Tree Reading
+  pub lines_are : lines tree ≡ lines t ++ x ∷ []
+  pub marks_are : marks tree ≡ marks t ++ mark_of a ∷ []
+  pub changes : Applies a.change (open_sections_of true p t) (open_sections_of true p tree)
+
+not_equal : (n : ℕ) → (n == OPEN_SECTIONS) ≡ false → n ≢ OPEN_SECTIONS
+not_equal n e q = let h : (OPEN_SECTIONS == OPEN_SECTIONS) ≡ false = subst (λ k. (k == OPEN_SECTIONS) ≡ false) q e in cc
+
+module _ (p : Bool) (t : Tree Reading) (x : Item Reading) where
+  taken_by : (u : Tree Reading) → Adds t x u → Moved p true p None t u x → (a : Action) →
+      act p (section_at None true p t) (item_kind x) (line_of x).number ≡ Some a → Taken p t x a
+  taken_by u grown m a e =
+      let q : m.action ≡ a = let h : Some m.action ≡ Some a = sym m.is_act ∙ e in cc in
+      subst (Taken p t x) q (record {
+        tree = u;
+        lines_are = lines-add grown;
+        marks_are = marks_so_far_same true u ∙ m.marks_are ∙ ap (λ ms. ms ++ mark_of m.action ∷ []) (sym (marks_so_far_same true t));
+        changes = m.changes;
+      })
+
+  pub taken : (a : Action) → act p (section_at None true p t) (item_kind x) (line_of x).number ≡ Some a → Taken p t x a
+  taken a e =
+      let s : (u : Tree Reading) × Adds t x u = takes p true p t x a e in
+      taken_by s.0 s.1 (moves p true p None refl refl s.1) a e
+
+  not_taken : act p (section_at None true p t) (item_kind x) (line_of x).number ≡ None → (u : Tree Reading) → lines u ≡ lines t ++ x ∷ [] → ⊥
+  not_taken none u e =
+      let m : Moved p true p None t u x = moves p true p None refl refl (grows t u x e) in
+      let h : Some m.action ≡ None = sym m.is_act ∙ none in
+      cc
+
+  shallow : (a : Action) (k : Taken p t x a) (b : Bool) → opens_section a.change ≡ b → depth t ≤ OPEN_SECTIONS →
+      (b && (depth t == OPEN_SECTIONS)) ≡ false → depth k.tree ≤ OPEN_SECTIONS
+  shallow a k false push d e =
+      let c : length (open_sections_of true p k.tree) ≤ length (open_sections_of true p t) = changes_depth a.change (open_sections_of true p t) (open_sections_of true p k.tree) k.changes push in
+      let f : length (open_sections_of true p t) ≡ depth t = depth_levels true p t in
+      let g : length (open_sections_of true p k.tree) ≡ depth k.tree = depth_levels true p k.tree in
+      omega (arith, c, f, g, d)
+  shallow a k true push d e =
+      let c : length (open_sections_of true p k.tree) ≡ suc (length (open_sections_of true p t)) = changes_deeper a.change (open_sections_of true p t) (open_sections_of true p k.tree) k.changes push in
+      let f : length (open_sections_of true p t) ≡ depth t = depth_levels true p t in
+      let g : length (open_sections_of true p k.tree) ≡ depth k.tree = depth_levels true p k.tree in
+      let n : depth t ≢ OPEN_SECTIONS = not_equal (depth t) e in
+      omega (arith, c, f, g, d, n)
+
+  deep : (a : Action) (k : Taken p t x a) (b : Bool) → opens_section a.change ≡ b → (b && (depth t == OPEN_SECTIONS)) ≡ true → OPEN_SECTIONS < depth k.tree
+  deep a k false push e = cc
+  deep a k true push e =
+      let c : length (open_sections_of true p k.tree) ≡ suc (length (open_sections_of true p t)) = changes_deeper a.change (open_sections_of true p t) (open_sections_of true p k.tree) k.changes push in
+      let f : length (open_sections_of true p t) ≡ depth t = depth_levels true p t in
+      let g : length (open_sections_of true p k.tree) ≡ depth k.tree = depth_levels true p k.tree in
+      let n : depth t ≡ OPEN_SECTIONS = eqb-true (depth t) OPEN_SECTIONS e in
+      omega (arith, c, f, g, n)
+
+  spoils : (s : ClassifiedLine) (a : Action) → IsSeen x s → is_obfuscated_by (ends_removed (marks t)) s a ≡ is_obfuscated (marks t) x (mark_of a)
+  spoils s a scanned = rw (scanned.kind, scanned.spans, scanned.joins, directive_shape x) refl
+
+  misplaced_is : act p (section_at None true p t) (item_kind x) (line_of x).number ≡ None →
+      misplaced_fault x ≡ Some (fault_of (misplaced_fault_by (item_kind x) (line_of x).number))
+  misplaced_is none = by_item x none
+    where
+      by_item : (y : Item Reading) → act p (section_at None true p t) (item_kind y) (line_of y).number ≡ None →
+          misplaced_fault y ≡ Some (fault_of (misplaced_fault_by (item_kind y) (line_of y).number))
+      by_item (text_line r) e = cc
+      by_item (if_line o) e = cc
+      by_item (elif_line o) e = refl
+      by_item (else_line r) e = refl
+      by_item (endif_line r) e = refl
+
+  module _ (s : ClassifiedLine) (scanned : IsSeen x s) (w : IsWithinLimits (line_of x)) (whole : is_cut_item x ≡ false) (d : depth t ≤ OPEN_SECTIONS) where
+    well_by : (c a : Action) → Taken p t x c → (k q : Bool) → (opens_section c.change && (depth t == OPEN_SECTIONS)) ≡ k →
+        is_obfuscated_by (ends_removed (marks t)) s c ≡ q →
+        (if k then Err (TooManyLevels (line_of x).number) else if q then Err (Obfuscated (line_of x).number) else Ok c) ≡ Ok a → Follows p t x a
+    well_by c a h true q push spoil e = cc
+    well_by c a h false true push spoil e = cc
+    well_by c a h false false push spoil e =
+        let same : c ≡ a = cc in
+        subst (Follows p t x) same (record {
+          tree = h.tree;
+          lines_are = h.lines_are;
+          clear =
+              clear_line (lines t) x w whole h.tree h.lines_are (marks t) (mark_of c)
+              (shallow c h (opens_section c.change) refl d push) h.marks_are (sym (spoils s c scanned) ∙ spoil);
+          marks_are = h.marks_are;
+          changes = h.changes;
+        })
+
+    ill_by : (c : Action) (f : SectionFault) → Taken p t x c → (k q : Bool) → (opens_section c.change && (depth t == OPEN_SECTIONS)) ≡ k →
+        is_obfuscated_by (ends_removed (marks t)) s c ≡ q →
+        (if k then Err (TooManyLevels (line_of x).number) else if q then Err (Obfuscated (line_of x).number) else Ok c) ≡ Err f → FaultOf (lines t) x (fault_of f)
+    ill_by c f h true q push spoil e =
+        let same : TooManyLevels (line_of x).number ≡ f = cc in
+        subst (λ g. FaultOf (lines t) x (fault_of g)) same
+        (too_deep_fault (lines t) x w whole h.tree h.lines_are (deep c h (opens_section c.change) refl push))
+    ill_by c f h false true push spoil e =
+        let same : Obfuscated (line_of x).number ≡ f = cc in
+        subst (λ g. FaultOf (lines t) x (fault_of g)) same
+        (spoiled_fault (lines t) x w whole h.tree h.lines_are (marks t) (mark_of c)
+        (shallow c h (opens_section c.change) refl d push) h.marks_are (sym (spoils s c scanned) ∙ spoil))
+    ill_by c f h false false push spoil e = cc
+
+    well_at : (r : Option Action) (a : Action) → act p (section_at None true p t) (item_kind x) (line_of x).number ≡ r →
+        checked_action (before_next p t) s (line_of x).number r ≡ Ok a → Follows p t x a
+    well_at None a none e = cc
+    well_at (Some c) a acts e =
+        well_by c a (taken c acts) (opens_section c.change && (depth t == OPEN_SECTIONS)) (is_obfuscated_by (ends_removed (marks t)) s c) refl refl e
+
+    ill_at : (r : Option Action) (f : SectionFault) → act p (section_at None true p t) (item_kind x) (line_of x).number ≡ r →
+        checked_action (before_next p t) s (line_of x).number r ≡ Err f → FaultOf (lines t) x (fault_of f)
+    ill_at None f none e =
+        let same : misplaced_fault_by s.kind (line_of x).number ≡ f = cc in
+        subst (λ g. FaultOf (lines t) x (fault_of g)) same
+        (out_of_place_fault (lines t) x w t (fault_of (misplaced_fault_by s.kind (line_of x).number)) whole refl (not_taken none)
+        (misplaced_is none ∙ ap (λ k. Some (fault_of (misplaced_fault_by k (line_of x).number))) (sym scanned.kind)))
+    ill_at (Some c) f acts e =
+        ill_by c f (taken c acts) (opens_section c.change && (depth t == OPEN_SECTIONS)) (is_obfuscated_by (ends_removed (marks t)) s c) refl refl e
+
+    acts_alike : act p (section_at None true p t) (item_kind x) (line_of x).number ≡ act p (section_at None true p t) s.kind (line_of x).number
+    acts_alike = ap (λ k. act p (section_at None true p t) k (line_of x).number) (sym scanned.kind)
+
+    -- a line with an action is sound
+    pub judged_well : (a : Action) → checked_by (before_next p t) s (line_of x).number ≡ Ok a → Follows p t x a
+    judged_well a e = well_at (act p (section_at None true p t) s.kind (line_of x).number) a acts_alike e
+
+    -- a line with a fault by the check has this fault
+    pub judged_ill : (f : SectionFault) → checked_by (before_next p t) s (line_of x).number ≡ Err f → FaultOf (lines t) x (fault_of f)
+    judged_ill f e = ill_at (act p (section_at None true p t) s.kind (line_of x).number) f acts_alike e

@@ -1,6 +1,0 @@
-use Rattle.std.proofs.Common.{◌∙◌, ap, length}
-use Rattle.ud_sections.proofs.ActionLemmas.{depth_levels}
-use Rattle.ud_sections.proofs.machine.Machine.depth.Goals as goal
-
-pub returns-clause-value : goal.returns-clause-value
-returns-clause-value c = λ o xs t h. c.len.ensures.value ∙ ap length h.sections ∙ depth_levels _ _ t

@@ -1,0 +1,3 @@
+-- The directive of a line.
+pub mod Keywords
+pub mod ParsedDirectives

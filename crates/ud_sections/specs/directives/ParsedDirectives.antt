@@ -1,0 +1,31 @@
+-- ParsedDirectives: the directive that the program finds on a line, as the definitions have it.
+--
+--   content_found found   a cut keyword, else a directive, else text
+--
+-- Example: a line on which the program finds no directive is text.
+use Rattle.std.specs.Prelude.{Option, Some, None, Result, Ok, Err}
+use Rattle.ud_model.specs.sections.Directives.{Content, cut_keyword, text}
+use Rattle.ud_model.specs.sections.Directives as model
+use Rattle.ud_sections.specs.declared.directives.Directive.{Directive}
+use Rattle.ud_sections.specs.declared.directives.Cut.{Cut}
+use Rattle.ud_sections.specs.sections.StepViews.{as_span}
+
+-- `as_directive d`: a directive of the program, as the definitions have it.
+abbrev pub as_directive : Directive → model.Directive
+as_directive d = record {
+  kind = d.kind;
+  keyword = as_span d.keyword;
+  after = d.after.now;
+  broken =
+      d.broken;
+}
+
+-- `directive_or_text found`: a directive, or text if there is none.
+abbrev pub directive_or_text : Option Directive → Content
+directive_or_text None = text
+directive_or_text (Some d) = model.directive (as_directive d)
+
+-- `content_found result`: the content of a line for which `directive` returned `result`.
+abbrev pub content_found : Result (Option Directive) Cut → Content
+content_found (Ok found) = directive_or_text found
+content_found (Err cut) = cut_keyword

@@ -1,0 +1,6 @@
+-- Printers and the lister.
+pub mod PieceParts
+pub mod Styles
+pub mod PrinterOutputs
+pub mod Printers
+pub mod ListerBorrows

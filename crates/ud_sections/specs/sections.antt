@@ -1,0 +1,12 @@
+-- The open sections, and the decision about each line.
+pub mod StepViews
+pub mod SectionStates
+pub mod OpenSections
+pub mod Actions
+pub mod ClassifiedLines
+pub mod Checking
+pub mod Limits
+pub mod MachineState
+pub mod EndFaults
+pub mod StackOps
+pub mod Transitions

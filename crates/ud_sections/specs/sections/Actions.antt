@@ -1,0 +1,86 @@
+-- Actions: the action of a line, by the innermost open section.
+--
+--   act plain section kind n   the action of a line of this kind and number, or `None`
+--   Applies change old new     the change makes `new` of the open sections `old`
+--
+-- `plain` is whether text outside all sections is plain, and `section` is the innermost open one.
+use Rattle.std.specs.Prelude.{◌≡◌, ℕ, List, [], ◌∷◌, ◌++◌, Bool, true, not, ◌||◌, if◌then◌else◌}
+use Rattle.std.specs.Prelude.{Option, Some, None}
+use Rattle.ud_model.specs.declared.cond.Cond.{Cond}
+use Rattle.ud_model.specs.declared.cond.Cond.TheVariants.{Yes}
+use Rattle.ud_model.specs.declared.verdict.Verdict.TheVariants.{Keep, Remove}
+use Rattle.ud_model.specs.sections.Pruning as table
+use Rattle.ud_sections.specs.declared.sections.open_section.OpenSection.{OpenSection}
+use Rattle.ud_sections.specs.declared.sections.open_section.StackOp.{StackOp}
+use Rattle.ud_sections.specs.declared.sections.open_section.StackOp.TheVariants.{Stay, Push}
+use Rattle.ud_sections.specs.declared.sections.open_section.StackOp.TheVariants.{Replace, Pop}
+use Rattle.ud_sections.specs.declared.sections.open_section.Action.{Action}
+use Rattle.ud_sections.specs.declared.sections.line_kind.LineKind.{LineKind}
+use Rattle.ud_sections.specs.declared.sections.line_kind.LineKind.TheVariants.{Text, If, Elif, Else}
+use Rattle.ud_sections.specs.declared.sections.line_kind.LineKind.TheVariants.{Endif}
+use Rattle.ud_sections.specs.sections.SectionStates.{opener_verdict_in, endif_verdict_in}
+use Rattle.ud_sections.specs.sections.SectionStates.{is_kept_in, is_in_removed, new_state}
+use Rattle.ud_sections.specs.sections.OpenSections.{new_section, section_with_group}
+
+-- `kept_at section`: the text in `section` is in a kept place; outside all sections it is.
+abbrev pub kept_at : Option OpenSection → Bool
+kept_at None = true
+kept_at (Some l) = is_kept_in l.state
+
+-- `plain_at plain section`: the next line in `section` is read as plain text.
+abbrev pub plain_at : Bool → Option OpenSection → Bool
+plain_at plain None = plain
+plain_at plain (Some l) = l.ignoring
+
+-- `text_action kept`: a text line stays if its place is kept, and changes nothing.
+abbrev pub text_action : Bool → Action
+text_action kept = record { verdict = if kept then Keep else Remove; kept = kept; change = Stay }
+
+-- `if_action kept plain c ignoring n`: a section's first directive, on line `n`, opens it. The
+-- verdict is that of the first opener of a section in this place.
+abbrev pub if_action : Bool → Bool → Cond → Bool → ℕ → Action
+if_action kept plain c ignoring n = record {
+  verdict = opener_verdict_in (new_state kept) table.an_if c;
+  kept = kept;
+  change = Push (section_with_group (new_section kept (plain || ignoring) n) table.an_if c);
+}
+
+-- `opener_action l part c`: the action of another opener of the section `l`; none after an `#else`.
+abbrev pub opener_action : OpenSection → table.Part → Cond → Option Action
+opener_action l part c =
+    if l.else_seen then None
+    else Some (record {
+      verdict = opener_verdict_in l.state part c;
+      kept =
+          not (is_in_removed l.state);
+      change = Replace (section_with_group l part c);
+    })
+
+-- `endif_action l`: the action of the `#endif` of the section `l`.
+abbrev pub endif_action : OpenSection → Action
+endif_action l = record {
+  verdict = endif_verdict_in l.state;
+  kept = not (is_in_removed l.state);
+  change = Pop;
+}
+
+-- `act plain section kind n`: the action of a line of this kind and number, or `None` if it is a
+-- misplaced directive.
+abbrev pub act : Bool → Option OpenSection → LineKind → ℕ → Option Action
+act plain section Text n = Some (text_action (kept_at section))
+act plain section (If c ignoring) n =
+    Some (if_action (kept_at section) (plain_at plain section) c ignoring n)
+act plain None (Elif c) n = None
+act plain None Else n = None
+act plain None Endif n = None
+act plain (Some l) (Elif c) n = opener_action l table.an_elif c
+act plain (Some l) Else n = opener_action l table.an_else Yes
+act plain (Some l) Endif n = Some (endif_action l)
+
+-- `Applies change old new`: the change makes the open sections `new` of `old`.
+abbrev pub Applies : StackOp → List OpenSection → List OpenSection → Type 0
+Applies Stay old new = new ≡ old
+Applies (Push l) old new = new ≡ old ++ l ∷ []
+Applies (Replace l) old new = (outer : List OpenSection) × (last : OpenSection) ×
+    (old ≡ outer ++ last ∷ []) × (new ≡ outer ++ l ∷ [])
+Applies Pop old new = (last : OpenSection) × (old ≡ new ++ last ∷ [])

@@ -1,0 +1,116 @@
+-- MachineState: what a machine represents.
+--
+--   MachineRepresents m o xs t      the machine has read the items `xs` under these options
+--   ComesNext o xs t scan l table   the line `l` with this scan comes next
+--   StepsLine m o xs t l step       the machine has read `l` too, with this step
+--   AreTextLines o mode xs rs       the lines `rs` after the items `xs` are text
+--   StepsText m o xs t rs verdict   the machine has read these text lines too
+--   machine_fault m                 the fault of the machine, if it has one
+--   machine_with_fault m f          the machine with this fault
+--   fault_of f                      a fault of the program, as the definitions have it
+--   end_fault_of result             the fault at the end of a text, if it has one
+--
+-- `MachineRepresents` implies that no line is faulty, so the items are those of the definitions. If
+-- a line is faulty, the machine still represents the lines before that one.
+--
+-- Example: a machine that has read only `#if X` has one open section, and that line wasn't text.
+use Rattle.std.specs.Prelude.{◌≡◌, List, [], ◌∷◌, ◌++◌, map, true, Option, Some, None, Result, Ok}
+use Rattle.std.specs.Prelude.{Err}
+use Rattle.ud_model.specs.text.Lines.{Line}
+use Rattle.ud_model.specs.text.Scans.{Scan, Reading}
+use Rattle.ud_model.specs.text.Scanning.{scan_after}
+use Rattle.ud_model.specs.sections.Directives.{text, content_of}
+use Rattle.ud_model.specs.conditions.Table.{Argument}
+use Rattle.ud_model.specs.sections.Tree.{Item, Tree, text_line}
+use Rattle.ud_model.specs.sections.Pruning.{Mark, marks}
+use Rattle.ud_model.specs.sections.Items.{Options, reading_of, mode_after, read_after, next_item}
+use Rattle.ud_model.specs.sections.Faults.{Fault, AreFaultless, last_number, ends_removed}
+use Rattle.ud_model.specs.sections.Faults.{obfuscated, inappropriate_elif, inappropriate_else}
+use Rattle.ud_model.specs.sections.Faults.{inappropriate_endif, too_many_levels, eof_in_comment}
+use Rattle.ud_model.specs.sections.Faults.{premature_eof}
+use Rattle.ud_model.specs.answer.Printing.{judged_line}
+use Rattle.ud_model.specs.declared.kind.Mode.{Mode}
+use Rattle.ud_model.specs.declared.verdict.Verdict.{Verdict}
+use Rattle.ud_cond.specs.symbols.SymbolTable.{TableRepresents}
+use Rattle.ud_sections.specs.declared.sections.fault.SectionFault.{SectionFault}
+use Rattle.ud_sections.specs.declared.sections.fault.SectionFault.TheVariants.{InappropriateElif}
+use Rattle.ud_sections.specs.declared.sections.fault.SectionFault.TheVariants.{InappropriateElse}
+use Rattle.ud_sections.specs.declared.sections.fault.SectionFault.TheVariants.{InappropriateEndif}
+use Rattle.ud_sections.specs.declared.sections.fault.SectionFault.TheVariants.{TooManyLevels}
+use Rattle.ud_sections.specs.declared.sections.fault.SectionFault.TheVariants.{Obfuscated}
+use Rattle.ud_sections.specs.declared.sections.fault.SectionFault.TheVariants.{PrematureEof}
+use Rattle.ud_sections.specs.declared.sections.fault.SectionFault.TheVariants.{EofInComment}
+use Rattle.ud_sections.specs.declared.sections.machine.Machine.{Machine}
+use Rattle.ud_sections.specs.declared.sections.step.Step.{Step}
+use Rattle.ud_sections.specs.sections.StepViews.{as_span}
+use Rattle.ud_sections.specs.sections.OpenSections.{open_sections_of}
+use Rattle.ud_sections.specs.sections.Limits.{IsWithinLimits}
+
+-- `MachineRepresents m o xs t`: the machine `m` has read the items `xs` under the options `o`. None
+-- of their lines is faulty, and `t` is their tree.
+pub record MachineRepresents (m : Machine) (o : Options) (xs : List (Item Reading))
+    (t : Tree Reading) : Type 0 where
+  pub settings : m.settings ≡ o.settings
+  pub sound : AreFaultless o xs t
+  pub sections : m.open_sections.items ≡ open_sections_of true o.settings.plain t
+  pub removed : m.removed ≡ ends_removed (marks t)
+  pub last : m.last ≡ last_number xs
+
+-- `ComesNext o xs t scan l table`: `l` comes after `xs`, and `scan` is its scan in the mode that
+-- these give. `table` gives every name the meaning that the options give it.
+pub record ComesNext (o : Options) (xs : List (Item Reading)) (t : Tree Reading) (scan : Scan)
+    (l : Line) (table : List Argument) : Type 0 where
+  pub scanned : scan ≡ scan_after (map reading_of xs) (mode_after o t) l
+  pub represents : TableRepresents table o.table
+
+-- `StepsLine m o xs t l step`: the machine has read `l` after `xs`. The step has the verdict of its
+-- mark, which is the last one, and the span of its keyword.
+pub record StepsLine (m : Machine) (o : Options) (xs : List (Item Reading)) (t : Tree Reading)
+    (l : Line) (step : Step) : Type 0 where
+  pub tree : Tree Reading
+  pub read : MachineRepresents m o (xs ++ next_item o xs t l ∷ []) tree
+  pub mark : Mark
+  pub marks_are : marks tree ≡ marks t ++ mark ∷ []
+  pub decided : record { line = l; verdict = step.verdict; keyword = as_span step.keyword } ≡
+      judged_line (next_item o xs t l) mark
+
+-- `AreTextLines o mode xs rs`: the lines `rs` are text within the limits, as they are read in this
+-- mode, one after another, after the items `xs`.
+abbrev pub AreTextLines : Options → Mode → List (Item Reading) → List Reading → Type 0
+AreTextLines o mode xs [] = Unit {0}
+AreTextLines o mode xs (r ∷ rs) =
+    (r ≡ read_after xs mode r.line) × (content_of r.scan ≡ text) × IsWithinLimits r.line ×
+    AreTextLines o mode (xs ++ text_line r ∷ []) rs
+
+-- `StepsText m o xs t rs verdict`: the machine has read the text lines `rs` after `xs`, each with
+-- this verdict.
+pub record StepsText (m : Machine) (o : Options) (xs : List (Item Reading)) (t : Tree Reading)
+    (rs : List Reading) (verdict : Verdict) : Type 0 where
+  pub tree : Tree Reading
+  pub read : MachineRepresents m o (xs ++ map text_line rs) tree
+  pub mark : Mark
+  pub marks_are : marks tree ≡ marks t ++ map (λ r. mark) rs
+  pub verdict_is : verdict ≡ mark.verdict
+
+-- `machine_fault m`: the fault after which the machine is fused, if it has one.
+abbrev pub machine_fault : Machine → Option SectionFault
+machine_fault m = m.fault
+
+-- `machine_with_fault m f`: the machine after a line with this fault.
+abbrev pub machine_with_fault : Machine → SectionFault → Machine
+machine_with_fault m f = record m { fault = Some f }
+
+-- `fault_of f`: a fault of the program, as the definitions have it.
+abbrev pub fault_of : SectionFault → Fault
+fault_of (InappropriateElif n) = inappropriate_elif n
+fault_of (InappropriateElse n) = inappropriate_else n
+fault_of (InappropriateEndif n) = inappropriate_endif n
+fault_of (TooManyLevels n) = too_many_levels n
+fault_of (Obfuscated n) = obfuscated n
+fault_of (PrematureEof n if_line) = premature_eof n if_line
+fault_of (EofInComment n) = eof_in_comment n
+
+-- `end_fault_of result`: the fault at the end of a text, if `result` is an error.
+abbrev pub end_fault_of : Result (Unit {0}) SectionFault → Option Fault
+end_fault_of (Ok _) = None
+end_fault_of (Err f) = Some (fault_of f)

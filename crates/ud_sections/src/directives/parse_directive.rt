@@ -1,0 +1,146 @@
+//! Parsing the directive of a line.
+
+ghost use Rattle.std.specs.Prelude.{◌≡◌, ◌+◌, length, IfOk, IfNone, IfSome, MatchOption, Some};
+ghost use Rattle.std.specs.Prelude.{None};
+ghost use Rattle.ud_model.specs.sections.Directives.{text, content_of, skip_hash_if_fresh};
+ghost use Rattle.ud_model.specs.sections.Directives.{is_continued_outside_comment};
+ghost use Rattle.ud_model.specs.sections.Directives.{is_keyword_prefix, may_split_keyword};
+ghost use Rattle.ud_model.specs.sections.Directives.{has_split_keyword, content_after_hash};
+ghost use Rattle.ud_model.specs.text.Scans.{Scan as LineScan};
+ghost use Rattle.ud_text.specs.LineViews.{as_scan};
+ghost use Rattle.ud_sections.specs.directives.ParsedDirectives.{content_found, directive_or_text};
+
+use crate::directives::keywords::{is_prefix_of_keyword, leading_keyword};
+use crate::directives::{Cut, Directive};
+use crate::sections::Span;
+use ud_model::CommentAt;
+use ud_model::bytes::{are_word_bytes, skip_white};
+use ud_text::Scan;
+
+/// Parses the directive of a scanned line, or returns `None` if it is a text line.
+///
+/// A line with a directive is fresh. Its masked bytes are white space, `#`, white space, and a
+/// longest run of word bytes that is one of the keywords (C11 6.10, C23 6.10).
+///
+/// # Errors
+/// The line is continued, and its keyword can't be known. After the `#` there is only white space,
+/// or a continuation cuts the line after a single `/` or after what may become a keyword.
+pub fn directive<'a>(scan: &Scan<'a>) -> Result<Option<Directive<'a>>, Cut>
+    ensures value { content_found result ≡ content_of (as_scan scan.now) }
+    ensures keyword_within { IfOk result (λ found. IfSome found (λ d.
+        d.keyword.at + d.keyword.len + length d.after.now ≡ length scan.now.masked.now)) }
+{
+    match after_hash(scan) {
+        Some(after) => directive_after_hash(scan, after),
+        None => Ok(None),
+    }
+}
+
+/// Returns what follows the `#` of a line, or `None` if the line is certainly text. Such a line
+/// isn't fresh, or its first byte that isn't white space is no `#`.
+#[inline(always)]
+pub(crate) fn after_hash<'a>(scan: &Scan<'a>) -> Option<&'a [u8]>
+    ensures none { IfNone result (content_of (as_scan scan.now) ≡ text) }
+    ensures some { IfSome result (λ after. skip_hash_if_fresh scan.now.masked.now ≡
+        Some after.now) }
+{
+    if scan.fresh {
+        skip_hash(scan.masked)
+    } else {
+        None
+    }
+}
+
+/// Parses the directive of a line. `after` follows the `#` of the line.
+///
+/// # Errors
+/// The errors of `directive`.
+#[inline(always)]
+pub(crate) fn directive_after_hash<'a>(
+    scan: &Scan<'a>,
+    after: &'a [u8],
+) -> Result<Option<Directive<'a>>, Cut>
+    requires { skip_hash_if_fresh scan.now.masked.now ≡ Some after.now }
+    ensures value { content_found result ≡ content_of (as_scan scan.now) }
+    ensures keyword_within { IfOk result (λ found. IfSome found (λ d.
+        d.keyword.at + d.keyword.len + length d.after.now ≡ length scan.now.masked.now)) }
+{
+    if has_split_keyword(scan, after) {
+        return Err(Cut);
+    }
+    Ok(parse_after_hash(scan, after))
+}
+
+/// Returns what follows the `#`, if one comes first but for white space.
+fn skip_hash(masked: &[u8]) -> Option<&[u8]>
+    ensures { MatchOption result (skip_hash_if_fresh masked.now ≡ None)
+        (λ rest. skip_hash_if_fresh masked.now ≡ Some rest.now) }
+{
+    match skip_white(masked).split_first() {
+        Some((b'#', rest)) => Some(rest),
+        _ => None,
+    }
+}
+
+/// Returns whether a continuation may split the keyword after `#`.
+#[inline(always)]
+fn has_split_keyword(scan: &Scan<'_>, after: &[u8]) -> bool
+    ensures { result ≡ has_split_keyword (as_scan scan.now) (Some after.now) }
+{
+    scan.fresh
+        && scan.joins_after
+        && scan.comment != CommentAt::InLine
+        && may_split_keyword(is_continued_outside_comment(scan), skip_white(after))
+}
+
+/// Returns whether the keyword can't be known if the line has no more of it than `rest`. `cut_off`
+/// is whether a continuation cuts the line outside comments.
+#[inline(never)]
+fn may_split_keyword(cut_off: bool, rest: &[u8]) -> bool
+    ensures { (scan : LineScan) → cut_off ≡ is_continued_outside_comment scan →
+        result ≡ may_split_keyword scan rest.now }
+{
+    rest.is_empty() || cut_off && (rest == b"/".as_slice() || is_keyword_prefix(rest))
+}
+
+/// Returns whether a continuation cuts the line outside comments.
+fn is_continued_outside_comment(scan: &Scan<'_>) -> bool
+    ensures { result ≡ is_continued_outside_comment (as_scan scan.now) }
+{
+    scan.spliced && scan.comment == CommentAt::Outside
+}
+
+/// Returns whether `text` is a nonempty run of word bytes that begins a keyword.
+fn is_keyword_prefix(text: &[u8]) -> bool
+    ensures { result ≡ is_keyword_prefix text.now }
+{
+    match text.first() {
+        Some(_) => are_word_bytes(text) && is_prefix_of_keyword(text),
+        None => false,
+    }
+}
+
+/// Parses the directive whose keyword follows the `#` of a line, if the line is fresh.
+#[inline(always)]
+fn parse_after_hash<'a>(scan: &Scan<'a>, after: &'a [u8]) -> Option<Directive<'a>>
+    requires { skip_hash_if_fresh scan.now.masked.now ≡ Some after.now }
+    ensures value { directive_or_text result ≡
+        content_after_hash (as_scan scan.now) (Some after.now) }
+    ensures keyword_within { IfSome result (λ d. d.keyword.at + d.keyword.len + length d.after.now ≡
+        length scan.now.masked.now) }
+{
+    if !scan.fresh {
+        return None;
+    }
+    let rest = skip_white(after);
+    let keyword = leading_keyword(rest)?;
+    Some(Directive {
+        kind: keyword.kind,
+        keyword: Span {
+            at: scan.masked.len() - rest.len(),
+            len: keyword.len,
+        },
+        after: &rest[keyword.len..],
+        broken: is_continued_outside_comment(scan),
+    })
+}

@@ -1,0 +1,46 @@
+//! A printer that blanks removed lines.
+
+use crate::printing::line_output::LineOutput;
+use crate::printing::pieces::Pieces;
+use crate::printing::show::Show;
+use crate::sections::Step;
+use ud_model::Verdict;
+use ud_text::Line;
+
+/// A printer that prints only the ending of a removed line (unifdef(1), `-b`).
+#[derive(Drop)]
+pub struct Blank;
+
+impl Blank {
+    ghost use Rattle.std.specs.Prelude.{[]};
+    ghost use Rattle.ud_sections.specs.printing.Styles.{blank_represents};
+
+    /// Creates the printer at the beginning of a text.
+    pub fn new() -> Blank
+        ensures { blank_represents result [] }
+    {
+        Blank
+    }
+}
+
+impl Show for Blank {
+    ghost use Rattle.ud_model.specs.answer.Printing.{piece_after};
+    ghost use Rattle.ud_sections.specs.printing.Styles.{blank_represents, blank_style};
+
+    ghost represents = { blank_represents };
+
+    ghost piece = { λ b. piece_after blank_style };
+
+    fn pieces<'a>(&'a mut self, line: &Line<'a>, step: Step) -> Pieces<'a> {
+        Pieces::for_line(line, step, line.ending)
+    }
+
+    #[inline(always)]
+    fn line_output(&self, verdict: Verdict) -> LineOutput {
+        match verdict {
+            Verdict::Keep => LineOutput::Whole,
+            Verdict::Remove => LineOutput::Ending,
+            _ => LineOutput::Parts,
+        }
+    }
+}

@@ -1,0 +1,71 @@
+//! The trait of printers.
+//!
+//! A new printer implements `Show`: its definition as `piece`, what it represents as `represents`,
+//! and `pieces`. A `line_output` of its own lets callers print lines without passing them.
+
+ghost use Rattle.std.specs.Prelude.{◌≡◌, List, [], ◌∷◌, ◌++◌, bytes_eq, ℕ};
+ghost use Rattle.std.specs.Borrow.{sem};
+ghost use Rattle.std.specs.Io.BufRead.{Rests};
+ghost use Rattle.ud_model.specs.text.Lines.{text_of};
+ghost use Rattle.ud_model.specs.answer.Printing.{Judged};
+ghost use Rattle.ud_text.specs.LineViews.{as_line};
+ghost use Rattle.ud_sections.specs.printing.PieceParts.{concatenated, is_unchanged};
+ghost use Rattle.ud_sections.specs.printing.PrinterOutputs.{GivesBulkOutput, GivesLineOutput};
+ghost use Rattle.ud_sections.specs.sections.StepViews.{judged_step, HoldsKeyword};
+
+use crate::printing::bulk_output::BulkOutput;
+use crate::printing::line_output::LineOutput;
+use crate::printing::pieces::Pieces;
+use crate::sections::Step;
+use ud_model::Verdict;
+use ud_text::Line;
+
+/// A printer: gets each line in order with its step, and returns what to print for it.
+///
+/// The law: for any list of lines and steps, the pieces of each line are those that the printer's
+/// definition gives for that list. A printer represents the lines that it got so far, and `pieces`
+/// adds one.
+pub trait Show: Drop {
+    /// The printer has got these lines.
+    ghost represents: { Self → List Judged → Type 0 };
+
+    /// The printer's definition: the output for a line after others. It never changes.
+    ghost piece: { Self → List Judged → Judged → List ℕ };
+
+    /// Returns what to print for the next line. A directive that is edited has its keyword in the
+    /// line's body.
+    fn pieces<'a>(&'a mut self, line: &Line<'a>, step: Step) -> Pieces<'a>
+        requires keyword { HoldsKeyword step line.now }
+        ensures parts { (before : List Judged) → represents self.old before →
+            concatenated result ≡ piece self.old before (judged_step line.now step) }
+        ensures is_unchanged { is_unchanged result ≡
+            bytes_eq (concatenated result) (text_of (as_line line.now)) }
+        ensures* represents_after { sem 𝓛 (Rests Self.row self.entry (λ new.
+            ((before : List Judged) → represents self.entry.now before →
+            represents new (before ++ judged_step line.now step ∷ []))
+            × ((before : List Judged) (j : Judged) →
+            piece new before j ≡ piece self.entry.now before j))) };
+
+    /// Returns what to print for the next line if it has this verdict. If the result is not
+    /// `Parts`, the line needn't be passed: the printer represents it too, unchanged.
+    fn line_output(&self, verdict: Verdict) -> LineOutput
+        ensures line_output { GivesLineOutput (represents self.now) (piece self.now) verdict
+            result }
+    {
+        LineOutput::Parts
+    }
+
+    /// Returns what to print for any number of next lines if all of them are text with this
+    /// verdict. If the result is not `OneByOne`, the lines needn't be passed: the printer
+    /// represents them too, unchanged.
+    fn bulk_output(&self, verdict: Verdict) -> BulkOutput
+        ensures bulk_output { GivesBulkOutput (represents self.now) (piece self.now) verdict
+            result }
+    {
+        match self.line_output(verdict) {
+            LineOutput::Whole => BulkOutput::Copied,
+            LineOutput::Nothing => BulkOutput::Dropped,
+            LineOutput::Ending | LineOutput::Parts => BulkOutput::OneByOne,
+        }
+    }
+}

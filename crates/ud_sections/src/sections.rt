@@ -1,0 +1,21 @@
+//! Decides each line by the sections that are open before it: `machine.Machine`.
+//!
+//! `classify_line` finds the line's directive and decides its condition. `check` then returns the
+//! action for a line of that `line_kind`, or its `fault`, by the innermost open section. The action
+//! is the verdict and the change of the open sections. `open_section` has the record of an
+//! open section, and `section_state` its progress through its groups. A caller gets a `step`.
+//!
+//! A new role of a directive needs a case of `LineKind`, and its action in `open_section`.
+
+mod check;
+mod classify_line;
+mod fault;
+mod line_kind;
+mod machine;
+mod open_section;
+mod section_state;
+mod step;
+
+pub use fault::SectionFault;
+pub use machine::Machine;
+pub use step::{Span, Step};

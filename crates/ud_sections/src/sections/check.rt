@@ -1,0 +1,107 @@
+//! The check of a line against the open sections and the line before.
+
+ghost use Rattle.std.specs.Prelude.{◌≡◌};
+ghost use Rattle.ud_model.specs.sections.Faults.{keeps_rest};
+ghost use Rattle.ud_sections.specs.sections.Checking.{is_directive_kind, opens_section};
+ghost use Rattle.ud_sections.specs.sections.Checking.{is_obfuscated_by, misplaced_fault_by};
+ghost use Rattle.ud_sections.specs.sections.Checking.{checked_by};
+
+use crate::sections::classify_line::ClassifiedLine;
+use crate::sections::fault::SectionFault;
+use crate::sections::line_kind::LineKind;
+use crate::sections::open_section::{Action, Enclosing, StackOp};
+use ud_model::{OPEN_SECTIONS, Verdict};
+
+/// The context of a line: what the lines before it decide.
+#[derive(Clone, Copy)]
+pub(crate) struct LineContext {
+    /// The position of the line among the sections.
+    pub enclosing: Enclosing,
+    /// The number of open sections.
+    pub depth: usize,
+    /// The line before is removed.
+    pub removed: bool,
+}
+
+/// Checks a line against the open sections, and returns its action.
+///
+/// # Errors
+/// The line is faulty. The first of these cases decides:
+///
+/// - It is a misplaced directive.
+/// - It opens one section too many.
+/// - It is a directive that spans lines and would have to be edited or removed.
+#[inline(always)]
+pub(crate) fn check_line(
+    before: LineContext,
+    classified: ClassifiedLine,
+    number: u32,
+) -> Result<Action, SectionFault>
+    ensures { result ≡ checked_by before classified number }
+{
+    let Some(action) = before.enclosing.action_for(classified.kind, number) else {
+        return Err(misplaced_fault(classified.kind, number));
+    };
+    if opens_section(action.change) && before.depth == OPEN_SECTIONS {
+        return Err(SectionFault::TooManyLevels { line: number });
+    }
+    if is_obfuscated(before.removed, classified, action) {
+        return Err(SectionFault::Obfuscated { line: number });
+    }
+    Ok(action)
+}
+
+/// Returns whether a change opens a section.
+fn opens_section(change: StackOp) -> bool
+    ensures { result ≡ opens_section change }
+{
+    match change {
+        StackOp::Push(_) => true,
+        StackOp::Stay | StackOp::Replace(_) | StackOp::Pop => false,
+    }
+}
+
+/// Returns whether the line is a directive that spans lines and would have to be edited or removed.
+/// `removed` is whether the line before it is removed.
+fn is_obfuscated(removed: bool, classified: ClassifiedLine, action: Action) -> bool
+    ensures { result ≡ is_obfuscated_by removed classified action }
+{
+    is_directive(classified.kind)
+        && classified.spans
+        && action.kept
+        && (!keeps_rest(action.verdict) || (classified.joins_before && removed))
+}
+
+/// Returns whether a line of this kind is a directive.
+fn is_directive(kind: LineKind) -> bool
+    ensures { result ≡ is_directive_kind kind }
+{
+    match kind {
+        LineKind::If { .. } | LineKind::Elif { .. } | LineKind::Else | LineKind::Endif => true,
+        LineKind::Text => false,
+    }
+}
+
+/// Returns whether a directive with this verdict keeps what follows its keyword, and what it is
+/// joined to.
+fn keeps_rest(verdict: Verdict) -> bool
+    ensures { result ≡ keeps_rest verdict }
+{
+    match verdict {
+        Verdict::Keep | Verdict::ToIf => true,
+        Verdict::Remove | Verdict::ToElse | Verdict::ToEndif => false,
+    }
+}
+
+/// Returns the fault of a misplaced directive. Text and `#if` are never misplaced.
+fn misplaced_fault(kind: LineKind, line: u32) -> SectionFault
+    ensures { result ≡ misplaced_fault_by kind line }
+{
+    match kind {
+        LineKind::Elif { .. } => SectionFault::InappropriateElif { line },
+        LineKind::Else => SectionFault::InappropriateElse { line },
+        LineKind::Text | LineKind::If { .. } | LineKind::Endif => SectionFault::InappropriateEndif {
+            line,
+        },
+    }
+}

@@ -1,0 +1,143 @@
+//! The classification of a line: what decides it among the sections.
+
+ghost use Rattle.std.specs.Prelude.{◌≡◌, ◌≤◌, ◌+◌, List, length, IfOk, Some};
+ghost use Rattle.ud_model.specs.text.Scans.{is_spanning};
+ghost use Rattle.ud_model.specs.sections.Directives.{content_of, skip_hash_if_fresh, role_of};
+ghost use Rattle.ud_model.specs.conditions.Conditions.{decision_on};
+ghost use Rattle.ud_model.specs.sections.Items.{rules_of};
+ghost use Rattle.ud_model.specs.conditions.Table.{Argument};
+ghost use Rattle.ud_model.specs.declared.limits.TheConstants.{LINE_BYTES};
+ghost use Rattle.ud_cond.specs.symbols.SymbolTable.{TableRepresents};
+ghost use Rattle.ud_cond.specs.CondViews.{as_decision, as_rules};
+ghost use Rattle.ud_text.specs.LineViews.{as_scan};
+ghost use Rattle.ud_sections.specs.directives.ParsedDirectives.{as_directive};
+ghost use Rattle.ud_sections.specs.sections.ClassifiedLines.{line_kind_in, classified};
+
+use crate::directives::parse_directive::directive_after_hash;
+use crate::directives::{Cut, Directive};
+use crate::sections::line_kind::LineKind;
+use crate::sections::step::Span;
+use ud_cond::{Answer, Rules, Symbols, condition};
+use ud_model::{Cond, Role, Settings};
+use ud_text::Scan;
+
+/// A classified line.
+#[derive(Clone, Copy)]
+pub(crate) struct ClassifiedLine {
+    /// The kind of the line among the sections.
+    pub kind: LineKind,
+    /// The span of its directive's keyword; 0 and 0 for a text line.
+    pub keyword: Span,
+    /// The line joins a neighbour.
+    pub spans: bool,
+    /// The line before joins this one.
+    pub joins_before: bool,
+}
+
+/// Classifies a line, with what the symbols decide of its condition. `after` follows the `#` of
+/// the line.
+///
+/// # Errors
+/// The keyword of its directive can't be known.
+#[inline(always)]
+pub(crate) fn classify<'a>(
+    scan: &Scan<'a>,
+    after: &'a [u8],
+    symbols: &Symbols,
+    settings: Settings,
+) -> Result<ClassifiedLine, Cut>
+    requires fits { length scan.now.masked.now ≤ LINE_BYTES }
+    requires after_hash { skip_hash_if_fresh scan.now.masked.now ≡ Some after.now }
+    ensures value { (calls : List Argument) → TableRepresents symbols.now calls →
+        result ≡ classified (as_scan scan.now) calls (rules_of settings)
+        (content_of (as_scan scan.now)) }
+    ensures keyword_within { IfOk result
+        (λ classified. classified.keyword.at + classified.keyword.len ≤ length
+        scan.now.masked.now) }
+{
+    let (kind, keyword) = match directive_after_hash(scan, after)? {
+        Some(found) => (line_kind_of(scan, &found, symbols, settings), found.keyword),
+        None => (LineKind::Text, Span { at: 0, len: 0 }),
+    };
+    Ok(ClassifiedLine {
+        kind,
+        keyword,
+        spans: joins_a_neighbor(scan),
+        joins_before: scan.joins_before,
+    })
+}
+
+/// Returns whether the line joins a neighbour.
+fn joins_a_neighbor(scan: &Scan<'_>) -> bool
+    ensures { result ≡ is_spanning (as_scan scan.now) }
+{
+    scan.joins_before || scan.joins_after
+}
+
+/// Returns what the symbols decide of a line's directive. A broken directive is undecided. One that
+/// joins the next line opens no section that is plain text.
+#[inline(always)]
+fn condition_on(
+    scan: &Scan<'_>,
+    found: &Directive<'_>,
+    symbols: &Symbols,
+    settings: Settings,
+) -> Answer
+    requires { length found.now.after.now ≤ LINE_BYTES }
+    ensures { (calls : List Argument) → TableRepresents symbols.now calls →
+        as_decision result ≡ decision_on (as_scan scan.now) (as_directive found.now) calls
+        (rules_of settings) }
+{
+    if found.broken {
+        return Answer {
+            cond: Cond::Unknown,
+            ignoring: false,
+        };
+    }
+    let answer = condition(found.kind, found.after, symbols, rules_of(settings));
+    Answer {
+        cond: answer.cond,
+        ignoring: answer.ignoring && !scan.joins_after,
+    }
+}
+
+/// Returns the rules by which the settings have expressions evaluated.
+fn rules_of(settings: Settings) -> Rules
+    ensures { as_rules result ≡ rules_of settings }
+{
+    Rules {
+        constants: settings.constants,
+        strict: settings.strict,
+    }
+}
+
+/// Returns the kind of a line's directive among the sections, with what the symbols decide of it.
+/// Only a condition is evaluated.
+#[inline(always)]
+fn line_kind_of(
+    scan: &Scan<'_>,
+    found: &Directive<'_>,
+    symbols: &Symbols,
+    settings: Settings,
+) -> LineKind
+    requires { length found.now.after.now ≤ LINE_BYTES }
+    ensures { (calls : List Argument) → TableRepresents symbols.now calls →
+        result ≡ line_kind_in (role_of found.now.kind)
+        (decision_on (as_scan scan.now) (as_directive found.now) calls (rules_of settings)) }
+{
+    match found.kind.role() {
+        Role::IfGroup => {
+            let answer = condition_on(scan, found, symbols, settings);
+            LineKind::If {
+                cond: answer.cond,
+                ignoring: answer.ignoring,
+            }
+        }
+        Role::ElifGroup => {
+            let answer = condition_on(scan, found, symbols, settings);
+            LineKind::Elif { cond: answer.cond }
+        }
+        Role::ElseGroup => LineKind::Else,
+        Role::EndifLine => LineKind::Endif,
+    }
+}

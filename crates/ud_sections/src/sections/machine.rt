@@ -1,0 +1,320 @@
+//! A machine that decides the lines of a text in order.
+//!
+//! A machine buffers no line and allocates no memory. For each open section it keeps a
+//! `SectionState` and a few facts; of the lines only the last one's number, and whether that line
+//! was removed. The module `check` decides a line, after all its faults, and only then do the open
+//! sections change. `specs/sections/MachineState.antt` defines what a machine represents: a list of
+//! lines and their tree.
+
+ghost use Rattle.std.specs.Prelude.{◌≡◌, ◌≤◌, ◌<◌, ◌+◌, ◌∷◌, [], ◌++◌, List, length, map, IsTrue};
+ghost use Rattle.std.specs.Prelude.{IfOk, IfErr, OnOk, OnErr, None, Some};
+ghost use Rattle.arrayvec.specs.ArrayVec.{array_vec_len};
+ghost use Rattle.ud_model.specs.text.Scans.{Reading};
+ghost use Rattle.ud_model.specs.sections.Tree.{Item, Tree, text_line, closed, nothing, depth};
+ghost use Rattle.ud_model.specs.sections.Directives.{content_of, skip_hash_if_fresh};
+ghost use Rattle.ud_model.specs.conditions.Table.{Argument};
+ghost use Rattle.ud_model.specs.sections.Items.{Options, mode_after, next_item, rules_of};
+ghost use Rattle.ud_model.specs.sections.Faults.{FaultOf, ends_in_comment, end_fault, last_number};
+ghost use Rattle.ud_model.specs.declared.limits.TheConstants.{LINE_BYTES, OPEN_SECTIONS};
+ghost use Rattle.ud_cond.specs.symbols.SymbolTable.{TableRepresents};
+ghost use Rattle.ud_text.specs.LineViews.{as_line, as_scan};
+ghost use Rattle.ud_sections.specs.sections.Limits.{IsWithinLimits};
+ghost use Rattle.ud_sections.specs.sections.StepViews.{HoldsKeyword};
+ghost use Rattle.ud_sections.specs.sections.StackOps.{applied, innermost_of};
+ghost use Rattle.ud_model.specs.sections.Pruning.{is_removed};
+ghost use Rattle.ud_sections.specs.sections.Checking.{opens_section};
+
+use crate::directives::parse_directive::after_hash;
+use crate::sections::check::{LineContext, check_line};
+use crate::sections::classify_line::classify;
+use crate::sections::fault::SectionFault;
+use crate::sections::open_section::{Enclosing, OpenSection, StackOp};
+use crate::sections::step::{Span, Step};
+use arrayvec::ArrayVec;
+use ud_cond::Symbols;
+use ud_model::{Mode, OPEN_SECTIONS, Settings, Verdict};
+use ud_text::{Line, Scan};
+
+/// The step of a line, and the line's change of the open sections.
+#[derive(Clone, Copy)]
+struct Transition {
+    /// The step.
+    step: Step,
+    /// The change of the open sections.
+    change: StackOp,
+}
+
+/// A machine that decides lines in order: each is kept, removed, or kept as another directive.
+#[derive(Drop)]
+pub struct Machine {
+    /// The settings by which lines are read.
+    settings: Settings,
+    /// The open sections, the outermost first.
+    open_sections: ArrayVec<OpenSection, OPEN_SECTIONS>,
+    /// The last line was removed.
+    removed: bool,
+    /// The number of the last line, 0 before the first one.
+    last: u32,
+    /// The error of a failed `step`, after which the machine is fused.
+    fault: Option<SectionFault>,
+}
+
+impl Machine {
+    ghost use Rattle.ud_sections.specs.sections.MachineState.{MachineRepresents, ComesNext};
+    ghost use Rattle.ud_sections.specs.sections.MachineState.{StepsLine, AreTextLines, StepsText};
+    ghost use Rattle.ud_sections.specs.sections.MachineState.{machine_fault, machine_with_fault};
+    ghost use Rattle.ud_sections.specs.sections.MachineState.{fault_of, end_fault_of};
+    ghost use Rattle.ud_sections.specs.sections.Transitions.{context_of, transition_of};
+    ghost use Rattle.ud_sections.specs.sections.Transitions.{text_verdict};
+    ghost use Rattle.ud_sections.specs.sections.Actions.{kept_at, text_action};
+    ghost use Rattle.ud_sections.specs.sections.ClassifiedLines.{classified};
+    ghost use Rattle.ud_sections.specs.sections.EndFaults.{end_in};
+
+    /// Creates a machine that has read no line.
+    pub fn new(settings: Settings) -> Machine
+        ensures represents { (o : Options) → o.settings ≡ settings →
+            MachineRepresents result o [] (closed nothing) }
+        ensures no_fault { machine_fault result ≡ None }
+    {
+        Machine {
+            settings,
+            open_sections: ArrayVec::new(),
+            removed: false,
+            last: 0,
+            fault: None,
+        }
+    }
+
+    /// Returns the mode in which the next line is to be scanned.
+    pub fn mode(&self) -> Mode
+        ensures { (o : Options) → (xs : List (Item Reading)) → (t : Tree Reading) →
+            MachineRepresents self.now o xs t → result ≡ mode_after o t }
+    {
+        if self.enclosing().is_plain() {
+            Mode::Plain
+        } else {
+            Mode::C
+        }
+    }
+
+    /// Returns the number of open sections, at most `OPEN_SECTIONS`.
+    pub fn depth(&self) -> usize
+        ensures value { (o : Options) → (xs : List (Item Reading)) → (t : Tree Reading) →
+            MachineRepresents self.now o xs t → result ≡ depth t }
+        ensures bound { result ≤ OPEN_SECTIONS }
+    {
+        self.open_sections.len()
+    }
+
+    /// Returns the verdict of the next line, if that line is text.
+    pub fn text_verdict(&self) -> Verdict
+        ensures value { result ≡ text_verdict self.now }
+        ensures fits { array_vec_len self.now.open_sections ≤ OPEN_SECTIONS }
+    {
+        self.enclosing().text_action().verdict
+    }
+
+    /// Decides the next line. Later lines never change the decision.
+    ///
+    /// `scan` is the scan of the line after the lines before it, in the mode that `mode` returns.
+    /// The line's number and length are within the limits of a text. `symbols` must give the same
+    /// result for every name at each call.
+    ///
+    /// # Errors
+    /// The line is faulty. The first of these cases decides:
+    ///
+    /// - The keyword of its directive can't be known.
+    /// - It is a misplaced directive.
+    /// - It opens one section too many.
+    /// - It is a directive that spans lines and would have to be edited or removed.
+    ///
+    /// The open sections are unchanged, and every later `step` and `finish` returns the same error.
+    #[inline(always)]
+    pub fn step(
+        &mut self,
+        scan: &Scan<'_>,
+        line: &Line<'_>,
+        symbols: &Symbols,
+    ) -> Result<Step, SectionFault>
+        requires fits { length scan.now.masked.now ≤ length line.now.body.now }
+        requires within { IsWithinLimits (as_line line.now) }
+        ensures represents { (o : Options) → (xs : List (Item Reading)) → (t : Tree Reading) →
+            MachineRepresents self.old o xs t →
+            ComesNext o xs t (as_scan scan.now) (as_line line.now) symbols.now →
+            IfOk result (StepsLine self.new o xs t (as_line line.now)) }
+        ensures finds_fault { (o : Options) → (xs : List (Item Reading)) → (t : Tree Reading) →
+            MachineRepresents self.old o xs t →
+            ComesNext o xs t (as_scan scan.now) (as_line line.now) symbols.now →
+            machine_fault self.old ≡ None →
+            IfErr result (λ f. FaultOf xs (next_item o xs t (as_line line.now)) (fault_of f)) }
+        ensures keyword_within { IfOk result (λ step. HoldsKeyword step line.now) }
+        ensures no_fault { OnOk result ((machine_fault self.old ≡ None) ×
+            (machine_fault self.new ≡ None)) }
+        ensures records_fault { IfErr result (λ f. self.new ≡ machine_with_fault self.old f) }
+        ensures unchanged { OnErr result ((o : Options) → (xs : List (Item Reading)) →
+            (t : Tree Reading) →
+            MachineRepresents self.old o xs t → MachineRepresents self.new o xs t) }
+        ensures fused { (f : SectionFault) → machine_fault self.old ≡ Some f → result ≡ Err f }
+    {
+        if let Some(fault) = self.fault {
+            return Err(fault);
+        }
+        let Some(after) = after_hash(scan) else {
+            return Ok(Step {
+                verdict: self.note_text(line.number),
+                keyword: Span { at: 0, len: 0 },
+            });
+        };
+        match self.transition(scan, after, line.number, symbols) {
+            Ok(next) => {
+                apply(&mut self.open_sections, next.change);
+                self.removed = next.step.verdict.is_removed();
+                self.last = line.number;
+                Ok(next.step)
+            }
+            Err(fault) => {
+                self.fault = Some(fault);
+                Err(fault)
+            }
+        }
+    }
+
+    /// Checks the end of the text. `in_comment` is whether the text ends in a block comment.
+    ///
+    /// # Errors
+    /// The error of a failed `step`, again. Else the text ends in a block comment, or else in a
+    /// section.
+    pub fn finish(&self, in_comment: bool) -> Result<(), SectionFault>
+        ensures value { (o : Options) → (xs : List (Item Reading)) → (t : Tree Reading) →
+            MachineRepresents self.now o xs t →
+            machine_fault self.now ≡ None → in_comment ≡ ends_in_comment xs →
+            end_fault_of result ≡ end_fault xs t }
+        ensures fused { (f : SectionFault) → machine_fault self.now ≡ Some f → result ≡ Err f }
+    {
+        if let Some(fault) = self.fault {
+            return Err(fault);
+        }
+        self.end_fault(in_comment)
+    }
+
+    /// Reads all lines up to the one of number `last`, at least one, and all of them text. Returns
+    /// the verdict of them all.
+    pub fn step_text(&mut self, last: u32) -> Verdict
+        ensures value { (o : Options) → (xs : List (Item Reading)) → (t : Tree Reading) →
+            MachineRepresents self.old o xs t →
+            (r : Reading) → (rs : List Reading) → AreTextLines o (mode_after o t) xs (r ∷ rs) →
+            last ≡ last_number (xs ++ map text_line (r ∷ rs)) →
+            StepsText self.new o xs t (r ∷ rs) result }
+        ensures verdict { result ≡ text_verdict self.old }
+        ensures records_fault { machine_fault self.new ≡ machine_fault self.old }
+    {
+        self.note_text(last)
+    }
+
+    /// Records text lines, of which the last has number `last`, and returns their verdict.
+    fn note_text(&mut self, last: u32) -> Verdict
+        ensures value { result ≡ text_verdict self.old }
+        ensures rest { self.new ≡ record self.old { removed = is_removed result; last = last } }
+        ensures fits { array_vec_len self.old.open_sections ≤ OPEN_SECTIONS }
+    {
+        let verdict = self.text_verdict();
+        self.removed = verdict.is_removed();
+        self.last = last;
+        verdict
+    }
+
+    /// Returns the position of the next line among the sections.
+    fn enclosing(&self) -> Enclosing
+        ensures keyword_within { result ≡ record {
+          section = innermost_of self.now.open_sections.items;
+          plain = self.now.settings.plain;
+        } }
+        ensures fits { array_vec_len self.now.open_sections ≤ OPEN_SECTIONS }
+    {
+        Enclosing {
+            section: self.open_sections.as_slice().last().copied(),
+            plain: self.settings.plain,
+        }
+    }
+
+    /// Returns the step of the next line and its change of the open sections. `after` follows the
+    /// `#` of the line.
+    #[inline(always)]
+    fn transition<'a>(
+        &self,
+        scan: &Scan<'a>,
+        after: &'a [u8],
+        number: u32,
+        symbols: &Symbols,
+    ) -> Result<Transition, SectionFault>
+        requires fits { length scan.now.masked.now ≤ LINE_BYTES }
+        requires after_hash { skip_hash_if_fresh scan.now.masked.now ≡ Some after.now }
+        ensures value { (calls : List Argument) → TableRepresents symbols.now calls →
+            result ≡ transition_of (context_of self.now) number
+            (classified (as_scan scan.now) calls (rules_of self.now.settings)
+            (content_of (as_scan scan.now))) }
+        ensures keyword_within { IfOk result
+            (λ next. next.step.keyword.at + next.step.keyword.len ≤ length
+            scan.now.masked.now) }
+        ensures fits { array_vec_len self.now.open_sections ≤ OPEN_SECTIONS }
+        ensures has_space { IfOk result (λ next. IsTrue (opens_section next.change) →
+            array_vec_len self.now.open_sections < OPEN_SECTIONS) }
+    {
+        let before = LineContext {
+            enclosing: self.enclosing(),
+            depth: self.open_sections.len(),
+            removed: self.removed,
+        };
+        let Ok(classified) = classify(scan, after, symbols, self.settings) else {
+            return Err(SectionFault::Obfuscated { line: number });
+        };
+        let action = check_line(before, classified, number)?;
+        let step = Step {
+            verdict: action.verdict,
+            keyword: classified.keyword,
+        };
+        Ok(Transition {
+            step,
+            change: action.change,
+        })
+    }
+
+    /// Checks the end of the text, by the innermost open section.
+    fn end_fault(&self, in_comment: bool) -> Result<(), SectionFault>
+        ensures { result ≡ end_in in_comment self.now.last
+            (innermost_of self.now.open_sections.items) }
+    {
+        let line = self.last;
+        if in_comment {
+            return Err(SectionFault::EofInComment { line });
+        }
+        match self.enclosing().section {
+            Some(inner) => Err(SectionFault::PrematureEof {
+                line,
+                if_line: inner.if_line,
+            }),
+            None => Ok(()),
+        }
+    }
+}
+
+/// Applies a line's change to the open sections.
+#[inline(always)]
+fn apply(open_sections: &mut ArrayVec<OpenSection, OPEN_SECTIONS>, change: StackOp)
+    requires fits { array_vec_len open_sections.old ≤ OPEN_SECTIONS }
+    requires has_space { IsTrue (opens_section change) →
+        array_vec_len open_sections.old < OPEN_SECTIONS }
+    ensures { open_sections.new.items ≡ applied change open_sections.old.items }
+{
+    match change {
+        StackOp::Stay => {}
+        StackOp::Push(inner) => open_sections.push(inner),
+        StackOp::Replace(inner) => {
+            let _ = open_sections.pop();
+            open_sections.push(inner);
+        }
+        StackOp::Pop => {
+            let _ = open_sections.pop();
+        }
+    }
+}

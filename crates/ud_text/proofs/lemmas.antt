@@ -1,0 +1,5 @@
+-- Lemmas by subject.
+pub mod bulk
+pub mod lines
+pub mod scan
+pub mod searching

@@ -1,0 +1,105 @@
+-- Blocks: the next significant byte by the remaining bits of a block.
+use Rattle.std.proofs.Common.{◌≡◌, ℕ, zero, suc, ◌+◌, ◌-◌, ◌*◌, ◌/◌, ◌^◌, ◌<◌, ◌≤◌, Bool, true, false, not, cond, List, [], ◌∷◌, map, length, take, drop, min, refl, sym, ap, ◌∙◌, inl, inr, arith}
+use Rattle.std.specs.Int.{w64, trailing_zeros}
+use Rattle.std.specs.List.{position_or_len, drop-map}
+use Rattle.std.proofs.lemmas.Bool.{cases_lt}
+use Rattle.std.proofs.Math.Nat.{zero-div, div-one, div-div-eq-div-mul, pow-suc, mul_comm}
+use Rattle.std.proofs.Math.Seq.{drop-nil}
+use Rattle.std.proofs.Math.ListN.{length-drop}
+use Rattle.std.proofs.lemmas.List.{drop-take}
+use Rattle.std.proofs.lemmas.Simd.{trailing_mask_l, leading_from_mask_l}
+use Rattle.std.proofs.lemmas.Simd.{length-chunk}
+use lib.Lanes.{mask_l}
+use Rattle.ud_text.specs.bulk.Blocks.{significant_bits}
+use Rattle.ud_text.specs.bulk.BulkLexemes.{is_significant}
+use Rattle.ud_text.proofs.lemmas.searching.SimdLemmas.{search_take, search_drop, search_bound}
+use Rattle.ud_text.proofs.lemmas.bulk.StepLemmas.{drop_both}
+
+half : (b : Bool) (n : ℕ) → (cond b 1 0 + 2 * n) / 2 ≡ n
+half true n = omega arith
+half false n = omega arith
+
+-- the bits shifted out are those of the first bytes
+mask_rest : (ms : List Bool) (k : ℕ) → mask_l ms / 2 ^ k ≡ mask_l (drop k ms)
+mask_rest ms zero = div-one (mask_l ms)
+mask_rest [] (suc k) = zero-div (2 ^ suc k) ∙ ap mask_l (sym (drop-nil (suc k)))
+mask_rest (m ∷ ms) (suc k) =
+    ap (λ (n : ℕ). mask_l (m ∷ ms) / n) (pow-suc 2 k ∙ mul_comm (2 ^ k) 2) ∙ sym (div-div-eq-div-mul (mask_l (m ∷ ms)) 2 (2 ^ k))
+    ∙ ap (λ (n : ℕ). n / 2 ^ k) (half m (mask_l ms)) ∙ mask_rest ms k
+
+-- the remaining bits of a block are those of its bytes from a position on
+pub rest_bits : (bytes : List ℕ) (begin at : ℕ) → begin ≤ at → at ≤ begin + 64 →
+    significant_bits (take 64 (drop begin bytes)) / 2 ^ (at - begin) ≡ significant_bits (take (begin + 64 - at) (drop at bytes))
+rest_bits bytes begin at h k =
+    let size : 64 ≡ (at - begin) + (begin + 64 - at) = omega arith in
+    let there : begin + (at - begin) ≡ at = omega arith in
+    mask_rest (map is_significant (take 64 (drop begin bytes))) (at - begin)
+    ∙ ap mask_l (drop-map is_significant (at - begin) (take 64 (drop begin bytes)))
+    ∙ ap (λ (n : ℕ). significant_bits (drop (at - begin) (take n (drop begin bytes)))) size
+    ∙ ap significant_bits (drop-take (at - begin) (begin + 64 - at) (drop begin bytes))
+    ∙ ap (λ (l : List ℕ). significant_bits (take (begin + 64 - at) l)) (sym (drop_both bytes begin (at - begin)) ∙ ap (λ (n : ℕ). drop n bytes) there)
+
+none_set : (xs : List ℕ) → length xs ≤ position_or_len is_significant xs → significant_bits xs ≡ 0
+none_set [] h = refl
+none_set (x ∷ xs) h = by_test (is_significant x) (position_or_len is_significant xs) (none_set xs) h
+  where
+    by_test : (b : Bool) (m : ℕ) → (length xs ≤ m → significant_bits xs ≡ 0) → suc (length xs) ≤ cond (not b) (1 + m) 0 → cond b 1 0 + 2 * significant_bits xs ≡ 0
+    by_test true m f h = absurd (omega arith)
+    by_test false m f h = let e : significant_bits xs ≡ 0 = f (omega arith) in omega (arith, e)
+
+module _ (bytes : List ℕ) (at n : ℕ) (few : n ≤ 64) (room : at + n ≤ length bytes) (bits : ℕ) (is : bits ≡ significant_bits (take n (drop at bytes))) where
+  long : length (take n (drop at bytes)) ≡ n
+  long = length-chunk at n bytes room
+
+  among : position_or_len is_significant (take n (drop at bytes)) ≡ min n (position_or_len is_significant (drop at bytes))
+  among = search_take is_significant n (drop at bytes)
+
+  -- the lowest bit is that of the first significant byte
+  pub row_found : (bits ≡ 0 → ⊥) → at + trailing_zeros w64 bits ≡ at + position_or_len is_significant (drop at bytes)
+  row_found some =
+      let set : 0 < significant_bits (take n (drop at bytes)) = omega (arith, some, is) in
+      let zeros : trailing_zeros w64 bits ≡ position_or_len is_significant (take n (drop at bytes)) =
+      ap (λ (m : ℕ). trailing_zeros w64 m) is ∙ trailing_mask_l is_significant 64 (take n (drop at bytes)) (omega (arith, long)) set in
+      let here : position_or_len is_significant (take n (drop at bytes)) < n = by_cases (position_or_len is_significant (take n (drop at bytes))) refl set in
+      omega (arith, zeros, among, here)
+    where
+      by_cases : (m : ℕ) → m ≡ position_or_len is_significant (take n (drop at bytes)) → 0 < significant_bits (take n (drop at bytes)) → m < n
+      by_cases m e set = elim (cases_lt m n) [
+        | inl h ↦ h
+        | inr h ↦ let z : significant_bits (take n (drop at bytes)) ≡ 0 = none_set (take n (drop at bytes)) (omega (arith, long, h, e)) in absurd (omega (arith, z, set))
+      ]
+
+  -- there is no significant byte, if no bit is set
+  pub row_empty : bits ≡ 0 → n ≤ position_or_len is_significant (drop at bytes)
+  row_empty none =
+      let all : position_or_len is_significant (take n (drop at bytes)) ≡ length (take n (drop at bytes)) = leading_from_mask_l is_significant (take n (drop at bytes)) (sym is ∙ none) in
+      omega (arith, all, among, long)
+
+-- the first significant byte comes after bytes that aren't significant
+pub row_later : (bytes : List ℕ) (at n : ℕ) → n ≤ position_or_len is_significant (drop at bytes) →
+    at + position_or_len is_significant (drop at bytes) ≡ at + n + position_or_len is_significant (drop (at + n) bytes)
+row_later bytes at n h =
+    let e : position_or_len is_significant (drop at bytes) ≡ n + position_or_len is_significant (drop n (drop at bytes)) = search_drop is_significant n (drop at bytes) h in
+    let f : position_or_len is_significant (drop n (drop at bytes)) ≡ position_or_len is_significant (drop (at + n) bytes) = ap (λ (l : List ℕ). position_or_len is_significant l) (sym (drop_both bytes at n)) in
+    omega (arith, e, f)
+
+-- a position that is found lies within the bytes, or at their end
+pub row_bound : (bytes : List ℕ) (at next : ℕ) → at ≤ length bytes → next ≡ at + position_or_len is_significant (drop at bytes) → next ≤ length bytes
+row_bound bytes at next h e = omega (arith, e, search_bound is_significant (drop at bytes) (position_or_len is_significant (drop at bytes)) refl, length-drop at bytes)
+
+module _ (bytes : List ℕ) (begin at bits : ℕ) (is : bits ≡ significant_bits (take 64 (drop begin bytes))) (low : begin ≤ at) (high : at < begin + 64)
+    (room : begin + 64 ≤ length bytes) where
+  left : bits / 2 ^ (at - begin) ≡ significant_bits (take (begin + 64 - at) (drop at bytes))
+  left = ap (λ (n : ℕ). n / 2 ^ (at - begin)) is ∙ rest_bits bytes begin at low (omega arith)
+
+  -- the lowest of the remaining bits of a block
+  pub left_found : (bits / 2 ^ (at - begin) ≡ 0 → ⊥) →
+      at + trailing_zeros w64 (bits / 2 ^ (at - begin)) ≡ at + position_or_len is_significant (drop at bytes)
+  left_found some = row_found bytes at (begin + 64 - at) (omega arith) (omega arith) (bits / 2 ^ (at - begin)) left some
+
+  -- what comes next lies after the block, if no bit remains
+  pub left_empty : bits / 2 ^ (at - begin) ≡ 0 → begin + 64 + position_or_len is_significant (drop (begin + 64) bytes) ≡ at + position_or_len is_significant (drop at bytes)
+  left_empty none =
+      let there : at + (begin + 64 - at) ≡ begin + 64 = omega arith in
+      sym (row_later bytes at (begin + 64 - at) (row_empty bytes at (begin + 64 - at) (omega arith) (omega arith) (bits / 2 ^ (at - begin)) left none)
+      ∙ ap (λ (n : ℕ). n + position_or_len is_significant (drop n bytes)) there)

@@ -1,0 +1,6 @@
+-- Lemmas on the lines of a text that comes in chunks.
+pub mod NewlineLemmas
+pub mod LinesLemmas
+pub mod BorrowLemmas
+pub mod ConsumeLemmas
+pub mod NearNewlines

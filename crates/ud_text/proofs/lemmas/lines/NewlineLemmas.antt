@@ -1,0 +1,102 @@
+-- Newlines: the prefix of a chunk up to its first newline, which a search finds, is unique.
+use Rattle.std.proofs.Common.{◌≡◌, ℕ, zero, suc, ◌+◌, ◌-◌, ◌<◌, ◌≤◌, nat_eq, Bool, true, false, if◌then◌else◌, List, [], ◌∷◌, ◌++◌, length, take, get_or, refl, sym, ◌∙◌, ap, subst, arith}
+use Rattle.std.proofs.lemmas.Bool.{eq-eqb, eqb-true}
+use Rattle.std.specs.List.{ends_with}
+use Rattle.std.proofs.lemmas.Bool.Decides.{Decides-eqb}
+use Rattle.std.proofs.lemmas.List.{take_more, take_all, take-append-le, length-append}
+use Rattle.std.proofs.lemmas.Slice.Eq.{ends_is}
+use Rattle.std.proofs.Math.ListN.{length-take}
+use Rattle.memchr.specs.Find.{Nowhere, NoneBefore, Passes, is_byte}
+use Rattle.ud_model.specs.text.Lines.{NoNewline, IsWhole, line_at}
+use Rattle.ud_text.specs.lines.LinesState.{UpToNewline}
+use Rattle.ud_text.proofs.lemmas.scan.MaskLemmas.{no_newline-take}
+
+-- bytes have no newline, if a search finds none among them
+pub no_newline_front : (s : List ℕ) (n : ℕ) → Nowhere (Passes (is_byte 10) s) 0 n → NoNewline (take n s)
+no_newline_front s zero none = tt
+no_newline_front [] (suc n) none = tt
+no_newline_front (b ∷ bs) (suc n) none = (
+  λ e. none 0 (omega arith) (omega arith) (eq-eqb b 10 e),
+  no_newline_front bs n (λ k low high. none (suc k) (omega arith) (omega arith)),
+)
+
+-- the first newline that a search finds ends the bytes up to it
+pub up_to_newline-found : (s : List ℕ) (k : ℕ) → NoneBefore (Passes (is_byte 10) s) 0 (length s) k → Passes (is_byte 10) s k → UpToNewline s (k + 1) true
+up_to_newline-found s k first is = record {
+  within = (let h : k < length s = first.high in omega arith);
+  all = λ e. cc;
+  line = λ e. (
+    take k s,
+    no_newline_front s k first.before,
+    take_more s k 0 first.high ∙ ap (λ (b : ℕ). take k s ++ b ∷ []) (eqb-true (get_or s k 0) 10 is),
+  );
+}
+
+-- the prefix is the whole chunk, if a search finds no newline
+pub up_to_newline-none : (s : List ℕ) → Nowhere (Passes (is_byte 10) s) 0 (length s) → UpToNewline s (length s) false
+up_to_newline-none s none = record {
+  within = omega arith;
+  all = λ e. (refl, subst NoNewline (take_all (length s) s (omega arith)) (no_newline_front s (length s) none));
+  line = λ e. cc;
+}
+
+-- bytes that end with a newline have one
+pub newline_at_end : (prefix : List ℕ) → NoNewline (prefix ++ 10 ∷ []) → ⊥
+newline_at_end [] h = h.0 refl
+newline_at_end (b ∷ bs) h = newline_at_end bs h.1
+
+-- two prefixes of a text that end with their only newline are one
+same_front : (s f g : List ℕ) (m n : ℕ) → NoNewline f → NoNewline g → take m s ≡ f ++ 10 ∷ [] → take n s ≡ g ++ 10 ∷ [] → f ≡ g
+same_front s f g zero n nf ng d e = absurd (let k : length f + 1 ≡ 0 = sym (length-append f (10 ∷ [])) ∙ sym (ap length d) in omega arith)
+same_front s f g (suc m) zero nf ng d e = absurd (let k : length g + 1 ≡ 0 = sym (length-append g (10 ∷ [])) ∙ sym (ap length e) in omega arith)
+same_front [] f g (suc m) (suc n) nf ng d e = absurd (let k : length f + 1 ≡ 0 = sym (length-append f (10 ∷ [])) ∙ sym (ap length d) in omega arith)
+same_front (b ∷ bs) [] [] (suc m) (suc n) nf ng d e = refl
+same_front (b ∷ bs) [] (y ∷ ys) (suc m) (suc n) nf ng d e = absurd (ng.0 (let p : b ≡ 10 = cc in let q : b ≡ y = cc in sym q ∙ p))
+same_front (b ∷ bs) (x ∷ xs) [] (suc m) (suc n) nf ng d e = absurd (nf.0 (let p : b ≡ 10 = cc in let q : b ≡ x = cc in sym q ∙ p))
+same_front (b ∷ bs) (x ∷ xs) (y ∷ ys) (suc m) (suc n) nf ng d e =
+    let p : x ≡ y = cc in
+    let d' : take m bs ≡ xs ++ 10 ∷ [] = cc in
+    let e' : take n bs ≡ ys ++ 10 ∷ [] = cc in
+    let q : xs ≡ ys = same_front bs xs ys m n nf.1 ng.1 d' e' in
+    cc
+
+-- the length of a prefix with its newline
+front_len : (s f : List ℕ) (n : ℕ) → n ≤ length s → take n s ≡ f ++ 10 ∷ [] → n ≡ length f + 1
+front_len s f n h e =
+    let k : length (take n s) ≡ length f + 1 = ap length e ∙ length-append f (10 ∷ []) in
+    omega (arith, k, length-take n s)
+
+-- a chunk has one prefix up to its first newline
+pub up_to_newline-once : (chunk : List ℕ) (used other : ℕ) (whole ended : Bool) → UpToNewline chunk used whole → UpToNewline chunk other ended → (whole ≡ ended) × (used ≡ other)
+up_to_newline-once chunk used other false false a b = (refl, (a.all refl).0 ∙ sym (b.all refl).0)
+up_to_newline-once chunk used other true false a b =
+    absurd (newline_at_end (a.line refl).0 (subst NoNewline (a.line refl).2 (no_newline-take used chunk (b.all refl).1)))
+up_to_newline-once chunk used other false true a b =
+    absurd (newline_at_end (b.line refl).0 (subst NoNewline (b.line refl).2 (no_newline-take other chunk (a.all refl).1)))
+up_to_newline-once chunk used other true true a b =
+    let same : (a.line refl).0 ≡ (b.line refl).0 = same_front chunk (a.line refl).0 (b.line refl).0 used other (a.line refl).1 (b.line refl).1 (a.line refl).2 (b.line refl).2 in
+    (refl, front_len chunk (a.line refl).0 used a.within (a.line refl).2 ∙ ap (λ (f : List ℕ). length f + 1) same ∙ sym (front_len chunk (b.line refl).0 other b.within (b.line refl).2))
+
+-- a chunk that isn't empty has a prefix with bytes
+pub up_to_newline-some : (chunk : List ℕ) (used : ℕ) (whole : Bool) → UpToNewline chunk used whole → 0 < length chunk → 0 < used
+up_to_newline-some chunk used false a some = let k : used ≡ length chunk = (a.all refl).0 in omega arith
+up_to_newline-some chunk used true a some =
+    let k : used ≡ length (a.line refl).0 + 1 = front_len chunk (a.line refl).0 used a.within (a.line refl).2 in
+    omega arith
+
+-- a line that ends in its newline has none in its body
+pub whole_newlineless : (n : ℕ) (l : List ℕ) → IsWhole l → NoNewline (line_at n l).body
+whole_newlineless n l w =
+    by_tests (ends_with nat_eq l (13 ∷ 10 ∷ [])) (ends_with nat_eq l (10 ∷ []))
+    ((ends_is Decides-eqb l (10 ∷ []) (ends_with nat_eq l (10 ∷ [])) refl).1 w.0 w.2)
+  where
+    len : length l ≡ length w.0 + 1
+    len = ap length w.2 ∙ length-append w.0 (10 ∷ [])
+
+    front_of : (k : ℕ) → k ≤ length w.0 → NoNewline (take k l)
+    front_of k h = subst (λ (t : List ℕ). NoNewline t) (sym (ap (take k) w.2 ∙ take-append-le k w.0 (10 ∷ []) h)) (no_newline-take k w.0 w.1)
+
+    by_tests : (a b : Bool) → b ≡ true → NoNewline (take (length l - length {A = ℕ} (if a then 13 ∷ 10 ∷ [] else if b then 10 ∷ [] else [])) l)
+    by_tests true b e = front_of (length l - 2) (omega (arith, len))
+    by_tests false true e = front_of (length l - 1) (omega (arith, len))
+    by_tests false false e = cc

@@ -1,0 +1,43 @@
+-- Whole lines at the beginning of the next window.
+use Rattle.std.proofs.Common.{◌≡◌, ◌≤◌, ◌<◌, ◌-◌, ℕ, List, true, length, ap, subst, take, drop, arith}
+use Rattle.std.proofs.Math.ListN.{length-drop}
+use Rattle.ud_model.specs.text.Lines.{NoNewline}
+use Rattle.ud_text.specs.lines.LinesState.{UpToNewline}
+use Rattle.ud_text.proofs.lemmas.lines.BorrowLemmas.{none_here, none_after}
+use Rattle.std.proofs.lemmas.List.{take_rest}
+use Rattle.std.proofs.lemmas.Grind.{common_steps}
+use Rattle.ud_model.specs.declared.limits.TheConstants.{LINE_BYTES}
+use Rattle.ud_text.specs.bulk.BulkLexemes.{at_start}
+use Rattle.ud_text.proofs.lemmas.bulk.BulkPlainLemmas.{begins_ends}
+use Rattle.ud_text.proofs.lemmas.lines.ConsumeLemmas.{more_end, more_fit, short_fit}
+use Rattle.ud_text.proofs.lines.newlines.whole_lines_len.Goals as goal
+
+pub loop-at-init : goal.loop-at-init
+loop-at-init c = record {
+  within = omega arith;
+  ends = begins_ends _ at_start;
+  fits = short_fit _ (omega arith);
+}
+
+pub loop-at-preserved : goal.loop-at-preserved
+loop-at-preserved c =
+    let short : c.min.result ≤ LINE_BYTES = omega (arith, c.min.ensures) in
+    let is = ap (take c.min.result) (take_rest c.args.chunk.now c.loop-at.at) in
+    record {
+      within = grind (arith, common_steps, c.last_line_start-count.ensures.within);
+      ends = more_end c.args.chunk.now c.loop-at.at c.last_line_start-count.result c.min.result _ is short c.last_line_start-count.ensures c.loop-at.invariant.ends;
+      fits =
+          more_fit c.args.chunk.now c.loop-at.at c.last_line_start-count.result c.min.result _ is short c.last_line_start-count.ensures c.loop-at.invariant.ends
+          c.loop-at.invariant.fits;
+    }
+
+pub returns-then-count-eq0-clause-most : goal.returns-then-count-eq0-clause-most
+returns-then-count-eq0-clause-most c =
+    let rest : List ℕ = take (length c.args.chunk.now - c.loop-at.at) (drop c.loop-at.at c.args.chunk.now) in
+    let begin : c.last_line_start-count.result ≡ 0 = c.if-count-eq0.true in
+    let none : NoNewline (take c.min.result rest) = subst (λ (n : ℕ). NoNewline (drop n (take c.min.result rest))) begin c.last_line_start-count.ensures.one_line in
+    subst (λ (l : List ℕ). (used : ℕ) → UpToNewline l used true → LINE_BYTES < used) (take_rest c.args.chunk.now c.loop-at.at)
+    (none_here rest c.min.result c.min.ensures none)
+
+pub returns-clause-most : goal.returns-clause-most
+returns-clause-most c = none_after (drop c.loop-at.at c.args.chunk.now) (omega (arith, length-drop c.loop-at.at c.args.chunk.now, c.loop-at-test.false))

@@ -1,0 +1,6 @@
+-- The spaces so far were appended.
+use Rattle.std.proofs.Common.{◌≡◌, ◌++◌, replicate}
+use Rattle.ud_text.proofs.scan.lexer.append_spaces.Given as goal
+
+abbrev pub invariant-loop-space : goal.invariant-loop-space
+invariant-loop-space g l = l.masked.items ≡ l.initial.masked.items ++ replicate l._space 32

@@ -1,0 +1,6 @@
+-- Many whole text lines that are read at once.
+pub mod BulkScanning
+pub mod BulkStates
+pub mod BulkLexemes
+pub mod Progress
+pub mod Blocks

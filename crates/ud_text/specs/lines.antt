@@ -1,0 +1,4 @@
+-- The lines of a text that comes in chunks.
+pub mod LinesState
+pub mod Borrowing
+pub mod Consuming

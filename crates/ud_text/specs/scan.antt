@@ -1,0 +1,3 @@
+-- The scan of each line, and the state of a scanner.
+pub mod ScannerState
+pub mod ScanBorrows

@@ -1,0 +1,2 @@
+-- Searches of many bytes at a time.
+pub mod Searches

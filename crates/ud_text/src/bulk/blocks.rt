@@ -1,0 +1,99 @@
+//! Blocks of 64 bytes, of which all significant bytes are found at once.
+//!
+//! The bit mask of the current block is kept. So the next significant byte of a block costs one bit
+//! scan, and no further look at its bytes.
+
+ghost use Rattle.std.specs.Prelude.{◌≡◌, ◌≤◌, ◌+◌, length, take, drop};
+ghost use Rattle.std.specs.List.{position_or_len};
+ghost use Rattle.ud_text.specs.bulk.BulkLexemes.{is_significant};
+ghost use Rattle.ud_text.specs.bulk.Blocks.{IsBlock, significant_bits};
+
+use crate::searching::find_significant;
+use std::simd::prelude::*;
+
+/// The number of bytes of a block.
+const BLOCK_BYTES: usize = 64;
+
+/// The significant byte of each low nibble, of which there is at most one. A nibble without one has
+/// a byte with another low nibble, which never matches. The 16 entries are repeated four times,
+/// once for each part of a block.
+const BY_LOW_NIBBLE: [u8; BLOCK_BYTES] = [
+    1, 0, b'"', b'#', 0, 0, 0, b'\'', 0, 0, 0, 0, b'\\', 0, 0, b'/', 1, 0, b'"', b'#', 0, 0, 0,
+    b'\'', 0, 0, 0, 0, b'\\', 0, 0, b'/', 1, 0, b'"', b'#', 0, 0, 0, b'\'', 0, 0, 0, 0, b'\\', 0,
+    0, b'/', 1, 0, b'"', b'#', 0, 0, 0, b'\'', 0, 0, 0, 0, b'\\', 0, 0, b'/',
+];
+
+/// The significant bytes of a block, as a bit mask.
+#[derive(Clone, Copy)]
+pub(crate) struct Block {
+    /// The position of the block's first byte. At the end of the bytes there is no block.
+    begin: usize,
+    /// A bit for each byte of the block, the lowest for the first.
+    bits: u64,
+}
+
+/// Returns no block: an empty one at the end of `bytes`.
+pub(crate) fn no_block(bytes: &[u8]) -> Block
+    ensures { IsBlock result bytes.now }
+{
+    Block {
+        begin: bytes.len(),
+        bits: 0,
+    }
+}
+
+/// Returns the bit mask of the significant bytes in the block from `at` on, the lowest bit for the
+/// first byte.
+#[inline(always)]
+fn block_bits(bytes: &[u8], at: usize) -> u64
+    requires { at + BLOCK_BYTES ≤ length bytes.now }
+    ensures { result ≡ significant_bits (take BLOCK_BYTES (drop at bytes.now)) }
+{
+    let lanes = u8x64::from_slice(&bytes[at..]);
+    let expected = u8x64::from_array(BY_LOW_NIBBLE).swizzle_dyn_within::<16>(
+        lanes & u8x64::splat(15),
+    );
+    lanes.simd_eq(expected).to_bitmask()
+}
+
+/// Returns the position of the first significant byte from `begin` on, and its block. The position
+/// is `bytes.len()` if there is none. The last bytes, if they fill no block, have none.
+#[inline(always)]
+fn significant_from(bytes: &[u8], begin: usize) -> (usize, Block)
+    requires within { begin ≤ length bytes.now }
+    ensures value { result.0 ≡ begin + position_or_len is_significant (drop begin bytes.now) }
+    ensures row { IsBlock result.1 bytes.now }
+{
+    let mut at = begin;
+    while bytes.len() - at >= BLOCK_BYTES {
+        let bits = block_bits(bytes, at);
+        if bits != 0 {
+            let place = at + bits.trailing_zeros() as usize;
+            return (place, Block { begin: at, bits });
+        }
+        at += BLOCK_BYTES;
+    }
+    (at + find_significant(&bytes[at..]), no_block(bytes))
+}
+
+/// Returns the position of the first significant byte from `at` on, and its block, as
+/// `significant_from` does. `row` is the block found before: its bits are used again if `at` lies
+/// in it.
+#[inline(always)]
+pub(crate) fn next_significant(bytes: &[u8], row: Block, at: usize) -> (usize, Block)
+    requires within { at ≤ length bytes.now }
+    requires row { IsBlock row bytes.now }
+    ensures value { result.0 ≡ at + position_or_len is_significant (drop at bytes.now) }
+    ensures bound { result.0 ≤ length bytes.now }
+    ensures row { IsBlock result.1 bytes.now }
+{
+    let end = row.begin + BLOCK_BYTES;
+    if at < row.begin || end <= at || bytes.len() < end {
+        return significant_from(bytes, at);
+    }
+    let bits = row.bits >> (at - row.begin);
+    if bits == 0 {
+        return significant_from(bytes, end);
+    }
+    (at + bits.trailing_zeros() as usize, row)
+}

@@ -1,0 +1,75 @@
+//! Decides whether a `#` may belong to a directive, by the bytes before it and after it.
+//!
+//! The `#` belongs to none if a word that is no keyword follows, or if its logical line isn't white
+//! before it (C11 6.10).
+
+ghost use Rattle.std.specs.Prelude.{◌≡◌, ◌≤◌, ◌<◌, ◌-◌, length, take, drop, slice_index, true};
+ghost use Rattle.std.specs.Prelude.{false, IfSome};
+ghost use Rattle.ud_model.specs.text.Bytes.{is_white, are_white};
+ghost use Rattle.ud_text.specs.bulk.BulkStates.{is_no_keyword, is_other_word};
+ghost use Rattle.ud_text.specs.bulk.BulkLexemes.{IsWhiteAfter, NoSignificant};
+
+use crate::searching::is_significant;
+use ud_model::bytes::{is_white, is_word_byte, skip_white};
+
+/// Returns whether these bytes show that a word begins that is no keyword. The first byte is
+/// enough, unless it is `i` or `e`, with which the keywords begin.
+fn is_no_keyword(first: u8, second: u8) -> bool
+    ensures { result ≡ is_no_keyword first second }
+{
+    if !is_word_byte(first) {
+        return false;
+    }
+    match first {
+        b'i' => is_word_byte(second) && second != b'f',
+        b'e' => is_word_byte(second) && second != b'l' && second != b'n',
+        _ => true,
+    }
+}
+
+/// Returns how many leading bytes show that the first word is no keyword: the white space before
+/// the word, and two of its bytes. None of these bytes is significant.
+pub(crate) fn other_word_len(bytes: &[u8]) -> Option<usize>
+    ensures bound { IfSome result (λ n. n ≤ length bytes.now) }
+    ensures plain { IfSome result (λ n. NoSignificant (take n bytes.now)) }
+    ensures other { IfSome result (λ n. is_other_word (take n bytes.now) ≡ true) }
+{
+    let word = skip_white(bytes);
+    if word.len() < 2 {
+        return None;
+    }
+    if is_no_keyword(word[0], word[1]) && !is_significant(word[1]) {
+        return Some(bytes.len() - word.len() + 2);
+    }
+    None
+}
+
+/// Returns the position at which the trailing white space begins.
+fn trailing_white_start(bytes: &[u8]) -> usize
+    ensures bound { result ≤ length bytes.now }
+    ensures white { are_white (drop result bytes.now) ≡ true }
+    ensures black { 0 < result → is_white (slice_index bytes.now (result - 1)) ≡ false }
+{
+    let mut at = bytes.len();
+    while at > 0 {
+        // The byte is mostly a space.
+        let byte = bytes[at - 1];
+        if byte != b' ' && !is_white(byte) {
+            return at;
+        }
+        at -= 1;
+    }
+    at
+}
+
+/// Returns whether the logical line is white after `bytes`, which have no comment. `begins`: the
+/// logical line is white before them.
+pub(crate) fn is_line_white_after(bytes: &[u8], begins: bool) -> bool
+    ensures { IsWhiteAfter bytes.now begins result }
+{
+    let at = trailing_white_start(bytes);
+    if at == 0 {
+        return begins;
+    }
+    bytes[at - 1] == b'\n'
+}

@@ -1,0 +1,452 @@
+//! Scans the lines of a text, each in its mode.
+//!
+//! A scanner buffers no line but the last one as it is masked, and not even that one if it is
+//! masked unchanged: its bytes are then borrowed. Of the lines before, a scanner carries three
+//! things: the lexer's state after their spliced text, whether the last logical line is white, and
+//! whether the last line joins the next one.
+
+ghost use Rattle.std.specs.Prelude.{◌≡◌, ◌≤◌, ◌||◌, ℕ, List, [], ◌∷◌, ◌++◌, length, true, false};
+ghost use Rattle.std.specs.Prelude.{take, IfSome};
+ghost use Rattle.std.specs.Borrow.{sem};
+ghost use Rattle.std.specs.List.{position_or_len};
+ghost use Rattle.ud_model.specs.text.Bytes.{is_mark};
+ghost use Rattle.ud_model.specs.text.Lines.{NoNewline};
+ghost use Rattle.ud_model.specs.text.Lines.{Line as TextLine};
+ghost use Rattle.ud_model.specs.declared.kind.Mode.{Mode};
+ghost use Rattle.ud_model.specs.text.Splicing.{is_spliced, content, stays_open};
+ghost use Rattle.ud_model.specs.text.Scans.{Reading};
+ghost use Rattle.ud_model.specs.text.Scanning.{comment_at, scan_after, next_reading};
+ghost use Rattle.ud_model.specs.aids.LexStates.{kind_in_state, state_after_line, white_after_line};
+ghost use Rattle.ud_text.specs.LineViews.{as_line, as_scan, lex_state_of, shown_in};
+ghost use Rattle.ud_text.specs.scan.ScannerState.{ScannerState, ScannerRepresents};
+ghost use Rattle.ud_text.specs.scan.ScannerState.{scanner_state_of, initial_scanner_state};
+ghost use Rattle.ud_text.specs.scan.ScannerState.{scan_with, ends_in_block};
+ghost use Rattle.ud_text.specs.scan.ScanBorrows.{ScansLine};
+ghost use Rattle.ud_text.specs.bulk.BulkScanning.{AreWholeLines, SkipsText};
+ghost use Rattle.ud_text.specs.bulk.BulkStates.{can_start, continues_line};
+ghost use Rattle.ud_model.specs.text.Scanning.{is_block};
+
+use crate::bulk::plain::lines_without_hash;
+use crate::bulk::skip_text_lines;
+use crate::lines::Line;
+use crate::scan::Scan;
+use crate::scan::lexer::{
+    LexState, Lexer, is_fresh, is_in_block_comment, mask_or_borrow, next_state, stays_white,
+};
+use crate::scan::marks::first_mark;
+use arrayvec::ArrayVec;
+use std::marker::Model;
+use ud_model::{CommentAt, LINE_BYTES, Mode};
+
+/// The state that is carried from line to line.
+#[derive(Clone, Copy)]
+pub(crate) struct ScanState {
+    /// The lexer after the spliced text: that of the lines in C mode after the last one in plain
+    /// mode.
+    pub(crate) lexer: Lexer,
+    /// The last of these lines joins the next one.
+    joins: bool,
+}
+
+/// The scan of a line without its masked bytes.
+#[derive(Clone, Copy)]
+pub(crate) struct LineFlags {
+    /// The masked bytes of the logical line on earlier lines are white space.
+    pub(crate) fresh: bool,
+    /// The line before joins this one.
+    pub(crate) joins_before: bool,
+    /// This line joins the next one.
+    pub(crate) joins_after: bool,
+    /// The line ends in a backslash that deletes its ending.
+    pub(crate) spliced: bool,
+    /// The comment that is unclosed at the line's end, if any.
+    pub(crate) comment: CommentAt,
+}
+
+/// A scanned line: the state after it, and its scan.
+#[derive(Clone, Copy)]
+pub(crate) struct ScannedLine<'a> {
+    /// The state after the line.
+    pub(crate) scan_state: ScanState,
+    /// The line's scan without its masked bytes.
+    pub(crate) flags: LineFlags,
+    /// The masked bytes, if they are bytes of the line itself. Otherwise they were appended to
+    /// `masked`.
+    pub(crate) borrowed: Option<&'a [u8]>,
+}
+
+/// A scanner of the lines of a text, which come in order, each in its mode.
+#[derive(Drop)]
+pub struct Scanner {
+    /// The state after the lines so far.
+    pub(crate) scan_state: ScanState,
+    /// The last line as it is masked, if its own bytes weren't borrowed.
+    pub(crate) masked: ArrayVec<u8, LINE_BYTES>,
+}
+
+/// Returns the state of a C run without lines.
+pub(crate) fn initial_state() -> ScanState
+    ensures { scanner_state_of result ≡ initial_scanner_state }
+{
+    ScanState {
+        lexer: Lexer {
+            state: LexState::Text,
+            white: true,
+        },
+        joins: false,
+    }
+}
+
+/// Returns whether the line ends in a backslash that deletes its ending.
+fn is_spliced(line: &Line<'_>) -> bool
+    ensures { result ≡ is_spliced (as_line line.now) }
+{
+    line.body.ends_with(b"\\") && !line.ending.is_empty()
+}
+
+/// Returns the line's body without a splice's backslash.
+fn content<'a>(line: &Line<'a>, spliced: bool) -> &'a [u8]
+    requires { spliced ≡ is_spliced (as_line line.now) }
+    ensures { result.now ≡ content (as_line line.now) }
+{
+    if spliced {
+        &line.body[..line.body.len() - 1]
+    } else {
+        line.body
+    }
+}
+
+/// Returns the lexer after the line's newline, if the spliced text has one there.
+fn end_line(line: &Line<'_>, spliced: bool, inside: Lexer) -> Lexer
+    requires { spliced ≡ is_spliced (as_line line.now) }
+    ensures state { lex_state_of result.state ≡
+        state_after_line (stays_open (as_line line.now)) (lex_state_of inside.state) }
+    ensures white { result.white ≡
+        white_after_line (stays_open (as_line line.now)) (lex_state_of inside.state) inside.white }
+{
+    if spliced || line.ending.is_empty() {
+        inside
+    } else {
+        Lexer {
+            state: next_state(inside.state, b'\n'),
+            white: stays_white(inside.state, inside.white, b'\n'),
+        }
+    }
+}
+
+/// Returns the comment that is unclosed at the end of a line, if the lexer is in `state` there.
+fn comment_at(spliced: bool, state: LexState) -> CommentAt
+    ensures { result ≡ comment_at spliced (kind_in_state (lex_state_of state)) }
+{
+    match state {
+        LexState::Block | LexState::Star => CommentAt::InBlock,
+        LexState::ToLineEnd if spliced => CommentAt::InLine,
+        _ => CommentAt::Outside,
+    }
+}
+
+/// Scans a line in C mode. The masked bytes are appended to `masked`, unless they are borrowed.
+#[inline(always)]
+fn scan_code<'a, const ROOM: usize>(
+    scan_state: ScanState,
+    line: &Line<'a>,
+    masked: &mut ArrayVec<u8, ROOM>,
+) -> ScannedLine<'a>
+    requires empty { masked.old.items ≡ [] }
+    requires fits { length line.now.body.now ≤ ROOM }
+    requires one_line { NoNewline line.now.body.now }
+    ensures represents { (before : List Reading) →
+        ScannerRepresents (scanner_state_of scan_state) before →
+        ScannerRepresents (scanner_state_of result.scan_state) (before ++
+        next_reading before Mode.C (as_line line.now) ∷ []) }
+    ensures value { (before : List Reading) →
+        ScannerRepresents (scanner_state_of scan_state) before →
+        scan_with (shown_in result.borrowed masked.new.items) result.flags ≡
+        scan_after before Mode.C (as_line line.now) }
+    ensures fits { length (shown_in result.borrowed masked.new.items) ≤ length line.now.body.now }
+{
+    let spliced = is_spliced(line);
+    let bytes = content(line, spliced);
+    let fresh = is_fresh(scan_state.lexer, bytes);
+    let (inside, borrowed) = mask_or_borrow(scan_state.lexer, bytes, masked);
+    let lexer = end_line(line, spliced, inside);
+    let joins = spliced || is_in_block_comment(lexer.state);
+    let facts = LineFlags {
+        fresh,
+        joins_before: scan_state.joins,
+        joins_after: joins,
+        spliced,
+        comment: comment_at(spliced, lexer.state),
+    };
+    let scan_state = ScanState { lexer, joins };
+    ScannedLine {
+        scan_state,
+        flags: facts,
+        borrowed,
+    }
+}
+
+/// Returns whether the body has no mark. `#endif` and `#else`, with one of which every other
+/// section ends, are known by their bytes alone.
+#[inline(always)]
+fn has_no_mark(body: &[u8]) -> bool
+    ensures { result ≡ true → position_or_len is_mark body.now ≡ length body.now }
+{
+    match body {
+        b"#endif" | b"#else" => true,
+        _ => first_mark(body) == body.len(),
+    }
+}
+
+/// Scans a line in C mode that is masked unchanged, and after which the state is the initial one.
+/// Returns `None` if that isn't known at once: the text before the line ends in a comment or a
+/// literal, the line has a mark, or the line has no ending.
+#[inline(always)]
+fn scan_without_marks<'a>(scan_state: ScanState, line: &Line<'a>) -> Option<ScannedLine<'a>>
+    requires one_line { NoNewline line.now.body.now }
+    ensures represents { IfSome result (λ scanned. (before : List Reading) →
+        ScannerRepresents (scanner_state_of scan_state) before →
+        ScannerRepresents (scanner_state_of scanned.scan_state) (before ++
+        next_reading before Mode.C (as_line line.now) ∷ [])) }
+    ensures value { IfSome result (λ scanned. (masked : List ℕ) → (before : List Reading) →
+        ScannerRepresents (scanner_state_of scan_state) before →
+        scan_with (shown_in scanned.borrowed masked) scanned.flags ≡
+        scan_after before Mode.C (as_line line.now)) }
+    ensures fits { IfSome result (λ scanned. (masked : List ℕ) →
+        length (shown_in scanned.borrowed masked) ≤ length line.now.body.now) }
+{
+    let LexState::Text = scan_state.lexer.state else {
+        return None;
+    };
+    if line.ending.is_empty() || !has_no_mark(line.body) {
+        return None;
+    }
+    let facts = LineFlags {
+        fresh: scan_state.lexer.white,
+        joins_before: scan_state.joins,
+        joins_after: false,
+        spliced: false,
+        comment: CommentAt::Outside,
+    };
+    let left = initial_state();
+    Some(ScannedLine {
+        scan_state: left,
+        flags: facts,
+        borrowed: Some(line.body),
+    })
+}
+
+/// Scans a line in plain mode, in which it is masked unchanged.
+#[inline(always)]
+fn scan_plain<'a>(line: &Line<'a>) -> ScannedLine<'a>
+    ensures represents { (before : List Reading) →
+        ScannerRepresents (scanner_state_of result.scan_state) (before ++
+        next_reading before Mode.Plain (as_line line.now) ∷ []) }
+    ensures value { (masked : List ℕ) → (before : List Reading) →
+        scan_with (shown_in result.borrowed masked) result.flags ≡
+        scan_after before Mode.Plain (as_line line.now) }
+    ensures fits { (masked : List ℕ) →
+        length (shown_in result.borrowed masked) ≤ length line.now.body.now }
+{
+    let facts = LineFlags {
+        fresh: true,
+        joins_before: false,
+        joins_after: false,
+        spliced: false,
+        comment: CommentAt::Outside,
+    };
+    let scan_state = initial_state();
+    let borrowed = Some(line.body);
+    ScannedLine {
+        scan_state,
+        flags: facts,
+        borrowed,
+    }
+}
+
+/// Scans a line in its mode. The masked bytes are appended to `masked`, unless they are borrowed.
+#[inline(always)]
+pub(crate) fn scan_line<'a, const ROOM: usize>(
+    mode: Mode,
+    scan_state: ScanState,
+    line: &Line<'a>,
+    masked: &mut ArrayVec<u8, ROOM>,
+) -> ScannedLine<'a>
+    requires fits { length line.now.body.now ≤ ROOM }
+    requires one_line { NoNewline line.now.body.now }
+    ensures represents { (before : List Reading) →
+        ScannerRepresents (scanner_state_of scan_state) before →
+        ScannerRepresents (scanner_state_of result.scan_state) (before ++
+        next_reading before mode (as_line line.now) ∷ []) }
+    ensures value { (before : List Reading) →
+        ScannerRepresents (scanner_state_of scan_state) before →
+        scan_with (shown_in result.borrowed masked.new.items) result.flags ≡
+        scan_after before mode (as_line line.now) }
+    ensures fits { length (shown_in result.borrowed masked.new.items) ≤ length line.now.body.now }
+{
+    match mode {
+        Mode::C => {
+            if let Some(scanned) = scan_without_marks(scan_state, line) {
+                return scanned;
+            }
+            masked.clear();
+            scan_code(scan_state, line, masked)
+        }
+        Mode::Plain => scan_plain(line),
+    }
+}
+
+/// Returns whether the line before joins one that begins with this lexer: a block comment
+/// continues, or a logical line that isn't white.
+fn continues_line(lexer: Lexer) -> bool
+    ensures { result ≡ continues_line (lex_state_of lexer.state) lexer.white }
+{
+    is_in_block_comment(lexer.state) || !lexer.white
+}
+
+/// Returns whether many lines can be skipped from this state. The next line then begins a logical
+/// line, or continues a block comment or, outside comments and literals, a logical line that isn't
+/// white.
+fn can_skip_text(scan_state: ScanState) -> bool
+    ensures starts { result ≡ true → can_start (lex_state_of scan_state.lexer.state) ≡ true }
+    ensures joins { result ≡ true →
+        scan_state.joins ≡ continues_line (lex_state_of scan_state.lexer.state)
+        scan_state.lexer.white }
+{
+    match scan_state.lexer.state {
+        LexState::Text | LexState::Block => scan_state.joins == continues_line(scan_state.lexer),
+        _ => false,
+    }
+}
+
+/// Skips text lines in C mode. Returns how many bytes they have, and the state after them.
+fn skip_text_in_c_mode(scan_state: ScanState, lines: &[u8]) -> (usize, ScanState)
+    ensures bound { result.0 ≤ length lines.now }
+    ensures ends { AreWholeLines (take result.0 lines.now) }
+    ensures skips { SkipsText Mode.C (scanner_state_of scan_state) (scanner_state_of result.1)
+        (take result.0 lines.now) }
+{
+    if !can_skip_text(scan_state) {
+        return (0, scan_state);
+    }
+    let next = skip_text_lines(scan_state.lexer, lines);
+    let joins = continues_line(next.lexer);
+    let left = ScanState {
+        lexer: next.lexer,
+        joins,
+    };
+    (next.at, left)
+}
+
+/// Skips text lines in plain mode. Returns how many bytes they have, and the state after them.
+fn skip_text_in_plain_mode(scan_state: ScanState, lines: &[u8]) -> (usize, ScanState)
+    ensures bound { result.0 ≤ length lines.now }
+    ensures ends { AreWholeLines (take result.0 lines.now) }
+    ensures skips { SkipsText Mode.Plain (scanner_state_of scan_state) (scanner_state_of result.1)
+        (take result.0 lines.now) }
+{
+    let count = lines_without_hash(lines);
+    if count == 0 {
+        return (0, scan_state);
+    }
+    (count, initial_state())
+}
+
+/// Skips text lines in a mode. Returns how many bytes they have, and the state after them.
+pub(crate) fn skip_text_in(mode: Mode, scan_state: ScanState, lines: &[u8]) -> (usize, ScanState)
+    ensures bound { result.0 ≤ length lines.now }
+    ensures ends { AreWholeLines (take result.0 lines.now) }
+    ensures skips { SkipsText mode (scanner_state_of scan_state) (scanner_state_of result.1)
+        (take result.0 lines.now) }
+{
+    match mode {
+        Mode::C => skip_text_in_c_mode(scan_state, lines),
+        Mode::Plain => skip_text_in_plain_mode(scan_state, lines),
+    }
+}
+
+impl Model for Scanner {
+    ghost use Rattle.ud_text.specs.scan.ScannerState.{ScannerState, scanner_state_of};
+
+    ghost Value = { ScannerState };
+
+    ghost view = { λ s. scanner_state_of s.scan_state };
+}
+
+impl Scanner {
+    /// Returns a scanner that has read no line.
+    pub fn new() -> Scanner
+        ensures { ScannerRepresents result [] }
+    {
+        Scanner {
+            scan_state: initial_state(),
+            masked: ArrayVec::new(),
+        }
+    }
+
+    /// Reads the next line of the text, and returns its scan. Later lines never change the scan.
+    ///
+    /// The line's body has at most `LINE_BYTES`, none of which is a newline. In plain mode the line
+    /// is masked unchanged, and the next line in C mode starts afresh. In C mode each masked byte
+    /// has the index that it has in the body (C11 5.1.1.2, phases 2 and 3, and 6.4.9).
+    #[inline(always)]
+    pub fn read<'s, 'a: 's>(&'s mut self, mode: Mode, line: &Line<'a>) -> Scan<'s>
+        requires fits { length line.now.body.now ≤ LINE_BYTES }
+        requires one_line { NoNewline line.now.body.now }
+        ensures* represents { sem 𝓛 (ScansLine self.entry mode (as_line line.now)) }
+        ensures value { (before : List Reading) → ScannerRepresents self.old before →
+            as_scan result ≡ scan_after before mode (as_line line.now) }
+        ensures fits { length result.masked.now ≤ length line.now.body.now }
+    {
+        let scanned = scan_line(mode, self.scan_state, line, &mut self.masked);
+        self.scan_state = scanned.scan_state;
+        let masked = match scanned.borrowed {
+            Some(bytes) => bytes,
+            None => self.masked.as_slice(),
+        };
+        Scan {
+            masked,
+            fresh: scanned.flags.fresh,
+            joins_before: scanned.flags.joins_before,
+            joins_after: scanned.flags.joins_after,
+            spliced: scanned.flags.spliced,
+            comment: scanned.flags.comment,
+        }
+    }
+
+    /// Skips text lines in this mode, many at once. Returns how many bytes of `lines` they have: 0,
+    /// or up to the end of a line.
+    ///
+    /// `lines` may have any length and any bytes, and may end in the middle of a line. Limits
+    /// aren't checked: a line may have more than `LINE_BYTES`, and lines aren't counted. The
+    /// scanner then represents one more reading in this mode for each skipped line, as after
+    /// `read`, whatever their numbers. No skipped line has a directive or a split keyword (C11
+    /// 5.1.1.2, phases 2 and 3, 6.4.9 and 6.10). How many lines are skipped isn't promised: if the
+    /// result is less than all lines, read the next one with `read`.
+    pub fn skip_text(&mut self, mode: Mode, lines: &[u8]) -> usize
+        ensures bound { result ≤ length lines.now }
+        ensures ends { AreWholeLines (take result lines.now) }
+        ensures skips { SkipsText mode self.old self.new (take result lines.now) }
+    {
+        let (count, scan_state) = skip_text_in(mode, self.scan_state, lines);
+        self.scan_state = scan_state;
+        count
+    }
+
+    /// Returns whether a block comment is unclosed at the end of the last line; `false` if no line
+    /// was read.
+    pub fn in_comment(&self) -> bool
+        ensures { (before : List Reading) → ScannerRepresents self.now before →
+            result ≡ ends_in_block before }
+    {
+        is_in_block_comment(self.scan_state.lexer.state)
+    }
+}
+
+/// States that the carried state decides the scan of the next line. If the state represents two
+/// lists of readings, each line has the same scan after both.
+pub fn law_same_scans()
+    ensures { (scan_state : ScannerState) → (before : List Reading) → (others : List Reading) →
+        (m : Mode) → (l : TextLine) → ScannerRepresents scan_state before →
+        ScannerRepresents scan_state others → scan_after before m l ≡ scan_after others m l }
+{}
