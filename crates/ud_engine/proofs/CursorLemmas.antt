@@ -92,7 +92,7 @@ module _ {S : Type 0} (represents : S → List Judged → Type 0) (piece_of : S 
     symbols = subst (λ s. TableRepresents s o.table) (sym symbols) h.symbols;
     opened = open_skipped e.lines f.lines bytes given_up h.opened;
     took = took;
-    unrefused = ap (λ (k : LinesState). k.fault) given_up ∙ h.unrefused;
+    no_fault = ap (λ (k : LinesState). k.fault) given_up ∙ h.no_fault;
     begun = λ some. let z = ap (λ (k : LinesState). length k.held) given_up in let n = ap length can.unheld in omega (arith, z, n, some);
     count =
         let z = ap (λ (k : LinesState). k.before) given_up in let n = can.numbered in let m = h.opened.limit in omega (arith, z, n, m);

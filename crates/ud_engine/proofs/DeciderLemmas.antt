@@ -18,9 +18,9 @@ module _ (o : Options) (new : TheReader) (xs : List (Item Reading)) (t : Tree Re
   -- The scanner and the machine have read the line.
   pub has_next : (u : Tree Reading) → MachineRepresents new.machine o (xs ++ next_item o xs t l ∷ []) u → machine_fault new.machine ≡ None →
       ScannerRepresents new.scanner (map reading_of xs ++ next_reading (map reading_of xs) mode l ∷ []) → DeciderRepresents o new (xs ++ next_item o xs t l ∷ []) u
-  has_next u read unrefused carries = record {
+  has_next u read no_fault carries = record {
     read = read;
-    unrefused = unrefused;
+    no_fault = no_fault;
     carries =
         subst (ScannerRepresents new.scanner)
         (ap (λ k. map reading_of xs ++ next_reading (map reading_of xs) k l ∷ []) m ∙ sym (readings_more o xs t l)) carries;

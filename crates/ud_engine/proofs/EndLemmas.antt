@@ -47,7 +47,7 @@ module _ {S : Type 0} (represents : S → List Judged → Type 0) (piece_of : S 
       symbols = subst (λ s. TableRepresents s o.table) (sym same) h.symbols;
       opened = h.opened;
       took = h.took;
-      unrefused = h.unrefused;
+      no_fault = h.no_fault;
       begun = h.begun;
       count = h.count;
     };

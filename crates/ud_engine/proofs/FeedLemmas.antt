@@ -177,7 +177,7 @@ module _ {S : Type 0} (represents : S → List Judged → Type 0) (piece_of : S 
             symbols = taken.symbols;
             opened = taken.opened;
             took = taken.took;
-            unrefused = taken.unrefused;
+            no_fault = taken.no_fault;
             begun = taken.begun;
             count = taken.count;
           };

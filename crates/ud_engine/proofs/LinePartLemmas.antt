@@ -91,7 +91,7 @@ module _ {S : Type 0} (represents : S → List Judged → Type 0) (piece_of : S 
       f.symbols ≡ e.symbols → IsOpen f.lines → LinesRepresent f.lines (text ++ bytes) → f.lines.fault ≡ None → f.lines.held ≡ [] → f.lines.before ≤ TEXT_LINES →
       ProcessorRepresents represents piece_of f.printer o piece (h.items ++ next_item o h.items h.tree l ∷ []) tree → PrintsMore o piece h.items h.tree l tree more →
       EngineRepresentsBuffered represents piece_of f o piece (text ++ bytes) (printed ++ more)
-  line_taken f bytes line l tree more lines is symbols opened took unrefused none count has is_more = record {
+  line_taken f bytes line l tree more lines is symbols opened took no_fault none count has is_more = record {
     items = h.items ++ next_item o h.items h.tree l ∷ [];
     tree = tree;
     goes = record {
@@ -105,7 +105,7 @@ module _ {S : Type 0} (represents : S → List Judged → Type 0) (piece_of : S 
     symbols = subst (λ s. TableRepresents s o.table) (sym symbols) h.symbols;
     opened = opened;
     took = took;
-    unrefused = unrefused;
+    no_fault = no_fault;
     begun = λ some. let z = ap length none in omega (arith, z, some);
     count = count;
   }
@@ -114,7 +114,7 @@ module _ {S : Type 0} (represents : S → List Judged → Type 0) (piece_of : S 
   pub open_taken : (f : EngineState S) (bytes : List ℕ) → whole_lines (text ++ bytes) ≡ whole_lines text → f.symbols ≡ e.symbols → f.printer ≡ e.printer →
       IsOpen f.lines → LinesRepresent f.lines (text ++ bytes) → f.lines.fault ≡ None → (0 < length f.lines.held → f.lines.before < TEXT_LINES) → f.lines.before ≤ TEXT_LINES →
       EngineRepresentsBuffered represents piece_of f o piece (text ++ bytes) (printed ++ [])
-  open_taken f bytes lines symbols printer opened took unrefused begun count = record {
+  open_taken f bytes lines symbols printer opened took no_fault begun count = record {
     items = h.items;
     tree = h.tree;
     goes = record { sound = h.goes.sound; are = ap (numbered_from 1) lines ∙ h.goes.are };
@@ -123,7 +123,7 @@ module _ {S : Type 0} (represents : S → List Judged → Type 0) (piece_of : S 
     symbols = subst (λ s. TableRepresents s o.table) (sym symbols) h.symbols;
     opened = opened;
     took = took;
-    unrefused = unrefused;
+    no_fault = no_fault;
     begun = begun;
     count = count;
   }

@@ -108,7 +108,7 @@ module _ (o : Options) (old new : LineDecider) (xs : List (Item Reading)) (t : T
     tree = t;
     has = record {
       read = subst (λ ys. MachineRepresents new.machine o ys t) (sym (append-nil xs)) (subst (λ m. MachineRepresents m o xs t) (sym same) h.read);
-      unrefused = ap machine_fault same ∙ h.unrefused;
+      no_fault = ap machine_fault same ∙ h.no_fault;
       carries = subst (λ ys. ScannerRepresents new.scanner (map reading_of ys)) (sym (append-nil xs)) (skips.represents 0 (map reading_of xs) h.carries);
     };
     lines_are = refl;
@@ -118,7 +118,7 @@ module _ (o : Options) (old new : LineDecider) (xs : List (Item Reading)) (t : T
   }
 
   module _ (mode : Mode) (m : mode ≡ mode_after o t) (bytes : List ℕ) (fits : EachFits (whole_lines bytes)) (few : n + length (whole_lines bytes) ≤ TEXT_LINES)
-      (skips : SkipsText mode old.scanner new.scanner bytes) (last : ℕ) (counted : last ≡ n + length (whole_lines bytes)) (unrefused : machine_fault new.machine ≡ machine_fault old.machine)
+      (skips : SkipsText mode old.scanner new.scanner bytes) (last : ℕ) (counted : last ≡ n + length (whole_lines bytes)) (no_fault : machine_fault new.machine ≡ machine_fault old.machine)
       (reads : (r : Reading) (rs : List Reading) → AreTextLines o (mode_after o t) xs (r ∷ rs) → last ≡ last_number (xs ++ map text_line (r ∷ rs)) →
       StepsText new.machine o xs t (r ∷ rs) verdict) where
     by_lines : (l : List ℕ) (ls : List (List ℕ)) → EachFits (l ∷ ls) → n + length (l ∷ ls) ≤ TEXT_LINES → last ≡ n + length (l ∷ ls) →
@@ -136,7 +136,7 @@ module _ (o : Options) (old new : LineDecider) (xs : List (Item Reading)) (t : T
           tree = done.tree;
           has = record {
             read = done.read;
-            unrefused = unrefused ∙ h.unrefused;
+            no_fault = no_fault ∙ h.no_fault;
             carries = subst (ScannerRepresents new.scanner) (sym (readings_are mode xs all)) carries;
           };
           lines_are = lines_are mode xs all;

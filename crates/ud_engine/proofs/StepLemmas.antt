@@ -88,7 +88,7 @@ module _ {S : Type 0} (represents : S → List Judged → Type 0) (piece_of : S 
       f.lines ≡ record e.lines { held = e.lines.held ++ take used rest; whole = whole } → LinesRepresent f.lines (text ++ take used rest) → f.lines.fault ≡ None →
       (length f.lines.held ≤ LINE_BYTES) × (e.lines.before < e.lines.last_line) → AppendsAllBut a b (e.buffered ++ pending) f.buffered →
       Advances represents piece_of f o piece text printed (take used rest) a b (g ++ pending) f.buffered
-  open_step f used whole w to symbols printer is took unrefused limits sent =
+  open_step f used whole w to symbols printer is took no_fault limits sent =
       let parts = split_lines-front_of text e.lines.held rest used whole (rest_is represents piece_of o piece e text printed h) to in
       let lines : whole_lines (text ++ take used rest) ≡ whole_lines text =
       ap (λ (q : SplitLines). q.whole) (parts ∙ ap (parts_behind text e.lines.held (take used rest)) w) in
@@ -96,7 +96,7 @@ module _ {S : Type 0} (represents : S → List Judged → Type 0) (piece_of : S 
         more = [];
         taken =
             open_taken represents piece_of o piece e text printed h f (take used rest) lines symbols printer
-            (still_open e.lines f.lines rest used whole w h.opened to is limits.0) took unrefused
+            (still_open e.lines f.lines rest used whole w h.opened to is limits.0) took no_fault
             (λ some. let k = limits.1 in let m = h.opened.limit in let n = ap (λ (l : LinesState). l.before) is in omega (arith, k, m, n))
             (let k = h.count in let n = ap (λ (l : LinesState). l.before) is in omega (arith, k, n));
         sent =
@@ -111,7 +111,7 @@ module _ {S : Type 0} (represents : S → List Judged → Type 0) (piece_of : S 
       l ≡ line_at (suc mid.before) mid.held →
       PrintsLine represents piece_of f.printer o piece h.items h.tree l true a b e.buffered f.buffered pending →
       Advances represents piece_of f o piece text printed (take used rest) a b (g ++ pending) f.buffered
-  line_step f mid used whole l w to symbols is cleared took unrefused few line prints =
+  line_step f mid used whole l w to symbols is cleared took no_fault few line prints =
       let parts = split_lines-front_of text e.lines.held rest used whole (rest_is represents piece_of o piece e text printed h) to in
       let lines : whole_lines (text ++ take used rest) ≡ whole_lines text ++ (e.lines.held ++ take used rest) ∷ [] =
       ap (λ (q : SplitLines). q.whole) (parts ∙ ap (parts_behind text e.lines.held (take used rest)) w) in
@@ -121,7 +121,7 @@ module _ {S : Type 0} (represents : S → List Judged → Type 0) (piece_of : S 
         more = prints.more;
         taken =
             line_taken represents piece_of o piece e text printed h f (take used rest) (e.lines.held ++ take used rest) l prints.tree prints.more lines (line ∙ at) symbols
-            (open_again e.lines mid f.lines rest used whole h.opened is cleared) took (ap (λ (k : LinesState). k.fault) cleared ∙ unrefused)
+            (open_again e.lines mid f.lines rest used whole h.opened is cleared) took (ap (λ (k : LinesState). k.fault) cleared ∙ no_fault)
             (ap (λ (k : LinesState). k.held) cleared)
             (let m = h.opened.limit in let n = ap (λ (k : LinesState). k.before) is in let q = ap (λ (k : LinesState). k.before) cleared in omega (arith, few, m, n, q))
             prints.has prints.is_more;
@@ -217,7 +217,7 @@ module _ {S : Type 0} (represents : S → List Judged → Type 0) (piece_of : S 
   lent_taken put p =
       subst (λ x. EngineRepresentsBuffered represents piece_of f o piece (text ++ x) (printed ++ p.more)) own_bytes
       (line_taken represents piece_of o piece e text printed h f (text_of l) (text_of l) l p.tree p.more own_line own_number symbols own_open took
-      (ap (λ (k : LinesState). k.fault) counted ∙ h.unrefused) (ap (λ (k : LinesState). k.held) counted ∙ lends.unheld)
+      (ap (λ (k : LinesState). k.fault) counted ∙ h.no_fault) (ap (λ (k : LinesState). k.held) counted ∙ lends.unheld)
       (let m = h.opened.limit in let n = ap (λ (k : LinesState). k.before) counted in let q = lends.numbered in omega (arith, m, n, q)) p.has p.is_more)
 
   -- The output for a line is appended after the pending bytes, and nothing is pending after it.

@@ -25,7 +25,7 @@ use Rattle.ud_engine.specs.declared.line_decider.LineDecider.{LineDecider}
 pub record DeciderRepresents (o : Options) (r : LineDecider) (xs : List (Item Reading))
     (t : Tree Reading) : Type 0 where
   pub read : MachineRepresents r.machine o xs t
-  pub unrefused : machine_fault r.machine ≡ None
+  pub no_fault : machine_fault r.machine ≡ None
   pub carries : ScannerRepresents r.scanner (map reading_of xs)
 
 -- `DecidesLine o r xs t l step`: after the items `xs`, `r` has also read the line `l`. The step has

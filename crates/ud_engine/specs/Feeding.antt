@@ -61,7 +61,7 @@ pub record EngineRepresentsBuffered {S : Type 0} (represents : S → List Judged
   pub symbols : TableRepresents e.symbols o.table
   pub opened : IsOpen e.lines
   pub took : LinesRepresent e.lines text
-  pub unrefused : e.lines.fault ≡ None
+  pub no_fault : e.lines.fault ≡ None
   pub begun : 0 < length e.lines.held → e.lines.before < TEXT_LINES
   pub count : e.lines.before ≤ TEXT_LINES
 

@@ -124,7 +124,7 @@ impl<'p, S: Show> Engine<'p, S, LongLineBuffer> {
             S.represents show [] → ((before : List Judged) → (j : Judged) →
             S.piece show before j ≡ piece before j) →
             EngineRepresents S.represents S.piece result o piece [] [] }
-        ensures unrefused { result.fault ≡ None }
+        ensures no_fault { result.fault ≡ None }
     {
         Engine::with_buffer(plan, show)
     }
@@ -147,7 +147,7 @@ impl<'p, S: Show, H: LineBuffer> Engine<'p, S, H> {
             S.represents show [] → ((before : List Judged) → (j : Judged) →
             S.piece show before j ≡ piece before j) →
             EngineRepresents S.represents S.piece result o piece [] [] }
-        ensures unrefused { result.fault ≡ None }
+        ensures no_fault { result.fault ≡ None }
     {
         Engine {
             plan,

@@ -22,7 +22,7 @@ pub record IsFirstLine (chunk line : List ℕ) : Type 0 where
 -- limit.
 pub record CanBorrow (lines : LinesState) (chunk : List ℕ) (used : ℕ) : Type 0 where
   pub unheld : lines.held ≡ []
-  pub unrefused : lines.fault ≡ None
+  pub no_fault : lines.fault ≡ None
   pub prefix : UpToNewline chunk used true
   pub fits : used ≤ LINE_BYTES
   pub numbered : lines.before < lines.last_line

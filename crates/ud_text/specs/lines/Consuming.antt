@@ -29,7 +29,7 @@ EachFits texts = AllByRecursion (λ text. length text ≤ LINE_BYTES) texts
 pub record CanConsume (lines : LinesState) (bytes : List ℕ) : Type 0 where
   pub unheld : lines.held ≡ []
   pub part : lines.whole ≡ false
-  pub unrefused : lines.fault ≡ None
+  pub no_fault : lines.fault ≡ None
   pub ends : AreWholeLines bytes
   pub fits : EachFits (whole_lines bytes)
   pub numbered : lines.before + length (whole_lines bytes) ≤ lines.last_line

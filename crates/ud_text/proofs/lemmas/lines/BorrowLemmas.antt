@@ -75,10 +75,10 @@ borrowed_no_newline chunk body ending line n f e =
 -- the line can be borrowed
 pub can_borrow : (lines : LinesState) (chunk body ending line : List ℕ) (n : ℕ) → lines.held ≡ [] → lines.fault ≡ None → lines.before < lines.last_line →
     IsFirstLine chunk line → IsLineOf body ending n (line_at n line) → CanBorrow lines chunk (length (body ++ ending))
-can_borrow lines chunk body ending line n unheld unrefused numbered f e =
+can_borrow lines chunk body ending line n unheld no_fault numbered f e =
     subst (λ (l : List ℕ). CanBorrow lines chunk (length l)) (sym (joined_is body ending line n e)) (record {
       unheld = unheld;
-      unrefused = unrefused;
+      no_fault = no_fault;
       prefix = f.prefix;
       fits = f.fits;
       numbered = numbered;

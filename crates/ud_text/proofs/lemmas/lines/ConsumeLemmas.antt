@@ -124,7 +124,7 @@ can_consume_front lines prefix rest ends can =
     record {
       unheld = can.unheld;
       part = can.part;
-      unrefused = can.unrefused;
+      no_fault = can.no_fault;
       ends = ends;
       fits = fits_front (whole_lines prefix) (whole_lines rest) (subst EachFits all can.fits);
       numbered = omega (arith, can.numbered, ap length all, length-append (whole_lines prefix) (whole_lines rest));
@@ -138,7 +138,7 @@ can_consume_rest lines prefix rest ends can =
     record {
       unheld = can.unheld;
       part = can.part;
-      unrefused = can.unrefused;
+      no_fault = can.no_fault;
       ends = sym (ends_joined prefix rest ends) ∙ can.ends;
       fits = fits_rest (whole_lines prefix) (whole_lines rest) (subst EachFits all can.fits);
       numbered = omega (arith, can.numbered, ap length all, length-append (whole_lines prefix) (whole_lines rest));

@@ -14,7 +14,7 @@ pub returns-in-Err-clause-stops : goal.returns-in-Err-clause-stops
 returns-in-Err-clause-stops g c = λ o pieces text printed old.
     let h = subst (λ (e : EngineState g.row.S.Denot). EngineRepresentsBuffered g.S.Show.represents g.S.Show.piece e o pieces text printed) (sym c.self.view_is) old in
     limit_stops g.S.Show.represents g.S.Show.piece o pieces _ text printed h c.args.rest.now c.in-Err.fault
-    (subst (λ (r : Option TextFault). IfNone r (BreaksLimit c.self.inside.lines c.args.rest.now c.in-Err.fault)) h.unrefused c.in-Err.ensures.breaks_limit)
+    (subst (λ (r : Option TextFault). IfNone r (BreaksLimit c.self.inside.lines c.args.rest.now c.in-Err.fault)) h.no_fault c.in-Err.ensures.breaks_limit)
 
 pub invariant_of-self-then-not-taken : goal.invariant_of-self-then-not-taken
 invariant_of-self-then-not-taken g c =

@@ -16,7 +16,7 @@ returns-clause-represents g c = λ o chunk settings symbols represents stays. re
     symbols = symbols;
     opened = open_new c.with_buffer.result c.with_buffer.ensures.value;
     took = c.with_buffer.ensures.represents;
-    unrefused = ap (λ (l : LinesState). l.fault) c.with_buffer.ensures.value;
+    no_fault = ap (λ (l : LinesState). l.fault) c.with_buffer.ensures.value;
     begun = none_begun c.with_buffer.result c.with_buffer.ensures.value;
     count = none_count c.with_buffer.result c.with_buffer.ensures.value;
   };

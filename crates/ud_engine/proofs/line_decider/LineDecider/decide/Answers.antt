@@ -19,4 +19,4 @@ returns-clause-err c = λ o xs t represents h.
     let mode = c.mode-mode.ensures o xs t h.read in
     let before = map reading_of xs in
     let scanned = c.read.ensures.value before h.carries ∙ ap (λ m. scan_after before m (as_line c.args.line.now)) mode in
-    c.step.ensures.finds_fault o xs t h.read (record { scanned = scanned; represents = represents }) h.unrefused
+    c.step.ensures.finds_fault o xs t h.read (record { scanned = scanned; represents = represents }) h.no_fault

@@ -22,4 +22,4 @@ returns-clause-err c = λ o xs t represents h.
     let before = map reading_of xs in
     let carried : ScannerRepresents c.to_scanner-scanner.result before = subst (λ k. ScannerRepresents k before) (sym c.to_scanner-scanner.ensures) h.carries in
     let scanned = c.read.ensures.value before carried ∙ ap (λ m. scan_after before m (as_line c.args.line.now)) mode in
-    c.step-answer.ensures.finds_fault o xs t h.read (record { scanned = scanned; represents = represents }) h.unrefused
+    c.step-answer.ensures.finds_fault o xs t h.read (record { scanned = scanned; represents = represents }) h.no_fault

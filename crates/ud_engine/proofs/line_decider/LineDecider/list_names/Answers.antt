@@ -13,7 +13,7 @@ returns-in-Err-clause-err g c = λ o xs t represents h.
     let mode = c.mode-mode.ensures o xs t h.read in
     let before = map reading_of xs in
     let scanned = c.read.ensures.value before h.carries ∙ ap (λ m. scan_after before m (as_line c.args.line.now)) mode in
-    c.in-Err.ensures.finds_fault o xs t h.read (record { scanned = scanned; represents = represents }) h.unrefused
+    c.in-Err.ensures.finds_fault o xs t h.read (record { scanned = scanned; represents = represents }) h.no_fault
 
 pub returns-then-not-append-clause-err : goal.returns-then-not-append-clause-err
 returns-then-not-append-clause-err g c = λ o xs t represents h.

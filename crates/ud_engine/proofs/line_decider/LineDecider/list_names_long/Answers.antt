@@ -15,7 +15,7 @@ returns-in-Err-clause-err g c = λ o xs t represents h.
     let before = map reading_of xs in
     let carried : ScannerRepresents c.to_scanner-long.result before = subst (λ k. ScannerRepresents k before) (sym c.to_scanner-long.ensures) h.carries in
     let scanned = c.read.ensures.value before carried ∙ ap (λ m. scan_after before m (as_line c.args.line.now)) mode in
-    c.in-Err.ensures.finds_fault o xs t h.read (record { scanned = scanned; represents = represents }) h.unrefused
+    c.in-Err.ensures.finds_fault o xs t h.read (record { scanned = scanned; represents = represents }) h.no_fault
 
 pub returns-then-not-append-clause-err : goal.returns-then-not-append-clause-err
 returns-then-not-append-clause-err g c = λ o xs t represents h.

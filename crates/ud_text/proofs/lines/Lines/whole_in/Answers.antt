@@ -34,10 +34,10 @@ returns-clause-one_line g c =
 pub returns-clause-borrowed : goal.returns-clause-borrowed
 returns-clause-borrowed g c =
     let unheld : g.H.LineBuffer.items c.self.inside.buffer ≡ [] = sym c.as_slice.ensures.value ∙ none_held c.as_slice.result.now c.is_empty.result c.is_empty.ensures (search rules) in
-    let unrefused : c.self.inside.fault ≡ None = search rules in
+    let no_fault : c.self.inside.fault ≡ None = search rules in
     subst (λ (l : LinesState). CanBorrow l c.args.chunk.now (length (c.split_ending.result.0.now ++ c.split_ending.result.1.now))) c.self.view_is
     (can_borrow (the_view g.row.H g.H.LineBuffer c.self.inside) c.args.chunk.now c.split_ending.result.0.now c.split_ending.result.1.now c.in_ok-line.line.now 1
-    unheld unrefused c.if-self.false c.in_ok-line.ensures.some (c.split_ending.ensures.value 1))
+    unheld no_fault c.if-self.false c.in_ok-line.ensures.some (c.split_ending.ensures.value 1))
 
 pub returns-clause-represents : goal.returns-clause-represents
 returns-clause-represents g c = λ text took.
