@@ -206,7 +206,7 @@ impl Machine {
             last ≡ last_number (xs ++ map text_line (r ∷ rs)) →
             StepsText self.new o xs t (r ∷ rs) result }
         ensures verdict { result ≡ text_verdict self.old }
-        ensures records_fault { machine_fault self.new ≡ machine_fault self.old }
+        ensures fault_unchanged { machine_fault self.new ≡ machine_fault self.old }
     {
         self.note_text(last)
     }

@@ -29,6 +29,6 @@ returns-clause-read g c = λ o xs t h.
     let cut = length-take c.skip_text-count.result c.args.bytes.now in
     reads_all o c.args.self.now _ xs t h c.args.lines.now.before (text_verdict c.args.self.now.machine) c.mode-mode.result (c.mode-mode.ensures o xs t h.read)
     bytes can.fits (omega (arith, numbered, limit)) c.skip_text-count.ensures.skips c.consume-last.result
-    (c.consume-last.ensures.number ∙ ap (λ (k : LinesState). k.before) c.consume-last.ensures.value) c.step_text.ensures.records_fault
+    (c.consume-last.ensures.number ∙ ap (λ (k : LinesState). k.before) c.consume-last.ensures.value) c.step_text.ensures.fault_unchanged
     (λ r rs a last. subst (StepsText c.step_text.new.self o xs t (r ∷ rs)) c.step_text.ensures.verdict (c.step_text.ensures.value o xs t h.read r rs a last))
     (some_line bytes c.skip_text-count.ensures.ends (omega (arith, some, bound, cut)))
