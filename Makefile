@@ -1,23 +1,36 @@
 # make            proves the crates, builds the program and copies it to ./unifdef
-# make check      the merge gate: every proof from nothing, the edits that must be refused, the tests, the stored run
-# make edits      tries the second edits, which the gate leaves out; CRATES='NAME ..' those of some crates
+# make check      runs the merge gate: every proof from nothing, the edits that the prover must
+#                 refuse, the tests, and the stored runs
+# make edits      tries the second edits, which the gate leaves out; CRATES='NAME ..' those of some
+#                 crates
 # make examples   runs the examples of README.md and docs/EXAMPLES.md with ./unifdef
-# make differences  runs what the manual says of the released unifdef, with both programs
-# make faults     runs ./unifdef with failing streams, refused memory and a small stack (tests/faults/README.md)
-# make fail-alloc lets each allocation of the program fail in turn, by the kit's fault injection
-# make tree-test  tries tools/unifdef-tree on trees with every trap, and interrupts it
-# make install    installs ./unifdef, unifdef-tree, manuals and completions under DESTDIR and PREFIX; make uninstall takes them away
+# make manual-examples  runs the examples of the manual, but for those under DIFFERENCES
+# make differences  runs the examples under DIFFERENCES in the manual, with both programs
+# make faults     runs ./unifdef with failing streams, refused memory and a small stack
+#                 (tests/faults/README.md)
+# make fail-alloc  makes each allocation of the program fail in turn, by the kit's fault injection
+# make tree-test  runs tools/unifdef-tree over trees with every trap, and interrupts it
+# make install    installs ./unifdef, unifdef-tree, manuals and completions under DESTDIR and
+#                 PREFIX; make uninstall removes them
 # make dist       makes unifdef-VERSION.tar.gz of the last commit, which builds by itself
 # make deb        makes a Debian package of ./unifdef
-# make packages-test  installs and takes away in folders of its own, makes both packages, and tries the completions
-# make manuals    checks that the version is the same everywhere, and the manuals by mandoc and the scripts by shellcheck
-# make around     all that is quick of what stands around the program: manuals, examples, differences, faults and the tests
-# make bench      measures ./unifdef beside the released program, and how fast conditions are decided (bench/README.md)
-# make pictures   draws docs/line.svg by graphviz, and bench/speed.svg from the numbers in bench/README.md
+# make packages-test  installs and uninstalls in folders of its own, makes both packages, and tries
+#                 the completions
+# make manuals    checks the version, the manuals by mandoc, the scripts by shellcheck, and the
+#                 language of comments and pages by tools/style.py
+# make around     tries everything around the program that is quick: manuals, examples, differences,
+#                 faults, unifdef-tree and packages
+# make bench      measures ./unifdef beside the released program, and the speed of conditions
+#                 (bench/README.md)
+# make pictures   draws docs/line.svg by graphviz, and bench/speed.svg from the numbers in
+#                 bench/README.md
 # make trees      runs ./unifdef over real trees beside the released program (bench/README.md)
-# make selects    compares what a C compiler selects of real files before and after ./unifdef (bench/README.md)
-# make hostile    holds ./unifdef's library against its reference on N hostile texts from SEED on, in JOBS processes
-# make fronts     holds ./unifdef against its reference on fronts of N real files from SEED on (bench/README.md)
+# make selects    compares what a C compiler selects of real files before and after ./unifdef
+#                 (bench/README.md)
+# make hostile    compares the library with its reference on N hostile texts from SEED on, in JOBS
+#                 processes
+# make fronts     compares ./unifdef with its reference on parts of N real files from SEED on
+#                 (bench/README.md)
 # make clean      removes what was built
 
 PREFIX ?= /usr/local
@@ -30,7 +43,7 @@ ZSHDIR ?= $(DATADIR)/zsh/site-functions
 FISHDIR ?= $(DATADIR)/fish/vendor_completions.d
 INSTALL ?= install
 
-# Rattle's command: the one on PATH, or `make RT=PLACE`.
+# Rattle's command: the one on PATH, or `make RT=FILE`.
 RT ?= rt
 
 CRATE := crates/unifdef_cli
@@ -38,18 +51,19 @@ SOURCES := crates.txt HANDLES \
 	$(shell find crates -name out -prune -o \( -name '*.rt' -o -name '*.antt' \) -print)
 
 .DELETE_ON_ERROR:
-.PHONY: all build kit check edits examples differences faults fail-alloc tree-test install uninstall dist deb packages-test manuals
-.PHONY: around bench bench-text bench-conditions pictures trees selects hostile fronts clean
+.PHONY: all build kit check edits examples manual-examples differences faults fail-alloc tree-test
+.PHONY: install uninstall dist deb packages-test manuals around bench bench-text
+.PHONY: bench-conditions pictures trees selects hostile fronts clean
 
 all: build
 
-# A clear message if the command isn't there.
+# Reports clearly that the command isn't there.
 kit:
-	@command -v $(RT) > /dev/null || { echo "make: Rattle's command $(RT) is not there: put it on PATH, or say make RT=PLACE" >&2; exit 1; }
+	@command -v $(RT) > /dev/null || { echo "make: Rattle's command $(RT) is not there: put it on PATH, or run make RT=FILE" >&2; exit 1; }
 
 build: unifdef
 
-# `rt run` proves and builds before it runs. An empty input is printed as it is, with status 0.
+# `rt run` proves and builds before it runs. An empty input is copied, with status 0.
 unifdef: $(SOURCES) | kit
 	cd $(CRATE) && $(RT) run < /dev/null
 	cp $(CRATE)/out/unifdef_cli $@
@@ -64,6 +78,9 @@ examples: unifdef
 	@tests/examples.sh README.md
 	@tests/examples.sh docs/EXAMPLES.md
 	@tests/quotes.sh docs/LIBRARY.md crates/example_library/src/*.rt
+
+manual-examples: unifdef
+	@tests/manual.sh
 
 differences: unifdef
 	@tests/differences.sh
@@ -110,7 +127,7 @@ packages-test: unifdef
 manuals:
 	@tools/lint.sh
 
-around: manuals examples differences faults tree-test packages-test
+around: manuals examples manual-examples differences faults tree-test packages-test
 
 bench: bench-text bench-conditions
 

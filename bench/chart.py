@@ -1,6 +1,7 @@
 """Draws the speeds of the bench as an SVG.
 
-chart.py FILE: of the first table in it whose columns are called NAME MB/s, as compare.py prints it and README.md has it.
+chart.py FILE: draws the first table of the file whose columns are called NAME MB/s, as compare.py
+prints it and README.md has it.
 """
 
 import sys
@@ -13,24 +14,24 @@ WIDTH, GREATEST = 800, 10_000
 
 
 def table(lines):
-    """The names of the programs, and for each row its name with the speeds."""
+    """Returns the names of the programs, and each row's name with its speeds."""
     names, rows = [], []
     for line in lines:
         cells = [cell.strip() for cell in line.strip().strip("|").split("|")]
         if not names and any(cell.endswith(" MB/s") for cell in cells):
-            places = [place for place, cell in enumerate(cells) if cell.endswith(" MB/s")]
-            names = [cells[place].removesuffix(" MB/s") for place in places]
+            columns = [column for column, cell in enumerate(cells) if cell.endswith(" MB/s")]
+            names = [cells[column].removesuffix(" MB/s") for column in columns]
         elif names and not line.startswith("|"):
             break
         elif names and not cells[0].startswith("---"):
-            rows.append((cells[0].replace("`", ""), [float(cells[place].replace(",", "")) for place in places]))
+            rows.append((cells[0].replace("`", ""), [float(cells[column].replace(",", "")) for column in columns]))
     if not rows:
         sys.exit("chart: no table of speeds")
     return names, rows
 
 
 def across(speed):
-    """How far to the right a speed lies. The scale is logarithmic, from 1 on."""
+    """Returns the x of a speed. The scale is logarithmic, from 1 on."""
     return LEFT + (WIDTH - LEFT - RIGHT) * log10(max(speed, 1)) / log10(GREATEST)
 
 
@@ -45,9 +46,9 @@ def drawing(names, rows):
     yield "<title>Millions of bytes a second by processor time, on a logarithmic scale</title>"
     yield f'<rect width="{WIDTH}" height="{height}" fill="#fff"/>'
     yield text(8, 18, "Millions of bytes a second by processor time; each line to the right is ten times the speed")
-    for place, name in enumerate(names):
-        yield f'<rect x="{LEFT + 110 * place}" y="28" width="10" height="10" fill="{COLOURS[place % len(COLOURS)]}"/>'
-        yield text(LEFT + 110 * place + 15, 37, name)
+    for index, name in enumerate(names):
+        yield f'<rect x="{LEFT + 110 * index}" y="28" width="10" height="10" fill="{COLOURS[index % len(COLOURS)]}"/>'
+        yield text(LEFT + 110 * index + 15, 37, name)
     for power in range(int(log10(GREATEST)) + 1):
         x = across(10**power)
         yield f'<line x1="{x:.1f}" y1="{TOP - 4}" x2="{x:.1f}" y2="{height - 8}" stroke="#ddd"/>'
@@ -55,9 +56,9 @@ def drawing(names, rows):
     y = TOP
     for name, speeds in rows:
         yield text(LEFT - 8, y + len(speeds) * BAR / 2 + 4, name, "end")
-        for place, speed in enumerate(speeds):
+        for index, speed in enumerate(speeds):
             width = max(across(speed) - LEFT, 1)
-            yield f'<rect x="{LEFT}" y="{y}" width="{width:.1f}" height="{BAR - 1}" fill="{COLOURS[place % len(COLOURS)]}"/>'
+            yield f'<rect x="{LEFT}" y="{y}" width="{width:.1f}" height="{BAR - 1}" fill="{COLOURS[index % len(COLOURS)]}"/>'
             yield text(LEFT + width + 4, y + BAR - 2, f"{speed:,.0f}")
             y += BAR
         y += GAP

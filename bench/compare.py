@@ -1,7 +1,9 @@
-"""Measures unifdef programs and `cat` in turns, and prints tables: see README.md in this folder.
+"""Measures unifdef programs and `cat` in turns, and prints tables.
 
-compare.py WORK NAME=PROGRAM..: texts and outputs lie in WORK. The others are held against the first program; the status is 1
-if its memory isn't below MOST_KIB.
+README.md in this folder describes it.
+
+compare.py WORK NAME=PROGRAM..: keeps texts and outputs in the folder WORK, and compares the others
+with the first program. The status is 1 if its memory isn't below MOST_KIB.
 """
 
 import hashlib
@@ -70,7 +72,7 @@ def commands(programs, words, other):
 
 
 def measured(name, outcome):
-    """What was measured, if the run ended without a fault."""
+    """Returns what was measured, if the run ended without a fault."""
     status, value = outcome
     if status not in (0, 1):
         sys.exit(f"bench: {name}: status {status}")
@@ -78,7 +80,7 @@ def measured(name, outcome):
 
 
 def best(case, programs, output):
-    """The least processor time of each program and of `cat`, and what the programs' outputs hash to, if they are kept."""
+    """Returns the least processor time of each program and `cat`, and the hashes of the outputs."""
     times, outputs = {}, set()
     for _ in range(RUNS):
         for name, command in commands(programs, case.words, "cat").items():
@@ -103,14 +105,17 @@ def speeds(measures, programs, title, output):
 
 
 def counted(command, text):
-    """How many instructions a run takes."""
+    """Returns the number of instructions of a run."""
     valgrind = ["valgrind", "--tool=callgrind", "--callgrind-out-file=/dev/null"]
     run = subprocess.run([*valgrind, *command], input=text, capture_output=True)
     return int(re.search(rb"Collected : (\d+)", run.stderr).group(1))
 
 
 def instructions(measures, programs):
-    """Instructions a byte of the text's first lines, without those of a run with the same options on an empty text."""
+    """Prints instructions a byte of the text's first lines.
+
+    Those of a run with the same options on an empty text are subtracted.
+    """
 
     def of_byte(job):
         case, program = job
@@ -128,7 +133,7 @@ def instructions(measures, programs):
 
 
 def starts(programs, work):
-    """Processor time of starting and running a small file, beside `true`: the median over files."""
+    """Prints the median processor time of starting and running a small file, beside `true`."""
     paths = [work / f"{n}.h" for n in range(FILES)]
     for n, path in enumerate(paths):
         path.write_text(texts.SMALL.format(n))
@@ -144,7 +149,7 @@ def starts(programs, work):
 
 
 def memory(measures, programs, work):
-    """The most that the first program held in KiB."""
+    """Prints the peak memory of each program in KiB, and returns the most of the first one."""
     (work / "empty").write_bytes(b"\n" * EMPTY_LINES)
     measures = [*measures, Case(f"{EMPTY_LINES:,} empty lines, 50 symbols", work / "empty", texts.c_words(50))]
     heading("Peak memory in KiB", "text and options", *programs, "cat")
@@ -165,7 +170,7 @@ def main():
     starts(programs, work)
     most = memory(measures, programs, work)
     if most >= MOST_KIB:
-        sys.exit(f"bench: {most} KiB were held; it should be less than {MOST_KIB}")
+        sys.exit(f"bench: the peak is {most} KiB; it should be less than {MOST_KIB}")
 
 
 main()

@@ -1,7 +1,10 @@
 #!/usr/bin/env bash
-# Measures how fast conditions are decided, beside a search of the same bytes: see README.md in this folder.
-# BENCH_LINES: how many lines; BENCH_PASSES: how often they are gone over; BENCH_RUNS: how often each program runs;
-# BENCH_HEADERS: where headers are; BENCH_SYMBOLS: how many symbols are defined, one row for each number.
+# Measures the speed of conditions, beside a search of the same bytes. README.md in this folder
+# describes it.
+#
+# BENCH_LINES: the number of lines. BENCH_PASSES: the number of passes over them. BENCH_RUNS: the
+# number of runs of each program. BENCH_HEADERS: the folder of the headers. BENCH_SYMBOLS: numbers
+# of defined symbols, with a row for each.
 set -eu -o pipefail
 export LC_ALL=C
 here=$(cd "$(dirname "$0")" && pwd)
@@ -17,22 +20,23 @@ symbol_counts=${BENCH_SYMBOLS:-50 1000}
 work=$(mktemp -d)
 trap 'rm -rf "$work"' EXIT
 
-# The texts after `#if` and `#elif`, without comments; lines that go on are left out. Of all of them so many are
-# taken, in equal steps.
+# The texts after `#if` and `#elif`, without comments. Continued lines are left out. Of all of them,
+# the wanted number is taken, in equal steps.
 find "$headers" -name '*.h' -type f -print0 | sort -z | xargs -0 -r cat |
   sed -n -E '/\\$/d; s/^[ \t]*#[ \t]*(if|elif)([ \t(!].*)$/\2/p' |
   sed -E 's@/\*([^*]|\*[^/])*\*/@ @g; s@/[*/].*$@@' > "$work/all"
 total=$(wc -l < "$work/all")
-[ "$total" -ge "$lines" ] || { echo "bench: $headers has $total lines alone" >&2; exit 1; }
+[ "$total" -ge "$lines" ] || { echo "bench: $headers has only $total such lines" >&2; exit 1; }
 awk -v lines="$lines" -v total="$total" 'int(NR * lines / total) > int((NR - 1) * lines / total)' "$work/all" > "$work/texts"
 
-# The names that stand there most often, and names that stand nowhere after them, should there be too few.
+# names_of NUMBER: prints the most frequent names, and then names that occur nowhere, if there are
+# too few.
 names_of() {
   { grep -o -E '[A-Za-z_][A-Za-z0-9_]*' "$work/texts" | grep -v -x defined | sort | uniq -c | sort -k1,1nr -k2 |
-    awk '{ print $2 }'; seq -f 'STANDS_NOWHERE_%.0f' "$1"; } | awk -v symbols="$1" 'NR <= symbols'
+    awk '{ print $2 }'; seq -f 'OCCURS_NOWHERE_%.0f' "$1"; } | awk -v symbols="$1" 'NR <= symbols'
 }
 
-# The time of the passes alone: that of all runs without that of one pass.
+# seconds MODE: prints the time of the passes alone: that of all passes without that of one.
 seconds() {
   local one many
   one=$(python3 "$here/measure.py" "$runs" "$work/texts" "$program" "$1" 1 "${names[@]}")

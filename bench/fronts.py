@@ -1,8 +1,10 @@
-"""Holds a program against a reference on fronts of the files of a tree, under random words.
+"""Compares a program with a reference on parts of the files of a tree, under random arguments.
 
-fronts.py PROGRAM REFERENCE TREE CASES SEED: goes through CASES cases from SEED on. Each takes a file of the tree, cuts a part out of
-it at random places, makes words of the names in its conditions, and gives both to PROGRAM and to REFERENCE. They must write and say
-the same, with the same status; PROGRAM must end in time, by itself, with status 0, 1 or 2. It runs with a stack of 1 MiB.
+fronts.py PROGRAM REFERENCE TREE CASES SEED: tries CASES cases from SEED on. Each takes a file of
+the tree and cuts a part out of it at random positions. It makes arguments from the names in the
+part's conditions, and runs PROGRAM and REFERENCE. Their output, message and status must be the
+same. PROGRAM must end in time, by itself, with status 0, 1 or 2. It runs with a stack of 1 MiB.
+
 The first mismatch is printed, and its input is kept in the file `mismatch.c`.
 """
 
@@ -23,7 +25,7 @@ NAME = re.compile(rb"[A-Za-z_][A-Za-z_0-9]*")
 
 
 def files_of(tree):
-    """The files of a tree, each once, in order."""
+    """Yields the files of a tree, each once, in order."""
     for folder, folders, names in os.walk(tree):
         folders.sort()
         for name in sorted(names):
@@ -33,7 +35,7 @@ def files_of(tree):
 
 
 def part_of(dice, text):
-    """The text, a front of it, or a part from its middle."""
+    """Returns the text, a prefix of it, or a part from its middle."""
     kind = dice.randrange(8)
     if kind == 0 or not text:
         return text
@@ -42,44 +44,44 @@ def part_of(dice, text):
     return text[begin:end]
 
 
-def words_for(dice, text):
-    """Some flags, and options for some names of the text's conditions."""
+def arguments_for(dice, text):
+    """Returns some flags, and options for some names of the text's conditions."""
     names = sorted({name for line in CONDITION.findall(text) for name in NAME.findall(line)} - {b"defined"})
-    words = dice.sample(FLAGS, dice.choice([0, 0, 0, 1, 1, 2]))
+    arguments = dice.sample(FLAGS, dice.choice([0, 0, 0, 1, 1, 2]))
     for name in dice.sample(names, min(len(names), dice.choice([0, 1, 2, 4, 8]))):
         ignoring = "i" if dice.randrange(8) == 0 else ""
         if dice.randrange(2):
-            words.append(f"-{ignoring}U{name.decode()}")
+            arguments.append(f"-{ignoring}U{name.decode()}")
         else:
-            words.append(f"-{ignoring}D{name.decode()}{dice.choice(VALUES)}")
-    dice.shuffle(words)
-    return words
+            arguments.append(f"-{ignoring}D{name.decode()}{dice.choice(VALUES)}")
+    dice.shuffle(arguments)
+    return arguments
 
 
 def small_stack():
     resource.setrlimit(resource.RLIMIT_STACK, (STACK, resource.getrlimit(resource.RLIMIT_STACK)[1]))
 
 
-def outcome(program, words, text, prepare):
-    """What a program writes, what it says, and its status; the status is None if it doesn't end in time."""
+def outcome(program, arguments, text, prepare):
+    """Returns a program's output, message and status, which is None if it doesn't end in time."""
     try:
-        run = subprocess.run([program, *words], input=text, capture_output=True, timeout=SECONDS, preexec_fn=prepare)
+        run = subprocess.run([program, *arguments], input=text, capture_output=True, timeout=SECONDS, preexec_fn=prepare)
     except subprocess.TimeoutExpired:
         return b"", b"", None
     return run.stdout, run.stderr, run.returncode
 
 
 def check(program, reference, path, seed):
-    """The words and the text of a case that is answered otherwise, and both answers; None if they are the same."""
+    """Returns None if the answers to a case agree, else its arguments, text and both answers."""
     dice = random.Random(seed)
     with open(path, "rb") as file:
         text = part_of(dice, file.read())
-    words = words_for(dice, text)
-    ours = outcome(program, words, text, small_stack)
-    theirs = outcome(reference, words, text, None)
+    arguments = arguments_for(dice, text)
+    ours = outcome(program, arguments, text, small_stack)
+    theirs = outcome(reference, arguments, text, None)
     if ours == theirs and ours[2] in (0, 1, 2):
         return None
-    return words, text, ours, theirs
+    return arguments, text, ours, theirs
 
 
 def main():
@@ -92,10 +94,10 @@ def main():
         for (path, at), wrong in zip(todo, pool.map(lambda case: check(program, reference, *case), todo)):
             if wrong is None:
                 continue
-            words, text, ours, theirs = wrong
+            arguments, text, ours, theirs = wrong
             with open("mismatch.c", "wb") as file:
                 file.write(text)
-            print(f"fronts: mismatch at case {at}, of {path}: words {words}, input in mismatch.c")
+            print(f"fronts: mismatch at case {at}, of {path}: arguments {arguments}, input in mismatch.c")
             print(f"fronts: the program: status {ours[2]}, {len(ours[0])} bytes, {ours[1]!r}")
             print(f"fronts: the reference: status {theirs[2]}, {len(theirs[0])} bytes, {theirs[1]!r}")
             pool.shutdown(cancel_futures=True)

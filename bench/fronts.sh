@@ -1,6 +1,8 @@
 #!/usr/bin/env bash
-# Holds ./unifdef against its reference on fronts of real files, under random words: see README.md in this folder.
-# FRONTS_TREE: the folder of the files; N: how many cases; SEED: the first one.
+# Compares ./unifdef with its reference on parts of real files, under random arguments. README.md in
+# this folder describes it.
+#
+# FRONTS_TREE: the folder of the files. N: the number of cases. SEED: the first case.
 set -eu -o pipefail
 export LC_ALL=C
 here=$(cd "$(dirname "$0")" && pwd)

@@ -1,6 +1,7 @@
 #!/usr/bin/env bash
-# Holds the tool against the reference on hostile texts: see README.md in this folder.
-# N: how many cases; SEED: the first seed; JOBS: how many processes.
+# Compares the tool with the reference on hostile texts. README.md in this folder describes it.
+#
+# N: the number of cases. SEED: the first seed. JOBS: the number of processes.
 set -eu -o pipefail
 export LC_ALL=C
 here=$(cd "$(dirname "$0")" && pwd)
@@ -11,7 +12,7 @@ jobs=${JOBS:-$(nproc)}
 
 [ -x "$program" ] || { echo "hostile: $program is not there: run make hostile" >&2; exit 1; }
 
-# Each process takes blocks of cases in turn, so that none waits long for the others.
+# Each process takes ranges of cases in turn, so that none waits long for the others.
 block=$(( (cases + jobs * 8 - 1) / (jobs * 8) ))
 [ "$block" -gt 0 ] || block=1
 from=$seed

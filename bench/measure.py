@@ -1,4 +1,4 @@
-"""Runs a filter on a file and prints its best processor time in seconds, the user's and the system's together.
+"""Runs a filter on a file, and prints its best processor time in seconds, user and system together.
 
 measure.py RUNS INPUT COMMAND..: the output goes to /dev/null, and each run must end with status 0.
 """
@@ -14,7 +14,7 @@ from pathlib import Path
 
 
 def finished(command, source, output):
-    """The status of one run and its processor time in seconds."""
+    """Returns the status of one run, and its processor time in seconds."""
     actions = [
         (os.POSIX_SPAWN_OPEN, 0, source, os.O_RDONLY, 0),
         (os.POSIX_SPAWN_OPEN, 1, output, os.O_WRONLY | os.O_CREAT, 0o600),
@@ -25,17 +25,19 @@ def finished(command, source, output):
 
 
 def peak(command, source):
-    """The status of one run and the most memory in KiB that it held before it saw the end of the text: it is looked at when
-    it has read everything from a pipe and waits for more."""
+    """Returns the status of one run, and its peak memory in KiB before the end of the text.
+
+    Memory is read when the run has read everything from a pipe and waits for more.
+    """
     child = subprocess.Popen(command, stdin=subprocess.PIPE, stdout=subprocess.DEVNULL, bufsize=0)
     with open(source, "rb") as text:
         shutil.copyfileobj(text, child.stdin)
     waits, most = False, 0
     while not waits:
         unread = any(fcntl.ioctl(child.stdin, termios.FIONREAD, bytes(4)))
-        told = Path(f"/proc/{child.pid}/status").read_text()
-        waits = not unread and "State:\tR" not in told
-        most = int((re.findall(r"VmHWM:\s*(\d+)", told) or [0])[0])
+        state = Path(f"/proc/{child.pid}/status").read_text()
+        waits = not unread and "State:\tR" not in state
+        most = int((re.findall(r"VmHWM:\s*(\d+)", state) or [0])[0])
     child.stdin.close()
     return child.wait(), most
 

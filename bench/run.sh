@@ -1,7 +1,8 @@
 #!/usr/bin/env bash
-# Measures ./unifdef beside the released program and `cat`: see README.md in this folder.
-# BENCH_BYTES: the size of each text; BENCH_RUNS: rounds; BENCH_FILES: small files; BENCH_HEADERS, BENCH_SOURCES: where
-# headers and C sources are.
+# Measures ./unifdef beside the released program and `cat`. README.md in this folder describes it.
+#
+# BENCH_BYTES: the size of each text. BENCH_RUNS: the number of rounds. BENCH_FILES: the number of
+# small files. BENCH_HEADERS, BENCH_SOURCES: the folders of headers and C sources.
 set -eu -o pipefail
 export LC_ALL=C
 here=$(cd "$(dirname "$0")" && pwd)
@@ -10,10 +11,11 @@ program=$(dirname "$here")/unifdef
 work=$(mktemp -d)
 trap 'rm -rf "$work"' EXIT
 
-# Debian's program, installed where it is missing.
+# Installs Debian's program, if it is missing.
 released() { [ -x /usr/bin/unifdef ] || $([ "$(id -u)" -eq 0 ] || echo sudo) apt-get install --yes --no-install-recommends unifdef; }
 
-# The source of a Debian package, fetched by package lists of its own into the temporary folder.
+# source_of PACKAGE: fetches the source of a Debian package into the temporary folder, by package
+# lists of its own.
 source_of() {
   local apt key=/usr/share/keyrings/debian-archive-keyring.gpg release
   release=$(sed -n 's/^VERSION_CODENAME=//p' /etc/os-release)
@@ -24,21 +26,21 @@ source_of() {
     { [ -e "$work/updated" ] || $apt update && touch "$work/updated"; } && $apt source "$1"
 }
 
-# The released program's source, built here.
+# Builds the released program from its source.
 rebuilt() { source_of unifdef && cd unifdef-*/ && "${CC:-cc}" -O2 -o "$work/rebuilt" unifdef.c; }
 
-# Takes a program in, or leaves it out with the last line of what was said.
+# add NAME PROGRAM: adds a program, or leaves it out and prints the last line of its messages.
 programs=("this=$program")
 add() {
-  if ("$1") > "$work/said" 2>&1; then programs+=("$1=$2"); else
-    echo "bench: left out: the $1 unifdef: $(tail -n 1 "$work/said")" >&2
+  if ("$1") > "$work/log" 2>&1; then programs+=("$1=$2"); else
+    echo "bench: left out: the $1 unifdef: $(tail -n 1 "$work/log")" >&2
   fi
 }
 add released /usr/bin/unifdef
 add rebuilt "$work/rebuilt"
 if [ -z "${BENCH_SOURCES:-}" ]; then
-  if (source_of postgresql-15) > "$work/said" 2>&1; then BENCH_SOURCES=$work/source/postgresql-15; else
-    echo "bench: left out: C source: $(tail -n 1 "$work/said")" >&2
+  if (source_of postgresql-15) > "$work/log" 2>&1; then BENCH_SOURCES=$work/source/postgresql-15; else
+    echo "bench: left out: C source: $(tail -n 1 "$work/log")" >&2
   fi
 fi
 export BENCH_SOURCES

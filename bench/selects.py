@@ -3,11 +3,12 @@
 
     bench/selects.py [--cc CC] [--unifdef PROGRAM] [--seed N] [--count N] [PATH...]
 
-Of each file (by default the headers of /usr/include) the conditional directives stay as they are, with their comments and
-continuations; the text of every other line becomes one word of its own. Then some symbols of its conditions are chosen
-at random for options, each other one is left undefined or given a number, and what `cc -E -P` makes of the text is
-compared with what it makes of the text that `unifdef` leaves. A text that the compiler refuses is left out: there some
-`#if` has no value. The status is 1 if any text is selected in another way.
+The conditional directives of each file stay as they are, with their comments and continuations. The
+default files are the headers of /usr/include. The text of every other line becomes one word of its
+own. Then some symbols of the conditions are chosen at random for options. Each other one is left
+undefined or given a number. The output of `cc -E -P` for the text is compared with that for the
+output of `unifdef`. A text that the compiler rejects is left out, since some `#if` there has no
+value. The status is 1 if any text is selected in another way.
 """
 
 import argparse
@@ -19,29 +20,29 @@ import subprocess
 import sys
 
 CONDITIONAL = re.compile(rb"\s*#\s*(if|ifdef|ifndef|elif|elifdef|elifndef|else|endif)(?![A-Za-z0-9_])")
-# Comments, literals, splices and line feeds; what is between them is other text.
-PIECE = re.compile(
+# Comments, literals, splices and newlines. All between them is other text.
+LEXEME = re.compile(
     rb"""/\*.*?\*/|//(?:\\\r?\n|[^\n])*|"(?:\\\r?\n|\\.|[^"\\\n])*"?|'(?:\\\r?\n|\\.|[^'\\\n])*'?|\\\r?\n|\n|[^\n"'/\\]+|.""",
     re.DOTALL,
 )
 NAME = re.compile(rb"[A-Za-z_][A-Za-z0-9_]*")
-# Their values change with the place of a line, or the compiler has them as operators.
+# Their values change with the position of a line, or the compiler has them as operators.
 NOT_CHOSEN = re.compile(rb"defined$|__has_|__is_|__STDC|__LINE__|__FILE__|__COUNTER__|__INCLUDE_LEVEL__|__DATE__|__TIME__")
 
 
-def pieces(text):
-    return [m.group() for m in PIECE.finditer(text)]
+def lexemes(text):
+    return [m.group() for m in LEXEME.finditer(text)]
 
 
-def is_comment(piece):
-    return piece.startswith((b"/*", b"//"))
+def is_comment(lexeme):
+    return lexeme.startswith((b"/*", b"//"))
 
 
 def logical_lines(text):
     line = []
-    for piece in pieces(text):
-        line.append(piece)
-        if piece == b"\n":
+    for lexeme in lexemes(text):
+        line.append(lexeme)
+        if lexeme == b"\n":
             yield line
             line = []
     if line:
@@ -49,7 +50,7 @@ def logical_lines(text):
 
 
 def neutral(text):
-    """The text with a word of its own in place of all but conditionals, comments and splices; and the conditions."""
+    """Returns the text, with a word of its own for each other line's text, and the conditions."""
     out, conditions = [], []
     for number, line in enumerate(logical_lines(text)):
         code = b"".join(b" " if is_comment(p) else b"" if p.startswith(b"\\") and p.endswith(b"\n") else p for p in line)
@@ -64,7 +65,7 @@ def neutral(text):
 
 
 def chosen(conditions, rng):
-    """Options for unifdef, and arguments for the compiler that agree with them."""
+    """Returns options for unifdef, and arguments for the compiler that agree with them."""
     names = sorted({n for c in conditions for n in NAME.findall(CONDITIONAL.sub(b"", c)) if not NOT_CHOSEN.match(n)})
     called = {m for c in conditions for m in re.findall(rb"([A-Za-z_][A-Za-z0-9_]*)\s*\(", c)}
     options = rng.choice([[], [], ["-k"], ["-K"], ["-k", "-K"]])[:]
@@ -101,7 +102,7 @@ def compare(job):
         return "faulty", path, ""
     before = selected(cc, arguments, source)
     if before is None:
-        return "refused by the compiler", path, ""
+        return "rejected by the compiler", path, ""
     if selected(cc, arguments, run.stdout) != before:
         return "selected in another way", path, b" ".join(map(os.fsencode, options)).decode("latin-1")
     return ("changed" if run.returncode else "left as they are"), path, ""

@@ -1,4 +1,4 @@
-"""The texts that compare.py measures on, and the options that belong to them."""
+"""The texts on which compare.py measures, and their options."""
 
 import os
 import random
@@ -19,12 +19,16 @@ extern "C" {{\n#endif\nint small_{0}(int value);\n#ifdef __cplusplus\n}}\n#endif
 
 
 def c_words(symbols):
-    """Options for so many symbols: two that real headers ask for, and others that stand nowhere in them."""
-    return (DECIDED + [f"-DSTANDS_NOWHERE_{n}={n}" for n in range(symbols - len(DECIDED))])[:symbols]
+    """Returns options for this number of symbols: two that real headers test, and others that occur
+    nowhere in them."""
+    return (DECIDED + [f"-DOCCURS_NOWHERE_{n}={n}" for n in range(symbols - len(DECIDED))])[:symbols]
 
 
 def right_body(path, programs):
-    """A file's bytes, if all programs do the same with it, as C and as plain text, and none finds a fault; or none."""
+    """Returns a file's bytes, or nothing if the programs differ on it or find a fault.
+
+    They read it as C and as plain text.
+    """
     for mode in ([], ["-t"]):
         runs = [subprocess.run([program, *mode, *DECIDED, path], capture_output=True) for program in programs]
         if len({(run.returncode, run.stdout) for run in runs}) != 1 or runs[0].returncode not in (0, 1):
@@ -33,7 +37,7 @@ def right_body(path, programs):
 
 
 def files(folder, pattern, limit, programs):
-    """At least so many bytes of whole files, in an order that a fixed seed gives, read as often as needed."""
+    """Returns at least `limit` bytes of whole files in a fixed random order, repeated as needed."""
     paths = sorted(path for path in Path(folder).rglob(pattern) if path.is_file())
     random.Random(1).shuffle(paths)
     text = bytearray()
@@ -47,12 +51,12 @@ def files(folder, pattern, limit, programs):
 
 
 def conditional_words(symbols):
-    """Options for every other name of `conditionals`: three in four are defined."""
+    """Returns options for every other name of `conditionals`: three in four are defined."""
     return [f"-UNAME_{n:04}" if n % 8 == 0 else f"-DNAME_{n:04}={n % 3}" for n in range(0, 2 * symbols, 2)]
 
 
 def conditionals(limit, symbols):
-    """Conditionals alone, 16 bytes a line, over twice as many names as there are options for."""
+    """Returns conditionals alone, 16 bytes a line, over twice as many names as options."""
     rng = random.Random(symbols)
     form = "#ifdef {}\n#if {} > 1 && {}\n#elif !defined({})\n#endif\n#else\n#endif\n"
     name = lambda: f"NAME_{rng.randrange(2 * symbols):04}"

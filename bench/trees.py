@@ -1,9 +1,10 @@
 """Runs two unifdefs over the C files of a tree and compares what they print, byte for byte.
 
-trees.py PROGRAM RELEASED TREE WORD..: each .c and .h file of the tree is given to both as the operand behind the words. What
-is printed: how many files and bytes there are; of each program the seconds, added up over all files, and its faults by name;
-how many files have the same output and status; and the others by class. A class is told by what can be seen of the two
-outcomes; README.md says what is behind it. Files of class `other` are named.
+trees.py PROGRAM RELEASED TREE ARGUMENT..: runs both on each .c and .h file of the tree, the operand
+after the arguments. It prints the numbers of files and bytes. For each program, it prints the
+seconds, added up over all files, and the faults by name. It prints how many files have the same
+output and status, and the others by class. A class depends on the two outcomes alone; README.md has
+the causes. Files of class `other` are named.
 """
 
 import os
@@ -24,17 +25,17 @@ def files_of(tree):
                 yield path
 
 
-def fault_in(said):
-    """The text of a message's first line, without the file and the line."""
-    first = said.decode("utf-8", "replace").split("\n")[0]
+def fault_in(message):
+    """Returns the text of a message's first line, without file and line."""
+    first = message.decode("utf-8", "replace").split("\n")[0]
     text = re.sub(r" \(.*", "", first.split(": ")[-1])
     return text if text else None
 
 
 class Outcome:
-    def __init__(self, program, words, path):
+    def __init__(self, program, arguments, path):
         begin = time.perf_counter()
-        run = subprocess.run([program, *words, path], stdin=subprocess.DEVNULL, capture_output=True)
+        run = subprocess.run([program, *arguments, path], stdin=subprocess.DEVNULL, capture_output=True)
         self.seconds = time.perf_counter() - begin
         self.output, self.status = run.stdout, run.returncode
         self.fault = fault_in(run.stderr) if run.returncode not in (0, 1) else None
@@ -48,7 +49,7 @@ def first_other_line(a, b):
 
 
 def class_of(ours, theirs):
-    """How two outcomes differ."""
+    """Returns the class of two different outcomes."""
     if ours.fault and theirs.fault:
         return f"both: {ours.fault}; {theirs.fault}"
     if ours.fault:
@@ -56,7 +57,7 @@ def class_of(ours, theirs):
     if theirs.fault:
         return f"there alone: {theirs.fault}"
     if theirs.output == ours.output + b"\n":
-        return "there a line feed after the last line"
+        return "there a newline after the last line"
     line = first_other_line(ours.output, theirs.output)
     if re.match(rb"\s*#\s*(el)?if\b.*(\b\d+\W*(&&|\|\|)|(&&|\|\|)[\s(]*\d+)", line):
         return "there a constant operand decides"
@@ -64,12 +65,12 @@ def class_of(ours, theirs):
 
 
 def main():
-    program, released, tree, words = sys.argv[1], sys.argv[2], sys.argv[3], sys.argv[4:]
+    program, released, tree, arguments = sys.argv[1], sys.argv[2], sys.argv[3], sys.argv[4:]
     paths = list(files_of(tree))
     begin = time.perf_counter()
 
     def both(path):
-        ours, theirs = Outcome(program, words, path), Outcome(released, words, path)
+        ours, theirs = Outcome(program, arguments, path), Outcome(released, arguments, path)
         same = (ours.output, ours.status) == (theirs.output, theirs.status)
         kind = None if same else class_of(ours, theirs)
         ours.output = theirs.output = None

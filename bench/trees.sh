@@ -1,6 +1,9 @@
 #!/usr/bin/env bash
-# Runs ./unifdef over the C files of real trees, beside the released unifdef: see README.md in this folder.
-# TREES_WORDS: the options; TREES_INCLUDE: the folder of the headers; TREES_SOURCE: a source tree, in place of Debian's kernel.
+# Runs ./unifdef over the C files of real trees, beside the released unifdef. README.md in this
+# folder describes it.
+#
+# TREES_WORDS: the options. TREES_INCLUDE: the folder of the headers. TREES_SOURCE: a source tree,
+# instead of Debian's kernel.
 set -eu -o pipefail
 export LC_ALL=C
 here=$(cd "$(dirname "$0")" && pwd)
@@ -18,7 +21,7 @@ as_root=""
 [ "$(id -u)" -eq 0 ] || as_root=sudo
 [ -x /usr/bin/unifdef ] || $as_root apt-get install --yes --no-install-recommends unifdef >&2
 
-# The C files of the kernel's source as Debian packs it; the package is fetched and not installed.
+# Fetches the C files of the kernel's source as Debian packs it. The package isn't installed.
 if [ -z "$source" ]; then
   package=$(apt-cache depends linux-source | sed -n 's/^ *Depends: *//p' | head -n 1)
   [ -n "$package" ] || { echo "trees: no package of the kernel's source: run apt-get update" >&2; exit 1; }

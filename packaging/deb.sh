@@ -1,7 +1,7 @@
 #!/bin/sh
 # Makes the Debian package unifdef-proved_VERSION_ARCHITECTURE.deb of ./unifdef, with dpkg's tools.
 #
-# It isn't called unifdef, since Debian's own package is: the two can't be installed beside each other.
+# Debian's own package is called unifdef. The two can't be installed beside each other.
 set -eu
 umask 022
 cd "$(dirname "$0")/.."
@@ -24,7 +24,7 @@ printf '%s (%s) unstable; urgency=medium\n\n  * CHANGELOG.md has what changed.\n
 gzip -9n "$documents/changelog" "$root"/usr/share/man/man1/*.1
 strip "$root/usr/bin/unifdef"
 
-# The C library that the program needs is at least as new as the newest of its symbols.
+# The program needs a C library that is at least as new as the newest of its symbols.
 library=$(objdump -T unifdef | sed -n 's/.*GLIBC_\([0-9.]*\).*/\1/p' | sort -Vu | tail -n 1)
 mkdir "$root/DEBIAN"
 cat > "$root/DEBIAN/control" << END
@@ -43,7 +43,7 @@ Description: remove preprocessor conditionals from C source, proved
  decide, and the lines that they exclude. It is proved that the program gives
  the answer of a definition of unifdef that can be read.
  .
- The package has unifdef-tree, too, which takes the files of a tree through it.
+ The package also has unifdef-tree, which runs unifdef over the files of a tree.
 END
 (cd "$root" && find usr -type f -exec md5sum {} +) > "$root/DEBIAN/md5sums"
 dpkg-deb --root-owner-group --build "$root" "${package}_${version}_$architecture.deb" > /dev/null

@@ -4,7 +4,7 @@ set -eu
 cd "$(dirname "$0")/.."
 version=$(packaging/version.sh)
 if [ -n "$(git status --porcelain)" ]; then
-  echo 'dist: what is not committed is left out' >&2
+  echo 'dist: changes that are not committed are left out' >&2
 fi
 git archive --format=tar --prefix="unifdef-$version/" HEAD | gzip -9n > "unifdef-$version.tar.gz.new"
 mv "unifdef-$version.tar.gz.new" "unifdef-$version.tar.gz"

@@ -1,19 +1,19 @@
 #!/bin/sh
-# Prints the version, and fails if CHANGELOG.md, the manuals and the tag of what is checked out don't agree on it.
+# Prints the version. Fails if CHANGELOG.md, the manuals and the commit's tag don't agree on it.
 #
-# The version is that of the first heading of CHANGELOG.md, as "## 1.0".
+# The version is that of the first heading of CHANGELOG.md with a number, as "## 1.0".
 set -u
 cd "$(dirname "$0")/.." || exit 1
 
 version=$(sed -n 's/^## \([0-9][0-9.]*\).*/\1/p' CHANGELOG.md | head -n 1)
 if [ -z "$version" ]; then
-  echo 'version: CHANGELOG.md names none' >&2
+  echo 'version: CHANGELOG.md has none' >&2
   exit 1
 fi
 result=0
 for manual in docs/*.1; do
   if ! grep -qx "\\.Os unifdef $version" "$manual"; then
-    echo "version: $manual doesn't say .Os unifdef $version" >&2
+    echo "version: $manual has no line .Os unifdef $version" >&2
     result=1
   fi
 done

@@ -1,14 +1,14 @@
 #!/bin/sh
-# warn.sh FOLDER: tells if the unifdef in the folder stands before a released one on PATH.
+# Warns if the unifdef in a folder comes before a released one on PATH: warn.sh FOLDER.
 set -u
 folder=$1
 seen=no
 IFS=:
-for place in $PATH; do
-  if [ "$place" = "$folder" ]; then
+for entry in $PATH; do
+  if [ "$entry" = "$folder" ]; then
     seen=yes
-  elif [ "$seen" = yes ] && [ -x "$place/unifdef" ] && "$place/unifdef" -V 2>&1 < /dev/null | grep -q '^Version: '; then
-    echo "install: $folder/unifdef now comes before the released $place/unifdef on PATH." >&2
-    echo "install: DIFFERENCES in unifdef(1) says what it does in another way." >&2
+  elif [ "$seen" = yes ] && [ -x "$entry/unifdef" ] && "$entry/unifdef" -V 2>&1 < /dev/null | grep -q '^Version: '; then
+    echo "install: $folder/unifdef now comes before the released $entry/unifdef on PATH." >&2
+    echo "install: DIFFERENCES in unifdef(1) lists what it does in another way." >&2
   fi
 done

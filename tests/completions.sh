@@ -1,5 +1,7 @@
 #!/usr/bin/env bash
-# Tries the completions in each shell that is there: bash, zsh and fish. test.sh [PROGRAM]
+# Tries the completions in each of bash, zsh and fish that is installed.
+#
+# completions.sh [PROGRAM]: ./unifdef by default.
 set -u -o pipefail
 here=$(cd "$(dirname "$0")" && pwd)
 program=$(realpath "${1:-$here/../unifdef}")
@@ -17,7 +19,7 @@ printf '#if DEBUG > 1 && defined(DEEP)\n#endif\n' > a.h
 printf '#ifdef OTHER\n#endif\n' > b.c
 right=0 wrong=0
 
-# The words that a shell offers for a line.
+# in_SHELL LINE: prints the completions that a shell offers for a line.
 in_bash() {
   bash --norc -c '
     . "$1/unifdef.bash"
@@ -29,7 +31,7 @@ in_bash() {
 }
 # shellcheck disable=SC2016 # The variables are those of the other shell.
 in_fish() { fish --no-config -c 'source $argv[1]/unifdef.fish; source $argv[1]/unifdef-tree.fish; complete -C $argv[2]' "$completions" "$1"; }
-# zsh completes at a terminal alone, so one is made for it.
+# zsh completes only at a terminal, so this script makes one.
 cat > "$work/ask.zsh" << 'END'
 zmodload zsh/zpty
 zpty -b shell zsh -f -i
@@ -54,7 +56,8 @@ in_zsh() {
   timeout 30 zsh -f "$work/ask.zsh" "$completions" "$1" | tr -d '\r' | sed 's/\x1b\[[0-9;]*[A-Za-z]/\n/g' | tr -s ' ' '\n'
 }
 
-# offers SHELL LINE WANTED UNWANTED: what is offered for a line has one word and not the other.
+# offers SHELL LINE WANTED UNWANTED: checks that the completions of a line have one word and not the
+# other.
 offers() {
   local offered
   offered=$("in_$1" "$2" 2>&1 < /dev/null)
@@ -86,5 +89,5 @@ for shell in bash zsh fish; do
     fish) offers fish 'unifdef -iDDE' -iDDEEP -iDOTHER ;;
   esac
 done
-echo "completions: $right lines are completed as they should, $wrong aren't"
+echo "completions: $right lines are completed right, $wrong wrong"
 [ "$wrong" -eq 0 ]

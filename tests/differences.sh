@@ -1,7 +1,9 @@
 #!/usr/bin/env bash
-# Runs what the manual says under DIFFERENCES, with ./unifdef and, where it is there, with the released unifdef 2.10.
+# Runs the examples of the manual under DIFFERENCES, with ./unifdef and with the released unifdef
+# 2.10, if it is there.
 #
-# differences.sh [PROGRAM [RELEASED]]: the program beside this folder, and the first unifdef on PATH that says it is 2.10.
+# differences.sh [PROGRAM [RELEASED]]: by default ./unifdef, and the first unifdef on PATH whose -V
+# reports 2.10.
 set -u -o pipefail
 export LC_ALL=C
 here=$(cd "$(dirname "$0")" && pwd)
@@ -12,9 +14,9 @@ is_released() { "$1" -V 2>&1 < /dev/null | grep -q 'unifdef-2\.10'; }
 
 released=${2:-}
 if [ -z "$released" ]; then
-  for place in $(type -ap unifdef); do
-    if is_released "$place"; then
-      released=$place
+  for found in $(type -ap unifdef); do
+    if is_released "$found"; then
+      released=$found
       break
     fi
   done
@@ -28,7 +30,7 @@ work=$(mktemp -d)
 trap 'rm -rf "$work"' EXIT
 right=0 wrong=0
 
-# compare WHAT WANTED_STATUS WANTED_OUTPUT PROGRAM WORDS..: over the text in $work/in.
+# compare WHAT STATUS OUTPUT PROGRAM ARGUMENT..: compares a run over $work/in with what is written.
 compare() {
   local what=$1 wanted=$2 output=$3 status=0
   shift 3
@@ -38,11 +40,11 @@ compare() {
     right=$((right + 1))
   else
     wrong=$((wrong + 1))
-    echo "differences: $what: not $wanted '$output' but $status '$(od -c "$work/out")'"
+    echo "differences: $what: wanted $wanted '$output', got $status '$(od -c "$work/out")'"
   fi
 }
 
-# both WHAT HERE THERE WORDS..: the statuses alone, over the text in $work/in.
+# both WHAT HERE THERE ARGUMENT..: compares the statuses of both programs over $work/in.
 both() {
   local what=$1 one=$2 other=$3 status
   shift 3
@@ -55,32 +57,34 @@ both() {
   if [ "$status" -eq "$other" ]; then right=$((right + 1)); else wrong=$((wrong + 1)); echo "differences: $what, 2.10: $status"; fi
 }
 
-words='' input=''
+arguments='' input=''
 while IFS= read -r line; do
   line=${line//\\e/\\}
   if [[ "$line" =~ ^(-[^:]*):\ \ (.*)$ ]]; then
-    words=${BASH_REMATCH[1]} input=${BASH_REMATCH[2]}
+    arguments=${BASH_REMATCH[1]} input=${BASH_REMATCH[2]}
     printf '%b' "$input" > "$work/in"
   elif [[ "$line" =~ ^(here|2\.10):\ ([012])(\ \ )?(.*)$ ]]; then
-    # shellcheck disable=SC2086
+    # shellcheck disable=SC2086 # The arguments have no spaces of their own.
     if [ "${BASH_REMATCH[1]}" = here ]; then
-      compare "$words: $input" "${BASH_REMATCH[2]}" "${BASH_REMATCH[4]}" "$program" $words
+      compare "$arguments: $input" "${BASH_REMATCH[2]}" "${BASH_REMATCH[4]}" "$program" $arguments
     elif [ -n "$released" ]; then
-      compare "$words: $input, 2.10" "${BASH_REMATCH[2]}" "${BASH_REMATCH[4]}" "$released" $words
+      compare "$arguments: $input, 2.10" "${BASH_REMATCH[2]}" "${BASH_REMATCH[4]}" "$released" $arguments
     fi
   fi
 done < <(sed -n '/^\.Sh DIFFERENCES/,/^\.Sh BUGS/p' "$here/../docs/unifdef.1")
 
-# What has no example there.
+# The differences without an example there.
 printf '%70000s#ifdef A\nx\n#endif\n' '' > "$work/in"
 both 'a long line' 2 1 -DA
 { printf '#ifdef X\n%.0s' {1..256}; printf '#endif\n%.0s' {1..256}; } > "$work/in"
 both '256 sections' 0 2 -DA
 printf '#ifdef A\nx\n#endif\n' > "$work/in"
 both 'an option after the file' 2 1 "$work/in" -DA
+compare 'a file and -n' 1 '#line 2\nx\n' "$program" -n -DA "$work/in"
+[ -z "$released" ] || compare 'a file and -n, 2.10' 1 "#line 2 \"$work/in\"\nx\n" "$released" -n -DA "$work/in"
 yes 'int a;' | head -n 300000 > "$work/in"
 "$program" -DA "$work/in" 2> "$work/err" | head -n 1 > /dev/null
 if [ "${PIPESTATUS[0]}" -eq 2 ] && grep -q 'Write error' "$work/err"; then right=$((right + 1)); else wrong=$((wrong + 1)); fi
 
-echo "differences: $right examples are as the manual says, $wrong aren't"
+echo "differences: $right examples give what the manual says, $wrong don't"
 [ "$wrong" -eq 0 ] && [ "$right" -gt 20 ]

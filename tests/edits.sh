@@ -1,6 +1,7 @@
 #!/usr/bin/env bash
-# Tries the second edits, which the gate leaves out for their time: the prover must refuse each.
-# The arguments are crates; without any, the edits of all crates are tried. CONTRIBUTING.md says what an edit is.
+# Tries the second edits, which the gate leaves out for their time. The prover must refuse each.
+#
+# edits.sh [CRATE ..]: all crates by default. CONTRIBUTING.md explains what an edit is.
 set -eu -o pipefail
 root=$(cd "$(dirname "$0")/.." && pwd)
 work=$(mktemp -d)

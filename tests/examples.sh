@@ -1,13 +1,15 @@
 #!/usr/bin/env bash
-# Runs the examples of a page with ./unifdef, and compares what they print with what is written there.
+# Runs the examples of a page with ./unifdef, and compares their output with the page.
 #
-# run.sh [PAGE] [PROGRAM]: README.md by default, and the program beside this folder.
+# examples.sh [PAGE] [PROGRAM]: by default README.md and ./unifdef.
 #
-# An example is a fenced block that begins with ```console. A line that begins with "$ " is a command, and the lines up to
-# the next command are what it prints, on either stream. A command that goes on has "> " at the front of its other lines. The
-# commands of a block run in order in a folder of their own, in which ./unifdef is the program; the folder is on PATH. If a
-# block begins by showing a header of the machine that isn't the one that is written, or needs git or a C compiler and there
-# is none, the rest of the block is left out.
+# An example is a fenced block that begins with ```console. A line that begins with "$ " is a
+# command, and the lines up to the next command are its output, on either stream. Further lines of a
+# command begin with "> ". The commands of a block run in order, in a folder of their own, in which
+# ./unifdef is the program. The folder is on PATH.
+#
+# The rest of a block is left out if it begins with a header of the machine that is another one
+# here. It is also left out if it needs git or a C compiler and there is none.
 set -eu -o pipefail
 export LC_ALL=C
 unset MAKEFLAGS MAKELEVEL
@@ -21,7 +23,7 @@ work=$(mktemp -d)
 trap 'rm -rf "$work"' EXIT
 right=0 wrong=0 left_out=0
 
-# Runs one command in the block's folder, and compares what it prints with $work/wanted.
+# Runs one command in the block's folder, and compares its output with $work/wanted.
 run_command() {
   local command=$1 printed="$work/printed" needed
   for needed in git cc; do
@@ -47,7 +49,7 @@ run_command() {
   return 1
 }
 
-# The block that $work/block holds: each command with the lines after it.
+# Runs the block in $work/block: each command with the lines after it.
 run_block() {
   local line command="" first=yes
   rm -rf "$work/folder"
@@ -84,5 +86,5 @@ while IFS= read -r line; do
   fi
 done < "$page"
 
-echo "examples of $(basename "$page"): $right commands print what is written, $wrong don't, $left_out left out"
+echo "examples of $(basename "$page"): $right commands print what is written, $wrong don't, $left_out are left out"
 [ "$wrong" -eq 0 ] && [ "$right" -gt 0 ]

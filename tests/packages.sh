@@ -1,5 +1,5 @@
 #!/usr/bin/env bash
-# Installs ./unifdef in folders of its own and takes it away, and tries both packages.
+# Installs and uninstalls ./unifdef in folders of its own, and tries both packages.
 set -u -o pipefail
 export LC_ALL=C
 unset MAKEFLAGS MAKELEVEL
@@ -10,6 +10,7 @@ work=$(mktemp -d)
 trap 'rm -rf "$work"' EXIT
 passed=0 failed=0
 
+# check WHAT COMMAND..: the command must succeed.
 check() {
   local what=$1
   shift
@@ -17,13 +18,13 @@ check() {
     passed=$((passed + 1))
   else
     failed=$((failed + 1))
-    echo "packages: not so: $what"
+    echo "packages: failed: $what"
     cat "$work/said"
   fi
 }
 same() { [ "$1" = "$2" ] || { printf '%s\n---\n%s\n' "$1" "$2"; false; }; }
 
-# A program that is there, and runs from where it stands; a manual that can be shown.
+# works_in WHAT FOLDER: checks that the installed programs run, and that the manuals can be shown.
 works_in() {
   printf '#ifdef A\nx\n#endif\n' > "$work/a.c"
   check "$1: runs" same "$("$2/bin/unifdef" -DA "$work/a.c"; echo $?)" $'x\n1'
@@ -34,7 +35,7 @@ works_in() {
   done
 }
 
-# The manual is shown by what is there for it.
+# shows MANUAL VERSION: checks the footer of a manual, as the tool that is there shows it.
 shows() {
   if command -v mandoc > /dev/null; then
     mandoc "$1" | grep -q "^$2 "
@@ -47,11 +48,11 @@ shows() {
 
 version=$(packaging/version.sh) || failed=$((failed + 1))
 
-# Into a folder with spaces, and away again.
-place="$work/a folder/with spaces"
-check install "$make" -s -o unifdef install DESTDIR="$place" PREFIX="/opt/my tools"
-works_in install "$place/opt/my tools"
-check 'install: files' same "$(cd "$place/opt/my tools" && find . -type f | sort)" \
+# Installs into a folder with spaces, and uninstalls.
+target="$work/a folder/with spaces"
+check install "$make" -s -o unifdef install DESTDIR="$target" PREFIX="/opt/my tools"
+works_in install "$target/opt/my tools"
+check 'install: files' same "$(cd "$target/opt/my tools" && find . -type f | sort)" \
 "./bin/unifdef
 ./bin/unifdef-tree
 ./share/bash-completion/completions/unifdef
@@ -63,10 +64,10 @@ check 'install: files' same "$(cd "$place/opt/my tools" && find . -type f | sort
 ./share/man/man1/unifdef-tree.1
 ./share/man/man1/unifdef.1
 ./share/zsh/site-functions/_unifdef"
-check uninstall "$make" -s uninstall DESTDIR="$place" PREFIX="/opt/my tools"
-check 'uninstall: files' same "$(find "$place" -type f)" ''
+check uninstall "$make" -s uninstall DESTDIR="$target" PREFIX="/opt/my tools"
+check 'uninstall: files' same "$(find "$target" -type f)" ''
 
-# Before a released program on PATH.
+# Installs before a released program on PATH.
 mkdir -p "$work/first/bin" "$work/second"
 printf '#!/bin/sh\necho "Version: unifdef-2.10" >&2\n' > "$work/second/unifdef"
 chmod +x "$work/second/unifdef"
@@ -78,7 +79,7 @@ check 'install: warns of one' same "$(warned "$work/first/bin:$work/second")" 1
 check 'install: no warning after it' same "$(warned "$work/second:$work/first/bin")" 0
 check 'install: no warning elsewhere' same "$(warned "$work/second")" 0
 
-# The tarball has what is under version control.
+# The tarball has the files that are under version control.
 if git rev-parse HEAD > /dev/null 2>&1; then
   check dist "$make" -s dist
   check 'dist: unpacks' tar xzf "unifdef-$version.tar.gz" -C "$work"

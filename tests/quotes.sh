@@ -1,8 +1,9 @@
 #!/usr/bin/env bash
-# Sees that the code of a page stands in the sources: quotes.sh PAGE SOURCE..
+# Checks that the code of a page is the code of the sources.
 #
-# Each fenced block that begins with ```rust must stand in one of the files, as it is. The blocks without a language are what
-# the program prints, and stand in the file that is called stdout beside the sources' folder.
+# quotes.sh PAGE SOURCE..: each fenced block that begins with ```rust must be in one of the sources,
+# unchanged. Blocks without a language are output of the program, and must be in the file `stdout`
+# beside the sources' folder.
 set -eu -o pipefail
 page=$1
 shift
@@ -30,5 +31,5 @@ while IFS= read -r line; do
     block+=$line$'\n'
   fi
 done < "$page"
-echo "quotes of $(basename "$page"): $right blocks stand in the sources, $wrong don't"
+echo "quotes of $(basename "$page"): $right blocks are in the sources, $wrong aren't"
 [ "$wrong" -eq 0 ] && [ "$right" -gt 0 ]

@@ -1,7 +1,7 @@
 #!/usr/bin/env bash
-# Runs unifdef-tree over trees with every trap that its manual speaks of, and interrupts it in the middle.
+# Runs unifdef-tree over trees with every trap that its manual names, and interrupts it.
 #
-# test.sh [PROGRAM]: with ./unifdef, or PROGRAM. It goes through it once for each shell that is there.
+# tree.sh [PROGRAM]: ./unifdef by default. Everything is run once with each shell that is there.
 set -u -o pipefail
 export LC_ALL=C
 here=$(cd "$(dirname "$0")" && pwd)
@@ -23,11 +23,12 @@ check() {
     passed=$((passed + 1))
   else
     failed=$((failed + 1))
-    echo "tree-test: $shell: $what: not so: $*"
+    echo "tree-test: $shell: $what: failed: $*"
   fi
 }
 
-# tree WORDS..: runs unifdef-tree with the shell at hand; what it prints is in $work/out and $work/err.
+# tree ARGUMENT..: runs unifdef-tree with the current shell. Its output is in $work/out and
+# $work/err.
 tree() {
   status=0
   (cd "$work/run" && $shell "$here/../tools/unifdef-tree" "$@" > "$work/out" 2> "$work/err") || status=$?
@@ -35,7 +36,7 @@ tree() {
 
 holds() { [ "$(cat "$1"; echo .)" = "$(printf '%b' "$2"; echo .)" ]; }
 same() { [ "$1" = "$2" ]; }
-tells() { grep -qxF -e "$2" "$1"; }
+has_line() { grep -qxF -e "$2" "$1"; }
 no_rest() { [ -z "$(find "$work/run" "$TMPDIR" -mindepth 1 -name '*unifdef-tree*')" ]; }
 number() { stat -c %i "$1"; }
 
@@ -47,7 +48,7 @@ fresh_tree() {
 }
 put() { printf '%b' "$2" > "$1"; }
 
-# Names, kinds and patterns.
+# Tests names, kinds and patterns.
 names() {
   fresh_tree
   # shellcheck disable=SC2016 # The dollar belongs to the name.
@@ -66,7 +67,7 @@ names() {
   mkfifo src/pipe.c
   tree -DA -- src
   check 'names: status' same "$status" 1
-  check 'names: count' tells "$work/err" 'unifdef-tree: 17 changed, 0 unchanged, 0 faulty'
+  check 'names: count' has_line "$work/err" 'unifdef-tree: 17 changed, 0 unchanged, 0 faulty'
   for name in "${odd[@]}" x.cc x.hpp x.h.in -DB/y.C folder.c/z.H; do
     check "names: $name" holds "src/$name" 'yes\n'
   done
@@ -75,13 +76,13 @@ names() {
   done
   check 'names: nothing left over' no_rest
   tree -DA -g '*.txt' -g '*.new' src/a.txt src
-  check 'patterns: count' tells "$work/err" 'unifdef-tree: 2 changed, 0 unchanged, 0 faulty'
+  check 'patterns: count' has_line "$work/err" 'unifdef-tree: 2 changed, 0 unchanged, 0 faulty'
   put ./-x.c "$text"
   tree -DA -- -x.c
   check 'names: a path with a hyphen' holds ./-x.c 'yes\n'
 }
 
-# Modes, times, links.
+# Tests modes, times and links.
 keeps() {
   fresh_tree
   put src/mode.c "$text"
@@ -104,7 +105,7 @@ keeps() {
   before_one=$(number src/one.c)
   tree -j1 -DA -- src src/one.c ./src/mode.c
   check 'keeps: status' same "$status" 1
-  check 'keeps: count' tells "$work/err" 'unifdef-tree: 3 changed, 3 unchanged, 0 faulty'
+  check 'keeps: count' has_line "$work/err" 'unifdef-tree: 3 changed, 3 unchanged, 0 faulty'
   check 'keeps: mode' same "$(stat -c %a src/mode.c)" 754
   check 'keeps: text of a mode' holds src/mode.c 'yes\n'
   check 'keeps: an unchanged file and its time' same "$(stat -c '%i %y' src/same.c)" "$before_same"
@@ -127,7 +128,7 @@ keeps() {
   check 'keeps: each file once' holds src/two.c '#ifdef A\n#else\nno\n#endif\n'
 }
 
-# Faults, statuses and the option -n.
+# Tests faults, statuses and the option -n.
 faults() {
   fresh_tree
   put src/good.c "$text"
@@ -136,9 +137,9 @@ faults() {
 bad.c' 'x\n#else\n'
   tree -DA src nowhere
   check 'faults: status' same "$status" 2
-  check 'faults: count' tells "$work/err" 'unifdef-tree: 1 changed, 0 unchanged, 3 faulty'
-  check 'faults: message' tells "$work/err" 'unifdef: src/bad.c: 1: Inappropriate #endif'
-  check 'faults: path' tells "$work/err" 'unifdef-tree: nowhere: No such file or folder'
+  check 'faults: count' has_line "$work/err" 'unifdef-tree: 1 changed, 0 unchanged, 3 faulty'
+  check 'faults: message' has_line "$work/err" 'unifdef: src/bad.c: 1: Inappropriate #endif'
+  check 'faults: path' has_line "$work/err" 'unifdef-tree: nowhere: No such file or folder'
   check 'faults: a faulty file' holds src/bad.c '#endif\n'
   check 'faults: another file' holds src/good.c 'yes\n'
   rm src/*bad.c
@@ -147,11 +148,11 @@ bad.c' 'x\n#else\n'
   tree -x1 -DA src
   check 'status 1 with -x1' same "$status" 1
   put src/good.c "$text"
-  put src/end.c '#ifdef A\nno line feed\n#endif'
+  put src/end.c '#ifdef A\nno newline\n#endif'
   cp -r src was
   tree -n -DA -- src
   check '-n: status' same "$status" 1
-  check '-n: count' tells "$work/err" 'unifdef-tree: 2 would change, 0 unchanged, 0 faulty'
+  check '-n: count' has_line "$work/err" 'unifdef-tree: 2 would change, 0 unchanged, 0 faulty'
   check '-n: changes nothing' diff -r was src
   cp "$work/out" diff
   tree -x2 -DA -- src
@@ -170,7 +171,7 @@ bad.c' 'x\n#else\n'
     [ "$words" = -DA ] || check "refused: $words" same "$status" 2
   done
   tree -D
-  check 'refused: no argument' tells "$work/err" 'unifdef-tree: Option -D needs an argument'
+  check 'refused: no argument' has_line "$work/err" 'unifdef-tree: Option -D needs an argument'
   tree -DA
   check 'refused: no path' same "$status" 2
   put src/good.c '#if A == 2\nyes\n#endif\n'
@@ -178,7 +179,7 @@ bad.c' 'x\n#else\n'
   check 'words go on as they are' holds src/good.c 'yes\n'
 }
 
-# What can't be read or written: only where the user isn't root.
+# Tests files that can't be read or written, if the user isn't root.
 refusals() {
   [ "$(id -u)" -ne 0 ] || return 0
   fresh_tree
@@ -190,14 +191,14 @@ refusals() {
   chmod 444 src/locked.c
   chmod 555 src/sealed
   tree -DA src
-  check 'refusals: count' tells "$work/err" 'unifdef-tree: 0 changed, 0 unchanged, 3 faulty'
+  check 'refusals: count' has_line "$work/err" 'unifdef-tree: 0 changed, 0 unchanged, 3 faulty'
   check 'refusals: a read-only file' holds src/locked.c "$text"
   check 'refusals: a sealed folder' holds src/sealed/a.c "$text"
   chmod 755 src/sealed
   chmod 644 src/unreadable.c
 }
 
-# The names of a tree.
+# Tests the list of a tree's names.
 lists() {
   fresh_tree
   put src/a.h '#if B > 1 && defined(C) // c\n#elif A\n#endif\n#ifdef A\n#endif\n# if 0\n# endif\n'
@@ -206,13 +207,13 @@ lists() {
   tree -s src
   check '-s: status' same "$status" 2
   check '-s: names' same "$(tr -s ' ' < "$work/out")" $' 3 A\n 1 B\n 1 C'
-  check '-s: what is not listed' tells "$work/err" 'unifdef-tree: 2 files listed, 1 faulty; 3 conditions could not be listed'
+  check '-s: what is not listed' has_line "$work/err" 'unifdef-tree: 2 files listed, 1 faulty; 3 conditions could not be listed'
   rm src/c.h
   tree -s -j 5 src
   check '-s: status 0' same "$status" 0
 }
 
-# A disk that is full: a small file system, or else a limit on the size of files.
+# Tests a full disk: a small file system, or else a limit on the size of files.
 full_disk() {
   fresh_tree
   local big made=no
@@ -245,13 +246,13 @@ full_disk() {
     check 'full disk: a file with two links' cmp was/a.c src/a.c
     rm src/filled
     tree -DA src
-    check 'full disk: the same with room' same "$(wc -l < src/linked.c)" 9002
+    check 'full disk: the same with space' same "$(wc -l < src/linked.c)" 9002
     rm src
     umount "$work/small"
   fi
 }
 
-# An interrupt in the middle: every file is old or new, and nothing is left over.
+# Tests an interrupt in the middle: every file is old or new, and nothing is left over.
 interrupts() {
   local signal=$1 whom=$2 wanted=$3 i name old=0 new=0 pid
   fresh_tree
@@ -284,7 +285,7 @@ interrupts() {
     fi
   done
   check "interrupt $signal: in the middle" test "$old" -gt 0 -a "$new" -gt 0
-  check "interrupt $signal: told" tells "$work/err" 'unifdef-tree: Interrupted'
+  check "interrupt $signal: reported" has_line "$work/err" 'unifdef-tree: Interrupted'
   for i in 1 2 3 4 5 6 7 8 9 10; do
     no_rest && break
     sleep 0.1
@@ -294,7 +295,7 @@ interrupts() {
   check "interrupt $signal: the rest later" same "$(cat src/*.c | sort | uniq -c | tr -s ' ')" ' 240 yes'
 }
 
-# An interrupt while a file with two links is written into: it is written whole.
+# Tests an interrupt while a file with two links is written into: the whole text is written.
 interrupts_link() {
   local pid i
   fresh_tree
@@ -319,7 +320,7 @@ interrupts_link() {
   check 'interrupt of a link: nothing left over' no_rest
 }
 
-# The counter, on a terminal.
+# Tests the counter on a terminal.
 counts() {
   command -v script > /dev/null || return 0
   fresh_tree

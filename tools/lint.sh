@@ -1,14 +1,17 @@
 #!/usr/bin/env bash
-# Checks the version, the manuals by mandoc and the scripts by shellcheck. A tool that isn't there is left out.
+# Checks the version, the manuals by mandoc, the scripts by shellcheck, and the language of comments
+# and pages by tools/style.py. A linter that isn't there is left out.
 set -u
 cd "$(dirname "$0")/.." || exit 1
 result=0
 
 packaging/version.sh > /dev/null || result=1
 if command -v mandoc > /dev/null; then
-  # Which other manuals are there is a matter of the machine; -W style leaves out the customs of BSD's own manuals.
-  said=$(mandoc -T lint -W style docs/*.1 2>&1 | grep -v -e 'referenced manual not found' -e 'outdated mandoc.db')
-  [ -z "$said" ] || { printf '%s\n' "$said"; result=1; }
+  # Which other manuals exist depends on the machine. -W style leaves out rules for BSD's own
+  # manuals.
+  findings=$(mandoc -T lint -W style docs/*.1 2>&1 |
+    grep -v -e 'referenced manual not found' -e 'outdated mandoc.db')
+  [ -z "$findings" ] || { printf '%s\n' "$findings"; result=1; }
 else
   echo 'manuals: mandoc is not there, so it is left out'
 fi
@@ -26,5 +29,13 @@ for script in "${scripts[@]}"; do
     *) bash -n "$script" || result=1 ;;
   esac
 done
-[ "$result" -ne 0 ] || echo "manuals: version, manuals and ${#scripts[@]} scripts are in order"
+# Without arguments, it checks all files that git tracks.
+if ! command -v python3 > /dev/null; then
+  echo 'manuals: python3 is not there, so tools/style.py is left out'
+elif ! git rev-parse HEAD > /dev/null 2>&1; then
+  echo 'manuals: not under version control, so tools/style.py is left out'
+else
+  python3 tools/style.py || result=1
+fi
+[ "$result" -ne 0 ] || echo "manuals: version, manuals, ${#scripts[@]} scripts and the language are in order"
 exit "$result"

@@ -1,6 +1,6 @@
 # Completions of unifdef-tree for fish.
 
-# The names in the conditions of the C files of the folder.
+# Prints the names in the conditions of the folder's C files.
 function __unifdef_names
     for file in *.{c,h,cc,cpp,hh,hpp}
         command unifdef -s < $file 2> /dev/null
@@ -13,16 +13,16 @@ function __unifdef_ignoring
 end
 
 complete -c unifdef-tree -s b -d 'Leave removed lines blank'
-complete -c unifdef-tree -s c -d 'Print what would be removed'
+complete -c unifdef-tree -s c -d 'Print only the lines that would be removed'
 complete -c unifdef-tree -s D -x -a '(__unifdef_names)' -d 'Define a symbol'
-complete -c unifdef-tree -s i -x -a '(__unifdef_ignoring)' -d 'Ignore text inside of sections by a symbol'
+complete -c unifdef-tree -s i -x -a '(__unifdef_ignoring)' -d 'Ignore text inside sections that a symbol controls'
 complete -c unifdef-tree -s K -d 'Leave && and || unknown if an operand is'
 complete -c unifdef-tree -s k -d 'Decide constant expressions'
 complete -c unifdef-tree -s l -d 'Leave removed lines blank'
 complete -c unifdef-tree -s t -d 'Plain text'
 complete -c unifdef-tree -s U -x -a '(__unifdef_names)' -d 'Undefine a symbol'
-complete -c unifdef-tree -s x -x -a '0 1 2' -d 'What the status says'
-complete -c unifdef-tree -s g -x -d 'Take files with such names'
-complete -c unifdef-tree -s j -x -d 'How many at a time'
+complete -c unifdef-tree -s x -x -a '0 1 2' -d 'Meaning of the exit status'
+complete -c unifdef-tree -s g -x -d 'Select files by name'
+complete -c unifdef-tree -s j -x -d 'Number of jobs at a time'
 complete -c unifdef-tree -s n -d 'Show what would change'
 complete -c unifdef-tree -s s -d 'Count the names in conditions'

@@ -1,6 +1,6 @@
 # Completions of unifdef and unifdef-tree for bash.
 
-# The names in the conditions of the C files of the folder.
+# Prints the names in the conditions of the folder's C files.
 _unifdef_names() {
   local file
   for file in ./*.[ch] ./*.cc ./*.cpp ./*.hh ./*.hpp; do
@@ -8,7 +8,8 @@ _unifdef_names() {
   done | sort -u
 }
 
-# Puts the words of $2 that go on after $1 into COMPREPLY, with $1 at the front, for the word that is typed.
+# Puts into COMPREPLY the words of $2 that complete the typed word after its prefix $1, each with
+# that prefix.
 _unifdef_after() {
   local typed=${COMP_WORDS[COMP_CWORD]}
   mapfile -t COMPREPLY < <(compgen -P "$1" -W "$2" -- "${typed#"$1"}")

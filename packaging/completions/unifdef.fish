@@ -1,6 +1,6 @@
 # Completions of unifdef for fish.
 
-# The names in the conditions of the C files of the folder.
+# Prints the names in the conditions of the folder's C files.
 function __unifdef_names
     for file in *.{c,h,cc,cpp,hh,hpp}
         command unifdef -s < $file 2> /dev/null
@@ -13,15 +13,15 @@ function __unifdef_ignoring
 end
 
 complete -c unifdef -s b -d 'Leave removed lines blank'
-complete -c unifdef -s c -d 'Print what would be removed'
+complete -c unifdef -s c -d 'Print only the lines that would be removed'
 complete -c unifdef -s D -x -a '(__unifdef_names)' -d 'Define a symbol'
-complete -c unifdef -s i -x -a '(__unifdef_ignoring)' -d 'Ignore text inside of sections by a symbol'
+complete -c unifdef -s i -x -a '(__unifdef_ignoring)' -d 'Ignore text inside sections that a symbol controls'
 complete -c unifdef -s K -d 'Leave && and || unknown if an operand is'
 complete -c unifdef -s k -d 'Decide constant expressions'
 complete -c unifdef -s l -d 'Leave removed lines blank'
 complete -c unifdef -s t -d 'Plain text'
 complete -c unifdef -s U -x -a '(__unifdef_names)' -d 'Undefine a symbol'
-complete -c unifdef -s x -x -a '0 1 2' -d 'What the status says'
-complete -c unifdef -s n -d 'Add #line directives'
+complete -c unifdef -s x -x -a '0 1 2' -d 'Meaning of the exit status'
+complete -c unifdef -s n -d 'Insert #line directives'
 complete -c unifdef -s S -d 'List the names in conditions with their depth'
 complete -c unifdef -s s -d 'List the names in conditions'

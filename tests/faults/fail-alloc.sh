@@ -1,20 +1,22 @@
 #!/usr/bin/env bash
-# Lets each allocation of crates/unifdef_cli fail in turn, by the kit's own fault injection: see README.md in this folder.
-# RT: Rattle's command. It takes half a minute an allocation.
+# Makes each allocation of crates/unifdef_cli fail in turn, by the kit's own fault injection. Each
+# takes half a minute. README.md in this folder describes it.
+#
+# RT: Rattle's command.
 set -eu -o pipefail
 export LC_ALL=C
 here=$(cd "$(dirname "$0")" && pwd)
 rt=${RT:-rt}
-words=(-DA -UB -DC=1)
+arguments=(-DA -UB -DC=1)
 
 work=$(mktemp -d)
 trap 'rm -rf "$work"' EXIT
 printf '#ifdef A\nx\n#endif\n' > "$work/in"
 cd "$here/../../crates/unifdef_cli"
 
-# The message and the output with this allocation refused.
+# answer_at N: prints the message, the status and the output with allocation N refused.
 answer_at() {
-  "$rt" try --fail-alloc "$1" -- "${words[@]}" < "$work/in" > "$work/out" 2> "$work/err" || true
+  "$rt" try --fail-alloc "$1" -- "${arguments[@]}" < "$work/in" > "$work/out" 2> "$work/err" || true
   if ! grep -q '^run=ended ' "$work/err"; then
     cat "$work/err"
     return 1
@@ -25,13 +27,13 @@ answer_at() {
 }
 
 refused=$'unifdef: Out of memory\nstatus=2'
-for_words=$'unifdef: Cannot take arguments\nstatus=2'
+for_arguments=$'unifdef: Cannot take arguments\nstatus=2'
 done=$'status=1\n   x  \\n'
 planned=0 at=1
 while :; do
   answer=$(answer_at $at)
   case $answer in
-    "$for_words") [ $planned = 0 ] || { echo "fail-alloc: allocation $at: $answer"; exit 1; } ;;
+    "$for_arguments") [ $planned = 0 ] || { echo "fail-alloc: allocation $at: $answer"; exit 1; } ;;
     "$refused") planned=$((planned + 1)) ;;
     "$done") break ;;
     *) echo "fail-alloc: allocation $at: $answer"; exit 1 ;;

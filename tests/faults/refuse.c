@@ -1,7 +1,9 @@
-/* Refuses memory to a program that it is loaded before: see README.md in this folder.
+/* Refuses memory to a program, if it is loaded before the program. README.md in this folder
+ * describes it.
  *
- * REFUSE_FROM and REFUSE_TO: the first and the last growth that is refused, counted from 1. REFUSE_COUNT: a file that gets a
- * byte for each growth. Both `malloc` and `realloc` count as growths.
+ * REFUSE_FROM and REFUSE_TO: the first and the last growth that is refused, counted from 1.
+ * REFUSE_COUNT: a file to which a byte is appended for each growth. Both `malloc` and `realloc`
+ * count as growths.
  */
 #define _GNU_SOURCE
 #include <dlfcn.h>
@@ -15,7 +17,7 @@ static long number_in(const char *name) {
     return text ? atol(text) : 0;
 }
 
-/* Counts a growth, and tells whether it is refused. */
+/* Counts a growth, and returns whether it is refused. */
 static int is_refused(void) {
     static long made;
     const char *count = getenv("REFUSE_COUNT");

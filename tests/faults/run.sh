@@ -1,8 +1,9 @@
 #!/usr/bin/env bash
-# Runs ./unifdef where the system's reads and writes fail, with a small stack, and with each growth of memory refused in turn:
-# see README.md in this folder.
+# Runs ./unifdef with failing reads and writes of the system, with a small stack, and with each
+# growth of memory refused in turn. README.md in this folder describes it.
 #
-# run.sh [PROGRAM] [TABLE]: ./unifdef by default, and the program of crates/test_memory, which is left out if it isn't built.
+# run.sh [PROGRAM] [TABLE]: by default ./unifdef and the program of crates/test_memory. That one is
+# left out if it isn't built.
 set -eu -o pipefail
 export LC_ALL=C
 here=$(cd "$(dirname "$0")" && pwd)
@@ -16,8 +17,8 @@ trap 'rm -rf "$work"' EXIT
 right=0 wrong=0
 out=$work/out err=$work/err
 
-# Counts a case as right, or as wrong with what it is about.
-judge() {
+# count RIGHT WHAT: counts a case as right if RIGHT is yes, else as wrong, and prints it.
+count() {
   if [ "${1:-no}" = yes ]; then
     right=$((right + 1))
   else
@@ -26,16 +27,18 @@ judge() {
   fi
 }
 
-# WHAT WANTED_STATUS STATUS WANTED_OUTPUT WANTED_MESSAGE: compares a run, whose output is in $out and whose message is in $err.
+# compare WHAT WANTED_STATUS STATUS WANTED_OUTPUT WANTED_MESSAGE: compares a run, whose output is in
+# $out and whose message is in $err.
 compare() {
   local same=no
   if [ "$2" = "$3" ] && printf '%b' "$4" | cmp -s - "$out" && printf '%b' "$5" | cmp -s - "$err"; then
     same=yes
   fi
-  judge $same "$1: status $3, output $(head -c 200 "$out" | od -An -c | head -n 3), message $(cat "$err")"
+  count $same "$1: status $3, output $(head -c 200 "$out" | od -An -c | head -n 3), message $(cat "$err")"
 }
 
-# Runs the program for a while at most; one that hangs ends with status 124, and one that a signal ends with 128 or more.
+# Runs the program for 20 seconds at most. If it hangs, the status is 124; if a signal ends it, 128
+# or more.
 limited() {
   timeout 20 "$program" "$@"
 }
@@ -70,7 +73,7 @@ printf '#ifdef A\nx\n' | limited -DA > "$out" 2> /dev/full || status=$?
 compare "a full error stream" 2 $status 'x\n' ''
 status=0
 limited -B > "$out" 2> /dev/full || status=$?
-compare "a full error stream at a fault of the words" 2 $status '' ''
+compare "a full error stream at a fault of the arguments" 2 $status '' ''
 
 status=0
 limited -DA <&- > "$out" 2> "$err" || status=$?
@@ -87,16 +90,16 @@ status=0
 compare "a file that isn't there" 2 $status '' 'unifdef: none: Cannot open\n'
 status=0
 limited -DA $'\xff' > "$out" 2> "$err" < /dev/null || status=$?
-compare "a word that isn't UTF-8" 2 $status '' 'unifdef: Cannot take arguments\n'
+compare "an argument that isn't UTF-8" 2 $status '' 'unifdef: Cannot take arguments\n'
 
-# A pipe whose reader goes away: a write error, and no signal.
+# A pipe whose reader closes it: a write error, and no signal.
 : > "$out"
 status=$(set +o pipefail; { lines 100000; } 2> /dev/null | { limited -DA 2> "$err"; echo $? >&3; } 3> "$work/status" | head -c 1 > /dev/null; cat "$work/status")
-compare "a pipe whose reader goes away" 2 "$status" '' "$write_error"
+compare "a pipe whose reader closes it" 2 "$status" '' "$write_error"
 status=$(set +o pipefail; { lines 100000; } 2> /dev/null | { limited -DA 2> "$err"; echo $? >&3; } 3> "$work/status" | exec true; cat "$work/status")
 compare "a pipe that nobody reads" 2 "$status" '' "$write_error"
 
-# An input that is cut off by a killed writer is a shorter text.
+# An input that a killed writer truncates is a shorter text.
 status=0
 (printf 'a\n#ifdef A\nb\nc'; kill -KILL "$BASHPID") 2> /dev/null | limited -DA > "$out" 2> "$err" || status=${PIPESTATUS[1]}
 compare "an input whose writer is killed" 2 "$status" 'a\nb\nc' 'unifdef: stdin: 4: Premature EOF (#if line 2)\n'
@@ -136,20 +139,21 @@ for kind in sections removed parentheses negations operators mixed arguments com
     if [ $status = $wanted ] && [ $status -le 2 ] && cmp -s "$out" "$work/wanted_out" && cmp -s "$err" "$work/wanted_err"; then
       same=yes
     fi
-    judge $same "$kind under $words with a small stack: status $status, and $wanted with a large one"
+    count $same "$kind under $words with a small stack: status $status, and $wanted with a large one"
   done
 done
 
 # --- Each growth of memory refused in turn.
 
-# WORD..: how many growths a run over the input makes.
+# growths ARGUMENT..: prints the number of growths in a run over the input.
 growths() {
   rm -f "$work/count"
   REFUSE_COUNT=$work/count LD_PRELOAD=$work/refuse.so "$program" "$@" > /dev/null 2>&1 || true
   if [ -e "$work/count" ]; then wc -c < "$work/count"; else echo 0; fi
 }
 
-# FROM TO WORD..: runs with these growths refused, and then keeps what the program has left of the input.
+# refused FROM TO ARGUMENT..: runs with these growths refused, and then keeps the unread rest of the
+# input.
 refused() {
   local from=$1 to=$2
   shift 2
@@ -160,37 +164,38 @@ refused() {
   } < "$work/in"
 }
 
-# Whether a run with refused memory told so, wrote nothing and read nothing.
+# Returns whether a run with refused memory has status 2, wrote nothing and read nothing.
 is_refusal() {
   [ $status = 2 ] && [ ! -s "$out" ] && cmp -s "$work/left" "$work/in"
 }
 
-# PLANNED WORD..: each growth is refused, alone and with all later ones. Want of memory is told by `main`, which gathers its words,
-# and, if PLANNED is yes, after that by the plan of the symbols. No text makes a growth more, and with none refused nothing
-# changes.
+# refuse_each PLANNED ARGUMENT..: refuses each growth, alone and with all later ones. `main` reports
+# the lack of memory while it collects its arguments. If PLANNED is yes, the plan of the symbols
+# reports it after that. No text makes a further growth. If none is refused, nothing changes.
 refuse_each() {
-  local planned=$1 all at to told=no
+  local planned=$1 all at to reported=no
   shift
   all=$(growths "$@" < /dev/null)
-  judge "$([ "$all" -gt 0 ] && [ "$(growths "$@" < "$work/deep")" = "$all" ] && echo yes)" "a text takes memory under $*"
+  count "$([ "$all" -gt 0 ] && [ "$(growths "$@" < "$work/deep")" = "$all" ] && echo yes)" "a text needs more memory under $*"
   for at in $(seq 1 "$all"); do
     for to in "$at" 1000000; do
       refused "$at" "$to" "$@"
       case $(cat "$err") in
-        "unifdef: Cannot take arguments") judge "$(is_refusal && [ $told = no ] && echo yes)" "growth $at to $to refused under $*: status $status" ;;
-        "unifdef: Out of memory") told=yes; judge "$(is_refusal && echo yes)" "growth $at to $to refused under $*: status $status" ;;
-        *) judge no "growth $at to $to refused under $*: $(cat "$err")" ;;
+        "unifdef: Cannot take arguments") count "$(is_refusal && [ $reported = no ] && echo yes)" "growth $at to $to refused under $*: status $status" ;;
+        "unifdef: Out of memory") reported=yes; count "$(is_refusal && echo yes)" "growth $at to $to refused under $*: status $status" ;;
+        *) count no "growth $at to $to refused under $*: $(cat "$err")" ;;
       esac
     done
   done
-  judge "$([ $told = "$planned" ] && echo yes)" "want of memory is told by the plan: $told, under $*"
+  count "$([ $reported = "$planned" ] && echo yes)" "the plan reports a lack of memory: $reported, under $*"
   local wanted=0
   "$program" "$@" < "$work/in" > "$work/wanted_out" 2> "$work/wanted_err" || wanted=$?
   refused $((all + 1)) 1000000 "$@"
-  judge "$([ $status = $wanted ] && cmp -s "$out" "$work/wanted_out" && cmp -s "$err" "$work/wanted_err" && echo yes)" "no growth refused under $*"
+  count "$([ $status = $wanted ] && cmp -s "$out" "$work/wanted_out" && cmp -s "$err" "$work/wanted_err" && echo yes)" "no growth refused under $*"
 }
 
-# What a table says if the second growth of a symbol is refused: the first one's value. A bad name is told whatever is refused.
+# Refuses each growth of a table. If a later growth of a symbol is refused, its earlier value stays.
+# A bad name is reported whatever is refused.
 refuse_table() {
   local all at to text
   rm -f "$work/count"
@@ -209,7 +214,7 @@ refuse_table() {
           same=$([ "$at" -gt "$all" ] && echo yes || echo no) ;;
         *) same=no ;;
       esac
-      judge "$same" "the table with growth $at to $to refused: $text"
+      count "$same" "the table with growth $at to $to refused: $text"
     done
   done
 }
