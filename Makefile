@@ -27,8 +27,12 @@
 # make trees      runs ./unifdef over real trees beside the released program (bench/README.md)
 # make selects    compares what a C compiler selects of real files before and after ./unifdef
 #                 (bench/README.md)
+# make lines      compares the line numbers that a C compiler gives to real files before and after
+#                 -n and -b (bench/README.md)
+# make lines-test  compares the line numbers of a few texts in the same way, in seconds
 # make hostile    compares the library with its reference on N hostile texts from SEED on, in JOBS
-#                 processes
+#                 processes; CHECKS=options tries what users of options may rely on
+#                 (bench/README.md)
 # make fronts     compares ./unifdef with its reference on parts of N real files from SEED on
 #                 (bench/README.md)
 # make clean      removes what was built
@@ -53,7 +57,7 @@ SOURCES := crates.txt HANDLES \
 .DELETE_ON_ERROR:
 .PHONY: all build kit check edits examples manual-examples differences faults fail-alloc tree-test
 .PHONY: install uninstall dist deb packages-test manuals around bench bench-text
-.PHONY: bench-conditions pictures trees selects hostile fronts clean
+.PHONY: bench-conditions pictures trees selects lines lines-test hostile fronts clean
 
 all: build
 
@@ -127,7 +131,7 @@ packages-test: unifdef
 manuals:
 	@tools/lint.sh
 
-around: manuals examples manual-examples differences faults tree-test packages-test
+around: manuals examples manual-examples differences faults lines-test tree-test packages-test
 
 bench: bench-text bench-conditions
 
@@ -149,9 +153,15 @@ trees: unifdef
 selects: unifdef
 	bench/selects.py $(SELECTS)
 
+lines: unifdef
+	bench/lines.py $(LINE_OPTIONS)
+
+lines-test: unifdef
+	@tests/lines.sh
+
 hostile: kit
 	cd crates/fuzz_run && $(RT) run < /dev/null > /dev/null
-	N='$(N)' SEED='$(SEED)' JOBS='$(JOBS)' bench/hostile.sh
+	N='$(N)' SEED='$(SEED)' JOBS='$(JOBS)' CHECKS='$(CHECKS)' bench/hostile.sh
 
 fronts: unifdef
 	cd crates/ref_cli && $(RT) run < /dev/null > /dev/null

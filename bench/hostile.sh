@@ -1,7 +1,8 @@
 #!/usr/bin/env bash
 # Compares the tool with the reference on hostile texts. README.md in this folder describes it.
 #
-# N: the number of cases. SEED: the first seed. JOBS: the number of processes.
+# N: the number of cases. SEED: the first seed. JOBS: the number of processes. CHECKS: `options` to
+# check what users of options may rely on, in place of the reference.
 set -eu -o pipefail
 export LC_ALL=C
 here=$(cd "$(dirname "$0")" && pwd)
@@ -9,6 +10,7 @@ program=$(dirname "$here")/crates/fuzz_run/out/fuzz_run
 cases=${N:-100000}
 seed=${SEED:-0}
 jobs=${JOBS:-$(nproc)}
+checks=${CHECKS:-}
 
 [ -x "$program" ] || { echo "hostile: $program is not there: run make hostile" >&2; exit 1; }
 
@@ -19,7 +21,7 @@ from=$seed
 end=$((seed + cases))
 while [ "$from" -lt "$end" ]; do
   count=$((end - from < block ? end - from : block))
-  echo "$from $count"
+  echo "$from $count $checks"
   from=$((from + count))
 done | xargs -P "$jobs" -L 1 "$program"
 echo "hostile: $cases cases from seed $seed on: no mismatch"

@@ -49,18 +49,27 @@ def logical_lines(text):
         yield line
 
 
-def neutral(text):
-    """Returns the text, with a word of its own for each other line's text, and the conditions."""
-    out, conditions = [], []
-    for number, line in enumerate(logical_lines(text)):
-        code = b"".join(b" " if is_comment(p) else b"" if p.startswith(b"\\") and p.endswith(b"\n") else p for p in line)
+def code_of(line):
+    """Returns a logical line without its splices, and with a space in place of each comment."""
+    return b"".join(b" " if is_comment(p) else b"" if p.startswith(b"\\") and p.endswith(b"\n") else p for p in line)
+
+
+def neutral(text, word=b"line_%d "):
+    """Returns the text with a word of its own for each other line's text, and the conditions.
+
+    A word has the number of its physical line in the text that is returned.
+    """
+    out, conditions, number = [], [], 1
+    for line in logical_lines(text):
+        kept, code = line, code_of(line)
         if CONDITIONAL.match(code):
-            out += line
             conditions.append(code)
-            continue
-        if code.strip():
-            out.append(b"line_%d " % number)
-        out += [p for p in line if is_comment(p) or p.endswith(b"\n")]
+        else:
+            kept = [p for p in line if is_comment(p) or p.endswith(b"\n")]
+            if code.strip():
+                kept.insert(0, word % number)
+        out += kept
+        number += sum(p.count(b"\n") for p in kept)
     return b"".join(out), conditions
 
 
@@ -116,18 +125,28 @@ def files(paths):
             yield from (os.path.join(folder, n) for n in sorted(names) if n.endswith((".c", ".h")))
 
 
-def main():
-    parser = argparse.ArgumentParser(description="Compares what a compiler selects before and after unifdef.")
+def parser_of(description):
+    """The options of a comparison over files."""
+    parser = argparse.ArgumentParser(description=description)
     parser.add_argument("--cc", default=os.environ.get("CC", "cc"))
     parser.add_argument("--unifdef", default="./unifdef")
     parser.add_argument("--seed", type=int, default=1)
     parser.add_argument("--count", type=int, default=0, help="that many files at random; 0 for all")
     parser.add_argument("paths", nargs="*", default=["/usr/include"])
-    args = parser.parse_args()
+    return parser
+
+
+def jobs_of(args):
+    """What is compared: each file with the seed, the compiler and the program."""
     found = [p for p in files(args.paths) if os.path.isfile(p)]
     if args.count and args.count < len(found):
         found = random.Random(args.seed).sample(found, args.count)
-    jobs = [(p, args.seed, args.cc, args.unifdef) for p in found]
+    return [(p, args.seed, args.cc, args.unifdef) for p in found]
+
+
+def main():
+    args = parser_of("Compares what a compiler selects before and after unifdef.").parse_args()
+    jobs = jobs_of(args)
     counts = {}
     with multiprocessing.Pool() as pool:
         for how, path, options in pool.imap_unordered(compare, jobs, chunksize=16):

@@ -1,0 +1,168 @@
+#!/usr/bin/env python3
+"""Compares the numbers that a compiler gives to the lines of C files before and after ./unifdef -n and -b.
+
+    bench/lines.py [--cc CC] [--unifdef PROGRAM] [--seed N] [--count N] [PATH...]
+    bench/lines.py [--cc CC] [--unifdef PROGRAM] --fixed
+
+Of each file (by default the headers of /usr/include) the conditional directives stay as they are, with their comments and
+continuations; every other line becomes a word of its own with `__LINE__` after it, and a third of the files gets carriage
+returns. Some symbols of its conditions are given to `unifdef` and to `cc -E -P` alike, as selects.py does. Then each line
+that the compiler selects of the output must have the number that it has in the input:
+
+- under -b;
+- under -n, unless the last `#line` before it is in a group that the compiler skips, which ignores the `#line` too;
+- under each of them, and with -c, if the compiler takes all groups, as without the conditional directives.
+
+With --fixed the texts are those below. The status is 1 if any line is selected or numbered in another way.
+"""
+
+import multiprocessing
+import random
+import re
+import subprocess
+import sys
+
+from selects import CONDITIONAL, chosen, code_of, is_comment, jobs_of, logical_lines, neutral, parser_of, selected
+
+WORD = b"line_%d __LINE__ "
+RENUMBERED = re.compile(rb"#line (\d+)\s*$")
+
+# Options and a text. `X` is left undecided, and is defined for the compiler in one of two runs.
+FIXED = [
+    ("-UA", b"a\n#ifdef A\nb\n#endif\nc\n"),
+    ("-UA", b"a\r\n#ifdef A\r\nb\r\n#endif\r\nc\r\n"),
+    ("-DA -UB", b"#ifdef A\na\n#ifdef B\nb\n#else\nc\n#endif\nd\n#else\ne\n#endif\nf\n"),
+    ("-DA -UB", b"#ifdef X\na\n#if A && !B\nb\n#ifdef B\nc\n#endif\nd\n#endif\ne\n#endif\nf\n"),
+    ("-UA", b"#ifdef A\na\n#elif defined X\nb\n#else\nc\n#endif\nd\n"),
+    ("-DA", b"#if X\r\na\r\n#elif A\r\nb\r\n#elif Y\r\nc\r\n#else\r\nd\r\n#endif\r\ne\r\n"),
+    ("-UA -DB=2", b"#ifdef X\na\n#elif A\nb\n#elif B > 1\nc\n#elif Y\nd\n#endif\ne\n"),
+    ("-UA", b"/* a\n * b\n */ c\n#ifdef A\n/* d\n*/\n#endif\ne /* f\n*/ g\n#if defined X && \\\n    1\nh \\\n\ni\n#endif\nj"),
+    ("-UA", b"#ifdef A\na\n#endif\n\n\n#ifdef A\nb\n#endif\n// c \\\nd\ne\n"),
+    ("-UA", b"#ifdef A\r\na\r\n#elif X\r\nb\r\n#endif\r\nc\n#ifndef A\nd\n#endif"),
+]
+
+
+def taken(text):
+    """The text without its conditional directives, so that a compiler takes all groups. Each line keeps its place."""
+    out = []
+    for line in logical_lines(text):
+        if CONDITIONAL.match(code_of(line)):
+            line = [p for p in line if is_comment(p) or p.endswith(b"\n")]
+        out += line
+    return b"".join(out)
+
+
+def numbers(cc, arguments, text):
+    """The selected words, each with the number of its line; None if the compiler refuses the text."""
+    words = selected(cc, arguments, text)
+    return words and list(zip(words[::2], words[1::2]))
+
+
+def skipped(cc, arguments, text):
+    """The words whose last `#line` is in a group that the compiler skips."""
+    marked, marks, count = [], {}, 0
+    for line in logical_lines(text):
+        code = code_of(line)
+        if RENUMBERED.match(code):
+            count += 1
+            line = [b"mark_%d\n" % count]
+        elif not CONDITIONAL.match(code):
+            marks.update((word, count) for word in code.split()[:1])
+        marked += line
+    seen = selected(cc, arguments, b"".join(marked)) or []
+    return {word for word, last in marks.items() if last and b"mark_%d" % last not in seen}
+
+
+def first_difference(expected, found, excused=()):
+    """The first line that is selected or numbered in another way, in words; and how many of the excused ones are."""
+    if [w for w, _ in expected] != [w for w, _ in found]:
+        return "selected in another way", 0
+    wrong = [(word, number, other) for (word, number), (_, other) in zip(expected, found) if number != other]
+    for word, number, other in wrong:
+        if word not in excused:
+            return f"{word.decode()}: numbered {other.decode()} in place of {number.decode()}", 0
+    return None, len(wrong)
+
+
+def check(cc, unifdef, options, arguments, source):
+    """What happened, the first difference if there is one, and how many lines were compared and excused."""
+    before, all_before = numbers(cc, arguments, source), numbers(cc, [], taken(source))
+    if before is None:
+        return "refused by the compiler", None, 0, 0
+    of_word = dict(all_before)
+    compared = excused = 0
+    changed = False
+    for flags in (["-b"], ["-n"], ["-c", "-b"], ["-c", "-n"]):
+        run = subprocess.run([unifdef, *options, *flags], input=source, capture_output=True)
+        if run.returncode == 2:
+            return "faulty", None, 0, 0
+        after = numbers(cc, [], taken(run.stdout))
+        difference, _ = first_difference([(word, of_word.get(word, b"?")) for word, _ in after], after)
+        compared += len(after)
+        if difference is None and "-c" not in flags:
+            changed = changed or run.returncode == 1
+            lost = skipped(cc, arguments, run.stdout) if "-n" in flags else ()
+            difference, count = first_difference(before, numbers(cc, arguments, run.stdout), lost)
+            compared += len(before)
+            excused += count
+        if difference is not None:
+            return "numbered in another way", f"{' '.join(flags)}: {difference}", compared, excused
+    return ("changed" if changed else "left as they are"), None, compared, excused
+
+
+def compare(job):
+    path, seed, cc, unifdef = job
+    with open(path, "rb") as file:
+        text = file.read()
+    rng = random.Random(f"{seed} {path}")
+    source, conditions = neutral(text, WORD)
+    source = source.replace(b"\r\n", b"\n")
+    if rng.randrange(3) == 0:
+        source = source.replace(b"\n", b"\r\n")
+    options, arguments = chosen(conditions, rng)
+    how, difference, *counts = check(cc, unifdef, options, arguments, source)
+    where = f"{path}, seed {seed}: {b' '.join(map(bytes_of, options)).decode('latin-1')}"
+    return how, where, difference, counts
+
+
+def bytes_of(option):
+    return option if isinstance(option, bytes) else option.encode()
+
+
+def compare_fixed(cc, unifdef):
+    for options, text in FIXED:
+        source, _ = neutral(text, WORD)
+        symbols = options.split()
+        for world in ([], ["-DX"], ["-DX", "-DY"]):
+            arguments = [o for o in symbols if o.startswith("-D")] + world
+            how, difference, *counts = check(cc, unifdef, symbols, arguments, source)
+            yield how, f"{options} {' '.join(world)}: {text!r}", difference, counts
+
+
+def report(results, what):
+    """Prints each difference, and what was compared. Returns the exit status."""
+    hows, files, compared, excused = {}, 0, 0, 0
+    for how, where, difference, counts in results:
+        files += 1
+        hows[how] = hows.get(how, 0) + 1
+        compared += counts[0]
+        excused += counts[1]
+        if difference is not None:
+            print(f"{where}: {difference}", flush=True)
+    print(f"{files} {what}: " + ", ".join(f"{n} {how}" for how, n in sorted(hows.items())))
+    print(f"{compared} lines compared; {excused} have another number after a #line that the compiler skips")
+    return 1 if "numbered in another way" in hows else 0
+
+
+def main():
+    parser = parser_of("Compares the numbers of lines before and after unifdef -n and -b.")
+    parser.add_argument("--fixed", action="store_true", help="the texts in this script")
+    args = parser.parse_args()
+    if args.fixed:
+        sys.exit(report(compare_fixed(args.cc, args.unifdef), "texts"))
+    with multiprocessing.Pool() as pool:
+        sys.exit(report(pool.imap_unordered(compare, jobs_of(args), chunksize=16), "files"))
+
+
+if __name__ == "__main__":
+    main()
