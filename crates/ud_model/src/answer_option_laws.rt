@@ -100,12 +100,13 @@ pub fn law_answer_complement()
         ShareLines (judged_lines xs (marks t)) a.output c.output }
 {}
 
-/// Under `-n` and `-b` a compiler selects the same lines, and each has its own number.
+/// Under `-n` and `-b` a compiler selects the same lines, and each line keeps its number.
 ///
 /// The other arguments only decide conditions: none of `-s`, `-S`, `-b`, `-l`, `-c`, `-n`, `-iD`
 /// and `-iU`. The selected lines of the output are those of the input, but for the inserted ones.
-/// Counting on from line to line, and anew after each `#line`, each line has its number in the
-/// input (C11 6.10.1p6, 6.10.4p3, unifdef(1)).
+/// Counting on from line to line, and anew after each inserted `#line`, each line has its number in
+/// the input. A compiler counts so too, but for the input's own `#line` directives, which it obeys,
+/// and those in a group that it skips, which it ignores (C11 6.10.1p6, 6.10.4p3, unifdef(1)).
 pub fn law_answer_numbers()
     ensures renumbers { (args : List (List ℕ)) → usage_fault args ≡ None →
         KeepsNumbers args (codes "-n" ∷ args) }

@@ -97,8 +97,8 @@ pub fn law_complement()
 ///
 /// The lines that are inserted come between logical lines. Each is scanned by itself, as a `#line`
 /// or a blank line, and each other line is scanned as without these options. Counting on from line
-/// to line, and anew after each `#line`, a line has its own number in the input (C11 6.10.4p3,
-/// unifdef(1)).
+/// to line, and anew after each inserted `#line`, a line has its own number in the input
+/// (C11 6.10.4p3, unifdef(1)).
 pub fn law_lines_are_counted()
     ensures { (o : Options) → IsPlain o → (b : Bool) → (n : Bool) → (b || n) ≡ true →
         (input : List ℕ) → (xs : List (Item Reading)) → (t : Tree Reading) → (f : Option Fault) →

@@ -11,8 +11,9 @@
 --                               with the same scan
 --   Counted js rs ss n          `rs` is the output for the judged lines without `-b` and `-n`, and
 --                               `ss` the output with one of them, both as they are read. Counting
---                               on in `ss`, and anew after each `#line`, each line of `rs` has its
---                               own number in the input. The next line would have the number `n`.
+--                               on in `ss`, and anew after each inserted `#line`, each line of
+--                               `rs` has its own number in the input. The next line would have the
+--                               number `n`.
 --
 -- Example: under `-n -UA` the output for `x`, `#ifdef A`, `y`, `#endif`, `z` is `x`, `#line 5`,
 -- `z`, and `z` has the number 5.
