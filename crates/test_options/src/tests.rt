@@ -55,9 +55,9 @@ fn worked_cases_keep_what_users_rely_on(rt: HostRuntime) -> Result<(), Fail> {
 #[test]
 fn texts_from_seeds_keep_what_users_rely_on(rt: HostRuntime) -> Result<(), Fail> {
     let mut asked = [0; 3];
-    for seed in 0..400 {
+    for seed in 0..300 {
         check(&rt, &case_of(rt.alloc(), seed)?, &mut asked)?;
     }
-    check_asked(&rt, asked, 160);
+    check_asked(&rt, asked, 120);
     Ok(())
 }
