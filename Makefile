@@ -81,7 +81,7 @@ edits: kit
 examples: unifdef
 	@tests/examples.sh README.md
 	@tests/examples.sh docs/EXAMPLES.md
-	@tests/quotes.sh docs/LIBRARY.md crates/example_library/src/*.rt
+	@tests/quotes.sh
 
 manual-examples: unifdef
 	@tests/manual.sh

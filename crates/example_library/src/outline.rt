@@ -39,7 +39,7 @@ impl<S: Show> Show for Outline<S> {
     }
 }
 
-/// What becomes of a line in an outline. A text line has no keyword.
+/// Returns the verdict of a line in an outline. A text line has no keyword.
 fn outlined(step: Step) -> Verdict
     ensures { result ≡ outline_verdict step.keyword.len step.verdict }
 {

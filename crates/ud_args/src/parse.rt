@@ -28,6 +28,23 @@ use std::alloc::Global;
 /// `-U` or `-i` before their first fault never give this error.
 ///
 /// (POSIX XBD 12.2, unifdef(1))
+///
+/// # Examples
+/// ```rust
+/// let args = [
+///     String::from_str(alloc, "-bDA")?,
+///     String::from_str(alloc, "in.c")?,
+/// ];
+/// let plan = plan(alloc, &args)?;
+/// println!(rt; "blank: {}", plan.settings().blank)?;
+/// println!(rt; "A is listed: {}", plan.symbols().find(b"A").is_some())?;
+/// println!(rt; "operand: {:?}", plan.operand())?;
+/// ```
+/// ```text
+/// blank: true
+/// A is listed: true
+/// operand: Some(1)
+/// ```
 pub fn plan(alloc: Global, args: &[String]) -> Result<Plan, Usage>
     ensures ok { IfOk result (IsPlanOf (map string_bytes args.now)) }
     ensures err { IfErr result (IsUsageOf (parsed_args (map string_bytes args.now))) }

@@ -213,6 +213,15 @@ fn condition_by_kind(kind: Kind, text: &[u8], symbols: &Symbols, rules: Rules) -
 /// are `#else` and `#endif`. Takes no memory.
 ///
 /// (C11 6.10.1; unifdef(1), `-D`, `-U`, `-iD`, `-iU`, `-k` and `-K`)
+///
+/// # Examples
+/// ```rust
+/// let answer = condition(Kind::If, b" VERSION >= 199901L", &symbols, rules);
+/// println!(rt; "{answer:?}")?;
+/// ```
+/// ```text
+/// Answer { cond: Yes, ignoring: false }
+/// ```
 #[inline(always)]
 pub fn condition(kind: Kind, text: &[u8], symbols: &Symbols, rules: Rules) -> Answer
     requires fits { length text.now ≤ LINE_BYTES }

@@ -58,6 +58,19 @@ fn single_name(text: &[u8]) -> Names<'_>
 /// `text` is what follows the keyword on its masked line, at most `LINE_BYTES`. Takes no memory.
 ///
 /// (unifdef(1), `-s` and `-S`)
+///
+/// # Examples
+/// ```rust
+/// let text = b" defined(A) && B > LIMIT(C)";
+/// for name in names(Kind::If, text) {
+///     println!(rt; "name: {}", name.escape_ascii())?;
+/// }
+/// ```
+/// ```text
+/// name: A
+/// name: B
+/// name: LIMIT
+/// ```
 pub fn names(kind: Kind, text: &[u8]) -> Names<'_>
     requires fits { length text.now ≤ LINE_BYTES }
     ensures { result ≡ names_of kind text.now }

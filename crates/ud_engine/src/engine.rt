@@ -118,6 +118,16 @@ impl<'p, S: Show> Engine<'p, S, LongLineBuffer> {
     /// asks for that.
     ///
     /// `show` has printed no line yet. Takes no memory.
+    ///
+    /// # Examples
+    /// ```rust
+    /// let mut engine = Engine::new(&plan, Blank::new());
+    /// engine.feed(b"#ifdef A\nx\n#endif\n", &mut out)?;
+    /// println!(rt; "blanked: {}", out.inner().as_slice().escape_ascii())?;
+    /// ```
+    /// ```text
+    /// blanked: \nx\n\n
+    /// ```
     pub fn new(plan: &'p Plan, show: S) -> Engine<'p, S, LongLineBuffer>
         ensures represents { (o : Options) → (piece : List Judged → Judged → List ℕ) →
             o.settings ≡ plan.now.settings → TableRepresents plan.now.symbols o.table →
@@ -170,6 +180,18 @@ impl<'p, S: Show, H: LineBuffer> Engine<'p, S, H> {
     ///
     /// The engine is then fused: every later `feed` and `finish` returns the same error, and writes
     /// nothing.
+    ///
+    /// # Examples
+    /// ```rust
+    /// engine.feed(b"#ifdef A\nx\ny", &mut out)?;
+    /// println!(rt; "one chunk: {}", out.inner().as_slice().escape_ascii())?;
+    /// engine.feed(b"\n#endif\n", &mut out)?;
+    /// println!(rt; "two chunks: {}", out.inner().as_slice().escape_ascii())?;
+    /// ```
+    /// ```text
+    /// one chunk: x\n
+    /// two chunks: x\ny\n
+    /// ```
     pub fn feed<W: Write>(&mut self, chunk: &[u8], out: &mut Watched<W>) -> Result<(), RunFault>
         requires not_failed { self.old.fault ≡ None → out.old.failed ≡ false }
         requires fits { HasCapacity H.CAPACITY self.old.lines (length chunk.now) }
@@ -213,6 +235,17 @@ impl<'p, S: Show, H: LineBuffer> Engine<'p, S, H> {
     /// - `Section` if the text ends in a block comment or a section, after the output for all
     ///   lines.
     /// - `Write` if a write fails.
+    ///
+    /// # Examples
+    /// ```rust
+    /// engine.feed(b"#ifndef A\nx\n#endif\ny", &mut out)?;
+    /// println!(rt; "differs: {}", engine.finish(&mut out)?)?;
+    /// println!(rt; "output: {}", out.inner().as_slice().escape_ascii())?;
+    /// ```
+    /// ```text
+    /// differs: true
+    /// output: y
+    /// ```
     pub fn finish<W: Write>(self, out: &mut Watched<W>) -> Result<bool, RunFault>
         requires { self.fault ≡ None → out.old.failed ≡ false }
         ensures ended { (o : Options) → (pieces : List Judged → Judged → List ℕ) → (text : List ℕ) →

@@ -40,6 +40,20 @@ pub(crate) const CHUNK_BYTES: usize = 8_192;
 /// - `Section` if the text ends in a comment or a section, after the output for all lines.
 /// - `Read` if a read fails, after the output for the whole lines before.
 /// - `Write` if a write fails.
+///
+/// # Examples
+/// ```rust
+/// let mut reader = Watched::new(b"#ifdef A\nx\n#else\ny\n#endif\n".as_slice());
+/// let mut out = Watched::new(Vec::<u8>::new(alloc));
+///
+/// let differs = run(&plan, &mut reader, &mut out)?;
+/// println!(rt; "differs: {differs}")?;
+/// println!(rt; "output: {}", out.inner().as_slice().escape_ascii())?;
+/// ```
+/// ```text
+/// differs: true
+/// output: x\n
+/// ```
 pub fn run<R: Read, W: Write>(
     plan: &Plan,
     reader: &mut Watched<R>,

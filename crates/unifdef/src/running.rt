@@ -42,6 +42,26 @@ use ud_engine::{Watched, run};
 /// - The flush fails after a run without a fault.
 ///
 /// If `err` fails, the message may be truncated, and the status is unchanged.
+///
+/// # Examples
+/// ```rust
+/// let text: &[u8] = b"#ifdef DEBUG\nlog();\n#endif\nrun();\n#endif\n";
+/// let args = [String::from_str(alloc, "-UDEBUG")?];
+///
+/// let mut reader = Watched::new(text);
+/// let mut out = Watched::new(Vec::<u8>::new(alloc));
+/// let mut err = Watched::new(Vec::<u8>::new(alloc));
+/// let status = tool(alloc, &args, &mut reader, &mut out, &mut err);
+///
+/// println!(rt; "status {status}")?;
+/// println!(rt; "output {}", out.inner().as_slice().escape_ascii())?;
+/// println!(rt; "message {}", err.inner().as_slice().escape_ascii())?;
+/// ```
+/// ```text
+/// status 2
+/// output run();\n
+/// message unifdef: stdin: 5: Inappropriate #endif\n
+/// ```
 pub fn tool<R: Read, W: Write, E: Write>(
     alloc: Global,
     args: &[String],

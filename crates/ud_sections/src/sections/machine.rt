@@ -129,6 +129,21 @@ impl Machine {
     /// - It is a directive that spans lines and would have to be edited or removed.
     ///
     /// The open sections are unchanged, and every later `step` and `finish` returns the same error.
+    ///
+    /// # Examples
+    /// ```rust
+    /// let mut machine = Machine::new(plan.settings());
+    /// let line = Line {
+    ///     body: b"#ifdef A",
+    ///     ending: b"\n",
+    ///     number: 1,
+    /// };
+    /// let scan = scanner.read(machine.mode(), &line);
+    /// println!(rt; "{:?}", machine.step(&scan, &line, plan.symbols()))?;
+    /// ```
+    /// ```text
+    /// Ok(Step { verdict: Remove, keyword: Span { at: 1, len: 5 } })
+    /// ```
     #[inline(always)]
     pub fn step(
         &mut self,

@@ -389,6 +389,23 @@ impl Scanner {
     /// The line's body has at most `LINE_BYTES`, none of which is a newline. In plain mode the line
     /// is masked unchanged, and the next line in C mode starts afresh. In C mode each masked byte
     /// has the index that it has in the body (C11 5.1.1.2, phases 2 and 3, and 6.4.9).
+    ///
+    /// # Examples
+    /// ```rust
+    /// let mut scanner = Scanner::new();
+    /// let line = Line {
+    ///     body: b"#if A /* since",
+    ///     ending: b"\n",
+    ///     number: 1,
+    /// };
+    /// let scan = scanner.read(Mode::C, &line);
+    /// println!(rt; "masked: [{}]", scan.masked.escape_ascii())?;
+    /// println!(rt; "joins the next line: {}", scan.joins_after)?;
+    /// ```
+    /// ```text
+    /// masked: [#if A         ]
+    /// joins the next line: true
+    /// ```
     #[inline(always)]
     pub fn read<'s, 'a: 's>(&'s mut self, mode: Mode, line: &Line<'a>) -> Scan<'s>
         requires fits { length line.now.body.now ≤ LINE_BYTES }
