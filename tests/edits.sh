@@ -1,17 +1,16 @@
 #!/usr/bin/env bash
-# Tries the second edits, which the gate leaves out for their time. The prover must refuse each.
+# Tries the second edits, which the gate leaves out for their time: the prover must refuse each.
 #
-# edits.sh [CRATE ..]: all crates by default. CONTRIBUTING.md explains what an edit is.
+# edits.sh [CRATE ..]: the edits of these crates, or of all. CONTRIBUTING.md says what an edit is.
 set -eu -o pipefail
 root=$(cd "$(dirname "$0")/.." && pwd)
 work=$(mktemp -d)
 trap 'rm -rf "$work"' EXIT
 
 cp -r "$root/crates" "$root/crates.txt" "$root/HANDLES" "$work"
-for first in "$work"/crates/*/must-fail; do
-  [ ! -d "$first/second" ] || mv "$first/second" "$first.second"
-  rm -r "$first"
-  [ ! -d "$first.second" ] || mv "$first.second" "$first"
+rm -rf "$work"/crates/*/must-fail
+for second in "$work"/crates/*/must-fail-second; do
+  mv "$second" "${second%-second}"
 done
 
 cd "$work"

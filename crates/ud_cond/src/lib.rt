@@ -2,10 +2,11 @@
 //!
 //! `ud_model.specs.conditions.Table` defines what a list of calls says of a name, and
 //! `ud_model.specs.conditions.Conditions` what a condition is.
-//! `specs.SymbolTable` defines what a `Symbols` represents and how its rows are sorted,
-//! `specs.NameFilters` which names are known to be unlisted without a search,
-//! `specs.Evaluation` the value that `fast_path` or `parsing` keeps of an expression, and
-//! `specs.TwoSlots` and `specs.Stacks` the operators that are pending meanwhile.
+//! `specs.symbols.SymbolTable` defines what a `Symbols` represents and how its rows are sorted,
+//! `specs.symbols.NameFilters` which names are known to be unlisted without a search,
+//! `specs.expressions.Evaluation` the value that `fast_path` or `parsing` keeps of an expression,
+//! and `specs.expressions.TwoSlots` and `specs.expressions.Stacks` the operators that are pending
+//! meanwhile.
 #![tactic(auto)]
 
 mod conditions;

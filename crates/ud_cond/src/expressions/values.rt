@@ -1,7 +1,7 @@
 //! The values of the parts of an expression.
 //!
 //! `ud_model.specs.conditions.Values` defines the numbers (C11 6.10.1p4 and 6.5), and
-//! `specs.Evaluation` the facts that are kept beside them.
+//! `specs.expressions.Evaluation` the facts that are kept beside them.
 
 ghost use Rattle.std.specs.Prelude.{◌≡◌, Some, option_and_then, option_map};
 ghost use Rattle.ud_model.specs.conditions.Table.{entry_in};
