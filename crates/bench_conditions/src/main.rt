@@ -32,22 +32,22 @@ impl Tally {
 }
 
 fn main(rt: HostRuntime) -> io::Result<()> {
-    let mut words = Vec::new(rt.alloc());
+    let mut args = Vec::new(rt.alloc());
     for word in env::args(&rt)?.skip(1) {
-        words.push(word).map_err(AllocError::from)?;
+        args.push(word).map_err(AllocError::from)?;
     }
-    let by_bytes = words
+    let by_bytes = args
         .as_slice()
         .first()
         .is_some_and(|word| word.as_str() == "bytes");
-    let passes = words
+    let passes = args
         .as_slice()
         .get(1)
         .and_then(|word| word.as_str().parse::<u32>().ok())
         .unwrap_or(1);
     let mut texts = Vec::new(rt.alloc());
     rt.stdin().read_to_end(&mut texts)?;
-    let symbols = match table(rt.alloc(), names_in(words.as_slice())) {
+    let symbols = match table(rt.alloc(), names_in(args.as_slice())) {
         Ok(symbols) => symbols,
         Err(_) => return Err(io::Error::from(io::ErrorKind::InvalidInput)),
     };
@@ -63,8 +63,8 @@ fn main(rt: HostRuntime) -> io::Result<()> {
 }
 
 /// Returns the arguments after the first two.
-fn names_in(words: &[String]) -> &[String] {
-    if words.len() < 2 { &[] } else { &words[2..] }
+fn names_in(args: &[String]) -> &[String] {
+    if args.len() < 2 { &[] } else { &args[2..] }
 }
 
 /// Returns the table that defines each of these names as 1.

@@ -15,13 +15,13 @@ use std::{env, io};
 use test_options::{CHECKS, Finding, findings};
 
 fn main(rt: HostRuntime) -> io::Result<()> {
-    let mut words = Vec::new(rt.alloc());
+    let mut args = Vec::new(rt.alloc());
     for word in env::args(&rt)?.skip(1) {
-        words.push(word).map_err(AllocError::from)?;
+        args.push(word).map_err(AllocError::from)?;
     }
-    let first = number_at(words.as_slice(), 0).unwrap_or(0);
-    let count = number_at(words.as_slice(), 1).unwrap_or(1000);
-    if words.get(2).is_some_and(|word| word.as_str() == "options") {
+    let first = number_at(args.as_slice(), 0).unwrap_or(0);
+    let count = number_at(args.as_slice(), 1).unwrap_or(1000);
+    if args.get(2).is_some_and(|word| word.as_str() == "options") {
         return check_options(&rt, first, count);
     }
     for at in 0..count {
@@ -35,8 +35,8 @@ fn main(rt: HostRuntime) -> io::Result<()> {
 }
 
 /// Returns the argument at an index as a number, if it is one.
-fn number_at(words: &[String], at: usize) -> Option<u64> {
-    words.get(at)?.as_str().parse::<u64>().ok()
+fn number_at(args: &[String], at: usize) -> Option<u64> {
+    args.get(at)?.as_str().parse::<u64>().ok()
 }
 
 /// Prints the seed of a case, and the case that it shrinks to.
@@ -47,7 +47,7 @@ fn report(rt: &impl Print, alloc: Global, case: Case) -> io::Result<()> {
 
 /// Prints the arguments and the text of a case.
 fn print_case(rt: &impl Print, case: &Case) -> io::Result<()> {
-    for word in &case.words {
+    for word in &case.args {
         println!(rt; "word {word}")?;
     }
     println!(rt; "text {}", case.text.as_slice().escape_ascii())

@@ -1,7 +1,7 @@
 //! Comparing the tool with the reference.
 
 use crate::case::Case;
-use crate::pieces::Pieces;
+use crate::chunks::Chunks;
 use ref_unifdef::{Answer, answer_to};
 use std::alloc::{AllocError, Global};
 use unifdef::{Watched, tool};
@@ -11,7 +11,7 @@ use unifdef::{Watched, tool};
 /// # Errors
 /// Fails if memory runs out.
 pub fn agree(alloc: Global, case: &Case) -> Result<bool, AllocError> {
-    let expected = answer_to(alloc, case.words.as_slice(), case.text.as_slice())?;
+    let expected = answer_to(alloc, case.args.as_slice(), case.text.as_slice())?;
     let given = run(alloc, case)?;
     Ok(
         given.status == expected.status
@@ -22,16 +22,10 @@ pub fn agree(alloc: Global, case: &Case) -> Result<bool, AllocError> {
 
 /// Returns the answer of the tool.
 fn run(alloc: Global, case: &Case) -> Result<Answer, AllocError> {
-    let mut reader = Watched::new(Pieces::new(case.text.as_slice(), case.seed));
+    let mut reader = Watched::new(Chunks::new(case.text.as_slice(), case.seed));
     let mut out = Watched::new(Vec::<u8>::new(alloc));
     let mut err = Watched::new(Vec::<u8>::new(alloc));
-    let status = tool(
-        alloc,
-        case.words.as_slice(),
-        &mut reader,
-        &mut out,
-        &mut err,
-    );
+    let status = tool(alloc, case.args.as_slice(), &mut reader, &mut out, &mut err);
     Ok(Answer {
         output: Vec::from_slice(alloc, out.inner().as_slice())?,
         message: Vec::from_slice(alloc, err.inner().as_slice())?,

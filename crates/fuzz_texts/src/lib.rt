@@ -8,19 +8,19 @@
 //! of the meaning.
 #![tactic(auto)]
 
+mod args;
 mod case;
+mod chunks;
 mod comparing;
 mod expressions;
 mod lines;
-mod pieces;
 mod random;
 mod sections;
 mod shrinking;
-mod words;
 mod writer;
 
 pub use case::{Case, case_of};
+pub use chunks::Chunks;
 pub use comparing::agree;
-pub use pieces::Pieces;
 pub use random::Random;
 pub use shrinking::smallest;

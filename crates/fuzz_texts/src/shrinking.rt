@@ -15,7 +15,7 @@ const RUNS: [usize; 10] = [4096, 512, 64, 16, 8, 4, 2, 1, 2, 1];
 /// # Errors
 /// Fails if memory runs out.
 pub fn smallest(alloc: Global, case: Case) -> Result<Case, AllocError> {
-    let mut best = without_words(alloc, case)?;
+    let mut best = without_args(alloc, case)?;
     for size in RUNS {
         best = without_runs(alloc, best, size)?;
     }
@@ -23,11 +23,11 @@ pub fn smallest(alloc: Global, case: Case) -> Result<Case, AllocError> {
 }
 
 /// Leaves out each argument that can be left out, the last one first.
-fn without_words(alloc: Global, case: Case) -> Result<Case, AllocError> {
+fn without_args(alloc: Global, case: Case) -> Result<Case, AllocError> {
     let mut best = case;
-    for at in (0..best.words.len()).rev() {
+    for at in (0..best.args.len()).rev() {
         let shorter = Case {
-            words: other_words(alloc, best.words.as_slice(), at)?,
+            args: other_args(alloc, best.args.as_slice(), at)?,
             text: Vec::from_slice(alloc, best.text.as_slice())?,
             seed: best.seed,
         };
@@ -39,13 +39,9 @@ fn without_words(alloc: Global, case: Case) -> Result<Case, AllocError> {
 }
 
 /// Returns all arguments but the one at `left_out`.
-fn other_words(
-    alloc: Global,
-    words: &[String],
-    left_out: usize,
-) -> Result<Vec<String>, AllocError> {
+fn other_args(alloc: Global, args: &[String], left_out: usize) -> Result<Vec<String>, AllocError> {
     let mut others = Vec::new(alloc);
-    for (at, word) in words.iter().enumerate() {
+    for (at, word) in args.iter().enumerate() {
         if at != left_out {
             others.push(String::from_str(alloc, word.as_str())?)?;
         }
@@ -58,7 +54,7 @@ fn without_runs(alloc: Global, case: Case, size: usize) -> Result<Case, AllocErr
     let mut best = case;
     for run in (0..=best.text.len() / size.max(1)).rev() {
         let shorter = Case {
-            words: other_words(alloc, best.words.as_slice(), usize::MAX)?,
+            args: other_args(alloc, best.args.as_slice(), usize::MAX)?,
             text: without_run(alloc, best.text.as_slice(), run.saturating_mul(size), size)?,
             seed: best.seed,
         };

@@ -11,13 +11,13 @@ use std::process::ExitCode;
 use std::{env, io};
 
 fn main(rt: HostRuntime) -> io::Result<ExitCode> {
-    let mut words = Vec::new(rt.alloc());
+    let mut args = Vec::new(rt.alloc());
     for word in env::args(&rt)?.skip(1) {
-        words.push(word).map_err(AllocError::from)?;
+        args.push(word).map_err(AllocError::from)?;
     }
     let mut text = Vec::new(rt.alloc());
     rt.stdin().read_to_end(&mut text)?;
-    let answer = answer_to(rt.alloc(), words.as_slice(), text.as_slice())?;
+    let answer = answer_to(rt.alloc(), args.as_slice(), text.as_slice())?;
     rt.stdout().write_all(answer.output.as_slice())?;
     rt.stderr().write_all(answer.message.as_slice())?;
     Ok(ExitCode::from(answer.status))

@@ -1,17 +1,17 @@
 //! The answer to a command line and a text.
 
-use crate::messages::{Fault, FaultyLine, message, refusal};
+use crate::messages::{Fault, FaultyLine, message, usage_message};
+use crate::obfuscated::first_obfuscated;
 use crate::printing::print;
 use crate::pruning::prune;
 use crate::reading::Reader;
-use crate::spoiled::first_spoiled;
 use std::alloc::{AllocError, Global};
 use ud_args::{Plan, display_name, plan};
 use ud_model::{ExitMode, Listing, Settings};
 use ud_text::Scanner;
 
 /// The exit status after a fault.
-const TROUBLE: u8 = 2;
+const EXIT_TROUBLE: u8 = 2;
 
 /// The output, the message and the exit status of a run.
 #[derive(Drop)]
@@ -28,13 +28,13 @@ pub struct Answer {
 ///
 /// # Errors
 /// Fails if memory runs out.
-pub fn answer_to(alloc: Global, words: &[String], text: &[u8]) -> Result<Answer, AllocError> {
-    match plan(alloc, words) {
-        Ok(plan) => run(alloc, &plan, display_name(words), text),
+pub fn answer_to(alloc: Global, args: &[String], text: &[u8]) -> Result<Answer, AllocError> {
+    match plan(alloc, args) {
+        Ok(plan) => run(alloc, &plan, display_name(args), text),
         Err(usage) => Ok(Answer {
             output: Vec::new(alloc),
-            message: refusal(alloc, usage)?,
-            status: TROUBLE,
+            message: usage_message(alloc, usage)?,
+            status: EXIT_TROUBLE,
         }),
     }
 }
@@ -48,7 +48,7 @@ fn run(alloc: Global, plan: &Plan, name: &[u8], text: &[u8]) -> Result<Answer, A
         symbols: plan.symbols(),
         rest: text,
         scanner: Scanner::new(),
-        rows: Vec::new(alloc),
+        lines_read: Vec::new(alloc),
         fault: None,
         last: 0,
         open: None,
@@ -56,16 +56,21 @@ fn run(alloc: Global, plan: &Plan, name: &[u8], text: &[u8]) -> Result<Answer, A
     let tree = reader.read()?;
     let mut marks = Vec::new(alloc);
     prune(tree.as_slice(), true, &mut marks)?;
-    if let Some(line) = first_spoiled(reader.rows.as_slice(), marks.as_slice()) {
-        reader.rows.truncate(line.saturating_sub(1) as usize);
+    if let Some(line) = first_obfuscated(reader.lines_read.as_slice(), marks.as_slice()) {
+        reader.lines_read.truncate(line.saturating_sub(1) as usize);
         reader.fault = Some(FaultyLine {
             line,
             fault: Fault::Obfuscated,
         });
     }
-    let printed = print(alloc, reader.rows.as_slice(), marks.as_slice(), settings)?;
+    let printed = print(
+        alloc,
+        reader.lines_read.as_slice(),
+        marks.as_slice(),
+        settings,
+    )?;
     let (message, status) = match reader.fault {
-        Some(faulty) => (message(alloc, name, faulty)?, TROUBLE),
+        Some(faulty) => (message(alloc, name, faulty)?, EXIT_TROUBLE),
         None => (Vec::new(alloc), status_by(settings, printed.differs)),
     };
     Ok(Answer {

@@ -7,13 +7,13 @@
 #![tactic(auto)]
 
 mod answering;
+mod classify_line;
 mod cutting;
 mod messages;
+mod obfuscated;
 mod printing;
 mod pruning;
 mod reading;
-mod seeing;
-mod spoiled;
 mod tree;
 
 pub use answering::{Answer, answer_to};

@@ -60,7 +60,7 @@ fn text_of(alloc: Global, fault: Fault) -> Result<String, AllocError> {
 }
 
 /// Returns the message of a fault in the arguments.
-pub(crate) fn refusal(alloc: Global, usage: Usage) -> Result<Vec<u8>, AllocError> {
+pub(crate) fn usage_message(alloc: Global, usage: Usage) -> Result<Vec<u8>, AllocError> {
     let text = match usage {
         Usage::UnknownOption { letter } => {
             format!(in alloc; "unifdef: Unknown option -{letter}\n")

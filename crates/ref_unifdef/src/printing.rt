@@ -1,7 +1,7 @@
 //! Printing the output for a text, or the names in it.
 
+use crate::classify_line::ClassifiedLine;
 use crate::pruning::Mark;
-use crate::seeing::Row;
 use std::alloc::{AllocError, Global};
 use ud_model::{Listing, Settings};
 use ud_sections::{Printer, Show, Step};
@@ -17,7 +17,7 @@ pub(crate) struct Printed {
 /// Prints lines by their marks, or lists the names on them. If names are listed, no line differs.
 pub(crate) fn print(
     alloc: Global,
-    rows: &[Row<'_>],
+    lines_read: &[ClassifiedLine<'_>],
     marks: &[Mark],
     settings: Settings,
 ) -> Result<Printed, AllocError> {
@@ -26,32 +26,34 @@ pub(crate) fn print(
         differs: false,
     };
     let mut printer = Printer::of(&settings);
-    for (row, mark) in rows.iter().zip(marks) {
+    for (line_read, mark) in lines_read.iter().zip(marks) {
         if settings.listing == Listing::Off {
-            let same = print_row(&mut printed.output, &mut printer, row, *mark)?;
+            let same = print_line(&mut printed.output, &mut printer, line_read, *mark)?;
             printed.differs |= !same;
         } else {
-            printed.output.extend_from_slice(row.names.as_slice())?;
+            printed
+                .output
+                .extend_from_slice(line_read.names.as_slice())?;
         }
     }
     Ok(printed)
 }
 
 /// Prints a line. Returns whether the output is the line itself.
-fn print_row(
+fn print_line(
     output: &mut Vec<u8>,
     printer: &mut Printer,
-    row: &Row<'_>,
+    line_read: &ClassifiedLine<'_>,
     mark: Mark,
 ) -> Result<bool, AllocError> {
     let line = Line {
-        body: row.line.body,
-        ending: row.line.ending,
-        number: row.line.number,
+        body: line_read.line.body,
+        ending: line_read.line.ending,
+        number: line_read.line.number,
     };
     let step = Step {
         verdict: mark.verdict,
-        keyword: row.keyword,
+        keyword: line_read.keyword,
     };
     let pieces = printer.pieces(&line, step);
     for part in pieces.parts() {

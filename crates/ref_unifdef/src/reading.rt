@@ -5,9 +5,9 @@ ghost use Rattle.std.specs.Prelude.{◌≡◌, ◌<◌, ◌≤◌, length, IfOk,
 ghost use Rattle.ud_model.specs.text.Lines.{NoNewline};
 ghost use Rattle.ud_model.specs.declared.limits.TheConstants.{LINE_BYTES, OPEN_SECTIONS};
 
+use crate::classify_line::{ClassifiedLine, classify, list};
 use crate::cutting::cut_line;
 use crate::messages::{Fault, FaultyLine};
-use crate::seeing::{Row, list, see};
 use crate::tree::{Group, Node, Section};
 use std::alloc::{AllocError, Global};
 use ud_cond::Symbols;
@@ -24,7 +24,7 @@ pub(crate) struct Reader<'a> {
     pub rest: &'a [u8],
     pub scanner: Scanner,
     /// The lines that were read and aren't faulty, in order.
-    pub rows: Vec<Row<'a>>,
+    pub lines_read: Vec<ClassifiedLine<'a>>,
     /// The first fault. Nothing is read after it.
     pub fault: Option<FaultyLine>,
     /// The number of the last line; 0 if none is read.
@@ -35,9 +35,9 @@ pub(crate) struct Reader<'a> {
 
 /// The nodes of a group or of the whole text, and the directive that ends it, if any.
 #[derive(Drop)]
-struct Place<'a> {
+struct Position<'a> {
     nodes: Vec<Node>,
-    closer: Option<Row<'a>>,
+    closer: Option<ClassifiedLine<'a>>,
 }
 
 impl<'a> Reader<'a> {
@@ -50,21 +50,21 @@ impl<'a> Reader<'a> {
         } else {
             Mode::C
         };
-        let Place { nodes, closer } = self.place(mode, 0)?;
-        if let Some(row) = closer {
-            self.refuse(row.line.number, misplaced(row.role));
+        let Position { nodes, closer } = self.position(mode, 0)?;
+        if let Some(line_read) = closer {
+            self.record_fault(line_read.line.number, misplaced(line_read.role));
         }
         if self.scanner.in_comment() {
-            self.refuse(self.last, Fault::EofInComment);
+            self.record_fault(self.last, Fault::EofInComment);
         }
         if let Some(if_line) = self.open {
-            self.refuse(self.last, Fault::PrematureEof { if_line });
+            self.record_fault(self.last, Fault::PrematureEof { if_line });
         }
         Ok(nodes)
     }
 
     /// Records the fault of a line. The first fault counts.
-    fn refuse(&mut self, line: u32, fault: Fault)
+    fn record_fault(&mut self, line: u32, fault: Fault)
         ensures { self.new.rest ≡ self.old.rest }
     {
         self.fault = self.fault.or(Some(FaultyLine { line, fault }));
@@ -83,12 +83,12 @@ impl<'a> Reader<'a> {
             return None;
         }
         if self.last >= TEXT_LINES {
-            self.refuse(TEXT_LINES + 1, Fault::TooManyLines);
+            self.record_fault(TEXT_LINES + 1, Fault::TooManyLines);
             return None;
         }
         let (line, rest) = cut_line(self.rest, self.last + 1);
         if line.body.len() + line.ending.len() > LINE_BYTES {
-            self.refuse(line.number, Fault::LineTooLong);
+            self.record_fault(line.number, Fault::LineTooLong);
             return None;
         }
         self.rest = rest;
@@ -98,9 +98,9 @@ impl<'a> Reader<'a> {
 
     /// Reads the next line in this mode, with `level` open sections. Returns `None` at the end of
     /// the text and at a fault.
-    fn next(&mut self, mode: Mode, level: usize) -> Result<Option<Row<'a>>, AllocError>
+    fn next(&mut self, mode: Mode, level: usize) -> Result<Option<ClassifiedLine<'a>>, AllocError>
         ensures left { length self.new.rest.now ≤ length self.old.rest.now }
-        ensures shorter { IfOk result (λ row. IfSome row
+        ensures shorter { IfOk result (λ line_read. IfSome line_read
             (λ r. length self.new.rest.now < length self.old.rest.now)) }
     {
         let Some(line) = self.next_line() else {
@@ -108,44 +108,44 @@ impl<'a> Reader<'a> {
         };
         let scan = self.scanner.read(mode, &line);
         let names = list(self.alloc, &scan, self.settings.listing, level)?;
-        let Ok(row) = see(line, &scan, self.symbols, self.settings, names) else {
-            self.refuse(line.number, Fault::Obfuscated);
+        let Ok(line_read) = classify(line, &scan, self.symbols, self.settings, names) else {
+            self.record_fault(line.number, Fault::Obfuscated);
             return Ok(None);
         };
-        Ok(Some(row))
+        Ok(Some(line_read))
     }
 
     /// Reads nodes with `level` open sections, up to a directive that ends their group, to the end
     /// of the text or to a fault.
     #[cycle(reading)]
-    fn place(&mut self, mode: Mode, level: usize) -> Result<Place<'a>, AllocError>
+    fn position(&mut self, mode: Mode, level: usize) -> Result<Position<'a>, AllocError>
         requires { level ≤ OPEN_SECTIONS }
         ensures left { OnOk result (length self.new.rest.now ≤ length self.old.rest.now) }
-        ensures shorter { IfOk result (λ place. IfSome place.closer
+        ensures shorter { IfOk result (λ position. IfSome position.closer
             (λ r. length self.new.rest.now < length self.old.rest.now)) }
     {
         let mut nodes = Vec::new(self.alloc);
-        'lines: while let Some(row) = self.next(mode, level)? {
-            match row.role {
+        'lines: while let Some(line_read) = self.next(mode, level)? {
+            match line_read.role {
                 None => {
-                    self.rows.push(row)?;
+                    self.lines_read.push(line_read)?;
                     nodes.push(Node::Text)?;
                 }
                 Some(Role::IfGroup) if level == OPEN_SECTIONS => {
-                    self.refuse(row.line.number, Fault::TooManyLevels);
+                    self.record_fault(line_read.line.number, Fault::TooManyLevels);
                 }
                 Some(Role::IfGroup) => {
-                    nodes.push(Node::Section(self.section(row, mode, level)?))?;
+                    nodes.push(Node::Section(self.section(line_read, mode, level)?))?;
                 }
                 Some(Role::ElifGroup | Role::ElseGroup | Role::EndifLine) => {
-                    return Ok(Place {
+                    return Ok(Position {
                         nodes,
-                        closer: Some(row),
+                        closer: Some(line_read),
                     });
                 }
             }
         }
-        Ok(Place {
+        Ok(Position {
             nodes,
             closer: None,
         })
@@ -153,18 +153,23 @@ impl<'a> Reader<'a> {
 
     /// Reads a section after its first directive.
     #[cycle(reading)]
-    fn section(&mut self, first: Row<'a>, mode: Mode, level: usize) -> Result<Section, AllocError>
+    fn section(
+        &mut self,
+        first: ClassifiedLine<'a>,
+        mode: Mode,
+        level: usize,
+    ) -> Result<Section, AllocError>
         requires { level < OPEN_SECTIONS }
         ensures left { OnOk result (length self.new.rest.now ≤ length self.old.rest.now) }
     {
         let if_line = first.line.number;
         let mode = if first.ignoring { Mode::Plain } else { mode };
         let mut groups = Vec::new(self.alloc);
-        let mut row = first;
+        let mut line_read = first;
         'groups: loop {
-            let (role, cond) = (row.role, row.cond);
-            self.rows.push(row)?;
-            let Place { nodes, closer } = self.place(mode, level + 1)?;
+            let (role, cond) = (line_read.role, line_read.cond);
+            self.lines_read.push(line_read)?;
+            let Position { nodes, closer } = self.position(mode, level + 1)?;
             groups.push(Group { role, cond, nodes })?;
             let Some(next) = closer else {
                 self.open = self.open.or(Some(if_line));
@@ -174,20 +179,20 @@ impl<'a> Reader<'a> {
                 });
             };
             if next.role == Some(Role::EndifLine) {
-                self.rows.push(next)?;
+                self.lines_read.push(next)?;
                 return Ok(Section {
                     groups,
                     is_closed: true,
                 });
             }
             if role == Some(Role::ElseGroup) {
-                self.refuse(next.line.number, misplaced(next.role));
+                self.record_fault(next.line.number, misplaced(next.role));
                 return Ok(Section {
                     groups,
                     is_closed: false,
                 });
             }
-            row = next;
+            line_read = next;
         }
     }
 }

@@ -93,9 +93,9 @@ pub fn nested(alloc: Global, depth: usize) -> Result<Vec<u8>, AllocError> {
 ///
 /// # Errors
 /// Fails if memory runs out.
-pub fn parted(alloc: Global, words: &str) -> Result<Vec<String>, AllocError> {
+pub fn parted(alloc: Global, args: &str) -> Result<Vec<String>, AllocError> {
     let mut owned = Vec::new(alloc);
-    for word in words.split_whitespace() {
+    for word in args.split_whitespace() {
         owned.push(String::from_str(alloc, word)?)?;
     }
     Ok(owned)

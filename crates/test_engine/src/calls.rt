@@ -15,9 +15,9 @@ fn a_usage_fault_makes_no_call(rt: HostRuntime) -> Result<(), Fail> {
         ("-tx3 -DA", "unifdef: Bad exit mode in word 1\n"),
         ("-DA a b", "unifdef: Too many files\n"),
     ];
-    for &(words, message) in &cases {
+    for &(args, message) in &cases {
         let stream = Stream {
-            words,
+            args,
             input: b"#endif\n",
             message,
             status: 2,
@@ -97,7 +97,7 @@ fn the_end_is_read_once(rt: HostRuntime) -> Result<(), Fail> {
 }
 
 #[test]
-fn output_leaves_in_one_write_a_piece(rt: HostRuntime) -> Result<(), Fail> {
+fn output_leaves_in_one_write_a_chunk(rt: HostRuntime) -> Result<(), Fail> {
     let line = "a line that stays as it is, of any length\n";
     let section = "#if X\n#elif A\ng\n#else\n#endif\n";
     let left = "#if X\n#else\ng\n#endif\n";
@@ -169,9 +169,9 @@ const FLUSHED: [(&str, &[u8], &[u8], &str, u8); 5] = [
 
 /// Checks these runs, where each call reads or writes at most `step` bytes.
 fn check_flushed(rt: &(impl Abort + AllocGlobal), step: usize) -> Result<(), Fail> {
-    for &(words, input, output, message, status) in &FLUSHED {
+    for &(args, input, output, message, status) in &FLUSHED {
         let stream = Stream {
-            words,
+            args,
             input,
             read_bytes: step,
             write_bytes: step,

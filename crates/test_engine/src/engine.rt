@@ -10,9 +10,9 @@ use ud_text::TextFault;
 use unifdef::{Engine, Plan, RunFault, Watched};
 
 /// Returns a chunk without a fault, with the bytes and the number of writes up to its end.
-fn sound<'a>(piece: &'a [u8], written: &'a [u8], writes: usize) -> Fed<'a> {
+fn sound<'a>(chunk: &'a [u8], written: &'a [u8], writes: usize) -> Fed<'a> {
     Fed {
-        piece,
+        chunk,
         answer: Ok(()),
         written,
         writes,
@@ -32,21 +32,21 @@ fn ended(differs: bool, written: &[u8], writes: usize) -> Ended<'_> {
 #[test]
 fn a_line_is_written_once_it_has_ended(rt: HostRuntime) -> Result<(), Fail> {
     let input = b"#ifdef A\nx\n#else\ny\n#endif\n";
-    let mut pieces = Vec::new(rt.alloc());
+    let mut chunks = Vec::new(rt.alloc());
     for at in 0..input.len() {
         let byte = &input[at..at + 1];
-        pieces.push(if at < 10 {
+        chunks.push(if at < 10 {
             sound(byte, b"", 0)
         } else {
             sound(byte, b"x\n", 1)
         })?;
     }
-    check(&rt, "-DA", pieces.as_slice(), ended(true, b"x\n", 1))
+    check(&rt, "-DA", chunks.as_slice(), ended(true, b"x\n", 1))
 }
 
 /// Arguments, a chunk, the output for it, and the result at the end.
 #[rattlefmt::skip]
-const PIECES: &[(&str, &[u8], &[u8], Result<bool, RunFault>)] = &[
+const CHUNKS: &[(&str, &[u8], &[u8], Result<bool, RunFault>)] = &[
     // Lines that stay, adjacent and apart.
     ("-DA", b"a\nb\n#ifdef A\nc\n#endif\nd\n", b"a\nb\nc\nd\n", Ok(true)),
     // A line with another keyword.
@@ -67,37 +67,37 @@ const IN_SECTION: RunFault = RunFault::Section(SectionFault::PrematureEof {
 });
 
 #[test]
-fn a_piece_leaves_in_one_write(rt: HostRuntime) -> Result<(), Fail> {
-    for &(words, piece, written, answer) in PIECES {
+fn a_chunk_leaves_in_one_write(rt: HostRuntime) -> Result<(), Fail> {
+    for &(args, chunk, written, answer) in CHUNKS {
         let ended = Ended {
             answer,
             written,
             writes: 1,
         };
-        check(&rt, words, &[sound(piece, written, 1)], ended)?;
+        check(&rt, args, &[sound(chunk, written, 1)], ended)?;
     }
     Ok(())
 }
 
 #[test]
-fn a_line_over_pieces_leaves_with_its_last_piece(rt: HostRuntime) -> Result<(), Fail> {
-    let pieces = [
+fn a_line_over_chunks_leaves_with_its_last_chunk(rt: HostRuntime) -> Result<(), Fail> {
+    let chunks = [
         sound(b"a\nb", b"a\n", 1),
         sound(b"", b"a\n", 1),
         sound(b"c\nd\ne", b"a\nbc\nd\n", 2),
     ];
-    check(&rt, "-DA", &pieces, ended(false, b"a\nbc\nd\ne", 3))
+    check(&rt, "-DA", &chunks, ended(false, b"a\nbc\nd\ne", 3))
 }
 
 #[test]
-fn a_last_line_without_a_line_feed_is_written_at_the_end(rt: HostRuntime) -> Result<(), Fail> {
-    let pieces = [
+fn a_last_line_without_a_newline_is_written_at_the_end(rt: HostRuntime) -> Result<(), Fail> {
+    let chunks = [
         sound(b"", b"", 0),
         sound(b"a\nb", b"a\n", 1),
         sound(b"", b"a\n", 1),
         sound(b"c", b"a\n", 1),
     ];
-    check(&rt, "-DA", &pieces, ended(false, b"a\nbc", 2))
+    check(&rt, "-DA", &chunks, ended(false, b"a\nbc", 2))
 }
 
 #[test]
@@ -108,9 +108,9 @@ fn nothing_left_makes_no_write(rt: HostRuntime) -> Result<(), Fail> {
 }
 
 /// Returns a chunk that fails, with the bytes written up to then, in one write.
-fn refused<'a>(piece: &'a [u8], fault: RunFault, written: &'a [u8]) -> Fed<'a> {
+fn refused<'a>(chunk: &'a [u8], fault: RunFault, written: &'a [u8]) -> Fed<'a> {
     Fed {
-        piece,
+        chunk,
         answer: Err(fault),
         written,
         writes: 1,
@@ -125,7 +125,7 @@ fn check_refusal(
     written: &[u8],
     fault: RunFault,
 ) -> Result<(), Fail> {
-    let pieces = [
+    let chunks = [
         refused(text, fault, written),
         refused(b"y\n", fault, written),
         refused(b"", fault, written),
@@ -136,11 +136,11 @@ fn check_refusal(
         written,
         writes: 1,
     };
-    check(rt, "-DA", &pieces, ended)
+    check(rt, "-DA", &chunks, ended)
 }
 
 #[test]
-fn a_faulty_line_is_refused_for_good(rt: HostRuntime) -> Result<(), Fail> {
+fn a_faulty_line_fuses(rt: HostRuntime) -> Result<(), Fail> {
     let out_of_place = RunFault::Section(SectionFault::InappropriateEndif { line: 2 });
     check_refusal(&rt, b"x\n#endif\n", b"x\n", out_of_place)?;
     check_refusal(&rt, b"x\n#endif\nz\n", b"x\n", out_of_place)?;
@@ -163,13 +163,13 @@ fn the_end_may_be_faulty(rt: HostRuntime) -> Result<(), Fail> {
         (b"a\n#ifdef A\n/*", b"a\n/*", 2, in_comment),
         (b"a\n#else", b"a\n", 1, out_of_place),
     ];
-    for &(piece, written, writes, fault) in &cases {
+    for &(chunk, written, writes, fault) in &cases {
         let ended = Ended {
             answer: Err(RunFault::Section(fault)),
             written,
             writes,
         };
-        check(&rt, "-DA", &[sound(piece, b"a\n", 1)], ended)?;
+        check(&rt, "-DA", &[sound(chunk, b"a\n", 1)], ended)?;
     }
     Ok(())
 }
@@ -180,19 +180,19 @@ fn an_engine_prints_by_the_printer_that_it_was_given(rt: HostRuntime) -> Result<
     let plan = planned(&rt, alloc, "-UA -n")?;
     let text = b"#ifdef A\nx\n#endif\ny\n";
     let blanked = b"\n\n\ny\n";
-    let pieces = [sound(text, blanked, 1)];
+    let chunks = [sound(text, blanked, 1)];
     check_by(
         &rt,
         alloc,
         &plan,
         Blank::new(),
-        &pieces,
+        &chunks,
         ended(true, blanked, 1),
     );
     let gone = b"#ifdef A\nx\n#endif\n";
-    let pieces = [sound(text, gone, 1)];
+    let chunks = [sound(text, gone, 1)];
     let complement = Complement::new(Delete::new());
-    check_by(&rt, alloc, &plan, complement, &pieces, ended(true, gone, 1));
+    check_by(&rt, alloc, &plan, complement, &chunks, ended(true, gone, 1));
     Ok(())
 }
 
@@ -200,9 +200,9 @@ fn an_engine_prints_by_the_printer_that_it_was_given(rt: HostRuntime) -> Result<
 fn names_are_listed_whatever_the_printer(rt: HostRuntime) -> Result<(), Fail> {
     let alloc = rt.alloc();
     let plan = planned(&rt, alloc, "-s -b")?;
-    let pieces = [sound(b"x\n#ifdef A\n#elif B\n#endif\n", b"A\nB\n", 1)];
+    let chunks = [sound(b"x\n#ifdef A\n#elif B\n#endif\n", b"A\nB\n", 1)];
     let ended = ended(false, b"A\nB\n", 1);
-    check_by(&rt, alloc, &plan, Blank::new(), &pieces, ended);
+    check_by(&rt, alloc, &plan, Blank::new(), &chunks, ended);
     Ok(())
 }
 

@@ -10,7 +10,7 @@ use unifdef::{Engine, Plan, RunFault, Watched, plan};
 /// A chunk of a text, the result of feeding it, and the bytes and the number of writes up to then.
 #[derive(Clone, Copy)]
 pub(crate) struct Fed<'a> {
-    pub piece: &'a [u8],
+    pub chunk: &'a [u8],
     pub answer: Result<(), RunFault>,
     pub written: &'a [u8],
     pub writes: usize,
@@ -25,8 +25,8 @@ pub(crate) struct Ended<'a> {
 }
 
 /// Returns the plan of these arguments, which are separated by spaces and have no fault.
-pub(crate) fn planned(rt: &impl Abort, alloc: Global, words: &str) -> Result<Plan, Fail> {
-    let owned = parted(alloc, words)?;
+pub(crate) fn planned(rt: &impl Abort, alloc: Global, args: &str) -> Result<Plan, Fail> {
+    let owned = parted(alloc, args)?;
     Ok(plan(alloc, owned.as_slice()).expect(rt, "the words have no fault"))
 }
 
@@ -36,14 +36,14 @@ pub(crate) fn check_by<S: Show>(
     alloc: Global,
     plan: &Plan,
     show: S,
-    pieces: &[Fed<'_>],
+    chunks: &[Fed<'_>],
     ended: Ended<'_>,
 ) {
     let mut engine = Engine::new(plan, show);
     let mut out = Watched::new(CountedSink::of(alloc, usize::MAX));
-    for fed in pieces {
+    for fed in chunks {
         assert!(rt; !out.failed());
-        assert!(rt; engine.feed(fed.piece, &mut out) == fed.answer);
+        assert!(rt; engine.feed(fed.chunk, &mut out) == fed.answer);
         check_written(rt, out.inner(), fed.written, fed.writes);
     }
     assert!(rt; !out.failed());
@@ -54,13 +54,13 @@ pub(crate) fn check_by<S: Show>(
 /// Feeds these chunks in turn to an engine that prints as the arguments say, and ends it.
 pub(crate) fn check(
     rt: &(impl Abort + AllocGlobal),
-    words: &str,
-    pieces: &[Fed<'_>],
+    args: &str,
+    chunks: &[Fed<'_>],
     ended: Ended<'_>,
 ) -> Result<(), Fail> {
-    let plan = planned(rt, rt.alloc(), words)?;
+    let plan = planned(rt, rt.alloc(), args)?;
     let printer = Printer::of(&plan.settings());
-    check_by(rt, rt.alloc(), &plan, printer, pieces, ended);
+    check_by(rt, rt.alloc(), &plan, printer, chunks, ended);
     Ok(())
 }
 

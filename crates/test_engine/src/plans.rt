@@ -8,32 +8,32 @@ use ud_model::{ExitMode, Listing, Settings};
 use unifdef::{Plan, Usage, input_of, plan};
 
 /// Returns owned arguments.
-fn owned(alloc: Global, words: &[&str]) -> Result<Vec<String>, AllocError> {
+fn owned(alloc: Global, args: &[&str]) -> Result<Vec<String>, AllocError> {
     let mut owned = Vec::new(alloc);
-    for word in words {
+    for word in args {
         owned.push(String::from_str(alloc, word)?)?;
     }
     Ok(owned)
 }
 
 /// Returns the plan of arguments that have no fault.
-fn planned(rt: &(impl Abort + AllocGlobal), words: &[&str]) -> Result<Plan, Fail> {
-    let words = owned(rt.alloc(), words)?;
-    Ok(plan(rt.alloc(), words.as_slice()).expect(rt, "the words have no fault"))
+fn planned(rt: &(impl Abort + AllocGlobal), args: &[&str]) -> Result<Plan, Fail> {
+    let args = owned(rt.alloc(), args)?;
+    Ok(plan(rt.alloc(), args.as_slice()).expect(rt, "the words have no fault"))
 }
 
 /// Compares the settings of a command line.
 fn check_settings(
     rt: &(impl Abort + AllocGlobal),
-    words: &[&str],
+    args: &[&str],
     settings: Settings,
 ) -> Result<(), Fail> {
-    assert_eq!(rt; planned(rt, words)?.settings(), settings);
+    assert_eq!(rt; planned(rt, args)?.settings(), settings);
     Ok(())
 }
 
 #[test]
-fn the_words_say_the_settings(rt: HostRuntime) -> Result<(), Fail> {
+fn the_arguments_give_the_settings(rt: HostRuntime) -> Result<(), Fail> {
     let usual = Settings::default();
     let cases: [(&[&str], Settings); 4] = [
         // Without arguments, the settings are the usual ones.
@@ -68,8 +68,8 @@ fn the_words_say_the_settings(rt: HostRuntime) -> Result<(), Fail> {
             },
         ),
     ];
-    for &(words, settings) in &cases {
-        check_settings(&rt, words, settings)?;
+    for &(args, settings) in &cases {
+        check_settings(&rt, args, settings)?;
     }
     Ok(())
 }
@@ -82,15 +82,15 @@ const MODES: &[(&[&str], ExitMode)] = &[
 ];
 
 /// Compares the exit mode of a command line.
-fn check_mode(rt: &(impl Abort + AllocGlobal), words: &[&str], mode: ExitMode) -> Result<(), Fail> {
-    assert_eq!(rt; planned(rt, words)?.settings().exit_mode, mode);
+fn check_mode(rt: &(impl Abort + AllocGlobal), args: &[&str], mode: ExitMode) -> Result<(), Fail> {
+    assert_eq!(rt; planned(rt, args)?.settings().exit_mode, mode);
     Ok(())
 }
 
 #[test]
 fn the_last_exit_mode_counts(rt: HostRuntime) -> Result<(), Fail> {
-    for &(words, mode) in MODES {
-        check_mode(&rt, words, mode)?;
+    for &(args, mode) in MODES {
+        check_mode(&rt, args, mode)?;
     }
     Ok(())
 }
@@ -117,18 +117,18 @@ const SYMBOLS: &[(&[&str], &[u8], Option<&[u8]>, bool)] = &[
 /// Compares the entry of a name.
 fn check_symbol(
     rt: &(impl Abort + AllocGlobal),
-    words: &[&str],
+    args: &[&str],
     name: &[u8],
     entry: Option<Entry<'_>>,
 ) -> Result<(), Fail> {
-    assert!(rt; planned(rt, words)?.symbols().find(name) == entry);
+    assert!(rt; planned(rt, args)?.symbols().find(name) == entry);
     Ok(())
 }
 
 #[test]
-fn the_words_say_the_symbols(rt: HostRuntime) -> Result<(), Fail> {
-    for &(words, name, value, ignoring) in SYMBOLS {
-        check_symbol(&rt, words, name, Some(Entry { value, ignoring }))?;
+fn the_arguments_give_the_symbols(rt: HostRuntime) -> Result<(), Fail> {
+    for &(args, name, value, ignoring) in SYMBOLS {
+        check_symbol(&rt, args, name, Some(Entry { value, ignoring }))?;
     }
     check_symbol(&rt, &[], b"A", None)
 }
@@ -148,29 +148,29 @@ const PLACES: &[(&[&str], Option<usize>, Option<usize>)] = &[
 /// Compares the index of the operand.
 fn check_operand(
     rt: &(impl Abort + AllocGlobal),
-    words: &[&str],
+    args: &[&str],
     operand: Option<usize>,
 ) -> Result<(), Fail> {
-    assert!(rt; planned(rt, words)?.operand() == operand);
+    assert!(rt; planned(rt, args)?.operand() == operand);
     Ok(())
 }
 
 /// Compares the index of the operand that names a file.
 fn check_input(
     rt: &(impl Abort + AllocGlobal),
-    words: &[&str],
+    args: &[&str],
     file: Option<usize>,
 ) -> Result<(), Fail> {
-    let words = owned(rt.alloc(), words)?;
-    assert!(rt; input_of(words.as_slice()) == file);
+    let args = owned(rt.alloc(), args)?;
+    assert!(rt; input_of(args.as_slice()) == file);
     Ok(())
 }
 
 #[test]
 fn the_operand_has_a_place(rt: HostRuntime) -> Result<(), Fail> {
-    for &(words, operand, file) in PLACES {
-        check_operand(&rt, words, operand)?;
-        check_input(&rt, words, file)?;
+    for &(args, operand, file) in PLACES {
+        check_operand(&rt, args, operand)?;
+        check_input(&rt, args, file)?;
     }
     Ok(())
 }
@@ -215,9 +215,9 @@ const FAULTS: &[(&[&str], Usage)] = &[
 ];
 
 /// Compares the fault of a command line.
-fn check_fault(rt: &(impl Abort + AllocGlobal), words: &[&str], usage: Usage) -> Result<(), Fail> {
-    let words = owned(rt.alloc(), words)?;
-    let Err(fault) = plan(rt.alloc(), words.as_slice()) else {
+fn check_fault(rt: &(impl Abort + AllocGlobal), args: &[&str], usage: Usage) -> Result<(), Fail> {
+    let args = owned(rt.alloc(), args)?;
+    let Err(fault) = plan(rt.alloc(), args.as_slice()) else {
         return Err(Fail::new("the words have a fault"));
     };
     assert_eq!(rt; fault, usage);
@@ -226,10 +226,10 @@ fn check_fault(rt: &(impl Abort + AllocGlobal), words: &[&str], usage: Usage) ->
 
 /// Arguments with a fault name no file.
 #[test]
-fn the_first_fault_is_told(rt: HostRuntime) -> Result<(), Fail> {
-    for &(words, usage) in FAULTS {
-        check_fault(&rt, words, usage)?;
-        check_input(&rt, words, None)?;
+fn the_first_fault_is_reported(rt: HostRuntime) -> Result<(), Fail> {
+    for &(args, usage) in FAULTS {
+        check_fault(&rt, args, usage)?;
+        check_input(&rt, args, None)?;
     }
     Ok(())
 }

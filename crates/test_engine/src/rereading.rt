@@ -54,23 +54,23 @@ const ROWS: &[(&str, &[u8])] = &[
 /// the second.
 fn left(
     rt: &(impl Abort + AllocGlobal),
-    words: &str,
+    args: &str,
     statuses: [u8; 2],
     input: &[u8],
 ) -> Result<Vec<u8>, Fail> {
     let alloc = rt.alloc();
-    let owned = parted(alloc, words)?;
+    let owned = parted(alloc, args)?;
     let mut reader = Watched::new(Source::whole(input));
     let mut out = Watched::new(Sink::wide(alloc));
     let mut err = Watched::new(Vec::<u8>::new(alloc));
     let status = tool(alloc, owned.as_slice(), &mut reader, &mut out, &mut err);
     let output = repeated(alloc, out.inner().taken.as_slice(), 1)?;
     let differs = output.as_slice() != input;
-    assert_eq!(rt; err.inner().len(), 0, "message under {words}");
+    assert_eq!(rt; err.inner().len(), 0, "message under {args}");
     assert_eq!(rt;
         status,
         statuses[usize::from(differs)],
-        "status under {words}"
+        "status under {args}"
     );
     Ok(output)
 }
@@ -78,20 +78,20 @@ fn left(
 /// Compares the output for an input with the output for that output.
 fn check_twice(
     rt: &(impl Abort + AllocGlobal),
-    words: &str,
+    args: &str,
     statuses: [u8; 2],
     input: &[u8],
 ) -> Result<(), Fail> {
-    let once = left(rt, words, statuses, input)?;
-    let twice = left(rt, words, statuses, once.as_slice())?;
-    assert_eq!(rt; twice.as_slice(), once.as_slice(), "under {words}");
+    let once = left(rt, args, statuses, input)?;
+    let twice = left(rt, args, statuses, once.as_slice())?;
+    assert_eq!(rt; twice.as_slice(), once.as_slice(), "under {args}");
     Ok(())
 }
 
 #[test]
-fn what_is_left_is_read_again_as_it_is(rt: HostRuntime) -> Result<(), Fail> {
-    for &(words, input) in ROWS {
-        check_twice(&rt, words, [0, 1], input)?;
+fn the_output_is_read_again_unchanged(rt: HostRuntime) -> Result<(), Fail> {
+    for &(args, input) in ROWS {
+        check_twice(&rt, args, [0, 1], input)?;
     }
     Ok(())
 }

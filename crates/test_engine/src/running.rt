@@ -12,22 +12,19 @@ use unifdef::{RunFault, Watched, run};
 /// `failing_write` is the number of the write that fails; 0 if none does.
 fn check_run(
     rt: &(impl Abort + AllocGlobal),
-    words: &str,
+    args: &str,
     source: CountedSource<'_>,
     failing_write: usize,
     answer: Result<bool, RunFault>,
     written: &[u8],
 ) -> Result<(), Fail> {
-    let plan = planned(rt, rt.alloc(), words)?;
+    let plan = planned(rt, rt.alloc(), args)?;
     let mut reader = Watched::new(source);
     let mut sink = CountedSink::of(rt.alloc(), usize::MAX);
     sink.interrupted = failing_write;
     let mut out = Watched::new(sink);
-    assert!(rt;
-        run(&plan, &mut reader, &mut out) == answer,
-        "under {words}"
-    );
-    assert_eq!(rt; out.inner().sink.taken.as_slice(), written, "under {words}");
+    assert!(rt; run(&plan, &mut reader, &mut out) == answer, "under {args}");
+    assert_eq!(rt; out.inner().sink.taken.as_slice(), written, "under {args}");
     assert_eq!(rt; out.inner().flushes, 0);
     Ok(())
 }
@@ -52,18 +49,18 @@ const LEFT: &[(&str, &[u8], &[u8])] = &[
 ];
 
 #[test]
-fn a_run_tells_whether_the_output_is_other_bytes(rt: HostRuntime) -> Result<(), Fail> {
-    for &(words, text, output) in LEFT {
+fn a_run_reports_whether_the_output_is_other_bytes(rt: HostRuntime) -> Result<(), Fail> {
+    for &(args, text, output) in LEFT {
         let answer = Ok(output != text);
         check_run(
             &rt,
-            words,
+            args,
             CountedSource::of(text, usize::MAX),
             0,
             answer,
             output,
         )?;
-        check_run(&rt, words, CountedSource::of(text, 1), 0, answer, output)?;
+        check_run(&rt, args, CountedSource::of(text, 1), 0, answer, output)?;
     }
     Ok(())
 }
@@ -76,7 +73,7 @@ fn a_run_under_a_listing_differs_from_nothing(rt: HostRuntime) -> Result<(), Fai
 }
 
 #[test]
-fn a_run_flushes_nothing_and_tells_what_failed(rt: HostRuntime) -> Result<(), Fail> {
+fn a_run_flushes_nothing_and_reports_what_failed(rt: HostRuntime) -> Result<(), Fail> {
     let input = b"#ifdef A\nx\n#else\ny\n#endif\n";
     let mut source = CountedSource::of(input, 12);
     source.interrupted = 2;

@@ -15,7 +15,7 @@ pub(crate) const WRITE_ERROR: &str = "unifdef: stdin: Write error\n";
 #[derive(Clone, Copy)]
 pub(crate) struct Stream<'a> {
     /// The arguments, separated by spaces.
-    pub words: &'a str,
+    pub args: &'a str,
     pub input: &'a [u8],
     /// The most bytes of one read.
     pub read_bytes: usize,
@@ -46,7 +46,7 @@ pub(crate) struct Stream<'a> {
 
 /// An empty input, and streams that don't fail.
 pub(crate) const USUAL: Stream<'static> = Stream {
-    words: "-DA",
+    args: "-DA",
     input: b"",
     read_bytes: usize::MAX,
     reads_fail: false,
@@ -99,11 +99,11 @@ pub(crate) fn check_stream(
     stream: Stream<'_>,
 ) -> Result<usize, Fail> {
     let alloc = rt.alloc();
-    let words = parted(alloc, stream.words)?;
+    let args = parted(alloc, stream.args)?;
     let mut reader = Watched::new(source_of(stream));
     let mut out = Watched::new(sink_of(alloc, stream));
     let mut err = Watched::new(Vec::<u8>::new(alloc));
-    let status = tool(alloc, words.as_slice(), &mut reader, &mut out, &mut err);
+    let status = tool(alloc, args.as_slice(), &mut reader, &mut out, &mut err);
     assert_eq!(rt; out.inner().sink.taken.as_slice(), stream.output);
     assert_eq!(rt; err.inner().as_slice(), stream.message.as_bytes());
     assert_eq!(rt; status, stream.status);

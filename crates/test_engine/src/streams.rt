@@ -29,7 +29,7 @@ fn a_byte_a_call_is_enough(rt: HostRuntime) -> Result<(), Fail> {
 }
 
 #[test]
-fn a_failing_read_is_told_behind_the_whole_lines(rt: HostRuntime) -> Result<(), Fail> {
+fn a_failing_read_is_reported_after_the_whole_lines(rt: HostRuntime) -> Result<(), Fail> {
     let cases: [(&[u8], &[u8], &str); 2] = [
         (b"a\nb", b"a\n", READ_ERROR),
         // A fault comes before a failing read.
@@ -85,7 +85,7 @@ fn each_read_may_fail(rt: HostRuntime) -> Result<(), Fail> {
 }
 
 #[test]
-fn a_writer_that_takes_no_more_is_told(rt: HostRuntime) -> Result<(), Fail> {
+fn a_writer_that_takes_no_more_is_reported(rt: HostRuntime) -> Result<(), Fail> {
     let cases: [(usize, &[u8]); 2] = [(3, b"ab\n"), (0, b"")];
     for &(room, output) in &cases {
         let stream = Stream {
@@ -119,7 +119,7 @@ fn each_write_may_fail(rt: HostRuntime) -> Result<(), Fail> {
 }
 
 #[test]
-fn a_failing_flush_is_told_where_there_is_no_fault(rt: HostRuntime) -> Result<(), Fail> {
+fn a_failing_flush_is_reported_where_there_is_no_fault(rt: HostRuntime) -> Result<(), Fail> {
     let cases: [(&[u8], &str); 2] = [
         (b"x\n", WRITE_ERROR),
         // A failing flush changes no fault.
@@ -142,14 +142,14 @@ fn a_failing_flush_is_told_where_there_is_no_fault(rt: HostRuntime) -> Result<()
 #[test]
 fn a_message_that_cannot_be_written_changes_no_status(rt: HostRuntime) -> Result<(), Fail> {
     let alloc = rt.alloc();
-    let words = parted(alloc, "-DA")?;
+    let args = parted(alloc, "-DA")?;
     let mut reader = Watched::new(b"#ifdef A\nx\n".as_slice());
     let mut out = Watched::new(Vec::<u8>::new(alloc));
     let mut err = Watched::new(Sink {
         room: 0,
         ..Sink::wide(alloc)
     });
-    let status = tool(alloc, words.as_slice(), &mut reader, &mut out, &mut err);
+    let status = tool(alloc, args.as_slice(), &mut reader, &mut out, &mut err);
     assert_eq!(rt; out.inner().as_slice(), b"x\n".as_slice());
     assert!(rt; err.failed());
     assert_eq!(rt; status, 2);

@@ -11,15 +11,15 @@ use unifdef::{Engine, Plan, RunFault, Watched, plan};
 /// Fails if memory runs out.
 pub(crate) fn first_wrong_engine(
     alloc: Global,
-    words: &[String],
+    args: &[String],
     text: &[u8],
     last: usize,
 ) -> Result<Option<usize>, AllocError> {
-    let Ok(plan) = plan(alloc, words) else {
+    let Ok(plan) = plan(alloc, args) else {
         return Ok(None);
     };
     for room in 0..=last.min(text.len()) {
-        if !refuses_for_good(alloc, &plan, text, room) {
+        if !is_fused(alloc, &plan, text, room) {
             return Ok(Some(room));
         }
     }
@@ -28,7 +28,7 @@ pub(crate) fn first_wrong_engine(
 
 /// Returns whether an engine whose write has failed is fused: every further call fails alike and
 /// writes nothing, also with an output that works.
-fn refuses_for_good(alloc: Global, plan: &Plan, text: &[u8], room: usize) -> bool {
+fn is_fused(alloc: Global, plan: &Plan, text: &[u8], room: usize) -> bool {
     let mut engine = Engine::new(plan, Printer::of(&plan.settings()));
     let mut out = Watched::new(Sink {
         room,

@@ -18,18 +18,18 @@ const TROUBLE: u8 = 2;
 /// Fails if memory runs out.
 pub(crate) fn after_bytes(
     alloc: Global,
-    words: &[String],
+    args: &[String],
     given: &[u8],
 ) -> Result<Answer, AllocError> {
-    let lines = answer_to(alloc, words, whole_lines(given))?;
+    let lines = answer_to(alloc, args, whole_lines(given))?;
     if has_faulty_line(&lines) {
         return Ok(lines);
     }
-    let ended = answer_to(alloc, words, given)?;
+    let ended = answer_to(alloc, args, given)?;
     if ended.message.as_slice().ends_with(b"Line too long\n") {
         return Ok(ended);
     }
-    failed(alloc, words, lines.output.as_slice(), b"Read error")
+    failed(alloc, args, lines.output.as_slice(), b"Read error")
 }
 
 /// Returns the answer if the output accepts `room` bytes, and then fails.
@@ -38,12 +38,12 @@ pub(crate) fn after_bytes(
 /// Fails if memory runs out.
 pub(crate) fn within_room(
     alloc: Global,
-    words: &[String],
+    args: &[String],
     whole: &Answer,
     room: usize,
 ) -> Result<Answer, AllocError> {
     match whole.output.as_slice().get(..room) {
-        Some(front) if room < whole.output.len() => failed(alloc, words, front, b"Write error"),
+        Some(prefix) if room < whole.output.len() => failed(alloc, args, prefix, b"Write error"),
         _ => same(alloc, whole),
     }
 }
@@ -54,11 +54,11 @@ pub(crate) fn within_room(
 /// Fails if memory runs out.
 pub(crate) fn unflushed(
     alloc: Global,
-    words: &[String],
+    args: &[String],
     whole: &Answer,
 ) -> Result<Answer, AllocError> {
     if whole.message.is_empty() {
-        return failed(alloc, words, whole.output.as_slice(), b"Write error");
+        return failed(alloc, args, whole.output.as_slice(), b"Write error");
     }
     same(alloc, whole)
 }
@@ -80,14 +80,14 @@ fn has_faulty_line(answer: &Answer) -> bool {
 /// Returns the answer of a run with this output that reports a failed call.
 fn failed(
     alloc: Global,
-    words: &[String],
+    args: &[String],
     output: &[u8],
     error: &[u8],
 ) -> Result<Answer, AllocError> {
     let mut message = Vec::new(alloc);
     for part in [
         b"unifdef: ".as_slice(),
-        display_name(words),
+        display_name(args),
         b": ",
         error,
         b"\n",

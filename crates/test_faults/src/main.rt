@@ -15,7 +15,7 @@ mod writes;
 
 use crate::engines::first_wrong_engine;
 use crate::reads::first_wrong_read;
-use crate::writes::{first_wrong_write, tells_failed_flush};
+use crate::writes::{first_wrong_write, reports_failed_flush};
 use ref_unifdef::answer_to;
 use std::alloc::{AllocError, Global};
 use std::io;
@@ -36,11 +36,11 @@ impl Places {
     fn and(
         self,
         alloc: Global,
-        words: &[String],
+        args: &[String],
         text: &[u8],
         last: usize,
     ) -> Result<Places, AllocError> {
-        let output = answer_to(alloc, words, text)?.output.len();
+        let output = answer_to(alloc, args, text)?.output.len();
         Ok(Places {
             reads: self
                 .reads
@@ -60,22 +60,22 @@ fn main(rt: HostRuntime) -> io::Result<()> {
         reads: 0,
         writes: 0,
     };
-    for (words, text) in ROWS {
-        let words = parted(alloc, words)?;
-        check(&rt, alloc, words.as_slice(), text, usize::MAX)?;
-        places = places.and(alloc, words.as_slice(), text, usize::MAX)?;
+    for (args, text) in ROWS {
+        let args = parted(alloc, args)?;
+        check(&rt, alloc, args.as_slice(), text, usize::MAX)?;
+        places = places.and(alloc, args.as_slice(), text, usize::MAX)?;
     }
-    let words = parted(alloc, "-DA")?;
+    let args = parted(alloc, "-DA")?;
     for count in [65_535, 65_536] {
         let mut line = repeated(alloc, b"a", count)?;
         line.push(b'\n')?;
-        check(&rt, alloc, words.as_slice(), line.as_slice(), LAST)?;
-        places = places.and(alloc, words.as_slice(), line.as_slice(), LAST)?;
+        check(&rt, alloc, args.as_slice(), line.as_slice(), LAST)?;
+        places = places.and(alloc, args.as_slice(), line.as_slice(), LAST)?;
     }
     for (depth, last) in [(64, usize::MAX), (256, LAST), (257, LAST)] {
         let text = nested(alloc, depth)?;
-        check(&rt, alloc, words.as_slice(), text.as_slice(), last)?;
-        places = places.and(alloc, words.as_slice(), text.as_slice(), last)?;
+        check(&rt, alloc, args.as_slice(), text.as_slice(), last)?;
+        places = places.and(alloc, args.as_slice(), text.as_slice(), last)?;
     }
     println!(rt;
         "a read failed at {} places, a write at {}: no mismatch",
@@ -87,21 +87,21 @@ fn main(rt: HostRuntime) -> io::Result<()> {
 fn check(
     rt: &impl Print,
     alloc: Global,
-    words: &[String],
+    args: &[String],
     text: &[u8],
     last: usize,
 ) -> io::Result<()> {
-    if let Some(place) = first_wrong_read(alloc, words, text, last)? {
-        return report(rt, "read", words, text, place);
+    if let Some(place) = first_wrong_read(alloc, args, text, last)? {
+        return report(rt, "read", args, text, place);
     }
-    if let Some(place) = first_wrong_write(alloc, words, text, last)? {
-        return report(rt, "write", words, text, place);
+    if let Some(place) = first_wrong_write(alloc, args, text, last)? {
+        return report(rt, "write", args, text, place);
     }
-    if let Some(place) = first_wrong_engine(alloc, words, text, last)? {
-        return report(rt, "write of an engine", words, text, place);
+    if let Some(place) = first_wrong_engine(alloc, args, text, last)? {
+        return report(rt, "write of an engine", args, text, place);
     }
-    if !tells_failed_flush(alloc, words, text)? {
-        return report(rt, "flush", words, text, text.len());
+    if !reports_failed_flush(alloc, args, text)? {
+        return report(rt, "flush", args, text, text.len());
     }
     Ok(())
 }
@@ -110,12 +110,12 @@ fn check(
 fn report(
     rt: &impl Print,
     call: &str,
-    words: &[String],
+    args: &[String],
     text: &[u8],
     place: usize,
 ) -> io::Result<()> {
     println!(rt; "a {call} that fails after {place} bytes isn't answered as it is to be")?;
-    for word in words {
+    for word in args {
         println!(rt; "word {word}")?;
     }
     println!(rt; "text {}", text.escape_ascii())?;

@@ -15,16 +15,16 @@ use test_cases::{CountedSink, CountedSource, Source};
 /// Fails if memory runs out.
 pub(crate) fn first_wrong_read(
     alloc: Global,
-    words: &[String],
+    args: &[String],
     text: &[u8],
     last: usize,
 ) -> Result<Option<usize>, AllocError> {
     for place in text.len().saturating_sub(last)..=text.len() {
         let (given, _) = text.split_at(place);
-        let expected = after_bytes(alloc, words, given)?;
+        let expected = after_bytes(alloc, args, given)?;
         for source in [failing(given), interrupted(text, place)] {
             let sink = CountedSink::of(alloc, usize::MAX);
-            let run = run(alloc, words, source, sink)?;
+            let run = run(alloc, args, source, sink)?;
             if !is_right(&expected, place, &run) {
                 return Ok(Some(place));
             }

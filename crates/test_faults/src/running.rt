@@ -20,14 +20,14 @@ pub(crate) struct Ran {
 /// Fails if memory runs out.
 pub(crate) fn run(
     alloc: Global,
-    words: &[String],
+    args: &[String],
     source: CountedSource<'_>,
     sink: CountedSink,
 ) -> Result<Ran, AllocError> {
     let mut reader = Watched::new(source);
     let mut out = Watched::new(sink);
     let mut err = Watched::new(Vec::<u8>::new(alloc));
-    let status = tool(alloc, words, &mut reader, &mut out, &mut err);
+    let status = tool(alloc, args, &mut reader, &mut out, &mut err);
     let answer = Answer {
         output: Vec::from_slice(alloc, out.inner().sink.taken.as_slice())?,
         message: Vec::from_slice(alloc, err.inner().as_slice())?,

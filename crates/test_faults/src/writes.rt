@@ -13,14 +13,14 @@ use test_cases::{CountedSink, CountedSource, Sink};
 /// Fails if memory runs out.
 pub(crate) fn first_wrong_write(
     alloc: Global,
-    words: &[String],
+    args: &[String],
     text: &[u8],
     last: usize,
 ) -> Result<Option<usize>, AllocError> {
-    let whole = answer_to(alloc, words, text)?;
+    let whole = answer_to(alloc, args, text)?;
     let size = whole.output.len();
     for room in size.saturating_sub(last)..=size {
-        if !is_right_at(alloc, words, text, &whole, room)? {
+        if !is_right_at(alloc, args, text, &whole, room)? {
             return Ok(Some(room));
         }
     }
@@ -31,18 +31,18 @@ pub(crate) fn first_wrong_write(
 ///
 /// # Errors
 /// Fails if memory runs out.
-pub(crate) fn tells_failed_flush(
+pub(crate) fn reports_failed_flush(
     alloc: Global,
-    words: &[String],
+    args: &[String],
     text: &[u8],
 ) -> Result<bool, AllocError> {
-    let whole = answer_to(alloc, words, text)?;
-    let expected = unflushed(alloc, words, &whole)?;
+    let whole = answer_to(alloc, args, text)?;
+    let expected = unflushed(alloc, args, &whole)?;
     let sink = CountedSink {
         first_flush_fails: true,
         ..CountedSink::of(alloc, usize::MAX)
     };
-    let run = run(alloc, words, CountedSource::of(text, usize::MAX), sink)?;
+    let run = run(alloc, args, CountedSource::of(text, usize::MAX), sink)?;
     Ok(alike(&run.answer, &expected) && run.flushes == 1)
 }
 
@@ -52,12 +52,12 @@ pub(crate) fn tells_failed_flush(
 /// text is read at once or byte by byte.
 fn is_right_at(
     alloc: Global,
-    words: &[String],
+    args: &[String],
     text: &[u8],
     whole: &Answer,
     room: usize,
 ) -> Result<bool, AllocError> {
-    let expected = within_room(alloc, words, whole, room)?;
+    let expected = within_room(alloc, args, whole, room)?;
     for (read_step, write_step, refuses) in [
         (usize::MAX, usize::MAX, true),
         (usize::MAX, usize::MAX, false),
@@ -74,19 +74,19 @@ fn is_right_at(
             sink,
             ..CountedSink::of(alloc, write_step)
         };
-        let run = run(alloc, words, CountedSource::of(text, read_step), sink)?;
+        let run = run(alloc, args, CountedSource::of(text, read_step), sink)?;
         if !alike(&run.answer, &expected) || run.flushes != 1 {
             return Ok(false);
         }
     }
-    is_right_interrupted(alloc, words, text, &expected, room)
+    is_right_interrupted(alloc, args, text, &expected, room)
 }
 
 /// Returns whether an output gives the expected answer, and isn't called again, if its call after
 /// `taken` calls is interrupted. It accepts one byte a call.
 fn is_right_interrupted(
     alloc: Global,
-    words: &[String],
+    args: &[String],
     text: &[u8],
     expected: &Answer,
     taken: usize,
@@ -96,7 +96,7 @@ fn is_right_interrupted(
         interrupted: write,
         ..CountedSink::of(alloc, 1)
     };
-    let run = run(alloc, words, CountedSource::of(text, usize::MAX), sink)?;
+    let run = run(alloc, args, CountedSource::of(text, usize::MAX), sink)?;
     let write_failed = expected.message.as_slice().ends_with(b": Write error\n");
     Ok(alike(&run.answer, expected) && run.writes <= write && (run.writes == write) == write_failed)
 }

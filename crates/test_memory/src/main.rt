@@ -10,18 +10,18 @@ use ud_cond::{SymbolFault, Symbols};
 fn main(rt: HostRuntime) -> io::Result<()> {
     let mut symbols = Symbols::new(rt.alloc());
     let first = symbols.define(b"A", b"1", false);
-    println!(rt; "-DA=1: {}", told(first))?;
+    println!(rt; "-DA=1: {}", reported(first))?;
     tell(&rt, &symbols)?;
     let second = symbols.define(b"A", b"22", true);
-    println!(rt; "-iDA=22: {}", told(second))?;
+    println!(rt; "-iDA=22: {}", reported(second))?;
     tell(&rt, &symbols)?;
     let bad = symbols.define(b"1A", b"1", false);
-    println!(rt; "-D1A: {}", told(bad))?;
+    println!(rt; "-D1A: {}", reported(bad))?;
     tell(&rt, &symbols)
 }
 
 /// Returns the text for a call's result.
-fn told(answer: Result<(), SymbolFault>) -> &'static str {
+fn reported(answer: Result<(), SymbolFault>) -> &'static str {
     match answer {
         Ok(()) => "taken",
         Err(SymbolFault::BadName) => "bad name",

@@ -11,7 +11,7 @@ use std::alloc::{AllocError, Global};
 /// newline.
 pub(crate) fn check_places(alloc: Global, case: &Case) -> Result<Finding, AllocError> {
     let text = case.text.as_slice();
-    if has_flag(case.words.as_slice(), b"sS") || !(text.is_empty() || text.ends_with(b"\n")) {
+    if has_flag(case.args.as_slice(), b"sS") || !(text.is_empty() || text.ends_with(b"\n")) {
         return Ok(Finding::Skipped);
     }
     let mut found = Finding::Skipped;

@@ -35,7 +35,7 @@ pub(crate) fn check_unlisted(alloc: Global, case: &Case) -> Result<Finding, Allo
     let expected = run_with(alloc, case, &[], &[])?;
     for (at, name) in NAMES.iter().enumerate() {
         if !is_listed(list.output.as_slice(), name)
-            && !has_value(case.words.as_slice(), name)
+            && !has_value(case.args.as_slice(), name)
             && !counts_for_nothing(alloc, case, at, name, &expected)?
         {
             return Ok(Finding::Differs);
@@ -60,7 +60,7 @@ fn counts_for_nothing(
     if !before.is_same(expected) {
         return Ok(false);
     }
-    if !may_go_on(case.words.as_slice()) {
+    if !may_go_on(case.args.as_slice()) {
         return Ok(true);
     }
     let after = run_with(alloc, case, &[], &[option.as_str()])?;

@@ -1,7 +1,7 @@
 //! Runs of the tool over memory.
 
 use crate::arguments::with_more;
-use fuzz_texts::{Case, Pieces};
+use fuzz_texts::{Case, Chunks};
 use std::alloc::{AllocError, Global};
 use unifdef::{Watched, tool};
 
@@ -34,7 +34,7 @@ fn run_tool(
     text: &[u8],
     seed: u64,
 ) -> Result<Run, AllocError> {
-    let mut reader = Watched::new(Pieces::new(text, seed));
+    let mut reader = Watched::new(Chunks::new(text, seed));
     let mut out = Watched::new(Vec::<u8>::new(alloc));
     let mut err = Watched::new(Vec::<u8>::new(alloc));
     let status = tool(alloc, arguments, &mut reader, &mut out, &mut err);
@@ -52,12 +52,12 @@ pub(crate) fn run_with(
     first: &[&str],
     last: &[&str],
 ) -> Result<Run, AllocError> {
-    let arguments = with_more(alloc, first, case.words.as_slice(), last)?;
+    let arguments = with_more(alloc, first, case.args.as_slice(), last)?;
     run_tool(alloc, arguments.as_slice(), case.text.as_slice(), case.seed)
 }
 
 /// Returns whether the arguments of a case are in order: with no text there is no other fault.
 pub(crate) fn has_usage(alloc: Global, case: &Case) -> Result<bool, AllocError> {
-    let empty = run_tool(alloc, case.words.as_slice(), b"", case.seed)?;
+    let empty = run_tool(alloc, case.args.as_slice(), b"", case.seed)?;
     Ok(!empty.has_fault())
 }

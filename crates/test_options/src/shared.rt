@@ -13,7 +13,7 @@ use std::alloc::{AllocError, Global};
 
 /// Checks the run and the run with `-c`, if no other option lists or changes lines.
 pub(crate) fn check_shares(alloc: Global, case: &Case) -> Result<Finding, AllocError> {
-    if has_flag(case.words.as_slice(), b"bclnsS") || !has_usage(alloc, case)? {
+    if has_flag(case.args.as_slice(), b"bclnsS") || !has_usage(alloc, case)? {
         return Ok(Finding::Skipped);
     }
     let run = run_with(alloc, case, &[], &[])?;

@@ -17,7 +17,7 @@ fn check(rt: &(impl Abort + AllocGlobal), case: &Case, asked: &mut Asked) -> Res
             *finding,
             Finding::Differs,
             "{name}: {:?}, seed {}",
-            case.words,
+            case.args,
             case.seed
         );
         if *finding == Finding::Holds {
@@ -38,10 +38,10 @@ fn check_asked(rt: &impl Abort, asked: Asked, least: usize) {
 #[test]
 fn worked_cases_keep_what_users_rely_on(rt: HostRuntime) -> Result<(), Fail> {
     let mut asked = [0; 3];
-    for (words, text) in &ROWS {
+    for (args, text) in &ROWS {
         for seed in 0..4 {
             let case = Case {
-                words: parted(rt.alloc(), words)?,
+                args: parted(rt.alloc(), args)?,
                 text: Vec::from_slice(rt.alloc(), text)?,
                 seed,
             };

@@ -114,8 +114,8 @@ fn check_answer(rt: &impl Abort, plan: &Plan, kind: Kind, text: &[u8], answer: A
 
 #[test]
 fn expressions_are_valued(rt: HostRuntime) -> Result<(), Fail> {
-    for &(words, text, cond) in EXPRESSIONS {
-        check(&rt, &planned(&rt, rt.alloc(), words)?, text, cond);
+    for &(args, text, cond) in EXPRESSIONS {
+        check(&rt, &planned(&rt, rt.alloc(), args)?, text, cond);
     }
     Ok(())
 }

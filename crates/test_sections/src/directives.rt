@@ -119,7 +119,7 @@ fn understood_conditions_have_names(rt: HostRuntime) -> Result<(), Fail> {
 }
 
 #[test]
-fn a_name_stands_behind_its_depth(rt: HostRuntime) -> Result<(), Fail> {
+fn a_name_follows_its_depth(rt: HostRuntime) -> Result<(), Fail> {
     let mut depths = Lister::new(true);
     assert_eq!(rt; depths.prefix(0), b"0 ".as_slice());
     assert_eq!(rt; depths.prefix(255), b"255 ".as_slice());

@@ -10,7 +10,7 @@ use std::test::Fail;
 use ud_model::Mode;
 use ud_sections::{SectionFault, Span};
 
-const WORDS: &str = "-DY -UN";
+const ARGS: &str = "-DY -UN";
 
 /// Arguments by which sections of `N` and `I` are plain text.
 const IGNORING: &str = "-iUN -iDI -DY";
@@ -55,12 +55,12 @@ const PHASES: &[(&[&[u8]], [&str; 9])] = &[
 #[rattlefmt::skip]
 const STEPS: &[(&str, &[&[u8]], &str)] = &[
     // A cut keyword is a fault everywhere.
-    (WORDS, &[b"# // c \\", b"#if\\"], "kk"),
+    (ARGS, &[b"# // c \\", b"#if\\"], "kk"),
     // A directive over lines may only stay whole. It stays with its neighbors, only its keyword is
     // edited, or the whole group around it is removed.
-    (WORDS, &[b"/* c", b"*/ #if X /*", b"*/"], "kkk"),
-    (WORDS, &[b"#ifdef N", b"#elif X /*", b"*/"], "-ik"),
-    (WORDS, &[b"#ifdef N", b"#if Y /*", b"*/", b"#endif"], "----"),
+    (ARGS, &[b"/* c", b"*/ #if X /*", b"*/"], "kkk"),
+    (ARGS, &[b"#ifdef N", b"#elif X /*", b"*/"], "-ik"),
+    (ARGS, &[b"#ifdef N", b"#if Y /*", b"*/", b"#endif"], "----"),
     // A comment or literal open in plain text isn't carried on.
     (IGNORING, &[b"#ifdef I", b"/* a", b"#endif", b"#if X"], "-k-k"),
     // In a removed group it is plain too. A directive that joins the next line never makes it
@@ -69,47 +69,47 @@ const STEPS: &[(&str, &[&[u8]], &str)] = &[
     (IGNORING, &[b"#if X", b"#ifdef N", b"#ifdef I // \\", b"", b"/*", b"*/"], "k-----"),
     // Directives are found across splices. The line is fresh again once the slash before a splice
     // turns out to begin a comment.
-    (WORDS, &[b"/\\", b"* c */ #if X", b"#elif N"], "kk-"),
-    (WORDS, &[b"/\\", b"\\", b"* c */ #if X", b"#elif N"], "kkk-"),
+    (ARGS, &[b"/\\", b"* c */ #if X", b"#elif N"], "kk-"),
+    (ARGS, &[b"/\\", b"\\", b"* c */ #if X", b"#elif N"], "kkk-"),
     // The star that opens a comment doesn't close it; a star before a splice does.
-    (WORDS, &[b"/*\\", b"/", b"#endif", b"*/"], "kkkk"),
-    (WORDS, &[b"/*", b"*\\", b"/ #if X", b"#elif N"], "kkk-"),
+    (ARGS, &[b"/*\\", b"/", b"#endif", b"*/"], "kkkk"),
+    (ARGS, &[b"/*", b"*\\", b"/ #if X", b"#elif N"], "kkk-"),
     // A splice comes before an escape: the backslash that remains escapes the quote after it.
-    (WORDS, &[b"\"a\\\\", b"\" /* \"", b"#if X", b"#elif N"], "kkk-"),
+    (ARGS, &[b"\"a\\\\", b"\" /* \"", b"#if X", b"#elif N"], "kkk-"),
     // An empty spliced line keeps the escape, and an empty line ends the literal.
-    (WORDS, &[b"\"\\\\", b"\\", b"\" /*", b"#if X", b"#elif N"], "kkkk-"),
+    (ARGS, &[b"\"\\\\", b"\\", b"\" /*", b"#if X", b"#elif N"], "kkkk-"),
     // A directive may be on the second line of its logical line; there is at most one.
-    (WORDS, &[b"/* */ \\", b"#if X", b"#elif N"], "kk-"),
-    (WORDS, &[b"#if X /*", b"*/ #endif", b"#endif"], "kkk"),
+    (ARGS, &[b"/* */ \\", b"#if X", b"#elif N"], "kk-"),
+    (ARGS, &[b"#if X /*", b"*/ #endif", b"#endif"], "kkk"),
     // A directive before a splice in a comment is evaluated.
-    (WORDS, &[b"#ifdef N", b"#elif X // c \\", b"d"], "-ik"),
+    (ARGS, &[b"#ifdef N", b"#elif X // c \\", b"d"], "-ik"),
     // If the splice cuts the condition itself, the condition is unknown.
-    (WORDS, &[b"#ifdef Y \\", b"", b"#elif N", b"x"], "kk--"),
+    (ARGS, &[b"#ifdef Y \\", b"", b"#elif N", b"x"], "kk--"),
 ];
 
 /// Arguments, lines of which the last is faulty, its fault, and the depth and the mode then.
 #[rattlefmt::skip]
 const REFUSALS: &[(&str, &[&[u8]], SectionFault, usize, Mode)] = &[
     // A misplaced directive is a fault.
-    (WORDS, &[b"#elif Y"], SectionFault::InappropriateElif { line: 1 }, 0, Mode::C),
-    (WORDS, &[b"#if X", b"#else", b"#elif X"], SectionFault::InappropriateElif { line: 3 }, 1, Mode::C),
-    (WORDS, &[b"#ifdef N", b"#if X", b"#else", b"#elif Y"], SectionFault::InappropriateElif { line: 4 }, 2, Mode::C),
-    (WORDS, &[b"x", b"#else"], SectionFault::InappropriateElse { line: 2 }, 0, Mode::C),
-    (WORDS, &[b"#if X", b"#else", b"x", b"#else"], SectionFault::InappropriateElse { line: 4 }, 1, Mode::C),
-    (WORDS, &[b"#if X", b"#endif", b"#endif"], SectionFault::InappropriateEndif { line: 3 }, 0, Mode::C),
+    (ARGS, &[b"#elif Y"], SectionFault::InappropriateElif { line: 1 }, 0, Mode::C),
+    (ARGS, &[b"#if X", b"#else", b"#elif X"], SectionFault::InappropriateElif { line: 3 }, 1, Mode::C),
+    (ARGS, &[b"#ifdef N", b"#if X", b"#else", b"#elif Y"], SectionFault::InappropriateElif { line: 4 }, 2, Mode::C),
+    (ARGS, &[b"x", b"#else"], SectionFault::InappropriateElse { line: 2 }, 0, Mode::C),
+    (ARGS, &[b"#if X", b"#else", b"x", b"#else"], SectionFault::InappropriateElse { line: 4 }, 1, Mode::C),
+    (ARGS, &[b"#if X", b"#endif", b"#endif"], SectionFault::InappropriateEndif { line: 3 }, 0, Mode::C),
     ("-t", &[b"#if X", b"#endif", b"#endif"], SectionFault::InappropriateEndif { line: 3 }, 0, Mode::Plain),
     // After an opener became `#endif`, the section is still open.
-    (WORDS, &[b"#if X", b"#elif defined Y", b"#else", b"#elif X"], SectionFault::InappropriateElif { line: 4 }, 1, Mode::C),
+    (ARGS, &[b"#if X", b"#elif defined Y", b"#else", b"#elif X"], SectionFault::InappropriateElif { line: 4 }, 1, Mode::C),
     // A cut keyword is a fault everywhere.
-    (WORDS, &[b"#if\\"], SectionFault::Obfuscated { line: 1 }, 0, Mode::C),
-    (WORDS, &[b"#ifdef N", b"# /* c"], SectionFault::Obfuscated { line: 2 }, 1, Mode::C),
+    (ARGS, &[b"#if\\"], SectionFault::Obfuscated { line: 1 }, 0, Mode::C),
+    (ARGS, &[b"#ifdef N", b"# /* c"], SectionFault::Obfuscated { line: 2 }, 1, Mode::C),
     // A directive over lines may only stay whole. It would be removed, or lose what follows its
     // keyword.
-    (WORDS, &[b"#ifdef Y /* c"], SectionFault::Obfuscated { line: 1 }, 0, Mode::C),
-    (WORDS, &[b"#if X", b"#elif defined Y // \\"], SectionFault::Obfuscated { line: 2 }, 1, Mode::C),
-    (WORDS, &[b"#if X", b"#elif defined Y", b"#elif X /*"], SectionFault::Obfuscated { line: 3 }, 1, Mode::C),
+    (ARGS, &[b"#ifdef Y /* c"], SectionFault::Obfuscated { line: 1 }, 0, Mode::C),
+    (ARGS, &[b"#if X", b"#elif defined Y // \\"], SectionFault::Obfuscated { line: 2 }, 1, Mode::C),
+    (ARGS, &[b"#if X", b"#elif defined Y", b"#elif X /*"], SectionFault::Obfuscated { line: 3 }, 1, Mode::C),
     // It stays, but the line that it is joined to is removed.
-    (WORDS, &[b"#if X", b"1", b"#elif N", b"/* c", b"*/ #endif"], SectionFault::Obfuscated { line: 5 }, 1, Mode::C),
+    (ARGS, &[b"#if X", b"1", b"#elif N", b"/* c", b"*/ #endif"], SectionFault::Obfuscated { line: 5 }, 1, Mode::C),
 ];
 
 /// Compares the letters, after these lines, of a next line, of a text line after it, and of an
@@ -121,7 +121,7 @@ fn check_after(
     expected: &str,
 ) -> Result<(), Fail> {
     let alloc = rt.alloc();
-    let mut stepper = Stepper::new(rt, alloc, WORDS)?;
+    let mut stepper = Stepper::new(rt, alloc, ARGS)?;
     stepper.steps(rt, alloc, lines)?;
     let mut letters = stepper.steps(rt, alloc, &[next, b"x"])?;
     letters.push(match stepper.step(rt, b"#endif") {
@@ -155,21 +155,21 @@ fn a_section_goes_through_its_phases(rt: HostRuntime) -> Result<(), Fail> {
 /// Compares the letters of these lines under these arguments.
 fn check_steps(
     rt: &(impl Abort + AllocGlobal),
-    words: &str,
+    args: &str,
     lines: &[&[u8]],
     expected: &str,
 ) -> Result<(), Fail> {
     let alloc = rt.alloc();
-    let mut stepper = Stepper::new(rt, alloc, words)?;
+    let mut stepper = Stepper::new(rt, alloc, args)?;
     let letters = stepper.steps(rt, alloc, lines)?;
-    assert_eq!(rt; letters.as_str(), expected, "under {words}");
+    assert_eq!(rt; letters.as_str(), expected, "under {args}");
     Ok(())
 }
 
 #[test]
 fn each_line_has_its_verdict(rt: HostRuntime) -> Result<(), Fail> {
-    for &(words, lines, expected) in STEPS {
-        check_steps(&rt, words, lines, expected)?;
+    for &(args, lines, expected) in STEPS {
+        check_steps(&rt, args, lines, expected)?;
     }
     Ok(())
 }
@@ -178,38 +178,38 @@ fn each_line_has_its_verdict(rt: HostRuntime) -> Result<(), Fail> {
 /// same fault, and mode and depth stay.
 fn check_refusal(
     rt: &(impl Abort + AllocGlobal),
-    words: &str,
+    args: &str,
     lines: &[&[u8]],
     expected: SectionFault,
     depth: usize,
     mode: Mode,
 ) -> Result<(), Fail> {
     let alloc = rt.alloc();
-    let mut stepper = Stepper::new(rt, alloc, words)?;
+    let mut stepper = Stepper::new(rt, alloc, args)?;
     let Some((last, before)) = lines.split_last() else {
         return Ok(());
     };
     stepper.steps(rt, alloc, before)?;
     for body in [*last, b"x", b"#if X"] {
-        assert!(rt; stepper.step(rt, body) == Err(expected), "under {words}");
+        assert!(rt; stepper.step(rt, body) == Err(expected), "under {args}");
     }
-    assert!(rt; stepper.finish() == Err(expected), "under {words}");
+    assert!(rt; stepper.finish() == Err(expected), "under {args}");
     assert_eq!(rt; stepper.depth(), depth);
     assert!(rt; stepper.mode() == mode);
     Ok(())
 }
 
 #[test]
-fn a_directive_out_of_its_place_or_over_lines_is_refused(rt: HostRuntime) -> Result<(), Fail> {
-    for &(words, lines, fault, depth, mode) in REFUSALS {
-        check_refusal(&rt, words, lines, fault, depth, mode)?;
+fn a_directive_misplaced_or_over_lines_is_refused(rt: HostRuntime) -> Result<(), Fail> {
+    for &(args, lines, fault, depth, mode) in REFUSALS {
+        check_refusal(&rt, args, lines, fault, depth, mode)?;
     }
     Ok(())
 }
 
 #[test]
-fn a_keyword_is_told_with_its_place(rt: HostRuntime) -> Result<(), Fail> {
-    let mut stepper = Stepper::new(&rt, rt.alloc(), WORDS)?;
+fn a_keyword_is_reported_with_its_position(rt: HostRuntime) -> Result<(), Fail> {
+    let mut stepper = Stepper::new(&rt, rt.alloc(), ARGS)?;
     let lines: [(&[u8], usize, usize); 3] = [
         (b" # ifdef X", 3, 5),
         (b"# define X", 0, 0),
@@ -228,7 +228,7 @@ fn a_keyword_is_told_with_its_place(rt: HostRuntime) -> Result<(), Fail> {
 fn a_section_more_than_may_be_open_is_refused(rt: HostRuntime) -> Result<(), Fail> {
     let alloc = rt.alloc();
     for first in [b"#if X".as_slice(), b"#ifdef N".as_slice()] {
-        let mut stepper = Stepper::new(&rt, alloc, WORDS)?;
+        let mut stepper = Stepper::new(&rt, alloc, ARGS)?;
         let _ = stepper.step(&rt, first).expect(&rt, "the first section");
         for _ in 1..256 {
             let _ = stepper.step(&rt, b"#if X").expect(&rt, "a section");
@@ -243,9 +243,9 @@ fn a_section_more_than_may_be_open_is_refused(rt: HostRuntime) -> Result<(), Fai
 }
 
 #[test]
-fn the_end_tells_an_open_comment_before_an_open_section(rt: HostRuntime) -> Result<(), Fail> {
+fn the_end_reports_an_open_comment_before_an_open_section(rt: HostRuntime) -> Result<(), Fail> {
     let alloc = rt.alloc();
-    let mut stepper = Stepper::new(&rt, alloc, WORDS)?;
+    let mut stepper = Stepper::new(&rt, alloc, ARGS)?;
     assert!(rt; stepper.finish() == Ok(()));
     stepper.steps(&rt, alloc, &[b"x", b"#ifdef X", b"#elif N", b"x"])?;
     let open = SectionFault::PrematureEof {
@@ -285,7 +285,7 @@ fn a_section_by_an_ignoring_symbol_is_plain_up_to_its_end(rt: HostRuntime) -> Re
 
 #[test]
 fn a_run_of_text_has_one_verdict(rt: HostRuntime) -> Result<(), Fail> {
-    let mut stepper = Stepper::new(&rt, rt.alloc(), WORDS)?;
+    let mut stepper = Stepper::new(&rt, rt.alloc(), ARGS)?;
     assert_eq!(rt; stepper.text(3), 'k');
     let lines: [&[u8]; 2] = [b"#if X", b"#elif N"];
     check_next(&rt, &mut stepper, &lines, "k-", Mode::C)?;

@@ -72,7 +72,7 @@ fn ruled<'a>(
 }
 
 #[test]
-fn a_line_behind_removed_ones_has_its_number(rt: HostRuntime) -> Result<(), Fail> {
+fn a_line_after_removed_ones_has_its_number(rt: HostRuntime) -> Result<(), Fail> {
     let lines = [
         plain(b"a", b"\r\n", 1, true),
         plain(b"#ifdef A", b"\r\n", 2, false),
@@ -146,7 +146,7 @@ fn removed_lines_are_blanked(rt: HostRuntime) -> Result<(), Fail> {
 }
 
 #[test]
-fn a_line_behind_blanked_ones_has_no_number(rt: HostRuntime) -> Result<(), Fail> {
+fn a_line_after_blanked_ones_has_no_number(rt: HostRuntime) -> Result<(), Fail> {
     let lines = [
         plain(b"#ifdef A", b"\n", 1, false),
         plain(b"x", b"\n", 2, false),

@@ -13,9 +13,9 @@ use ud_sections::{Machine, SectionFault, Step};
 use ud_text::{Line, Scanner};
 
 /// Returns the plan of these arguments, which are separated by spaces and have no fault.
-pub(crate) fn planned(rt: &impl Abort, alloc: Global, words: &str) -> Result<Plan, Fail> {
+pub(crate) fn planned(rt: &impl Abort, alloc: Global, args: &str) -> Result<Plan, Fail> {
     let mut owned = Vec::new(alloc);
-    for word in words.split_whitespace() {
+    for word in args.split_whitespace() {
         owned.push(String::from_str(alloc, word)?)?;
     }
     Ok(plan(alloc, owned.as_slice()).expect(rt, "the words have no fault"))
@@ -33,8 +33,8 @@ pub(crate) struct Stepper {
 
 impl Stepper {
     /// Returns a stepper before the first line, for arguments separated by spaces.
-    pub(crate) fn new(rt: &impl Abort, alloc: Global, words: &str) -> Result<Stepper, Fail> {
-        let plan = planned(rt, alloc, words)?;
+    pub(crate) fn new(rt: &impl Abort, alloc: Global, args: &str) -> Result<Stepper, Fail> {
+        let plan = planned(rt, alloc, args)?;
         let machine = Machine::new(plan.settings());
         Ok(Stepper {
             plan,

@@ -6,6 +6,6 @@ mod lines;
 #[cfg(test)]
 mod marks;
 #[cfg(test)]
-mod passing;
-#[cfg(test)]
 mod scans;
+#[cfg(test)]
+mod skipping;

@@ -24,7 +24,7 @@ fn check_line(rt: &impl Abort, line: Line<'_>, expected: Line<'_>) {
 fn take_line(
     rt: &impl Abort,
     lines: &mut Lines,
-    piece: &[u8],
+    chunk: &[u8],
     used: usize,
     expected: Line<'_>,
 ) -> Result<(), Fail>
@@ -32,7 +32,7 @@ fn take_line(
     requires open { lines.old.closed ≡ false }
     ensures { OnOk result ((lines.new.whole ≡ false) × (lines.new.closed ≡ false)) }
 {
-    let taken = lines.take(piece)?;
+    let taken = lines.take(chunk)?;
     assert_eq!(rt; taken.used, used);
     if !taken.whole {
         return Err(Fail::new("the line has its line feed"));
@@ -43,13 +43,13 @@ fn take_line(
 }
 
 /// Takes bytes that end no line.
-fn take_part(rt: &impl Abort, lines: &mut Lines, piece: &[u8]) -> Result<(), Fail>
+fn take_part(rt: &impl Abort, lines: &mut Lines, chunk: &[u8]) -> Result<(), Fail>
     requires part { lines.old.whole ≡ false }
     requires open { lines.old.closed ≡ false }
     ensures { OnOk result ((lines.new.whole ≡ false) × (lines.new.closed ≡ false)) }
 {
-    let taken = lines.take(piece)?;
-    assert_eq!(rt; taken.used, piece.len());
+    let taken = lines.take(chunk)?;
+    assert_eq!(rt; taken.used, chunk.len());
     if taken.whole {
         return Err(Fail::new("the line lacks its line feed"));
     }
@@ -60,14 +60,14 @@ fn take_part(rt: &impl Abort, lines: &mut Lines, piece: &[u8]) -> Result<(), Fai
 fn take_none(
     rt: &impl Abort,
     lines: &mut Lines,
-    piece: &[u8],
+    chunk: &[u8],
     expected: TextFault,
 ) -> Result<(), Fail>
     requires part { lines.old.whole ≡ false }
     requires open { lines.old.closed ≡ false }
     ensures { OnOk result ((lines.new.whole ≡ false) × (lines.new.closed ≡ false)) }
 {
-    let Err(fault) = lines.take(piece) else {
+    let Err(fault) = lines.take(chunk) else {
         return Err(Fail::new("the bytes are refused"));
     };
     assert_eq!(rt; fault, expected);
@@ -75,17 +75,17 @@ fn take_none(
 }
 
 /// Borrows a line from the chunk.
-fn lend_line(
+fn borrow_line(
     rt: &impl Abort,
     lines: &mut Lines,
-    piece: &[u8],
+    chunk: &[u8],
     expected: Line<'_>,
 ) -> Result<(), Fail>
     requires part { lines.old.whole ≡ false }
     requires open { lines.old.closed ≡ false }
     ensures { OnOk result ((lines.new.whole ≡ false) × (lines.new.closed ≡ false)) }
 {
-    let Some(line) = lines.whole_in(piece) else {
+    let Some(line) = lines.whole_in(chunk) else {
         return Err(Fail::new("the line is lent"));
     };
     check_line(rt, line, expected);
@@ -93,7 +93,7 @@ fn lend_line(
 }
 
 #[test]
-fn a_text_of_two_lines_comes_in_two_pieces(rt: HostRuntime) -> Result<(), Fail> {
+fn a_text_of_two_lines_comes_in_two_chunks(rt: HostRuntime) -> Result<(), Fail> {
     let mut lines = Lines::new(2);
     take_line(&rt, &mut lines, b"a\nb", 2, fed(b"a", 1))?;
     take_part(&rt, &mut lines, b"b")?;
@@ -111,7 +111,7 @@ fn a_text_of_two_lines_comes_in_two_pieces(rt: HostRuntime) -> Result<(), Fail> 
 }
 
 #[test]
-fn a_third_line_is_refused_for_good(rt: HostRuntime) -> Result<(), Fail> {
+fn a_third_line_fuses(rt: HostRuntime) -> Result<(), Fail> {
     let mut lines = Lines::new(2);
     take_line(&rt, &mut lines, b"a\n", 2, fed(b"a", 1))?;
     take_line(&rt, &mut lines, b"b\n", 2, fed(b"b", 2))?;
@@ -120,7 +120,7 @@ fn a_third_line_is_refused_for_good(rt: HostRuntime) -> Result<(), Fail> {
 }
 
 #[test]
-fn a_line_ends_where_two_pieces_meet(rt: HostRuntime) -> Result<(), Fail> {
+fn a_line_ends_where_two_chunks_meet(rt: HostRuntime) -> Result<(), Fail> {
     let mut lines = Lines::new(2);
     take_part(&rt, &mut lines, b"a\r")?;
     let line = Line {
@@ -132,7 +132,7 @@ fn a_line_ends_where_two_pieces_meet(rt: HostRuntime) -> Result<(), Fail> {
 }
 
 #[test]
-fn a_line_in_a_short_room_goes_on_in_a_longer_one(rt: HostRuntime) -> Result<(), Fail> {
+fn a_line_in_a_short_buffer_goes_on_in_a_longer_one(rt: HostRuntime) -> Result<(), Fail> {
     let mut short: Lines<ShortLineBuffer> = Lines::with_buffer(1);
     if short.take(b"ab")?.whole {
         return Err(Fail::new("the line lacks its line feed"));
@@ -158,65 +158,65 @@ fn a_line_past_the_limit_is_refused_at_the_end_too(rt: HostRuntime) -> Result<()
 }
 
 /// Passes if no line is borrowed.
-fn lend_none(lines: &mut Lines, piece: &[u8]) -> Result<(), Fail>
+fn borrow_none(lines: &mut Lines, chunk: &[u8]) -> Result<(), Fail>
     requires part { lines.old.whole ≡ false }
     requires open { lines.old.closed ≡ false }
     ensures { OnOk result (lines.new ≡ lines.old) }
 {
-    match lines.whole_in(piece) {
+    match lines.whole_in(chunk) {
         Some(_) => Err(Fail::new("no line is lent")),
         None => Ok(()),
     }
 }
 
 #[test]
-fn whole_lines_are_borrowed_from_the_piece(rt: HostRuntime) -> Result<(), Fail> {
+fn whole_lines_are_borrowed_from_the_chunk(rt: HostRuntime) -> Result<(), Fail> {
     let mut lines = Lines::new(2);
-    lend_line(&rt, &mut lines, b"a\nb", fed(b"a", 1))?;
+    borrow_line(&rt, &mut lines, b"a\nb", fed(b"a", 1))?;
     assert_eq!(rt; lines.held(), 0);
-    lend_none(&mut lines, b"b")?;
+    borrow_none(&mut lines, b"b")?;
     take_part(&rt, &mut lines, b"b")?;
-    lend_none(&mut lines, b"\n")?;
+    borrow_none(&mut lines, b"\n")?;
     take_line(&rt, &mut lines, b"\n", 1, fed(b"b", 2))?;
-    lend_none(&mut lines, b"c\n")?;
+    borrow_none(&mut lines, b"c\n")?;
     take_none(&rt, &mut lines, b"c\n", TextFault::TooManyLines { line: 3 })?;
-    lend_none(&mut lines, b"c\n")
+    borrow_none(&mut lines, b"c\n")
 }
 
 #[test]
 fn the_longest_line_is_borrowed(rt: HostRuntime) -> Result<(), Fail> {
-    let mut piece = [b'a'; 65_536];
-    piece[65_535] = b'\n';
-    lend_line(&rt, &mut Lines::new(1), &piece, fed(&piece[..65_535], 1))
+    let mut chunk = [b'a'; 65_536];
+    chunk[65_535] = b'\n';
+    borrow_line(&rt, &mut Lines::new(1), &chunk, fed(&chunk[..65_535], 1))
 }
 
 #[test]
 fn a_longer_line_is_refused_and_not_borrowed(rt: HostRuntime) -> Result<(), Fail> {
-    let mut piece = [b'a'; 65_537];
-    piece[65_536] = b'\n';
+    let mut chunk = [b'a'; 65_537];
+    chunk[65_536] = b'\n';
     let mut lines = Lines::new(1);
-    lend_none(&mut lines, &piece)?;
-    take_none(&rt, &mut lines, &piece, TextFault::LineTooLong { line: 1 })?;
-    lend_none(&mut lines, &piece)
+    borrow_none(&mut lines, &chunk)?;
+    take_none(&rt, &mut lines, &chunk, TextFault::LineTooLong { line: 1 })?;
+    borrow_none(&mut lines, &chunk)
 }
 
 /// Compares the length of the prefix of whole lines that can be consumed.
-fn check_run(rt: &impl Abort, lines: &Lines, piece: &[u8], count: usize) {
-    assert_eq!(rt; lines.whole_lines_len(piece), count);
+fn check_run(rt: &impl Abort, lines: &Lines, chunk: &[u8], count: usize) {
+    assert_eq!(rt; lines.whole_lines_len(chunk), count);
 }
 
 /// Consumes the first `count` bytes, which are whole lines.
-fn skip_lines(rt: &impl Abort, lines: &mut Lines, piece: &[u8], count: usize) -> Result<(), Fail>
+fn skip_lines(rt: &impl Abort, lines: &mut Lines, chunk: &[u8], count: usize) -> Result<(), Fail>
     requires part { lines.old.whole ≡ false }
     requires open { lines.old.closed ≡ false }
     ensures { OnOk result ((lines.new.whole ≡ false) × (lines.new.closed ≡ false)) }
 {
-    check_run(rt, lines, piece, count);
-    let run = lines.whole_lines_len(piece);
+    check_run(rt, lines, chunk, count);
+    let run = lines.whole_lines_len(chunk);
     if run == 0 {
         return Err(Fail::new("there are whole lines"));
     }
-    lines.consume(&piece[..run]);
+    lines.consume(&chunk[..run]);
     Ok(())
 }
 
@@ -235,24 +235,24 @@ fn whole_lines_are_skipped_at_once(rt: HostRuntime) -> Result<(), Fail> {
 
 #[test]
 fn no_line_past_a_limit_is_skipped(rt: HostRuntime) -> Result<(), Fail> {
-    let mut piece = [b'a'; 65_640];
-    piece[100] = b'\n';
-    piece[65_636] = b'\n';
-    check_run(&rt, &Lines::new(70_000), &piece, 65_637);
-    piece[65_636] = b'a';
-    piece[65_637] = b'\n';
-    check_run(&rt, &Lines::new(70_000), &piece, 101);
+    let mut chunk = [b'a'; 65_640];
+    chunk[100] = b'\n';
+    chunk[65_636] = b'\n';
+    check_run(&rt, &Lines::new(70_000), &chunk, 65_637);
+    chunk[65_636] = b'a';
+    chunk[65_637] = b'\n';
+    check_run(&rt, &Lines::new(70_000), &chunk, 101);
     check_run(&rt, &Lines::new(1), b"a\nb\n", 0);
     Ok(())
 }
 
 #[test]
 fn each_skipped_line_is_counted(rt: HostRuntime) -> Result<(), Fail> {
-    let piece = [b'\n'; 300];
+    let chunk = [b'\n'; 300];
     for count in 1..300_u32 {
         let mut lines = Lines::new(300);
-        skip_lines(&rt, &mut lines, &piece[..count as usize], count as usize)?;
-        lend_line(&rt, &mut lines, b"a\n", fed(b"a", count + 1))?;
+        skip_lines(&rt, &mut lines, &chunk[..count as usize], count as usize)?;
+        borrow_line(&rt, &mut lines, b"a\n", fed(b"a", count + 1))?;
     }
     Ok(())
 }

@@ -56,7 +56,7 @@ const REFUSALS: &[(&str, &str)] = &[
 ];
 
 #[test]
-fn words_say_the_status_and_the_name_in_messages(rt: HostRuntime) -> Result<(), Fail> {
+fn arguments_give_the_status_and_the_name_in_messages(rt: HostRuntime) -> Result<(), Fail> {
     check_copies(&rt, COPIES)?;
     check_rows(&rt, ROWS)?;
     check_faults(&rt, FAULTS)?;
@@ -67,9 +67,9 @@ fn words_say_the_status_and_the_name_in_messages(rt: HostRuntime) -> Result<(), 
 }
 
 #[test]
-fn faulty_words_are_told_and_nothing_is_printed(rt: HostRuntime) -> Result<(), Fail> {
-    for &(words, message) in REFUSALS {
-        check(&rt, words, b"#ifdef A\n#endif\n", b"", message, 2)?;
+fn faulty_arguments_are_reported_and_nothing_is_printed(rt: HostRuntime) -> Result<(), Fail> {
+    for &(args, message) in REFUSALS {
+        check(&rt, args, b"#ifdef A\n#endif\n", b"", message, 2)?;
     }
     Ok(())
 }

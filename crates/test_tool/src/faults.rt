@@ -43,7 +43,7 @@ const FAULTS: &[Fault<'_>] = &[
 ];
 
 #[test]
-fn a_fault_is_told_behind_what_is_left_before_it(rt: HostRuntime) -> Result<(), Fail> {
+fn a_fault_is_reported_after_the_output_before_it(rt: HostRuntime) -> Result<(), Fail> {
     check_copies(&rt, COPIES)?;
     check_faults(&rt, FAULTS)
 }

@@ -11,8 +11,6 @@ mod elifdefs;
 #[cfg(test)]
 mod faults;
 #[cfg(test)]
-mod fronts;
-#[cfg(test)]
 mod ignoring;
 #[cfg(test)]
 mod limits;
@@ -22,6 +20,8 @@ mod listing;
 mod messages;
 #[cfg(test)]
 mod plain;
+#[cfg(test)]
+mod prefixes;
 #[cfg(test)]
 mod printed;
 #[cfg(test)]

@@ -23,7 +23,7 @@ fn a_line_has_65536_bytes_with_its_ending(rt: HostRuntime) -> Result<(), Fail> {
 }
 
 #[test]
-fn a_line_that_is_too_long_is_told_behind_the_lines_before(rt: HostRuntime) -> Result<(), Fail> {
+fn a_line_that_is_too_long_is_reported_after_the_lines_before(rt: HostRuntime) -> Result<(), Fail> {
     let long = repeated(rt.alloc(), b"a", 65_537)?;
     let input = joined(rt.alloc(), &[b"#ifdef A\nx\n", long.as_slice()])?;
     let message = "unifdef: stdin: 3: Line too long";

@@ -12,7 +12,7 @@ fn check(rt: &impl Abort, said: &[u8], status: u8, message: &[u8], expected: u8)
 }
 
 #[test]
-fn a_failed_flush_is_told_as_a_failed_write(rt: HostRuntime) -> Result<(), Fail> {
+fn a_failed_flush_is_reported_as_a_failed_write(rt: HostRuntime) -> Result<(), Fail> {
     let plan = plan(rt.alloc(), &[])?;
     let mut err = Watched::new(Vec::new(rt.alloc()));
     let status = report_result(
@@ -46,7 +46,7 @@ fn a_run_that_changed_a_line_has_status_1(rt: HostRuntime) -> Result<(), Fail> {
 }
 
 #[test]
-fn a_refusal_is_told_without_the_input(rt: HostRuntime) -> Result<(), Fail> {
+fn a_usage_fault_is_reported_without_the_input(rt: HostRuntime) -> Result<(), Fail> {
     let mut err = Watched::new(Vec::new(rt.alloc()));
     report_usage(&mut err, Usage::TooManyFiles);
     check(&rt, err.inner(), 0, b"unifdef: Too many files\n", 0);

@@ -39,7 +39,7 @@ const STOPS: [&[u8]; 26] = [
 ];
 
 /// The arguments of the runs, in turn.
-const WORDS: [&str; 7] = ["", "-t", "-b", "-n", "-c", "-s", "-c -n"];
+const ARGS: [&str; 7] = ["", "-t", "-b", "-n", "-c", "-s", "-c -n"];
 
 /// The numbers of plain bytes before each stop: about none, and about a border of 16, 32, 64 and
 /// 128 lanes.
@@ -67,9 +67,9 @@ fn dense_text(alloc: Global, lead: usize) -> Result<Vec<u8>, AllocError> {
 }
 
 /// Compares the tool's answer if it reads chunks of this size.
-fn check_pieces(
+fn check_chunks(
     rt: &(impl Abort + AllocGlobal),
-    words: &[String],
+    args: &[String],
     text: &[u8],
     step: usize,
     answer: Answer<'_>,
@@ -79,7 +79,7 @@ fn check_pieces(
         ..Source::whole(text)
     };
     let label = format!(in rt.alloc(); "pieces of {step}")?;
-    check_tool(rt, words, source, usize::MAX, answer, label.as_str());
+    check_tool(rt, args, source, usize::MAX, answer, label.as_str());
     Ok(())
 }
 
@@ -87,16 +87,16 @@ fn check_pieces(
 /// from 1 to 70 bytes whose turn it is.
 fn check_turn(
     rt: &(impl Abort + AllocGlobal),
-    words: &[String],
+    args: &[String],
     turn: usize,
     lead: usize,
     text: &[u8],
 ) -> Result<(), Fail> {
-    let expected = answer_to(rt.alloc(), words, text)?;
-    check_pieces(rt, words, text, 8192, Answer::of(&expected))?;
+    let expected = answer_to(rt.alloc(), args, text)?;
+    check_chunks(rt, args, text, 8192, Answer::of(&expected))?;
     for step in 1..=70_usize {
-        if step.wrapping_add(lead) % WORDS.len() == turn {
-            check_pieces(rt, words, text, step, Answer::of(&expected))?;
+        if step.wrapping_add(lead) % ARGS.len() == turn {
+            check_chunks(rt, args, text, step, Answer::of(&expected))?;
         }
     }
     Ok(())
@@ -109,12 +109,12 @@ fn check_sizes(
     lead: usize,
     text: &[u8],
 ) -> Result<(), Fail> {
-    for (turn, words) in WORDS.iter().enumerate() {
-        let words = parted(
+    for (turn, args) in ARGS.iter().enumerate() {
+        let args = parted(
             rt.alloc(),
-            format!(in rt.alloc(); "{symbols} {words}")?.as_str(),
+            format!(in rt.alloc(); "{symbols} {args}")?.as_str(),
         )?;
-        check_turn(rt, words.as_slice(), turn, lead, text)?;
+        check_turn(rt, args.as_slice(), turn, lead, text)?;
     }
     Ok(())
 }
@@ -129,7 +129,7 @@ fn stops_at_the_borders_of_lanes_change_nothing(rt: HostRuntime) -> Result<(), F
 }
 
 #[test]
-fn the_front_of_a_text_of_stops_is_answered_too(rt: HostRuntime) -> Result<(), Fail> {
+fn the_prefix_of_a_text_of_stops_is_answered_too(rt: HostRuntime) -> Result<(), Fail> {
     for &lead in &LEADS {
         let text = dense_text(rt.alloc(), lead)?;
         let part = text.len() / 3;

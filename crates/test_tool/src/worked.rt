@@ -43,16 +43,16 @@ pub(crate) fn check_copies(
     rt: &(impl Abort + AllocGlobal),
     rows: &[Copied<'_>],
 ) -> Result<(), Fail> {
-    for &(words, input) in rows {
-        check_copy(rt, words, input)?;
+    for &(args, input) in rows {
+        check_copy(rt, args, input)?;
     }
     Ok(())
 }
 
 /// Compares the answer of each row, which has no message.
 pub(crate) fn check_rows(rt: &(impl Abort + AllocGlobal), rows: &[Row<'_>]) -> Result<(), Fail> {
-    for &(words, input, output, status) in rows {
-        check(rt, words, input, output, "", status)?;
+    for &(args, input, output, status) in rows {
+        check(rt, args, input, output, "", status)?;
     }
     Ok(())
 }
@@ -62,9 +62,9 @@ pub(crate) fn check_faults(
     rt: &(impl Abort + AllocGlobal),
     rows: &[Fault<'_>],
 ) -> Result<(), Fail> {
-    for &(words, input, output, fault) in rows {
+    for &(args, input, output, fault) in rows {
         let message = format!(in rt.alloc(); "unifdef: stdin: {fault}")?;
-        check(rt, words, input, output, message.as_str(), 2)?;
+        check(rt, args, input, output, message.as_str(), 2)?;
     }
     Ok(())
 }
@@ -72,10 +72,10 @@ pub(crate) fn check_faults(
 /// Compares an answer whose output is the input, without a message.
 pub(crate) fn check_copy(
     rt: &(impl Abort + AllocGlobal),
-    words: &str,
+    args: &str,
     input: &[u8],
 ) -> Result<(), Fail> {
-    check(rt, words, input, input, "", 0)
+    check(rt, args, input, input, "", 0)
 }
 
 /// Compares the answers to these arguments and this input: the reference's, and the tool's. The
@@ -84,27 +84,27 @@ pub(crate) fn check_copy(
 /// `message` lacks its newline, and is empty if there is none.
 pub(crate) fn check(
     rt: &(impl Abort + AllocGlobal),
-    words: &str,
+    args: &str,
     input: &[u8],
     output: &[u8],
     message: &str,
     status: u8,
 ) -> Result<(), Fail> {
     let alloc = rt.alloc();
-    let owned = parted(alloc, words)?;
-    let message = with_feed(alloc, message)?;
+    let owned = parted(alloc, args)?;
+    let message = with_newline(alloc, message)?;
     let answer = Answer {
         output,
         message: message.as_slice(),
         status,
     };
-    check_reference(rt, owned.as_slice(), input, answer, words)?;
+    check_reference(rt, owned.as_slice(), input, answer, args)?;
     for step in [usize::MAX, 64, 7, 1] {
         let source = Source {
             step,
             ..Source::whole(input)
         };
-        check_tool(rt, owned.as_slice(), source, step, answer, words);
+        check_tool(rt, owned.as_slice(), source, step, answer, args);
     }
     Ok(())
 }
@@ -112,7 +112,7 @@ pub(crate) fn check(
 /// Compares the tool's answer for this reader, if each write accepts at most `step` bytes.
 pub(crate) fn check_tool<R: Read + Drop>(
     rt: &(impl Abort + AllocGlobal),
-    words: &[String],
+    args: &[String],
     reader: R,
     step: usize,
     answer: Answer<'_>,
@@ -125,7 +125,7 @@ pub(crate) fn check_tool<R: Read + Drop>(
         ..Sink::wide(alloc)
     });
     let mut err = Watched::new(Vec::<u8>::new(alloc));
-    let status = tool(alloc, words, &mut reader, &mut out, &mut err);
+    let status = tool(alloc, args, &mut reader, &mut out, &mut err);
     let found = Answer {
         output: out.inner().taken.as_slice(),
         message: err.inner().as_slice(),
@@ -137,18 +137,18 @@ pub(crate) fn check_tool<R: Read + Drop>(
 /// Compares the reference's answer.
 fn check_reference(
     rt: &(impl Abort + AllocGlobal),
-    words: &[String],
+    args: &[String],
     input: &[u8],
     answer: Answer<'_>,
     label: &str,
 ) -> Result<(), Fail> {
-    let found = answer_to(rt.alloc(), words, input)?;
+    let found = answer_to(rt.alloc(), args, input)?;
     assert_eq!(rt; Answer::of(&found), answer, "the reference under {label}");
     Ok(())
 }
 
 /// Returns a message with its newline; nothing if there is none.
-fn with_feed(alloc: Global, message: &str) -> Result<Vec<u8>, AllocError> {
+fn with_newline(alloc: Global, message: &str) -> Result<Vec<u8>, AllocError> {
     let mut bytes = Vec::new(alloc);
     if !message.is_empty() {
         bytes.extend_from_slice(message.as_bytes())?;

@@ -3,17 +3,17 @@ use Rattle.std.proofs.Common.{◌+◌, ◌*◌, ◌-◌, ◌≤◌, length}
 use Rattle.ud_model.specs.declared.limits.TheConstants.{OPEN_SECTIONS}
 use Rattle.ref_unifdef.proofs.reading.Reader.+reading.Given as goal
 
-abbrev pub decreases-place : goal.decreases-place
-decreases-place l = 2 * (OPEN_SECTIONS - l.level) + 1
+abbrev pub decreases-position : goal.decreases-position
+decreases-position l = 2 * (OPEN_SECTIONS - l.level) + 1
 
 abbrev pub decreases-section : goal.decreases-section
 decreases-section l = 2 * (OPEN_SECTIONS - l.level)
 
-abbrev pub invariant-place-lines : goal.invariant-place-lines
-invariant-place-lines l = length l.self.rest.now ≤ length l.fn.self.rest.now
+abbrev pub invariant-position-lines : goal.invariant-position-lines
+invariant-position-lines l = length l.self.rest.now ≤ length l.fn.self.rest.now
 
-abbrev pub decreases-place-lines : goal.decreases-place-lines
-decreases-place-lines l = length l.self.rest.now
+abbrev pub decreases-position-lines : goal.decreases-position-lines
+decreases-position-lines l = length l.self.rest.now
 
 abbrev pub invariant-section-groups : goal.invariant-section-groups
 invariant-section-groups l = length l.self.rest.now ≤ length l.fn.self.rest.now

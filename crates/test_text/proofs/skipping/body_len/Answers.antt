@@ -3,7 +3,7 @@ use Rattle.std.proofs.Common.{sym, subst, take, get_or, [], ◌∷◌, arith}
 use Rattle.std.proofs.lemmas.List.{take_more}
 use Rattle.ud_model.specs.text.Lines.{NoNewline}
 use Rattle.ud_model.proofs.text.LinesLemmas.{no_newline-append}
-use Rattle.test_text.proofs.passing.body_len.Goals as goal
+use Rattle.test_text.proofs.skipping.body_len.Goals as goal
 
 pub loop-at-preserved : goal.loop-at-preserved
 loop-at-preserved c = record {

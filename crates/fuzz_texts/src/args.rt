@@ -57,16 +57,16 @@ const ODD: [&str; 14] = [
 ];
 
 /// Returns a few arguments: at least one for a symbol, sometimes flags, and seldom something odd.
-pub(crate) fn words_of(alloc: Global, random: &mut Random) -> Result<Vec<String>, AllocError> {
-    let mut words = Vec::new(alloc);
+pub(crate) fn args_of(alloc: Global, random: &mut Random) -> Result<Vec<String>, AllocError> {
+    let mut args = Vec::new(alloc);
     for _ in 0..1 + random.below(4) {
-        words.push(String::from_str(alloc, SYMBOLS[random.below(SYMBOLS.len())])?)?;
+        args.push(String::from_str(alloc, SYMBOLS[random.below(SYMBOLS.len())])?)?;
     }
     for _ in 0..random.below(3) {
-        words.push(String::from_str(alloc, FLAGS[random.below(FLAGS.len())])?)?;
+        args.push(String::from_str(alloc, FLAGS[random.below(FLAGS.len())])?)?;
     }
     if random.one_in(40) {
-        words.push(String::from_str(alloc, ODD[random.below(ODD.len())])?)?;
+        args.push(String::from_str(alloc, ODD[random.below(ODD.len())])?)?;
     }
-    Ok(words)
+    Ok(args)
 }

@@ -15,30 +15,30 @@ const LAST: usize = 8;
 /// at each of the last positions.
 fn check_cuts(
     rt: &(impl Abort + AllocGlobal),
-    words: &[String],
+    args: &[String],
     text: &[u8],
     last: usize,
     label: &str,
 ) -> Result<(), Fail> {
-    let expected = answer_to(rt.alloc(), words, text)?;
+    let expected = answer_to(rt.alloc(), args, text)?;
     for cut in text.len().saturating_sub(last)..=text.len() {
-        let (front, back) = text.split_at(cut);
-        let reader = front.chain(back);
-        check_tool(rt, words, reader, usize::MAX, Answer::of(&expected), label);
+        let (prefix, back) = text.split_at(cut);
+        let reader = prefix.chain(back);
+        check_tool(rt, args, reader, usize::MAX, Answer::of(&expected), label);
     }
     Ok(())
 }
 
 /// Compares the answers to the last prefixes of an input, the whole one among them.
-fn check_fronts(
+fn check_prefixes(
     rt: &(impl Abort + AllocGlobal),
-    words: &str,
+    args: &str,
     input: &[u8],
     last: usize,
 ) -> Result<(), Fail> {
-    let owned = parted(rt.alloc(), words)?;
+    let owned = parted(rt.alloc(), args)?;
     for len in input.len().saturating_sub(last)..=input.len() {
-        check_cuts(rt, owned.as_slice(), &input[..len], last, words)?;
+        check_cuts(rt, owned.as_slice(), &input[..len], last, args)?;
     }
     Ok(())
 }
@@ -52,25 +52,25 @@ const NAMED: [(&str, &[u8]); 4] = [
 ];
 
 #[test]
-fn each_front_of_a_row_is_answered_as_by_the_reference(rt: HostRuntime) -> Result<(), Fail> {
-    for (words, input) in &ROWS {
-        check_fronts(&rt, words, input, input.len())?;
+fn each_prefix_of_a_case_is_answered_as_by_the_reference(rt: HostRuntime) -> Result<(), Fail> {
+    for (args, input) in &ROWS {
+        check_prefixes(&rt, args, input, input.len())?;
     }
     Ok(())
 }
 
 #[test]
-fn each_front_of_named_conditions_is_answered_as_by_the_reference(
+fn each_prefix_of_named_conditions_is_answered_as_by_the_reference(
     rt: HostRuntime,
 ) -> Result<(), Fail> {
-    for (words, input) in &NAMED {
-        check_fronts(&rt, words, input, input.len())?;
+    for (args, input) in &NAMED {
+        check_prefixes(&rt, args, input, input.len())?;
     }
     Ok(())
 }
 
 #[test]
-fn fronts_of_the_longest_lines_are_answered_as_by_the_reference(
+fn prefixes_of_the_longest_lines_are_answered_as_by_the_reference(
     rt: HostRuntime,
 ) -> Result<(), Fail> {
     for bytes in [65_535_usize, 65_536, 65_537] {
@@ -78,26 +78,26 @@ fn fronts_of_the_longest_lines_are_answered_as_by_the_reference(
             let count = bytes.saturating_sub(ending.len());
             let mut line = repeated(rt.alloc(), b"a", count)?;
             line.extend_from_slice(ending)?;
-            check_fronts(&rt, "-DA", line.as_slice(), LAST)?;
+            check_prefixes(&rt, "-DA", line.as_slice(), LAST)?;
         }
     }
     Ok(())
 }
 
 #[test]
-fn fronts_of_the_deepest_sections_are_answered_as_by_the_reference(
+fn prefixes_of_the_deepest_sections_are_answered_as_by_the_reference(
     rt: HostRuntime,
 ) -> Result<(), Fail> {
     for depth in [256, 257] {
         let text = nested(rt.alloc(), depth)?;
-        check_fronts(&rt, "-DA", text.as_slice(), LAST)?;
+        check_prefixes(&rt, "-DA", text.as_slice(), LAST)?;
     }
     Ok(())
 }
 
 /// From line to line, more bytes are buffered when the next chunk is read.
 #[test]
-fn lines_as_long_as_a_piece_are_answered_as_by_the_reference(rt: HostRuntime) -> Result<(), Fail> {
+fn lines_as_long_as_a_chunk_are_answered_as_by_the_reference(rt: HostRuntime) -> Result<(), Fail> {
     let owned = parted(rt.alloc(), "-DA")?;
     let mut text = Vec::new(rt.alloc());
     for count in 8_180..8_200 {

@@ -11,7 +11,7 @@ use ud_text::{Line, Scan};
 
 /// A line of the text, with its properties.
 #[derive(Drop)]
-pub(crate) struct Row<'a> {
+pub(crate) struct ClassifiedLine<'a> {
     pub line: Line<'a>,
     /// The role of its directive in the section, if the line has one.
     pub role: Option<Role>,
@@ -40,13 +40,13 @@ const UNDECIDED: Answer = Answer {
 ///
 /// # Errors
 /// Fails if the keyword of its directive can't be known.
-pub(crate) fn see<'a>(
+pub(crate) fn classify<'a>(
     line: Line<'a>,
     scan: &Scan<'_>,
     symbols: &Symbols,
     settings: Settings,
     names: Vec<u8>,
-) -> Result<Row<'a>, Cut>
+) -> Result<ClassifiedLine<'a>, Cut>
     requires masked { length scan.now.masked.now ≤ length line.body.now }
     requires fits { length line.body.now ≤ LINE_BYTES }
 {
@@ -58,7 +58,7 @@ pub(crate) fn see<'a>(
             decide(scan, &found, symbols, settings),
         ),
     };
-    Ok(Row {
+    Ok(ClassifiedLine {
         line,
         role,
         cond: answer.cond,

@@ -8,18 +8,18 @@ const SIZES: [usize; 6] = [1, 2, 5, 64, 1000, 10_000];
 
 /// A reader that returns its bytes in chunks, and then ends.
 #[derive(Drop)]
-pub struct Pieces<'a> {
+pub struct Chunks<'a> {
     bytes: &'a [u8],
     most: usize,
     random: Random,
 }
 
-impl<'a> Pieces<'a> {
+impl<'a> Chunks<'a> {
     /// Returns a reader of `bytes`, whose chunks come from the seed.
-    pub fn new(bytes: &'a [u8], seed: u64) -> Pieces<'a> {
+    pub fn new(bytes: &'a [u8], seed: u64) -> Chunks<'a> {
         let mut random = Random::new(seed);
         let most = SIZES[random.below(SIZES.len())];
-        Pieces {
+        Chunks {
             bytes,
             most,
             random,
@@ -27,7 +27,7 @@ impl<'a> Pieces<'a> {
     }
 }
 
-impl Read for Pieces<'_> {
+impl Read for Chunks<'_> {
     fn read(&mut self, buf: &mut [u8]) -> io::Result<usize> {
         let size = self.random.below(self.most.max(1)).saturating_add(1);
         let count = buf.len().min(self.bytes.len()).min(size);

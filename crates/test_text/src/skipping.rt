@@ -161,7 +161,7 @@ fn read_text(rt: &impl Abort, scanner: &mut Scanner, lines: &[u8]) -> Result<usi
 /// Before each skip, up to two lines are read that might be skipped, so that skips begin anywhere.
 /// Returns the number of lines that were skipped.
 fn walk(rt: &impl Abort, numbers: &mut Numbers, text: &[u8]) -> Result<usize, Fail> {
-    let mut passing = Scanner::new();
+    let mut skipping = Scanner::new();
     let mut reading = Scanner::new();
     let mut rest = text;
     let mut passed: usize = 0;
@@ -170,21 +170,21 @@ fn walk(rt: &impl Abort, numbers: &mut Numbers, text: &[u8]) -> Result<usize, Fa
             break;
         }
         for _ in 0..numbers.below(3) {
-            let line = read_alike(rt, &mut passing, &mut reading, rest)?;
+            let line = read_alike(rt, &mut skipping, &mut reading, rest)?;
             rest = &rest[line..];
         }
-        let count = passing.skip_text(Mode::C, rest);
+        let count = skipping.skip_text(Mode::C, rest);
         passed = passed.saturating_add(read_text(rt, &mut reading, &rest[..count])?);
-        assert_eq!(rt; passing.in_comment(), reading.in_comment());
+        assert_eq!(rt; skipping.in_comment(), reading.in_comment());
         rest = &rest[count..];
-        let line = read_alike(rt, &mut passing, &mut reading, rest)?;
+        let line = read_alike(rt, &mut skipping, &mut reading, rest)?;
         rest = &rest[line..];
     }
     Ok(passed)
 }
 
 #[test]
-fn a_pass_sees_what_reading_sees(rt: HostRuntime) -> Result<(), Fail> {
+fn skipping_scans_as_reading_does(rt: HostRuntime) -> Result<(), Fail> {
     let mut numbers = Numbers { state: 1 };
     let mut passed: usize = 0;
     for _ in 0..400 {
@@ -246,7 +246,7 @@ const PASSES: &[(&[u8], usize)] = &[
 ];
 
 #[test]
-fn a_pass_goes_up_to_the_line_that_may_be_none(rt: HostRuntime) -> Result<(), Fail> {
+fn skipping_goes_up_to_the_line_that_may_be_none(rt: HostRuntime) -> Result<(), Fail> {
     for &(lines, count) in PASSES {
         goes(&rt, lines, count);
     }
@@ -265,7 +265,7 @@ fn spanning(alloc: Global, begin: &[u8], count: usize, end: &[u8]) -> Result<Vec
 }
 
 #[test]
-fn a_pass_goes_through_spans_of_each_length(rt: HostRuntime) -> Result<(), Fail> {
+fn skipping_goes_through_spans_of_each_length(rt: HostRuntime) -> Result<(), Fail> {
     let spans: [(&[u8], &[u8]); 9] = [
         (b"", b"\n"),
         (b"a # ", b"\n"),
