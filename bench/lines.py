@@ -1,19 +1,23 @@
 #!/usr/bin/env python3
-"""Compares the numbers that a compiler gives to the lines of C files before and after ./unifdef -n and -b.
+"""Compares the numbers that a compiler gives to lines of C before and after ./unifdef -n and -b.
 
     bench/lines.py [--cc CC] [--unifdef PROGRAM] [--seed N] [--count N] [PATH...]
     bench/lines.py [--cc CC] [--unifdef PROGRAM] --fixed
 
-Of each file (by default the headers of /usr/include) the conditional directives stay as they are, with their comments and
-continuations; every other line becomes a word of its own with `__LINE__` after it, and a third of the files gets carriage
-returns. Some symbols of its conditions are given to `unifdef` and to `cc -E -P` alike, as selects.py does. Then each line
-that the compiler selects of the output must have the number that it has in the input:
+Of each file (by default the headers of /usr/include) the conditional directives stay as they are,
+with their comments and continuations. Every other line becomes a word of its own with `__LINE__`
+after it, and a third of the files gets carriage returns. `unifdef` and `cc -E -P` get the same
+definitions for some symbols of the conditions, as in selects.py. Then each line that the compiler
+selects of the output must have the number that it has in the input:
 
 - under -b;
-- under -n, unless the last `#line` before it is in a group that the compiler skips, which ignores the `#line` too;
-- under each of them, and with -c, if the compiler takes all groups, as without the conditional directives.
+- under -n, unless the last `#line` before it is in a group that the compiler skips: the compiler
+  ignores that `#line` too;
+- under each of them, and with -c, if the conditional directives are taken out, so that the
+  compiler selects all groups.
 
-With --fixed the texts are those below. The status is 1 if any line is selected or numbered in another way.
+With --fixed the texts are those in this script. The status is 1 if any line is selected or numbered
+in another way.
 """
 
 import multiprocessing
@@ -43,7 +47,7 @@ FIXED = [
 
 
 def taken(text):
-    """The text without its conditional directives, so that a compiler takes all groups. Each line keeps its place."""
+    """Returns the text without its conditional directives. Each line keeps its number."""
     out = []
     for line in logical_lines(text):
         if CONDITIONAL.match(code_of(line)):
@@ -53,13 +57,13 @@ def taken(text):
 
 
 def numbers(cc, arguments, text):
-    """The selected words, each with the number of its line; None if the compiler refuses the text."""
+    """Returns the selected words with their numbers; None if the compiler rejects the text."""
     words = selected(cc, arguments, text)
     return words and list(zip(words[::2], words[1::2]))
 
 
 def skipped(cc, arguments, text):
-    """The words whose last `#line` is in a group that the compiler skips."""
+    """Returns the words whose last `#line` is in a group that the compiler skips."""
     marked, marks, count = [], {}, 0
     for line in logical_lines(text):
         code = code_of(line)
@@ -74,7 +78,7 @@ def skipped(cc, arguments, text):
 
 
 def first_difference(expected, found, excused=()):
-    """The first line that is selected or numbered in another way, in words; and how many of the excused ones are."""
+    """Describes the first difference, if there is one. Returns it, and the number of excused ones."""
     if [w for w, _ in expected] != [w for w, _ in found]:
         return "selected in another way", 0
     wrong = [(word, number, other) for (word, number), (_, other) in zip(expected, found) if number != other]
@@ -85,10 +89,10 @@ def first_difference(expected, found, excused=()):
 
 
 def check(cc, unifdef, options, arguments, source):
-    """What happened, the first difference if there is one, and how many lines were compared and excused."""
+    """Returns what happened, the first difference, and how many lines were compared and excused."""
     before, all_before = numbers(cc, arguments, source), numbers(cc, [], taken(source))
     if before is None:
-        return "refused by the compiler", None, 0, 0
+        return "rejected by the compiler", None, 0, 0
     of_word = dict(all_before)
     compared = excused = 0
     changed = False
@@ -111,6 +115,7 @@ def check(cc, unifdef, options, arguments, source):
 
 
 def compare(job):
+    """Checks a file, with options and line endings that its seed chooses."""
     path, seed, cc, unifdef = job
     with open(path, "rb") as file:
         text = file.read()
@@ -126,10 +131,12 @@ def compare(job):
 
 
 def bytes_of(option):
+    """Returns an option as bytes."""
     return option if isinstance(option, bytes) else option.encode()
 
 
 def compare_fixed(cc, unifdef):
+    """Yields the result of each text in this script, in three worlds of the undecided symbols."""
     for options, text in FIXED:
         source, _ = neutral(text, WORD)
         symbols = options.split()

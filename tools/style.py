@@ -3,7 +3,8 @@
 
     tools/style.py [FILE ..]     the files, or all that git tracks
 
-Prints each finding as FILE:LINE: REASON, and exits with 1 if there is one. Text in backquotes is left out.
+Prints each finding as FILE:LINE: REASON, and exits with 1 if there is one. Text in backquotes is
+left out. Rows of tables, attributes and lines of code with a text in quotes may be wide.
 """
 import re
 import subprocess
@@ -15,19 +16,30 @@ COLUMNS = 100
 WORDS = [
     (r"\b(a|the|each|its|some|this|in|any) front\b|\bfronts? of (the|a|its|all|these|what)\b", "prefix"),
     (r"\bline[ -]feeds?\b", "newline"),
-    (r"\bstands? behind\b|\bbehind (the|a|its|it|them|these) (\w+ )?(bytes?|letters?|keyword|words?|sign|name)", "after"),
+    (r"\bstands? behind\b", "follows"),
+    (
+        r"\bbehind (the|a|its|it|them|these) (\w+ )?(bytes?|letters?|keyword|words?|sign|name)",
+        "after",
+    ),
     (r"\b(gives?|given|gave) up\b(?! (on|the search))", "consumes, fails"),
-    (r"\b(in|of) pieces\b|\bpieces? of (the )?(input|text|at most)\b|\bthe (last|next|whole) piece\b", "chunk"),
-    (r"\broom for\b|\bhas no room\b|\ba room\b|\blong room\b|\bshort room\b", "capacity, buffer"),
+    (r"\b(in|of) pieces\b|\bpieces? of (the )?(input|text|at most)\b", "chunk"),
+    (r"\bthe (last|next|whole) piece\b", "chunk"),
+    (r"\broom for\b|\bhas no room\b|\b(a|long|short) room\b", "capacity, buffer"),
     (r"\bgathered\b", "buffered"),
-    (r"\b(is|are|was|were) (told|said|put|seen|had|lent|judged|turned|spoiled)\b", "returned, set, appended, scanned, borrowed, checked"),
-    (r"\bwhat is (left|seen|said|told|put|kept|worth|printed) of\b", "the output for, the scan of, the value of"),
+    (
+        r"\b(is|are|was|were) (told|said|put|seen|had|lent|judged|turned|spoiled)\b",
+        "returned, set, appended, scanned, borrowed, checked",
+    ),
+    (
+        r"\bwhat is (left|seen|said|told|put|kept|worth|printed) of\b",
+        "the output for, the scan of, the value of",
+    ),
     (r"\bfor good\b", "is fused"),
     (r"\bso it (is|does)\b|\bso they (are|do)\b", "repeat the noun"),
     (r"\bworth\b", "value"),
-    (r"\bTurned down\b", "Rejected"),
+    (r"\bturned down\b", "Rejected"),
 ]
-WORDS = [(re.compile(pattern, re.IGNORECASE if "Turned" not in pattern else 0), better) for pattern, better in WORDS]
+WORDS = [(re.compile(pattern, re.IGNORECASE), better) for pattern, better in WORDS]
 
 # How no item's comment begins.
 OPENING = re.compile(r"^\s*(///|--) (Whether|What|How many|How far|Where|The same|As) ")
@@ -65,14 +77,15 @@ def kind_of(path):
 
 def narrow(path):
     """Returns whether the lines of a file are limited."""
-    return path.endswith(".md") or path.endswith(".rt") or (path.endswith(".antt") and "/specs/" in path)
+    return path.endswith((".md", ".rt")) or (path.endswith(".antt") and "/specs/" in path)
 
 
 def may_be_wide(kind, line):
-    """Returns whether a line can't be broken: a row of a table, a link, an attribute, a text of a test."""
+    """Returns whether a line can't be broken: a table's row, a link, an attribute, a text."""
+    bare = line.strip()
     if kind == "page":
-        return line.startswith("|") or "](" in line and " " not in line.strip()
-    return line.lstrip().startswith("#[") or (kind == "rt" and '"' in line and not line.lstrip().startswith("//"))
+        return line.startswith("|") or ("](" in line and " " not in bare)
+    return bare.startswith("#[") or (kind == "rt" and '"' in line and not bare.startswith("//"))
 
 
 def findings(path, text):
@@ -119,17 +132,18 @@ def bare_items(path, lines):
 
 
 def documented(lines, index, mark):
-    """Returns whether a comment stands above the item at an index, attributes between."""
-    index -= 1
-    while index >= 0 and (lines[index].strip().startswith("#[") or lines[index].strip() in ("mutual", "abbrev mutual")):
-        index -= 1
-    return index >= 0 and lines[index].strip().startswith(mark)
+    """Returns whether the item at an index has a comment above it, or above its attributes."""
+    for line in map(str.strip, reversed(lines[:index])):
+        if not line.startswith("#[") and line not in ("mutual", "abbrev mutual"):
+            return line.startswith(mark)
+    return False
 
 
 def main():
     paths = sys.argv[1:]
     if not paths:
-        paths = subprocess.run(["git", "ls-files"], check=True, capture_output=True, text=True).stdout.split()
+        tracked = subprocess.run(["git", "ls-files"], check=True, capture_output=True, text=True)
+        paths = tracked.stdout.split()
     count = 0
     for path in paths:
         if kind_of(path) is None or path.endswith(("renames.txt", "style.py")):
