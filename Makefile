@@ -164,7 +164,7 @@ hostile: kit
 	N='$(N)' SEED='$(SEED)' JOBS='$(JOBS)' CHECKS='$(CHECKS)' bench/hostile.sh
 
 fronts: unifdef
-	cd crates/ref_cli && $(RT) run < /dev/null > /dev/null
+	cd crates/test_runner && $(RT) run -- reference < /dev/null > /dev/null
 	N='$(N)' SEED='$(SEED)' bench/fronts.sh
 
 clean:

@@ -78,7 +78,7 @@ def check(program, reference, path, seed):
         text = part_of(dice, file.read())
     arguments = arguments_for(dice, text)
     ours = outcome(program, arguments, text, small_stack)
-    theirs = outcome(reference, arguments, text, None)
+    theirs = outcome(reference, ["reference", *arguments], text, None)
     if ours == theirs and ours[2] in (0, 1, 2):
         return None
     return arguments, text, ours, theirs

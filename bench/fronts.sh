@@ -8,7 +8,7 @@ export LC_ALL=C
 here=$(cd "$(dirname "$0")" && pwd)
 top=$(dirname "$here")
 program=$top/unifdef
-reference=$top/crates/ref_cli/out/ref_cli
+reference=$top/crates/test_runner/out/test_runner
 
 [ -x "$program" ] || { echo "fronts: $program is not there: run make" >&2; exit 1; }
 [ -x "$reference" ] || { echo "fronts: $reference is not there: run make fronts" >&2; exit 1; }

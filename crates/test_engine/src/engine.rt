@@ -4,7 +4,7 @@ use crate::feeding::{Ended, Fed, check, check_by, check_written, planned};
 use std::alloc::Global;
 use std::process::Abort;
 use std::test::Fail;
-use test_cases::{CountedSink, Sink, repeated};
+use test_streams::{CountedSink, Sink, repeated};
 use ud_sections::{Blank, Complement, Delete, Printer, SectionFault};
 use ud_text::TextFault;
 use unifdef::{Engine, Plan, RunFault, Watched};

@@ -3,7 +3,7 @@
 use std::alloc::Global;
 use std::process::Abort;
 use std::test::Fail;
-use test_cases::{CountedSink, parted};
+use test_streams::{CountedSink, parted};
 use ud_sections::{Printer, Show};
 use unifdef::{Engine, Plan, RunFault, Watched, plan};
 

@@ -4,7 +4,7 @@
 use crate::feeding::planned;
 use std::process::Abort;
 use std::test::Fail;
-use test_cases::{CountedSink, CountedSource};
+use test_streams::{CountedSink, CountedSource};
 use unifdef::{RunFault, Watched, run};
 
 /// Runs over this source, and compares the result and the bytes written. Nothing is flushed.

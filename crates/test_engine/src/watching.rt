@@ -4,7 +4,7 @@
 use std::alloc::Global;
 use std::process::Abort;
 use std::test::Fail;
-use test_cases::{CountedSink, CountedSource};
+use test_streams::{CountedSink, CountedSource};
 use unifdef::Watched;
 
 /// Compares the number of calls, and whether one failed.

@@ -16,7 +16,5 @@ mod lines;
 mod listed;
 mod runs;
 mod shared;
-#[cfg(test)]
-mod tests;
 
 pub use finding::{CHECKS, Finding, findings};
