@@ -149,13 +149,13 @@ class Reader:
         elif line in TRIED:
             case.tries.append(line)
         else:
-            self.fail(f"unknown line '{line}'")
+            self.fail(f"unknown line {line!a}")
 
     def add_text(self, part: str, text: str) -> None:
         """Adds bytes to a part: a line, or those of a literal."""
         found = TEXT.fullmatch(text)
         if not found:
-            self.fail(f"neither a space and a text nor a C string literal: '{text}'")
+            self.fail(f"neither a space and a text nor a C string literal: {text!a}")
         added = (found[1] or "").encode(errors="surrogateescape") + b"\n"
         if found[2] is not None:
             added = unescaped(found[2]) * int(found[3] or 1)
@@ -165,8 +165,9 @@ class Reader:
         """Yields the arguments of a line."""
         for found in ARGUMENT.finditer(text):
             if found[1] is None and found[2] is None:
-                self.fail(f"no argument and no C string literal: '{found[0]}'")
-            yield found[2] if found[1] is None else unescaped(found[1]).decode(errors="surrogateescape")
+                self.fail(f"no argument and no C string literal: {found[0]!a}")
+            literal = unescaped(found[1] or "").decode(errors="surrogateescape")
+            yield literal if found[2] is None else found[2]
 
 
 def cases_in(names: Iterable[Path] = (DATA,)) -> Iterator[Case]:
