@@ -5,7 +5,8 @@
 #                 crates
 # make examples   runs the examples of README.md and docs/EXAMPLES.md with ./unifdef
 # make manual-examples  runs the examples of the manual, but for those under DIFFERENCES
-# make differences  runs the examples under DIFFERENCES in the manual, with both programs
+# make differences  runs the examples under DIFFERENCES in the manual, and the other cases that say
+#                 what unifdef 2.10 does, with both programs
 # make faults     runs ./unifdef with failing streams, refused memory and a small stack
 #                 (tests/faults/README.md)
 # make fail-alloc  makes each allocation of the program fail in turn, by the kit's fault injection
@@ -87,7 +88,7 @@ manual-examples: unifdef
 	@tests/manual.sh
 
 differences: unifdef
-	@tests/differences.sh
+	@tests/differences.py
 
 faults: unifdef
 	cd crates/test_memory && $(RT) run < /dev/null > /dev/null
