@@ -52,7 +52,10 @@ impl Behavior {
 
     /// Returns a reader of this input that behaves so.
     pub(crate) fn source(self, input: &[u8]) -> CountedSource<'_> {
-        let given = self.read_fails_after.unwrap_or(input.len()).min(input.len());
+        let given = self
+            .read_fails_after
+            .unwrap_or(input.len())
+            .min(input.len());
         CountedSource {
             source: Source {
                 bytes: &input[..given],

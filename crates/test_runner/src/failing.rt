@@ -154,7 +154,11 @@ fn interrupted_write(
         interrupted_write: number,
         ..Behavior::PLAIN
     };
-    let failed = wanted.answer.message.as_slice().ends_with(b": Write error\n");
+    let failed = wanted
+        .answer
+        .message
+        .as_slice()
+        .ends_with(b": Write error\n");
     let wanted = Outcome {
         writes: Some(if failed { number } else { room }),
         flushes: wanted.flushes,

@@ -3,9 +3,9 @@
 use crate::checking::check;
 use crate::options::differing_check;
 use crate::parsing::{BadCase, parse};
+use std::alloc::Global;
 use std::fs::{self, read_dir};
 use std::io;
-use std::alloc::Global;
 
 /// The numbers of cases that were run, and of those that were answered wrongly.
 #[derive(Clone, Copy)]

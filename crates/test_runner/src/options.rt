@@ -43,10 +43,7 @@ pub(crate) fn differing_seed(
 }
 
 /// Returns the name of the first check that differs on a case.
-fn differing(
-    alloc: Global,
-    case: &fuzz_texts::Case,
-) -> Result<Option<&'static str>, AllocError> {
+fn differing(alloc: Global, case: &fuzz_texts::Case) -> Result<Option<&'static str>, AllocError> {
     for (finding, name) in findings(alloc, case)?.iter().zip(CHECKS) {
         if *finding == Finding::Differs {
             return Ok(Some(name));

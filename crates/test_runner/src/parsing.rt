@@ -81,11 +81,13 @@ fn is_left_out(line: &str) -> bool {
 }
 
 /// Adds the arguments of a line: words between spaces, and what stands in quotes. Returns whether
-/// each quote is closed.
+/// each quote is closed, and no backslash stands in quotes.
 fn add_arguments(alloc: Global, args: &mut Vec<String>, text: &str) -> Result<bool, AllocError> {
     let mut is_quoted = false;
     for part in text.split('"') {
-        if is_quoted {
+        if is_quoted && part.contains('\\') {
+            return Ok(false);
+        } else if is_quoted {
             args.push(String::from_str(alloc, part)?)?;
         } else {
             for word in part.split_whitespace() {
@@ -201,9 +203,12 @@ fn behavior_after(before: Behavior, line: &str) -> Option<Behavior> {
 /// Takes the numbers of calls: of reads, of writes and of flushes.
 fn take_calls(case: &mut Case, counts: &str) -> bool {
     let mut words = counts.split_whitespace();
-    let (Some(reads), Some(writes), Some(flushes), None) =
-        (words.next(), words.next(), words.next(), words.next())
-    else {
+    let (Some(reads), Some(writes), Some(flushes), None) = (
+        words.next(),
+        words.next(),
+        words.next(),
+        words.next(),
+    ) else {
         return false;
     };
     let is_number = |word: &str| word == "-" || word.parse::<usize>().is_ok();

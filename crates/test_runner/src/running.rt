@@ -1,11 +1,10 @@
-//! Runs of the tool over memory, and of the reference.
+//! Runs of the tool over memory.
 
 use crate::case::Behavior;
 use crate::outcome::Outcome;
 use ref_unifdef::Answer;
 use std::alloc::{AllocError, Global};
 use std::io::Read;
-use test_streams::{CountedSink, CountedSource};
 use unifdef::{Watched, tool};
 
 /// Runs the tool over streams that behave so.
@@ -20,18 +19,15 @@ pub(crate) fn run(
 ) -> Result<Outcome, AllocError> {
     let mut reader = Watched::new(behavior.source(input));
     let mut out = Watched::new(behavior.sink(alloc));
-    let answer = answer(alloc, args, &mut reader, &mut out)?;
+    let mut err = Watched::new(Vec::<u8>::new(alloc));
+    let status = tool(alloc, args, &mut reader, &mut out, &mut err);
+    let output = out.inner().sink.taken.as_slice();
     Ok(Outcome {
-        answer,
-        reads: Some(reads(&reader)),
+        answer: answer_of(alloc, output, err.inner().as_slice(), status)?,
+        reads: Some(reader.inner().reads),
         writes: Some(out.inner().writes),
         flushes: Some(out.inner().flushes),
     })
-}
-
-/// Returns the number of calls of a reader.
-fn reads(reader: &Watched<CountedSource<'_>>) -> usize {
-    reader.inner().reads
 }
 
 /// Runs the tool over a reader, and writes to memory.
@@ -44,22 +40,23 @@ pub(crate) fn run_over<R: Read + Drop>(
     reader: R,
 ) -> Result<Outcome, AllocError> {
     let mut reader = Watched::new(reader);
-    let mut out = Watched::new(Behavior::PLAIN.sink(alloc));
-    Ok(Outcome::of(answer(alloc, args, &mut reader, &mut out)?))
+    let mut out = Watched::new(Vec::<u8>::new(alloc));
+    let mut err = Watched::new(Vec::<u8>::new(alloc));
+    let status = tool(alloc, args, &mut reader, &mut out, &mut err);
+    let output = out.inner().as_slice();
+    Ok(Outcome::of(answer_of(alloc, output, err.inner().as_slice(), status)?))
 }
 
-/// Returns the tool's answer.
-fn answer<R: Read + Drop>(
+/// Returns the answer with this output, message and status.
+fn answer_of(
     alloc: Global,
-    args: &[String],
-    reader: &mut Watched<R>,
-    out: &mut Watched<CountedSink>,
+    output: &[u8],
+    message: &[u8],
+    status: u8,
 ) -> Result<Answer, AllocError> {
-    let mut err = Watched::new(Vec::<u8>::new(alloc));
-    let status = tool(alloc, args, reader, out, &mut err);
     Ok(Answer {
-        output: Vec::from_slice(alloc, out.inner().sink.taken.as_slice())?,
-        message: Vec::from_slice(alloc, err.inner().as_slice())?,
+        output: Vec::from_slice(alloc, output)?,
+        message: Vec::from_slice(alloc, message)?,
         status,
     })
 }
