@@ -51,11 +51,12 @@ INSTALL ?= install
 RT ?= rt
 
 CRATE := crates/unifdef_cli
+UNPROVED := $(CRATE)/out/unproved
 SOURCES := crates.txt HANDLES \
 	$(shell find crates -name out -prune -o \( -name '*.rt' -o -name '*.antt' \) -print)
 
 .DELETE_ON_ERROR:
-.PHONY: all build kit check edits examples manual-examples differences faults fail-alloc tree-test
+.PHONY: all build kit try test check edits examples manual-examples differences faults fail-alloc tree-test
 .PHONY: install uninstall dist deb packages-test manuals around bench bench-text
 .PHONY: bench-conditions pictures trees selects lines lines-test hostile fronts clean
 
@@ -66,6 +67,20 @@ kit:
 	@command -v $(RT) > /dev/null || { echo "make: Rattle's command $(RT) is not there: put it on PATH, or run make RT=FILE" >&2; exit 1; }
 
 build: unifdef
+
+# The program without a proof. It isn't for use: ./unifdef is.
+$(UNPROVED): $(filter-out %.antt,$(SOURCES)) | kit
+	@echo 'make: builds the program without a proof, in half a minute' >&2
+	@RT='$(RT)' tools/unproved.py $@
+
+# Status 1 says that the output differs, so it doesn't fail the recipe.
+try: $(UNPROVED)
+	@status=0; $(UNPROVED) $(ARGS) || status=$$?; \
+	echo "make: status $$status, and nothing is proved" >&2; \
+	[ $$status -le 1 ]
+
+test: kit
+	@RT='$(RT)' MAKE='$(MAKE)' tests/quick.py
 
 # `rt run` proves and builds before it runs. An empty input is copied, with status 0.
 unifdef: $(SOURCES) | kit
