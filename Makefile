@@ -82,9 +82,8 @@ try: $(UNPROVED)
 test: kit
 	@RT='$(RT)' MAKE='$(MAKE)' tests/quick.py
 
-# `rt run` proves and builds before it runs. An empty input is copied, with status 0.
 unifdef: $(SOURCES) | kit
-	cd $(CRATE) && $(RT) run < /dev/null
+	@RT='$(RT)' tools/prove.py
 	cp $(CRATE)/out/unifdef_cli $@
 
 check: kit
