@@ -1,4 +1,7 @@
-# make            proves the crates, builds the program and copies it to ./unifdef
+# make            proves the crates side by side, builds the program and copies it to ./unifdef
+# make try        runs the program without a proof: make try ARGS='-DA' < in.c. It is built first, in
+#                 half a minute. Statuses 0 and 1 are success, and the status is printed
+# make test       runs every case and test without a proof, side by side; make check proves them
 # make check      runs the merge gate: every proof from nothing, the edits that the prover must
 #                 refuse, the tests, and the stored runs
 # make edits      tries the second edits, which the gate leaves out; CRATES='NAME ..' those of some

@@ -3,9 +3,9 @@
 
     tests/quick.py [NAME ..]     all, or those of these names; RT is Rattle's command
 
-It runs the worked cases with the program that tools/unproved.py builds, the tests of each crate that
-has some, and each program with a stored run: a crate with a file `stdout`. Each has a line, with
-its seconds. What it printed is shown only if it failed.
+It runs the worked cases with the program that tools/unproved.py builds, the tests of each crate
+that has some, and each program with a stored run: a crate with a file `stdout`. Each has a line,
+with its seconds. What it printed is shown only if it failed.
 """
 import glob
 import os

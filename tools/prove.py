@@ -167,8 +167,7 @@ class Build:
         names = ", ".join(f"{it.crate} {it.spent():.0f} s" for it in self.running)
         at = time.monotonic() - self.begin
         text = f"prove: {at:4.0f} s  {names}; {len(self.left)} to come; some {minutes(self.estimate())} left"
-        columns = os.get_terminal_size(2).columns - 1
-        text = text[: max(columns, 20)]
+        text = text[: (os.get_terminal_size(2).columns or 80) - 1]
         sys.stderr.write(f"{self.blank()}{text}")
         sys.stderr.flush()
         self.last_shown = text
