@@ -1,4 +1,7 @@
-# make            proves the crates, builds the program and copies it to ./unifdef
+# make            proves the crates side by side, builds the program and copies it to ./unifdef
+# make try        runs the program without a proof: make try ARGS='-DA' < in.c. It is built first, in
+#                 half a minute. Statuses 0 and 1 are success, and the status is printed
+# make test       runs every case and test without a proof, side by side; make check proves them
 # make check      runs the merge gate: every proof from nothing, the edits that the prover must
 #                 refuse, the tests, and the stored runs
 # make edits      tries the second edits, which the gate leaves out; CRATES='NAME ..' those of some
@@ -52,11 +55,12 @@ INSTALL ?= install
 RT ?= rt
 
 CRATE := crates/unifdef_cli
+UNPROVED := $(CRATE)/out/unproved
 SOURCES := crates.txt HANDLES \
 	$(shell find crates -name out -prune -o \( -name '*.rt' -o -name '*.antt' \) -print)
 
 .DELETE_ON_ERROR:
-.PHONY: all build kit check edits examples manual-examples differences faults fail-alloc tree-test
+.PHONY: all build kit try test check edits examples manual-examples differences faults fail-alloc tree-test
 .PHONY: install uninstall dist deb packages-test manuals around bench bench-text
 .PHONY: bench-conditions pictures trees selects lines lines-test hostile fronts clean
 
@@ -68,9 +72,22 @@ kit:
 
 build: unifdef
 
-# `rt run` proves and builds before it runs. An empty input is copied, with status 0.
+# The program without a proof. It isn't for use: ./unifdef is.
+$(UNPROVED): $(filter-out %.antt,$(SOURCES)) | kit
+	@echo 'make: builds the program without a proof, in half a minute' >&2
+	@RT='$(RT)' tools/unproved.py $@
+
+# Status 1 says that the output differs, so it doesn't fail the recipe.
+try: $(UNPROVED)
+	@status=0; $(UNPROVED) $(ARGS) || status=$$?; \
+	echo "make: status $$status, and nothing is proved" >&2; \
+	[ $$status -le 1 ]
+
+test: kit
+	@RT='$(RT)' MAKE='$(MAKE)' tests/quick.py
+
 unifdef: $(SOURCES) | kit
-	cd $(CRATE) && $(RT) run < /dev/null
+	@RT='$(RT)' tools/prove.py
 	cp $(CRATE)/out/unifdef_cli $@
 
 check: kit

@@ -31,29 +31,32 @@ in_bash() {
 }
 # shellcheck disable=SC2016 # The variables are those of the other shell.
 in_fish() { fish --no-config -c 'source $argv[1]/unifdef.fish; source $argv[1]/unifdef-tree.fish; complete -C $argv[2]' "$completions" "$1"; }
-# zsh completes only at a terminal, so this script makes one.
+# zsh completes only at a terminal, so this script makes one. The shell announces that it is ready,
+# and, by a second key after the one that completes, that it has completed. A minute for each is a
+# guard against hanging.
 cat > "$work/ask.zsh" << 'END'
 zmodload zsh/zpty
 zpty -b shell zsh -f -i
 zpty -w shell 'PS1=; stty -echo cols 200; fpath=('$1' $fpath); autoload -Uz compinit; compinit -u -D
-  setopt nobeep; bindkey "^I" list-choices; print rea''dy'
-shown=''
-repeat 100; do
-  sleep 0.1
-  while zpty -r -t shell line; do shown+=$line; done
-  [[ $shown != *ready* ]] || break
-done
-shown=''
-zpty -w -n shell $2$'\t'
-repeat 15; do
-  sleep 0.1
-  while zpty -r -t shell line; do shown+=$line; done
-done
+  setopt nobeep; bindkey "^I" list-choices; tell() { zle -I; print fini''shed }; zle -N tell
+  bindkey "^T" tell; print rea''dy'
+await() {
+  shown=''
+  repeat 600; do
+    while zpty -r -t shell line; do shown+=$line; done
+    [[ $shown != *$1* ]] || break
+    sleep 0.1
+  done
+}
+await ready
+zpty -w -n shell $2$'\t\x14'
+await finished
+shown=${shown/finished/}
 zpty -d shell
 print -r -- $shown
 END
 in_zsh() {
-  timeout 30 zsh -f "$work/ask.zsh" "$completions" "$1" | tr -d '\r' | sed 's/\x1b\[[0-9;]*[A-Za-z]/\n/g' | tr -s ' ' '\n'
+  timeout 150 zsh -f "$work/ask.zsh" "$completions" "$1" | tr -d '\r' | sed 's/\x1b\[[0-9;]*[A-Za-z]/\n/g' | tr -s ' ' '\n'
 }
 
 # offers SHELL LINE WANTED UNWANTED: checks that the completions of a line have one word and not the

@@ -252,7 +252,53 @@ full_disk() {
   fi
 }
 
-# Tests an interrupt in the middle: every file is old or new, and nothing is left over.
+# Makes ready for a run with the program $work/held. Of its calls, the first $1 pass. Each later one
+# announces itself with a line that can be read from descriptor 4, and waits for one byte written to
+# descriptor 5.
+hold_after() {
+  rm -rf "$work/passes" "$work/started" "$work/go"
+  mkdir "$work/passes"
+  (cd "$work/passes" && seq 1 "$1" | xargs -r touch)
+  mkfifo "$work/started" "$work/go"
+  exec 4<> "$work/started" 5<> "$work/go"
+}
+
+# Waits until so many calls have announced themselves. Two minutes are a guard against hanging.
+started() {
+  local _
+  for _ in $(seq 1 "$1"); do
+    read -r -t 120 -u 4 || return
+  done
+}
+
+# Lets so many calls pass that wait.
+let_pass() { head -c "$1" /dev/zero | tr '\0' '\n' >&5; }
+
+# Lets each further call pass as it announces itself.
+let_all_pass() {
+  while read -r -u 4; do let_pass 1; done &
+  passing=$!
+}
+
+# Ends what let_all_pass started.
+end_passing() {
+  kill "$passing"
+  wait "$passing" 2> /dev/null
+  exec 4>&- 5>&-
+}
+
+# Waits until a run has removed what it made. A minute is a guard, as no process announces that.
+removed() {
+  local _
+  for _ in $(seq 1 600); do
+    ! no_rest || return 0
+    sleep 0.1
+  done
+  return 1
+}
+
+# Tests an interrupt in the middle: every file is old or new, and nothing is left over. It comes
+# when some files are done, and each of the three parts is inside a call of the program.
 interrupts() {
   local signal=$1 whom=$2 wanted=$3 i name old=0 new=0 pid
   fresh_tree
@@ -263,18 +309,19 @@ interrupts() {
     put "src/linked$i.c" "$text"
     ln "src/linked$i.c" "src/other$i.c"
   done
+  hold_after 30
   set -m
-  UNIFDEF=$work/slow $shell "$here/../tools/unifdef-tree" -j 3 -DA src > "$work/out" 2> "$work/err" &
+  UNIFDEF=$work/held $shell "$here/../tools/unifdef-tree" -j 3 -DA src > "$work/out" 2> "$work/err" 4>&- 5>&- &
   pid=$!
   set +m
-  for i in $(seq 1 500); do
-    [ "$(cat src/*.c | grep -c '#')" -gt 700 ] || break
-    sleep 0.02
-  done
+  check "interrupt $signal: has started" started 3
   if [ "$whom" = group ]; then pid_to=-$pid; else pid_to=$pid; fi
   kill -s "$signal" -- "$pid_to"
+  let_pass 3
+  let_all_pass
   wait "$pid" 2> /dev/null
   check "interrupt $signal: status" same $? "$wanted"
+  end_passing
   for name in src/*.c; do
     if holds "$name" "$text"; then
       old=$((old + 1))
@@ -286,41 +333,53 @@ interrupts() {
   done
   check "interrupt $signal: in the middle" test "$old" -gt 0 -a "$new" -gt 0
   check "interrupt $signal: reported" has_line "$work/err" 'unifdef-tree: Interrupted'
-  for i in 1 2 3 4 5 6 7 8 9 10; do
-    no_rest && break
-    sleep 0.1
-  done
-  check "interrupt $signal: nothing left over" no_rest
+  check "interrupt $signal: nothing left over" removed
   tree -DA src
   check "interrupt $signal: the rest later" same "$(cat src/*.c | sort | uniq -c | tr -s ' ')" ' 240 yes'
 }
 
 # Tests an interrupt while a file with two links is written into: the whole text is written.
 interrupts_link() {
-  local pid i
+  local pid
   fresh_tree
   put src/one.c "$text$text$text"
   ln src/one.c src/two.c
   mkdir bin
   # shellcheck disable=SC2016
-  printf '#!/bin/sh\n%s "$@"\ntouch "%s"\nsleep 0.5\n' "$(command -v dd)" "$work/run/writing" > bin/dd
+  printf '#!/bin/sh\n"%s" "$@"\nstatus=$?\necho > "%s"\nread -r _ < "%s"\nexit "$status"\n' \
+    "$(command -v dd)" "$work/started" "$work/go" > bin/dd
   chmod +x bin/dd
+  hold_after 0
   set -m
-  PATH=$work/run/bin:$PATH $shell "$here/../tools/unifdef-tree" -DA src > "$work/out" 2> "$work/err" &
+  PATH=$work/run/bin:$PATH $shell "$here/../tools/unifdef-tree" -DA src > "$work/out" 2> "$work/err" 4>&- 5>&- &
   pid=$!
   set +m
-  for i in $(seq 1 200); do
-    [ ! -e writing ] || break
-    sleep 0.02
-  done
+  check 'interrupt of a link: has started' started 1
   kill -s TERM -- "-$pid"
+  let_pass 1
+  let_all_pass
   wait "$pid" 2> /dev/null
   check 'interrupt of a link: status' same $? 143
+  end_passing
   check 'interrupt of a link: text' holds src/two.c 'yes\nyes\nyes\n'
-  check 'interrupt of a link: nothing left over' no_rest
+  check 'interrupt of a link: nothing left over' removed
 }
 
-# Tests the counter on a terminal.
+# Copies its input, and lets all calls pass once the counter is there.
+until_counted() {
+  local word so_far=''
+  while IFS= read -r -d ' ' word; do
+    printf '%s ' "$word"
+    so_far+="$word "
+    if [[ $so_far == *" of 40 files "* ]]; then
+      so_far=''
+      let_pass 100
+    fi
+  done
+  printf '%s' "$word"
+}
+
+# Tests the counter on a terminal. The run goes on once it has shown the counter.
 counts() {
   command -v script > /dev/null || return 0
   fresh_tree
@@ -328,15 +387,25 @@ counts() {
   for i in $(seq 1 40); do
     put "src/$i.c" "$text"
   done
-  UNIFDEF=$work/slow script -qec "$shell $here/../tools/unifdef-tree -j 1 -DA src" /dev/null < /dev/null > "$work/out"
+  hold_after 10
+  UNIFDEF=$work/held timeout 120 script -qec "$shell $here/../tools/unifdef-tree -j 1 -DA src" /dev/null < /dev/null |
+    until_counted > "$work/out"
+  exec 4>&- 5>&-
   check 'counter: on a terminal' grep -q 'unifdef-tree: [0-9]* of 40 files' "$work/out"
   tree -DA src
   check 'counter: nowhere else' same "$(cat "$work/err")" 'unifdef-tree: 0 changed, 40 unchanged, 0 faulty'
 }
 
-# shellcheck disable=SC2016
-printf '#!/bin/sh\nsleep 0.05\nexec "%s" "$@"\n' "$UNIFDEF" > "$work/slow"
-chmod +x "$work/slow"
+cat > "$work/held" << END
+#!/bin/sh
+for pass in "$work"/passes/*; do
+  ! rm "\$pass" 2> /dev/null || exec "$UNIFDEF" "\$@"
+done
+echo > "$work/started"
+read -r _ < "$work/go"
+exec "$UNIFDEF" "\$@"
+END
+chmod +x "$work/held"
 shells=()
 for one in dash 'bash --posix' 'busybox sh'; do
   command -v "${one%% *}" > /dev/null && shells+=("$one")

@@ -1,0 +1,218 @@
+#!/usr/bin/env python3
+"""Proves the program and the crates below it, side by side, and builds the program (`make`).
+
+    tools/prove.py [CRATE]     unifdef_cli by default; RT is Rattle's command, `rt` by default
+
+A crate is proved as soon as the libraries that it uses are. Those with the longest chain above them
+come first. The others beside them are nicer, so that the chain has the processors. What a crate
+prints is shown only if it fails, and then the others are stopped.
+"""
+import os
+import re
+import signal
+import subprocess
+import sys
+import tempfile
+import time
+
+HERE = os.path.dirname(os.path.dirname(os.path.realpath(__file__)))
+RT = os.environ.get("RT", "rt")
+
+# How long each crate takes alone on 4 processors, for the order and the estimate. Nothing else
+# depends on these seconds.
+SECONDS = {
+    "ud_model": 60,
+    "ud_io": 16,
+    "ud_cond": 80,
+    "ud_text": 130,
+    "ud_args": 90,
+    "ud_sections": 98,
+    "ud_engine": 174,
+    "ud_diagnostics": 30,
+    "unifdef": 60,
+    "unifdef_cli": 77,
+}
+OTHER = 60
+
+# The memory in bytes that must be free before a crate starts beside another one.
+FREE = 6_000_000_000
+
+
+def libraries():
+    """Returns each crate of crates.txt with the crates of this repository that it uses."""
+    named = {}
+    with open(f"{HERE}/crates.txt", encoding="utf-8") as lines:
+        for line in lines:
+            found = re.match(r"(\w+)[^:]*:(.*)", line.partition("#")[0])
+            if found:
+                named[found[1]] = found[2].split()
+    return {crate: [it for it in used if it in named] for crate, used in named.items()}
+
+
+def at_or_below(crate, used):
+    """Returns the crate and those below it, each after those that it uses."""
+    found = []
+    for it in used[crate]:
+        found += [below for below in at_or_below(it, used) if below not in found]
+    return [*found, crate]
+
+
+def free_memory():
+    """Returns how many bytes of memory are free, or 0 if the system doesn't say."""
+    try:
+        with open("/proc/meminfo", encoding="ascii") as it:
+            found = re.search(r"MemAvailable:\s+(\d+)", it.read())
+    except OSError:
+        found = None
+    return 1024 * int(found[1]) if found else 0
+
+
+def minutes(seconds):
+    """Returns a time as a text."""
+    return f"{seconds:.0f} s" if seconds < 90 else f"{seconds / 60:.0f} minutes"
+
+
+class Run:
+    """The check of one crate, from its start to its end."""
+
+    def __init__(self, crate, nice):
+        self.crate, self.begin = crate, time.monotonic()
+        self.log = tempfile.TemporaryFile()
+        folder = f"{HERE}/crates/{crate}"
+        # `rt run` proves and builds before it runs. An empty input is copied, with status 0.
+        verb = "run" if os.path.exists(f"{folder}/src/main.rt") else "lib"
+        self.process = subprocess.Popen(
+            ["nice", "-n", str(nice), RT, verb],
+            cwd=folder,
+            stdin=subprocess.DEVNULL,
+            stdout=self.log,
+            stderr=self.log,
+            start_new_session=True,
+        )
+
+    def spent(self):
+        return time.monotonic() - self.begin
+
+    def stop(self):
+        """Ends the check and all that it started."""
+        try:
+            os.killpg(self.process.pid, signal.SIGTERM)
+            self.process.wait(timeout=10)
+        except subprocess.TimeoutExpired:
+            os.killpg(self.process.pid, signal.SIGKILL)
+        except ProcessLookupError:
+            pass
+
+
+class Build:
+    """All checks of one build."""
+
+    def __init__(self, crate):
+        self.used = libraries()
+        if crate not in self.used:
+            sys.exit(f"prove: crates.txt has no crate {crate}")
+        self.left = at_or_below(crate, self.used)
+        self.running, self.done, self.last_shown = [], {}, ""
+        # From each crate's start to the end of all, if no crate waits for a processor.
+        self.chain = {}
+        for it in reversed(self.left):
+            above = [self.chain[up] for up in self.chain if it in self.used[up]]
+            self.chain[it] = SECONDS.get(it, OTHER) + max(above, default=0)
+        self.most = len(os.sched_getaffinity(0))
+        self.begin = time.monotonic()
+        self.is_terminal = sys.stderr.isatty()
+
+    def ready(self):
+        """Returns the crates that can start, those with the longest chain first."""
+        found = [it for it in self.left if all(low in self.done for low in self.used[it])]
+        return sorted(found, key=lambda it: -self.chain[it])
+
+    def start(self):
+        """Starts what can run beside the others."""
+        for crate in self.ready():
+            if self.running and (len(self.running) >= self.most or free_memory() < FREE):
+                return
+            # A crate with time to spare leaves the processors to the chain.
+            behind = max((self.chain[it.crate] - it.spent() for it in self.running), default=0)
+            spare = behind - self.chain[crate]
+            nice = 0 if spare <= 0 else 5 if spare < 60 else 10
+            self.left.remove(crate)
+            self.running.append(Run(crate, nice))
+            self.say(f"{crate} is being proved{f' (nice {nice})' if nice else ''}")
+
+    def estimate(self):
+        """Returns in how many seconds all is done, roughly."""
+        known = [(spent, SECONDS.get(it, OTHER)) for it, spent in self.done.items() if spent > 5]
+        pace = sum(it for it, _ in known) / sum(it for _, it in known) if known else 1
+        ends = {it.crate: max(pace * SECONDS.get(it.crate, OTHER) - it.spent(), 3) for it in self.running}
+        for it in self.left:
+            below = max((ends.get(low, 0) for low in self.used[it]), default=0)
+            ends[it] = below + pace * SECONDS.get(it, OTHER)
+        return max(ends.values(), default=0)
+
+    def say(self, text):
+        """Prints a line for good."""
+        at = time.monotonic() - self.begin
+        sys.stderr.write(f"{self.blank()}prove: {at:4.0f} s  {text}\n")
+        sys.stderr.flush()
+
+    def blank(self):
+        shown, self.last_shown = self.last_shown, ""
+        return f"\r{' ' * len(shown)}\r" if shown else ""
+
+    def show(self):
+        """Shows on a terminal what is going on."""
+        if not self.is_terminal or not self.running:
+            return
+        names = ", ".join(f"{it.crate} {it.spent():.0f} s" for it in self.running)
+        at = time.monotonic() - self.begin
+        text = f"prove: {at:4.0f} s  {names}; {len(self.left)} to come; some {minutes(self.estimate())} left"
+        text = text[: (os.get_terminal_size(2).columns or 80) - 1]
+        sys.stderr.write(f"{self.blank()}{text}")
+        sys.stderr.flush()
+        self.last_shown = text
+
+    def end(self, run):
+        """Notes that a check has ended, and returns whether the crate is proved."""
+        self.running.remove(run)
+        status = run.process.returncode
+        if status:
+            run.log.seek(0)
+            sys.stderr.write(self.blank())
+            sys.stderr.flush()
+            sys.stderr.buffer.write(run.log.read())
+            sys.stderr.flush()
+            self.say(f"{run.crate} failed after {run.spent():.0f} s, with status {status}")
+            return False
+        self.done[run.crate] = run.spent()
+        left = len(self.left) + len(self.running)
+        rest = f"{left} left, some {minutes(self.estimate())}" if left else "all is proved"
+        self.say(f"{run.crate} is proved, in {run.spent():.0f} s; {rest}")
+        return True
+
+    def run(self):
+        """Proves all, and returns whether that succeeded."""
+        shown = 0
+        try:
+            while self.left or self.running:
+                self.start()
+                if time.monotonic() - shown >= 1:
+                    shown = time.monotonic()
+                    self.show()
+                time.sleep(0.1)
+                for it in [it for it in self.running if it.process.poll() is not None]:
+                    if not self.end(it):
+                        return False
+            return True
+        finally:
+            sys.stderr.write(self.blank())
+            for it in self.running:
+                it.stop()
+
+
+if __name__ == "__main__":
+    if len(sys.argv) > 2 or sys.argv[1:2] in (["-h"], ["--help"]):
+        sys.exit(__doc__)
+    for number in (signal.SIGHUP, signal.SIGINT, signal.SIGTERM):
+        signal.signal(number, lambda number, _: sys.exit(128 + number))
+    sys.exit(0 if Build((sys.argv[1:] or ["unifdef_cli"])[0]).run() else 1)
