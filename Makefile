@@ -178,7 +178,7 @@ lines-test: unifdef
 	@tests/lines.sh
 
 hostile: kit
-	cd crates/fuzz_run && $(RT) run < /dev/null > /dev/null
+	cd crates/test_runner && $(RT) run -- hostile 0 1 < /dev/null > /dev/null
 	N='$(N)' SEED='$(SEED)' JOBS='$(JOBS)' CHECKS='$(CHECKS)' bench/hostile.sh
 
 fronts: unifdef

@@ -6,7 +6,7 @@
 set -eu -o pipefail
 export LC_ALL=C
 here=$(cd "$(dirname "$0")" && pwd)
-program=$(dirname "$here")/crates/fuzz_run/out/fuzz_run
+program=$(dirname "$here")/crates/test_runner/out/test_runner
 cases=${N:-100000}
 seed=${SEED:-0}
 jobs=${JOBS:-$(nproc)}
@@ -23,5 +23,5 @@ while [ "$from" -lt "$end" ]; do
   count=$((end - from < block ? end - from : block))
   echo "$from $count $checks"
   from=$((from + count))
-done | xargs -P "$jobs" -L 1 "$program"
+done | xargs -P "$jobs" -L 1 "$program" hostile
 echo "hostile: $cases cases from seed $seed on: no mismatch"

@@ -23,16 +23,22 @@ MAKE = os.environ.get("MAKE", "make")
 UNPROVED = "crates/unifdef_cli/out/unproved"
 # A guard against a test that hangs. Under load, the slowest one takes a small part of this.
 SECONDS = "600"
-# A stored run that takes many minutes with checks: fewer cases, and what they print.
-SHORTER = {"fuzz_run": (["0", "1000"], b"1000 cases from seed 0 on: no mismatch\n")}
 # Those that take longest come first, so that none of them ends alone.
-FIRST = ["test_faults", "test_tool", "cases", "test_text", "test_options", "test_sections"]
+FIRST = ["test_runner", "cases", "test_text", "test_sections", "test_engine"]
 
 
 def words_of(crate):
-    """Returns the arguments of a crate's stored run."""
+    """Returns the arguments of a crate's stored run: files of data/ by name, if it has some.
+
+    A program that runs with checks takes many minutes for all texts of the runner, so only the
+    cases are run.
+    """
+    cases = sorted(glob.glob("data/*/*.case", root_dir=crate))
     path = f"{crate}/args"
-    return open(path, encoding="utf-8").read().splitlines() if os.path.exists(path) else []
+    if cases or not os.path.exists(path):
+        return cases
+    with open(path, encoding="utf-8") as lines:
+        return lines.read().splitlines()
 
 
 def bytes_of(path):
@@ -76,8 +82,7 @@ class Task:
             status = self.start([RT, "try", "--test", "--seconds", SECONDS], folder, (out, err))
             return f"status {status}" if status else ""
         printed = bytes_of(f"{folder}/stdout")
-        given, printed = SHORTER.get(self.name, (words_of(folder), printed))
-        words = [RT, "try", "--seconds", SECONDS, "--", *given]
+        words = [RT, "try", "--seconds", SECONDS, "--", *words_of(folder)]
         status = self.start(words, folder, (out, err), bytes_of(f"{folder}/stdin"))
         wanted = int(bytes_of(f"{folder}/status") or b"0")
         if status != wanted:

@@ -3,8 +3,11 @@
 //! The arguments name files of cases, and folders with such files and folders. At cases that are
 //! answered wrongly both answers are printed, and the exit status is 1.
 //!
-//! After the first argument `all` texts are tried too that no file has. After the first argument
-//! `reference` the program answers to the other arguments and standard input as the reference does.
+//! The first argument may also be a word:
+//!
+//! - `all`: texts are tried too that no file has;
+//! - `hostile`: texts from seeds are tried (`hostile::run`);
+//! - `reference`: the program answers to the other arguments and standard input as the reference.
 #![tactic(auto)]
 
 mod borders;
@@ -14,6 +17,7 @@ mod engines;
 mod expected;
 mod failing;
 mod folders;
+mod hostile;
 mod limits;
 mod literals;
 mod mismatch;
@@ -25,14 +29,17 @@ mod running;
 
 use crate::borders::check_borders;
 use crate::folders::{Tally, run_cases};
+use crate::hostile::{agree_from, keep_options};
 use crate::limits::check_limits;
-use crate::options::differing_seed;
 use std::alloc::{AllocError, Global};
 use std::process::ExitCode;
 use std::{env, io};
 
+/// The number of seeds whose texts are tried beside the reference.
+const SEEDS: u64 = 20_000;
+
 /// The number of seeds whose texts are tried under options.
-const SEEDS: u64 = 300;
+const OPTION_SEEDS: u64 = 300;
 
 fn main(rt: HostRuntime) -> io::Result<ExitCode> {
     let mut args = Vec::new(rt.alloc());
@@ -40,6 +47,7 @@ fn main(rt: HostRuntime) -> io::Result<ExitCode> {
         args.push(word).map_err(AllocError::from)?;
     }
     match args.as_slice().split_first() {
+        Some((mode, rest)) if mode.as_str() == "hostile" => hostile::run(&rt, rest),
         Some((mode, rest)) if mode.as_str() == "reference" => reference::answer(&rt, rest),
         Some((mode, rest)) if mode.as_str() == "all" => run_all(&rt, rest),
         _ => finish(&rt, tally_of(&rt, args.as_slice())?),
@@ -75,11 +83,7 @@ fn texts_are_right(rt: &impl Print, alloc: Global) -> io::Result<bool> {
         println!(rt; "a text of stops: {wrong}")?;
         return Ok(false);
     }
-    if let Some((seed, name)) = differing_seed(alloc, SEEDS)? {
-        println!(rt; "seed {seed}: {name} differs")?;
-        return Ok(false);
-    }
-    Ok(true)
+    Ok(agree_from(rt, alloc, 0, SEEDS)? && keep_options(rt, alloc, 0, OPTION_SEEDS)?)
 }
 
 /// Prints the result. The number of cases isn't part of the output, so that a new case changes no

@@ -26,15 +26,18 @@ pub(crate) fn differing_check(
     Ok(None)
 }
 
-/// Finds the first of `count` seeds whose case a check differs on, with the check's name.
+/// Finds the first of `count` seeds from `first` on whose case a check differs on, with the check's
+/// name.
 ///
 /// # Errors
 /// Fails if memory runs out.
 pub(crate) fn differing_seed(
     alloc: Global,
+    first: u64,
     count: u64,
 ) -> Result<Option<(u64, &'static str)>, AllocError> {
-    for seed in 0..count {
+    for at in 0..count {
+        let seed = first.wrapping_add(at);
         if let Some(name) = differing(alloc, &fuzz_texts::case_of(alloc, seed)?)? {
             return Ok(Some((seed, name)));
         }
