@@ -6,6 +6,7 @@
 #                 refuse, the tests, and the stored runs
 # make edits      tries the second edits, which the gate leaves out; CRATES='NAME ..' those of some
 #                 crates
+# make cases      runs ./unifdef on the worked cases of tests/cases
 # make examples   runs the examples of README.md and docs/EXAMPLES.md with ./unifdef
 # make manual-examples  runs the examples of the manual, but for those under DIFFERENCES
 # make differences  runs the examples under DIFFERENCES in the manual, and the other cases that say
@@ -60,7 +61,7 @@ SOURCES := crates.txt HANDLES \
 	$(shell find crates -name out -prune -o \( -name '*.rt' -o -name '*.antt' \) -print)
 
 .DELETE_ON_ERROR:
-.PHONY: all build kit try test check edits examples manual-examples differences faults fail-alloc tree-test
+.PHONY: all build kit try test check edits cases examples manual-examples differences faults fail-alloc tree-test
 .PHONY: install uninstall dist deb packages-test manuals around bench bench-text
 .PHONY: bench-conditions pictures trees selects lines lines-test hostile fronts clean
 
@@ -103,6 +104,9 @@ examples: unifdef
 
 manual-examples: unifdef
 	@tests/manual.sh
+
+cases: unifdef
+	@tests/cases.py
 
 differences: unifdef
 	@tests/differences.py
@@ -149,7 +153,7 @@ packages-test: unifdef
 manuals:
 	@tools/lint.sh
 
-around: manuals examples manual-examples differences faults lines-test tree-test packages-test
+around: manuals cases examples manual-examples differences faults lines-test tree-test packages-test
 
 bench: bench-text bench-conditions
 

@@ -221,8 +221,11 @@ refuse_table() {
 if "${CC:-cc}" -O1 -shared -fPIC -o "$work/refuse.so" "$here/refuse.c" -ldl 2> /dev/null; then
   printf '#ifdef A\nx\n#endif\n' > "$work/in"
   { deep sections; deep longest; deep comment; lines 100000; } > "$work/deep"
-  refuse_each yes -DA -UB -DC=1
-  refuse_each yes -iDA=1 -iUB -DA=22 -UA -Dlonger_than_a_few_bytes=another_value
+  # The arguments of the cases that ask for it, and those that have a fault or no symbol.
+  while IFS= read -r words; do
+    # shellcheck disable=SC2086 # These arguments have no spaces of their own.
+    refuse_each yes $words
+  done < <(grep -l '^try growths$' "$here"/../cases/*/*.case | xargs sed -n 's/^unifdef //p')
   refuse_each yes -DA -B
   refuse_each no -B -DA
   refuse_each no -tk -x2
