@@ -85,7 +85,7 @@ impl Behavior {
     }
 }
 
-/// What is tried of a case beside the runs of every case.
+/// The further runs that a case asks for.
 #[derive(Clone, Copy)]
 pub(crate) struct Tries {
     /// Each prefix of the input, in two reads that are cut at each place.

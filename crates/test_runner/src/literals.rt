@@ -2,7 +2,7 @@
 
 use std::alloc::{AllocError, Global};
 
-/// How far an escape sequence is read.
+/// The part of an escape sequence that was read.
 #[derive(Clone, Copy)]
 enum Escape {
     /// No escape sequence is open.

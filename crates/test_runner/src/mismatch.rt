@@ -4,7 +4,7 @@ use crate::outcome::Outcome;
 use std::alloc::{AllocError, Global};
 use std::fmt;
 
-/// In what way a case was run.
+/// A way in which a case was run.
 #[derive(Clone, Copy)]
 pub(crate) enum Way {
     /// As its file says.

@@ -1,4 +1,4 @@
-//! Shared by tests: readers and writers over memory that count their calls and fail, and long texts.
+//! Shared by tests: readers and writers over memory that count their calls and fail; long texts.
 //!
 //! Contracts state here what safety needs, and nothing of the bytes.
 #![tactic(auto)]
