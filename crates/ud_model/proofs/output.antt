@@ -51,6 +51,7 @@ pub mod CountedText
 pub mod ListAnswers
 pub mod InsertedTree
 pub mod InsertedText
+pub mod ReadInMode
 pub mod InsertedSelected
 pub mod FlagArguments
 pub mod OptionAnswers
