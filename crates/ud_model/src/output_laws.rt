@@ -3,13 +3,11 @@
 ghost use Rattle.std.specs.Prelude.{◌≡◌, ℕ, List, map, not, true, false, Bool, bytes_eq, None};
 ghost use Rattle.ud_model.specs.text.Lines.{lines_of};
 ghost use Rattle.ud_model.specs.text.Scans.{Reading};
-ghost use Rattle.ud_model.specs.sections.Tree.{Nodes, Tree, closed, lines, lines_of_nodes};
-ghost use Rattle.ud_model.specs.sections.Tree.{with_lines};
-ghost use Rattle.ud_model.specs.sections.Pruning.{marks};
+ghost use Rattle.ud_model.specs.sections.Tree.{Nodes, Tree, closed, lines, with_lines};
 ghost use Rattle.ud_model.specs.sections.Items.{Options, reading_of, mode_by};
 ghost use Rattle.ud_model.specs.answer.Outcomes.{Outcome, HasOutcome};
-ghost use Rattle.ud_model.specs.output.Worlds.{World, Agrees, selected, openers};
-ghost use Rattle.ud_model.specs.output.Pruned.{Edited, edited, pruned, printed, IsUndecided};
+ghost use Rattle.ud_model.specs.output.Worlds.{World, Agrees, selected, openers, openers_in};
+ghost use Rattle.ud_model.specs.output.Pruned.{Edited, edited, IsPruned, pruned_lines, IsUndecided};
 ghost use Rattle.ud_model.specs.output.Rereading.{IsPlain, IsTreeOf, IsClean, CleanRun, LinesFit};
 ghost use Rattle.ud_model.specs.output.Rereading.{line_bytes, edited_bytes, KeepsTruths};
 ghost use Rattle.ud_model.specs.output.CSelection.{IsCWorld, condition_in};
@@ -31,15 +29,17 @@ pub fn law_changed()
 /// Pruning keeps the selected lines: in a world that agrees with the decided conditions, the lines
 /// selected of the pruned nodes are those selected of the nodes (C11 6.10.1p6).
 pub fn law_selected_tree()
-    ensures { (w : World Reading) → (ns : Nodes Reading) → Agrees w ns →
-        selected (λ e. w e.line) (pruned ns) ≡ map (edited Verdict.Keep) (selected w ns) }
+    ensures { (w : World Reading) → (ns : Nodes Reading) → (ps : Nodes (Edited Reading)) →
+        IsPruned ns ps → Agrees w ns →
+        selected (λ e. w e.line) ps ≡ map (edited Verdict.Keep) (selected w ns) }
 {}
 
-/// The lines that the marks leave of nodes, with edited directives, are the lines of the pruned
-/// nodes (unifdef(1)).
+/// The output is well nested: the lines that the marks leave of nodes, with edited directives, have
+/// exactly one tree whose sections are all closed (unifdef(1)).
 pub fn law_printed()
-    ensures { (ns : Nodes Reading) →
-        printed (lines_of_nodes ns) (marks (closed ns)) ≡ lines_of_nodes (pruned ns) }
+    ensures exists { (ns : Nodes Reading) → (ps : Nodes (Edited Reading)) × IsPruned ns ps }
+    ensures only { (ns : Nodes Reading) → (ps : Nodes (Edited Reading)) →
+        (qs : Nodes (Edited Reading)) → IsPruned ns ps → IsPruned ns qs → ps ≡ qs }
 {}
 
 /// A text without a fault has a tree whose sections are all closed, and a text has one tree at most
@@ -60,8 +60,8 @@ pub fn law_reread()
     ensures tree { (o : Options) → (input : List ℕ) → (r : Outcome) → IsClean o input r →
         (ns : Nodes Reading) → IsTreeOf o input (closed ns) →
         (us : Nodes Reading) × IsTreeOf o r.output (closed us) }
-    ensures left { (k : CleanRun) →
-        with_lines line_bytes k.after ≡ with_lines edited_bytes (pruned k.before) }
+    ensures left { (k : CleanRun) → (ps : Nodes (Edited Reading)) → IsPruned k.before ps →
+        with_lines line_bytes k.after ≡ with_lines edited_bytes ps }
     ensures undecided { (k : CleanRun) → IsUndecided k.after }
     ensures again { (o : Options) → (input : List ℕ) → (r : Outcome) → IsClean o input r →
         LinesFit (lines_of r.output) →
@@ -97,7 +97,7 @@ pub fn law_reading_selects()
         map line_bytes (selected v k.after) ≡ map line_bytes (selected w k.before) }
     ensures conditions { (k : CleanRun) →
         map condition_in (openers k.after) ≡
-        map (λ e. condition_in e.line) (openers (pruned k.before)) }
+        map (λ e. condition_in e.line) (openers_in (pruned_lines k.before)) }
     ensures world { (k : CleanRun) → (w : World Reading) → (v : World Reading) →
         IsCWorld k.options.table w k.before → KeepsTruths w k.before v k.after →
         IsCWorld k.options.table v k.after }
@@ -118,7 +118,7 @@ pub fn law_c_selects()
         map line_bytes (selected v k.after) ≡ map line_bytes (selected w k.before) }
     ensures conditions { (k : CleanRun) → k.options.settings.plain ≡ false →
         map condition_in (openers k.after) ≡
-        map (λ e. condition_in e.line) (openers (pruned k.before)) }
+        map (λ e. condition_in e.line) (openers_in (pruned_lines k.before)) }
     ensures world { (k : CleanRun) → k.options.settings.plain ≡ false → (w : World Reading) →
         (v : World Reading) → IsCWorld k.options.table w k.before →
         KeepsTruths w k.before v k.after → IsCWorld k.options.table v k.after }
