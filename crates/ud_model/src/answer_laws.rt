@@ -42,11 +42,11 @@ pub fn law_answer_reading_selects()
         map line_bytes (selected v us) ≡ map line_bytes (selected w ns) }
 {}
 
-/// A C compiler selects the same text from input and output, unless `-t` is given.
+/// A C compiler selects the same text of input and output, unless `-t` is given.
 ///
 /// The arguments only decide conditions, without `-t`, and the input has no fault. Each symbol that
 /// the options don't name is any number, and C may decide each condition that it evaluates in any
-/// way that this allows. Each line is read as C reads it, and the lines that C selects of the output
+/// way that this allows. Each line is read as C reads it. The lines that C selects of the output
 /// are then those that it selects of the input, byte by byte (C11 5.1.1.2, 6.10.1p4, p6).
 pub fn law_answer_selects()
     ensures readings { (args : List (List ℕ)) → IsPlain (options_of args) →

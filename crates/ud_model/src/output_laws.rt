@@ -106,8 +106,8 @@ pub fn law_reading_selects()
 /// A C compiler selects the same lines of input and output, unless `-t` is given.
 ///
 /// Without `-t` each line is read in C mode, as C reads it. So what is selected is what C selects:
-/// this is `law_reading_selects` for a compiler. Under `-t` a compiler may select other lines, since
-/// it heeds comments (C11 5.1.1.2, 6.10.1p4, p6).
+/// this is `law_reading_selects` for a compiler. Under `-t` a compiler may select other lines, for
+/// it reads comments as such (C11 5.1.1.2, 6.10.1p4, p6).
 pub fn law_c_selects()
     ensures readings { (o : Options) → IsPlain o → o.settings.plain ≡ false → (text : List ℕ) →
         (t : Tree Reading) → IsTreeOf o text t →
