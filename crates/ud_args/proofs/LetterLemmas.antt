@@ -4,7 +4,9 @@ use Rattle.std.specs.Str.{IsUtf8, encode_utf8_all}
 use Rattle.std.specs.Char.{encode_utf8}
 use Rattle.std.proofs.lemmas.Grind.{common_steps}
 use Rattle.std.proofs.lemmas.Str.{chars-nil, encodes-chars, char_from_byte}
-use Rattle.ud_model.specs.answer.CommandLine.{ParsedArg, option, parsed_option, option_letters, parsed_letters, parsed_from, parsed_after_option}
+use Rattle.ud_model.specs.answer.CommandLine.{ParsedArg, option, option_letters, parsed_from, parsed_after_option}
+use Rattle.ud_model.specs.aids.LettersThen.{parsed_option, parsed_letters}
+use Rattle.ud_model.proofs.answer.WordLemmas.{options_given, letters_then}
 
 -- a text without bytes has no letters
 pub chars-empty : (bytes : List ℕ) → length bytes ≡ 0 → chars bytes ≡ []
@@ -36,5 +38,6 @@ option_letters-other (b ∷ bs) rest c e h =
 pub parsed_from-letters : (n : ℕ) (w : List ℕ) (ws : List (List ℕ)) (c : ℕ) (cs : List ℕ) → bytes_eq w (codes "--") ≡ false → option_letters w ≡ c ∷ cs
     → parsed_from n (w ∷ ws) ≡ parsed_letters (n + 1) (c ∷ cs) (λ d. parsed_after_option d (n + 1) ws) (parsed_from (n + 1) ws)
 parsed_from-letters n w ws c cs h e =
-    let here : parsed_from n (w ∷ ws) ≡ parsed_letters (suc n) (c ∷ cs) (λ d. parsed_after_option d (suc n) ws) (parsed_from (suc n) ws) = rw (h, e) refl in
+    let here : parsed_from n (w ∷ ws) ≡ parsed_letters (suc n) (c ∷ cs) (λ d. parsed_after_option d (suc n) ws) (parsed_from (suc n) ws) =
+    options_given n w ws c cs h e ∙ sym (letters_then (suc n) (c ∷ cs) ws) in
     here ∙ ap (λ (m : ℕ). parsed_letters m (c ∷ cs) (λ d. parsed_after_option d m ws) (parsed_from m ws)) (sym (add-one n))

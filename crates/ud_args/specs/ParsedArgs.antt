@@ -6,8 +6,8 @@
 use Rattle.std.specs.Prelude.{ℕ, List, [], ◌∷◌, map, chars, string_bytes, Option, Some, None}
 use Rattle.std.specs.Prelude.{if◌then◌else◌}
 use Rattle.ud_model.specs.answer.CommandLine.{flag, option, operand, unknown, lacking}
-use Rattle.ud_model.specs.answer.CommandLine.{operands_from, parsed_letters, parsed_from}
-use Rattle.ud_model.specs.answer.CommandLine.{parsed_after_option}
+use Rattle.ud_model.specs.answer.CommandLine.{operands_from, parsed_from, parsed_after_option}
+use Rattle.ud_model.specs.aids.LettersThen.{parsed_letters}
 use Rattle.ud_model.specs.answer.CommandLine.{ParsedArg as GivenInWords}
 use Rattle.ud_args.specs.declared.command_line.CommandLine.{CommandLine}
 use Rattle.ud_args.specs.declared.command_line.ParsedArg.{ParsedArg}

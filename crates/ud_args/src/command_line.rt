@@ -4,8 +4,9 @@
 //! the faults of an option's argument. Reading takes no memory.
 
 ghost use Rattle.std.specs.Prelude.{◌≡◌, ◌∷◌, ◌+◌, ◌<◌, ◌^◌, length, map, chars, string_bytes};
+ghost use Rattle.ud_model.specs.aids.LettersThen.{parsed_option, parsed_letters};
 ghost use Rattle.ud_model.specs.answer.CommandLine.{is_flag, takes_argument, option_letters};
-ghost use Rattle.ud_model.specs.answer.CommandLine.{operands_from, parsed_option, parsed_letters};
+ghost use Rattle.ud_model.specs.answer.CommandLine.{operands_from};
 ghost use Rattle.ud_model.specs.answer.CommandLine.{parsed_from, parsed_after_option, parsed_args};
 ghost use Rattle.ud_args.specs.LetterSplits.{letters_then, bytes_then};
 

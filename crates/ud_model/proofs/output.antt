@@ -14,7 +14,9 @@ pub mod KeywordPlace
 pub mod EditedScan
 pub mod JoinedAlike
 pub mod SameShape
+pub mod Folded
 pub mod PrintedPruned
+pub mod PrunedTree
 pub mod SelectedPruned
 pub mod Each
 pub mod ByLength
@@ -51,6 +53,7 @@ pub mod CountedText
 pub mod ListAnswers
 pub mod InsertedTree
 pub mod InsertedText
+pub mod ReadInMode
 pub mod InsertedSelected
 pub mod FlagArguments
 pub mod OptionAnswers

@@ -4,3 +4,4 @@ pub mod LexStates
 pub mod Parsing
 pub mod SoFar
 pub mod Height
+pub mod LettersThen

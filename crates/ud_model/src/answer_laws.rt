@@ -3,13 +3,16 @@
 ghost use Rattle.std.specs.Prelude.{◌≡◌, ◌≢◌, ℕ, List, map, not, false, bytes_eq};
 ghost use Rattle.ud_model.specs.text.Lines.{lines_of};
 ghost use Rattle.ud_model.specs.text.Scans.{Reading};
-ghost use Rattle.ud_model.specs.sections.Tree.{Nodes, closed};
+ghost use Rattle.ud_model.specs.sections.Tree.{Nodes, Tree, closed, lines};
+ghost use Rattle.ud_model.specs.sections.Items.{reading_of};
 ghost use Rattle.ud_model.specs.answer.CommandLine.{options_of};
 ghost use Rattle.ud_model.specs.answer.Answer.{Answer, IsAnswer, status_by, copy_answer};
 ghost use Rattle.ud_model.specs.output.Worlds.{World, selected};
 ghost use Rattle.ud_model.specs.output.Rereading.{IsPlain, IsTreeOf, LinesFit, line_bytes};
 ghost use Rattle.ud_model.specs.output.Rereading.{KeepsTruths};
 ghost use Rattle.ud_model.specs.output.CSelection.{IsCWorld};
+ghost use Rattle.ud_model.specs.output.InsertedLines.{read_as};
+ghost use Rattle.ud_model.specs.declared.kind.Mode.{Mode};
 ghost use Rattle.ud_model.specs.declared.settings.Listing.{Listing};
 
 /// A second run changes nothing.
@@ -24,15 +27,35 @@ pub fn law_answer_again()
         IsAnswer args a.output (copy_answer args a.output) }
 {}
 
-/// A compiler selects the same text from input and output.
+/// The lines that are selected, as the tool reads them, are the same of input and output.
 ///
 /// The arguments only decide conditions, and the input has no fault. Each symbol that the options
-/// don't name is any number, and C may decide each condition that it evaluates in any way that this
-/// allows. The lines that C selects of the output are then those that it selects of the input, byte
-/// by byte (C11 6.10.1p4, p6).
-pub fn law_answer_selects()
+/// don't name is any number, and each condition that is evaluated may be decided in any way that
+/// this allows. The lines selected of the output are then those selected of the input, byte by byte
+/// (C11 6.10.1p4, p6). Under `-t` each line is read by itself, as text without comments.
+pub fn law_answer_reading_selects()
     ensures { (args : List (List ℕ)) → (input : List ℕ) → (a : Answer) → IsAnswer args input a →
         a.status ≢ 2 → IsPlain (options_of args) → (ns : Nodes Reading) → (us : Nodes Reading) →
+        IsTreeOf (options_of args) input (closed ns) →
+        IsTreeOf (options_of args) a.output (closed us) → (w : World Reading) →
+        (v : World Reading) → IsCWorld (options_of args).table w ns → KeepsTruths w ns v us →
+        map line_bytes (selected v us) ≡ map line_bytes (selected w ns) }
+{}
+
+/// A C compiler selects the same text of input and output, unless `-t` is given.
+///
+/// The arguments only decide conditions, without `-t`, and the input has no fault. Each symbol that
+/// the options don't name is any number, and C may decide each condition that it evaluates in any
+/// way that this allows. Each line is read as C reads it. The lines that C selects of the output
+/// are then those that it selects of the input, byte by byte (C11 5.1.1.2, 6.10.1p4, p6).
+pub fn law_answer_selects()
+    ensures readings { (args : List (List ℕ)) → IsPlain (options_of args) →
+        (options_of args).settings.plain ≡ false → (text : List ℕ) → (t : Tree Reading) →
+        IsTreeOf (options_of args) text t →
+        map (λ x. reading_of x) (lines t) ≡ read_as Mode.C text }
+    ensures selected { (args : List (List ℕ)) → (input : List ℕ) → (a : Answer) →
+        IsAnswer args input a → a.status ≢ 2 → IsPlain (options_of args) →
+        (options_of args).settings.plain ≡ false → (ns : Nodes Reading) → (us : Nodes Reading) →
         IsTreeOf (options_of args) input (closed ns) →
         IsTreeOf (options_of args) a.output (closed us) → (w : World Reading) →
         (v : World Reading) → IsCWorld (options_of args).table w ns → KeepsTruths w ns v us →

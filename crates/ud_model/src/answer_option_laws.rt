@@ -104,9 +104,11 @@ pub fn law_answer_complement()
 ///
 /// The other arguments only decide conditions: none of `-s`, `-S`, `-b`, `-l`, `-c`, `-n`, `-iD`
 /// and `-iU`. The selected lines of the output are those of the input, but for the inserted ones.
-/// Counting on from line to line, and anew after each inserted `#line`, each line has its number in
-/// the input. A compiler counts so too, but for the input's own `#line` directives, which it obeys,
-/// and those in a group that it skips, which it ignores (C11 6.10.1p6, 6.10.4p3, unifdef(1)).
+/// Under `-t` they are so as the tool reads them, without comments, and a compiler may select
+/// others. Counting on from line to line, and anew after each inserted `#line`, each line has its
+/// number in the input. Without `-t` a compiler counts so too, but for the input's own `#line`
+/// directives, which it obeys, and those in a group that it skips, which it ignores
+/// (C11 6.10.1p6, 6.10.4p3, unifdef(1)).
 pub fn law_answer_numbers()
     ensures renumbers { (args : List (List ℕ)) → usage_fault args ≡ None →
         KeepsNumbers args (codes "-n" ∷ args) }
@@ -120,8 +122,17 @@ pub fn law_answer_numbers()
         (k : ℕ) × Counted (judged_lines xs (marks t))
         (read_as (mode_by (options_of args).settings.plain) a.output)
         (read_as (mode_by (options_of args).settings.plain) c.output) k }
-    ensures selects { (args : List (List ℕ)) → (more : List (List ℕ)) → (input : List ℕ) →
+    ensures reading_selects { (args : List (List ℕ)) → (more : List (List ℕ)) → (input : List ℕ) →
         (a : Answer) → (c : Answer) → IsPlain (options_of args) → KeepsNumbers args more →
+        IsAnswer args input a → a.status ≢ 2 → IsAnswer more input c →
+        (ns : Nodes Reading) → (us : Nodes Reading) →
+        IsTreeOf (options_of args) input (closed ns) →
+        IsTreeOf (options_of args) a.output (closed us) → (w : World Reading) →
+        (v : World Reading) → IsCWorld (options_of args).table w ns → KeepsTruths w ns v us →
+        SelectsWithInserted (options_of args) c.output us v (map line_bytes (selected w ns)) }
+    ensures selects { (args : List (List ℕ)) → (more : List (List ℕ)) → (input : List ℕ) →
+        (a : Answer) → (c : Answer) → IsPlain (options_of args) →
+        (options_of args).settings.plain ≡ false → KeepsNumbers args more →
         IsAnswer args input a → a.status ≢ 2 → IsAnswer more input c →
         (ns : Nodes Reading) → (us : Nodes Reading) →
         IsTreeOf (options_of args) input (closed ns) →

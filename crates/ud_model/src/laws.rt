@@ -23,7 +23,7 @@ ghost use Rattle.ud_model.specs.sections.Faults.{Fault, FaultOf, NoneHolds, case
 ghost use Rattle.ud_model.specs.answer.Outcomes.{Outcome, ReadsAs, ReadsSoFar, HasOutcome};
 ghost use Rattle.ud_model.specs.answer.Outcomes.{HasOutcomeSoFar};
 ghost use Rattle.ud_model.specs.answer.CommandLine.{option_letters, operands_from, parsed_from};
-ghost use Rattle.ud_model.specs.answer.SingleArguments.{letters_give, given_next};
+ghost use Rattle.ud_model.specs.answer.CommandLine.{letters_give, given_next};
 ghost use Rattle.ud_model.specs.answer.Answer.{Answer, IsAnswer};
 ghost use Rattle.ud_model.specs.conditions.Table.{Argument, entry_in};
 ghost use Rattle.ud_model.specs.conditions.Symbols.{ResolvesTo, resolve};

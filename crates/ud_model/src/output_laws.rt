@@ -3,15 +3,16 @@
 ghost use Rattle.std.specs.Prelude.{◌≡◌, ℕ, List, map, not, true, false, Bool, bytes_eq, None};
 ghost use Rattle.ud_model.specs.text.Lines.{lines_of};
 ghost use Rattle.ud_model.specs.text.Scans.{Reading};
-ghost use Rattle.ud_model.specs.sections.Tree.{Nodes, Tree, closed, lines_of_nodes, with_lines};
-ghost use Rattle.ud_model.specs.sections.Pruning.{marks};
-ghost use Rattle.ud_model.specs.sections.Items.{Options};
+ghost use Rattle.ud_model.specs.sections.Tree.{Nodes, Tree, closed, lines, with_lines};
+ghost use Rattle.ud_model.specs.sections.Items.{Options, reading_of, mode_by};
 ghost use Rattle.ud_model.specs.answer.Outcomes.{Outcome, HasOutcome};
-ghost use Rattle.ud_model.specs.output.Worlds.{World, Agrees, selected, openers};
-ghost use Rattle.ud_model.specs.output.Pruned.{Edited, edited, pruned, printed, IsUndecided};
-ghost use Rattle.ud_model.specs.output.Rereading.{IsTreeOf, IsClean, CleanRun, LinesFit};
+ghost use Rattle.ud_model.specs.output.Worlds.{World, Agrees, selected, openers, openers_in};
+ghost use Rattle.ud_model.specs.output.Pruned.{Edited, edited, IsPruned, pruned_lines, IsUndecided};
+ghost use Rattle.ud_model.specs.output.Rereading.{IsPlain, IsTreeOf, IsClean, CleanRun, LinesFit};
 ghost use Rattle.ud_model.specs.output.Rereading.{line_bytes, edited_bytes, KeepsTruths};
 ghost use Rattle.ud_model.specs.output.CSelection.{IsCWorld, condition_in};
+ghost use Rattle.ud_model.specs.output.InsertedLines.{read_as};
+ghost use Rattle.ud_model.specs.declared.kind.Mode.{Mode};
 ghost use Rattle.ud_model.specs.declared.settings.Listing.{Listing};
 ghost use Rattle.ud_model.specs.declared.verdict.Verdict.{Verdict};
 
@@ -28,15 +29,17 @@ pub fn law_changed()
 /// Pruning keeps the selected lines: in a world that agrees with the decided conditions, the lines
 /// selected of the pruned nodes are those selected of the nodes (C11 6.10.1p6).
 pub fn law_selected_tree()
-    ensures { (w : World Reading) → (ns : Nodes Reading) → Agrees w ns →
-        selected (λ e. w e.line) (pruned ns) ≡ map (edited Verdict.Keep) (selected w ns) }
+    ensures { (w : World Reading) → (ns : Nodes Reading) → (ps : Nodes (Edited Reading)) →
+        IsPruned ns ps → Agrees w ns →
+        selected (λ e. w e.line) ps ≡ map (edited Verdict.Keep) (selected w ns) }
 {}
 
-/// The lines that the marks leave of nodes, with edited directives, are the lines of the pruned
-/// nodes (unifdef(1)).
+/// The output is well nested: the lines that the marks leave of nodes, with edited directives, have
+/// exactly one tree whose sections are all closed (unifdef(1)).
 pub fn law_printed()
-    ensures { (ns : Nodes Reading) →
-        printed (lines_of_nodes ns) (marks (closed ns)) ≡ lines_of_nodes (pruned ns) }
+    ensures exists { (ns : Nodes Reading) → (ps : Nodes (Edited Reading)) × IsPruned ns ps }
+    ensures only { (ns : Nodes Reading) → (ps : Nodes (Edited Reading)) →
+        (qs : Nodes (Edited Reading)) → IsPruned ns ps → IsPruned ns qs → ps ≡ qs }
 {}
 
 /// A text without a fault has a tree whose sections are all closed, and a text has one tree at most
@@ -57,8 +60,8 @@ pub fn law_reread()
     ensures tree { (o : Options) → (input : List ℕ) → (r : Outcome) → IsClean o input r →
         (ns : Nodes Reading) → IsTreeOf o input (closed ns) →
         (us : Nodes Reading) × IsTreeOf o r.output (closed us) }
-    ensures left { (k : CleanRun) →
-        with_lines line_bytes k.after ≡ with_lines edited_bytes (pruned k.before) }
+    ensures left { (k : CleanRun) → (ps : Nodes (Edited Reading)) → IsPruned k.before ps →
+        with_lines line_bytes k.after ≡ with_lines edited_bytes ps }
     ensures undecided { (k : CleanRun) → IsUndecided k.after }
     ensures again { (o : Options) → (input : List ℕ) → (r : Outcome) → IsClean o input r →
         LinesFit (lines_of r.output) →
@@ -78,21 +81,45 @@ pub fn law_selected()
         map line_bytes (selected v k.after) ≡ map line_bytes (selected w k.before) }
 {}
 
-/// C selects the same lines of input and output.
+/// The lines that are selected, as the tool reads them, are the same of input and output.
 ///
-/// Each symbol that the options don't name is any number, and C may decide each condition that it
-/// evaluates in any way that this allows. The lines that it selects of the output are those that it
-/// selects of the input, byte by byte (C11 6.10.1p4, p6). Each opener of the output has the very
-/// condition of the opener from which it comes. So C may decide the output as it may decide the
-/// input.
-pub fn law_c_selects()
+/// Each symbol that the options don't name is any number, and each condition that is evaluated may
+/// be decided in any way that this allows. The lines selected of the output are those selected of
+/// the input, byte by byte (C11 6.10.1p4, p6). Each opener of the output has the very condition of
+/// the opener from which it comes. So the output may be decided as the input may. Each line is read
+/// in one mode: under `-t` in plain mode, in which comments and continuations are text.
+pub fn law_reading_selects()
+    ensures readings { (o : Options) → IsPlain o → (text : List ℕ) → (t : Tree Reading) →
+        IsTreeOf o text t →
+        map (λ x. reading_of x) (lines t) ≡ read_as (mode_by o.settings.plain) text }
     ensures selected { (k : CleanRun) → (w : World Reading) → (v : World Reading) →
         IsCWorld k.options.table w k.before → KeepsTruths w k.before v k.after →
         map line_bytes (selected v k.after) ≡ map line_bytes (selected w k.before) }
     ensures conditions { (k : CleanRun) →
         map condition_in (openers k.after) ≡
-        map (λ e. condition_in e.line) (openers (pruned k.before)) }
+        map (λ e. condition_in e.line) (openers_in (pruned_lines k.before)) }
     ensures world { (k : CleanRun) → (w : World Reading) → (v : World Reading) →
         IsCWorld k.options.table w k.before → KeepsTruths w k.before v k.after →
         IsCWorld k.options.table v k.after }
+{}
+
+/// A C compiler selects the same lines of input and output, unless `-t` is given.
+///
+/// Without `-t` each line is read in C mode, as C reads it. So what is selected is what C selects:
+/// this is `law_reading_selects` for a compiler. Under `-t` a compiler may select other lines, for
+/// it reads comments as such (C11 5.1.1.2, 6.10.1p4, p6).
+pub fn law_c_selects()
+    ensures readings { (o : Options) → IsPlain o → o.settings.plain ≡ false → (text : List ℕ) →
+        (t : Tree Reading) → IsTreeOf o text t →
+        map (λ x. reading_of x) (lines t) ≡ read_as Mode.C text }
+    ensures selected { (k : CleanRun) → k.options.settings.plain ≡ false → (w : World Reading) →
+        (v : World Reading) → IsCWorld k.options.table w k.before →
+        KeepsTruths w k.before v k.after →
+        map line_bytes (selected v k.after) ≡ map line_bytes (selected w k.before) }
+    ensures conditions { (k : CleanRun) → k.options.settings.plain ≡ false →
+        map condition_in (openers k.after) ≡
+        map (λ e. condition_in e.line) (openers_in (pruned_lines k.before)) }
+    ensures world { (k : CleanRun) → k.options.settings.plain ≡ false → (w : World Reading) →
+        (v : World Reading) → IsCWorld k.options.table w k.before →
+        KeepsTruths w k.before v k.after → IsCWorld k.options.table v k.after }
 {}

@@ -10,7 +10,7 @@ use Rattle.ud_model.specs.text.Bytes.{hyphen, equals_sign, is_word_byte, are_wor
 use Rattle.ud_model.specs.conditions.Table.{Argument, Entry, entry_from, entry_in}
 use Rattle.ud_model.specs.answer.CommandLine.{ParsedArg, flag, option, operand, unknown, lacking, has_letter, is_flag, takes_argument, parsed_from, parsed_args, parse_symbol, symbol_named, mode_or, parse_exit_mode, mode_from, has_flag, listing_by, settings_in, argument_in, options_of, unless_right, bad_symbol_in, bad_mode_in, argument_fault, first_fault, usage_fault}
 use Rattle.ud_model.specs.answer.SymbolArguments.{is_name, name_before_equals, value_after_equals, value_or_one}
-use Rattle.ud_model.specs.answer.SingleArguments.{WordGives, then_gives, letters_give, option_gives, given_next}
+use Rattle.ud_model.specs.answer.CommandLine.{WordGives, then_gives, letters_give, option_gives, given_next}
 use Rattle.ud_model.specs.answer.OptionArguments.{AreOptions, no_options, whole_word, two_words, IsSymbolOption, defines, defines_as, undefines, AddsSymbol}
 use Rattle.ud_model.specs.declared.settings.ExitMode.{ExitMode}
 use Rattle.ud_model.specs.declared.settings.ExitMode.TheVariants.{Zero}

@@ -1,8 +1,8 @@
 -- Arguments that give the same in other places: what is read of them doesn't depend on the place.
-use Rattle.std.proofs.Common.{◌≡◌, ℕ, suc, List, [], ◌∷◌, Bool, true, false, ◌||◌, if◌then◌else◌, bytes_eq, codes, encode_utf8_all, Option, Some, None, refl, sym, ◌∙◌, ap, ap₂, arith}
+use Rattle.std.proofs.Common.{◌≡◌, ℕ, suc, List, [], ◌∷◌, ◌++◌, Bool, true, false, ◌||◌, if◌then◌else◌, bytes_eq, codes, encode_utf8_all, Option, Some, None, refl, sym, ◌∙◌, ap, ap₂, subst, arith}
 use Rattle.std.proofs.lemmas.Option.{none-some}
 use Rattle.std.specs.List.{filter_map}
-use Rattle.ud_model.specs.answer.CommandLine.{ParsedArg, flag, option, operand, unknown, lacking, has_letter, is_flag, takes_argument, option_letters, operands_from, parsed_option, parsed_letters, parsed_word, parsed_from, parsed_after_option, mode_or, parse_exit_mode, parse_symbol, mode_from, has_flag, listing_by, settings_in, argument_in, UsageFault, unless_right, bad_symbol_in, bad_mode_in, argument_fault, fault_or, first_fault, operand_in, name_or_stdin}
+use Rattle.ud_model.specs.answer.CommandLine.{ParsedArg, flag, option, operand, unknown, lacking, has_letter, is_flag, takes_argument, option_letters, operands_from, is_operand, WordGives, then_gives, option_gives, letters_give, given_next, parsed_from, mode_or, parse_exit_mode, parse_symbol, mode_from, has_flag, listing_by, settings_in, argument_in, UsageFault, unless_right, bad_symbol_in, bad_mode_in, argument_fault, fault_or, first_fault, operand_in, name_or_stdin}
 use Rattle.ud_model.specs.declared.settings.Settings.{Settings}
 use Rattle.ud_model.specs.declared.settings.Listing.{Listing}
 use Rattle.ud_model.specs.declared.settings.ExitMode.{ExitMode}
@@ -25,39 +25,49 @@ operands_same : (n m : ℕ) (ws : List (List ℕ)) → Same (operands_from n ws)
 operands_same n m [] = none
 operands_same n m (w ∷ ws) = an_operand n m w (operands_same (suc n) (suc m) ws)
 
-option_same : (c n m : ℕ) (ls : List ℕ) (p q r s : List ParsedArg) → Same p q → Same r s → Same (parsed_option c n ls p r) (parsed_option c m ls q s)
-option_same c n m [] p q r s h k = h
-option_same c n m (l ∷ ls) p q r s h k = an_option c n m (encode_utf8_all (l ∷ ls)) k
+-- what two arguments give, in other places
+record SameGives (g h : WordGives) : Type 0 where
+  given : (xs ys : List ParsedArg) → Same xs ys → Same (g.given ++ xs) (h.given ++ ys)
+  waits : g.waits ≡ h.waits
 
-letters_same : (n m : ℕ) (ls : List ℕ) (p q : ℕ → List ParsedArg) (r s : List ParsedArg) → ((c : ℕ) → Same (p c) (q c)) → Same r s → Same (parsed_letters n ls p r) (parsed_letters m ls q s)
-letters_same n m [] p q r s h k = k
-letters_same n m (c ∷ cs) p q r s h k =
-    if_same (is_flag c) (flag c ∷ parsed_letters n cs p r) (flag c ∷ parsed_letters m cs q s)
-    (if takes_argument c then parsed_option c n cs (p c) r else unknown c ∷ parsed_letters n cs p r)
-    (if takes_argument c then parsed_option c m cs (q c) s else unknown c ∷ parsed_letters m cs q s)
-    (a_flag c (letters_same n m cs p q r s h k))
-    (if_same (takes_argument c) (parsed_option c n cs (p c) r) (parsed_option c m cs (q c) s) (unknown c ∷ parsed_letters n cs p r) (unknown c ∷ parsed_letters m cs q s)
-    (option_same c n m cs (p c) (q c) r s (h c) k) (an_unknown c (letters_same n m cs p q r s h k)))
+if_gives : (b : Bool) (p q r s : WordGives) → SameGives p q → SameGives r s → SameGives (if b then p else r) (if b then q else s)
+if_gives true p q r s h k = h
+if_gives false p q r s h k = k
 
-word_same : (n m : ℕ) (ls : List ℕ) (p q : ℕ → List ParsedArg) (r s x y : List ParsedArg) → ((c : ℕ) → Same (p c) (q c)) → Same r s → Same x y →
-    Same (parsed_word n ls p r x) (parsed_word m ls q s y)
-word_same n m [] p q r s x y h k o = o
-word_same n m (c ∷ cs) p q r s x y h k o = letters_same n m (c ∷ cs) p q r s h k
+option_same : (c n m : ℕ) (ls : List ℕ) → SameGives (option_gives c n ls) (option_gives c m ls)
+option_same c n m [] = record { given = λ xs ys k. k; waits = refl }
+option_same c n m (l ∷ ls) = record { given = λ xs ys k. an_option c n m (encode_utf8_all (l ∷ ls)) k; waits = refl }
 
-mutual
-  pub given_same : (n m : ℕ) (ws : List (List ℕ)) → Same (parsed_from n ws) (parsed_from m ws)
-  given_same n m [] = none
-  given_same n m (w ∷ ws) =
-      if_same (bytes_eq w (codes "--")) (operands_from (suc n) ws) (operands_from (suc m) ws)
-      (parsed_word (suc n) (option_letters w) (λ c. parsed_after_option c (suc n) ws) (parsed_from (suc n) ws) (operands_from n (w ∷ ws)))
-      (parsed_word (suc m) (option_letters w) (λ c. parsed_after_option c (suc m) ws) (parsed_from (suc m) ws) (operands_from m (w ∷ ws)))
-      (operands_same (suc n) (suc m) ws)
-      (word_same (suc n) (suc m) (option_letters w) (λ c. parsed_after_option c (suc n) ws) (λ c. parsed_after_option c (suc m) ws) (parsed_from (suc n) ws) (parsed_from (suc m) ws)
-      (operands_from n (w ∷ ws)) (operands_from m (w ∷ ws)) (λ c. after_option_same c (suc n) (suc m) ws) (given_same (suc n) (suc m) ws) (operands_same n m (w ∷ ws)))
+letters_same : (n m : ℕ) (ls : List ℕ) → SameGives (letters_give n ls) (letters_give m ls)
+letters_same n m [] = record { given = λ xs ys k. k; waits = refl }
+letters_same n m (c ∷ cs) =
+    let more : SameGives (letters_give n cs) (letters_give m cs) = letters_same n m cs in
+    if_gives (is_flag c) (then_gives (flag c) (letters_give n cs)) (then_gives (flag c) (letters_give m cs))
+    (if takes_argument c then option_gives c n cs else then_gives (unknown c) (letters_give n cs))
+    (if takes_argument c then option_gives c m cs else then_gives (unknown c) (letters_give m cs))
+    (record { given = λ xs ys k. a_flag c (more.given xs ys k); waits = more.waits })
+    (if_gives (takes_argument c) (option_gives c n cs) (option_gives c m cs) (then_gives (unknown c) (letters_give n cs)) (then_gives (unknown c) (letters_give m cs))
+    (option_same c n m cs) (record { given = λ xs ys k. an_unknown c (more.given xs ys k); waits = more.waits }))
 
-  after_option_same : (c n m : ℕ) (ws : List (List ℕ)) → Same (parsed_after_option c n ws) (parsed_after_option c m ws)
-  after_option_same c n m [] = a_lacking c none
-  after_option_same c n m (w ∷ ws) = an_option c (suc n) (suc m) w (given_same (suc n) (suc m) ws)
+next_same : (o : Option ℕ) (n m : ℕ) (ws : List (List ℕ)) → Same (given_next o n ws) (given_next o m ws)
+next_same None n m [] = none
+next_same (Some c) n m [] = a_lacking c none
+next_same (Some c) n m (w ∷ ws) = an_option c (suc n) (suc m) w (next_same None (suc n) (suc m) ws)
+next_same None n m (w ∷ ws) =
+    let g : WordGives = letters_give (suc n) (option_letters w) in
+    let h : WordGives = letters_give (suc m) (option_letters w) in
+    let gives : SameGives g h = letters_same (suc n) (suc m) (option_letters w) in
+    if_same (bytes_eq w (codes "--")) (operands_from (suc n) ws) (operands_from (suc m) ws)
+    (if is_operand w then operands_from n (w ∷ ws) else g.given ++ given_next g.waits (suc n) ws)
+    (if is_operand w then operands_from m (w ∷ ws) else h.given ++ given_next h.waits (suc m) ws)
+    (operands_same (suc n) (suc m) ws)
+    (if_same (is_operand w) (operands_from n (w ∷ ws)) (operands_from m (w ∷ ws)) (g.given ++ given_next g.waits (suc n) ws) (h.given ++ given_next h.waits (suc m) ws)
+    (operands_same n m (w ∷ ws))
+    (gives.given (given_next g.waits (suc n) ws) (given_next h.waits (suc m) ws)
+    (subst (λ (o : Option ℕ). Same (given_next g.waits (suc n) ws) (given_next o (suc m) ws)) gives.waits (next_same g.waits (suc n) (suc m) ws))))
+
+pub given_same : (n m : ℕ) (ws : List (List ℕ)) → Same (parsed_from n ws) (parsed_from m ws)
+given_same n m ws = next_same None n m ws
 
 pub flag_same : (ls : List ℕ) {gs hs : List ParsedArg} → Same gs hs → has_flag ls gs ≡ has_flag ls hs
 flag_same ls none = refl

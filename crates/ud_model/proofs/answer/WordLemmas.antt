@@ -1,7 +1,7 @@
 -- Arguments: each argument is parsed by itself, in order.
 use Rattle.std.proofs.Common.{◌≡◌, ℕ, suc, List, [], ◌∷◌, ◌++◌, Bool, true, false, Option, Some, None, bytes_eq, codes, if◌then◌else◌, refl, ◌∙◌, ap}
-use Rattle.ud_model.specs.answer.CommandLine.{ParsedArg, flag, unknown, is_flag, takes_argument, option_letters, operands_from, parsed_option, parsed_letters, parsed_word, parsed_from, parsed_after_option}
-use Rattle.ud_model.specs.answer.SingleArguments.{then_gives, option_gives, letters_give, given_next}
+use Rattle.ud_model.specs.answer.CommandLine.{ParsedArg, flag, unknown, is_flag, takes_argument, option_letters, operands_from, parsed_from, parsed_after_option, then_gives, option_gives, letters_give, given_next}
+use Rattle.ud_model.specs.aids.LettersThen.{parsed_option, parsed_letters}
 
 -- The rest after an argument: this, if an option waits, else that.
 abbrev waited : Option ℕ → (ℕ → List ParsedArg) → List ParsedArg → List ParsedArg
@@ -27,10 +27,6 @@ letters_split number (c ∷ cs) next rest = go (is_flag c) (takes_argument c) (l
     go false true e = by_letters cs
     go false false e = ap (λ (gs : List ParsedArg). unknown c ∷ gs) e
 
-by_word : (number : ℕ) (b : Bool) (ls ks : List ℕ) (ended operands rest : List ParsedArg) (next : ℕ → List ParsedArg) → b ≡ false → ls ≡ ks →
-    (if b then ended else parsed_word number ls next rest operands) ≡ parsed_word number ks next rest operands
-by_word number b ls ks ended operands rest next e l = rw (e, l) refl
-
 next_is : (o : Option ℕ) (n : ℕ) (args : List (List ℕ)) → waited o (λ c. parsed_after_option c n args) (parsed_from n args) ≡ given_next o n args
 next_is None n args = refl
 next_is (Some c) n args = refl
@@ -42,15 +38,16 @@ after_end n args = refl
 -- An argument without letters is an operand, and so is each after it.
 pub operand_given : (n : ℕ) (w : List ℕ) (args : List (List ℕ)) → bytes_eq w (codes "--") ≡ false → option_letters w ≡ [] →
     parsed_from n (w ∷ args) ≡ operands_from n (w ∷ args)
-operand_given n w args e l =
-    by_word (suc n) (bytes_eq w (codes "--")) (option_letters w) [] (operands_from (suc n) args) (operands_from n (w ∷ args)) (parsed_from (suc n) args)
-    (λ c. parsed_after_option c (suc n) args) e l
+operand_given n w args e l = rw (e, l) refl
 
 -- An argument with letters gives their options, and then the arguments after it.
 pub options_given : (n : ℕ) (w : List ℕ) (args : List (List ℕ)) (c : ℕ) (cs : List ℕ) → bytes_eq w (codes "--") ≡ false → option_letters w ≡ c ∷ cs →
     parsed_from n (w ∷ args) ≡ (letters_give (suc n) (c ∷ cs)).given ++ given_next (letters_give (suc n) (c ∷ cs)).waits (suc n) args
-options_given n w args c cs e l =
-    by_word (suc n) (bytes_eq w (codes "--")) (option_letters w) (c ∷ cs) (operands_from (suc n) args) (operands_from n (w ∷ args)) (parsed_from (suc n) args)
-    (λ d. parsed_after_option d (suc n) args) e l
-    ∙ letters_split (suc n) (c ∷ cs) (λ d. parsed_after_option d (suc n) args) (parsed_from (suc n) args)
-    ∙ ap (λ (gs : List ParsedArg). (letters_give (suc n) (c ∷ cs)).given ++ gs) (next_is (letters_give (suc n) (c ∷ cs)).waits (suc n) args)
+options_given n w args c cs e l = rw (e, l) refl
+
+-- The options of letters, and then those of further arguments.
+pub letters_then : (n : ℕ) (cs : List ℕ) (args : List (List ℕ)) →
+    parsed_letters n cs (λ d. parsed_after_option d n args) (parsed_from n args) ≡ (letters_give n cs).given ++ given_next (letters_give n cs).waits n args
+letters_then n cs args =
+    letters_split n cs (λ d. parsed_after_option d n args) (parsed_from n args)
+    ∙ ap (λ (gs : List ParsedArg). (letters_give n cs).given ++ gs) (next_is (letters_give n cs).waits n args)

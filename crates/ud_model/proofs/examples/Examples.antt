@@ -11,6 +11,7 @@ use Rattle.ud_model.specs.conditions.Conditions.{Rules, condition_of, undecided}
 use Rattle.ud_model.specs.sections.Tree.{Opener, Nodes, Tree, HasTree, text_line, if_line, elif_line, else_line, endif_line, nothing, text, section, conditional, otherwise, first, elif, else_head, closed, open_section, lines, depth}
 use Rattle.ud_model.specs.sections.Pruning.{Mark, marks}
 use Rattle.ud_model.specs.output.Worlds.{selected, Agrees}
+use Rattle.ud_model.specs.output.Pruned.{edited, edited_opener, IsPruned}
 use Rattle.ud_model.specs.sections.Faults.{inappropriate_elif, inappropriate_else, inappropriate_endif, premature_eof}
 use Rattle.ud_model.specs.answer.Messages.{message_of}
 use Rattle.ud_model.specs.declared.cond.Cond.{Cond}
@@ -305,3 +306,21 @@ agrees_with_true = (tt, ((refl, λ e. tt), λ e. cc))
 
 pub differs_from_false : ¬ (Agrees some_world (section nothing (conditional (first (opener_on 1 No) nothing)) 2))
 differs_from_false h = cc
+
+-- `#if X` on line 1, `#elif defined A` on line 3, `#elif Y` on 5, `#else` on 7, `#endif` on 9, and a
+-- text line after each opener. Under -DA the second opener becomes `#else` and the third `#endif`.
+abbrev after_true : Nodes ℕ
+after_true = section nothing (otherwise (elif (elif (first (opener_on 1 Unknown) (text nothing 2)) (opener_on 3 Yes) (text nothing 4)) (opener_on 5 Unknown) (text nothing 6)) 7 (text nothing 8)) 9
+
+pub ends_early : IsPruned after_true
+    (section nothing (otherwise (first (edited_opener Keep (opener_on 1 Unknown)) (text nothing (edited Keep 2))) (edited ToElse 3) (text nothing (edited Keep 4))) (edited ToEndif 5))
+ends_early = refl
+
+-- A section that gives way leaves the nodes of its kept group.
+pub gave_way : IsPruned (section (text nothing 1) (otherwise (first (opener_on 2 No) (text nothing 3)) 4 (text nothing 5)) 6) (text (text nothing (edited Keep 1)) (edited Keep 5))
+gave_way = refl
+
+-- The first kept group may begin with an `#elif`, which becomes an `#if`.
+pub becomes_if : IsPruned (section nothing (conditional (elif (first (opener_on 1 No) (text nothing 2)) (opener_on 3 Unknown) (text nothing 4))) 5)
+    (section nothing (conditional (first (edited_opener ToIf (opener_on 3 Unknown)) (text nothing (edited Keep 4)))) (edited Keep 5))
+becomes_if = refl

@@ -21,7 +21,8 @@ use Rattle.ud_model.proofs.output.Heeding.{ReadIn, none_read, one_read, the_mode
 use Rattle.ud_model.proofs.output.CountedText.{counted_text}
 use Rattle.ud_model.proofs.output.InsertedTree.{items, Strewn, strewn_counted, Nodesof, weave_nodes}
 
-readings_back : (o : Options) (rs : List Reading) → map reading_of (items o rs) ≡ rs
+-- The readings of items are those from which they come.
+pub readings_back : (o : Options) (rs : List Reading) → map reading_of (items o rs) ≡ rs
 readings_back o [] = refl
 readings_back o (r ∷ rs) = ap₂ (λ (q : Reading) (qs : List Reading). q ∷ qs) (reading_of-item_of o r) (readings_back o rs)
 
@@ -54,7 +55,7 @@ module _ (o : Options) (n : NoneIgnores o.table) where
   all_heed (one_item xs t a l u e) = each_both Heeds xs (next_item o xs t l ∷ []) (all_heed a) (item_heeds o (read_after xs (mode_after o t) l) n, tt)
 
   -- Items that were read are those of their lines.
-  items_are : {xs : List (Item Reading)} {t : Tree Reading} → AreRead o xs t → xs ≡ items o (read_in (the_mode o) (map line_of xs))
+  pub items_are : {xs : List (Item Reading)} {t : Tree Reading} → AreRead o xs t → xs ≡ items o (read_in (the_mode o) (map line_of xs))
   items_are no_items = refl
   items_are (one_item xs t a l u e) =
       ap (λ (m : Mode). xs ++ item_of o (read_after xs m l) ∷ []) (one_mode o n xs t (read_lines a) (all_heed a))

@@ -7,7 +7,8 @@ use Rattle.ud_model.specs.declared.verdict.Verdict.TheVariants.{Keep, ToEndif}
 use Rattle.ud_model.specs.sections.Tree.{Item, Opener, Nodes, Groups, Elifs, text_line, if_line, elif_line, else_line, endif_line, nothing, text, section, conditional, otherwise, first, elif, closed, lines_of_nodes, lines_of_groups, lines_of_elifs}
 use Rattle.ud_model.specs.sections.Pruning.{Part, an_if, an_elif, an_else, Mark, marked, is_kept, conds_of_elifs, conds_of_groups, endif_verdict, marks}
 use Rattle.ud_model.specs.aids.SoFar.{verdict_so_far, nodes_so_far, groups_so_far, elifs_so_far}
-use Rattle.ud_model.specs.output.Pruned.{Edited, edited, KeptGroups, none_kept, replaced, kept_groups, ended, then_nodes, with_group, with_else, then_kept, pruned, kept_groups_of, kept_elifs_of, kept_line, printed}
+use Rattle.ud_model.specs.output.Pruned.{Edited, edited, kept_line, printed}
+use Rattle.ud_model.proofs.output.Folded.{KeptGroups, none_kept, replaced, kept_groups, ended, then_nodes, with_group, with_else, then_kept, folded, kept_groups_of, kept_elifs_of}
 use Rattle.ud_model.proofs.output.Changed.{as_many_nodes, as_many_groups, as_many_elifs}
 use Rattle.ud_model.proofs.sections.Stays.{marks_so_far_same}
 use Rattle.ud_model.proofs.sections.Stages.{Stage, leading, given, going, at_true, past, stage, next_stage, verdict_at, kept_at, endif_at, verdict_by_stage, kept_by_stage, stage_next, endif_by_stage}
@@ -163,52 +164,52 @@ module _ {L : Type 0} where
         ∙ two_empty (printed (lines_of_elifs es) (elifs_so_far false es) ++ []) (printed (lines_of_nodes ns) (nodes_so_far false ns))
         (two_empty (printed (lines_of_elifs es) (elifs_so_far false es)) [] (elifs_gone es) refl) (nodes_gone ns)
 
-  by_place : (b : Bool) (ns : Nodes L) → printed (lines_of_nodes ns) (nodes_so_far true ns) ≡ lines_of_nodes (pruned ns) →
-      printed (lines_of_nodes ns) (nodes_so_far b ns) ≡ if_lines b (pruned ns)
+  by_place : (b : Bool) (ns : Nodes L) → printed (lines_of_nodes ns) (nodes_so_far true ns) ≡ lines_of_nodes (folded ns) →
+      printed (lines_of_nodes ns) (nodes_so_far b ns) ≡ if_lines b (folded ns)
   unfolding if_lines
   by_place true ns h = h
   by_place false ns h = nodes_gone ns
 
   -- The rest of a group after others.
   elif_has : (cs : List Cond) (left : KeptGroups L) (o : Opener L) (ns : Nodes L) (xs : List (Item L)) (ms : List Mark) → length xs ≡ length ms → Has cs left (printed xs ms) →
-      printed (lines_of_nodes ns) (nodes_so_far true ns) ≡ lines_of_nodes (pruned ns) →
-      Has (cs ++ o.cond ∷ []) (with_group left an_elif o o.cond (pruned ns))
+      printed (lines_of_nodes ns) (nodes_so_far true ns) ≡ lines_of_nodes (folded ns) →
+      Has (cs ++ o.cond ∷ []) (with_group left an_elif o o.cond (folded ns))
       (printed ((xs ++ elif_line o ∷ []) ++ lines_of_nodes ns) ((ms ++ marked true (verdict_so_far cs an_elif o.cond) ∷ []) ++ nodes_so_far (is_kept cs o.cond) ns))
   elif_has cs left o ns xs ms e h n = record {
-    represents = stage_next cs o.cond ∙ ap (λ (s : Stage). next_stage s o.cond) h.represents ∙ stage_with left an_elif o o.cond (pruned ns);
+    represents = stage_next cs o.cond ∙ ap (λ (s : Stage). next_stage s o.cond) h.represents ∙ stage_with left an_elif o o.cond (folded ns);
     are = printed_between xs (elif_line o) (lines_of_nodes ns) ms (marked true (verdict_so_far cs an_elif o.cond)) (nodes_so_far (is_kept cs o.cond) ns) e
         ∙ ap₂ (λ (zs ws : List (Item (Edited L))). zs ++ ws)
         (ap₂ (λ (zs : List (Item (Edited L))) (v : Verdict). zs ++ kept_line v (elif_line o)) h.are
         (verdict_by_stage cs an_elif o.cond ∙ ap (λ (s : Stage). verdict_at s an_elif o.cond) h.represents))
         (by_place (is_kept cs o.cond) ns n
-        ∙ ap (λ (b : Bool). if_lines b (pruned ns)) (kept_by_stage cs o.cond ∙ ap (λ (s : Stage). kept_at s o.cond) h.represents))
-        ∙ elif_lines left o o.cond (pruned ns);
+        ∙ ap (λ (b : Bool). if_lines b (folded ns)) (kept_by_stage cs o.cond ∙ ap (λ (s : Stage). kept_at s o.cond) h.represents))
+        ∙ elif_lines left o o.cond (folded ns);
   }
 
   else_has : (cs : List Cond) (left : KeptGroups L) (l : L) (ns : Nodes L) (xs : List (Item L)) (ms : List Mark) → length xs ≡ length ms → Has cs left (printed xs ms) →
-      printed (lines_of_nodes ns) (nodes_so_far true ns) ≡ lines_of_nodes (pruned ns) →
-      Has (cs ++ Yes ∷ []) (with_else left l (pruned ns))
+      printed (lines_of_nodes ns) (nodes_so_far true ns) ≡ lines_of_nodes (folded ns) →
+      Has (cs ++ Yes ∷ []) (with_else left l (folded ns))
       (printed ((xs ++ else_line l ∷ []) ++ lines_of_nodes ns) ((ms ++ marked true (verdict_so_far cs an_else Yes) ∷ []) ++ nodes_so_far (is_kept cs Yes) ns))
   else_has cs left l ns xs ms e h n = record {
-    represents = stage_next cs Yes ∙ ap (λ (s : Stage). next_stage s Yes) h.represents ∙ stage_else left l (pruned ns);
+    represents = stage_next cs Yes ∙ ap (λ (s : Stage). next_stage s Yes) h.represents ∙ stage_else left l (folded ns);
     are = printed_between xs (else_line l) (lines_of_nodes ns) ms (marked true (verdict_so_far cs an_else Yes)) (nodes_so_far (is_kept cs Yes) ns) e
         ∙ ap₂ (λ (zs ws : List (Item (Edited L))). zs ++ ws)
         (ap₂ (λ (zs : List (Item (Edited L))) (v : Verdict). zs ++ kept_line v (else_line l)) h.are
         (verdict_by_stage cs an_else Yes ∙ ap (λ (s : Stage). verdict_at s an_else Yes) h.represents))
         (by_place (is_kept cs Yes) ns n
-        ∙ ap (λ (b : Bool). if_lines b (pruned ns)) (kept_by_stage cs Yes ∙ ap (λ (s : Stage). kept_at s Yes) h.represents))
-        ∙ else_lines left l (pruned ns);
+        ∙ ap (λ (b : Bool). if_lines b (folded ns)) (kept_by_stage cs Yes ∙ ap (λ (s : Stage). kept_at s Yes) h.represents))
+        ∙ else_lines left l (folded ns);
   }
 
-  first_has : (o : Opener L) (ns : Nodes L) → printed (lines_of_nodes ns) (nodes_so_far true ns) ≡ lines_of_nodes (pruned ns) →
-      Has (o.cond ∷ []) (with_group none_kept an_if o o.cond (pruned ns))
+  first_has : (o : Opener L) (ns : Nodes L) → printed (lines_of_nodes ns) (nodes_so_far true ns) ≡ lines_of_nodes (folded ns) →
+      Has (o.cond ∷ []) (with_group none_kept an_if o o.cond (folded ns))
       (printed ((if_line o ∷ []) ++ lines_of_nodes ns) ((marked true (verdict_so_far [] an_if o.cond) ∷ []) ++ nodes_so_far (is_kept [] o.cond) ns))
   first_has o ns n = record {
-    represents = stage_next [] o.cond ∙ stage_with none_kept an_if o o.cond (pruned ns);
+    represents = stage_next [] o.cond ∙ stage_with none_kept an_if o o.cond (folded ns);
     are = ap₂ (λ (zs ws : List (Item (Edited L))). zs ++ ws)
         (ap (λ (v : Verdict). kept_line v (if_line o)) (verdict_by_stage [] an_if o.cond))
-        (by_place (is_kept [] o.cond) ns n ∙ ap (λ (b : Bool). if_lines b (pruned ns)) (kept_by_stage [] o.cond))
-        ∙ first_lines o o.cond (pruned ns);
+        (by_place (is_kept [] o.cond) ns n ∙ ap (λ (b : Bool). if_lines b (folded ns)) (kept_by_stage [] o.cond))
+        ∙ first_lines o o.cond (folded ns);
   }
 
   section_printed : (cs : List Cond) (left : KeptGroups L) (ps : Nodes (Edited L)) (e : L) (xs ys : List (Item L)) (ms ns : List Mark) → length xs ≡ length ms → length ys ≡ length ns →
@@ -222,13 +223,13 @@ module _ {L : Type 0} where
       ∙ endif_lines ps left e
 
   mutual
-    nodes_printed : (ns : Nodes L) → printed (lines_of_nodes ns) (nodes_so_far true ns) ≡ lines_of_nodes (pruned ns)
+    nodes_printed : (ns : Nodes L) → printed (lines_of_nodes ns) (nodes_so_far true ns) ≡ lines_of_nodes (folded ns)
     nodes_printed nothing = refl
     nodes_printed (text ns l) =
         printed-append (lines_of_nodes ns) (text_line l ∷ []) (nodes_so_far true ns) (marked true Keep ∷ []) (as_many_nodes true ns)
         ∙ ap (λ (zs : List (Item (Edited L))). zs ++ text_line (edited Keep l) ∷ []) (nodes_printed ns)
     nodes_printed (section ns gs e) =
-        section_printed (conds_of_groups gs) (kept_groups_of gs) (pruned ns) e (lines_of_nodes ns) (lines_of_groups gs) (nodes_so_far true ns) (groups_so_far true gs)
+        section_printed (conds_of_groups gs) (kept_groups_of gs) (folded ns) e (lines_of_nodes ns) (lines_of_groups gs) (nodes_so_far true ns) (groups_so_far true gs)
         (as_many_nodes true ns) (as_many_groups true gs) (nodes_printed ns) (groups_printed gs)
 
     groups_printed : (gs : Groups L) → Has (conds_of_groups gs) (kept_groups_of gs) (printed (lines_of_groups gs) (groups_so_far true gs))
@@ -242,5 +243,5 @@ module _ {L : Type 0} where
         elif_has (conds_of_elifs es) (kept_elifs_of es) o ns (lines_of_elifs es) (elifs_so_far true es) (as_many_elifs true es) (elifs_printed es) (nodes_printed ns)
 
   -- The output for the lines of nodes is the lines of the pruned nodes.
-  pub printed-pruned : (ns : Nodes L) → printed (lines_of_nodes ns) (marks (closed ns)) ≡ lines_of_nodes (pruned ns)
+  pub printed-pruned : (ns : Nodes L) → printed (lines_of_nodes ns) (marks (closed ns)) ≡ lines_of_nodes (folded ns)
   printed-pruned ns = ap (λ (ms : List Mark). printed (lines_of_nodes ns) ms) (marks_so_far_same true (closed ns)) ∙ nodes_printed ns

@@ -6,7 +6,8 @@ use Rattle.ud_model.specs.declared.cond.Cond.TheVariants.{Yes, No, Unknown}
 use Rattle.ud_model.specs.sections.Tree.{Item, Opener, Nodes, Groups, Elifs, Head, Tree, nothing, text, section, conditional, otherwise, first, elif, if_head, elif_head, else_head, depth, with_lines, groups_with_lines, elifs_with_lines}
 use Rattle.ud_model.specs.sections.Pruning.{Part, an_if, an_elif}
 use Rattle.ud_model.specs.aids.Height.{height, height_of_nodes, height_of_groups, height_of_elifs, height_of_head}
-use Rattle.ud_model.specs.output.Pruned.{Edited, KeptGroups, none_kept, replaced, kept_groups, ended, then_nodes, with_group, with_else, then_kept, pruned, kept_groups_of, kept_elifs_of}
+use Rattle.ud_model.specs.output.Pruned.{Edited}
+use Rattle.ud_model.proofs.output.Folded.{KeptGroups, none_kept, replaced, kept_groups, ended, then_nodes, with_group, with_else, then_kept, folded, kept_groups_of, kept_elifs_of}
 use Rattle.ud_model.proofs.sections.Growth.{Adds, adds_text, adds_if, elif_after_if, elif_after_elif, else_after_if, else_after_elif, adds_endif, adds_under, complete}
 
 module _ {L : Type 0} where
@@ -65,32 +66,32 @@ module _ {L : Type 0} where
 
   mutual
     -- Pruned nodes are no higher.
-    pub pruned_height : (ns : Nodes L) → height_of_nodes (pruned ns) ≤ height_of_nodes ns
+    pub pruned_height : (ns : Nodes L) → height_of_nodes (folded ns) ≤ height_of_nodes ns
     pruned_height nothing = omega arith
     pruned_height (text ns l) = pruned_height ns
     pruned_height (section ns gs e) =
-        let a : height_of_nodes (pruned ns) ≤ height_of_nodes ns = pruned_height ns in
+        let a : height_of_nodes (folded ns) ≤ height_of_nodes ns = pruned_height ns in
         let b : height_left (kept_groups_of gs) ≤ suc (height_of_groups gs) = groups_height gs in
-        let c : height_of_nodes (then_kept (pruned ns) (kept_groups_of gs) e) ≤ max (height_of_nodes (pruned ns)) (height_left (kept_groups_of gs)) = left_most (pruned ns) (kept_groups_of gs) e in
+        let c : height_of_nodes (then_kept (folded ns) (kept_groups_of gs) e) ≤ max (height_of_nodes (folded ns)) (height_left (kept_groups_of gs)) = left_most (folded ns) (kept_groups_of gs) e in
         omega arith
 
     groups_height : (gs : Groups L) → height_left (kept_groups_of gs) ≤ suc (height_of_groups gs)
     groups_height (conditional es) = elifs_height es
     groups_height (otherwise es l ns) =
-        let a : height_of_nodes (pruned ns) ≤ height_of_nodes ns = pruned_height ns in
+        let a : height_of_nodes (folded ns) ≤ height_of_nodes ns = pruned_height ns in
         let b : height_left (kept_elifs_of es) ≤ suc (height_of_elifs es) = elifs_height es in
-        let c : height_left (with_else (kept_elifs_of es) l (pruned ns)) ≤ max (height_left (kept_elifs_of es)) (suc (height_of_nodes (pruned ns))) = else_most (kept_elifs_of es) l (pruned ns) in
+        let c : height_left (with_else (kept_elifs_of es) l (folded ns)) ≤ max (height_left (kept_elifs_of es)) (suc (height_of_nodes (folded ns))) = else_most (kept_elifs_of es) l (folded ns) in
         omega arith
 
     elifs_height : (es : Elifs L) → height_left (kept_elifs_of es) ≤ suc (height_of_elifs es)
     elifs_height (first o ns) =
-        let a : height_of_nodes (pruned ns) ≤ height_of_nodes ns = pruned_height ns in
-        let c : height_left (with_group none_kept an_if o o.cond (pruned ns)) ≤ max 0 (suc (height_of_nodes (pruned ns))) = with_most none_kept an_if o o.cond (pruned ns) in
+        let a : height_of_nodes (folded ns) ≤ height_of_nodes ns = pruned_height ns in
+        let c : height_left (with_group none_kept an_if o o.cond (folded ns)) ≤ max 0 (suc (height_of_nodes (folded ns))) = with_most none_kept an_if o o.cond (folded ns) in
         omega arith
     elifs_height (elif es o ns) =
-        let a : height_of_nodes (pruned ns) ≤ height_of_nodes ns = pruned_height ns in
+        let a : height_of_nodes (folded ns) ≤ height_of_nodes ns = pruned_height ns in
         let b : height_left (kept_elifs_of es) ≤ suc (height_of_elifs es) = elifs_height es in
-        let c : height_left (with_group (kept_elifs_of es) an_elif o o.cond (pruned ns)) ≤ max (height_left (kept_elifs_of es)) (suc (height_of_nodes (pruned ns))) = with_most (kept_elifs_of es) an_elif o o.cond (pruned ns) in
+        let c : height_left (with_group (kept_elifs_of es) an_elif o o.cond (folded ns)) ≤ max (height_left (kept_elifs_of es)) (suc (height_of_nodes (folded ns))) = with_most (kept_elifs_of es) an_elif o o.cond (folded ns) in
         omega arith
 
 module _ {L M : Type 0} (f : L → M) where

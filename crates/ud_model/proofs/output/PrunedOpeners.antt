@@ -7,7 +7,8 @@ use Rattle.ud_model.specs.declared.verdict.Verdict.TheVariants.{Keep, Remove, To
 use Rattle.ud_model.specs.sections.Tree.{Opener, Nodes, Groups, Elifs, nothing, text, section, conditional, otherwise, first, elif}
 use Rattle.ud_model.specs.sections.Pruning.{Part, an_if, an_elif, an_else, first_kept_verdict}
 use Rattle.ud_model.specs.output.Worlds.{openers, openers_of_groups, openers_of_elifs}
-use Rattle.ud_model.specs.output.Pruned.{Edited, edited, KeptGroups, none_kept, replaced, kept_groups, ended, then_nodes, with_group, with_else, then_kept, pruned, kept_groups_of, kept_elifs_of}
+use Rattle.ud_model.specs.output.Pruned.{Edited, edited}
+use Rattle.ud_model.proofs.output.Folded.{KeptGroups, none_kept, replaced, kept_groups, ended, then_nodes, with_group, with_else, then_kept, folded, kept_groups_of, kept_elifs_of}
 use Rattle.ud_model.proofs.output.Each.{Each, each_parts, each_both}
 
 -- An opener with this verdict keeps its condition.
@@ -70,15 +71,15 @@ module _ {L : Type 0} where
 
   mutual
     -- The openers of pruned nodes stay, or become an `#if`.
-    pub pruned_keeps : (ns : Nodes L) → Each Keeps (openers (pruned ns))
+    pub pruned_keeps : (ns : Nodes L) → Each Keeps (openers (folded ns))
     pruned_keeps nothing = tt
     pruned_keeps (text ns l) = pruned_keeps ns
-    pruned_keeps (section ns gs e) = left_keeps (pruned ns) (kept_groups_of gs) e (pruned_keeps ns) (groups_keep gs)
+    pruned_keeps (section ns gs e) = left_keeps (folded ns) (kept_groups_of gs) e (pruned_keeps ns) (groups_keep gs)
 
     groups_keep : (gs : Groups L) → LeftKeep (kept_groups_of gs)
     groups_keep (conditional es) = elifs_keep es
-    groups_keep (otherwise es l ns) = else_keeps (kept_elifs_of es) l (pruned ns) (elifs_keep es) (pruned_keeps ns)
+    groups_keep (otherwise es l ns) = else_keeps (kept_elifs_of es) l (folded ns) (elifs_keep es) (pruned_keeps ns)
 
     elifs_keep : (es : Elifs L) → LeftKeep (kept_elifs_of es)
-    elifs_keep (first o ns) = group_keeps none_kept an_if o o.cond (pruned ns) tt (pruned_keeps ns)
-    elifs_keep (elif es o ns) = group_keeps (kept_elifs_of es) an_elif o o.cond (pruned ns) (elifs_keep es) (pruned_keeps ns)
+    elifs_keep (first o ns) = group_keeps none_kept an_if o o.cond (folded ns) tt (pruned_keeps ns)
+    elifs_keep (elif es o ns) = group_keeps (kept_elifs_of es) an_elif o o.cond (folded ns) (elifs_keep es) (pruned_keeps ns)

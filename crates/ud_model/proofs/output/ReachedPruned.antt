@@ -6,7 +6,8 @@ use Rattle.ud_model.specs.declared.verdict.Verdict.TheVariants.{Keep}
 use Rattle.ud_model.specs.sections.Tree.{Opener, Nodes, Groups, Elifs, nothing, text, section, conditional, otherwise, first, elif}
 use Rattle.ud_model.specs.sections.Pruning.{Part, an_if, an_elif, first_kept_verdict}
 use Rattle.ud_model.specs.output.Worlds.{World, selected_elifs, EachReached, GroupsReached, ElifsReached, AgreesWith}
-use Rattle.ud_model.specs.output.Pruned.{Edited, edited, KeptGroups, none_kept, replaced, kept_groups, ended, then_nodes, with_group, with_else, then_kept, pruned, kept_groups_of, kept_elifs_of}
+use Rattle.ud_model.specs.output.Pruned.{Edited, edited}
+use Rattle.ud_model.proofs.output.Folded.{KeptGroups, none_kept, replaced, kept_groups, ended, then_nodes, with_group, with_else, then_kept, folded, kept_groups_of, kept_elifs_of}
 use Rattle.ud_model.proofs.output.SelectedPruned.{out_world, Fits, Chosen, chosen}
 
 -- An option is None if its image is.
@@ -68,19 +69,19 @@ module _ {L : Type 0} (w : World L) (P : L → Type 0) (Q : Edited L → Type 0)
 
   mutual
     -- In a world that agrees, pruning keeps a property of each opener that is reached.
-    pub pruned_reached : (ns : Nodes L) → EachReached w (Fits w) ns → EachReached w Is ns → EachReached (out_world w) Still (pruned ns)
+    pub pruned_reached : (ns : Nodes L) → EachReached w (Fits w) ns → EachReached w Is ns → EachReached (out_world w) Still (folded ns)
     pruned_reached nothing a h = tt
     pruned_reached (text ns l) a h = pruned_reached ns a h
-    pruned_reached (section ns gs e) a h = left_reached (pruned ns) (kept_groups_of gs) e (pruned_reached ns a.0 h.0) (groups_reached gs a.1 h.1)
+    pruned_reached (section ns gs e) a h = left_reached (folded ns) (kept_groups_of gs) e (pruned_reached ns a.0 h.0) (groups_reached gs a.1 h.1)
 
     groups_reached : (gs : Groups L) → GroupsReached w (Fits w) gs → GroupsReached w Is gs → LeftReached (kept_groups_of gs)
     groups_reached (conditional es) a h = elifs_reached es a h
     groups_reached (otherwise es l ns) a h =
-        else_reached (selected_elifs w es) (kept_elifs_of es) l (pruned ns) (chosen w es a.0) (elifs_reached es a.0 h.0) (λ e. pruned_reached ns (a.1 e) (h.1 e))
+        else_reached (selected_elifs w es) (kept_elifs_of es) l (folded ns) (chosen w es a.0) (elifs_reached es a.0 h.0) (λ e. pruned_reached ns (a.1 e) (h.1 e))
 
     elifs_reached : (es : Elifs L) → ElifsReached w (Fits w) es → ElifsReached w Is es → LeftReached (kept_elifs_of es)
     elifs_reached (first o ns) a h =
-        group_reached None none_kept an_if o o.cond (pruned ns) refl tt (λ e. a.0) (λ e. (h.0, λ t. pruned_reached ns (a.1 t) (h.1 t)))
+        group_reached None none_kept an_if o o.cond (folded ns) refl tt (λ e. a.0) (λ e. (h.0, λ t. pruned_reached ns (a.1 t) (h.1 t)))
     elifs_reached (elif es o ns) a h =
-        group_reached (selected_elifs w es) (kept_elifs_of es) an_elif o o.cond (pruned ns) (chosen w es a.0) (elifs_reached es a.0 h.0) (λ e. (a.1 e).0)
+        group_reached (selected_elifs w es) (kept_elifs_of es) an_elif o o.cond (folded ns) (chosen w es a.0) (elifs_reached es a.0 h.0) (λ e. (a.1 e).0)
         (λ e. ((h.1 e).0, λ t. pruned_reached ns ((a.1 e).1 t) ((h.1 e).1 t)))

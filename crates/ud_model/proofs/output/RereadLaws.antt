@@ -13,8 +13,9 @@ use Rattle.ud_model.specs.sections.Faults.{Fault, end_fault, end_by, ends_in_com
 use Rattle.ud_model.specs.answer.Printing.{Judged, judged_lines, piece_by, piece_after, pieces_by, style_of, some_other, keyword_in, printed_by}
 use Rattle.ud_model.specs.answer.Outcomes.{Outcome, HasOutcome, ran_as, HasNoFault, output_by, differs_by}
 use Rattle.ud_model.specs.answer.Outcomes.ReadsAs.{stops, ends}
-use Rattle.ud_model.specs.output.Worlds.{World, selected, Agrees, openers}
-use Rattle.ud_model.specs.output.Pruned.{Edited, edited, pruned, printed, kept_line, IsUndecided, GroupsUndecided, ElifsUndecided}
+use Rattle.ud_model.specs.output.Worlds.{World, selected, Agrees, openers, openers_in}
+use Rattle.ud_model.specs.output.Pruned.{Edited, edited, IsPruned, pruned_lines, printed, kept_line, IsUndecided, GroupsUndecided, ElifsUndecided}
+use Rattle.ud_model.proofs.output.Folded.{folded}
 use Rattle.ud_model.specs.output.Rereading.{IsPlain, AreRead, IsTreeOf, CleanRun, KeepsTruths, LinesFit, line_bytes, edited_bytes}
 use Rattle.ud_model.specs.conditions.Expressions.{Expression}
 use Rattle.ud_model.specs.output.CSelection.{condition_in, MayBe, IsCWorld}
@@ -24,6 +25,7 @@ use Rattle.ud_model.specs.declared.verdict.Verdict.TheVariants.{Keep, Remove, To
 use Rattle.ud_model.proofs.sections.Soundness.{sound_read, one_tree_of, sound_lines, read_lines}
 use Rattle.ud_model.proofs.output.Changed.{whole_lines_are, lines_join, lone, pieces_lone, no_innermost, end_parts}
 use Rattle.ud_model.proofs.output.PrintedPruned.{printed-pruned}
+use Rattle.ud_model.proofs.output.PrunedTree.{is_folded, pruned_openers}
 use Rattle.ud_model.proofs.output.SelectedPruned.{selected-pruned}
 use Rattle.ud_model.proofs.output.SameShape.{same_selected, openers-with}
 use Rattle.ud_model.proofs.output.SeenLines.{Seen, scanned, left_condition, left_seen, with_lines-twice, map-twice}
@@ -117,10 +119,10 @@ kept_bytes [] = refl
 kept_bytes (l ∷ ls) = ap (λ (t : List (List ℕ)). line_bytes l ∷ t) (kept_bytes ls)
 
 -- The rest of nodes is no higher.
-low_left : (us ns : Nodes Reading) → with_lines line_bytes us ≡ with_lines edited_bytes (pruned ns) → height_of_nodes ns ≤ OPEN_SECTIONS → height_of_nodes us ≤ OPEN_SECTIONS
+low_left : (us ns : Nodes Reading) → with_lines line_bytes us ≡ with_lines edited_bytes (folded ns) → height_of_nodes ns ≤ OPEN_SECTIONS → height_of_nodes us ≤ OPEN_SECTIONS
 low_left us ns e h =
-    let a : height_of_nodes us ≡ height_of_nodes (pruned ns) = sym (height-with line_bytes us) ∙ ap (λ (m : Nodes (List ℕ)). height_of_nodes m) e ∙ height-with edited_bytes (pruned ns) in
-    let b : height_of_nodes (pruned ns) ≤ height_of_nodes ns = pruned_height ns in
+    let a : height_of_nodes us ≡ height_of_nodes (folded ns) = sym (height-with line_bytes us) ∙ ap (λ (m : Nodes (List ℕ)). height_of_nodes m) e ∙ height-with edited_bytes (folded ns) in
+    let b : height_of_nodes (folded ns) ≤ height_of_nodes ns = pruned_height ns in
     omega (arith, a, b, h)
 
 module _ (o : Options) (p : IsPlain o) (input : List ℕ) where
@@ -129,8 +131,8 @@ module _ (o : Options) (p : IsPlain o) (input : List ℕ) where
   pub record Result (r : Outcome) (ns : Nodes Reading) : Type 0 where
     pub tree : Nodes Reading
     pub is_tree : IsTreeOf o r.output (closed tree)
-    pub alike : with_lines scanned tree ≡ with_lines left_seen (pruned ns)
-    pub same : with_lines line_bytes tree ≡ with_lines edited_bytes (pruned ns)
+    pub alike : with_lines scanned tree ≡ with_lines left_seen (folded ns)
+    pub same : with_lines line_bytes tree ≡ with_lines edited_bytes (folded ns)
     pub uncut : Each IsUncut is_tree.items
     pub few : Each IsFew is_tree.items
     pub low : height_of_nodes tree ≤ OPEN_SECTIONS
@@ -142,13 +144,13 @@ module _ (o : Options) (p : IsPlain o) (input : List ℕ) where
   reread (ran_as (ends xs t g)) e ns a =
       let same : t ≡ closed ns = one_tree_of o input t (closed ns) (record { items = xs; read = sound_read g.sound; are = g.are }) a in
       let z : (ys : List (Item Reading)) × Again o (the_mode o) xs t ys = again o p xs t g.sound (subst AllButLast g.are (lines_end 1 (texts_of input) (lines_exist input).formed)) in
-      let left : printed xs (marks t) ≡ lines_of_nodes (pruned ns) =
+      let left : printed xs (marks t) ≡ lines_of_nodes (folded ns) =
       ap₂ (λ (ys : List (Item Reading)) (u : Tree Reading). printed ys (marks u)) (sym (sound_lines g.sound) ∙ ap (λ (u : Tree Reading). lines u) same) same ∙ printed-pruned ns in
-      let along : AlongNodes left_seen scanned (pruned ns) z.0 =
-      nodes_along left_seen scanned (pruned ns) z.0 (z.1.same ∙ ap (λ (l : List (Item (Edited Reading))). map (item_with left_seen) l) left) in
-      let bytes : with_lines line_bytes along.tree ≡ with_lines edited_bytes (pruned ns) =
+      let along : AlongNodes left_seen scanned (folded ns) z.0 =
+      nodes_along left_seen scanned (folded ns) z.0 (z.1.same ∙ ap (λ (l : List (Item (Edited Reading))). map (item_with left_seen) l) left) in
+      let bytes : with_lines line_bytes along.tree ≡ with_lines edited_bytes (folded ns) =
       sym (with_lines-twice scanned (λ (q : Seen). q.bytes) along.tree) ∙ ap (λ (m : Nodes Seen). with_lines (λ (q : Seen). q.bytes) m) along.same
-      ∙ with_lines-twice left_seen (λ (q : Seen). q.bytes) (pruned ns) in
+      ∙ with_lines-twice left_seen (λ (q : Seen). q.bytes) (folded ns) in
       let formed : AreFormed (map left_piece (printed xs (marks t))) =
       subst (λ (u : Tree Reading). AreFormed (map left_piece (printed xs (marks u)))) (sym same)
       (pieces_formed o input xs ns (subst (λ (u : Tree Reading). HasNoFault o (lines_of input) xs u) same g)) in
@@ -184,6 +186,11 @@ kept_conditions : (es : List (Edited Reading)) → Each Keeps es → map (λ (e 
 kept_conditions [] h = refl
 kept_conditions (e ∷ es) h = ap₂ (λ (x : Option Expression) (xs : List (Option Expression)). x ∷ xs) (kept_condition e.verdict e.line h.0) (kept_conditions es h.1)
 
+-- The truths of the openers of the folded nodes.
+truths_folded : (w : World Reading) (before : Nodes Reading) (v : World Reading) (after : Nodes Reading) → KeepsTruths w before v after →
+    map v (openers after) ≡ map (λ (e : Edited Reading). w e.line) (openers (folded before))
+truths_folded w before v after t = t ∙ ap (λ (l : List (Edited Reading)). map (λ (e : Edited Reading). w e.line) l) (pruned_openers before)
+
 module _ (k : CleanRun) where
   -- The output has the rest of the input.
   abbrev result : Result k.options k.clean.plain k.input k.outcome k.before
@@ -194,29 +201,35 @@ module _ (k : CleanRun) where
   same_tree = same_nodes k.after result.tree (one_tree_of k.options k.outcome.output (closed k.after) (closed result.tree) k.of_output result.is_tree)
 
   -- This tree is the pruned tree of the input.
-  pub what_is_left : with_lines line_bytes k.after ≡ with_lines edited_bytes (pruned k.before)
+  pub what_is_left : with_lines line_bytes k.after ≡ with_lines edited_bytes (folded k.before)
   what_is_left = ap (with_lines line_bytes) same_tree ∙ result.same
+
+  pub pruned_left : (ps : Nodes (Edited Reading)) → IsPruned k.before ps → with_lines line_bytes k.after ≡ with_lines edited_bytes ps
+  pruned_left ps h = what_is_left ∙ ap (with_lines edited_bytes) (is_folded k.before ps h)
 
   -- The lines that are selected of the output are those that are selected of the input.
   pub selected_again : (w v : World Reading) → Agrees w k.before → KeepsTruths w k.before v k.after → map line_bytes (selected v k.after) ≡ map line_bytes (selected w k.before)
   selected_again w v g t =
-      same_selected line_bytes edited_bytes v (λ (x : Edited Reading). w x.line) k.after (pruned k.before) what_is_left t
+      same_selected line_bytes edited_bytes v (λ (x : Edited Reading). w x.line) k.after (folded k.before) what_is_left (truths_folded w k.before v k.after t)
       ∙ ap (λ (l : List (Edited Reading)). map edited_bytes l) (sym (selected-pruned w k.before g)) ∙ kept_bytes (selected w k.before)
 
   -- Each opener of the output has the condition of the opener from which it comes.
-  pub conditions_same : map condition_in (openers k.after) ≡ map (λ (e : Edited Reading). condition_in e.line) (openers (pruned k.before))
-  conditions_same =
+  conditions_folded : map condition_in (openers k.after) ≡ map (λ (e : Edited Reading). condition_in e.line) (openers (folded k.before))
+  conditions_folded =
       sym (map-twice scanned (λ (q : Seen). q.condition) (openers k.after))
       ∙ ap (λ (l : List Seen). map (λ (q : Seen). q.condition) l)
-      (sym (openers-with scanned k.after) ∙ ap (λ (m : Nodes Seen). openers m) (ap (with_lines scanned) same_tree ∙ result.alike) ∙ openers-with left_seen (pruned k.before))
-      ∙ map-twice left_seen (λ (q : Seen). q.condition) (openers (pruned k.before)) ∙ kept_conditions (openers (pruned k.before)) (pruned_keeps k.before)
+      (sym (openers-with scanned k.after) ∙ ap (λ (m : Nodes Seen). openers m) (ap (with_lines scanned) same_tree ∙ result.alike) ∙ openers-with left_seen (folded k.before))
+      ∙ map-twice left_seen (λ (q : Seen). q.condition) (openers (folded k.before)) ∙ kept_conditions (openers (folded k.before)) (pruned_keeps k.before)
+
+  pub conditions_same : map condition_in (openers k.after) ≡ map (λ (e : Edited Reading). condition_in e.line) (openers_in (pruned_lines k.before))
+  conditions_same = conditions_folded ∙ ap (λ (l : List (Edited Reading)). map (λ (e : Edited Reading). condition_in e.line) l) (sym (pruned_openers k.before))
 
   -- The openers of the output can be given the truths of those from which they come.
   pub truths_kept : (w : World Reading) → (v : World Reading) × KeepsTruths w k.before v k.after
   truths_kept w =
-      world_of k.outcome.output k.after (map (λ (e : Edited Reading). w e.line) (openers (pruned k.before)))
+      world_of k.outcome.output k.after (map (λ (e : Edited Reading). w e.line) (openers_in (pruned_lines k.before)))
       (ap (λ (ys : List (Item Reading)). map line_of ys) (read_lines k.of_output.read) ∙ sym k.of_output.are)
-      (length-map (openers (pruned k.before)) (λ (e : Edited Reading). w e.line) ∙ sym (length-map (openers (pruned k.before)) (λ (e : Edited Reading). condition_in e.line))
+      (length-map (openers_in (pruned_lines k.before)) (λ (e : Edited Reading). w e.line) ∙ sym (length-map (openers_in (pruned_lines k.before)) (λ (e : Edited Reading). condition_in e.line))
       ∙ ap (λ (l : List (Option Expression)). length l) (sym conditions_same) ∙ length-map (openers k.after) condition_in)
 
 clear_run : {o : Options} {input : List ℕ} {r : Outcome} → HasOutcome o input r → r.fault ≡ None → (ns : Nodes Reading) → IsTreeOf o input (closed ns) →
@@ -234,8 +247,8 @@ module _ (k : CleanRun) (w : World Reading) (g : IsCWorld k.options.table w k.be
   -- C may give the output the world that keeps its truths.
   pub c_world_again : (v : World Reading) → KeepsTruths w k.before v k.after → IsCWorld k.options.table v k.after
   c_world_again v t =
-      reached_alike scanned left_seen v (λ (e : Edited Reading). w e.line) (λ (s : Seen) (b : Bool). MayBe k.options.table s.condition b) k.after (pruned k.before)
-      (ap (with_lines scanned) (same_tree k) ∙ (result k).alike) t
+      reached_alike scanned left_seen v (λ (e : Edited Reading). w e.line) (λ (s : Seen) (b : Bool). MayBe k.options.table s.condition b) k.after (folded k.before)
+      (ap (with_lines scanned) (same_tree k) ∙ (result k).alike) (truths_folded w k.before v k.after t)
       (pruned_reached w (λ (l : Reading). MayBe k.options.table (condition_in l) (w l)) (λ (e : Edited Reading). MayBe k.options.table (left_seen e).condition (w e.line)) still k.before
       c_world_agrees g)
     where
@@ -278,9 +291,9 @@ module _ {L M : Type 0} (f : L → M) where
     elifs_back (elif es o ns) h = (elifs_back es h.0, h.1, undecided_back ns h.2)
 
 -- Nothing is decided of the output.
-output_undecided : (us ns : Nodes Reading) → with_lines line_bytes us ≡ with_lines edited_bytes (pruned ns) → IsUndecided us
+output_undecided : (us ns : Nodes Reading) → with_lines line_bytes us ≡ with_lines edited_bytes (folded ns) → IsUndecided us
 output_undecided us ns e =
-    undecided_back line_bytes us (subst IsUndecided (sym e) (undecided_with edited_bytes (pruned ns) (pruned_undecided ns)))
+    undecided_back line_bytes us (subst IsUndecided (sym e) (undecided_with edited_bytes (folded ns) (pruned_undecided ns)))
 
 -- Nothing is decided of the output of a clean run.
 pub after_undecided : (k : CleanRun) → IsUndecided k.after

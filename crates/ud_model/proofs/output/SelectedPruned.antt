@@ -8,7 +8,8 @@ use Rattle.ud_model.specs.declared.verdict.Verdict.TheVariants.{Keep}
 use Rattle.ud_model.specs.sections.Tree.{Opener, Nodes, Groups, Elifs, nothing, text, section, conditional, otherwise, first, elif}
 use Rattle.ud_model.specs.sections.Pruning.{Part, an_if, an_elif}
 use Rattle.ud_model.specs.output.Worlds.{World, or_else, lines_or, where_true, selected, selected_groups, selected_elifs, EachReached, GroupsReached, ElifsReached, AgreesWith}
-use Rattle.ud_model.specs.output.Pruned.{Edited, edited, KeptGroups, none_kept, replaced, kept_groups, ended, then_nodes, with_group, with_else, then_kept, pruned, kept_groups_of, kept_elifs_of}
+use Rattle.ud_model.specs.output.Pruned.{Edited, edited}
+use Rattle.ud_model.proofs.output.Folded.{KeptGroups, none_kept, replaced, kept_groups, ended, then_nodes, with_group, with_else, then_kept, folded, kept_groups_of, kept_elifs_of}
 
 module _ {L : Type 0} (w : World L) where
   -- A line of the output has the truth of the line that it comes from.
@@ -122,17 +123,17 @@ module _ {L : Type 0} (w : World L) where
 
   mutual
     -- In a world that agrees, pruning changes nothing of the selected lines.
-    pub selected-pruned : (ns : Nodes L) → EachReached w Fits ns → map kept (selected w ns) ≡ selected out_world (pruned ns)
+    pub selected-pruned : (ns : Nodes L) → EachReached w Fits ns → map kept (selected w ns) ≡ selected out_world (folded ns)
     selected-pruned nothing a = refl
     selected-pruned (text ns l) a = map-append kept (selected w ns) (l ∷ []) ∙ ap (λ (ls : List (Edited L)). ls ++ kept l ∷ []) (selected-pruned ns a)
     selected-pruned (section ns gs e) a =
-        section_step (selected w ns) (selected_groups w gs) (pruned ns) (kept_groups_of gs) e (selected-pruned ns a.0) (final gs a.1)
+        section_step (selected w ns) (selected_groups w gs) (folded ns) (kept_groups_of gs) e (selected-pruned ns a.0) (final gs a.1)
 
     final : (gs : Groups L) → GroupsReached w Fits gs → Final (selected_groups w gs) (kept_groups_of gs)
     final (conditional es) a = without_else (selected_elifs w es) (kept_elifs_of es) (chosen es a)
-    final (otherwise es l ns) a = else_step (selected_elifs w es) (kept_elifs_of es) l ns (pruned ns) (chosen es a.0) (λ e. selected-pruned ns (a.1 e))
+    final (otherwise es l ns) a = else_step (selected_elifs w es) (kept_elifs_of es) l ns (folded ns) (chosen es a.0) (λ e. selected-pruned ns (a.1 e))
 
     pub chosen : (es : Elifs L) → ElifsReached w Fits es → Chosen (selected_elifs w es) (kept_elifs_of es)
-    chosen (first o ns) a = group_step None none_kept an_if o o.cond ns (pruned ns) refl (λ e. a.0) (λ e t. selected-pruned ns (a.1 t))
+    chosen (first o ns) a = group_step None none_kept an_if o o.cond ns (folded ns) refl (λ e. a.0) (λ e t. selected-pruned ns (a.1 t))
     chosen (elif es o ns) a =
-        group_step (selected_elifs w es) (kept_elifs_of es) an_elif o o.cond ns (pruned ns) (chosen es a.0) (λ e. (a.1 e).0) (λ e t. selected-pruned ns ((a.1 e).1 t))
+        group_step (selected_elifs w es) (kept_elifs_of es) an_elif o o.cond ns (folded ns) (chosen es a.0) (λ e. (a.1 e).0) (λ e t. selected-pruned ns ((a.1 e).1 t))

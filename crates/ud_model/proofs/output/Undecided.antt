@@ -7,7 +7,8 @@ use Rattle.ud_model.specs.declared.verdict.Verdict.TheVariants.{Keep}
 use Rattle.ud_model.specs.sections.Tree.{Opener, Nodes, Groups, Elifs, nothing, text, section, conditional, otherwise, first, elif, closed}
 use Rattle.ud_model.specs.sections.Pruning.{Part, an_if, an_elif, an_else, Mark, marked, is_kept, conds_of_elifs, conds_of_groups, endif_verdict, marks}
 use Rattle.ud_model.specs.aids.SoFar.{verdict_so_far, nodes_so_far, groups_so_far, elifs_so_far}
-use Rattle.ud_model.specs.output.Pruned.{Edited, KeptGroups, none_kept, replaced, kept_groups, ended, then_nodes, with_group, with_else, then_kept, pruned, kept_groups_of, kept_elifs_of, IsUndecided, GroupsUndecided, ElifsUndecided}
+use Rattle.ud_model.specs.output.Pruned.{Edited, IsUndecided, GroupsUndecided, ElifsUndecided}
+use Rattle.ud_model.proofs.output.Folded.{KeptGroups, none_kept, replaced, kept_groups, ended, then_nodes, with_group, with_else, then_kept, folded, kept_groups_of, kept_elifs_of}
 use Rattle.ud_model.proofs.output.Each.{Each, each_both}
 use Rattle.ud_model.proofs.sections.Stays.{marks_so_far_same}
 use Rattle.ud_model.proofs.sections.Stages.{Stage, going, at_true, stage, next_stage, verdict_at, kept_at, endif_at, verdict_by_stage, kept_by_stage, stage_next, endif_by_stage}
@@ -61,18 +62,18 @@ module _ {L : Type 0} where
 
   mutual
     -- In pruned nodes each condition but that of an `#else` is unknown.
-    pub pruned_undecided : (ns : Nodes L) → IsUndecided (pruned ns)
+    pub pruned_undecided : (ns : Nodes L) → IsUndecided (folded ns)
     pruned_undecided nothing = tt
     pruned_undecided (text ns l) = pruned_undecided ns
-    pruned_undecided (section ns gs e) = left_undecided (pruned ns) (kept_groups_of gs) e (pruned_undecided ns) (groups_undecided gs)
+    pruned_undecided (section ns gs e) = left_undecided (folded ns) (kept_groups_of gs) e (pruned_undecided ns) (groups_undecided gs)
 
     groups_undecided : (gs : Groups L) → LeftUndecided (kept_groups_of gs)
     groups_undecided (conditional es) = elifs_undecided es
-    groups_undecided (otherwise es l ns) = else_undecided (kept_elifs_of es) l (pruned ns) (elifs_undecided es) (pruned_undecided ns)
+    groups_undecided (otherwise es l ns) = else_undecided (kept_elifs_of es) l (folded ns) (elifs_undecided es) (pruned_undecided ns)
 
     elifs_undecided : (es : Elifs L) → LeftUndecided (kept_elifs_of es)
-    elifs_undecided (first o ns) = with_undecided none_kept an_if o o.cond (pruned ns) refl tt (pruned_undecided ns)
-    elifs_undecided (elif es o ns) = with_undecided (kept_elifs_of es) an_elif o o.cond (pruned ns) refl (elifs_undecided es) (pruned_undecided ns)
+    elifs_undecided (first o ns) = with_undecided none_kept an_if o o.cond (folded ns) refl tt (pruned_undecided ns)
+    elifs_undecided (elif es o ns) = with_undecided (kept_elifs_of es) an_elif o o.cond (folded ns) refl (elifs_undecided es) (pruned_undecided ns)
 
   -- The stage of groups none of which is decided.
   going_on : (es : Elifs L) → ElifsUndecided es → stage (conds_of_elifs es) ≡ going

@@ -5,24 +5,19 @@ use Rattle.ud_model.specs.declared.cond.Cond.{Cond}
 use Rattle.ud_model.specs.declared.cond.Cond.TheVariants.{Yes, No, Unknown}
 use Rattle.ud_model.specs.declared.verdict.Verdict.TheVariants.{Keep, Remove, ToEndif}
 use Rattle.ud_model.specs.sections.Tree.{Item, Nodes, Groups, Elifs, Head, Tree, nothing, text, section, conditional, otherwise, first, elif, if_head, elif_head, else_head, closed, open_section, lines}
-use Rattle.ud_model.specs.sections.Pruning.{Part, an_if, an_elif, an_else, given_way, first_kept, before_true, next_after, further_on, up_to_true, verdict_in_position, first_kept_verdict, later_verdict, any_true, ends_with_first_true, Mark, marked, is_kept, is_inside_kept, gives_way, opener_verdict, endif_verdict, conds_of_elifs, conds_of_groups, conds_of_head, marks_of_nodes, marks_of_groups, marks_of_elifs, marks_of_head, marks_in, marks}
+use Rattle.ud_model.specs.sections.Pruning.{Part, an_if, an_elif, an_else, given_way, false_before, next_after, further_on, up_to_true, verdict_in_position, later_verdict, any_true, ends_with_first_true, Mark, marked, is_kept, is_inside_kept, gives_way, opener_verdict, endif_verdict, conds_of_elifs, conds_of_groups, conds_of_head, marks_of_nodes, marks_of_groups, marks_of_elifs, marks_of_head, marks_in, marks}
 use Rattle.ud_model.specs.aids.SoFar.{verdict_so_far, nodes_so_far, groups_so_far, elifs_so_far, head_so_far, marks_so_far}
 use Rattle.ud_model.proofs.text.Pushes.{ByPush, none, push, by_push}
 use Rattle.ud_model.proofs.sections.Growth.{Adds, adds_text, adds_if, elif_after_if, elif_after_elif, else_after_if, else_after_elif, adds_endif, adds_under, complete}
 use Rattle.ud_model.proofs.sections.Unique.{unique, tree_before}
 
-removed_either_way : (b : Bool) (part : Part) → verdict_in_position (if b then given_way else before_true) part No ≡ Remove
+removed_either_way : (b : Bool) (part : Part) → verdict_in_position (if b then given_way else false_before) part ≡ Remove
 removed_either_way true part = refl
 removed_either_way false part = refl
 
-first_by_part : (part : Part) (c : Cond) → verdict_in_position first_kept part c ≡ first_kept_verdict part
-first_by_part an_if c = refl
-first_by_part an_elif c = refl
-first_by_part an_else c = refl
-
 -- The table is taken by its rows, if the section doesn't give way and some group before is kept.
 after_first : (some ends : Bool) (part : Part) (c : Cond) →
-    verdict_in_position (if not some then up_to_true c else if ends then next_after else further_on) part c
+    verdict_in_position (if not some then up_to_true c else if ends then next_after else further_on) part
     ≡ (if not some then later_verdict part c else if ends then ToEndif else Remove)
 after_first false ends part c = refl
 after_first true true part c = refl
@@ -34,7 +29,7 @@ pub table_so_far : (before later : List Cond) (part : Part) (c : Cond) →
     opener_verdict (before ++ c ∷ later) before part c ≡ verdict_so_far before part c
 table_so_far [] later part Yes = refl
 table_so_far [] later part No = removed_either_way (gives_way later) part
-table_so_far [] later part Unknown = first_by_part part Unknown
+table_so_far [] later part Unknown = refl
 table_so_far (Yes ∷ bs) later part c = refl
 table_so_far (No ∷ bs) later part c = table_so_far bs later part c
 table_so_far (Unknown ∷ bs) later part c = after_first (any_true bs) (ends_with_first_true bs) part c

@@ -5,6 +5,8 @@
 --                              option-argument
 --   parsed_args args           the options, operands and wrong letters of the arguments, in reading
 --                              order
+--   letters_give number ls     the options of the letters of the argument with this number, and the
+--                              option that waits for the next argument, if one does
 --   parse_symbol c argument    the symbol in an option-argument of `-D`, `-U` or `-i`, if it is
 --                              valid
 --   parse_exit_mode argument   the exit mode in an option-argument of `-x`, if it is valid
@@ -20,6 +22,9 @@
 -- argument that starts with `-` and is longer has letters of options. A letter's option-argument is
 -- the rest of its argument after it, or the whole next argument if nothing is left. `--` ends the
 -- options, and so does the first operand. Every argument after either is an operand.
+--
+-- Example: the letters `bD` give `-b`, and the option `-D` waits. The letters `DA` give `-D` with
+-- `A`, and none waits.
 use Rattle.std.specs.Prelude.{ℕ, suc, List, [], ◌∷◌, ◌++◌, Bool, true, false, ◌||◌, ◌==◌, Option}
 use Rattle.std.specs.Prelude.{Some, None, bytes_eq, codes, chars, encode_utf8, encode_utf8_all}
 use Rattle.std.specs.Prelude.{decimal, if◌then◌else◌}
@@ -72,45 +77,60 @@ abbrev pub operands_from : ℕ → List (List ℕ) → List ParsedArg
 operands_from n [] = []
 operands_from n (w ∷ ws) = operand n w ∷ operands_from (suc n) ws
 
--- `parsed_option c number letters next rest`: the option `c`, and what follows it. Its
--- option-argument is `letters`, which are the rest of the argument with this number; then comes
--- `rest`. If there are no letters, `next` has the option with the next argument.
-abbrev pub parsed_option : ℕ → ℕ → List ℕ → List ParsedArg → List ParsedArg → List ParsedArg
-parsed_option c number [] next rest = next
-parsed_option c number (l ∷ ls) next rest = option c number (encode_utf8_all (l ∷ ls)) ∷ rest
+-- The options of an argument's letters, and the letter of the option whose option-argument is the
+-- next argument, if one waits.
+pub record WordGives : Type 0 where
+  pub given : List ParsedArg
+  pub waits : Option ℕ
 
--- `parsed_letters number letters next rest`: the options of these letters in the argument with this
--- number, and what follows. That is `next c` if the option `c` takes the next argument, else
--- `rest`.
-abbrev pub parsed_letters : ℕ → List ℕ → (ℕ → List ParsedArg) → List ParsedArg → List ParsedArg
-parsed_letters number [] next rest = rest
-parsed_letters number (c ∷ cs) next rest =
-    if is_flag c then flag c ∷ parsed_letters number cs next rest
-    else if takes_argument c then parsed_option c number cs (next c) rest
-    else unknown c ∷ parsed_letters number cs next rest
+-- No options, and none that waits.
+abbrev pub gives_nothing : WordGives
+gives_nothing = record { given = []; waits = None }
 
--- `parsed_word number letters next rest operands`: the options of an argument with these letters,
--- and what follows. It is `operands` if there are no letters.
-abbrev pub parsed_word : ℕ → List ℕ → (ℕ → List ParsedArg) → List ParsedArg → List ParsedArg →
-    List ParsedArg
-parsed_word number [] next rest operands = operands
-parsed_word number (c ∷ cs) next rest operands = parsed_letters number (c ∷ cs) next rest
+-- `then_gives g w`: the parsed option `g`, followed by the options of `w`.
+abbrev pub then_gives : ParsedArg → WordGives → WordGives
+then_gives g w = record { given = g ∷ w.given; waits = w.waits }
 
-abbrev mutual
-  -- `parsed_from n args`: the parsed arguments from the index `n` on, if no operand and no `--`
-  -- came before.
-  pub parsed_from : ℕ → List (List ℕ) → List ParsedArg
-  parsed_from n [] = []
-  parsed_from n (w ∷ ws) =
-      if bytes_eq w (codes "--") then operands_from (suc n) ws
-      else parsed_word (suc n) (option_letters w) (λ c. parsed_after_option c (suc n) ws)
-      (parsed_from (suc n) ws) (operands_from n (w ∷ ws))
+-- `option_gives c number letters`: the option `c` with the letters after it in its argument as
+-- option-argument. Without letters, it waits.
+abbrev pub option_gives : ℕ → ℕ → List ℕ → WordGives
+option_gives c number [] = record { given = []; waits = Some c }
+option_gives c number (l ∷ ls) =
+    record { given = option c number (encode_utf8_all (l ∷ ls)) ∷ []; waits = None }
 
-  -- `parsed_after_option c n args`: the parsed arguments from the index `n` on, of which the first
-  -- is the option-argument of `c`.
-  pub parsed_after_option : ℕ → ℕ → List (List ℕ) → List ParsedArg
-  parsed_after_option c n [] = lacking c ∷ []
-  parsed_after_option c n (w ∷ ws) = option c (suc n) w ∷ parsed_from (suc n) ws
+-- `letters_give number letters`: the options of the letters of the argument with this number.
+abbrev pub letters_give : ℕ → List ℕ → WordGives
+letters_give number [] = gives_nothing
+letters_give number (c ∷ cs) =
+    if is_flag c then then_gives (flag c) (letters_give number cs)
+    else if takes_argument c then option_gives c number cs
+    else then_gives (unknown c) (letters_give number cs)
+
+-- `is_operand arg`: the argument is no option, and not `--`.
+abbrev pub is_operand : List ℕ → Bool
+is_operand arg = bytes_eq (option_letters arg) []
+
+-- `given_next waits n args`: the parsed arguments from the index `n` on, if no operand and no `--`
+-- came before, and this option waits for its option-argument. An argument gives its options, and
+-- then come the arguments after it.
+abbrev pub given_next : Option ℕ → ℕ → List (List ℕ) → List ParsedArg
+given_next None n [] = []
+given_next (Some c) n [] = lacking c ∷ []
+given_next (Some c) n (w ∷ ws) = option c (suc n) w ∷ given_next None (suc n) ws
+given_next None n (w ∷ ws) =
+    if bytes_eq w (codes "--") then operands_from (suc n) ws
+    else if is_operand w then operands_from n (w ∷ ws)
+    else (letters_give (suc n) (option_letters w)).given ++
+    given_next (letters_give (suc n) (option_letters w)).waits (suc n) ws
+
+-- `parsed_from n args`: the parsed arguments from the index `n` on, if none waits.
+abbrev pub parsed_from : ℕ → List (List ℕ) → List ParsedArg
+parsed_from n args = given_next None n args
+
+-- `parsed_after_option c n args`: the parsed arguments from the index `n` on, of which the first is
+-- the option-argument of `c`.
+abbrev pub parsed_after_option : ℕ → ℕ → List (List ℕ) → List ParsedArg
+parsed_after_option c n args = given_next (Some c) n args
 
 -- `parsed_args args`: the parsed arguments of a command line.
 abbrev pub parsed_args : List (List ℕ) → List ParsedArg

@@ -13,7 +13,7 @@ use Rattle.std.specs.Prelude.{bytes_eq, codes, IsUtf8}
 use Rattle.ud_model.specs.text.Bytes.{equals_sign}
 use Rattle.ud_model.specs.answer.CommandLine.{option_letters}
 use Rattle.ud_model.specs.answer.SymbolArguments.{is_name}
-use Rattle.ud_model.specs.answer.SingleArguments.{letters_give}
+use Rattle.ud_model.specs.answer.CommandLine.{letters_give}
 
 -- `IsOptionWord w c cs`: `w` is a word of options, with the letters `c` and `cs`, and not `--`.
 pub record IsOptionWord (w : List ℕ) (c : ℕ) (cs : List ℕ) : Type 0 where

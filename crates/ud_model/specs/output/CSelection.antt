@@ -12,8 +12,8 @@
 --                                  truth that `w` gives it
 --
 -- A condition that goes on on the next line, or whose text is no expression, may be true or false.
--- The lines are those that are read: under `-t` each is read by itself, and comments and
--- continuations are text.
+-- The lines are those that are read. Under `-t` each is read by itself, with comments and
+-- continuations as text, so a C compiler may select others (law_reading_selects, law_c_selects).
 --
 -- Example: of `#if A && X`, `#elif X`, `#endif` with A undefined, the first condition is false in
 -- each C world, and the second one true or false. Of `#if 1 / 0` there is no C world, since C gives

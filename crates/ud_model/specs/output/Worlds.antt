@@ -8,14 +8,16 @@
 --   Agrees w ns           of the openers that are reached, each Yes is true in the world and each
 --                         No false
 --   openers ns            the lines of the openers with a condition, in order
+--   openers_in xs         the same, among the lines `xs`
 --
 -- Example: of `#if X`, `a`, `#elif Y`, `b`, `#else`, `c`, `#endif` the line `a` is selected in a
 -- world in which X is true, and Y isn't reached. In any other world `b` or `c` is selected.
 use Rattle.std.specs.Prelude.{◌≡◌, List, [], ◌∷◌, ◌++◌, Bool, true, false, Option, Some, None}
 use Rattle.ud_model.specs.declared.cond.Cond.{Cond}
 use Rattle.ud_model.specs.declared.cond.Cond.TheVariants.{Yes, No, Unknown}
-use Rattle.ud_model.specs.sections.Tree.{Opener, Nodes, Groups, Elifs, nothing, section}
-use Rattle.ud_model.specs.sections.Tree.{conditional, otherwise, first, elif}
+use Rattle.ud_model.specs.sections.Tree.{Item, Opener, Nodes, Groups, Elifs, nothing, section}
+use Rattle.ud_model.specs.sections.Tree.{conditional, otherwise, first, elif, text_line, if_line}
+use Rattle.ud_model.specs.sections.Tree.{elif_line, else_line, endif_line}
 use Rattle.ud_model.specs.sections.Tree as tree
 
 -- A world: the truth of each opener with a condition, by its line.
@@ -109,3 +111,16 @@ module _ {L : Type 0} where
     pub openers_of_elifs : Elifs L → List L
     openers_of_elifs (first o ns) = o.line ∷ openers ns
     openers_of_elifs (elif es o ns) = (openers_of_elifs es ++ o.line ∷ []) ++ openers ns
+
+  -- `opener_line x`: the line `x`, if it is an opener with a condition.
+  abbrev pub opener_line : Item L → List L
+  opener_line (text_line l) = []
+  opener_line (if_line o) = o.line ∷ []
+  opener_line (elif_line o) = o.line ∷ []
+  opener_line (else_line l) = []
+  opener_line (endif_line l) = []
+
+  -- `openers_in xs`: the lines of the openers with a condition among the lines `xs`, in order.
+  abbrev pub openers_in : List (Item L) → List L
+  openers_in [] = []
+  openers_in (x ∷ xs) = opener_line x ++ openers_in xs

@@ -5,7 +5,7 @@
 --                                         are kept, or around the section of a directive
 --   OpenerPosition                        the position of an opener in its section
 --   opener_position all before c          the position of an opener
---   verdict_in_position position part c   the table of verdicts, for an opener whose section lies
+--   verdict_in_position position part     the table of verdicts, for an opener whose section lies
 --                                         in kept groups
 --   opener_verdict all before part c      the opener's verdict by this table
 --   endif_verdict all                     the verdict of the section's `#endif`
@@ -79,8 +79,9 @@ pub data OpenerPosition : Type 0 where
   given_way : OpenerPosition
   -- The opener of the first kept group.
   first_kept : OpenerPosition
-  -- Another opener before that of the first true group.
-  before_true : OpenerPosition
+  -- Another opener before that of the first true group: of an unknown group, or of a false one.
+  unknown_before : OpenerPosition
+  false_before : OpenerPosition
   -- The opener of the first true group.
   the_true : OpenerPosition
   -- The next opener after that of the first true group, which is then an `#elif`.
@@ -88,12 +89,12 @@ pub data OpenerPosition : Type 0 where
   -- An opener after that.
   further_on : OpenerPosition
 
--- `up_to_true c`: the position of an opener after the first kept one, if no group before it is
--- true.
+-- `up_to_true c`: the position of an opener with the condition `c` that isn't the first kept one,
+-- if no group before it is true.
 abbrev pub up_to_true : Cond → OpenerPosition
 up_to_true Yes = the_true
-up_to_true No = before_true
-up_to_true Unknown = before_true
+up_to_true No = false_before
+up_to_true Unknown = unknown_before
 
 -- `opener_position all before c`: the position of an opener with the condition `c` after the groups
 -- `before`.
@@ -105,41 +106,40 @@ opener_position all before c =
     else if ends_with_first_true before then next_after
     else further_on
 
--- `verdict_in_position position part c`: the table of verdicts, for an opener. Three rows make it
--- total and never count: a first true group of an `#if`, a true group before the first true one,
--- and a first kept `#else`.
-abbrev pub verdict_in_position : OpenerPosition → Part → Cond → Verdict
-verdict_in_position given_way part c = Remove
-verdict_in_position first_kept an_if c = Keep
-verdict_in_position first_kept an_elif c = ToIf
-verdict_in_position first_kept an_else c = Keep
-verdict_in_position before_true part Unknown = Keep
-verdict_in_position before_true part No = Remove
-verdict_in_position before_true part Yes = Keep
-verdict_in_position the_true an_else c = Keep
-verdict_in_position the_true an_elif c = ToElse
-verdict_in_position the_true an_if c = Keep
-verdict_in_position next_after part c = ToEndif
-verdict_in_position further_on part c = Remove
+-- `edited_elif v part`: an `#elif` has the verdict `v`, and another opener stays.
+abbrev pub edited_elif : Verdict → Part → Verdict
+edited_elif v an_if = Keep
+edited_elif v an_elif = v
+edited_elif v an_else = Keep
+
+-- `verdict_in_position position part`: the table of verdicts, for an opener.
+abbrev pub verdict_in_position : OpenerPosition → Part → Verdict
+verdict_in_position given_way part = Remove
+verdict_in_position first_kept part = edited_elif ToIf part
+verdict_in_position unknown_before part = Keep
+verdict_in_position false_before part = Remove
+verdict_in_position the_true part = edited_elif ToElse part
+verdict_in_position next_after part = ToEndif
+verdict_in_position further_on part = Remove
 
 -- `opener_verdict all before part c`: the verdict of an opener with the condition `c` after the
 -- groups `before`.
 abbrev pub opener_verdict : List Cond → List Cond → Part → Cond → Verdict
-opener_verdict all before part c = verdict_in_position (opener_position all before c) part c
+opener_verdict all before part c = verdict_in_position (opener_position all before c) part
 
--- `first_kept_verdict part`: the verdict of the first kept opener, which depends on `part` alone.
+-- `first_kept_verdict part`: the verdict of the first kept opener.
 abbrev pub first_kept_verdict : Part → Verdict
-first_kept_verdict part = verdict_in_position first_kept part Unknown
+first_kept_verdict part = verdict_in_position first_kept part
 
 -- `first_true_verdict part`: the verdict of the opener of the first true group, if a group before
 -- it is kept.
 abbrev pub first_true_verdict : Part → Verdict
-first_true_verdict part = verdict_in_position the_true part Yes
+first_true_verdict part = verdict_in_position the_true part
 
 -- `later_verdict part c`: the verdict of an opener after the first kept one, if no group before it
 -- is true.
 abbrev pub later_verdict : Part → Cond → Verdict
-later_verdict part c = verdict_in_position (up_to_true c) part c
+later_verdict part c = verdict_in_position (up_to_true c) part
 
 -- `endif_verdict all`: the verdict of the `#endif`. It is removed if the section gives way, or if
 -- an opener after the first true group became the `#endif`. Else it is kept.

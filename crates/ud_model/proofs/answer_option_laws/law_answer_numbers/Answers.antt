@@ -12,5 +12,8 @@ returns-clause-blanks c = λ args right. keeps_with_b args right
 pub returns-clause-counted : goal.returns-clause-counted
 returns-clause-counted c = λ args more input xs t f a k p right keeps reads b d. answered_counted p right keeps reads b d
 
+pub returns-clause-reading_selects : goal.returns-clause-reading_selects
+returns-clause-reading_selects c = λ args more input a k p keeps b n d ns us i j w v g t. answered_selects_numbered p keeps b n d ns us i j w v g t
+
 pub returns-clause-selects : goal.returns-clause-selects
-returns-clause-selects c = λ args more input a k p keeps b n d ns us i j w v g t. answered_selects_numbered p keeps b n d ns us i j w v g t
+returns-clause-selects c = λ args more input a k p e keeps b n d ns us i j w v g t. answered_selects_numbered p keeps b n d ns us i j w v g t

@@ -1,0 +1,27 @@
+-- Under plain options each line of a text is read in one mode: without `-t` in C mode.
+use Rattle.std.proofs.Common.{◌≡◌, ℕ, List, map, Bool, false, sym, ◌∙◌, ap}
+use Rattle.ud_model.specs.text.Lines.{Line}
+use Rattle.ud_model.specs.text.Scans.{Reading}
+use Rattle.ud_model.specs.sections.Tree.{Item, Tree, lines}
+use Rattle.ud_model.specs.sections.Items.{Options, reading_of, line_of, mode_by}
+use Rattle.ud_model.specs.output.Rereading.{IsPlain, IsTreeOf}
+use Rattle.ud_model.specs.output.InsertedLines.{read_in, read_as}
+use Rattle.ud_model.specs.declared.kind.Mode.TheVariants.{C}
+use Rattle.ud_model.proofs.sections.Soundness.{read_lines}
+use Rattle.ud_model.proofs.output.Heeding.{the_mode}
+use Rattle.ud_model.proofs.output.InsertedTree.{items}
+use Rattle.ud_model.proofs.output.InsertedText.{items_are, readings_back}
+
+-- The lines of a text's tree are its lines, each read in the one mode.
+pub read_in_one_mode : (o : Options) → IsPlain o → (text : List ℕ) (t : Tree Reading) → IsTreeOf o text t →
+    map (λ (x : Item Reading). reading_of x) (lines t) ≡ read_as (mode_by o.settings.plain) text
+read_in_one_mode o p text t i =
+    let back : map (λ (x : Item Reading). reading_of x) (items o (read_in (the_mode o) (map line_of i.items))) ≡ read_in (the_mode o) (map line_of i.items) =
+    readings_back o (read_in (the_mode o) (map line_of i.items)) in
+    ap (λ (xs : List (Item Reading)). map (λ (x : Item Reading). reading_of x) xs) (read_lines i.read ∙ items_are o p.none_ignores i.read)
+    ∙ back ∙ ap (λ (ls : List Line). read_in (the_mode o) ls) (sym i.are)
+
+-- Without `-t` that is C mode.
+pub read_in_c : (o : Options) → IsPlain o → o.settings.plain ≡ false → (text : List ℕ) (t : Tree Reading) → IsTreeOf o text t →
+    map (λ (x : Item Reading). reading_of x) (lines t) ≡ read_as C text
+read_in_c o p e text t i = read_in_one_mode o p text t i ∙ ap (λ (b : Bool). read_as (mode_by b) text) e

@@ -1,0 +1,16 @@
+-- A world that C may give the input agrees with the decided conditions.
+use Rattle.ud_model.proofs.output.RereadLaws.{c_selected_again, conditions_same, c_world_again}
+use Rattle.ud_model.proofs.output.ReadInMode.{read_in_one_mode}
+use Rattle.ud_model.proofs.output_laws.law_reading_selects.Goals as goal
+
+pub returns-clause-readings : goal.returns-clause-readings
+returns-clause-readings c = λ o p text t i. read_in_one_mode o p text t i
+
+pub returns-clause-selected : goal.returns-clause-selected
+returns-clause-selected c = λ k w v a t. c_selected_again k w a v t
+
+pub returns-clause-conditions : goal.returns-clause-conditions
+returns-clause-conditions c = λ k. conditions_same k
+
+pub returns-clause-world : goal.returns-clause-world
+returns-clause-world c = λ k w v a t. c_world_again k w a v t

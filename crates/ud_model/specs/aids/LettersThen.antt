@@ -1,0 +1,23 @@
+-- Letters, and then: the options of an argument's letters, followed by what comes after them. It is
+-- the form in which code reads them, letter by letter. By `letters_then` (WordLemmas) it is what
+-- `letters_give` and `given_next` say.
+use Rattle.std.specs.Prelude.{ℕ, List, [], ◌∷◌, encode_utf8_all, if◌then◌else◌}
+use Rattle.ud_model.specs.answer.CommandLine.{ParsedArg, flag, option, unknown, is_flag}
+use Rattle.ud_model.specs.answer.CommandLine.{takes_argument}
+
+-- `parsed_option c number letters next rest`: the option `c`, and what follows it. Its
+-- option-argument is `letters`, which are the rest of the argument with this number; then comes
+-- `rest`. If there are no letters, `next` has the option with the next argument.
+abbrev pub parsed_option : ℕ → ℕ → List ℕ → List ParsedArg → List ParsedArg → List ParsedArg
+parsed_option c number [] next rest = next
+parsed_option c number (l ∷ ls) next rest = option c number (encode_utf8_all (l ∷ ls)) ∷ rest
+
+-- `parsed_letters number letters next rest`: the options of these letters in the argument with this
+-- number, and what follows. That is `next c` if the option `c` takes the next argument, else
+-- `rest`.
+abbrev pub parsed_letters : ℕ → List ℕ → (ℕ → List ParsedArg) → List ParsedArg → List ParsedArg
+parsed_letters number [] next rest = rest
+parsed_letters number (c ∷ cs) next rest =
+    if is_flag c then flag c ∷ parsed_letters number cs next rest
+    else if takes_argument c then parsed_option c number cs (next c) rest
+    else unknown c ∷ parsed_letters number cs next rest
