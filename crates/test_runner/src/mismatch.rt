@@ -4,14 +4,14 @@ use crate::outcome::Outcome;
 use std::alloc::{AllocError, Global};
 use std::fmt;
 
-/// A way in which a case was run.
+/// The way in which a case was run.
 #[derive(Clone, Copy)]
 pub(crate) enum Way {
-    /// As its file says.
+    /// Streams that behave as the file says.
     AsStated,
-    /// In reads of at most so many bytes.
+    /// Reads of at most so many bytes.
     Reads(usize),
-    /// By the reference.
+    /// A run of the reference.
     Reference,
     /// The first `len` bytes of the input, in two reads that are cut at `cut`.
     Cut { len: usize, cut: usize },
@@ -23,7 +23,7 @@ pub(crate) enum Way {
     FlushFails,
     /// An engine whose output accepts so many bytes isn't fused.
     Fused(usize),
-    /// Over its own output.
+    /// A second run, over the output of the first.
     Again,
 }
 
