@@ -21,8 +21,9 @@
 # make deb        makes a Debian package of ./unifdef
 # make packages-test  installs and uninstalls in folders of its own, makes both packages, and tries
 #                 the completions
-# make manuals    checks the version, the manuals by mandoc, the scripts by shellcheck, and the
-#                 language of comments and pages by tools/style.py
+# make manuals    checks the version, the manuals by mandoc, the scripts by shellcheck, the language
+#                 of comments and pages by tools/style.py, and that the names and files that pages
+#                 cite exist, by tools/names.py
 # make around     tries everything around the program that is quick: manuals, examples, differences,
 #                 faults, unifdef-tree and packages
 # make bench      measures ./unifdef beside the released program, and the speed of conditions

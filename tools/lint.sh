@@ -1,6 +1,7 @@
 #!/usr/bin/env bash
-# Checks the version, the manuals by mandoc, the scripts by shellcheck, and the language of comments
-# and pages by tools/style.py. A linter that isn't there is left out.
+# Checks the version, the manuals by mandoc, the scripts by shellcheck, the language of comments and
+# pages by tools/style.py, and the names in pages by tools/names.py. A linter that isn't there is
+# left out.
 set -u
 cd "$(dirname "$0")/.." || exit 1
 result=0
@@ -29,13 +30,14 @@ for script in "${scripts[@]}"; do
     *) bash -n "$script" || result=1 ;;
   esac
 done
-# Without arguments, it checks all files that git tracks.
+# Without arguments, both go by the files that git tracks.
 if ! command -v python3 > /dev/null; then
-  echo 'manuals: python3 is not there, so tools/style.py is left out'
+  echo 'manuals: python3 is not there, so tools/style.py and tools/names.py are left out'
 elif ! git rev-parse HEAD > /dev/null 2>&1; then
-  echo 'manuals: not under version control, so tools/style.py is left out'
+  echo 'manuals: not under version control, so tools/style.py and tools/names.py are left out'
 else
   python3 tools/style.py || result=1
+  python3 tools/names.py || result=1
 fi
-[ "$result" -ne 0 ] || echo "manuals: version, manuals, ${#scripts[@]} scripts and the language are in order"
+[ "$result" -ne 0 ] || echo "manuals: version, manuals, ${#scripts[@]} scripts, the language and the names are in order"
 exit "$result"
