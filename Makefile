@@ -6,7 +6,7 @@
 #                 refuse, the tests, and the stored runs
 # make edits      tries the second edits, which the gate leaves out; CRATES='NAME ..' those of some
 #                 crates
-# make cases      runs ./unifdef on the worked cases of tests/cases
+# make cases      runs ./unifdef on the worked cases of crates/test_runner/data
 # make examples   runs the examples of README.md and docs/EXAMPLES.md with ./unifdef
 # make manual-examples  runs the examples of the manual, but for those under DIFFERENCES
 # make differences  runs the examples under DIFFERENCES in the manual, and the other cases that say

@@ -225,7 +225,7 @@ if "${CC:-cc}" -O1 -shared -fPIC -o "$work/refuse.so" "$here/refuse.c" -ldl 2> /
   while IFS= read -r words; do
     # shellcheck disable=SC2086 # These arguments have no spaces of their own.
     refuse_each yes $words
-  done < <(grep -l '^try growths$' "$here"/../cases/*/*.case | xargs sed -n 's/^unifdef //p')
+  done < <(grep -l '^try growths$' "$here"/../../crates/test_runner/data/*/*.case | xargs sed -n 's/^unifdef //p')
   refuse_each yes -DA -B
   refuse_each no -B -DA
   refuse_each no -tk -x2
