@@ -24,6 +24,8 @@ ghost use Rattle.ud_model.specs.answer.Outcomes.{Outcome, ReadsAs, ReadsSoFar, H
 ghost use Rattle.ud_model.specs.answer.Outcomes.{HasOutcomeSoFar};
 ghost use Rattle.ud_model.specs.answer.CommandLine.{option_letters, operands_from, parsed_from};
 ghost use Rattle.ud_model.specs.answer.CommandLine.{letters_give, given_next};
+ghost use Rattle.ud_model.specs.answer.CommandLine.{parsed_after_option};
+ghost use Rattle.ud_model.specs.aids.LettersThen.{parsed_letters};
 ghost use Rattle.ud_model.specs.answer.Answer.{Answer, IsAnswer};
 ghost use Rattle.ud_model.specs.conditions.Table.{Argument, entry_in};
 ghost use Rattle.ud_model.specs.conditions.Symbols.{ResolvesTo, resolve};
@@ -197,7 +199,8 @@ pub fn law_one_outcome()
 /// Each argument is parsed by itself, in order.
 ///
 /// After `--` each argument is an operand, and so is each from the first operand on. The letters of
-/// an argument give options, of which the last may wait for the next argument.
+/// an argument give options, of which the last may wait for the next argument. Read letter by
+/// letter, as the code reads them, they give the same.
 pub fn law_arguments()
     ensures ended { (n : ℕ) → (args : List (List ℕ)) →
         parsed_from n (codes "--" ∷ args) ≡ operands_from (suc n) args }
@@ -208,6 +211,9 @@ pub fn law_arguments()
         bytes_eq w (codes "--") ≡ false → option_letters w ≡ c ∷ cs →
         parsed_from n (w ∷ args) ≡ (letters_give (suc n) (c ∷ cs)).given ++
         given_next (letters_give (suc n) (c ∷ cs)).waits (suc n) args }
+    ensures letters { (n : ℕ) → (cs : List ℕ) → (args : List (List ℕ)) →
+        parsed_letters n cs (λ d. parsed_after_option d n args) (parsed_from n args) ≡
+        (letters_give n cs).given ++ given_next (letters_give n cs).waits n args }
 {}
 
 /// Arguments and an input have exactly one answer.

@@ -1,5 +1,5 @@
 -- Letters, and then: the options of an argument's letters, followed by what comes after them. It is
--- the form in which code reads them, letter by letter. By `letters_then` (WordLemmas) it is what
+-- the form in which code reads them, letter by letter. By law_arguments it is what
 -- `letters_give` and `given_next` say.
 use Rattle.std.specs.Prelude.{ℕ, List, [], ◌∷◌, encode_utf8_all, if◌then◌else◌}
 use Rattle.ud_model.specs.answer.CommandLine.{ParsedArg, flag, option, unknown, is_flag}

@@ -1,5 +1,5 @@
 -- Letter by letter.
-use Rattle.ud_model.proofs.answer.WordLemmas.{after_end, operand_given, options_given}
+use Rattle.ud_model.proofs.answer.WordLemmas.{after_end, operand_given, options_given, letters_then}
 use Rattle.ud_model.proofs.laws.law_arguments.Goals as goal
 
 pub returns-clause-ended : goal.returns-clause-ended
@@ -10,3 +10,6 @@ returns-clause-operand c = operand_given
 
 pub returns-clause-options : goal.returns-clause-options
 returns-clause-options c = options_given
+
+pub returns-clause-letters : goal.returns-clause-letters
+returns-clause-letters c = λ n cs args. letters_then n cs args
