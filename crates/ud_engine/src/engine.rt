@@ -209,6 +209,7 @@ impl<'p, S: Show, H: LineBuffer> Engine<'p, S, H> {
         ensures error_matches { self.old.fault ≡ None →
             IfErr result (ErrorMatchesWriter out.new.failed) }
         ensures records_fault { IfErr result (λ f. self.new.fault ≡ Some f) }
+        ensures not_fused { OnOk result (self.new.fault ≡ None) }
         ensures fused { IfSome self.old.fault (λ f. (result ≡ Err f) × (self.new ≡ self.old) ×
             (out.new ≡ out.old)) }
     {
@@ -365,6 +366,7 @@ impl<'p, S: Show, H: LineBuffer> Engine<'p, S, H> {
             (W.contents out.new.inner) (text ++ chunk.now) printed) }
         ensures not_failed { OnOk result (out.new.failed ≡ false) }
         ensures error_matches { IfErr result (ErrorMatchesWriter out.new.failed) }
+        ensures fault { OnOk result (self.new.fault ≡ self.old.fault) }
     {
         let mut cursor = cursor_at(&self.lines, chunk, 0);
         while cursor.pos < chunk.len() {

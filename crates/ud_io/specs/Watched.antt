@@ -1,6 +1,6 @@
 -- Watched: readers and writers that record a failure, and what is known of their bytes.
 --
---   WatchedState T                            a reader or writer, and whether it has failed
+--   WatchedState T                            a reader or writer, and how its calls ended
 --   ReadsOnce old new r buf                   one call of a reader returned `r` and left `buf`
 --   WritesOnce old new r bytes                one call of a writer with `bytes` returned `r`
 --   AppendsPrefix old new bytes               a prefix of `bytes` was appended
@@ -12,10 +12,12 @@ use Rattle.std.specs.Prelude.{Bool, true, false, ℕ, List, Option, Some, None, 
 use Rattle.std.specs.Prelude.{◌<◌, ◌≤◌, ◌++◌}
 use Rattle.std.specs.Io.KnownBytes.{Consumes, Appends, Keeps, IsAtEnd}
 
--- `WatchedState T`: the wrapped reader or writer, and whether a call of it has failed.
+-- `WatchedState T`: the wrapped reader or writer, whether a call of it has failed, and whether a
+-- write was tried since the last flush that succeeded.
 pub record WatchedState (T : Type 0) : Type 0 where
   pub inner : T
   pub failed : Bool
+  pub unflushed : Bool
 
 -- `ReadsOnce old new r buf`: one call of a reader returned `r` and left `buf` in the buffer. With
 -- `Some n`, the first `n` bytes of `buf` were read: none of them only at the end of the input or

@@ -3,7 +3,7 @@
 //! A recorded failure stays, so that a run can decide at its end whether every byte was read and
 //! written. No failed call is repeated by itself, not even an interrupted one.
 
-ghost use Rattle.std.specs.Prelude.{◌≡◌, true, false, is_none, not};
+ghost use Rattle.std.specs.Prelude.{◌≡◌, true, false, is_none, not, if◌then◌else◌};
 ghost use Rattle.std.specs.Io.KnownBytes.{Keeps};
 ghost use Rattle.ud_io.specs.Watched.{ReadsOnce, WritesOnce};
 
@@ -17,6 +17,8 @@ pub struct Watched<T> {
     inner: T,
     /// A call has failed. Once true, it stays true.
     failed: bool,
+    /// A write was tried since the last flush that succeeded.
+    unflushed: bool,
 }
 
 impl<T> Model for Watched<T> {
@@ -24,7 +26,11 @@ impl<T> Model for Watched<T> {
 
     ghost Value = { WatchedState T };
 
-    ghost view = { λ w. record { inner = w.inner; failed = w.failed } };
+    ghost view = { λ w. record {
+      inner = w.inner;
+      failed = w.failed;
+      unflushed = w.unflushed;
+    } };
 }
 
 impl<T> Watched<T> {
@@ -32,10 +38,12 @@ impl<T> Watched<T> {
     pub fn new(inner: T) -> Watched<T>
         ensures inner { result.inner ≡ inner }
         ensures failed { result.failed ≡ false }
+        ensures unflushed { result.unflushed ≡ false }
     {
         Watched {
             inner,
             failed: false,
+            unflushed: false,
         }
     }
 
@@ -51,6 +59,13 @@ impl<T> Watched<T> {
         ensures { result ≡ self.now.failed }
     {
         self.failed
+    }
+
+    /// Returns whether a write was tried since the last flush that succeeded.
+    pub fn unflushed(&self) -> bool
+        ensures { result ≡ self.now.unflushed }
+    {
+        self.unflushed
     }
 }
 
@@ -68,6 +83,7 @@ impl<R: Read> Watched<R> {
         ensures once { ReadsOnce (R.remaining self.old.inner) (R.remaining self.new.inner) result
             buf.new }
         ensures failed { self.new.failed ≡ is_none result }
+        ensures unflushed { self.new.unflushed ≡ self.old.unflushed }
     {
         match self.inner.read(buf) {
             Ok(count) => Some(count),
@@ -92,7 +108,9 @@ impl<W: Write> Watched<W> {
         ensures once { WritesOnce (W.contents self.old.inner) (W.contents self.new.inner) result
             bytes.now }
         ensures failed { self.new.failed ≡ is_none result }
+        ensures unflushed { self.new.unflushed ≡ true }
     {
+        self.unflushed = true;
         match self.inner.write(bytes) {
             Ok(count) if count > 0 || bytes.is_empty() => Some(count),
             _ => {
@@ -110,9 +128,13 @@ impl<W: Write> Watched<W> {
         ensures unchanged { Keeps (W.contents self.old.inner) (W.contents self.new.inner) }
         ensures failed { self.old.failed ≡ false → self.new.failed ≡ not result }
         ensures fused { self.old.failed ≡ true → self.new.failed ≡ true }
+        ensures flushed { self.new.unflushed ≡ if result then false else self.old.unflushed }
     {
         match self.inner.flush() {
-            Ok(()) => true,
+            Ok(()) => {
+                self.unflushed = false;
+                true
+            }
             Err(_) => {
                 self.failed = true;
                 false

@@ -110,6 +110,9 @@ pub fn tool<R: Read, W: Write, E: Write>(
     ensures usage_reported { IfSome (usage_fault (map string_bytes args.now)) (λ fault.
         ReportsUsage (parsed_args (map string_bytes args.now)) fault err.new.failed
         (E.contents err.old.inner) (E.contents err.new.inner) result) }
+    // What was written is flushed, or the output has failed.
+    ensures flushed { out.old.unflushed ≡ false → out.new.failed ≡ false →
+        out.new.unflushed ≡ false }
     // If a read or a write fails, the status is 2.
     ensures read_fails { reader.new.failed ≡ true → result ≡ 2 }
     ensures write_fails { out.new.failed ≡ true → result ≡ 2 }
