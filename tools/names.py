@@ -1,7 +1,8 @@
 #!/usr/bin/env python3
 """Checks that the names and files that the pages cite exist.
 
-    tools/names.py [PAGE ..]     the pages, or README.md and the like, and those of docs and tests
+    tools/names.py [PAGE ..]     the pages, or README.md and the like, and those of docs, tests and
+                                 crates; without PAGE, also the paths in comments of crates
 
 Prints each name that isn't there as PAGE:LINE: NAME, and exits with 1 if there is one. Names are
 looked for in backquotes, outside of code blocks:
@@ -11,36 +12,33 @@ looked for in backquotes, outside of code blocks:
     Type::method                       both in one source file
     Module.definition                  in the file Module.antt
     law_lines, LineBuffer, Engine      a word of some source, a file's stem, or an edit
+    answer, ended                      a clause's label, in a table's column "Clause"
 
-Other words have no `_`, no capital inside, and aren't one capitalized word: they are skipped.
-Comments aren't sources.
+Other words have no `_`, no capital inside, and aren't one capitalized word: they are skipped. A
+comment is no source.
 """
 import re
 import subprocess
 import sys
 
-PAGES = re.compile(r"(README|CONTRIBUTING)\.md|docs/\w+\.md|bench/README\.md|tests/.*README\.md")
+PAGES = re.compile(r"(README|CONTRIBUTING)\.md|docs/\w+\.md|(bench|tests|crates)/.*README\.md")
 SOURCE = re.compile(r"(crates|bench|tests|tools|packaging)/.*|Makefile|crates\.txt")
 ENDING = re.compile(r"\.(rt|antt|md|sh|py|txt|svg|dot|c|h|1)$")
 PATH = re.compile(r"[\w.+-]*(/[\w.+-]+)*/?")
 PAIR = re.compile(r"\b([A-Z]\w*)(::|\.)([a-z]\w*|[A-Z]\w*)\b")
 WORD = re.compile(r"[A-Za-z_]\w*")
+LABEL = re.compile(r"\b(?:ensures|requires)\*? (\w+) \{")
+COMMENTED = re.compile(r"^\s*(?://|--).*?\b(\w+(?:/\w+)+\.(?:antt|rt|md|sh|py))\b", re.MULTILINE)
 
-# Names that are no names of this tree, and what they are.
+# What is no name of this tree, by what it is.
 EXCEPTIONS = {
-    "intmax_t": "C's type",
-    "uintmax_t": "C's type",
-    "a.c": "a file of an example",
-    "in.c": "a file of an example",
-    "NAME.antt": "stands for a file",
-    "vVERSION": "stands for a tag",
-    "step_counts_no_line": "an edit as an example",
-    "conditions/s": "a unit",
-    "MB/s": "a unit",
-    "linux-source-6.1": "Debian's package",
-    "make headers_install": "a target of Linux",
-    "include/uapi": "a folder of Linux",
+    "C's types and escapes": ["intmax_t", "uintmax_t", "\\xHH"],
+    "files of examples": ["a.c", "in.c"],
+    "stand for others": ["NAME.antt", "NAME.case", "vVERSION", "step_counts_no_line"],
+    "units": ["conditions/s", "MB/s"],
+    "Debian's and Linux's": ["linux-source-6.1", "make headers_install", "include/uapi"],
 }
+EXCEPTED = {name for names in EXCEPTIONS.values() for name in names}
 
 
 def is_checked(word, alone):
@@ -68,23 +66,25 @@ class Tree:
         for path in self.files:
             parts = path.split("/")
             for first in range(len(parts)):
-                for last in range(first + 1, len(parts) + 1):
-                    self.ends.add("/".join(parts[first:last]))
-        self.words_of = {}
+                self.ends.update("/".join(parts[first:last + 1]) for last in range(first, len(parts)))
+        self.words_of, self.labels, self.commented = {}, set(), []
         for path in filter(SOURCE.fullmatch, self.files):
             if path in ("tools/names.py", "tools/style.py") or path.endswith((".md", ".svg")):
                 continue
             with open(path, encoding="utf-8", errors="replace") as file:
-                text = without_comments(path, file.read())
-            self.words_of[path] = set(WORD.findall(text))
-        self.words = set().union(*self.words_of.values())
+                whole = file.read()
+            if path.endswith((".rt", ".antt")):
+                self.labels.update(LABEL.findall(whole))
+                self.commented += [(path, cited) for cited in COMMENTED.findall(whole)]
+            self.words_of[path] = set(WORD.findall(without_comments(path, whole)))
+        self.words = EXCEPTED.union(*self.words_of.values())
         self.words.update(end.split(".")[0] for end in self.ends if "/" not in end)
         with open("Makefile", encoding="utf-8") as file:
             self.targets = set(re.findall(r"^([\w-]+):", file.read(), re.MULTILINE))
 
     def missing(self, cited):
         """Yields the names in a citation that don't exist."""
-        if cited in EXCEPTIONS or re.match(r"[-#$/\"'~.]", cited):
+        if cited in EXCEPTED or re.match(r"[-#$/\"'~.]", cited):
             return  # An option, C text, a shell's variable, a folder of the machine, an ending.
         if PATH.fullmatch(cited) and ("/" in cited or ENDING.search(cited)):
             if cited.rstrip("/") not in self.ends:
@@ -95,16 +95,12 @@ class Tree:
                 yield f"make {target}"
         for first, mark, second in PAIR.findall(cited):
             ending = f"/{first}.antt" if mark == "." else ".rt"
-            if not any(
-                second in words and (mark == "." or first in words)
-                for path, words in self.words_of.items()
-                if path.endswith(ending)
-            ):
+            if not any(second in words and (mark == "." or first in words)
+                       for path, words in self.words_of.items() if path.endswith(ending)):
                 yield first + mark + second
         for word in WORD.findall(cited):
-            if is_checked(word, word == cited) and word not in EXCEPTIONS:
-                if word not in self.words:
-                    yield word
+            if is_checked(word, word == cited) and word not in self.words:
+                yield word
 
 
 def citations(text):
@@ -112,24 +108,42 @@ def citations(text):
     bare = re.sub(r"^```.*?^```", lambda block: re.sub(r"[^\n]", "", block.group(0)), text,
                   flags=re.MULTILINE | re.DOTALL)
     for found in re.finditer(r"`((?:[^`\n]|\n(?!\n))+)`", bare):
-        line = bare.count("\n", 0, found.start()) + 1
-        yield line, " ".join(found.group(1).replace("\\|", "|").split())
+        cited = " ".join(found.group(1).replace("\\|", "|").split())
+        yield bare.count("\n", 0, found.start()) + 1, cited
 
 
-def main():
-    tree = Tree()
-    pages = sys.argv[1:] or [path for path in tree.files if PAGES.fullmatch(path)]
-    count = 0
+def clauses(text):
+    """Yields the line and each lowercase name in the column "Clause", if a table has it second."""
+    inside = False
+    for line, row in enumerate(text.split("\n"), 1):
+        cells = re.split(r"(?<!\\)\|", row)
+        inside = len(cells) > 3 and (inside or cells[2].strip() == "Clause")
+        for name in re.findall(r"`([a-z_]+)`", cells[2]) if inside else ():
+            yield line, name
+
+
+def problems(tree, pages):
+    """Yields a message for each name in a page that doesn't exist."""
     for page in pages:
         with open(page, encoding="utf-8") as file:
             text = file.read()
         for line, cited in citations(text):
-            for name in tree.missing(cited):
-                print(f"{page}:{line}: {name} doesn't exist")
-                count += 1
-    if count:
-        print(f"names: {count} names don't exist", file=sys.stderr)
-    return 1 if count else 0
+            yield from (f"{page}:{line}: {name} doesn't exist" for name in tree.missing(cited))
+        for line, name in clauses(text):
+            if name not in tree.labels:
+                yield f"{page}:{line}: no clause is called {name}"
+
+
+def main():
+    tree = Tree()
+    found = list(problems(tree, sys.argv[1:] or filter(PAGES.fullmatch, tree.files)))
+    if not sys.argv[1:]:
+        found += [f"{path}: {cited} doesn't exist" for path, cited in tree.commented
+                  if cited not in tree.ends]
+    print(*found, sep="\n", end="\n" if found else "")
+    if found:
+        print(f"names: {len(found)} names don't exist", file=sys.stderr)
+    return 1 if found else 0
 
 
 sys.exit(main())
