@@ -18,16 +18,17 @@ pub record WatchedState (T : Type 0) : Type 0 where
   pub failed : Bool
 
 -- `ReadsOnce old new r buf`: as after one call of a reader that returned `r` and left `buf` in the
--- buffer. The relation is about bytes, and counts no calls. With `Some n`, the first `n` bytes of `buf` were read: none of them only at the end of the input or
--- for an empty buffer. With `None`, the call failed and read nothing.
+-- buffer. The relation is about bytes, and counts no calls. With `Some n`, the first `n` bytes of
+-- `buf` were read: none of them only at the end of the input or for an empty buffer. With `None`,
+-- the call failed and read nothing.
 abbrev pub ReadsOnce : Option (List ℕ) → Option (List ℕ) → Option ℕ → List ℕ → Type 0
 ReadsOnce old new (Some n) buf = (n ≤ length buf) × Consumes old new (take n buf) ×
     (n ≡ 0 → 0 < length buf → IsAtEnd new)
 ReadsOnce old new None buf = Keeps old new
 
 -- `WritesOnce old new r bytes`: as after one call of a writer with `bytes` that returned `r`. The
--- relation is about bytes, and counts no calls. With `Some n`, the first `n` bytes were appended, at least one if there is one. With `None`, the call failed and
--- appended nothing.
+-- relation is about bytes, and counts no calls. With `Some n`, the first `n` bytes were appended, at
+-- least one if there is one. With `None`, the call failed and appended nothing.
 abbrev pub WritesOnce : Option (List ℕ) → Option (List ℕ) → Option ℕ → List ℕ → Type 0
 WritesOnce old new (Some n) bytes = (n ≤ length bytes) × Appends old new (take n bytes) ×
     (0 < length bytes → 0 < n)
