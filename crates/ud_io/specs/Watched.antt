@@ -27,8 +27,8 @@ ReadsOnce old new (Some n) buf = (n ≤ length buf) × Consumes old new (take n 
 ReadsOnce old new None buf = Keeps old new
 
 -- `WritesOnce old new r bytes`: as after one call of a writer with `bytes` that returned `r`. The
--- relation is about bytes, and counts no calls. With `Some n`, the first `n` bytes were appended, at
--- least one if there is one. With `None`, the call failed and appended nothing.
+-- relation is about bytes, and counts no calls. With `Some n`, the first `n` bytes were appended,
+-- at least one if there is one. With `None`, the call failed and appended nothing.
 abbrev pub WritesOnce : Option (List ℕ) → Option (List ℕ) → Option ℕ → List ℕ → Type 0
 WritesOnce old new (Some n) bytes = (n ≤ length bytes) × Appends old new (take n bytes) ×
     (0 < length bytes → 0 < n)
