@@ -29,9 +29,10 @@ is_write_error (Err Write) = true
 
 -- `ToolEnded args reader_failed out_failed read_old read_new before after err_failed status`: a run
 -- of `args` ended with `ran`, and `flushed` is whether the flush of its output worked. That a flush
--- was made isn't stated, since the library's `Write` doesn't count calls. A failed flush is a failed
--- write if the run had no fault, and changes nothing else. The reader has failed if a read did, and
--- the output if a write or the flush did. The message and the status are those of this end.
+-- was made isn't stated, since the library's `Write` doesn't count calls. A failed flush is a
+-- failed write if the run had no fault, and changes nothing else. The reader has failed if a read
+-- did, and the output if a write or the flush did. The message and the status are those of this
+-- end.
 pub record ToolEnded (args : List (List ℕ)) (reader_failed out_failed : Bool)
     (read_old read_new : Option (List ℕ)) (before after : Streams)
     (err_failed : Bool) (status : ℕ) : Type 0 where
