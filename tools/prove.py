@@ -4,8 +4,7 @@
     tools/prove.py [CRATE]     unifdef_cli by default; RT is Rattle's command, `rt` by default
 
 A crate is proved as soon as the libraries that it uses are. Those with the longest chain above them
-come first. The others beside them are nicer, so that the chain has the processors. What a crate
-prints is shown only if it fails, and then the others are stopped.
+come first. What a crate prints is shown only if it fails, and then the others are stopped.
 """
 import os
 import re
@@ -23,7 +22,7 @@ RT = os.environ.get("RT", "rt")
 SECONDS = {
     "ud_model": 60,
     "ud_io": 16,
-    "ud_cond": 80,
+    "ud_cond": 112,
     "ud_text": 130,
     "ud_args": 90,
     "ud_sections": 98,
@@ -75,14 +74,14 @@ def minutes(seconds):
 class Run:
     """The check of one crate, from its start to its end."""
 
-    def __init__(self, crate, nice):
+    def __init__(self, crate):
         self.crate, self.begin = crate, time.monotonic()
         self.log = tempfile.TemporaryFile()
         folder = f"{HERE}/crates/{crate}"
         # `rt run` proves and builds before it runs. An empty input is copied, with status 0.
         verb = "run" if os.path.exists(f"{folder}/src/main.rt") else "lib"
         self.process = subprocess.Popen(
-            ["nice", "-n", str(nice), RT, verb],
+            [RT, verb],
             cwd=folder,
             stdin=subprocess.DEVNULL,
             stdout=self.log,
@@ -132,13 +131,9 @@ class Build:
         for crate in self.ready():
             if self.running and (len(self.running) >= self.most or free_memory() < FREE):
                 return
-            # A crate with time to spare leaves the processors to the chain.
-            behind = max((self.chain[it.crate] - it.spent() for it in self.running), default=0)
-            spare = behind - self.chain[crate]
-            nice = 0 if spare <= 0 else 5 if spare < 60 else 10
             self.left.remove(crate)
-            self.running.append(Run(crate, nice))
-            self.say(f"{crate} is being proved{f' (nice {nice})' if nice else ''}")
+            self.running.append(Run(crate))
+            self.say(f"{crate} is being proved")
 
     def estimate(self):
         """Returns in how many seconds all is done, roughly."""
