@@ -62,7 +62,8 @@ SOURCES := crates.txt HANDLES \
 	$(shell find crates -name out -prune -o \( -name '*.rt' -o -name '*.antt' \) -print)
 
 .DELETE_ON_ERROR:
-.PHONY: all build kit try test check edits cases examples manual-examples differences faults fail-alloc tree-test
+.PHONY: all build kit try test check edits cases examples manual-examples differences
+.PHONY: faults fail-alloc tree-test
 .PHONY: install uninstall dist deb packages-test manuals around bench bench-text
 .PHONY: bench-conditions pictures trees selects lines lines-test hostile fronts clean
 
