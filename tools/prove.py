@@ -5,9 +5,14 @@
 
 A crate is proved as soon as the libraries that it uses are. Those with the longest chain above them
 come first. What a crate prints is shown only if it fails, and then the others are stopped.
+
+Rattle's command locks the folder of a crate, and those of the crates below it, while it proves it. So
+each crate is proved in a folder of its own, with links to its files and to what the crates below
+have become, and what it becomes is moved back.
 """
 import os
 import re
+import shutil
 import signal
 import subprocess
 import sys
@@ -22,14 +27,15 @@ RT = os.environ.get("RT", "rt")
 SECONDS = {
     "ud_model": 60,
     "ud_io": 16,
-    "ud_cond": 112,
-    "ud_text": 130,
-    "ud_args": 90,
-    "ud_sections": 98,
-    "ud_engine": 174,
-    "ud_diagnostics": 30,
-    "unifdef": 60,
-    "unifdef_cli": 77,
+    "ud_faults": 18,
+    "ud_cond": 130,
+    "ud_text": 122,
+    "ud_args": 72,
+    "ud_sections": 110,
+    "ud_engine": 175,
+    "ud_diagnostics": 27,
+    "unifdef": 43,
+    "unifdef_cli": 68,
 }
 OTHER = 60
 
@@ -71,13 +77,54 @@ def minutes(seconds):
     return f"{seconds:.0f} s" if seconds < 90 else f"{seconds / 60:.0f} minutes"
 
 
+def link(source, target):
+    """Links a file, or copies it where the file system has no links."""
+    try:
+        os.link(source, target)
+    except OSError:
+        shutil.copy2(source, target)
+
+
+class Room:
+    """A folder with a crate and those below it, where nothing else is proved."""
+
+    def __init__(self, crate, below):
+        self.crate = crate
+        self.top = tempfile.mkdtemp(prefix=".prove-", dir=HERE)
+        self.folder = f"{self.top}/crates/{crate}"
+        shutil.copy2(f"{HERE}/HANDLES", self.top)
+        with open(f"{HERE}/crates.txt", encoding="utf-8") as lines:
+            kept = [it for it in lines if re.match(r"\w*", it)[0] in (*below, crate)]
+        with open(f"{self.top}/crates.txt", "w", encoding="utf-8") as it:
+            it.writelines(kept)
+        for it in (*below, crate):
+            source, target = f"{HERE}/crates/{it}", f"{self.top}/crates/{it}"
+            shutil.copytree(source, target, ignore=shutil.ignore_patterns("out"), copy_function=link)
+            if it != crate:
+                shutil.copytree(f"{source}/out/rlib", f"{target}/out/rlib", copy_function=link)
+        self.move_out(HERE, self.top)
+
+    def move_out(self, source, target):
+        """Moves what was made of the crate."""
+        made, place = (f"{top}/crates/{self.crate}/out" for top in (source, target))
+        if os.path.isdir(made):
+            shutil.rmtree(place, ignore_errors=True)
+            os.rename(made, place)
+
+    def leave(self):
+        """Moves what was made of the crate back, and removes the folder."""
+        self.move_out(self.top, HERE)
+        shutil.rmtree(self.top, ignore_errors=True)
+
+
 class Run:
     """The check of one crate, from its start to its end."""
 
-    def __init__(self, crate):
+    def __init__(self, crate, below):
         self.crate, self.begin = crate, time.monotonic()
         self.log = tempfile.TemporaryFile()
-        folder = f"{HERE}/crates/{crate}"
+        self.room = Room(crate, below)
+        folder = self.room.folder
         # `rt run` proves and builds before it runs. An empty input is copied, with status 0.
         verb = "run" if os.path.exists(f"{folder}/src/main.rt") else "lib"
         self.process = subprocess.Popen(
@@ -99,8 +146,10 @@ class Run:
             self.process.wait(timeout=10)
         except subprocess.TimeoutExpired:
             os.killpg(self.process.pid, signal.SIGKILL)
+            self.process.wait()
         except ProcessLookupError:
             pass
+        self.room.leave()
 
 
 class Build:
@@ -117,7 +166,8 @@ class Build:
         for it in reversed(self.left):
             above = [self.chain[up] for up in self.chain if it in self.used[up]]
             self.chain[it] = SECONDS.get(it, OTHER) + max(above, default=0)
-        self.most = len(os.sched_getaffinity(0))
+        # A check alone keeps two processors busy for most of its time.
+        self.most = max(len(os.sched_getaffinity(0)) // 2, 1)
         self.begin = time.monotonic()
         self.is_terminal = sys.stderr.isatty()
 
@@ -132,7 +182,7 @@ class Build:
             if self.running and (len(self.running) >= self.most or free_memory() < FREE):
                 return
             self.left.remove(crate)
-            self.running.append(Run(crate))
+            self.running.append(Run(crate, at_or_below(crate, self.used)[:-1]))
             self.say(f"{crate} is being proved")
 
     def estimate(self):
@@ -170,6 +220,7 @@ class Build:
     def end(self, run):
         """Notes that a check has ended, and returns whether the crate is proved."""
         self.running.remove(run)
+        run.room.leave()
         status = run.process.returncode
         if status:
             run.log.seek(0)
