@@ -7,7 +7,7 @@ ghost use Rattle.ud_diagnostics.specs.RunMessages.{final_result, result_message,
 
 use crate::fault_messages::report_fault;
 use std::io::Write;
-use ud_engine::RunFault;
+use ud_faults::RunFault;
 use ud_io::Watched;
 use ud_model::{ExitMode, Listing, Settings};
 

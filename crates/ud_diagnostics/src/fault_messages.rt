@@ -3,18 +3,15 @@
 ghost use Rattle.std.specs.Prelude.{◌≡◌, false};
 ghost use Rattle.ud_model.specs.answer.Messages.{about, about_line, message_of};
 ghost use Rattle.ud_model.specs.sections.Faults.{premature_eof};
-ghost use Rattle.ud_sections.specs.sections.MachineState.{fault_of};
-ghost use Rattle.ud_engine.specs.Feeding.{limit_of};
+ghost use Rattle.ud_faults.specs.Faults.{limit_of, fault_of};
 ghost use Rattle.ud_io.specs.Watched.{AppendsAllOrPrefix};
 ghost use Rattle.ud_diagnostics.specs.RunMessages.{fault_message};
 
 use crate::write_parts_all::write_parts;
 use itoa::Buffer;
 use std::io::Write;
-use ud_engine::RunFault;
+use ud_faults::{RunFault, SectionFault, TextFault};
 use ud_io::Watched;
-use ud_sections::SectionFault;
-use ud_text::TextFault;
 
 /// Reports why a run ended. If a write fails, a prefix of the message was written.
 pub(crate) fn report_fault<E: Write>(err: &mut Watched<E>, name: &[u8], fault: RunFault)

@@ -12,9 +12,9 @@ use Rattle.ud_model.specs.conditions.Table.{Argument}
 use Rattle.ud_cond.specs.symbols.SymbolTable.{TableRepresents}
 use Rattle.ud_text.specs.lines.LinesState.{LinesState}
 use Rattle.ud_sections.proofs.lemmas.sections.NextLemmas.{lines_more}
-use Rattle.ud_sections.specs.sections.MachineState.{fault_of}
-use Rattle.ud_engine.specs.declared.fault.RunFault.{RunFault}
-use Rattle.ud_engine.specs.declared.fault.RunFault.TheVariants.{Text, Section, Read, Write}
+use Rattle.ud_faults.specs.Faults.{fault_of}
+use Rattle.ud_faults.specs.declared.run.RunFault.{RunFault}
+use Rattle.ud_faults.specs.declared.run.RunFault.TheVariants.{Text, Section, Read, Write}
 use Rattle.ud_engine.specs.declared.line_processor.LineProcessor.{LineProcessor}
 use Rattle.ud_engine.specs.Finishing.{without_fault, PrintsAll, FinishFault, FinishTruncated, FinishOk, FinishErr}
 use Rattle.ud_engine.specs.Feeding.{EngineState, EngineRepresentsBuffered, EngineRepresents}

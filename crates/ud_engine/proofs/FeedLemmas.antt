@@ -10,11 +10,12 @@ use Rattle.ud_model.specs.declared.settings.Listing.{Listing}
 use Rattle.ud_model.specs.declared.settings.Listing.TheVariants.{Off, Names, Depths}
 use Rattle.ud_model.specs.declared.limits.TheConstants.{TEXT_LINES}
 use Rattle.ud_text.specs.lines.LinesState.{LinesState}
-use Rattle.ud_sections.specs.sections.MachineState.{fault_of}
-use Rattle.ud_engine.specs.declared.fault.RunFault.{RunFault}
-use Rattle.ud_engine.specs.declared.fault.RunFault.TheVariants.{Text, Section, Read, Write}
+use Rattle.ud_faults.specs.Faults.{fault_of}
+use Rattle.ud_faults.specs.declared.run.RunFault.{RunFault}
+use Rattle.ud_faults.specs.declared.run.RunFault.TheVariants.{Text, Section, Read, Write}
 use Rattle.ud_engine.specs.Advancing.{Advances, StepFails, WriteStops, slice_between}
-use Rattle.ud_engine.specs.Feeding.{EngineState, IsOpen, EngineRepresentsBuffered, EngineRepresents, Continues, FaultsAfter, PrintsPrefix, FeedFails, limit_of}
+use Rattle.ud_engine.specs.Feeding.{EngineState, IsOpen, EngineRepresentsBuffered, EngineRepresents, Continues, FaultsAfter, PrintsPrefix, FeedFails}
+use Rattle.ud_faults.specs.Faults.{limit_of}
 use Rattle.ud_engine.specs.ProcessedLines.{text_by}
 use Rattle.ud_engine.specs.FaultEffects.{OutputUnchanged, FailsAfterFlush, FlushesThenFails}
 use Rattle.ud_io.specs.Buffering.{AppendsAllBut}

@@ -9,6 +9,7 @@ pub mod StepLemmas
 pub mod CursorLemmas
 pub mod FeedLemmas
 pub mod EndLemmas
+pub mod ErrLemmas
 pub mod RunLemmas
 pub mod RunEndedLemmas
 pub mod FinishLemmas

@@ -8,11 +8,12 @@ use Rattle.ud_model.specs.sections.Items.{Options}
 use Rattle.ud_model.specs.sections.Faults.{Fault}
 use Rattle.ud_model.specs.answer.Printing.{Judged}
 use Rattle.ud_model.specs.answer.Outcomes.{outcome_of, output_by, ran_as, came_as}
-use Rattle.ud_sections.specs.sections.MachineState.{fault_of}
-use Rattle.ud_engine.specs.declared.fault.RunFault.{RunFault}
-use Rattle.ud_engine.specs.declared.fault.RunFault.TheVariants.{Text, Section, Read, Write}
+use Rattle.ud_faults.specs.Faults.{fault_of}
+use Rattle.ud_faults.specs.declared.run.RunFault.{RunFault}
+use Rattle.ud_faults.specs.declared.run.RunFault.TheVariants.{Text, Section, Read, Write}
 use Rattle.ud_engine.specs.Finishing.{FinishFault, FinishOk, FinishErr}
-use Rattle.ud_engine.specs.Feeding.{EngineState, EngineRepresentsBuffered, FeedFails, FaultsAfter, limit_of}
+use Rattle.ud_engine.specs.Feeding.{EngineState, EngineRepresentsBuffered, FeedFails, FaultsAfter}
+use Rattle.ud_faults.specs.Faults.{limit_of}
 use Rattle.ud_engine.specs.ProcessedLines.{text_by}
 use Rattle.ud_engine.specs.Runs.{PrintsSoFar, StoppedAtFault, EndsWith, in_course, at_end}
 use Rattle.ud_io.specs.Watched.{AppendsPrefix}

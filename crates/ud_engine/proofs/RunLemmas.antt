@@ -18,12 +18,13 @@ use Rattle.ud_model.proofs.sections.FaultStays.{fault_stays, reads_stay}
 use Rattle.ud_model.proofs.sections.Soundness.{one_run_so_far}
 use Rattle.ud_model.proofs.answer.Onward.{prints_further}
 use Rattle.ud_model.proofs.text.LinesLemmas.{Growth, stays_open, ends_line, grows}
-use Rattle.ud_sections.specs.sections.MachineState.{fault_of}
-use Rattle.ud_engine.specs.declared.fault.RunFault.{RunFault}
-use Rattle.ud_engine.specs.declared.fault.RunFault.TheVariants.{Text, Section, Read, Write}
+use Rattle.ud_faults.specs.Faults.{fault_of}
+use Rattle.ud_faults.specs.declared.run.RunFault.{RunFault}
+use Rattle.ud_faults.specs.declared.run.RunFault.TheVariants.{Text, Section, Read, Write}
 use Rattle.ud_engine.specs.declared.pump.TheConstants.{CHUNK_BYTES}
 use Rattle.ud_engine.specs.Finishing.{FinishFault, FinishOk, FinishErr, RunAnswers, ResultIs, text_fault_of}
-use Rattle.ud_engine.specs.Feeding.{EngineState, EngineRepresentsBuffered, FeedFails, FaultsAfter, limit_of}
+use Rattle.ud_engine.specs.Feeding.{EngineState, EngineRepresentsBuffered, FeedFails, FaultsAfter}
+use Rattle.ud_faults.specs.Faults.{limit_of}
 use Rattle.ud_engine.specs.ProcessedLines.{text_by, differs_in}
 use Rattle.ud_engine.specs.Runs.{LagsOneRead, all_but_last_chunk, bytes_to_limit}
 use Rattle.ud_engine.proofs.LinePartLemmas.{before_is, rest_is, reads_so_far}

@@ -13,9 +13,9 @@ use Rattle.ud_text.specs.lines.Borrowing.{CanBorrow}
 use Rattle.ud_text.proofs.lemmas.scan.MaskLemmas.{no_newline-take}
 use Rattle.ud_text.proofs.lemmas.bulk.StepLemmas.{drop_both}
 use Rattle.ud_sections.specs.sections.Limits.{IsWithinLimits}
-use Rattle.ud_sections.specs.sections.MachineState.{fault_of}
-use Rattle.ud_engine.specs.declared.fault.RunFault.{RunFault}
-use Rattle.ud_engine.specs.declared.fault.RunFault.TheVariants.{Text, Section, Read, Write}
+use Rattle.ud_faults.specs.Faults.{fault_of}
+use Rattle.ud_faults.specs.declared.run.RunFault.{RunFault}
+use Rattle.ud_faults.specs.declared.run.RunFault.TheVariants.{Text, Section, Read, Write}
 use Rattle.ud_engine.specs.Advancing.{Advances, StepFails, slice_between}
 use Rattle.ud_engine.specs.Feeding.{EngineState, IsOpen, EngineRepresentsBuffered}
 use Rattle.ud_engine.specs.ProcessedLines.{PrintsLine, PrintErr}

@@ -1,5 +1,6 @@
 -- DecidedLines: the state of a line decider.
 --
+--   decider_of scanner machine        the decider with this scanner and this machine
 --   DeciderRepresents o r xs t        a decider has read these items
 --   DecidesLine o r xs t l step       it has also read this line
 --   consumed lines bytes              a line buffer once these bytes are consumed
@@ -12,13 +13,18 @@ use Rattle.ud_model.specs.sections.Pruning.{Mark, marks}
 use Rattle.ud_model.specs.sections.Items.{Options, reading_of, line_of, next_item}
 use Rattle.ud_model.specs.answer.Printing.{judged_line, judged_lines}
 use Rattle.ud_model.specs.declared.verdict.Verdict.{Verdict}
-use Rattle.ud_text.specs.scan.ScannerState.{ScannerRepresents}
+use Rattle.ud_text.specs.scan.ScannerState.{ScannerState, ScannerRepresents}
 use Rattle.ud_text.specs.lines.LinesState.{LinesState}
 use Rattle.ud_sections.specs.sections.MachineState.{MachineRepresents, machine_fault}
 use Rattle.ud_sections.specs.printing.PrinterOutputs.{judged_text}
 use Rattle.ud_sections.specs.sections.StepViews.{as_span}
 use Rattle.ud_sections.specs.declared.sections.step.Step.{Step}
+use Rattle.ud_sections.specs.declared.sections.machine.Machine.{Machine}
 use Rattle.ud_engine.specs.declared.line_decider.LineDecider.{LineDecider}
+
+-- `decider_of scanner machine`: the decider with a scanner in this state, and with this machine.
+abbrev pub decider_of : ScannerState → Machine → LineDecider
+decider_of scanner machine = record { scanner = scanner; machine = machine }
 
 -- `DeciderRepresents o r xs t`: the decider `r` has read the items `xs` under the options `o`. None
 -- of them is faulty, and `t` is their tree.

@@ -1,8 +1,8 @@
 -- FaultEffects: the state of the output after a fault.
 use Rattle.std.specs.Prelude.{◌≡◌, ℕ, List, Bool, true, false, Option}
 use Rattle.std.specs.Io.KnownBytes.{Appends}
-use Rattle.ud_engine.specs.declared.fault.RunFault.{RunFault}
-use Rattle.ud_engine.specs.declared.fault.RunFault.TheVariants.{Text, Section, Read, Write}
+use Rattle.ud_faults.specs.declared.run.RunFault.{RunFault}
+use Rattle.ud_faults.specs.declared.run.RunFault.TheVariants.{Text, Section, Read, Write}
 use Rattle.ud_io.specs.Watched.{WatchedState, AppendsPrefix}
 
 -- `OutputUnchanged old new buffered left f`: after a fault of the text, writer and buffer are

@@ -15,17 +15,15 @@ use Rattle.ud_model.specs.text.Scans.{Reading}
 use Rattle.ud_model.specs.conditions.Table.{Argument}
 use Rattle.ud_model.specs.sections.Tree.{Item, Tree, depth}
 use Rattle.ud_model.specs.sections.Items.{Options}
-use Rattle.ud_model.specs.sections.Faults.{Fault, too_many_lines, line_too_long}
+use Rattle.ud_model.specs.sections.Faults.{Fault}
 use Rattle.ud_model.specs.answer.Printing.{Judged}
 use Rattle.ud_model.specs.answer.Outcomes.{HasNoFault, ReadsSoFar, lines_so_far}
 use Rattle.ud_model.specs.declared.limits.TheConstants.{LINE_BYTES, TEXT_LINES, OPEN_SECTIONS}
 use Rattle.ud_cond.specs.symbols.SymbolTable.{TableRepresents}
 use Rattle.ud_text.specs.lines.LinesState.{LinesState, LinesRepresent}
-use Rattle.ud_text.specs.declared.lines.fault.TextFault.{TextFault}
-use Rattle.ud_text.specs.declared.lines.fault.TextFault.TheVariants.{TooManyLines, LineTooLong}
-use Rattle.ud_sections.specs.sections.MachineState.{fault_of}
-use Rattle.ud_engine.specs.declared.fault.RunFault.{RunFault}
-use Rattle.ud_engine.specs.declared.fault.RunFault.TheVariants.{Text, Section, Read, Write}
+use Rattle.ud_faults.specs.Faults.{limit_of, fault_of}
+use Rattle.ud_faults.specs.declared.run.RunFault.{RunFault}
+use Rattle.ud_faults.specs.declared.run.RunFault.TheVariants.{Text, Section, Read, Write}
 use Rattle.ud_engine.specs.declared.line_processor.LineProcessor.{LineProcessor}
 use Rattle.ud_engine.specs.ProcessedLines.{ProcessorRepresents, text_by}
 use Rattle.ud_io.specs.Watched.{AppendsPrefix}
@@ -88,11 +86,6 @@ pub record Continues {S : Type 0} (represents : S → List Judged → Type 0) (p
   pub right : ReadsSoFar o longer fed.taken.items fed.taken.tree None
   pub one_line : length (partial_line longer) ≤ LINE_BYTES
   pub few_sections : depth fed.taken.tree ≤ OPEN_SECTIONS
-
--- `limit_of f`: the fault of the definitions for a limit that the text passes.
-abbrev pub limit_of : TextFault → Fault
-limit_of (TooManyLines line) = too_many_lines line
-limit_of (LineTooLong line) = line_too_long line
 
 -- `FaultsAfter o piece longer printed f`: `longer`, as a text that goes on, has the fault `f`.
 -- `printed` is the output for the lines before it.

@@ -21,9 +21,9 @@ use Rattle.ud_model.specs.answer.Printing.{Judged, judged_lines, pieces_by, some
 use Rattle.ud_model.specs.answer.Listing.{levels, listed}
 use Rattle.ud_model.specs.declared.settings.Listing.{Listing}
 use Rattle.ud_model.specs.declared.settings.Listing.TheVariants.{Off, Names, Depths}
-use Rattle.ud_sections.specs.sections.MachineState.{fault_of}
-use Rattle.ud_engine.specs.declared.fault.RunFault.{RunFault}
-use Rattle.ud_engine.specs.declared.fault.RunFault.TheVariants.{Text, Section, Read, Write}
+use Rattle.ud_faults.specs.Faults.{fault_of}
+use Rattle.ud_faults.specs.declared.run.RunFault.{RunFault}
+use Rattle.ud_faults.specs.declared.run.RunFault.TheVariants.{Text, Section, Read, Write}
 use Rattle.ud_engine.specs.declared.line_processor.LineProcessor.{LineProcessor}
 use Rattle.ud_engine.specs.declared.line_processor.SkippedText.{SkippedText}
 use Rattle.ud_engine.specs.DecidedLines.{DeciderRepresents}

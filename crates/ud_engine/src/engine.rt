@@ -8,9 +8,11 @@
 //! or buffers the line that the chunk begins.
 
 ghost use Rattle.std.specs.Prelude.{◌≡◌, ◌++◌, [], ◌<◌, ◌≤◌, ◌-◌, List, ℕ, length, drop, true};
-ghost use Rattle.std.specs.Prelude.{false, IfOk, IfErr, OnOk, IfSome, None, Some, Err, take, not};
+ghost use Rattle.std.specs.Prelude.{false, IfOk, IfErr, OnOk, IfSome, None, Some, Err, take};
+ghost use Rattle.std.specs.Prelude.{is_ok, is_err};
 ghost use Rattle.ud_model.specs.sections.Items.{Options};
 ghost use Rattle.ud_model.specs.answer.Printing.{Judged};
+ghost use Rattle.ud_model.specs.declared.settings.Listing.TheVariants.{Off};
 ghost use Rattle.ud_cond.specs.symbols.SymbolTable.{TableRepresents};
 ghost use Rattle.ud_io.specs.Buffering.{AppendsAllButOrPrefix};
 ghost use Rattle.ud_text.specs.lines.LinesState.{HasCapacity};
@@ -18,14 +20,15 @@ ghost use Rattle.ud_engine.specs.Feeding.{IsOpen, EngineRepresents, ErrorMatches
 ghost use Rattle.ud_engine.specs.Finishing.{FinishErr, PrintsAll, without_fault};
 ghost use Rattle.ud_engine.specs.Advancing.{IsCursor};
 
-use crate::fault::RunFault;
 use crate::line_processor::LineProcessor;
 use crate::output::Output;
+use crate::write_failed::WriteFailed;
 use std::io::Write;
 use std::marker::Model;
 use std::mem;
 use ud_args::Plan;
 use ud_cond::Symbols;
+use ud_faults::RunFault;
 use ud_io::Watched;
 use ud_model::TEXT_LINES;
 use ud_model::bytes::skip_white;
@@ -117,7 +120,7 @@ impl<'p, S: Show> Engine<'p, S, LongLineBuffer> {
     /// Returns an engine before the first byte. It prints by `show`, or lists names if the plan
     /// asks for that.
     ///
-    /// `show` has printed no line yet. Takes no memory.
+    /// `show` has printed no line yet, unless names are listed. Takes no memory.
     ///
     /// # Examples
     /// ```rust
@@ -131,8 +134,8 @@ impl<'p, S: Show> Engine<'p, S, LongLineBuffer> {
     pub fn new(plan: &'p Plan, show: S) -> Engine<'p, S, LongLineBuffer>
         ensures represents { (o : Options) → (piece : List Judged → Judged → List ℕ) →
             o.settings ≡ plan.now.settings → TableRepresents plan.now.symbols o.table →
-            S.represents show [] → ((before : List Judged) → (j : Judged) →
-            S.piece show before j ≡ piece before j) →
+            (o.settings.listing ≡ Off → S.represents show []) →
+            ((before : List Judged) → (j : Judged) → S.piece show before j ≡ piece before j) →
             EngineRepresents S.represents S.piece result o piece [] [] }
         ensures no_fault { result.fault ≡ None }
     {
@@ -154,8 +157,8 @@ impl<'p, S: Show, H: LineBuffer> Engine<'p, S, H> {
     pub(crate) fn with_buffer(plan: &'p Plan, show: S) -> Engine<'p, S, H>
         ensures represents { (o : Options) → (piece : List Judged → Judged → List ℕ) →
             o.settings ≡ plan.now.settings → TableRepresents plan.now.symbols o.table →
-            S.represents show [] → ((before : List Judged) → (j : Judged) →
-            S.piece show before j ≡ piece before j) →
+            (o.settings.listing ≡ Off → S.represents show []) →
+            ((before : List Judged) → (j : Judged) → S.piece show before j ≡ piece before j) →
             EngineRepresents S.represents S.piece result o piece [] [] }
         ensures no_fault { result.fault ≡ None }
     {
@@ -379,11 +382,8 @@ impl<'p, S: Show, H: LineBuffer> Engine<'p, S, H> {
                 )),
             }
         }
-        if self.flush_pending(&chunk[cursor.pending_start..cursor.pos], out) {
-            Ok(())
-        } else {
-            Err(RunFault::Write)
-        }
+        self.flush_pending(&chunk[cursor.pending_start..cursor.pos], out)?;
+        Ok(())
     }
 
     /// Makes the next step through a chunk: skips text lines, decides one line, or buffers the line
@@ -482,9 +482,7 @@ impl<'p, S: Show, H: LineBuffer> Engine<'p, S, H> {
                 bulk_tried: true,
             });
         }
-        if !self.output.append(pending, out) {
-            return Err(RunFault::Write);
-        }
+        self.output.append(pending, out)?;
         Ok(Cursor {
             pending_start: at,
             pos: at,
@@ -600,9 +598,7 @@ impl<'p, S: Show, H: LineBuffer> Engine<'p, S, H> {
             Err(fault) => return Err(RunFault::Text(fault)),
         };
         if !taken.whole {
-            if !self.output.append(pending, out) {
-                return Err(RunFault::Write);
-            }
+            self.output.append(pending, out)?;
             return Ok(taken.used);
         }
         let printed = self.printer.put_line(
@@ -632,24 +628,30 @@ impl<'p, S: Show, H: LineBuffer> Engine<'p, S, H> {
     {
         match fault {
             RunFault::Write => RunFault::Write,
-            _ if self.flush_pending(pending, out) => fault,
-            _ => RunFault::Write,
+            _ => match self.flush_pending(pending, out) {
+                Ok(()) => fault,
+                Err(failed) => RunFault::from(failed),
+            },
         }
     }
 
     /// Writes the buffered bytes and `pending`.
     ///
     /// # Errors
-    /// `false` if a write fails. A prefix of all these bytes was written, and `out` is fused.
-    fn flush_pending<W: Write>(&mut self, pending: &[u8], out: &mut Watched<W>) -> bool
+    /// Fails if a write fails. A prefix of all these bytes was written, and `out` is fused.
+    fn flush_pending<W: Write>(
+        &mut self,
+        pending: &[u8],
+        out: &mut Watched<W>,
+    ) -> Result<(), WriteFailed>
         requires not_failed { out.old.failed ≡ false }
-        ensures appends { AppendsAllButOrPrefix result (W.contents out.old.inner)
+        ensures appends { AppendsAllButOrPrefix (is_ok result) (W.contents out.old.inner)
             (W.contents out.new.inner) (self.old.buffered ++ pending.now) [] }
-        ensures failed { out.new.failed ≡ not result }
+        ensures failed { out.new.failed ≡ is_err result }
         ensures rest { (buffered : List ℕ) × (self.new ≡ record self.old { buffered = buffered }) ×
-            (result ≡ true → buffered ≡ []) }
+            OnOk result (buffered ≡ []) }
     {
-        self.output.append(pending, out) && self.output.flush_buffer(out)
+        self.output.flush_with(pending, out)
     }
 }
 
@@ -688,11 +690,8 @@ fn print_last_line<S: Show, H: LineBuffer, W: Write>(
         Ok(true) => match printer.put_line(&lines.line(), symbols, &[], output, out) {
             Err(fault) => Err(fault),
             Ok(()) => {
-                if output.flush_buffer(out) {
-                    Ok(())
-                } else {
-                    Err(RunFault::Write)
-                }
+                output.flush_buffer(out)?;
+                Ok(())
             }
         },
     }

@@ -7,15 +7,15 @@
 #![tactic(auto)]
 
 mod engine;
-mod fault;
 mod line_decider;
 mod line_processor;
 mod listing;
 mod output;
 mod output_buffer;
 mod pump;
+mod write_failed;
 
 pub use engine::Engine;
-pub use fault::RunFault;
 pub use pump::run;
+pub use ud_faults::RunFault;
 pub use ud_io::{Watched, write_all};

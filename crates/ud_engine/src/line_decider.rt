@@ -10,44 +10,47 @@ ghost use Rattle.ud_model.specs.sections.Faults.{FaultOf, end_fault};
 ghost use Rattle.ud_cond.specs.symbols.SymbolTable.{TableRepresents};
 ghost use Rattle.ud_model.specs.declared.limits.TheConstants.{TEXT_LINES};
 ghost use Rattle.ud_text.specs.lines.LinesState.{LinesRepresent};
-ghost use Rattle.ud_text.specs.LineViews.{as_line};
+ghost use Rattle.ud_model.specs.text.LineViews.{as_line};
 ghost use Rattle.ud_text.specs.bulk.BulkScanning.{AreWholeLines};
 ghost use Rattle.ud_text.specs.lines.Consuming.{CanConsume};
 ghost use Rattle.ud_sections.specs.sections.Limits.{IsWithinLimits};
 ghost use Rattle.ud_sections.specs.sections.StepViews.{HoldsKeyword};
-ghost use Rattle.ud_sections.specs.sections.MachineState.{fault_of, end_fault_of};
-ghost use Rattle.ud_sections.specs.sections.Transitions.{text_verdict};
+ghost use Rattle.ud_sections.specs.sections.MachineState.{end_fault_of};
+ghost use Rattle.ud_faults.specs.Faults.{fault_of};
+ghost use Rattle.ud_sections.specs.sections.Transitions.{text_policy_of, text_verdict};
+ghost use Rattle.ud_engine.specs.DecidedLines.{DeciderRepresents, DecidesLine, DecidesBulk};
+ghost use Rattle.ud_engine.specs.DecidedLines.{consumed, decider_of};
+ghost use Rattle.ud_engine.specs.NameListing.{ListsLine, ListErr};
+ghost use Rattle.ud_engine.specs.FaultEffects.{OutputUnchanged};
 
-use crate::fault::RunFault;
 use crate::listing::append_names;
 use crate::output::Output;
 use std::io::Write;
 use ud_cond::Symbols;
+use ud_faults::RunFault;
 use ud_io::Watched;
-use ud_model::{Settings, Verdict};
-use ud_sections::{Lister, Machine, SectionFault, Step};
-use ud_text::{Line, LineBuffer, Lines, SHORT_LINE_BYTES, ShortScanner};
+use ud_model::Settings;
+use ud_sections::{Lister, Machine, SectionFault, Step, TextPolicy};
+use ud_text::{Line, LineBuffer, Lines, Scanner, ScannerOf};
+
+/// The most bytes of a short line's body.
+const SHORT_LINE_BYTES: usize = 4096;
 
 /// A scanner and a machine, which decide the lines of a text in order.
 #[derive(Drop)]
 pub(crate) struct LineDecider {
-    scanner: ShortScanner,
+    scanner: ScannerOf<SHORT_LINE_BYTES>,
     machine: Machine,
 }
 
 impl LineDecider {
-    ghost use Rattle.ud_engine.specs.DecidedLines.{DeciderRepresents, DecidesLine, DecidesBulk};
-    ghost use Rattle.ud_engine.specs.DecidedLines.{consumed};
-    ghost use Rattle.ud_engine.specs.NameListing.{ListsLine, ListErr};
-    ghost use Rattle.ud_engine.specs.FaultEffects.{OutputUnchanged};
-
     /// Returns a decider before the first line.
     pub(crate) fn new(settings: Settings) -> LineDecider
         ensures { (o : Options) → o.settings ≡ settings →
             DeciderRepresents o result [] (closed nothing) }
     {
         LineDecider {
-            scanner: ShortScanner::new(),
+            scanner: ScannerOf::new(),
             machine: Machine::new(settings),
         }
     }
@@ -75,9 +78,7 @@ impl LineDecider {
         if line.body.len() > SHORT_LINE_BYTES {
             return self.decide_long(line, symbols);
         }
-        let mode = self.machine.mode();
-        let scan = self.scanner.read(mode, line);
-        self.machine.step(&scan, line, symbols)
+        decide_with(&mut self.scanner, &mut self.machine, line, symbols)
     }
 
     /// Decides the next line if it is longer than `SHORT_LINE_BYTES`. The scanner for it is a local
@@ -97,12 +98,11 @@ impl LineDecider {
             IfErr result (λ f. FaultOf xs (next_item o xs t (as_line line.now)) (fault_of f)) }
         ensures cursor { IfOk result (λ s. HoldsKeyword s line.now) }
     {
-        let mode = self.machine.mode();
-        let mut scanner = self.scanner.to_scanner();
-        let scan = scanner.read(mode, line);
-        let answer = self.machine.step(&scan, line, symbols);
+        let mut scanner = Scanner::new();
+        scanner.copy_state_of(&self.scanner);
+        let decided = decide_with(&mut scanner, &mut self.machine, line, symbols);
         self.scanner.copy_state_of(&scanner);
-        answer
+        decided
     }
 
     /// Decides the next line, and appends `pending` and the line's names.
@@ -141,20 +141,11 @@ impl LineDecider {
         if line.body.len() > SHORT_LINE_BYTES {
             return self.list_names_long(line, symbols, lister, pending, output, out);
         }
-        let mode = self.machine.mode();
-        let scan = self.scanner.read(mode, line);
-        if let Err(fault) = self.machine.step(&scan, line, symbols) {
-            return Err(RunFault::Section(fault));
-        }
-        if !output.append(pending, out) {
-            return Err(RunFault::Write);
-        }
-        let around = self.machine.depth().saturating_sub(1);
-        let prefix = lister.prefix(around);
-        if !append_names(output, prefix, Lister::names(&scan), out) {
-            return Err(RunFault::Write);
-        }
-        Ok(())
+        let scanner = &mut self.scanner;
+        let machine = &mut self.machine;
+        list_names_with(
+            scanner, machine, line, symbols, lister, pending, output, out,
+        )
     }
 
     /// Decides the next line if it is longer than `SHORT_LINE_BYTES`, and appends `pending` and its
@@ -190,36 +181,41 @@ impl LineDecider {
             (OutputUnchanged out.old out.new output.old output.new) }
         ensures stays { lister.new ≡ lister.old }
     {
-        let mode = self.machine.mode();
-        let mut long = self.scanner.to_scanner();
-        let scan = long.read(mode, line);
-        if let Err(found) = self.machine.step(&scan, line, symbols) {
-            return Err(RunFault::Section(found));
-        }
-        if !output.append(pending, out) {
-            return Err(RunFault::Write);
-        }
-        let level = self.machine.depth().saturating_sub(1);
-        let prefix = lister.prefix(level);
-        if !append_names(output, prefix, Lister::names(&scan), out) {
-            return Err(RunFault::Write);
-        }
-        self.scanner.copy_state_of(&long);
-        Ok(())
+        let mut scanner = Scanner::new();
+        scanner.copy_state_of(&self.scanner);
+        let machine = &mut self.machine;
+        let listed = list_names_with(
+            &mut scanner,
+            machine,
+            line,
+            symbols,
+            lister,
+            pending,
+            output,
+            out,
+        );
+        self.scanner.copy_state_of(&scanner);
+        listed
     }
 
-    /// Returns the verdict of the next line, if that is a text line.
-    pub(crate) fn text_verdict(&self) -> Verdict
-        ensures { result ≡ text_verdict self.now.machine }
+    /// Returns how the next line is read, and what becomes of it if it is text.
+    pub(crate) fn text_policy(&self) -> TextPolicy
+        ensures { result ≡ text_policy_of self.now.machine }
     {
-        self.machine.text_verdict()
+        self.machine.text_policy()
     }
 
     /// Consumes the longest prefix of `bytes` that is recognized as text lines, and returns its
-    /// length.
+    /// length. `policy` is that of `text_policy`.
     ///
     /// `bytes` are the next whole lines. The result is 0 or the end of a line.
-    pub(crate) fn skip_text<H: LineBuffer>(&mut self, bytes: &[u8], lines: &mut Lines<H>) -> usize
+    pub(crate) fn skip_text<H: LineBuffer>(
+        &mut self,
+        policy: TextPolicy,
+        bytes: &[u8],
+        lines: &mut Lines<H>,
+    ) -> usize
+        requires policy { policy ≡ text_policy_of self.old.machine }
         requires run { CanConsume lines.old bytes.now }
         requires goes_on { lines.old.closed ≡ false }
         requires limit { lines.old.last_line ≤ TEXT_LINES }
@@ -233,8 +229,7 @@ impl LineDecider {
             DecidesBulk o self.new xs t (numbered_from (suc lines.old.before)
             (whole_lines (take result bytes.now))) (text_verdict self.old.machine) }
     {
-        let mode = self.machine.mode();
-        let count = self.scanner.skip_text(mode, bytes);
+        let count = self.scanner.skip_text(policy.mode, bytes);
         if count == 0 {
             return 0;
         }
@@ -253,4 +248,82 @@ impl LineDecider {
     {
         self.machine.finish(self.scanner.in_comment())
     }
+}
+
+/// Decides the next line by a scanner that takes it, and by a machine. Returns its step.
+///
+/// # Errors
+/// Fails if the line is faulty.
+#[inline(always)]
+fn decide_with<const N: usize>(
+    scanner: &mut ScannerOf<N>,
+    machine: &mut Machine,
+    line: &Line<'_>,
+    symbols: &Symbols,
+) -> Result<Step, SectionFault>
+    requires fits { length line.now.body.now ≤ N }
+    requires within { IsWithinLimits (as_line line.now) }
+    requires one_line { NoNewline line.now.body.now }
+    ensures ok { (o : Options) → (xs : List (Item Reading)) → (t : Tree Reading) →
+        TableRepresents symbols.now o.table →
+        DeciderRepresents o (decider_of scanner.old machine.old) xs t → IfOk result
+        (DecidesLine o (decider_of scanner.new machine.new) xs t (as_line line.now)) }
+    ensures err { (o : Options) → (xs : List (Item Reading)) → (t : Tree Reading) →
+        TableRepresents symbols.now o.table →
+        DeciderRepresents o (decider_of scanner.old machine.old) xs t →
+        IfErr result (λ f. FaultOf xs (next_item o xs t (as_line line.now)) (fault_of f)) }
+    ensures cursor { IfOk result (λ s. HoldsKeyword s line.now) }
+{
+    let mode = machine.mode();
+    let scan = scanner.read(mode, line);
+    machine.step(&scan, line, symbols)
+}
+
+/// Decides the next line by a scanner that takes it, and by a machine. Appends `pending` and the
+/// line's names.
+///
+/// # Errors
+/// - `Section` if the line is faulty. Nothing is appended.
+/// - `Write` if a write fails. A prefix of the buffered bytes, `pending` and the line's names was
+///   written.
+#[inline(always)]
+fn list_names_with<const N: usize, W: Write>(
+    scanner: &mut ScannerOf<N>,
+    machine: &mut Machine,
+    line: &Line<'_>,
+    symbols: &Symbols,
+    lister: &mut Lister,
+    pending: &[u8],
+    output: &mut Output,
+    out: &mut Watched<W>,
+) -> Result<(), RunFault>
+    requires fits { length line.now.body.now ≤ N }
+    requires within { IsWithinLimits (as_line line.now) }
+    requires one_line { NoNewline line.now.body.now }
+    requires not_failed { out.old.failed ≡ false }
+    ensures ok { (o : Options) → (xs : List (Item Reading)) → (t : Tree Reading) →
+        TableRepresents symbols.now o.table →
+        DeciderRepresents o (decider_of scanner.old machine.old) xs t → OnOk result
+        (ListsLine o (decider_of scanner.new machine.new) xs t (as_line line.now) lister.old
+        (W.contents out.old.inner) (W.contents out.new.inner) output.old output.new pending.now) }
+    ensures err { (o : Options) → (xs : List (Item Reading)) → (t : Tree Reading) →
+        TableRepresents symbols.now o.table →
+        DeciderRepresents o (decider_of scanner.old machine.old) xs t →
+        IfErr result (ListErr o xs t (as_line line.now) lister.old (W.contents out.old.inner)
+        (W.contents out.new.inner) output.old pending.now) }
+    ensures not_failed { OnOk result (out.new.failed ≡ false) }
+    ensures output_unchanged { IfErr result
+        (OutputUnchanged out.old out.new output.old output.new) }
+    ensures stays { lister.new ≡ lister.old }
+{
+    let mode = machine.mode();
+    let scan = scanner.read(mode, line);
+    if let Err(fault) = machine.step(&scan, line, symbols) {
+        return Err(RunFault::Section(fault));
+    }
+    output.append(pending, out)?;
+    let around = machine.depth().saturating_sub(1);
+    let prefix = lister.prefix(around);
+    append_names(output, prefix, Lister::names(&scan), out)?;
+    Ok(())
 }

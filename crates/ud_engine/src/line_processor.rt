@@ -5,17 +5,18 @@
 //! neighbors.
 
 ghost use Rattle.std.specs.Prelude.{◌≡◌, bytes_eq, ◌∷◌, [], ◌++◌, ◌≤◌, List, ℕ, suc, length, take};
-ghost use Rattle.std.specs.Prelude.{IfOk, IfErr, IfSome, IfNone, OnOk, true, false, is_none};
+ghost use Rattle.std.specs.Prelude.{IfOk, IfErr, OnOk, OnErr, true, false, is_err};
 ghost use Rattle.ud_model.specs.text.Lines.{NoNewline, text_of, whole_lines, numbered_from};
 ghost use Rattle.ud_model.specs.text.Scans.{Reading};
 ghost use Rattle.ud_model.specs.sections.Tree.{Item, Tree, closed, nothing};
 ghost use Rattle.ud_model.specs.sections.Items.{Options};
 ghost use Rattle.ud_model.specs.sections.Faults.{end_fault};
 ghost use Rattle.ud_model.specs.answer.Printing.{Judged};
+ghost use Rattle.ud_model.specs.declared.settings.Listing.TheVariants.{Off};
 ghost use Rattle.ud_cond.specs.symbols.SymbolTable.{TableRepresents};
 ghost use Rattle.ud_model.specs.declared.limits.TheConstants.{TEXT_LINES};
 ghost use Rattle.ud_text.specs.lines.LinesState.{LinesRepresent};
-ghost use Rattle.ud_text.specs.LineViews.{as_line};
+ghost use Rattle.ud_model.specs.text.LineViews.{as_line};
 ghost use Rattle.ud_text.specs.bulk.BulkScanning.{AreWholeLines};
 ghost use Rattle.ud_text.specs.lines.Consuming.{CanConsume};
 ghost use Rattle.ud_sections.specs.sections.Limits.{IsWithinLimits};
@@ -26,11 +27,12 @@ ghost use Rattle.ud_engine.specs.DecidedLines.{consumed};
 ghost use Rattle.ud_engine.specs.FaultEffects.{OutputUnchanged};
 ghost use Rattle.ud_io.specs.Watched.{AppendsPrefix};
 
-use crate::fault::RunFault;
 use crate::line_decider::LineDecider;
 use crate::output::Output;
+use crate::write_failed::WriteFailed;
 use std::io::Write;
 use ud_cond::Symbols;
+use ud_faults::RunFault;
 use ud_io::Watched;
 use ud_model::{Listing, Settings};
 use ud_sections::{BulkOutput, LineOutput, Lister, SectionFault, Show, Step};
@@ -76,7 +78,7 @@ impl<S: Show> LineProcessor<S> {
     /// Returns a processor before the first line, which prints by `printer`.
     pub(crate) fn new(settings: Settings, printer: S) -> LineProcessor<S>
         ensures { (o : Options) → (piece : List Judged → Judged → List ℕ) → o.settings ≡ settings →
-            S.represents printer [] →
+            (o.settings.listing ≡ Off → S.represents printer []) →
             ((before : List Judged) → (j : Judged) → S.piece printer before j ≡ piece before j) →
             ProcessorRepresents S.represents S.piece result o piece [] (closed nothing) }
     {
@@ -127,22 +129,18 @@ impl<S: Show> LineProcessor<S> {
             (OutputUnchanged out.old out.new output.old output.new) }
     {
         match &mut self.lister {
-            Some(lister) => match self
-                .decider
-                .list_names(line, symbols, lister, pending, output, out)
-            {
-                Ok(()) => Ok(true),
-                Err(fault) => Err(fault),
-            },
+            Some(lister) => {
+                self.decider
+                    .list_names(line, symbols, lister, pending, output, out)?;
+                Ok(true)
+            }
             None => match self.decider.decide(line, symbols) {
                 Err(fault) => Err(RunFault::Section(fault)),
-                Ok(step) => match append_line(&mut self.printer, line, step, pending, output, out) {
-                    None => Err(RunFault::Write),
-                    Some(shown) => {
-                        self.differs |= shown;
-                        Ok(shown)
-                    }
-                },
+                Ok(step) => {
+                    let shown = append_line(&mut self.printer, line, step, pending, output, out)?;
+                    self.differs |= shown;
+                    Ok(shown)
+                }
             },
         }
     }
@@ -180,17 +178,11 @@ impl<S: Show> LineProcessor<S> {
         ensures output_unchanged { IfErr result
             (OutputUnchanged out.old out.new output.old output.new) }
     {
-        match self.print(line, symbols, pending, output, out) {
-            Err(fault) => Err(fault),
-            Ok(true) => Ok(()),
-            Ok(false) => {
-                if output.append_parts(&[pending, line.body, line.ending], out) {
-                    Ok(())
-                } else {
-                    Err(RunFault::Write)
-                }
-            }
+        let shown = self.print(line, symbols, pending, output, out)?;
+        if !shown {
+            output.append_parts(&[pending, line.body, line.ending], out)?;
         }
+        Ok(())
     }
 
     /// Consumes the longest prefix of `bytes` that is recognized as text lines, if the printer
@@ -224,14 +216,15 @@ impl<S: Show> LineProcessor<S> {
         if self.lister.is_some() {
             return none;
         }
-        match self.printer.bulk_output(self.decider.text_verdict()) {
+        let policy = self.decider.text_policy();
+        match self.printer.bulk_output(policy.verdict) {
             BulkOutput::OneByOne => none,
             BulkOutput::Copied => SkippedText {
-                count: self.decider.skip_text(bytes, lines),
+                count: self.decider.skip_text(policy, bytes, lines),
                 kept: true,
             },
             BulkOutput::Dropped => {
-                let count = self.decider.skip_text(bytes, lines);
+                let count = self.decider.skip_text(policy, bytes, lines);
                 if count == 0 {
                     return none;
                 }
@@ -269,7 +262,7 @@ impl<S: Show> LineProcessor<S> {
 /// Returns whether they were appended.
 ///
 /// # Errors
-/// `None` if a write fails. A prefix of all these bytes was written, and `out` is fused.
+/// Fails if a write fails. A prefix of all these bytes was written, and `out` is fused.
 #[inline(always)]
 fn append_line<S: Show, W: Write>(
     show: &mut S,
@@ -278,24 +271,24 @@ fn append_line<S: Show, W: Write>(
     pending: &[u8],
     output: &mut Output,
     out: &mut Watched<W>,
-) -> Option<bool>
+) -> Result<bool, WriteFailed>
     requires not_failed { out.old.failed ≡ false }
     requires keyword { HoldsKeyword step line.now }
     ensures represents { (before : List Judged) → S.represents show.old before →
         S.represents show.new (before ++ judged_step line.now step ∷ []) }
     ensures stays { (before : List Judged) → (j : Judged) →
         S.piece show.new before j ≡ S.piece show.old before j }
-    ensures failed { out.new.failed ≡ is_none result }
-    ensures none { IfNone result ((before : List Judged) → S.represents show.old before →
+    ensures failed { out.new.failed ≡ is_err result }
+    ensures failed_prefix { OnErr result ((before : List Judged) → S.represents show.old before →
         AppendsPrefix (W.contents out.old.inner) (W.contents out.new.inner) (output.old ++
         (pending.now ++ S.piece show.old before (judged_step line.now step)))) }
-    ensures some { IfSome result (λ shown. (before : List Judged) → S.represents show.old before →
+    ensures shown { IfOk result (λ shown. (before : List Judged) → S.represents show.old before →
         ShowsLine shown (W.contents out.old.inner) (W.contents out.new.inner) output.old output.new
         pending.now
         (S.piece show.old before (judged_step line.now step)) (text_of (as_line line.now))) }
 {
     match show.line_output(step.verdict) {
-        LineOutput::Whole => Some(false),
+        LineOutput::Whole => Ok(false),
         LineOutput::Nothing => append_line_output(line, &[], pending, output, out),
         LineOutput::Ending => append_line_output(line, line.ending, pending, output, out),
         LineOutput::Parts => append_parts_of(show, line, step, pending, output, out),
@@ -316,27 +309,22 @@ fn append_line_output<W: Write>(
     pending: &[u8],
     output: &mut Output,
     out: &mut Watched<W>,
-) -> Option<bool>
+) -> Result<bool, WriteFailed>
     requires not_failed { out.old.failed ≡ false }
     requires left { IsLeftOf left.now line.now.ending.now }
-    ensures failed { out.new.failed ≡ is_none result }
-    ensures none { IfNone result (AppendsPrefix (W.contents out.old.inner)
+    ensures failed { out.new.failed ≡ is_err result }
+    ensures failed_prefix { OnErr result (AppendsPrefix (W.contents out.old.inner)
         (W.contents out.new.inner) (output.old ++ (pending.now ++ left.now))) }
-    ensures some { IfSome result (λ shown.
+    ensures shown { IfOk result (λ shown.
         ShowsLine shown (W.contents out.old.inner) (W.contents out.new.inner) output.old output.new
         pending.now left.now (text_of (as_line line.now))) }
 {
     if is_line(left, line) {
-        return Some(false);
+        return Ok(false);
     }
-    let run_is_put = output.append(pending, out);
-    if !run_is_put {
-        return None;
-    }
-    if !output.append(left, out) {
-        return None;
-    }
-    Some(true)
+    output.append(pending, out)?;
+    output.append(left, out)?;
+    Ok(true)
 }
 
 /// Returns whether `left`, which is nothing or the line's ending, is the line itself.
@@ -361,18 +349,18 @@ fn append_parts_of<S: Show, W: Write>(
     pending: &[u8],
     output: &mut Output,
     out: &mut Watched<W>,
-) -> Option<bool>
+) -> Result<bool, WriteFailed>
     requires not_failed { out.old.failed ≡ false }
     requires keyword { HoldsKeyword step line.now }
     ensures represents { (before : List Judged) → S.represents show.old before →
         S.represents show.new (before ++ judged_step line.now step ∷ []) }
     ensures stays { (before : List Judged) → (j : Judged) →
         S.piece show.new before j ≡ S.piece show.old before j }
-    ensures failed { out.new.failed ≡ is_none result }
-    ensures none { IfNone result ((before : List Judged) → S.represents show.old before →
+    ensures failed { out.new.failed ≡ is_err result }
+    ensures failed_prefix { OnErr result ((before : List Judged) → S.represents show.old before →
         AppendsPrefix (W.contents out.old.inner) (W.contents out.new.inner) (output.old ++
         (pending.now ++ S.piece show.old before (judged_step line.now step)))) }
-    ensures some { IfSome result (λ shown. (before : List Judged) → S.represents show.old before →
+    ensures shown { IfOk result (λ shown. (before : List Judged) → S.represents show.old before →
         ShowsLine shown (W.contents out.old.inner) (W.contents out.new.inner) output.old output.new
         pending.now
         (S.piece show.old before (judged_step line.now step)) (text_of (as_line line.now))) }
@@ -384,13 +372,9 @@ fn append_parts_of<S: Show, W: Write>(
     };
     let pieces = show.pieces(&line, step);
     if pieces.same() {
-        return Some(false);
+        return Ok(false);
     }
-    if !output.append(pending, out) {
-        return None;
-    }
-    if !output.append_parts(pieces.parts(), out) {
-        return None;
-    }
-    Some(true)
+    output.append(pending, out)?;
+    output.append_parts(pieces.parts(), out)?;
+    Ok(true)
 }

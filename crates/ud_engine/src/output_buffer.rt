@@ -59,6 +59,14 @@ impl OutputBuffer {
         &self.array[..self.len]
     }
 
+    /// Returns whether no byte is buffered.
+    pub(crate) fn is_empty(&self) -> bool
+        ensures empty { result ≡ true → self.now ≡ [] }
+        ensures not_empty { self.now ≡ [] → result ≡ true }
+    {
+        self.len == 0
+    }
+
     /// Empties the buffer.
     pub(crate) fn clear(&mut self)
         ensures { self.new ≡ [] }

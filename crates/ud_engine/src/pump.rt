@@ -14,9 +14,9 @@ ghost use Rattle.ud_engine.specs.Runs.{RunFinished, ErrorMatchesStreams};
 ghost use Rattle.ud_model.specs.declared.limits.TheConstants.{LINE_BYTES};
 
 use crate::engine::Engine;
-use crate::fault::RunFault;
 use std::io::{Read, Write};
 use ud_args::Plan;
+use ud_faults::RunFault;
 use ud_io::Watched;
 use ud_sections::Printer;
 use ud_text::{LineBuffer, LongLineBuffer, ShortLineBuffer};

@@ -17,6 +17,7 @@ pub mod SameShape
 pub mod Folded
 pub mod PrintedPruned
 pub mod PrunedTree
+pub mod PrunedGroups
 pub mod SelectedPruned
 pub mod Each
 pub mod ByLength

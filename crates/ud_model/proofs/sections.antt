@@ -8,5 +8,6 @@ pub mod FaultStays
 pub mod Counts
 pub mod Keywords
 pub mod KeywordLies
+pub mod SplitLines
 pub mod Stages
 pub mod Exists

@@ -8,5 +8,6 @@ pub mod LexStateLemmas
 pub mod ScanLemmas
 pub mod LexLemmas
 pub mod LexExists
+pub mod TextEnd
 pub mod ScanLaws
 pub mod ScanBytes

@@ -5,3 +5,4 @@ pub mod Scans
 pub mod Splicing
 pub mod Lexemes
 pub mod Scanning
+pub mod LineViews

@@ -66,6 +66,7 @@ pub fn law_answer_selects()
 ///
 /// The arguments have none of -n, -s and -S, and the input has no fault. The status is then that of
 /// a text of which some line differs exactly if output and input are different bytes (unifdef(1)).
+/// Under `-x2` both statuses are 0.
 pub fn law_answer_status()
     ensures { (args : List (List ℕ)) → (input : List ℕ) → (a : Answer) → IsAnswer args input a →
         a.status ≢ 2 → (options_of args).settings.renumber ≡ false →

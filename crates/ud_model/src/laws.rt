@@ -3,16 +3,24 @@
 //! The laws about options are in `option_laws`, those about the output in `output_laws`, and those
 //! about the answer to arguments and an input in `answer_laws`.
 
-ghost use Rattle.std.specs.Prelude.{◌≡◌, ◌≢◌, ◌++◌, ℕ, suc, List, [], ◌∷◌, length, map, true};
-ghost use Rattle.std.specs.Prelude.{false, Bool, Option, Some, ℤ, pos, bytes_eq, codes};
+ghost use Rattle.std.specs.Prelude.{◌≡◌, ◌≢◌, ◌⊎◌, ◌↔◌, ◌++◌, ℕ, suc, List, [], ◌∷◌, length};
+ghost use Rattle.std.specs.Prelude.{map, true, false, Bool, Option, Some, ℤ, pos, bytes_eq, codes};
 ghost use Rattle.ud_model.specs.text.Lines.{Line, AreLines, AreSplitLines, texts_of, text_of};
 ghost use Rattle.ud_model.specs.text.Lines.{lines_of, whole_lines, partial_line};
-ghost use Rattle.ud_model.specs.text.Scans.{Reading};
-ghost use Rattle.ud_model.specs.text.Splicing.{content, c_run_of};
-ghost use Rattle.ud_model.specs.text.Lexemes.{Lexeme, Cell, AreLexemes, cells_of, lex, shown};
-ghost use Rattle.ud_model.specs.text.Scanning.{content_cells, scan_after, next_reading};
+ghost use Rattle.ud_model.specs.text.Scans.{Scan, Reading};
+ghost use Rattle.ud_model.specs.text.Splicing.{content, c_run_of, is_spliced, last_is_spliced};
+ghost use Rattle.ud_model.specs.text.Splicing.{spliced_part, spliced_text};
+ghost use Rattle.ud_model.specs.text.Lexemes.{Lexeme, LexemeKind, block_comment, line_comment};
+ghost use Rattle.ud_model.specs.text.Lexemes.{single, Cell, IsLexeme, AreLexemes, LastIsOpen};
+ghost use Rattle.ud_model.specs.text.Lexemes.{cells_of, lexeme_at, lex, shown, kind_at_end};
+ghost use Rattle.ud_model.specs.text.Scanning.{joins, content_cells, scan_after, next_reading};
 ghost use Rattle.ud_model.specs.text.Scanning.{readings_after, readings_of};
 ghost use Rattle.ud_model.specs.declared.kind.Mode.{Mode};
+ghost use Rattle.ud_model.specs.declared.kind.CommentAt.{CommentAt};
+ghost use Rattle.ud_model.specs.sections.Directives.{Directive, cut_keyword, directive, text};
+ghost use Rattle.ud_model.specs.sections.Directives.{content_of};
+ghost use Rattle.ud_model.specs.sections.DirectiveParts.{DirectiveParts, AreParts, HasDirective};
+ghost use Rattle.ud_model.specs.sections.DirectiveParts.{HasSplitKeyword};
 ghost use Rattle.ud_model.specs.sections.Tree.{Item, Tree, lines};
 ghost use Rattle.ud_model.specs.sections.Pruning.{Mark, marks, marks_in};
 ghost use Rattle.ud_model.specs.aids.SoFar.{marks_so_far};
@@ -64,6 +72,31 @@ pub fn law_lexemes()
         AreLexemes pieces text → AreLexemes others text → pieces ≡ others }
     ensures cells { (text : List ℕ) → (pieces : List Lexeme) → AreLexemes pieces text →
         cells_of pieces ≡ lex text }
+    ensures extent { (a : ℕ) → (bytes : List ℕ) → (rest : List ℕ) → (kind : LexemeKind) →
+        IsLexeme (a ∷ bytes) rest kind →
+        lexeme_at a (bytes ++ rest) ≡ record { kind = kind; more = length bytes } }
+{}
+
+/// The end of a text lies in a comment or a literal exactly if the last lexeme is one that is open.
+///
+/// So lines join the next one exactly if the last of them is spliced or the last lexeme is an open
+/// block comment, and the comment at a line's end is that lexeme (C11 5.1.1.2).
+pub fn law_end_of_text()
+    ensures open { (text : List ℕ) → (pieces : List Lexeme) → AreLexemes pieces text →
+        (kind : LexemeKind) → kind ≢ single →
+        (kind_at_end text ≡ kind) ↔ LastIsOpen kind pieces }
+    ensures joins { (lines : List Line) → (pieces : List Lexeme) →
+        AreLexemes pieces (spliced_text lines) →
+        (joins lines ≡ true) ↔
+        ((last_is_spliced lines ≡ true) ⊎ LastIsOpen block_comment pieces) }
+    ensures block { (before : List Reading) → (l : Line) → (pieces : List Lexeme) →
+        AreLexemes pieces (spliced_text (c_run_of before) ++ spliced_part l) →
+        ((scan_after before Mode.C l).comment ≡ CommentAt.InBlock) ↔
+        LastIsOpen block_comment pieces }
+    ensures line { (before : List Reading) → (l : Line) → (pieces : List Lexeme) →
+        AreLexemes pieces (spliced_text (c_run_of before) ++ spliced_part l) →
+        ((scan_after before Mode.C l).comment ≡ CommentAt.InLine) ↔
+        ((is_spliced l ≡ true) × LastIsOpen line_comment pieces) }
 {}
 
 /// A scan depends on the logical line alone: after a line that has an ending and doesn't join the
@@ -96,6 +129,18 @@ pub fn law_scan_bytes()
 pub fn law_scans_stay()
     ensures { (ls : List (Mode × Line)) → (more : List (Mode × Line)) →
         (rest : List Reading) × (readings_of (ls ++ more) ≡ readings_of ls ++ rest) }
+{}
+
+/// The content of a line is read off its masked line, which is split in one way at most: white
+/// space, `#`, white space, a word and the rest (C11 6.10).
+pub fn law_directive()
+    ensures parts { (masked : List ℕ) → (p : DirectiveParts) → (q : DirectiveParts) →
+        AreParts p masked → AreParts q masked → p ≡ q }
+    ensures split { (scan : Scan) → (content_of scan ≡ cut_keyword) ↔ HasSplitKeyword scan }
+    ensures found { (scan : Scan) → (d : Directive) →
+        (content_of scan ≡ directive d) ↔ HasDirective scan d }
+    ensures none { (scan : Scan) → (content_of scan ≡ text) ↔
+        ((HasSplitKeyword scan → ⊥) × ((d : Directive) → HasDirective scan d → ⊥)) }
 {}
 
 /// The lines of a text are nested in one way at most.

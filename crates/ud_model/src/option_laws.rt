@@ -108,7 +108,7 @@ pub fn law_lines_are_counted()
         (read_as (mode_by o.settings.plain) s.output) k }
 {}
 
-/// `-K` decides less and nothing else.
+/// Under `-K` no further condition is decided, and none in another way.
 ///
 /// A value that is known under `-K` is known without it, and is the same. A condition that is
 /// decided under `-K` is decided alike without it (unifdef(1)).
@@ -127,7 +127,7 @@ pub fn law_strict_decides_less()
 /// text lines. Each other line has the same scan, and each condition is decided alike. If each
 /// opener has the same truth in both, the same lines are selected of both, but for the inserted
 /// ones (C11 6.10.1p6, unifdef(1)).
-pub fn law_put_in_changes_no_section()
+pub fn law_inserted_lines_change_no_section()
     ensures tree { (o : Options) → IsPlain o → (b : Bool) → (n : Bool) → (b || n) ≡ true →
         (input : List ℕ) → (r : Outcome) → (s : Outcome) → HasOutcome o input r →
         HasOutcome (with_blank_renumber b n o) input s → (us : Nodes Reading) →

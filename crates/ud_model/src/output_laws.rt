@@ -1,13 +1,14 @@
 //! Laws of the output: the meaning of a text after it was pruned and printed.
 
-ghost use Rattle.std.specs.Prelude.{◌≡◌, ℕ, List, map, not, true, false, Bool, bytes_eq, None};
+ghost use Rattle.std.specs.Prelude.{◌≡◌, ◌↔◌, ℕ, List, map, not, true, false, Bool, bytes_eq, None};
 ghost use Rattle.ud_model.specs.text.Lines.{lines_of};
 ghost use Rattle.ud_model.specs.text.Scans.{Reading};
 ghost use Rattle.ud_model.specs.sections.Tree.{Nodes, Tree, closed, lines, with_lines};
 ghost use Rattle.ud_model.specs.sections.Items.{Options, reading_of, mode_by};
 ghost use Rattle.ud_model.specs.answer.Outcomes.{Outcome, HasOutcome};
 ghost use Rattle.ud_model.specs.output.Worlds.{World, Agrees, selected, openers, openers_in};
-ghost use Rattle.ud_model.specs.output.Pruned.{Edited, edited, IsPruned, pruned_lines, IsUndecided};
+ghost use Rattle.ud_model.specs.output.Pruned.{Edited, edited, IsPruned, ArePruned, pruned_lines};
+ghost use Rattle.ud_model.specs.output.Pruned.{IsUndecided};
 ghost use Rattle.ud_model.specs.output.Rereading.{IsPlain, IsTreeOf, IsClean, CleanRun, LinesFit};
 ghost use Rattle.ud_model.specs.output.Rereading.{line_bytes, edited_bytes, KeepsTruths};
 ghost use Rattle.ud_model.specs.output.CSelection.{IsCWorld, condition_in};
@@ -40,6 +41,15 @@ pub fn law_printed()
     ensures exists { (ns : Nodes Reading) → (ps : Nodes (Edited Reading)) × IsPruned ns ps }
     ensures only { (ns : Nodes Reading) → (ps : Nodes (Edited Reading)) →
         (qs : Nodes (Edited Reading)) → IsPruned ns ps → IsPruned ns qs → ps ≡ qs }
+{}
+
+/// The pruned tree is what the table of verdicts leaves, section by section.
+///
+/// A section that gives way leaves the nodes of its first kept group. Each other section keeps its
+/// kept groups in order, each with the opener that the table leaves, and one `#endif` (unifdef(1)).
+pub fn law_pruned()
+    ensures { (ns : Nodes Reading) → (ps : Nodes (Edited Reading)) →
+        IsPruned ns ps ↔ ArePruned ns ps }
 {}
 
 /// A text without a fault has a tree whose sections are all closed, and a text has one tree at most

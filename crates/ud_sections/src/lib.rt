@@ -18,4 +18,5 @@ pub use directives::{Cut, Directive};
 pub use printing::{
     Blank, BulkOutput, Complement, Delete, LineOutput, Lister, Pieces, Printer, Renumber, Show,
 };
-pub use sections::{Machine, SectionFault, Span, Step};
+pub use sections::{Machine, Span, Step, TextPolicy};
+pub use ud_faults::SectionFault;

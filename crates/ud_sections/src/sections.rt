@@ -1,7 +1,7 @@
 //! Decides each line by the sections that are open before it: `machine.Machine`.
 //!
 //! `classify_line` finds the line's directive and decides its condition. `check` then returns the
-//! action for a line of that `line_kind`, or its `fault`, by the innermost open section. The action
+//! action for a line of that `line_kind`, or its fault, by the innermost open section. The action
 //! is the verdict and the change of the open sections. `open_section` has the record of an
 //! open section, and `section_state` its progress through its groups. A caller gets a `step`.
 //!
@@ -9,13 +9,13 @@
 
 mod check;
 mod classify_line;
-mod fault;
 mod line_kind;
 mod machine;
 mod open_section;
 mod section_state;
 mod step;
+mod text_policy;
 
-pub use fault::SectionFault;
 pub use machine::Machine;
 pub use step::{Span, Step};
+pub use text_policy::TextPolicy;

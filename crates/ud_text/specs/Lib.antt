@@ -1,5 +1,4 @@
 pub mod lines
-pub mod LineViews
 pub mod searching
 pub mod scan
 pub mod bulk

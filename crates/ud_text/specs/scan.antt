@@ -1,3 +1,4 @@
 -- The scan of each line, and the state of a scanner.
+pub mod LexerViews
 pub mod ScannerState
 pub mod ScanBorrows

@@ -16,7 +16,7 @@ ghost use Rattle.ud_text.specs.bulk.Blocks.{IsBlock};
 ghost use Rattle.ud_text.specs.bulk.BulkLexemes.{NoStarPair, IsSplice};
 ghost use Rattle.ud_text.specs.bulk.Progress.{ReadTo, bulk_state_of, InOrder, ReadBy, SkippedBy};
 ghost use Rattle.ud_text.specs.bulk.Progress.{InBlock, Steps};
-ghost use Rattle.ud_text.specs.LineViews.{lex_state_of};
+ghost use Rattle.ud_text.specs.scan.LexerViews.{lex_state_of};
 
 use crate::scan::lexer::{LexState, Lexer};
 use crate::searching::{find_star_pair, last_line_start};

@@ -11,6 +11,7 @@ mod lines;
 mod scan;
 mod searching;
 
-pub use lines::{Line, LineBuffer, Lines, LongLineBuffer, ShortLineBuffer, Taken, TextFault};
-pub use scan::{SHORT_LINE_BYTES, Scan, Scanner, ShortScanner, first_mark, law_same_scans};
-pub use ud_model::CommentAt;
+pub use lines::{LineBuffer, Lines, LongLineBuffer, ShortLineBuffer, Taken};
+pub use scan::{Scanner, ScannerOf, first_mark, law_same_scans};
+pub use ud_faults::TextFault;
+pub use ud_model::{CommentAt, Line, Scan};

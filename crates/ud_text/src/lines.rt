@@ -17,22 +17,19 @@ ghost use Rattle.ud_text.specs.lines.Borrowing.{CanBorrow, IsFirstLine};
 ghost use Rattle.ud_text.specs.lines.LinesState.{LinesRepresent, UpToNewline, BreaksLimit};
 ghost use Rattle.ud_text.specs.lines.LinesState.{with_fault, HasCapacity, IsComplete, IsLastLine};
 ghost use Rattle.ud_text.specs.lines.LinesState.{IsLineOf};
-ghost use Rattle.ud_text.specs.LineViews.{as_line};
+ghost use Rattle.ud_model.specs.text.LineViews.{as_line};
 ghost use Rattle.ud_text.specs.lines.Consuming.{CanConsume};
 
 use crate::searching::simd::find_in_lanes;
 use memchr::memchr;
 use newlines::{count_lines, whole_lines_len};
 use std::marker::Model;
-use ud_model::{LINE_BYTES, TEXT_LINES};
+use ud_faults::TextFault;
+use ud_model::{LINE_BYTES, Line, TEXT_LINES};
 
-mod fault;
-mod line;
 mod line_buffer;
 mod newlines;
 
-pub use fault::TextFault;
-pub use line::Line;
 pub use line_buffer::{LineBuffer, LongLineBuffer, ShortLineBuffer};
 
 /// The number of bytes that are searched for a newline at once.
@@ -67,7 +64,7 @@ pub struct Lines<H: LineBuffer = LongLineBuffer> {
 
 impl<H: LineBuffer> Model for Lines<H> {
     ghost use Rattle.std.specs.Prelude.{◌≡◌, ◌≤◌, ◌<◌, length, true};
-    ghost use Rattle.ud_model.specs.declared.limits.TheConstants.{TEXT_LINES};
+    ghost use Rattle.ud_model.specs.declared.limits.TheConstants.{LINE_BYTES, TEXT_LINES};
     ghost use Rattle.ud_text.specs.lines.LinesState.{LinesState};
 
     ghost Value = { LinesState };
@@ -83,7 +80,8 @@ impl<H: LineBuffer> Model for Lines<H> {
 
     ghost invariant = { λ l. (l.last ≤ TEXT_LINES) × (l.consumed ≤ l.last)
         × (0 < length (H.items l.buffer) → l.consumed < l.last)
-        × (l.is_whole ≡ true → 0 < length (H.items l.buffer)) };
+        × (l.is_whole ≡ true → 0 < length (H.items l.buffer))
+        × (length (H.items l.buffer) ≤ LINE_BYTES) };
 }
 
 impl Lines<LongLineBuffer> {
@@ -144,7 +142,7 @@ impl<H: LineBuffer> Lines<H> {
     /// In this order: `TooManyLines` at the first byte of a line after the last one that the text
     /// may have; `LineTooLong` at the first byte of a line after `LINE_BYTES`, its ending counted.
     /// No byte of the chunk is buffered. Every later `take` and `close` returns the same error,
-    /// also for an empty chunk.
+    /// also for an empty chunk, until `reset` begins another text.
     ///
     /// Lines are those of POSIX XBD 3.206; the last may lack its newline.
     pub fn take(&mut self, chunk: &[u8]) -> Result<Taken, TextFault>
@@ -187,7 +185,8 @@ impl<H: LineBuffer> Lines<H> {
             return Err(fault);
         }
         let bytes = &chunk[..taken.used];
-        if !self.buffer.try_append(bytes) {
+        let most = LINE_BYTES - self.buffer.as_slice().len();
+        if bytes.len() > most || !self.buffer.try_append(bytes) {
             let fault = TextFault::LineTooLong {
                 line: self.consumed + 1,
             };
@@ -304,10 +303,10 @@ impl<H: LineBuffer> Lines<H> {
     pub fn into_long(self) -> Lines<LongLineBuffer>
         ensures { result ≡ self }
     {
-        let mut room = LongLineBuffer::new();
-        room.try_append(self.buffer.as_slice());
+        let mut buffer = LongLineBuffer::new();
+        buffer.try_append(self.buffer.as_slice());
         Lines {
-            buffer: room,
+            buffer,
             is_whole: self.is_whole,
             consumed: self.consumed,
             is_closed: self.is_closed,
@@ -386,7 +385,8 @@ impl<H: LineBuffer> Lines<H> {
         Ok(!self.buffer.as_slice().is_empty())
     }
 
-    /// Resets to the beginning of a new text with the same limit, whatever was taken before.
+    /// Resets to the beginning of a new text with the same limit, whatever was taken before. An
+    /// error of the text before is forgotten.
     pub fn reset(&mut self)
         ensures value { self.new ≡ record {
           held = [];

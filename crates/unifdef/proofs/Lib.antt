@@ -1,3 +1,4 @@
 pub mod RefusalLemmas
 pub mod HeadlineLemmas
 pub mod EndedLemmas
+pub mod FailureLemmas

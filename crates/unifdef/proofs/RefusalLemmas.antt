@@ -1,6 +1,6 @@
 -- Faults of the arguments, and the messages that report them.
 use Rattle.std.proofs.Common.{◌≡◌, ◌⊎◌, ◌∙◌, inl, inr, refl, sym, ap, subst, ℕ, List, Bool, true, false, Option, Some, None}
-use Rattle.std.specs.Prelude.{IfSome, IsSome}
+use Rattle.std.specs.Prelude.{IfSome}
 use Rattle.std.proofs.lemmas.Option.{none-some, same_Some}
 use Rattle.ud_model.specs.answer.CommandLine.{ParsedArg, UsageFault, first_fault, unknown_option, missing_argument, bad_symbol_in, bad_mode_in, too_many_files, usage_message}
 use Rattle.ud_model.specs.answer.Messages.{out_of_memory}
@@ -44,11 +44,7 @@ pub none_told : {X : Type 0} (o : Option X) (P : X → Type 0) → o ≡ None �
 none_told None P e = tt
 none_told (Some x) P e = absurd (none-some x (sym e))
 
--- without a fault, none is found
-pub none_found : {X : Type 0} (o : Option X) → o ≡ None → IsSome o → ⊥
-none_found None e found = cc
-none_found (Some x) e found = none-some x (sym e)
-
+-- a stream that works hasn't failed
 pub works_fails : (failed : Bool) → failed ≡ false → failed ≡ true → ⊥
 works_fails true works fails = cc
 works_fails false works fails = cc

@@ -1,2 +1,3 @@
+pub mod ToolCall
 pub mod ToolAnswer
 pub mod ToolEnded

@@ -1,48 +1,62 @@
--- ToolAnswer: the output, message and status of the tool against the definitions' answers.
+-- ToolAnswer: what a call of the tool gives, against the definitions' answers.
 --
---   Streams                                    the known contents of output and error stream
---   streams out err                            the streams with these contents
---   Answers before after err_failed status a   output, message and status are those of `a`
---   AnswersSpec args input before after ..     they are those of the definitions' answer
---   FailsForMemory args ..                     memory for a symbol couldn't be allocated
-use Rattle.std.specs.Prelude.{◌≡◌, ℕ, List, Bool, Option}
+--   Answers call a           output, message and status are those of `a`
+--   AnswersSpec call input   they are those of the definitions' answer
+--   FailsForMemory call      memory for a symbol couldn't be allocated
+--   RefusesArgs call fault   the arguments' fault was reported, and nothing else was done
+--   RefusesFaultyArgs call   the same, if the arguments have a fault
+--   AnswersAsDefined call    `AnswersSpec`, if neither the reader nor the output has failed
+--   LeavesFlushed call       nothing is left unflushed
+use Rattle.std.specs.Prelude.{◌≡◌, ◌⊎◌, ℕ, List, false, IfSome}
 use Rattle.std.specs.Io.KnownBytes.{Appends}
 use Rattle.ud_model.specs.answer.Answer.{Answer, IsAnswer, memory_answer}
-use Rattle.ud_model.specs.answer.CommandLine.{parsed_args}
+use Rattle.ud_model.specs.answer.CommandLine.{UsageFault, parsed_args, usage_fault}
 use Rattle.ud_args.specs.SymbolStorage.{StoresSymbol}
-use Rattle.ud_io.specs.Watched.{WatchedState, AppendsAllOrPrefix}
+use Rattle.ud_io.specs.Watched.{AppendsAllOrPrefix}
+use Rattle.ud_diagnostics.specs.UsageMessages.{ReportsUsage}
+use Rattle.unifdef.specs.ToolCall.{Call}
 
--- `Streams`: the contents of the output and of the error stream, each `None` if the stream doesn't
--- report its contents.
-pub record Streams : Type 0 where
-  pub out : Option (List ℕ)
-  pub err : Option (List ℕ)
+module _ {R W : Type 0} where
+  -- `Answers call a`: the output and the message of `a` were appended, and the status is that of
+  -- `a`. If the error stream has failed, a prefix of the message was appended.
+  pub record Answers (call : Call R W) (a : Answer) : Type 0 where
+    pub output : Appends call.old_output call.new_output a.output
+    pub message : AppendsAllOrPrefix call.err_failed call.old_message call.new_message a.message
+    pub answered : call.status ≡ a.status
 
--- `streams out err`: the streams with these contents.
-abbrev pub streams : Option (List ℕ) → Option (List ℕ) → Streams
-streams out err = record { out = out; err = err }
+  -- `AnswersSpec call input`: output, message and status are those of the answer that the
+  -- definitions give to the arguments and `input`.
+  abbrev pub AnswersSpec : Call R W → List ℕ → Type 0
+  AnswersSpec call input = (a : Answer) × IsAnswer call.args input a × Answers call a
 
--- `Answers before after err_failed status a`: the output and the message of `a` were appended, and
--- `status` is its status. If the error stream has failed, a prefix of the message was appended.
-pub record Answers (before after : Streams) (err_failed : Bool) (status : ℕ) (a : Answer) : Type 0
-  where
-    pub output : Appends before.out after.out a.output
-    pub message : AppendsAllOrPrefix err_failed before.err after.err a.message
-    pub answered : status ≡ a.status
+  -- `FailsForMemory call`: memory for a symbol of the arguments couldn't be allocated, and that was
+  -- reported. Nothing was read, and nothing was done with the output.
+  pub record FailsForMemory (call : Call R W) : Type 0 where
+    pub asked : StoresSymbol (parsed_args call.args)
+    pub unread : call.new_reader ≡ call.old_reader
+    pub unwritten : call.new_out ≡ call.old_out
+    pub gave : Answers call memory_answer
 
--- `AnswersSpec args input before after err_failed status`: output, message and status are those of
--- the answer that the definitions give to `args` and `input`.
-abbrev pub AnswersSpec : List (List ℕ) → List ℕ → Streams → Streams → Bool → ℕ → Type 0
-AnswersSpec args input before after err_failed status =
-    (a : Answer) × IsAnswer args input a × Answers before after err_failed status a
+  -- `RefusesArgs call fault`: nothing was read, and nothing was done with the output. `fault` was
+  -- reported, or that memory for a symbol before it couldn't be allocated.
+  pub record RefusesArgs (call : Call R W) (fault : UsageFault) : Type 0 where
+    pub unread : call.new_reader ≡ call.old_reader
+    pub unwritten : call.new_out ≡ call.old_out
+    pub reported : ReportsUsage (parsed_args call.args) fault call.err_failed call.old_message
+        call.new_message call.status
 
--- `FailsForMemory args reader_old reader_new out_old out_new before after err_failed status`:
--- memory for a symbol of `args` couldn't be allocated, and that was reported. Nothing was read, and
--- nothing was done with the output.
-pub record FailsForMemory {R W : Type 0} (args : List (List ℕ))
-    (reader_old reader_new : WatchedState R) (out_old out_new : WatchedState W)
-    (before after : Streams) (err_failed : Bool) (status : ℕ) : Type 0 where
-  pub asked : StoresSymbol (parsed_args args)
-  pub unread : reader_new ≡ reader_old
-  pub unwritten : out_new ≡ out_old
-  pub gave : Answers before after err_failed status memory_answer
+  -- `RefusesFaultyArgs call`: arguments with a fault are refused.
+  abbrev pub RefusesFaultyArgs : Call R W → Type 0
+  RefusesFaultyArgs call = IfSome (usage_fault call.args) (RefusesArgs call)
+
+  -- `AnswersAsDefined call`: if no read and no write failed, the definitions' answer was given. Or
+  -- memory for a symbol couldn't be allocated, before anything was read or written.
+  abbrev pub AnswersAsDefined : Call R W → Type 0
+  AnswersAsDefined call = call.new_reader.failed ≡ false → call.new_out.failed ≡ false →
+      IfSome call.input (λ input. AnswersSpec call input ⊎ FailsForMemory call)
+
+  -- `LeavesFlushed call`: if nothing was unflushed before, nothing is now, or the output has
+  -- failed.
+  abbrev pub LeavesFlushed : Call R W → Type 0
+  LeavesFlushed call = call.old_out.unflushed ≡ false → call.new_out.failed ≡ false →
+      call.new_out.unflushed ≡ false

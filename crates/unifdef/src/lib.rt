@@ -17,8 +17,11 @@
 //! examples.
 #![tactic(auto)]
 
+mod laws;
 mod running;
 
+pub use laws::law_failed_streams;
 pub use running::tool;
 pub use ud_args::{Plan, Usage, input_of, plan};
+pub use ud_diagnostics::EXIT_TROUBLE;
 pub use ud_engine::{Engine, RunFault, Watched, run};

@@ -1,14 +1,9 @@
 //! The tool: from arguments and an input to an output, a message and an exit status.
 
-ghost use Rattle.std.specs.Prelude.{◌≡◌, ◌⊎◌, map, string_bytes, false, true, None, IfSome, IsSome};
-ghost use Rattle.ud_model.specs.answer.CommandLine.{parsed_args, usage_fault, options_of};
-ghost use Rattle.ud_model.specs.answer.CommandLine.{display_name};
-ghost use Rattle.ud_model.specs.answer.Messages.{read_error, write_error};
-ghost use Rattle.ud_engine.specs.Runs.{LagsOneRead};
-ghost use Rattle.ud_io.specs.Watched.{AppendsAllOrPrefix};
-ghost use Rattle.ud_diagnostics.specs.UsageMessages.{ReportsUsage};
-ghost use Rattle.unifdef.specs.ToolEnded.{ToolEnded};
-ghost use Rattle.unifdef.specs.ToolAnswer.{Streams, streams, AnswersSpec, FailsForMemory};
+ghost use Rattle.std.specs.Prelude.{◌≡◌, map, string_bytes, false};
+ghost use Rattle.unifdef.specs.ToolCall.{call_of};
+ghost use Rattle.unifdef.specs.ToolAnswer.{RefusesFaultyArgs, AnswersAsDefined, LeavesFlushed};
+ghost use Rattle.unifdef.specs.ToolEnded.{EndsAsRun, LagsAsRun};
 
 use std::alloc::Global;
 use std::io::{Read, Write};
@@ -72,62 +67,21 @@ pub fn tool<R: Read, W: Write, E: Write>(
     requires reader { reader.old.failed ≡ false }
     requires out { out.old.failed ≡ false }
     requires err { err.old.failed ≡ false }
-    // If no read and no write fails, the result is the definitions' answer. Or memory for a symbol
-    // couldn't be allocated, before anything was read or written.
-    ensures answer { let before : Streams =
-        streams (W.contents out.old.inner) (E.contents err.old.inner) in
-        let after : Streams = streams (W.contents out.new.inner) (E.contents err.new.inner) in
-        reader.new.failed ≡ false → out.new.failed ≡ false →
-        IfSome (R.remaining reader.old.inner) (λ input.
-        AnswersSpec (map string_bytes args.now) input before after err.new.failed result
-        ⊎ FailsForMemory (map string_bytes args.now) reader.old reader.new out.old out.new before
-        after err.new.failed result) }
+    // Arguments with a fault are refused, before anything is read or written.
+    ensures usage { RefusesFaultyArgs (call_of R.remaining W.contents E.contents
+        (map string_bytes args.now) reader.old reader.new out.old out.new err.old err.new result) }
+    // If no read and no write fails, the result is the definitions' answer.
+    ensures answer { AnswersAsDefined (call_of R.remaining W.contents E.contents
+        (map string_bytes args.now) reader.old reader.new out.old out.new err.old err.new result) }
     // However the run ends, the output for all that came before the last read is written.
-    ensures lag { let before : Streams =
-        streams (W.contents out.old.inner) (E.contents err.old.inner) in
-        let after : Streams = streams (W.contents out.new.inner) (E.contents err.new.inner) in
-        usage_fault (map string_bytes args.now) ≡ None →
-        LagsOneRead (options_of (map string_bytes args.now)) (R.remaining reader.old.inner)
-        (R.remaining reader.new.inner)
-        (W.contents out.old.inner) (W.contents out.new.inner)
-        ⊎ FailsForMemory (map string_bytes args.now) reader.old reader.new out.old out.new before
-        after err.new.failed result }
-    // However the run ends, and whether or not the streams report their contents: the output goes
-    // with what was read, and the message and the status with why the run ended.
-    ensures ended { let before : Streams =
-        streams (W.contents out.old.inner) (E.contents err.old.inner) in
-        let after : Streams = streams (W.contents out.new.inner) (E.contents err.new.inner) in
-        usage_fault (map string_bytes args.now) ≡ None →
-        ToolEnded (map string_bytes args.now) reader.new.failed out.new.failed
-        (R.remaining reader.old.inner) (R.remaining reader.new.inner)
-        before after err.new.failed result
-        ⊎ FailsForMemory (map string_bytes args.now) reader.old reader.new out.old out.new before
-        after err.new.failed result }
-    // If the arguments have a fault, nothing is read, and nothing is done with `out`. That fault is
-    // reported, or that memory for a symbol before it couldn't be allocated.
-    ensures untouched { IsSome (usage_fault (map string_bytes args.now)) →
-        (reader.new ≡ reader.old) × (out.new ≡ out.old) }
-    ensures usage_reported { IfSome (usage_fault (map string_bytes args.now)) (λ fault.
-        ReportsUsage (parsed_args (map string_bytes args.now)) fault err.new.failed
-        (E.contents err.old.inner) (E.contents err.new.inner) result) }
+    ensures lag { LagsAsRun (call_of R.remaining W.contents E.contents
+        (map string_bytes args.now) reader.old reader.new out.old out.new err.old err.new result) }
+    // However the run ends, output, message and status go with what was read and why it ended.
+    ensures ended { EndsAsRun (call_of R.remaining W.contents E.contents
+        (map string_bytes args.now) reader.old reader.new out.old out.new err.old err.new result) }
     // What was written is flushed, or the output has failed.
-    ensures flushed { out.old.unflushed ≡ false → out.new.failed ≡ false →
-        out.new.unflushed ≡ false }
-    // If a read or a write fails, the status is 2.
-    ensures read_fails { reader.new.failed ≡ true → result ≡ 2 }
-    ensures write_fails { out.new.failed ≡ true → result ≡ 2 }
-    // That failure is reported. Only if the flush alone failed, after a fault, that fault is.
-    ensures read_reported { reader.new.failed ≡ true →
-        AppendsAllOrPrefix err.new.failed (E.contents err.old.inner) (E.contents err.new.inner)
-        (read_error (display_name (map string_bytes args.now))) }
-    ensures write_reported { let before : Streams =
-        streams (W.contents out.old.inner) (E.contents err.old.inner) in
-        let after : Streams = streams (W.contents out.new.inner) (E.contents err.new.inner) in
-        out.new.failed ≡ true → reader.new.failed ≡ false →
-        IfSome (R.remaining reader.old.inner) (λ input.
-        AppendsAllOrPrefix err.new.failed before.err after.err
-        (write_error (display_name (map string_bytes args.now)))
-        ⊎ AnswersSpec (map string_bytes args.now) input before after err.new.failed result) }
+    ensures flushed { LeavesFlushed (call_of R.remaining W.contents E.contents
+        (map string_bytes args.now) reader.old reader.new out.old out.new err.old err.new result) }
 {
     match plan(alloc, args) {
         Err(fault) => {

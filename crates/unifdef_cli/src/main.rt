@@ -9,10 +9,7 @@ use std::fs::File;
 use std::io::Read;
 use std::process::ExitCode;
 use std::{env, io};
-use unifdef::{Watched, input_of, tool};
-
-/// The exit status of a fault.
-const EXIT_TROUBLE: u8 = 2;
+use unifdef::{EXIT_TROUBLE, Watched, input_of, tool};
 
 fn main(rt: HostRuntime) -> ExitCode {
     let Ok(args) = args(&rt) else {

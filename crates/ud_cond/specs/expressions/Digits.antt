@@ -2,8 +2,8 @@
 --
 --   IsOneDigit w z   the word is a constant without a `u`, of the number `z`
 use Rattle.std.specs.Prelude.{◌≡◌, ℕ, ℤ, List, false, Some}
-use Rattle.ud_model.specs.text.Bytes.{is_identifier}
-use Rattle.ud_model.specs.conditions.Constants.{starts_with_byte, constant_parts, constant_sign}
+use Rattle.ud_model.specs.text.Bytes.{is_identifier, starts_with_byte}
+use Rattle.ud_model.specs.conditions.Constants.{constant_parts, constant_sign}
 use Rattle.ud_model.specs.conditions.Values.{constant_value}
 
 -- `IsOneDigit w z`: the word is a constant without a `u`, of the number `z`, and begins neither as

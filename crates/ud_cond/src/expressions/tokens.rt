@@ -5,7 +5,6 @@
 ghost use Rattle.std.specs.Prelude.{◌≡◌, drop, length, option_map, slice_index, ◌-◌, bytes_eq};
 ghost use Rattle.std.specs.Prelude.{codes};
 ghost use Rattle.ud_model.specs.conditions.Tokens as spec;
-ghost use Rattle.ud_model.specs.conditions.Constants as texts;
 ghost use Rattle.ud_model.specs.text.Bytes as bytes;
 ghost use Rattle.ud_cond.specs.CondViews.{as_next};
 
@@ -43,7 +42,7 @@ pub(crate) enum NextToken<'a> {
 
 /// Returns whether a text begins with a byte.
 pub(crate) fn starts_with_byte(byte: u8, text: &[u8]) -> bool
-    ensures { result ≡ texts.starts_with_byte byte text.now }
+    ensures { result ≡ bytes.starts_with_byte byte text.now }
 {
     text.first() == Some(&byte)
 }

@@ -2,8 +2,8 @@
 -- least.
 use Rattle.std.proofs.Common.{◌≡◌, ℕ, zero, suc, ◌<◌, ◌≤◌, ◌==◌, List, [], ◌∷◌, length, drop, slice_index, Bool, true, false, not, ◌&&◌, if◌then◌else◌, Option, Some, None, bytes_eq, codes, option_map, refl, sym, ◌∙◌, ap, subst, arith, length-drop}
 use Rattle.std.proofs.lemmas.Option.{none-some, same_Some}
-use Rattle.ud_model.specs.text.Bytes.{is_white, is_digit, is_word_byte, skip_white, leading_word, skip_word}
-use Rattle.ud_model.specs.conditions.Constants.{starts_with_byte, is_constant}
+use Rattle.ud_model.specs.text.Bytes.{is_white, is_digit, is_word_byte, skip_white, leading_word, skip_word, starts_with_byte}
+use Rattle.ud_model.specs.conditions.Constants.{is_constant}
 use Rattle.ud_model.specs.conditions.Tokens.{Token, number, name, defined, operator, NextToken, at_end, unreadable, found, after_matching_paren, with_arguments, name_token, has_exponent_sign, word_token, one_or_two_bytes, punctuator, leading_token, next_token, AreTokens}
 use Rattle.ud_model.specs.aids.Parsing.{prepend_token, tokens_in, tokens_of}
 use Rattle.ud_model.specs.declared.operator.Operator.{Operator}

@@ -6,6 +6,7 @@ use Rattle.ud_model.specs.text.Lines.{Line, NoNewline, SplitLines, lines_of, spl
 use Rattle.ud_model.specs.text.Scans.{Scan, plain_scan}
 use Rattle.ud_model.specs.sections.Directives.{cut_keyword, directive, content_of}
 use Rattle.ud_model.specs.sections.Directives.{text as no_directive}
+use Rattle.ud_model.specs.sections.DirectiveParts.{AreParts}
 use Rattle.ud_model.specs.conditions.Table.{Argument}
 use Rattle.ud_model.specs.conditions.Conditions.{Rules, condition_of, undecided}
 use Rattle.ud_model.specs.sections.Tree.{Opener, Nodes, Tree, HasTree, text_line, if_line, elif_line, else_line, endif_line, nothing, text, section, conditional, otherwise, first, elif, else_head, closed, open_section, lines, depth}
@@ -122,6 +123,10 @@ sign_before_splice = refl
 pub spaced_ifdef : content_of (plain_scan (a_line (codes "  # ifdef A") (codes "\n") 1)) ≡
     directive (record { kind = Ifdef; keyword = record { at = 4; len = 5 }; after = codes " A"; broken = false })
 spaced_ifdef = refl
+
+-- These are the parts of that line.
+pub parts_of_ifdef : AreParts (record { white = codes "  "; gap = codes " "; word = codes "ifdef"; rest = codes " A" }) (codes "  # ifdef A")
+parts_of_ifdef = record { joined = refl; white = refl; gap = refl; word = refl; gap_ends = refl; word_ends = refl }
 
 -- In plain mode a `#` alone is text.
 pub sign_in_plain_mode : content_of (plain_scan (a_line (codes "#") (codes "\n") 1)) ≡ no_directive

@@ -2,7 +2,7 @@
 use Rattle.std.proofs.Common.{◌≡◌, refl, ℕ, List, [], ◌∷◌, codes, map, true, false}
 use Rattle.ud_model.specs.text.Lines.{Line}
 use Rattle.ud_model.specs.text.Scans.{Reading, plain_scan}
-use Rattle.ud_model.specs.text.Lexemes.{block_comment, lexeme_at, lex_from, lex, kind_at_end}
+use Rattle.ud_model.specs.text.Lexemes.{block_comment, single, unclosed_comment, LastIsOpen, lexeme_at, lex_from, lex, kind_at_end}
 use Rattle.ud_model.specs.text.Scanning.{joins, scan_after_run, scan_after, next_reading}
 use Rattle.ud_model.specs.declared.kind.Mode.TheVariants.{C, Plain}
 use Rattle.ud_model.specs.declared.kind.CommentAt.TheVariants.{Outside, InLine, InBlock}
@@ -119,3 +119,11 @@ afresh_behind_plain = refl
 -- In plain mode a line is scanned as it is.
 pub plain_line : scan_after (behind_line (codes "/*")) Plain (fed (codes "*/ \\")) ≡ plain_scan (fed (codes "*/ \\"))
 plain_line = refl
+
+-- A comment without `*/` is open at the end of a text.
+pub comment_is_open : LastIsOpen block_comment (record { kind = single; bytes = codes "a" } ∷ record { kind = block_comment; bytes = codes "/*b" } ∷ [])
+comment_is_open = (refl, unclosed_comment (codes "b") refl (refl, tt))
+
+-- Only the last lexeme counts, whatever comes before it.
+pub last_lexeme_counts : LastIsOpen block_comment (record { kind = block_comment; bytes = codes "/*b" } ∷ record { kind = single; bytes = codes "a" } ∷ []) → ⊥
+last_lexeme_counts o = let same : single ≡ block_comment = o.0 in cc

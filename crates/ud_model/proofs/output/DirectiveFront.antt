@@ -1,35 +1,20 @@
 -- The bytes before a directive's keyword, and the keyword itself.
-use Rattle.std.proofs.Common.{◌≡◌, ◌≢◌, ℕ, ◌+◌, ◌-◌, ◌==◌, List, [], ◌∷◌, ◌++◌, length, Bool, true, false, not, ◌&&◌, ◌||◌, Option, Some, None, if◌then◌else◌, refl, sym, ◌∙◌, ap, ap₂, subst, append_assoc, arith, length-append, eqb-true, ◌⊎◌, inl, inr}
+use Rattle.std.proofs.Common.{◌≡◌, ◌≢◌, ℕ, suc, ◌+◌, ◌==◌, List, [], ◌∷◌, ◌++◌, length, Bool, true, false, not, ◌&&◌, ◌||◌, Some, refl, sym, ◌∙◌, ap, ap₂, subst, append_assoc, arith, length-append, eqb-true, ◌⊎◌, inl, inr}
 use Rattle.std.proofs.lemmas.Bool.{and_parts, not-true}
-use Rattle.ud_model.specs.text.Bytes.{slash, space, newline, is_quote, is_white, is_word_byte, skip_white, leading_word, skip_word}
+use Rattle.ud_model.specs.text.Bytes.{number_sign, slash, space, newline, is_quote, is_white, are_white}
 use Rattle.ud_model.specs.text.Scans.{Scan}
-use Rattle.ud_model.specs.sections.Directives.{Content, Directive, cut_keyword, directive, text, content_of, skip_hash_if_fresh, skip_hash, has_split_keyword, content_after_hash, directive_at, kind_of, is_continued_outside_comment}
+use Rattle.ud_model.specs.sections.Directives.{Directive, directive, content_of, kind_of, is_continued_outside_comment}
+use Rattle.ud_model.specs.sections.DirectiveParts.{DirectiveParts, HasDirective}
 use Rattle.ud_model.specs.declared.kind.Kind.{Kind}
 use Rattle.ud_model.proofs.output.Each.{Each}
 use Rattle.ud_model.proofs.output.EditedScan.{has_quote, ends_in_slash}
 use Rattle.ud_model.proofs.output.KeywordPlace.{IsInert}
 use Rattle.ud_model.proofs.sections.Keywords.{each_keyword}
+use Rattle.ud_model.proofs.sections.SplitLines.{either, directive_is}
 
 -- Each byte is white space.
 abbrev pub IsWhite : ℕ → Type 0
 IsWhite b = is_white b ≡ true
-
--- A text is leading white space, and the rest.
-white_split : (t : List ℕ) → (ws : List ℕ) × (t ≡ ws ++ skip_white t) × Each IsWhite ws
-white_split [] = ([], refl, tt)
-white_split (b ∷ t) = by_white (is_white b) refl (white_split t)
-  where
-    by_white : (w : Bool) → is_white b ≡ w → ((ws : List ℕ) × (t ≡ ws ++ skip_white t) × Each IsWhite ws) → (ws : List ℕ) × (b ∷ t ≡ ws ++ (if w then skip_white t else b ∷ t)) × Each IsWhite ws
-    by_white true e r = (b ∷ r.0, ap (λ (l : List ℕ). b ∷ l) r.1, (e, r.2))
-    by_white false e r = ([], refl, tt)
-
-word_split : (t : List ℕ) → t ≡ leading_word t ++ skip_word t
-word_split [] = refl
-word_split (b ∷ t) = by_word (is_word_byte b) (word_split t)
-  where
-    by_word : (w : Bool) → t ≡ leading_word t ++ skip_word t → b ∷ t ≡ (if w then b ∷ leading_word t else []) ++ (if w then skip_word t else b ∷ t)
-    by_word true r = ap (λ (l : List ℕ). b ∷ l) r
-    by_word false r = refl
 
 -- The masked line of a directive: white space, the `#`, white space, the keyword, and the rest.
 pub record Front (scan : Scan) (d : Directive) : Type 0 where
@@ -45,63 +30,30 @@ pub record Front (scan : Scan) (d : Directive) : Type 0 where
   pub fresh_is : scan.fresh ≡ true
   pub broken_is : d.broken ≡ is_continued_outside_comment scan
 
-sign_of : (t rest : List ℕ) → skip_hash t ≡ Some rest → t ≡ 35 ∷ rest
-sign_of [] rest e = cc
-sign_of (b ∷ t) rest e = by_sign (b == 35) refl e
-  where
-    by_sign : (s : Bool) → (b == 35) ≡ s → (if s then Some t else None) ≡ Some rest → b ∷ t ≡ 35 ∷ rest
-    by_sign true f g = let p : t ≡ rest = cc in ap₂ (λ (x : ℕ) (l : List ℕ). x ∷ l) (eqb-true b 35 f) p
-    by_sign false f g = cc
+each_is_white : (ws : List ℕ) → are_white ws ≡ true → Each IsWhite ws
+each_is_white [] e = tt
+each_is_white (b ∷ ws) e = let p : (is_white b ≡ true) × (are_white ws ≡ true) = and_parts (is_white b) (are_white ws) e in (p.0, each_is_white ws p.1)
 
-module _ (scan : Scan) where
-  at_kind : (ws gs rest : List ℕ) (k : Option Kind) (d : Directive) → Each IsWhite ws → Each IsWhite gs → scan.masked ≡ (ws ++ 35 ∷ gs) ++ rest → scan.fresh ≡ true →
-      kind_of (leading_word rest) ≡ k → directive_at scan rest k ≡ directive d → Front scan d
-  at_kind ws gs rest None d w g m f e h = cc
-  at_kind ws gs rest (Some k) d w g m f e h =
-      let q : record { kind = k; keyword = record { at = length scan.masked - length rest; len = length (leading_word rest) }; after = skip_word rest; broken = is_continued_outside_comment scan } ≡ d = cc in
-      let l : length scan.masked ≡ length (ws ++ 35 ∷ gs) + length rest = ap (λ (t : List ℕ). length t) m ∙ length-append (ws ++ 35 ∷ gs) rest in
-      subst (Front scan) q (record {
-        white = ws;
-        gap = gs;
-        word = leading_word rest;
-        whites = w;
-        gaps = g;
-        masked_is = m ∙ ap (λ (t : List ℕ). (ws ++ 35 ∷ gs) ++ t) (word_split rest);
-        at_is = omega (arith, l);
-        len_is = refl;
-        kind_is = e;
-        fresh_is = f;
-        broken_is = refl;
-      })
-
-  at_fresh : (fresh : Bool) (ws gs rest : List ℕ) (d : Directive) → Each IsWhite ws → Each IsWhite gs → scan.masked ≡ (ws ++ 35 ∷ gs) ++ rest → scan.fresh ≡ fresh →
-      (if fresh then directive_at scan rest (kind_of (leading_word rest)) else text) ≡ directive d → Front scan d
-  at_fresh true ws gs rest d w g m f h = at_kind ws gs rest (kind_of (leading_word rest)) d w g m f refl h
-  at_fresh false ws gs rest d w g m f h = cc
-
-  at_sign : (sign : Option (List ℕ)) (d : Directive) → skip_hash_if_fresh scan.masked ≡ sign → content_after_hash scan sign ≡ directive d → Front scan d
-  at_sign None d e h = cc
-  at_sign (Some rest) d e h =
-      let s : (ws : List ℕ) × (scan.masked ≡ ws ++ skip_white scan.masked) × Each IsWhite ws = white_split scan.masked in
-      let g : (gs : List ℕ) × (rest ≡ gs ++ skip_white rest) × Each IsWhite gs = white_split rest in
-      let m : scan.masked ≡ (s.0 ++ 35 ∷ g.0) ++ skip_white rest =
-      s.1 ∙ ap (λ (t : List ℕ). s.0 ++ t) (sign_of (skip_white scan.masked) rest e ∙ ap (λ (t : List ℕ). 35 ∷ t) g.1)
-      ∙ sym (append_assoc s.0 (35 ∷ g.0) (skip_white rest)) in
-      at_fresh scan.fresh s.0 g.0 (skip_white rest) d s.2 g.2 m refl h
-
-  unless_cut : (t : Bool) (c : Content) (d : Directive) → (if t then cut_keyword else c) ≡ directive d → c ≡ directive d
-  unless_cut true c d e = cc
-  unless_cut false c d e = e
-
-  -- A line with a directive is masked so.
-  pub directive_front : (d : Directive) → content_of scan ≡ directive d → Front scan d
-  directive_front d e =
-      at_sign (skip_hash_if_fresh scan.masked) d refl (unless_cut (has_split_keyword scan (skip_hash_if_fresh scan.masked)) (content_after_hash scan (skip_hash_if_fresh scan.masked)) d e)
-
--- If one of two facts is true, the first or the second is.
-pub either : (a b : Bool) → (a || b) ≡ true → (a ≡ true) ⊎ (b ≡ true)
-either true b e = inl refl
-either false b e = inr e
+-- A line with a directive is masked so.
+pub directive_front : (scan : Scan) (d : Directive) → content_of scan ≡ directive d → Front scan d
+directive_front scan d e =
+    let h : HasDirective scan d = (directive_is scan d).0 e in
+    let p : DirectiveParts = h.parts in
+    let n : length (p.white ++ number_sign ∷ p.gap) ≡ length p.white + suc (length p.gap) = length-append p.white (number_sign ∷ p.gap) in
+    record {
+      white = p.white;
+      gap = p.gap;
+      word = p.word;
+      whites = each_is_white p.white h.are.white;
+      gaps = each_is_white p.gap h.are.gap;
+      masked_is = h.are.joined ∙ sym (append_assoc p.white (number_sign ∷ p.gap) (p.word ++ p.rest))
+          ∙ ap (λ (t : List ℕ). (p.white ++ number_sign ∷ p.gap) ++ (p.word ++ t)) (sym h.after);
+      at_is = omega (arith, h.at, n);
+      len_is = h.len;
+      kind_is = h.kind;
+      fresh_is = h.fresh;
+      broken_is = h.broken;
+    }
 
 -- A property of each byte that is white.
 pub each_white : (P : ℕ → Type 0) → P 32 → P 9 → P 11 → P 12 → P 13 → (b : ℕ) → is_white b ≡ true → P b

@@ -4,7 +4,7 @@ use Rattle.std.proofs.Math.Bool.{and-false}
 use Rattle.std.proofs.lemmas.List.{take_at}
 use Rattle.ud_model.specs.text.Bytes.{skip_white, leading_word, skip_word}
 use Rattle.ud_model.specs.text.Scans.{Scan}
-use Rattle.ud_model.specs.sections.Directives.{Directive, cut_keyword, directive, text, content_of, skip_hash_if_fresh, skip_hash, has_split_keyword, may_split_keyword, content_after_hash, directive_at, kind_of, role_of, test_of, is_continued_outside_comment, is_in_line}
+use Rattle.ud_model.specs.sections.Directives.{Directive, cut_keyword, directive, text, content_of, skip_white_and_hash, skip_hash, has_split_keyword, may_split_keyword, content_after_hash, directive_at, kind_of, role_of, test_of, is_continued_outside_comment, is_in_line}
 use Rattle.ud_model.specs.answer.Printing.{by_length, opener_keyword}
 use Rattle.ud_model.specs.declared.kind.Kind.{Kind}
 use Rattle.ud_model.specs.declared.kind.Kind.TheVariants.{If, Ifdef, Ifndef}
@@ -37,14 +37,14 @@ uncut true true true true (inr e) = e
 
 module _ (now : Scan) (ws gs tail : List ℕ) (k : Kind) (w : Each IsWhite ws) (g : Each IsWhite gs) (d : StartsDark tail) (m : now.masked ≡ (ws ++ 35 ∷ gs) ++ tail)
     (f : now.fresh ≡ true) (s : Settled now tail) (kind : kind_of (leading_word tail) ≡ Some k) where
-  sign_is : skip_hash_if_fresh now.masked ≡ Some (gs ++ tail)
+  sign_is : skip_white_and_hash now.masked ≡ Some (gs ++ tail)
   sign_is =
-      ap skip_hash_if_fresh (m ∙ append_assoc ws (35 ∷ gs) tail) ∙ ap skip_hash (past_all ws (35 ∷ (gs ++ tail)) w refl)
+      ap skip_white_and_hash (m ∙ append_assoc ws (35 ∷ gs) tail) ∙ ap skip_hash (past_all ws (35 ∷ (gs ++ tail)) w refl)
 
   tail_is : skip_white (gs ++ tail) ≡ tail
   tail_is = past_all gs tail g d
 
-  not_cut : has_split_keyword now (skip_hash_if_fresh now.masked) ≡ false
+  not_cut : has_split_keyword now (skip_white_and_hash now.masked) ≡ false
   not_cut =
       ap (λ (o : Option (List ℕ)). has_split_keyword now o) sign_is
       ∙ ap (λ (t : List ℕ). now.fresh && now.joins_after && not (is_in_line now.comment) && may_split_keyword now t) tail_is
@@ -62,7 +62,7 @@ module _ (now : Scan) (ws gs tail : List ℕ) (k : Kind) (w : Each IsWhite ws) (
     broken = is_continued_outside_comment now;
   })
   carries =
-      ap (λ (t : Bool). if t then cut_keyword else content_after_hash now (skip_hash_if_fresh now.masked)) not_cut
+      ap (λ (t : Bool). if t then cut_keyword else content_after_hash now (skip_white_and_hash now.masked)) not_cut
       ∙ ap (λ (o : Option (List ℕ)). content_after_hash now o) sign_is
       ∙ ap₂ (λ (b : Bool) (t : List ℕ). if b then directive_at now t (kind_of (leading_word t)) else text) f tail_is
       ∙ ap (λ (o : Option Kind). directive_at now tail o) kind

@@ -6,7 +6,7 @@ use Rattle.ud_model.specs.declared.cond.Cond.TheVariants.{Yes, No, Unknown}
 use Rattle.ud_model.specs.declared.verdict.Verdict.TheVariants.{Keep, ToElse, ToEndif}
 use Rattle.ud_model.specs.sections.Tree.{Opener, Nodes, Groups, Elifs, nothing, text, section, conditional, otherwise, first, elif}
 use Rattle.ud_model.specs.sections.Pruning.{Part, an_if, an_elif, first_kept_verdict}
-use Rattle.ud_model.specs.output.Pruned.{Edited, edited, edited_opener}
+use Rattle.ud_model.specs.output.Pruned.{Edited, edited, edited_opener, then_nodes}
 
 -- The rest of a section's groups.
 pub data KeptGroups (L : Type 0) : Type 0 where
@@ -19,12 +19,6 @@ pub data KeptGroups (L : Type 0) : Type 0 where
   -- The kept groups, of which the last one is true and comes under an `#else`; and the opener after
   -- it, if there is one.
   ended : Elifs (Edited L) → Edited L → Nodes (Edited L) → Option (Edited L) → KeptGroups L
-
--- `then_nodes ms ns`: the nodes `ms` and then the nodes `ns`.
-abbrev pub then_nodes : {L : Type 0} → Nodes L → Nodes L → Nodes L
-then_nodes ms nothing = ms
-then_nodes ms (text ns l) = text (then_nodes ms ns) l
-then_nodes ms (section ns gs e) = section (then_nodes ms ns) gs e
 
 module _ {L : Type 0} where
   -- `with_group kept part o c ns`: the rest `kept` of the groups with one more: its opener `o`, the

@@ -64,9 +64,9 @@ module _ (o : Options) (n : NoneIgnores o.table) where
       ∙ ap (λ (ls : List Line). items o (read_in (the_mode o) ls)) (sym (lines_with_next o xs t l))
 
 -- The output's tree.
-pub woven_text : (o : Options) → IsPlain o → (b n : Bool) → (b || n) ≡ true → (input : List ℕ) → {r s : Outcome} → HasOutcome o input r → HasOutcome (with_blank_renumber b n o) input s →
+pub inserted_in_text : (o : Options) → IsPlain o → (b n : Bool) → (b || n) ≡ true → (input : List ℕ) → {r s : Outcome} → HasOutcome o input r → HasOutcome (with_blank_renumber b n o) input s →
     (us : Nodes Reading) → IsTreeOf o r.output (closed us) → (vs : Nodes Reading) × IsTreeOf o s.output (closed vs) × NodesWithInserted us vs
-woven_text o p b n some input {r = r} {s = s} run other us a =
+inserted_in_text o p b n some input {r = r} {s = s} run other us a =
     let m : Mode = the_mode o in
     let z = reading_exists o input in
     let c = counted_text o p b n some input z.3 run other in
@@ -80,5 +80,5 @@ woven_text o p b n some input {r = r} {s = s} run other us a =
         read = are_read o p.none_ignores zs (read_items o m (lines_of s.output) (by_push (lines_of s.output))) (closed w.nodes) w.lines;
         are = sym (lines_back o m (lines_of s.output) (by_push (lines_of s.output)));
       },
-      w.woven,
+      w.inserted,
     )

@@ -8,7 +8,7 @@ use Rattle.ud_model.specs.sections.Tree.{Item, Opener, Nodes, Groups, Elifs, tex
 use Rattle.ud_model.specs.sections.Items.{Options, item_of, item_by, directive_item, rules_of}
 use Rattle.ud_model.specs.answer.Printing.{Judged}
 use Rattle.ud_model.specs.output.InsertedLines.{IsLone, IsPrinted, Counted, no_line, goes, blanked, counts_on, starts_anew}
-use Rattle.ud_model.specs.output.InsertedNodes.{IsSame, IsSameOpener, IsInserted, NodesWithInserted, no_nodes, same_text, put_text, same_section, GroupsWithInserted, all_conditional, last_otherwise, ElifsWithInserted, same_first, same_elif}
+use Rattle.ud_model.specs.output.InsertedNodes.{IsSame, IsSameOpener, IsInserted, NodesWithInserted, no_nodes, same_text, inserted_text, same_section, GroupsWithInserted, all_conditional, last_otherwise, ElifsWithInserted, same_first, same_elif}
 use Rattle.ud_model.specs.declared.kind.Role.{Role}
 use Rattle.ud_model.specs.declared.kind.Role.TheVariants.{IfGroup, ElifGroup, ElseGroup, EndifLine}
 
@@ -194,13 +194,13 @@ split_both A B zs s = both_by A B (A ++ B) zs refl s
 record More (ns : Nodes Reading) (ms : Nodes Reading) (zs : List (Item Reading)) : Type 0 where
   pub nodes : Nodes Reading
   pub lines : lines_of_nodes nodes ≡ lines_of_nodes ms ++ zs
-  pub woven : NodesWithInserted ns nodes
+  pub inserted : NodesWithInserted ns nodes
 
 more_texts : (ns ms : Nodes Reading) (zs : List (Item Reading)) → NodesWithInserted ns ms → Strewn [] zs → More ns ms zs
-more_texts ns ms _ w none = record { nodes = ms; lines = sym (append-nil (lines_of_nodes ms)); woven = w }
+more_texts ns ms _ w none = record { nodes = ms; lines = sym (append-nil (lines_of_nodes ms)); inserted = w }
 more_texts ns ms _ w (put {d = d} {zs = zs} k s) =
-    let r : More ns (text ms d) zs = more_texts ns (text ms d) zs (put_text w k) s in
-    record { nodes = r.nodes; lines = r.lines ∙ append_assoc (lines_of_nodes ms) (text_line d ∷ []) zs; woven = r.woven }
+    let r : More ns (text ms d) zs = more_texts ns (text ms d) zs (inserted_text w k) s in
+    record { nodes = r.nodes; lines = r.lines ∙ append_assoc (lines_of_nodes ms) (text_line d ∷ []) zs; inserted = r.inserted }
 
 a_text_here : (r : Reading) (z : Item Reading) → ItemAlike (text_line r) z → (s : Reading) × (z ≡ text_line s) × IsSame r s
 a_text_here r _ (a_text {s = s} k) = (s, refl, k)
@@ -221,7 +221,7 @@ an_endif_here r _ (an_endif {s = s} k) = (s, refl, k)
 pub record Nodesof (ns : Nodes Reading) (zs : List (Item Reading)) : Type 0 where
   pub nodes : Nodes Reading
   pub lines : lines_of_nodes nodes ≡ zs
-  pub woven : NodesWithInserted ns nodes
+  pub inserted : NodesWithInserted ns nodes
 
 -- The items as groups, after text lines.
 record Groupsof (gs : Groups Reading) (zs : List (Item Reading)) : Type 0 where
@@ -229,14 +229,14 @@ record Groupsof (gs : Groups Reading) (zs : List (Item Reading)) : Type 0 where
   pub groups : Groups Reading
   pub lines : zs ≡ texts ++ lines_of_groups groups
   pub put_in : Strewn [] texts
-  pub woven : GroupsWithInserted gs groups
+  pub inserted : GroupsWithInserted gs groups
 
 record Elifsof (es : Elifs Reading) (zs : List (Item Reading)) : Type 0 where
   pub texts : List (Item Reading)
   pub elifs : Elifs Reading
   pub lines : zs ≡ texts ++ lines_of_elifs elifs
   pub put_in : Strewn [] texts
-  pub woven : ElifsWithInserted es elifs
+  pub inserted : ElifsWithInserted es elifs
 
 -- A further group: its opener and its nodes.
 further : (before texts ls ms zs later : List (Item Reading)) (z y : Item Reading) → zs ≡ before ++ z ∷ later → before ≡ texts ++ ls → z ≡ y → ms ≡ later →
@@ -247,17 +247,17 @@ further before texts ls ms zs later z y e f g h =
 
 mutual
   pub weave_nodes : (ns : Nodes Reading) (zs : List (Item Reading)) → Strewn (lines_of_nodes ns) zs → Nodesof ns zs
-  weave_nodes nothing zs s = let r : More nothing nothing zs = more_texts nothing nothing zs no_nodes s in record { nodes = r.nodes; lines = r.lines; woven = r.woven }
+  weave_nodes nothing zs s = let r : More nothing nothing zs = more_texts nothing nothing zs no_nodes s in record { nodes = r.nodes; lines = r.lines; inserted = r.inserted }
   weave_nodes (text ns l) zs s =
       let c : SplitAt (lines_of_nodes ns) (text_line l) [] zs = split_at (lines_of_nodes ns) (text_line l) [] zs s in
       let i = a_text_here l c.here c.alike in
       let n : Nodesof ns c.before = weave_nodes ns c.before c.first_part in
-      let r : More (text ns l) (text n.nodes i.0) c.later = more_texts (text ns l) (text n.nodes i.0) c.later (same_text n.woven i.2) c.second_part in
+      let r : More (text ns l) (text n.nodes i.0) c.later = more_texts (text ns l) (text n.nodes i.0) c.later (same_text n.inserted i.2) c.second_part in
       record {
         nodes = r.nodes;
         lines = r.lines ∙ append_assoc (lines_of_nodes n.nodes) (text_line i.0 ∷ []) c.later
             ∙ ap₂ (λ (b : List (Item Reading)) (x : Item Reading). b ++ x ∷ c.later) n.lines (sym i.1) ∙ sym c.are;
-        woven = r.woven;
+        inserted = r.inserted;
       }
   weave_nodes (section ns gs e) zs s =
       let c : SplitAt (lines_of_nodes ns ++ lines_of_groups gs) (endif_line e) [] zs = split_at (lines_of_nodes ns ++ lines_of_groups gs) (endif_line e) [] zs s in
@@ -265,9 +265,9 @@ mutual
       let b = split_both (lines_of_nodes ns) (lines_of_groups gs) c.before c.first_part in
       let n : Nodesof ns b.before = weave_nodes ns b.before b.first_part in
       let g : Groupsof gs b.later = weave_groups gs b.later b.second_part in
-      let m : More ns n.nodes g.texts = more_texts ns n.nodes g.texts n.woven g.put_in in
+      let m : More ns n.nodes g.texts = more_texts ns n.nodes g.texts n.inserted g.put_in in
       let r : More (section ns gs e) (section m.nodes g.groups i.0) c.later =
-      more_texts (section ns gs e) (section m.nodes g.groups i.0) c.later (same_section m.woven g.woven i.2) c.second_part in
+      more_texts (section ns gs e) (section m.nodes g.groups i.0) c.later (same_section m.inserted g.inserted i.2) c.second_part in
       let prefix : lines_of_nodes m.nodes ++ lines_of_groups g.groups ≡ c.before =
       ap (λ (ws : List (Item Reading)). ws ++ lines_of_groups g.groups) (m.lines ∙ ap (λ (ws : List (Item Reading)). ws ++ g.texts) n.lines)
       ∙ append_assoc b.before g.texts (lines_of_groups g.groups) ∙ ap (λ (ws : List (Item Reading)). b.before ++ ws) (sym g.lines) ∙ sym b.are in
@@ -275,13 +275,13 @@ mutual
         nodes = r.nodes;
         lines = r.lines ∙ append_assoc (lines_of_nodes m.nodes ++ lines_of_groups g.groups) (endif_line i.0 ∷ []) c.later
             ∙ ap₂ (λ (w : List (Item Reading)) (x : Item Reading). w ++ x ∷ c.later) prefix (sym i.1) ∙ sym c.are;
-        woven = r.woven;
+        inserted = r.inserted;
       }
 
   weave_groups : (gs : Groups Reading) (zs : List (Item Reading)) → Strewn (lines_of_groups gs) zs → Groupsof gs zs
   weave_groups (conditional es) zs s =
       let r : Elifsof es zs = weave_elifs es zs s in
-      record { texts = r.texts; groups = conditional r.elifs; lines = r.lines; put_in = r.put_in; woven = all_conditional r.woven }
+      record { texts = r.texts; groups = conditional r.elifs; lines = r.lines; put_in = r.put_in; inserted = all_conditional r.inserted }
   weave_groups (otherwise es l ns) zs s =
       let c : SplitAt (lines_of_elifs es) (else_line l) (lines_of_nodes ns) zs =
       split_at (lines_of_elifs es) (else_line l) (lines_of_nodes ns) zs (subst (λ (ys : List (Item Reading)). Strewn ys zs) (append_assoc (lines_of_elifs es) (else_line l ∷ []) (lines_of_nodes ns)) s) in
@@ -293,7 +293,7 @@ mutual
         groups = otherwise r.elifs i.0 n.nodes;
         lines = further c.before r.texts (lines_of_elifs r.elifs) (lines_of_nodes n.nodes) zs c.later c.here (else_line i.0) c.are r.lines i.1 n.lines;
         put_in = r.put_in;
-        woven = last_otherwise r.woven i.2 n.woven;
+        inserted = last_otherwise r.inserted i.2 n.inserted;
       }
 
   weave_elifs : (es : Elifs Reading) (zs : List (Item Reading)) → Strewn (lines_of_elifs es) zs → Elifsof es zs
@@ -306,7 +306,7 @@ mutual
         elifs = first i.0 n.nodes;
         lines = c.are ∙ ap₂ (λ (x : Item Reading) (ws : List (Item Reading)). c.before ++ x ∷ ws) i.1 (sym n.lines);
         put_in = c.first_part;
-        woven = same_first i.2 n.woven;
+        inserted = same_first i.2 n.inserted;
       }
   weave_elifs (elif es o ns) zs s =
       let c : SplitAt (lines_of_elifs es) (elif_line o) (lines_of_nodes ns) zs =
@@ -319,5 +319,5 @@ mutual
         elifs = elif r.elifs i.0 n.nodes;
         lines = further c.before r.texts (lines_of_elifs r.elifs) (lines_of_nodes n.nodes) zs c.later c.here (elif_line i.0) c.are r.lines i.1 n.lines;
         put_in = r.put_in;
-        woven = same_elif r.woven i.2 n.woven;
+        inserted = same_elif r.inserted i.2 n.inserted;
       }

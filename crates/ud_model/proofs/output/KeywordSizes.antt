@@ -4,7 +4,7 @@ use Rattle.std.proofs.lemmas.Bool.{leb-true}
 use Rattle.std.proofs.Math.Dec.{leb}
 use Rattle.ud_model.specs.text.Bytes.{skip_white, leading_word}
 use Rattle.ud_model.specs.text.Scans.{Scan, Reading}
-use Rattle.ud_model.specs.sections.Directives.{Content, cut_keyword, directive, text, content_of, skip_hash_if_fresh, has_split_keyword, content_after_hash, directive_at, kind_of, role_of}
+use Rattle.ud_model.specs.sections.Directives.{Content, cut_keyword, directive, text, content_of, skip_white_and_hash, has_split_keyword, content_after_hash, directive_at, kind_of, role_of}
 use Rattle.ud_model.specs.conditions.Conditions.{Decision, decision_on}
 use Rattle.ud_model.specs.sections.Tree.{Item, text_line, if_line, elif_line, else_line, endif_line}
 use Rattle.ud_model.specs.sections.Items.{Options, directive_item, item_by, item_of, rules_of}
@@ -44,13 +44,13 @@ size_behind : (scan : Scan) (sign : Option (List ℕ)) → HasSize (content_afte
 size_behind scan None = tt
 size_behind scan (Some rest) = size_fresh scan scan.fresh (skip_white rest)
 
-size_unless_cut : (scan : Scan) (cut : Bool) → HasSize (if cut then cut_keyword else content_after_hash scan (skip_hash_if_fresh scan.masked))
+size_unless_cut : (scan : Scan) (cut : Bool) → HasSize (if cut then cut_keyword else content_after_hash scan (skip_white_and_hash scan.masked))
 size_unless_cut scan true = tt
-size_unless_cut scan false = size_behind scan (skip_hash_if_fresh scan.masked)
+size_unless_cut scan false = size_behind scan (skip_white_and_hash scan.masked)
 
 -- A directive's keyword is at least as long as its kind demands.
 pub content_size : (scan : Scan) → HasSize (content_of scan)
-content_size scan = size_unless_cut scan (has_split_keyword scan (skip_hash_if_fresh scan.masked))
+content_size scan = size_unless_cut scan (has_split_keyword scan (skip_white_and_hash scan.masked))
 
 -- The keyword of this line has so many bytes at least, and lies in the body.
 pub record HasWord (r : Reading) (n : ℕ) : Type 0 where

@@ -15,7 +15,7 @@ use Rattle.ud_model.specs.declared.kind.Mode.TheVariants.{C, Plain}
 use Rattle.ud_model.proofs.sections.Soundness.{reading_of-item_of}
 use Rattle.ud_model.proofs.text.ScanLaws.{place_after, white_after, scan_from, scan_after_run-from, LexesTo-append, joins_after-code, starts_anew}
 use Rattle.ud_model.proofs.output.ExchangedScan.{Sane}
-use Rattle.ud_model.proofs.output.DirectiveFront.{either}
+use Rattle.ud_model.proofs.sections.SplitLines.{either}
 use Rattle.ud_model.proofs.text.ScanLemmas.{kind_at_place, joined_run_last, LexesTo-close, run_of_last}
 use Rattle.ud_model.proofs.text.LexStateLemmas.{LexesTo-nil}
 

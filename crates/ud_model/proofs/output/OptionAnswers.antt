@@ -29,8 +29,8 @@ use Rattle.ud_model.proofs.output.ListComplete.{alike_but_one}
 use Rattle.ud_model.proofs.output.BlankedLineLemmas.{as_many, blanked_places}
 use Rattle.ud_model.proofs.output.SharedLineLemmas.{shared}
 use Rattle.ud_model.proofs.output.CountedText.{counted_text}
-use Rattle.ud_model.proofs.output.InsertedText.{woven_text}
-use Rattle.ud_model.proofs.output.InsertedSelected.{woven_selected}
+use Rattle.ud_model.proofs.output.InsertedText.{inserted_in_text}
+use Rattle.ud_model.proofs.output.InsertedSelected.{inserted_in_selected}
 
 -- arguments with an answer whose status isn't 2 have no fault
 no_usage_fault : {args : List (List ℕ)} {input : List ℕ} {a : Answer} → IsAnswer args input a → a.status ≢ 2 → usage_fault args ≡ None
@@ -104,10 +104,10 @@ pub answered_selects_numbered : {args more : List (List ℕ)} {input : List ℕ}
 answered_selects_numbered p k (refused f e) n b ns us i j w v g t = absurd (n refl)
 answered_selects_numbered p k (ran r e d) n (refused f q) ns us i j w v g t = absurd (none-some f (sym k.no_fault ∙ q))
 answered_selects_numbered {args = args} {input = input} p k (ran r e d) n (ran s q h) ns us i j w v g t =
-    let z = woven_text (options_of args) p k.blank k.renumber k.given input d (numbered_run k h) us j in
+    let z = inserted_in_text (options_of args) p k.blank k.renumber k.given input d (numbered_run k h) us j in
     record {
       nodes = z.0;
       is_tree = z.1;
-      woven = z.2;
-      selects = λ x same. (selected v us, answered_selects {args = args} (ran r e d) n p ns us i j w v g t, woven_selected v x z.2 same);
+      inserted = z.2;
+      selects = λ x same. (selected v us, answered_selects {args = args} (ran r e d) n p ns us i j w v g t, inserted_in_selected v x z.2 same);
     }

@@ -7,8 +7,8 @@ use Rattle.ud_model.specs.declared.verdict.Verdict.TheVariants.{Keep, ToEndif}
 use Rattle.ud_model.specs.sections.Tree.{Item, Opener, Nodes, Groups, Elifs, text_line, if_line, elif_line, else_line, endif_line, nothing, text, section, conditional, otherwise, first, elif, closed, lines_of_nodes, lines_of_groups, lines_of_elifs}
 use Rattle.ud_model.specs.sections.Pruning.{Part, an_if, an_elif, an_else, Mark, marked, is_kept, conds_of_elifs, conds_of_groups, endif_verdict, marks}
 use Rattle.ud_model.specs.aids.SoFar.{verdict_so_far, nodes_so_far, groups_so_far, elifs_so_far}
-use Rattle.ud_model.specs.output.Pruned.{Edited, edited, kept_line, printed}
-use Rattle.ud_model.proofs.output.Folded.{KeptGroups, none_kept, replaced, kept_groups, ended, then_nodes, with_group, with_else, then_kept, folded, kept_groups_of, kept_elifs_of}
+use Rattle.ud_model.specs.output.Pruned.{Edited, edited, kept_line, printed, then_nodes}
+use Rattle.ud_model.proofs.output.Folded.{KeptGroups, none_kept, replaced, kept_groups, ended, with_group, with_else, then_kept, folded, kept_groups_of, kept_elifs_of}
 use Rattle.ud_model.proofs.output.Changed.{as_many_nodes, as_many_groups, as_many_elifs}
 use Rattle.ud_model.proofs.sections.Stays.{marks_so_far_same}
 use Rattle.ud_model.proofs.sections.Stages.{Stage, leading, given, going, at_true, past, stage, next_stage, verdict_at, kept_at, endif_at, verdict_by_stage, kept_by_stage, stage_next, endif_by_stage}
@@ -40,7 +40,7 @@ module _ {L : Type 0} where
   stage_of (ended es l ms (Some k)) = past
 
   -- The rest of the groups, by their conditions.
-  record Has (cs : List Cond) (left : KeptGroups L) (xs : List (Item (Edited L))) : Type 0 where
+  pub record Has (cs : List Cond) (left : KeptGroups L) (xs : List (Item (Edited L))) : Type 0 where
     pub represents : stage cs ≡ stage_of left
     pub are : xs ≡ left_lines left
 
@@ -232,12 +232,12 @@ module _ {L : Type 0} where
         section_printed (conds_of_groups gs) (kept_groups_of gs) (folded ns) e (lines_of_nodes ns) (lines_of_groups gs) (nodes_so_far true ns) (groups_so_far true gs)
         (as_many_nodes true ns) (as_many_groups true gs) (nodes_printed ns) (groups_printed gs)
 
-    groups_printed : (gs : Groups L) → Has (conds_of_groups gs) (kept_groups_of gs) (printed (lines_of_groups gs) (groups_so_far true gs))
+    pub groups_printed : (gs : Groups L) → Has (conds_of_groups gs) (kept_groups_of gs) (printed (lines_of_groups gs) (groups_so_far true gs))
     groups_printed (conditional es) = elifs_printed es
     groups_printed (otherwise es l ns) =
         else_has (conds_of_elifs es) (kept_elifs_of es) l ns (lines_of_elifs es) (elifs_so_far true es) (as_many_elifs true es) (elifs_printed es) (nodes_printed ns)
 
-    elifs_printed : (es : Elifs L) → Has (conds_of_elifs es) (kept_elifs_of es) (printed (lines_of_elifs es) (elifs_so_far true es))
+    pub elifs_printed : (es : Elifs L) → Has (conds_of_elifs es) (kept_elifs_of es) (printed (lines_of_elifs es) (elifs_so_far true es))
     elifs_printed (first o ns) = first_has o ns (nodes_printed ns)
     elifs_printed (elif es o ns) =
         elif_has (conds_of_elifs es) (kept_elifs_of es) o ns (lines_of_elifs es) (elifs_so_far true es) (as_many_elifs true es) (elifs_printed es) (nodes_printed ns)

@@ -2,7 +2,7 @@
 use Rattle.std.proofs.Common.{◌≡◌, ℕ, suc, ◌+◌, ◌≤◌, ◌==◌, List, [], ◌∷◌, length, Bool, true, false, Option, Some, None, if◌then◌else◌, refl, subst, arith}
 use Rattle.ud_model.specs.text.Bytes.{skip_white, leading_word, skip_word, is_white, is_word_byte}
 use Rattle.ud_model.specs.text.Scans.{Scan}
-use Rattle.ud_model.specs.sections.Directives.{Content, cut_keyword, directive, text, content_of, skip_hash_if_fresh, skip_hash, has_split_keyword, content_after_hash, directive_at, kind_of}
+use Rattle.ud_model.specs.sections.Directives.{Content, cut_keyword, directive, text, content_of, skip_white_and_hash, skip_hash, has_split_keyword, content_after_hash, directive_at, kind_of}
 use Rattle.ud_model.specs.answer.Printing.{keyword_in}
 use Rattle.ud_model.specs.declared.kind.Kind.{Kind}
 
@@ -48,7 +48,7 @@ lies_fresh : (scan : Scan) (fresh : Bool) (rest : List ℕ) (k : Option Kind) �
 lies_fresh scan true rest k h = lies_at scan rest k h
 lies_fresh scan false rest k h = tt
 
-lies_behind : (scan : Scan) (sign : Option (List ℕ)) → skip_hash_if_fresh scan.masked ≡ sign → Lies (length scan.masked) (content_after_hash scan sign)
+lies_behind : (scan : Scan) (sign : Option (List ℕ)) → skip_white_and_hash scan.masked ≡ sign → Lies (length scan.masked) (content_after_hash scan sign)
 lies_behind scan None e = tt
 lies_behind scan (Some rest) e =
     let a = past_white_le rest in
@@ -56,13 +56,13 @@ lies_behind scan (Some rest) e =
     let c = sign_le (skip_white scan.masked) rest e in
     lies_fresh scan scan.fresh (skip_white rest) (kind_of (leading_word (skip_white rest))) (omega (arith, a, b, c))
 
-lies_unless_cut : (scan : Scan) (cut : Bool) → Lies (length scan.masked) (if cut then cut_keyword else content_after_hash scan (skip_hash_if_fresh scan.masked))
+lies_unless_cut : (scan : Scan) (cut : Bool) → Lies (length scan.masked) (if cut then cut_keyword else content_after_hash scan (skip_white_and_hash scan.masked))
 lies_unless_cut scan true = tt
-lies_unless_cut scan false = lies_behind scan (skip_hash_if_fresh scan.masked) refl
+lies_unless_cut scan false = lies_behind scan (skip_white_and_hash scan.masked) refl
 
 -- A directive's keyword lies within the masked line, and so do the bytes after it.
 pub content_lies : (scan : Scan) → Lies (length scan.masked) (content_of scan)
-content_lies scan = lies_unless_cut scan (has_split_keyword scan (skip_hash_if_fresh scan.masked))
+content_lies scan = lies_unless_cut scan (has_split_keyword scan (skip_white_and_hash scan.masked))
 
 keyword_by : (n : ℕ) (c : Content) → Lies n c → (keyword_in c).at + (keyword_in c).len ≤ n
 keyword_by n cut_keyword h = omega arith

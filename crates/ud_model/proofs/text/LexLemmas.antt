@@ -2,9 +2,9 @@
 use Rattle.std.proofs.Common.{◌≡◌, ◌≢◌, ℕ, suc, ◌+◌, ◌==◌, List, [], ◌∷◌, ◌++◌, length, take, drop, Bool, true, false, ◌&&◌, ◌||◌, if◌then◌else◌, refl, sym, ◌∙◌, ap, ap₂, subst, append_assoc, append-nil, arith, length-append, ne_eqb, zero-add}
 use Rattle.std.proofs.lemmas.Bool.{eq-eqb}
 use Rattle.std.proofs.lemmas.List.{take_at, drop_at}
-use Rattle.ud_model.specs.text.Bytes.{slash, star, backslash, is_quote}
+use Rattle.ud_model.specs.text.Bytes.{slash, star, backslash, is_quote, starts_with_byte}
 use Rattle.ud_model.specs.text.Lines.{NoNewline}
-use Rattle.ud_model.specs.text.Lexemes.{LexemeKind, block_comment, line_comment, literal, single, Lexeme, starts_with_byte, NoClose, IsLineEnd, IsLiteralBody, nothing, plain, passed, IsLexeme, closed_comment, open_comment, to_line_end, closed_literal, open_literal, open_at_backslash, single_byte, AreLexemes, Cell, cells_in, cells_of, comment_size, line_comment_size, literal_size, Extent, lexeme_at, lex_from, lex}
+use Rattle.ud_model.specs.text.Lexemes.{LexemeKind, block_comment, line_comment, literal, single, Lexeme, NoClose, IsLineEnd, IsLiteralBody, nothing, plain, passed, IsLexeme, closed_comment, open_comment, to_line_end, closed_literal, open_literal, open_at_backslash, single_byte, AreLexemes, Cell, cells_in, cells_of, comment_size, line_comment_size, literal_size, Extent, lexeme_at, lex_from, lex}
 use Rattle.ud_model.proofs.text.Steps.{lex_from-zero}
 
 begins_close : (i rest : List ℕ) → starts_with_byte slash ((i ++ star ∷ slash ∷ []) ++ rest) ≡ starts_with_byte slash (i ++ star ∷ [])
@@ -183,7 +183,8 @@ cut_cells text (p ∷ pieces) (rest, e, is, others) =
     ap (λ (cells : List Cell). cells_in p.kind p.bytes ++ cells) (cut_cells rest pieces others)
     ∙ sym (ap lex e ∙ cut_piece p.kind p.bytes rest is)
 
-same_front : (s t rest more : List ℕ) → s ++ rest ≡ t ++ more → length s ≡ length t → (s ≡ t) × (rest ≡ more)
+-- Two texts with parts of the same length are equal part by part.
+pub same_front : (s t rest more : List ℕ) → s ++ rest ≡ t ++ more → length s ≡ length t → (s ≡ t) × (rest ≡ more)
 same_front s t rest more e n = (
   sym (take_at s rest (length t) n) ∙ ap (λ (l : List ℕ). take (length t) l) e ∙ take_at t more (length t) refl,
   sym (drop_at s rest (length t) n) ∙ ap (λ (l : List ℕ). drop (length t) l) e ∙ drop_at t more (length t) refl,

@@ -2,11 +2,11 @@
 use Rattle.std.proofs.Common.{◌≡◌, ℕ, suc, ◌+◌, ◌==◌, List, [], ◌∷◌, ◌++◌, length, take, drop, map, Bool, true, false, ◌&&◌, ◌||◌, if◌then◌else◌, refl, sym, ◌∙◌, ap, ap₂, subst, append_assoc, append-nil, arith, length-append, length-drop}
 use Rattle.std.proofs.lemmas.List.{take_at, take_all, take-map, drop-map, drop-append-le, drop_all}
 use Rattle.std.proofs.lemmas.Grind.{flat_map-append}
-use Rattle.ud_model.specs.text.Bytes.{newline, slash, star, space}
+use Rattle.ud_model.specs.text.Bytes.{newline, slash, star, space, starts_with_byte}
 use Rattle.ud_model.specs.text.Lines.{Line}
 use Rattle.ud_model.specs.text.Scans.{Scan, Reading}
 use Rattle.ud_model.specs.text.Splicing.{is_spliced, content, stays_open, newline_of, spliced_part, spliced_text, extended_run, c_run_from, c_run_of, last_is_spliced}
-use Rattle.ud_model.specs.text.Lexemes.{LexemeKind, block_comment, line_comment, literal, single, Cell, Extent, starts_with_byte, comment_size, line_comment_size, lexeme_at, lex_from, lex, shown, open_line, last_kind, kind_at_end}
+use Rattle.ud_model.specs.text.Lexemes.{LexemeKind, block_comment, line_comment, literal, single, Cell, Extent, comment_size, line_comment_size, lexeme_at, lex_from, lex, shown, open_line, last_kind, kind_at_end}
 use Rattle.ud_model.specs.text.Scanning.{is_block, joins, comment_at, is_blank, scan_after_run}
 use Rattle.ud_model.specs.aids.LexStates.{LexState, in_text, at_slash, in_block, at_star, in_line, in_literal, at_backslash, cells_after, LexesTo, opens_comment, masked_byte, kind_in_state, fresh_at, state_after_line, white_after_line, blank_last, mask, Masks}
 use Rattle.ud_model.specs.declared.kind.Mode.{Mode}

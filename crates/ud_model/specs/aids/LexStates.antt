@@ -18,8 +18,9 @@
 use Rattle.std.specs.Prelude.{◌≡◌, ◌≤◌, ℕ, ◌==◌, List, [], ◌∷◌, ◌++◌, length, map, drop, Bool, true}
 use Rattle.std.specs.Prelude.{false, ◌&&◌, ◌||◌, if◌then◌else◌}
 use Rattle.ud_model.specs.text.Bytes.{newline, slash, star, backslash, space, is_quote, is_white}
+use Rattle.ud_model.specs.text.Bytes.{starts_with_byte}
 use Rattle.ud_model.specs.text.Lexemes.{LexemeKind, block_comment, line_comment, literal, single}
-use Rattle.ud_model.specs.text.Lexemes.{Cell, starts_with_byte, comment_size, line_comment_size}
+use Rattle.ud_model.specs.text.Lexemes.{Cell, comment_size, line_comment_size}
 use Rattle.ud_model.specs.text.Lexemes.{literal_size, lex_from, lex, shown, open_line}
 use Rattle.ud_model.specs.text.Scanning.{is_blank}
 

@@ -13,7 +13,7 @@ use Rattle.std.specs.Prelude.{ℕ, ◌+◌, ◌-◌, ◌*◌, ◌==◌, nat_le, 
 use Rattle.std.specs.Prelude.{length, Bool, true, false, not, ◌&&◌, ◌||◌, if◌then◌else◌, Option}
 use Rattle.std.specs.Prelude.{Some, None, is_some, unwrap_or, bytes_eq, codes}
 use Rattle.std.specs.List.{prefix_len, flat_map}
-use Rattle.ud_model.specs.text.Bytes.{is_digit}
+use Rattle.ud_model.specs.text.Bytes.{is_digit, starts_with_byte}
 
 -- `is_octal_digit b`: `b` is a digit from `0` to `7`.
 abbrev pub is_octal_digit : ℕ → Bool
@@ -22,11 +22,6 @@ is_octal_digit b = nat_le 48 b && nat_le b 55
 -- `is_hex_digit b`: `b` is a digit, or a letter from `a` to `f` or from `A` to `F`.
 abbrev pub is_hex_digit : ℕ → Bool
 is_hex_digit b = is_digit b || (nat_le 65 b && nat_le b 70) || (nat_le 97 b && nat_le b 102)
-
--- `starts_with_byte c text`: `text` begins with `c`.
-abbrev pub starts_with_byte : ℕ → List ℕ → Bool
-starts_with_byte c [] = false
-starts_with_byte c (b ∷ text) = b == c
 
 -- The digits of a word in a base, and the suffix after them.
 pub record ConstantParts : Type 0 where

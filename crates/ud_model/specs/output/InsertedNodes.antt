@@ -41,7 +41,7 @@ mutual
     no_nodes : NodesWithInserted nothing nothing
     same_text : {ns ms : Nodes Reading} {r s : Reading} → NodesWithInserted ns ms → IsSame r s →
         NodesWithInserted (text ns r) (text ms s)
-    put_text : {ns ms : Nodes Reading} {d : Reading} → NodesWithInserted ns ms → IsInserted d →
+    inserted_text : {ns ms : Nodes Reading} {d : Reading} → NodesWithInserted ns ms → IsInserted d →
         NodesWithInserted ns (text ms d)
     same_section : {ns ms : Nodes Reading} {gs hs : Groups Reading} {r s : Reading} →
         NodesWithInserted ns ms → GroupsWithInserted gs hs → IsSame r s →
@@ -68,7 +68,7 @@ pub data LinesWithInserted : List Reading → List Reading → Type 0 where
   no_lines : LinesWithInserted [] []
   same_line : {r s : Reading} {rs ss : List Reading} → IsSame r s → LinesWithInserted rs ss →
       LinesWithInserted (r ∷ rs) (s ∷ ss)
-  put_line : {d : Reading} {rs ss : List Reading} → IsInserted d → LinesWithInserted rs ss →
+  inserted_line : {d : Reading} {rs ss : List Reading} → IsInserted d → LinesWithInserted rs ss →
       LinesWithInserted rs (d ∷ ss)
 
 -- `SelectsWithInserted o text us v ls`: `text` has a tree of the nodes `us` with lines inserted. If
@@ -78,6 +78,6 @@ pub record SelectsWithInserted (o : Options) (text : List ℕ) (us : Nodes Readi
     (v : World Reading) (ls : List (List ℕ)) : Type 0 where
   pub nodes : Nodes Reading
   pub is_tree : IsTreeOf o text (closed nodes)
-  pub woven : NodesWithInserted us nodes
+  pub inserted : NodesWithInserted us nodes
   pub selects : (x : World Reading) → map x (openers nodes) ≡ map v (openers us) →
       (rs : List Reading) × (map line_bytes rs ≡ ls) × LinesWithInserted rs (selected x nodes)

@@ -91,10 +91,10 @@ abbrev pub skip_hash : List ℕ → Option (List ℕ)
 skip_hash [] = None
 skip_hash (b ∷ bs) = if b == 35 then Some bs else None
 
--- `skip_hash_if_fresh masked`: the rest of `masked` after its leading white space and a `#`, or
+-- `skip_white_and_hash masked`: the rest of `masked` after its leading white space and a `#`, or
 -- None.
-abbrev pub skip_hash_if_fresh : List ℕ → Option (List ℕ)
-skip_hash_if_fresh masked = skip_hash (skip_white masked)
+abbrev pub skip_white_and_hash : List ℕ → Option (List ℕ)
+skip_white_and_hash masked = skip_hash (skip_white masked)
 
 -- `is_outside c`: no comment is unclosed.
 abbrev pub is_outside : CommentAt → Bool
@@ -163,5 +163,5 @@ content_after_hash scan (Some rest) =
 -- longest run of word bytes.
 abbrev pub content_of : Scan → Content
 content_of scan =
-    if has_split_keyword scan (skip_hash_if_fresh scan.masked) then cut_keyword
-    else content_after_hash scan (skip_hash_if_fresh scan.masked)
+    if has_split_keyword scan (skip_white_and_hash scan.masked) then cut_keyword
+    else content_after_hash scan (skip_white_and_hash scan.masked)

@@ -85,6 +85,11 @@ abbrev pub are_white : List ℕ → Bool
 are_white [] = true
 are_white (b ∷ bs) = is_white b && are_white bs
 
+-- `starts_with_byte b t`: `t` begins with `b`.
+abbrev pub starts_with_byte : ℕ → List ℕ → Bool
+starts_with_byte b [] = false
+starts_with_byte b (x ∷ xs) = x == b
+
 -- `is_identifier t`: `t` is a nonempty text of word bytes that doesn't start with a digit.
 abbrev pub is_identifier : List ℕ → Bool
 is_identifier [] = false

@@ -3,6 +3,7 @@
 --
 --   IsLexeme bytes rest kind   `bytes` is a lexeme of this kind if the text goes on with `rest`
 --   AreLexemes pieces text     `pieces` are the lexemes of `text`, from left to right
+--   LastIsOpen kind pieces     the last of them has this kind, and no end of its own
 --   cells_of pieces            each byte of the lexemes with the kind of its lexeme
 --   lexeme_at b rest           the extent of the lexeme that begins with `b` before `rest`,
 --                              computed
@@ -20,6 +21,7 @@
 use Rattle.std.specs.Prelude.{◌≡◌, ◌≢◌, ℕ, zero, suc, ◌==◌, List, [], ◌∷◌, ◌++◌, drop, Bool, true}
 use Rattle.std.specs.Prelude.{false, ◌&&◌, ◌||◌, if◌then◌else◌}
 use Rattle.ud_model.specs.text.Bytes.{newline, slash, star, backslash, space, is_quote}
+use Rattle.ud_model.specs.text.Bytes.{starts_with_byte}
 use Rattle.ud_model.specs.text.Lines.{NoNewline}
 
 -- A kind of lexeme.
@@ -35,11 +37,6 @@ pub data LexemeKind : Type 0 where
 pub record Lexeme : Type 0 where
   pub kind : LexemeKind
   pub bytes : List ℕ
-
--- `starts_with_byte b text`: `text` begins with `b`.
-abbrev pub starts_with_byte : ℕ → List ℕ → Bool
-starts_with_byte b [] = false
-starts_with_byte b (x ∷ xs) = x == b
 
 -- `NoClose bytes`: `bytes` has no `*/`.
 abbrev pub NoClose : List ℕ → Type 0
@@ -93,6 +90,29 @@ abbrev pub AreLexemes : List Lexeme → List ℕ → Type 0
 AreLexemes [] text = text ≡ []
 AreLexemes (p ∷ pieces) text = (rest : List ℕ) × (text ≡ p.bytes ++ rest) ×
     IsLexeme p.bytes rest p.kind × AreLexemes pieces rest
+
+-- `IsOpen bytes kind`: a lexeme of this kind with these bytes has no end of its own. So if a text
+-- ends with it, the end of the text lies in it.
+pub data IsOpen (bytes : List ℕ) : LexemeKind → Type 0 where
+  -- A block comment without its `*/`.
+  unclosed_comment : (inside : List ℕ) → bytes ≡ slash ∷ star ∷ inside → NoClose inside →
+      IsOpen bytes block_comment
+  -- Each line comment, for a newline isn't part of it.
+  each_line_comment : (inside : List ℕ) → bytes ≡ slash ∷ slash ∷ inside → NoNewline inside →
+      IsOpen bytes line_comment
+  -- A literal without its closing quote.
+  unclosed_literal : (quote : ℕ) (inside : List ℕ) → is_quote quote ≡ true →
+      bytes ≡ quote ∷ inside → IsLiteralBody quote inside → IsOpen bytes literal
+  -- Such a literal whose last byte is a backslash.
+  unclosed_at_backslash : (quote : ℕ) (inside : List ℕ) → is_quote quote ≡ true →
+      bytes ≡ quote ∷ (inside ++ backslash ∷ []) → IsLiteralBody quote inside →
+      IsOpen bytes literal
+
+-- `LastIsOpen kind pieces`: the last of `pieces` is a lexeme of this kind, and it is open.
+abbrev pub LastIsOpen : LexemeKind → List Lexeme → Type 0
+LastIsOpen kind [] = ⊥
+LastIsOpen kind (p ∷ []) = (p.kind ≡ kind) × IsOpen p.bytes kind
+LastIsOpen kind (p ∷ q ∷ pieces) = LastIsOpen kind (q ∷ pieces)
 
 -- A byte, and the kind of the lexeme that it lies in.
 pub record Cell : Type 0 where
@@ -197,6 +217,6 @@ last_kind before [] = before
 last_kind before (c ∷ cells) = last_kind c.kind cells
 
 -- `kind_at_end text`: the kind of lexeme that the end of `text` lies in: a space there would belong
--- to it.
+-- to it. It is the kind of the last lexeme if that is open, else `single` (law_end_of_text).
 unfoldable pub kind_at_end : List ℕ → LexemeKind
 kind_at_end text = last_kind single (lex (text ++ space ∷ []))

@@ -2,7 +2,7 @@
 use Rattle.std.proofs.Common.{◌≡◌, ◌≤◌, ◌==◌, ◌+◌, ◌-◌, ℕ, List, [], ◌∷◌, length, take, drop, Bool, true, false, Some, None, if◌then◌else◌, ap, arith}
 use Rattle.std.proofs.lemmas.List.{length-drop, length-take-le}
 use Rattle.ud_model.specs.text.Bytes.{skip_white}
-use Rattle.ud_model.specs.sections.Directives.{skip_hash_if_fresh, skip_hash}
+use Rattle.ud_model.specs.sections.Directives.{skip_white_and_hash, skip_hash}
 use Rattle.ud_model.proofs.text.ByteLemmas.{length-skip_white}
 
 one_sign : (is : Bool) (b : ℕ) (bs rest : List ℕ) → (if is then Some bs else None) ≡ Some rest → length rest ≤ length (b ∷ bs)
@@ -14,8 +14,8 @@ sign_within [] rest e = absurd cc
 sign_within (b ∷ bs) rest e = one_sign (b == 35) b bs rest e
 
 -- nor is it without its leading white space
-pub length-skip_hash_if_fresh : (masked behind rest : List ℕ) → skip_hash_if_fresh masked ≡ Some behind → rest ≡ skip_white behind → length rest ≤ length masked
-length-skip_hash_if_fresh masked behind rest e is =
+pub length-skip_white_and_hash : (masked behind rest : List ℕ) → skip_white_and_hash masked ≡ Some behind → rest ≡ skip_white behind → length rest ≤ length masked
+length-skip_white_and_hash masked behind rest e is =
     let sign = sign_within (skip_white masked) behind e in
     let before = length-skip_white masked in
     let white = length-skip_white behind in

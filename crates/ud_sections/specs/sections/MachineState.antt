@@ -7,7 +7,6 @@
 --   StepsText m o xs t rs verdict   the machine has read these text lines too
 --   machine_fault m                 the fault of the machine, if it has one
 --   machine_with_fault m f          the machine with this fault
---   fault_of f                      a fault of the program, as the definitions have it
 --   end_fault_of result             the fault at the end of a text, if it has one
 --
 -- `MachineRepresents` implies that no line is faulty, so the items are those of the definitions. If
@@ -32,14 +31,8 @@ use Rattle.ud_model.specs.answer.Printing.{judged_line}
 use Rattle.ud_model.specs.declared.kind.Mode.{Mode}
 use Rattle.ud_model.specs.declared.verdict.Verdict.{Verdict}
 use Rattle.ud_cond.specs.symbols.SymbolTable.{TableRepresents}
-use Rattle.ud_sections.specs.declared.sections.fault.SectionFault.{SectionFault}
-use Rattle.ud_sections.specs.declared.sections.fault.SectionFault.TheVariants.{InappropriateElif}
-use Rattle.ud_sections.specs.declared.sections.fault.SectionFault.TheVariants.{InappropriateElse}
-use Rattle.ud_sections.specs.declared.sections.fault.SectionFault.TheVariants.{InappropriateEndif}
-use Rattle.ud_sections.specs.declared.sections.fault.SectionFault.TheVariants.{TooManyLevels}
-use Rattle.ud_sections.specs.declared.sections.fault.SectionFault.TheVariants.{Obfuscated}
-use Rattle.ud_sections.specs.declared.sections.fault.SectionFault.TheVariants.{PrematureEof}
-use Rattle.ud_sections.specs.declared.sections.fault.SectionFault.TheVariants.{EofInComment}
+use Rattle.ud_faults.specs.Faults.{fault_of}
+use Rattle.ud_faults.specs.declared.sections.SectionFault.{SectionFault}
 use Rattle.ud_sections.specs.declared.sections.machine.Machine.{Machine}
 use Rattle.ud_sections.specs.declared.sections.step.Step.{Step}
 use Rattle.ud_sections.specs.sections.StepViews.{as_span}
@@ -99,16 +92,6 @@ machine_fault m = m.fault
 -- `machine_with_fault m f`: the machine after a line with this fault.
 abbrev pub machine_with_fault : Machine → SectionFault → Machine
 machine_with_fault m f = record m { fault = Some f }
-
--- `fault_of f`: a fault of the program, as the definitions have it.
-abbrev pub fault_of : SectionFault → Fault
-fault_of (InappropriateElif n) = inappropriate_elif n
-fault_of (InappropriateElse n) = inappropriate_else n
-fault_of (InappropriateEndif n) = inappropriate_endif n
-fault_of (TooManyLevels n) = too_many_levels n
-fault_of (Obfuscated n) = obfuscated n
-fault_of (PrematureEof n if_line) = premature_eof n if_line
-fault_of (EofInComment n) = eof_in_comment n
 
 -- `end_fault_of result`: the fault at the end of a text, if `result` is an error.
 abbrev pub end_fault_of : Result (Unit {0}) SectionFault → Option Fault

@@ -9,8 +9,8 @@ use Rattle.ud_model.specs.sections.Directives.{Span as TextSpan}
 use Rattle.ud_model.specs.answer.Printing.{Judged}
 use Rattle.ud_model.specs.declared.verdict.Verdict.{Verdict}
 use Rattle.ud_model.specs.declared.verdict.Verdict.TheVariants.{Keep, Remove, ToIf, ToElse, ToEndif}
-use Rattle.ud_text.specs.declared.lines.line.Line.{Line}
-use Rattle.ud_text.specs.LineViews.{as_line}
+use Rattle.ud_model.specs.declared.line.Line.{Line}
+use Rattle.ud_model.specs.text.LineViews.{as_line}
 use Rattle.ud_sections.specs.declared.sections.step.Span.{Span}
 use Rattle.ud_sections.specs.declared.sections.step.Step.{Step}
 

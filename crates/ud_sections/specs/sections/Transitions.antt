@@ -2,11 +2,13 @@
 --
 --   context_of m               the context of the next line
 --   text_verdict m             the verdict of the next line, if it is text
+--   text_policy_of m           the mode of the next line, and its verdict if it is text
 --   transition_of before n s   the transition of the classified line `s` of number `n`
 use Rattle.std.specs.Prelude.{ℕ, length, Result, Ok, Err}
 use Rattle.ud_model.specs.declared.verdict.Verdict.{Verdict}
-use Rattle.ud_sections.specs.declared.sections.fault.SectionFault.{SectionFault}
-use Rattle.ud_sections.specs.declared.sections.fault.SectionFault.TheVariants.{Obfuscated}
+use Rattle.ud_model.specs.sections.Items.{mode_by}
+use Rattle.ud_faults.specs.declared.sections.SectionFault.{SectionFault}
+use Rattle.ud_faults.specs.declared.sections.SectionFault.TheVariants.{Obfuscated}
 use Rattle.ud_sections.specs.declared.directives.Cut.{Cut}
 use Rattle.ud_sections.specs.declared.sections.check.LineContext.{LineContext}
 use Rattle.ud_sections.specs.declared.sections.open_section.Action.{Action}
@@ -14,7 +16,8 @@ use Rattle.ud_sections.specs.declared.sections.machine.Machine.{Machine}
 use Rattle.ud_sections.specs.declared.sections.machine.Transition.{Transition}
 use Rattle.ud_sections.specs.declared.sections.classify_line.ClassifiedLine.{ClassifiedLine}
 use Rattle.ud_sections.specs.declared.sections.step.Span.{Span}
-use Rattle.ud_sections.specs.sections.Actions.{kept_at, text_action}
+use Rattle.ud_sections.specs.declared.sections.text_policy.TextPolicy.{TextPolicy}
+use Rattle.ud_sections.specs.sections.Actions.{kept_at, plain_at, text_action}
 use Rattle.ud_sections.specs.sections.StackOps.{innermost_of}
 use Rattle.ud_sections.specs.sections.Checking.{checked_by}
 
@@ -29,6 +32,13 @@ context_of m = record {
 -- `text_verdict m`: a text line is kept or removed by the innermost open section.
 abbrev pub text_verdict : Machine → Verdict
 text_verdict m = (text_action (kept_at (innermost_of m.open_sections.items))).verdict
+
+-- `text_policy_of m`: mode and verdict of a text line, by the innermost open section.
+abbrev pub text_policy_of : Machine → TextPolicy
+text_policy_of m = record {
+  mode = mode_by (plain_at m.settings.plain (innermost_of m.open_sections.items));
+  verdict = text_verdict m;
+}
 
 -- `transition_with keyword result`: the transition with this action and the keyword's span, or the
 -- same fault.

@@ -2,20 +2,19 @@
 
 ghost use Rattle.std.specs.Prelude.{◌≡◌, ◌+◌, length, IfOk, IfNone, IfSome, MatchOption, Some};
 ghost use Rattle.std.specs.Prelude.{None};
-ghost use Rattle.ud_model.specs.sections.Directives.{text, content_of, skip_hash_if_fresh};
+ghost use Rattle.ud_model.specs.sections.Directives.{text, content_of, skip_white_and_hash};
 ghost use Rattle.ud_model.specs.sections.Directives.{is_continued_outside_comment};
 ghost use Rattle.ud_model.specs.sections.Directives.{is_keyword_prefix, may_split_keyword};
 ghost use Rattle.ud_model.specs.sections.Directives.{has_split_keyword, content_after_hash};
 ghost use Rattle.ud_model.specs.text.Scans.{Scan as LineScan};
-ghost use Rattle.ud_text.specs.LineViews.{as_scan};
+ghost use Rattle.ud_model.specs.text.LineViews.{as_scan};
 ghost use Rattle.ud_sections.specs.directives.ParsedDirectives.{content_found, directive_or_text};
 
 use crate::directives::keywords::{is_prefix_of_keyword, leading_keyword};
 use crate::directives::{Cut, Directive};
 use crate::sections::Span;
-use ud_model::CommentAt;
 use ud_model::bytes::{are_word_bytes, skip_white};
-use ud_text::Scan;
+use ud_model::{CommentAt, Scan};
 
 /// Parses the directive of a scanned line, or returns `None` if it is a text line.
 ///
@@ -41,7 +40,7 @@ pub fn directive<'a>(scan: &Scan<'a>) -> Result<Option<Directive<'a>>, Cut>
 #[inline(always)]
 pub(crate) fn after_hash<'a>(scan: &Scan<'a>) -> Option<&'a [u8]>
     ensures none { IfNone result (content_of (as_scan scan.now) ≡ text) }
-    ensures some { IfSome result (λ after. skip_hash_if_fresh scan.now.masked.now ≡
+    ensures some { IfSome result (λ after. skip_white_and_hash scan.now.masked.now ≡
         Some after.now) }
 {
     if scan.fresh {
@@ -60,7 +59,7 @@ pub(crate) fn directive_after_hash<'a>(
     scan: &Scan<'a>,
     after: &'a [u8],
 ) -> Result<Option<Directive<'a>>, Cut>
-    requires { skip_hash_if_fresh scan.now.masked.now ≡ Some after.now }
+    requires { skip_white_and_hash scan.now.masked.now ≡ Some after.now }
     ensures value { content_found result ≡ content_of (as_scan scan.now) }
     ensures keyword_within { IfOk result (λ found. IfSome found (λ d.
         d.keyword.at + d.keyword.len + length d.after.now ≡ length scan.now.masked.now)) }
@@ -73,8 +72,8 @@ pub(crate) fn directive_after_hash<'a>(
 
 /// Returns what follows the `#`, if one comes first but for white space.
 fn skip_hash(masked: &[u8]) -> Option<&[u8]>
-    ensures { MatchOption result (skip_hash_if_fresh masked.now ≡ None)
-        (λ rest. skip_hash_if_fresh masked.now ≡ Some rest.now) }
+    ensures { MatchOption result (skip_white_and_hash masked.now ≡ None)
+        (λ rest. skip_white_and_hash masked.now ≡ Some rest.now) }
 {
     match skip_white(masked).split_first() {
         Some((b'#', rest)) => Some(rest),
@@ -123,7 +122,7 @@ fn is_keyword_prefix(text: &[u8]) -> bool
 /// Parses the directive whose keyword follows the `#` of a line, if the line is fresh.
 #[inline(always)]
 fn parse_after_hash<'a>(scan: &Scan<'a>, after: &'a [u8]) -> Option<Directive<'a>>
-    requires { skip_hash_if_fresh scan.now.masked.now ≡ Some after.now }
+    requires { skip_white_and_hash scan.now.masked.now ≡ Some after.now }
     ensures value { directive_or_text result ≡
         content_after_hash (as_scan scan.now) (Some after.now) }
     ensures keyword_within { IfSome result (λ d. d.keyword.at + d.keyword.len + length d.after.now ≡

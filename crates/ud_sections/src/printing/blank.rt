@@ -4,8 +4,7 @@ use crate::printing::line_output::LineOutput;
 use crate::printing::pieces::Pieces;
 use crate::printing::show::Show;
 use crate::sections::Step;
-use ud_model::Verdict;
-use ud_text::Line;
+use ud_model::{Line, Verdict};
 
 /// A printer that prints only the ending of a removed line (unifdef(1), `-b`).
 #[derive(Drop)]

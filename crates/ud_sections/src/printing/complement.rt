@@ -7,8 +7,7 @@ use crate::printing::line_output::LineOutput;
 use crate::printing::pieces::Pieces;
 use crate::printing::show::Show;
 use crate::sections::Step;
-use ud_model::Verdict;
-use ud_text::Line;
+use ud_model::{Line, Verdict};
 
 /// A printer that keeps the lines that would be removed, and removes all others (unifdef(1), `-c`).
 #[derive(Drop)]

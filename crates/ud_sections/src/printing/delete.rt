@@ -4,8 +4,7 @@ use crate::printing::line_output::LineOutput;
 use crate::printing::pieces::Pieces;
 use crate::printing::show::Show;
 use crate::sections::Step;
-use ud_model::Verdict;
-use ud_text::Line;
+use ud_model::{Line, Verdict};
 
 /// A printer that deletes removed lines (unifdef(1), without options).
 #[derive(Drop)]

@@ -9,8 +9,7 @@ use arrayvec::ArrayVec;
 use itoa::Buffer;
 use std::marker::Model;
 use ud_cond::{Names, names};
-use ud_model::Kind;
-use ud_text::Scan;
+use ud_model::{Kind, Scan};
 
 /// The maximum length of a name's prefix: twenty digits and a space.
 const PREFIX_BYTES: usize = 21;
@@ -38,7 +37,7 @@ impl Lister {
     ghost use Rattle.ud_model.specs.sections.Directives.{content_of};
     ghost use Rattle.ud_model.specs.answer.Listing.{names_in_content};
     ghost use Rattle.ud_model.specs.declared.limits.TheConstants.{LINE_BYTES};
-    ghost use Rattle.ud_text.specs.LineViews.{as_scan};
+    ghost use Rattle.ud_model.specs.text.LineViews.{as_scan};
     ghost use Rattle.ud_sections.specs.printing.ListerBorrows.{StaysSame};
 
     /// Creates a lister. Each name follows its depth if `depths`, and else has no prefix.

@@ -4,11 +4,10 @@ ghost use Rattle.std.specs.Prelude.{◌≡◌, ◌≤◌, bytes_eq};
 ghost use Rattle.std.specs.List.{flat_map};
 ghost use Rattle.ud_model.specs.text.Lines.{text_of};
 ghost use Rattle.ud_model.specs.answer.Printing.{opener_keyword};
-ghost use Rattle.ud_text.specs.LineViews.{as_line};
+ghost use Rattle.ud_model.specs.text.LineViews.{as_line};
 
 use crate::sections::Step;
-use ud_model::Verdict;
-use ud_text::Line;
+use ud_model::{Line, Verdict};
 
 /// The output for a line: at most five parts, to be written one after the other.
 ///

@@ -8,8 +8,7 @@ use crate::printing::pieces::Pieces;
 use crate::printing::renumber::Renumber;
 use crate::printing::show::Show;
 use crate::sections::Step;
-use ud_model::{Settings, Verdict};
-use ud_text::Line;
+use ud_model::{Line, Settings, Verdict};
 
 /// One of the printers.
 #[derive(Drop)]

@@ -2,7 +2,7 @@
 
 ghost use Rattle.std.specs.Prelude.{◌≡◌, ◌+◌, ◌≤◌, ◌++◌, length};
 ghost use Rattle.ud_model.specs.answer.Printing.{number_line};
-ghost use Rattle.ud_text.specs.LineViews.{as_line};
+ghost use Rattle.ud_model.specs.text.LineViews.{as_line};
 
 use crate::printing::append_bytes::append;
 use crate::printing::line_output::LineOutput;
@@ -11,8 +11,7 @@ use crate::printing::show::Show;
 use crate::sections::Step;
 use arrayvec::ArrayVec;
 use itoa::Buffer;
-use ud_model::Verdict;
-use ud_text::Line;
+use ud_model::{Line, Verdict};
 
 /// The maximum length of a `#line` directive: its keyword, a space, ten digits and an ending.
 const NUMBER_LINE_BYTES: usize = 18;

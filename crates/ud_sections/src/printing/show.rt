@@ -8,7 +8,7 @@ ghost use Rattle.std.specs.Borrow.{sem};
 ghost use Rattle.std.specs.Io.BufRead.{Rests};
 ghost use Rattle.ud_model.specs.text.Lines.{text_of};
 ghost use Rattle.ud_model.specs.answer.Printing.{Judged};
-ghost use Rattle.ud_text.specs.LineViews.{as_line};
+ghost use Rattle.ud_model.specs.text.LineViews.{as_line};
 ghost use Rattle.ud_sections.specs.printing.PieceParts.{concatenated, is_unchanged};
 ghost use Rattle.ud_sections.specs.printing.PrinterOutputs.{GivesBulkOutput, GivesLineOutput};
 ghost use Rattle.ud_sections.specs.sections.StepViews.{judged_step, HoldsKeyword};
@@ -17,8 +17,7 @@ use crate::printing::bulk_output::BulkOutput;
 use crate::printing::line_output::LineOutput;
 use crate::printing::pieces::Pieces;
 use crate::sections::Step;
-use ud_model::Verdict;
-use ud_text::Line;
+use ud_model::{Line, Verdict};
 
 /// A printer: gets each line in order with its step, and returns what to print for it.
 ///

@@ -2,14 +2,14 @@
 
 ghost use Rattle.std.specs.Prelude.{◌≡◌, ◌≤◌, ◌+◌, List, length, IfOk, Some};
 ghost use Rattle.ud_model.specs.text.Scans.{is_spanning};
-ghost use Rattle.ud_model.specs.sections.Directives.{content_of, skip_hash_if_fresh, role_of};
+ghost use Rattle.ud_model.specs.sections.Directives.{content_of, skip_white_and_hash, role_of};
 ghost use Rattle.ud_model.specs.conditions.Conditions.{decision_on};
 ghost use Rattle.ud_model.specs.sections.Items.{rules_of};
 ghost use Rattle.ud_model.specs.conditions.Table.{Argument};
 ghost use Rattle.ud_model.specs.declared.limits.TheConstants.{LINE_BYTES};
 ghost use Rattle.ud_cond.specs.symbols.SymbolTable.{TableRepresents};
 ghost use Rattle.ud_cond.specs.CondViews.{as_decision, as_rules};
-ghost use Rattle.ud_text.specs.LineViews.{as_scan};
+ghost use Rattle.ud_model.specs.text.LineViews.{as_scan};
 ghost use Rattle.ud_sections.specs.directives.ParsedDirectives.{as_directive};
 ghost use Rattle.ud_sections.specs.sections.ClassifiedLines.{line_kind_in, classified};
 
@@ -18,8 +18,7 @@ use crate::directives::{Cut, Directive};
 use crate::sections::line_kind::LineKind;
 use crate::sections::step::Span;
 use ud_cond::{Answer, Rules, Symbols, condition};
-use ud_model::{Cond, Role, Settings};
-use ud_text::Scan;
+use ud_model::{Cond, Role, Scan, Settings};
 
 /// A classified line.
 #[derive(Clone, Copy)]
@@ -47,7 +46,7 @@ pub(crate) fn classify<'a>(
     settings: Settings,
 ) -> Result<ClassifiedLine, Cut>
     requires fits { length scan.now.masked.now ≤ LINE_BYTES }
-    requires after_hash { skip_hash_if_fresh scan.now.masked.now ≡ Some after.now }
+    requires after_hash { skip_white_and_hash scan.now.masked.now ≡ Some after.now }
     ensures value { (calls : List Argument) → TableRepresents symbols.now calls →
         result ≡ classified (as_scan scan.now) calls (rules_of settings)
         (content_of (as_scan scan.now)) }

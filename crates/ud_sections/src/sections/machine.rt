@@ -11,13 +11,13 @@ ghost use Rattle.std.specs.Prelude.{IfOk, IfErr, OnOk, OnErr, None, Some};
 ghost use Rattle.arrayvec.specs.ArrayVec.{array_vec_len};
 ghost use Rattle.ud_model.specs.text.Scans.{Reading};
 ghost use Rattle.ud_model.specs.sections.Tree.{Item, Tree, text_line, closed, nothing, depth};
-ghost use Rattle.ud_model.specs.sections.Directives.{content_of, skip_hash_if_fresh};
+ghost use Rattle.ud_model.specs.sections.Directives.{content_of, skip_white_and_hash};
 ghost use Rattle.ud_model.specs.conditions.Table.{Argument};
 ghost use Rattle.ud_model.specs.sections.Items.{Options, mode_after, next_item, rules_of};
 ghost use Rattle.ud_model.specs.sections.Faults.{FaultOf, ends_in_comment, end_fault, last_number};
 ghost use Rattle.ud_model.specs.declared.limits.TheConstants.{LINE_BYTES, OPEN_SECTIONS};
 ghost use Rattle.ud_cond.specs.symbols.SymbolTable.{TableRepresents};
-ghost use Rattle.ud_text.specs.LineViews.{as_line, as_scan};
+ghost use Rattle.ud_model.specs.text.LineViews.{as_line, as_scan};
 ghost use Rattle.ud_sections.specs.sections.Limits.{IsWithinLimits};
 ghost use Rattle.ud_sections.specs.sections.StepViews.{HoldsKeyword};
 ghost use Rattle.ud_sections.specs.sections.StackOps.{applied, innermost_of};
@@ -27,13 +27,13 @@ ghost use Rattle.ud_sections.specs.sections.Checking.{opens_section};
 use crate::directives::parse_directive::after_hash;
 use crate::sections::check::{LineContext, check_line};
 use crate::sections::classify_line::classify;
-use crate::sections::fault::SectionFault;
 use crate::sections::open_section::{Enclosing, OpenSection, StackOp};
 use crate::sections::step::{Span, Step};
+use crate::sections::text_policy::TextPolicy;
 use arrayvec::ArrayVec;
 use ud_cond::Symbols;
-use ud_model::{Mode, OPEN_SECTIONS, Settings, Verdict};
-use ud_text::{Line, Scan};
+use ud_faults::SectionFault;
+use ud_model::{Line, Mode, OPEN_SECTIONS, Scan, Settings, Verdict};
 
 /// The step of a line, and the line's change of the open sections.
 #[derive(Clone, Copy)]
@@ -63,9 +63,10 @@ impl Machine {
     ghost use Rattle.ud_sections.specs.sections.MachineState.{MachineRepresents, ComesNext};
     ghost use Rattle.ud_sections.specs.sections.MachineState.{StepsLine, AreTextLines, StepsText};
     ghost use Rattle.ud_sections.specs.sections.MachineState.{machine_fault, machine_with_fault};
-    ghost use Rattle.ud_sections.specs.sections.MachineState.{fault_of, end_fault_of};
+    ghost use Rattle.ud_sections.specs.sections.MachineState.{end_fault_of};
+    ghost use Rattle.ud_faults.specs.Faults.{fault_of};
     ghost use Rattle.ud_sections.specs.sections.Transitions.{context_of, transition_of};
-    ghost use Rattle.ud_sections.specs.sections.Transitions.{text_verdict};
+    ghost use Rattle.ud_sections.specs.sections.Transitions.{text_verdict, text_policy_of};
     ghost use Rattle.ud_sections.specs.sections.Actions.{kept_at, text_action};
     ghost use Rattle.ud_sections.specs.sections.ClassifiedLines.{classified};
     ghost use Rattle.ud_sections.specs.sections.EndFaults.{end_in};
@@ -90,11 +91,7 @@ impl Machine {
         ensures { (o : Options) → (xs : List (Item Reading)) → (t : Tree Reading) →
             MachineRepresents self.now o xs t → result ≡ mode_after o t }
     {
-        if self.enclosing().is_plain() {
-            Mode::Plain
-        } else {
-            Mode::C
-        }
+        self.text_policy().mode
     }
 
     /// Returns the number of open sections, at most `OPEN_SECTIONS`.
@@ -106,12 +103,16 @@ impl Machine {
         self.open_sections.len()
     }
 
-    /// Returns the verdict of the next line, if that line is text.
-    pub fn text_verdict(&self) -> Verdict
-        ensures value { result ≡ text_verdict self.now }
+    /// Returns how the next line is read, and what becomes of it if it is text.
+    pub fn text_policy(&self) -> TextPolicy
+        ensures value { result ≡ text_policy_of self.now }
         ensures fits { array_vec_len self.now.open_sections ≤ OPEN_SECTIONS }
     {
-        self.enclosing().text_action().verdict
+        let enclosing = self.enclosing();
+        TextPolicy {
+            mode: enclosing.mode(),
+            verdict: enclosing.text_action().verdict,
+        }
     }
 
     /// Decides the next line. Later lines never change the decision.
@@ -221,6 +222,7 @@ impl Machine {
             last ≡ last_number (xs ++ map text_line (r ∷ rs)) →
             StepsText self.new o xs t (r ∷ rs) result }
         ensures verdict { result ≡ text_verdict self.old }
+        ensures policy { text_policy_of self.new ≡ text_policy_of self.old }
         ensures fault_unchanged { machine_fault self.new ≡ machine_fault self.old }
     {
         self.note_text(last)
@@ -232,7 +234,7 @@ impl Machine {
         ensures rest { self.new ≡ record self.old { removed = is_removed result; last = last } }
         ensures fits { array_vec_len self.old.open_sections ≤ OPEN_SECTIONS }
     {
-        let verdict = self.text_verdict();
+        let verdict = self.text_policy().verdict;
         self.removed = verdict.is_removed();
         self.last = last;
         verdict
@@ -263,7 +265,7 @@ impl Machine {
         symbols: &Symbols,
     ) -> Result<Transition, SectionFault>
         requires fits { length scan.now.masked.now ≤ LINE_BYTES }
-        requires after_hash { skip_hash_if_fresh scan.now.masked.now ≡ Some after.now }
+        requires after_hash { skip_white_and_hash scan.now.masked.now ≡ Some after.now }
         ensures value { (calls : List Argument) → TableRepresents symbols.now calls →
             result ≡ transition_of (context_of self.now) number
             (classified (as_scan scan.now) calls (rules_of self.now.settings)

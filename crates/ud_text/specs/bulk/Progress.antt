@@ -22,7 +22,7 @@ use Rattle.ud_model.specs.aids.LexStates.{in_text}
 use Rattle.ud_text.specs.bulk.BulkStates.{BulkState, bulk_state_after, HasNoStop, NoNewlineInBlock}
 use Rattle.ud_text.specs.bulk.BulkStates.{line_state, code_state, inside_state, Skipped}
 use Rattle.ud_text.specs.bulk.BulkLexemes.{NoComment}
-use Rattle.ud_text.specs.LineViews.{lex_state_of}
+use Rattle.ud_text.specs.scan.LexerViews.{lex_state_of}
 use Rattle.ud_text.specs.declared.bulk.Progress.{Progress}
 use Rattle.ud_text.specs.declared.bulk.LineStart.{LineStart}
 use Rattle.ud_text.specs.declared.scan.lexer.Lexer.{Lexer}

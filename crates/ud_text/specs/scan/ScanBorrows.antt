@@ -1,30 +1,23 @@
 -- ScanBorrows: what a scanner represents once the borrow of the scan that it returned has ended.
 --
---   ScansLine scanner mode line        the scanner represents one more reading: the line in this
---                                      mode, with its scan
---   ScansShortLine scanner mode line   as `ScansLine`, for a scanner of short lines
+--   ScansLine N scanner mode line   the scanner, of capacity `N`, represents one more reading: the
+--                                   line in this mode, with its scan
 --
 -- Example: a new scanner that has read a line represents that line's reading alone.
 use Rattle.std.specs.Prelude.{List, [], ◌∷◌, ◌++◌}
-use Rattle.std.specs.Borrow.{MutBor, Fml}
+use Rattle.std.specs.Borrow.{MutBor, Fml, RattleType}
 use Rattle.std.specs.Io.BufRead.{Rests}
 use Rattle.ud_model.specs.text.Lines.{Line as TextLine}
 use Rattle.ud_model.specs.text.Scans.{Reading}
 use Rattle.ud_model.specs.text.Scanning.{next_reading}
 use Rattle.ud_model.specs.declared.kind.Mode.{Mode}
 use Rattle.ud_text.specs.scan.ScannerState.{ScannerState, ScannerRepresents}
-use Rattle.ud_text.specs.contracts.scan.scanner.Scanner.{the_row}
-use Rattle.ud_text.specs.contracts.scan.short_scanner.ShortScanner.{the_row as short_row}
+use Rattle.ud_text.specs.contracts.scan.scanner.ScannerOf.{the_row}
 
--- `ScansLine scanner mode line`: if the scanner represents some readings, it then represents these
--- and the line's
-abbrev pub ScansLine : MutBor ScannerState → Mode → TextLine → Fml
-ScansLine scanner mode line =
-    Rests the_row scanner (λ new. (before : List Reading) → ScannerRepresents scanner.now before →
-    ScannerRepresents new (before ++ next_reading before mode line ∷ []))
-
--- `ScansShortLine scanner mode line`: as `ScansLine`, for a scanner of short lines
-abbrev pub ScansShortLine : MutBor ScannerState → Mode → TextLine → Fml
-ScansShortLine scanner mode line =
-    Rests short_row scanner (λ new. (before : List Reading) → ScannerRepresents scanner.now before →
+-- `ScansLine N scanner mode line`: if the scanner represents some readings, it then represents
+-- these and the line's
+abbrev pub ScansLine : RattleType → MutBor ScannerState → Mode → TextLine → Fml
+ScansLine N scanner mode line =
+    Rests (the_row N) scanner (λ new. (before : List Reading) →
+    ScannerRepresents scanner.now before →
     ScannerRepresents new (before ++ next_reading before mode line ∷ []))

@@ -20,7 +20,7 @@ use Rattle.ud_model.specs.text.Scanning.{is_block, joins}
 use Rattle.ud_model.specs.aids.LexStates.{LexesTo, in_text, kind_in_state}
 use Rattle.ud_model.specs.aids.LexStates.{LexState as TextPlace}
 use Rattle.ud_model.specs.sections.Faults.{is_in_block}
-use Rattle.ud_text.specs.LineViews.{lex_state_of}
+use Rattle.ud_text.specs.scan.LexerViews.{lex_state_of}
 use Rattle.ud_text.specs.declared.scan.scanner.ScanState.{ScanState}
 use Rattle.ud_text.specs.declared.scan.scanner.LineFlags.{LineFlags}
 

@@ -12,7 +12,7 @@ ghost use Rattle.ud_model.specs.text.Scanning.{is_block};
 ghost use Rattle.ud_model.specs.aids.LexStates.{LexesTo, Masks, next_state, opens_comment};
 ghost use Rattle.ud_model.specs.aids.LexStates.{masked_byte, stays_white, blank_last};
 ghost use Rattle.ud_model.specs.aids.LexStates.{kind_in_state, fresh_at};
-ghost use Rattle.ud_text.specs.LineViews.{lex_state_of, shown_in};
+ghost use Rattle.ud_text.specs.scan.LexerViews.{lex_state_of, shown_in};
 
 use crate::scan::marks::first_mark;
 use arrayvec::ArrayVec;

@@ -17,7 +17,8 @@ ghost use Rattle.ud_model.specs.text.Splicing.{is_spliced, content, stays_open};
 ghost use Rattle.ud_model.specs.text.Scans.{Reading};
 ghost use Rattle.ud_model.specs.text.Scanning.{comment_at, scan_after, next_reading};
 ghost use Rattle.ud_model.specs.aids.LexStates.{kind_in_state, state_after_line, white_after_line};
-ghost use Rattle.ud_text.specs.LineViews.{as_line, as_scan, lex_state_of, shown_in};
+ghost use Rattle.ud_model.specs.text.LineViews.{as_line, as_scan};
+ghost use Rattle.ud_text.specs.scan.LexerViews.{lex_state_of, shown_in};
 ghost use Rattle.ud_text.specs.scan.ScannerState.{ScannerState, ScannerRepresents};
 ghost use Rattle.ud_text.specs.scan.ScannerState.{scanner_state_of, initial_scanner_state};
 ghost use Rattle.ud_text.specs.scan.ScannerState.{scan_with, ends_in_block};
@@ -28,15 +29,13 @@ ghost use Rattle.ud_model.specs.text.Scanning.{is_block};
 
 use crate::bulk::plain::lines_without_hash;
 use crate::bulk::skip_text_lines;
-use crate::lines::Line;
-use crate::scan::Scan;
 use crate::scan::lexer::{
     LexState, Lexer, is_fresh, is_in_block_comment, mask_or_borrow, next_state, stays_white,
 };
 use crate::scan::marks::first_mark;
 use arrayvec::ArrayVec;
 use std::marker::Model;
-use ud_model::{CommentAt, LINE_BYTES, Mode};
+use ud_model::{CommentAt, LINE_BYTES, Line, Mode, Scan};
 
 /// The state that is carried from line to line.
 #[derive(Clone, Copy)]
@@ -75,17 +74,21 @@ pub(crate) struct ScannedLine<'a> {
     pub(crate) borrowed: Option<&'a [u8]>,
 }
 
-/// A scanner of the lines of a text, which come in order, each in its mode.
+/// A scanner of the lines of a text, which come in order, each in its mode. It reads lines whose
+/// body has at most `N` bytes.
 #[derive(Drop)]
-pub struct Scanner {
+pub struct ScannerOf<const N: usize> {
     /// The state after the lines so far.
-    pub(crate) scan_state: ScanState,
+    scan_state: ScanState,
     /// The last line as it is masked, if its own bytes weren't borrowed.
-    pub(crate) masked: ArrayVec<u8, LINE_BYTES>,
+    masked: ArrayVec<u8, N>,
 }
 
+/// A scanner of lines of any length that a line may have.
+pub type Scanner = ScannerOf<LINE_BYTES>;
+
 /// Returns the state of a C run without lines.
-pub(crate) fn initial_state() -> ScanState
+fn initial_state() -> ScanState
     ensures { scanner_state_of result ≡ initial_scanner_state }
 {
     ScanState {
@@ -266,7 +269,7 @@ fn scan_plain<'a>(line: &Line<'a>) -> ScannedLine<'a>
 
 /// Scans a line in its mode. The masked bytes are appended to `masked`, unless they are borrowed.
 #[inline(always)]
-pub(crate) fn scan_line<'a, const ROOM: usize>(
+fn scan_line<'a, const ROOM: usize>(
     mode: Mode,
     scan_state: ScanState,
     line: &Line<'a>,
@@ -353,7 +356,7 @@ fn skip_text_in_plain_mode(scan_state: ScanState, lines: &[u8]) -> (usize, ScanS
 }
 
 /// Skips text lines in a mode. Returns how many bytes they have, and the state after them.
-pub(crate) fn skip_text_in(mode: Mode, scan_state: ScanState, lines: &[u8]) -> (usize, ScanState)
+fn skip_text_in(mode: Mode, scan_state: ScanState, lines: &[u8]) -> (usize, ScanState)
     ensures bound { result.0 ≤ length lines.now }
     ensures ends { AreWholeLines (take result.0 lines.now) }
     ensures skips { SkipsText mode (scanner_state_of scan_state) (scanner_state_of result.1)
@@ -365,7 +368,7 @@ pub(crate) fn skip_text_in(mode: Mode, scan_state: ScanState, lines: &[u8]) -> (
     }
 }
 
-impl Model for Scanner {
+impl<const N: usize> Model for ScannerOf<N> {
     ghost use Rattle.ud_text.specs.scan.ScannerState.{ScannerState, scanner_state_of};
 
     ghost Value = { ScannerState };
@@ -373,12 +376,12 @@ impl Model for Scanner {
     ghost view = { λ s. scanner_state_of s.scan_state };
 }
 
-impl Scanner {
+impl<const N: usize> ScannerOf<N> {
     /// Returns a scanner that has read no line.
-    pub fn new() -> Scanner
+    pub fn new() -> ScannerOf<N>
         ensures { ScannerRepresents result [] }
     {
-        Scanner {
+        ScannerOf {
             scan_state: initial_state(),
             masked: ArrayVec::new(),
         }
@@ -386,7 +389,7 @@ impl Scanner {
 
     /// Reads the next line of the text, and returns its scan. Later lines never change the scan.
     ///
-    /// The line's body has at most `LINE_BYTES`, none of which is a newline. In plain mode the line
+    /// The line's body has at most `N` bytes, none of which is a newline. In plain mode the line
     /// is masked unchanged, and the next line in C mode starts afresh. In C mode each masked byte
     /// has the index that it has in the body (C11 5.1.1.2, phases 2 and 3, and 6.4.9).
     ///
@@ -408,9 +411,9 @@ impl Scanner {
     /// ```
     #[inline(always)]
     pub fn read<'s, 'a: 's>(&'s mut self, mode: Mode, line: &Line<'a>) -> Scan<'s>
-        requires fits { length line.now.body.now ≤ LINE_BYTES }
+        requires fits { length line.now.body.now ≤ N }
         requires one_line { NoNewline line.now.body.now }
-        ensures* represents { sem 𝓛 (ScansLine self.entry mode (as_line line.now)) }
+        ensures* represents { sem 𝓛 (ScansLine N.row self.entry mode (as_line line.now)) }
         ensures value { (before : List Reading) → ScannerRepresents self.old before →
             as_scan result ≡ scan_after before mode (as_line line.now) }
         ensures fits { length result.masked.now ≤ length line.now.body.now }
@@ -457,6 +460,14 @@ impl Scanner {
             result ≡ ends_in_block before }
     {
         is_in_block_comment(self.scan_state.lexer.state)
+    }
+
+    /// Copies the state of a scanner, which may read longer or shorter lines. The next line is then
+    /// read as that scanner would read it.
+    pub fn copy_state_of<const M: usize>(&mut self, scanner: &ScannerOf<M>)
+        ensures { self.new ≡ scanner.now }
+    {
+        self.scan_state = scanner.scan_state;
     }
 }
 

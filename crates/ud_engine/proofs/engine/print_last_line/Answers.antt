@@ -1,9 +1,11 @@
 use Rattle.std.proofs.Common.{rules, sym, ap, subst, suc, List, ℕ}
 use Rattle.ud_model.specs.text.Lines.{Line, NoNewline}
 use Rattle.ud_text.specs.lines.LinesState.{LinesState}
-use Rattle.ud_text.specs.LineViews.{as_line}
+use Rattle.ud_model.specs.text.LineViews.{as_line}
 use Rattle.ud_engine.specs.Finishing.{without_fault}
 use Rattle.ud_io.specs.Buffering.{AppendsAllBut}
+use Rattle.ud_faults.specs.declared.run.RunFault.TheVariants.{Write}
+use Rattle.ud_engine.proofs.ErrLemmas.{err_is}
 use Rattle.ud_engine.proofs.StepLemmas.{rest_feedless}
 use Rattle.ud_engine.proofs.EndLemmas.{last_printed, last_cut, last_fails}
 use Rattle.ud_engine.proofs.engine.print_last_line.Goals as goal
@@ -21,21 +23,21 @@ returns-in-Err-put_line-clause-fails g c = λ o pieces text printed fed.
     g.W.Write.contents c.args.out.now c.put_line.new.out c.args.output.now c.put_line.new.output fed.written c.requires.not_failed c.in-Err-put_line.fault
     (c.in-Err-put_line.ensures.err o pieces fed.taken.items fed.taken.tree fed.taken.symbols fed.taken.has) c.in-Err-put_line.ensures.output_unchanged
 
-pub returns-then-flush_buffer-clause-last : goal.returns-then-flush_buffer-clause-last
-returns-then-flush_buffer-clause-last g c = λ o pieces text printed fed.
+pub returns-in_ok-flush_buffer-in-Ok-clause-last : goal.returns-in_ok-flush_buffer-in-Ok-clause-last
+returns-in_ok-flush_buffer-in-Ok-clause-last g c = λ o pieces text printed fed.
     last_printed g.S.Show.represents g.S.Show.piece o pieces (without_fault c.args.symbols.now c.args.lines.now c.args.printer.now c.args.output.now) text printed fed (search rules)
     c.close.new.self c.in-Ok-true.ensures.value.1 (as_line c.line.result) c.line.ensures.value
     c.put_line.new.self (g.W.Write.contents c.args.out.now.inner) (g.W.Write.contents c.put_line.new.out.inner) c.put_line.new.output
     (c.in-Ok.ensures.ok o pieces fed.taken.items fed.taken.tree fed.taken.symbols fed.taken.has) (g.W.Write.contents c.flush_buffer.new.out.inner)
     (subst (λ x. AppendsAllBut (g.W.Write.contents c.put_line.new.out.inner) (g.W.Write.contents c.flush_buffer.new.out.inner) c.put_line.new.output x)
-    (c.flush_buffer.ensures.all (search rules)) c.if-flush_buffer.ensures.appends)
+    c.in_ok-flush_buffer-in-Ok.ensures.all c.in_ok-flush_buffer-in-Ok.ensures.appends)
 
-pub returns-else-flush_buffer-clause-fails : goal.returns-else-flush_buffer-clause-fails
-returns-else-flush_buffer-clause-fails g c = λ o pieces text printed fed. (
+pub returns-in_err-flush_buffer-in-Ok-clause-fails : goal.returns-in_err-flush_buffer-in-Ok-clause-fails
+returns-in_err-flush_buffer-in-Ok-clause-fails g c = λ o pieces text printed fed. err_is _ c.from_residual.result Write c.from_residual.ensures.1 (
   search rules,
   last_cut g.S.Show.represents g.S.Show.piece o pieces (without_fault c.args.symbols.now c.args.lines.now c.args.printer.now c.args.output.now) text printed fed (search rules)
       c.close.new.self c.in-Ok-true.ensures.value.1 (as_line c.line.result) c.line.ensures.value
       c.put_line.new.self (g.W.Write.contents c.args.out.now.inner) (g.W.Write.contents c.put_line.new.out.inner) c.put_line.new.output
       (c.in-Ok.ensures.ok o pieces fed.taken.items fed.taken.tree fed.taken.symbols fed.taken.has) (g.W.Write.contents c.flush_buffer.new.out.inner)
-      c.if-flush_buffer.ensures.appends,
+      c.in_err-flush_buffer-in-Ok.ensures.appends,
 )

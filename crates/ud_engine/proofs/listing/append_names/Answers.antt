@@ -1,4 +1,5 @@
 use Rattle.std.proofs.Common.{rules}
+use Rattle.ud_engine.proofs.ErrLemmas.{failed_appends}
 use Rattle.ud_engine.proofs.NameListingLemmas.{none_put, name_put, name_refused, all_put}
 use Rattle.ud_engine.proofs.listing.append_names.Goals as goal
 
@@ -10,11 +11,12 @@ loop-name-init g c = record {
   put = none_put (g.W.Write.contents c.args.out.now.inner) c.args.prefix.now c.args.names _ c.args.output.now c.into_iter-name-iterator.ensures.into_iter_gives;
 }
 
-pub returns-then-not-append_name-clause-appends : goal.returns-then-not-append_name-clause-appends
-returns-then-not-append_name-clause-appends g c =
-    name_refused (g.W.Write.contents c.args.out.now.inner) (g.W.Write.contents c.loop-name.out.inner) (g.W.Write.contents c.append_name.new.out.inner)
+pub returns-in_err-append_name-clause-appends : goal.returns-in_err-append_name-clause-appends
+returns-in_err-append_name-clause-appends g c =
+    failed_appends c.from_residual.result _ _ _ _ c.from_residual.ensures.0
+    (name_refused (g.W.Write.contents c.args.out.now.inner) (g.W.Write.contents c.loop-name.out.inner) (g.W.Write.contents c.append_name.new.out.inner)
     c.args.prefix.now c.args.names c.loop-name.name-iterator c.next.new.self c.in-Some.name.now c.args.output.now c.loop-name.output
-    c.in-Some.ensures.steps c.loop-name.invariant.put c.if-not-append_name.ensures.appends
+    c.in-Some.ensures.steps c.loop-name.invariant.put c.in_err-append_name.ensures.appends)
 
 pub loop-name-preserved : goal.loop-name-preserved
 loop-name-preserved g c = record {
@@ -24,7 +26,7 @@ loop-name-preserved g c = record {
   put =
       name_put (g.W.Write.contents c.args.out.now.inner) (g.W.Write.contents c.loop-name.out.inner) (g.W.Write.contents c.append_name.new.out.inner)
       c.args.prefix.now c.args.names c.loop-name.name-iterator c.next.new.self c.in-Some.name.now c.args.output.now c.loop-name.output c.append_name.new.output
-      c.in-Some.ensures.steps c.loop-name.invariant.put c.if-not-append_name.ensures.appends;
+      c.in-Some.ensures.steps c.loop-name.invariant.put c.in_ok-append_name.ensures.appends;
 }
 
 pub returns-clause-appends : goal.returns-clause-appends

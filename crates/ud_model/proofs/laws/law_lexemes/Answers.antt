@@ -1,5 +1,5 @@
 -- By the length of a lexeme, which the text decides.
-use Rattle.ud_model.proofs.text.LexLemmas.{cut_cells, cut_unique}
+use Rattle.ud_model.proofs.text.LexLemmas.{cut_cells, cut_unique, piece_size}
 use Rattle.ud_model.proofs.text.LexExists.{cut_exists}
 use Rattle.ud_model.proofs.laws.law_lexemes.Goals as goal
 
@@ -11,3 +11,6 @@ returns-clause-only c = cut_unique
 
 pub returns-clause-cells : goal.returns-clause-cells
 returns-clause-cells c = cut_cells
+
+pub returns-clause-extent : goal.returns-clause-extent
+returns-clause-extent c = λ a bytes rest kind p. piece_size a bytes rest p

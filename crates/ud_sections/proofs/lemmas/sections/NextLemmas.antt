@@ -6,9 +6,7 @@ use Rattle.ud_model.specs.text.Scans.{Reading}
 use Rattle.ud_model.specs.text.Scanning.{next_reading}
 use Rattle.ud_model.specs.sections.Tree.{Item, Tree}
 use Rattle.ud_model.specs.sections.Items.{Options, reading_of, line_of, mode_after, read_after, next_item}
-use Rattle.ud_model.specs.sections.Faults.{ends_in_comment}
 use Rattle.ud_model.proofs.sections.Soundness.{reading_of-item_of, reading_of-next}
-use Rattle.ud_text.specs.scan.ScannerState.{ends_in_block}
 
 -- there is one more reading
 pub readings_more : (o : Options) (xs : List (Item Reading)) (t : Tree Reading) (l : Line) →
@@ -21,9 +19,3 @@ readings_more o xs t l =
 pub lines_more : (o : Options) (xs : List (Item Reading)) (t : Tree Reading) (l : Line) →
     map line_of (xs ++ next_item o xs t l ∷ []) ≡ map line_of xs ++ l ∷ []
 lines_more o xs t l = map-append line_of xs (next_item o xs t l ∷ []) ∙ ap (λ k. map line_of xs ++ k ∷ []) (reading_of-next o xs t l)
-
--- the scanner knows whether the text ends in a block comment
-pub block_is_comment : (xs : List (Item Reading)) → ends_in_block (map reading_of xs) ≡ ends_in_comment xs
-block_is_comment [] = refl
-block_is_comment (x ∷ []) = refl
-block_is_comment (x ∷ y ∷ ys) = block_is_comment (y ∷ ys)

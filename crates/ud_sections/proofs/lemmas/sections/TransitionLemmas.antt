@@ -15,8 +15,8 @@ use Rattle.ud_model.specs.declared.kind.Role.TheVariants.{IfGroup, ElifGroup, El
 use Rattle.ud_model.specs.declared.limits.TheConstants.{OPEN_SECTIONS}
 use Rattle.ud_model.proofs.sections.FaultStays.{reading_of-item_by}
 use Rattle.ud_model.proofs.sections.Soundness.{reading_of-item_of, reading_of-next, sound_lines}
-use Rattle.ud_sections.specs.declared.sections.fault.SectionFault.{SectionFault}
-use Rattle.ud_sections.specs.declared.sections.fault.SectionFault.TheVariants.{Obfuscated}
+use Rattle.ud_faults.specs.declared.sections.SectionFault.{SectionFault}
+use Rattle.ud_faults.specs.declared.sections.SectionFault.TheVariants.{Obfuscated}
 use Rattle.ud_sections.specs.declared.directives.Cut.{Cut}
 use Rattle.ud_sections.specs.declared.sections.open_section.Action.{Action}
 use Rattle.ud_sections.specs.declared.sections.machine.Machine.{Machine}
@@ -28,7 +28,8 @@ use Rattle.ud_sections.specs.sections.StackOps.{innermost_of}
 use Rattle.ud_sections.specs.sections.Checking.{checked_by}
 use Rattle.ud_sections.specs.sections.OpenSections.{open_sections_of}
 use Rattle.ud_sections.specs.sections.Limits.{IsWithinLimits}
-use Rattle.ud_sections.specs.sections.MachineState.{MachineRepresents, ComesNext, fault_of}
+use Rattle.ud_sections.specs.sections.MachineState.{MachineRepresents, ComesNext}
+use Rattle.ud_faults.specs.Faults.{fault_of}
 use Rattle.ud_sections.specs.sections.ClassifiedLines.{item_kind, line_kind_in, classified, classified_with}
 use Rattle.ud_sections.specs.sections.StepViews.{as_span}
 use Rattle.ud_sections.specs.sections.Transitions.{context_of, transition_with, transition_of}

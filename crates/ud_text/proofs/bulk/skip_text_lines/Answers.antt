@@ -1,6 +1,6 @@
 -- By the lexer's state.
 use Rattle.std.proofs.Common.{ap}
-use Rattle.ud_text.specs.LineViews.{lex_state_of}
+use Rattle.ud_text.specs.scan.LexerViews.{lex_state_of}
 use Rattle.ud_text.proofs.lemmas.bulk.StepLemmas.{start_read, start_block}
 use Rattle.ud_text.proofs.bulk.skip_text_lines.Goals as goal
 

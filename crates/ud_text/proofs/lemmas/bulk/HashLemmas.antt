@@ -7,7 +7,7 @@ use Rattle.ud_model.specs.text.Bytes.{is_white, skip_white}
 use Rattle.ud_model.specs.text.Lines.{Line, line_at, numbered_from, whole_lines, ending_of}
 use Rattle.ud_model.specs.text.Scans.{Reading, plain_scan}
 use Rattle.ud_model.specs.text.Scanning.{next_reading, readings_after}
-use Rattle.ud_model.specs.sections.Directives.{cut_keyword, text, content_of, skip_hash_if_fresh, skip_hash, has_split_keyword, content_after_hash}
+use Rattle.ud_model.specs.sections.Directives.{cut_keyword, text, content_of, skip_white_and_hash, skip_hash, has_split_keyword, content_after_hash}
 use Rattle.ud_model.specs.declared.kind.Mode.TheVariants.{Plain}
 use Rattle.ud_text.specs.scan.ScannerState.{ScannerState, ScannerRepresents, initial_scanner_state}
 use Rattle.ud_text.specs.bulk.BulkScanning.{AreWholeLines, HaveNoDirective, SkipsText, lines_in_mode}
@@ -44,11 +44,11 @@ no_hash_rest [] t h = h
 no_hash_rest (b ∷ s) t h = no_hash_rest s t h.1
 
 -- no `#` comes first but for white space
-no_past_sign : (s : List ℕ) → NoHash s → skip_hash_if_fresh s ≡ None
+no_past_sign : (s : List ℕ) → NoHash s → skip_white_and_hash s ≡ None
 no_past_sign [] h = refl
 no_past_sign (b ∷ bs) h = by_white (is_white b) (no_past_sign bs h.1)
   where
-    by_white : (w : Bool) → skip_hash_if_fresh bs ≡ None → skip_hash (if w then skip_white bs else b ∷ bs) ≡ None
+    by_white : (w : Bool) → skip_white_and_hash bs ≡ None → skip_hash (if w then skip_white bs else b ∷ bs) ≡ None
     by_white true e = e
     by_white false e = ap (λ (t : Bool). if t then Some bs else None) h.0
 

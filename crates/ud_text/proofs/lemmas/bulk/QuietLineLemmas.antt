@@ -10,7 +10,7 @@ use Rattle.ud_model.specs.text.Scans.{Scan, Reading}
 use Rattle.ud_model.specs.text.Splicing.{is_spliced, is_empty, content, stays_open, spliced_text, c_run_of}
 use Rattle.ud_model.specs.text.Scanning.{is_block, comment_at, scan_after, next_reading, readings_after}
 use Rattle.ud_model.specs.aids.LexStates.{LexState, in_text, at_slash, in_block, at_star, in_line, in_literal, at_backslash, next_state, stays_white, kind_in_state, fresh_at, state_after_line, white_after_line, Masks}
-use Rattle.ud_model.specs.sections.Directives.{content_of, text, skip_hash_if_fresh}
+use Rattle.ud_model.specs.sections.Directives.{content_of, text, skip_white_and_hash}
 use Rattle.ud_model.specs.declared.kind.Mode.{Mode}
 use Rattle.ud_model.specs.declared.kind.Mode.TheVariants.{C}
 use Rattle.ud_model.proofs.text.LinesLemmas.{AreWhole, body-ending, parts_joined, are_whole}
@@ -235,7 +235,7 @@ module _ (w : LexState) (white : Bool) (before : List Reading) (line : Line) (ca
   not_fresh (at_backslash q) e = cc
 
   sign : (p : LexState) (tail : List ℕ) → can_start p ≡ true → NoNewline (content line) → is_other_word tail ≡ false → NoWord tail →
-      HasNoStop (line_state p true) (content line ++ tail) → Unsigned (skip_hash_if_fresh (masked_after p [] (content line)))
+      HasNoStop (line_state p true) (content line ++ tail) → Unsigned (skip_white_and_hash (masked_after p [] (content line)))
   sign in_text tail e o f n q = unsigned (content line) tail in_text false tt o q f n
   sign in_block tail e o f n q = unsigned (content line) tail in_block false tt o q f n
   sign at_slash tail e o f n q = cc

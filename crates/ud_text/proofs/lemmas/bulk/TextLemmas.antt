@@ -6,7 +6,7 @@ use Rattle.ud_model.specs.text.Bytes.{is_white, is_quote, is_word_byte, are_word
 use Rattle.ud_model.specs.text.Lines.{NoNewline}
 use Rattle.ud_model.specs.text.Scans.{Scan}
 use Rattle.ud_model.specs.aids.LexStates.{LexState, in_text, at_slash, in_block, at_star, in_line, in_literal, at_backslash, next_state, opens_comment, masked_byte, blank_last}
-use Rattle.ud_model.specs.sections.Directives.{cut_keyword, text, content_of, skip_hash_if_fresh, skip_hash, has_split_keyword, content_after_hash, directive_at, may_split_keyword, is_continued_outside_comment, is_in_line, kind_of, is_keyword_prefix, is_prefix_of_keyword}
+use Rattle.ud_model.specs.sections.Directives.{cut_keyword, text, content_of, skip_white_and_hash, skip_hash, has_split_keyword, content_after_hash, directive_at, may_split_keyword, is_continued_outside_comment, is_in_line, kind_of, is_keyword_prefix, is_prefix_of_keyword}
 use Rattle.ud_model.specs.declared.kind.Kind.{Kind}
 use Rattle.ud_text.specs.bulk.BulkStates.{next_bulk_state, letter_f, BulkState, letter_i, starts_with_no_keyword, letter_e, spliced_after, is_no_keyword, is_other_word, letter_l, letter_n, HasNoStop}
 use Rattle.ud_model.proofs.text.ScanLaws.{masked_after}
@@ -31,7 +31,7 @@ pub data Unsigned : Option (List ℕ) → Type 0 where
 
 -- a scan that isn't fresh, and so can have no directive, is text
 pub text_not_fresh : (scan : Scan) → scan.fresh ≡ false → content_of scan ≡ text
-text_not_fresh scan e = by_sign (skip_hash_if_fresh scan.masked) scan.fresh e
+text_not_fresh scan e = by_sign (skip_white_and_hash scan.masked) scan.fresh e
   where
     by_sign : (o : Option (List ℕ)) (f : Bool) → f ≡ false →
         (if has_split_keyword (record scan { fresh = f }) o then cut_keyword else content_after_hash (record scan { fresh = f }) o) ≡ text
@@ -40,8 +40,8 @@ text_not_fresh scan e = by_sign (skip_hash_if_fresh scan.masked) scan.fresh e
     by_sign (Some rest) false h = refl
 
 -- a scan without such a `#` is text, also if a continuation cuts it off
-pub text_unsigned : (scan : Scan) → Unsigned (skip_hash_if_fresh scan.masked) → content_of scan ≡ text
-text_unsigned scan u = by_sign (skip_hash_if_fresh scan.masked) u
+pub text_unsigned : (scan : Scan) → Unsigned (skip_white_and_hash scan.masked) → content_of scan ≡ text
+text_unsigned scan u = by_sign (skip_white_and_hash scan.masked) u
   where
     chosen : (f j l y : Bool) (word : List ℕ) (k : Option Kind) → y ≡ false → k ≡ None →
         (if f && j && l && y then cut_keyword else if f then directive_at scan word k else text) ≡ text
@@ -108,8 +108,8 @@ front_stays x m w (b ∷ bytes) h =
 
 -- a byte that is neither white space nor `#` comes first
 pub black_first : (x : ℕ) (m : List ℕ) (w : LexState) (bytes : List ℕ) → Settled w m → is_white x ≡ false → (x == number_sign) ≡ false →
-    Unsigned (skip_hash_if_fresh (masked_after w (x ∷ m) bytes))
-black_first x m w bytes h e f = subst (λ (l : List ℕ). Unsigned (skip_hash_if_fresh l)) (sym (front_stays x m w bytes h)) (by_tests (is_white x) (x == number_sign) e f)
+    Unsigned (skip_white_and_hash (masked_after w (x ∷ m) bytes))
+black_first x m w bytes h e f = subst (λ (l : List ℕ). Unsigned (skip_white_and_hash l)) (sym (front_stays x m w bytes h)) (by_tests (is_white x) (x == number_sign) e f)
   where
     by_tests : (t s : Bool) → t ≡ false → s ≡ false →
         Unsigned (skip_hash (if t then skip_white (masked_after w m bytes) else x ∷ masked_after w m bytes))
@@ -118,8 +118,8 @@ black_first x m w bytes h e f = subst (λ (l : List ℕ). Unsigned (skip_hash_if
 
 -- leading white space doesn't count
 pub white_first : (x : ℕ) (m : List ℕ) (w : LexState) (bytes : List ℕ) → Settled w m → is_white x ≡ true →
-    Unsigned (skip_hash_if_fresh (masked_after w m bytes)) → Unsigned (skip_hash_if_fresh (masked_after w (x ∷ m) bytes))
-white_first x m w bytes h e u = subst (λ (l : List ℕ). Unsigned (skip_hash_if_fresh l)) (sym (front_stays x m w bytes h)) (by_white (is_white x) e)
+    Unsigned (skip_white_and_hash (masked_after w m bytes)) → Unsigned (skip_white_and_hash (masked_after w (x ∷ m) bytes))
+white_first x m w bytes h e u = subst (λ (l : List ℕ). Unsigned (skip_white_and_hash l)) (sym (front_stays x m w bytes h)) (by_white (is_white x) e)
   where
     by_white : (t : Bool) → t ≡ true → Unsigned (skip_hash (if t then skip_white (masked_after w m bytes) else x ∷ masked_after w m bytes))
     by_white true g = u
@@ -364,12 +364,12 @@ step_white b c w e f i = rw (e, f, i, w) refl
 next_quote : (b : ℕ) → (b == slash) ≡ false → is_quote b ≡ true → next_state in_text b ≡ in_literal b
 next_quote b e q = rw (e, q) refl
 
-module _ (bytes tail : List ℕ) (later : (w : LexState) (c : Bool) → NotLiteral w → HasNoStop (white_at w c) (bytes ++ tail) → Unsigned (skip_hash_if_fresh (masked_after w (pending w) bytes)))
+module _ (bytes tail : List ℕ) (later : (w : LexState) (c : Bool) → NotLiteral w → HasNoStop (white_at w c) (bytes ++ tail) → Unsigned (skip_white_and_hash (masked_after w (pending w) bytes)))
     (f : is_other_word tail ≡ false) (n : NoWord tail) where
-  from_text : (b : ℕ) (c : Bool) → Class b → (b == newline) ≡ false → HasNoStop (white_at in_text c) (b ∷ (bytes ++ tail)) → Unsigned (skip_hash_if_fresh (masked_after in_text [] (b ∷ bytes)))
+  from_text : (b : ℕ) (c : Bool) → Class b → (b == newline) ≡ false → HasNoStop (white_at in_text c) (b ∷ (bytes ++ tail)) → Unsigned (skip_white_and_hash (masked_after in_text [] (b ∷ bytes)))
   from_text _ c a_slash i h = later at_slash _ tt h.1
   from_text _ c a_sign i h =
-      subst (λ (l : List ℕ). Unsigned (skip_hash_if_fresh l)) (sym (front_stays number_sign [] in_text bytes tt))
+      subst (λ (l : List ℕ). Unsigned (skip_white_and_hash l)) (sym (front_stays number_sign [] in_text bytes tt))
       (other_sign (masked_after in_text [] bytes) (name_shown bytes tail (is_other h.0) f n))
     where
       is_other : not (is_other_word (bytes ++ tail)) ≡ false → is_other_word (bytes ++ tail) ≡ true
@@ -379,70 +379,70 @@ module _ (bytes tail : List ℕ) (later : (w : LexState) (c : Bool) → NotLiter
           not_false true e = refl
           not_false false e = cc
   from_text _ c (a_white b w e q s i m) _ h =
-      subst (λ (p : LexState). Unsigned (skip_hash_if_fresh (masked_after p (b ∷ []) bytes))) (sym (next_plain b e q))
+      subst (λ (p : LexState). Unsigned (skip_white_and_hash (masked_after p (b ∷ []) bytes))) (sym (next_plain b e q))
       (white_first b [] in_text bytes tt w
       (later in_text (spliced_after in_text c b) tt (subst (λ (s : BulkState). HasNoStop s (bytes ++ tail)) (step_white b c w e q i) h.1)))
   from_text _ c (a_quote b q w e s i m) _ h =
-      subst (λ (p : LexState). Unsigned (skip_hash_if_fresh (masked_after p (b ∷ []) bytes))) (sym (next_quote b e q))
+      subst (λ (p : LexState). Unsigned (skip_white_and_hash (masked_after p (b ∷ []) bytes))) (sym (next_quote b e q))
       (black_first b [] (in_literal b) bytes tt w s)
   from_text _ c (another b w e q s) _ h =
-      subst (λ (p : LexState). Unsigned (skip_hash_if_fresh (masked_after p (b ∷ []) bytes))) (sym (next_plain b e q))
+      subst (λ (p : LexState). Unsigned (skip_white_and_hash (masked_after p (b ∷ []) bytes))) (sym (next_plain b e q))
       (black_first b [] in_text bytes tt w s)
 
-  spaces : (w : LexState) → pending w ≡ [] → Settled w [] → Unsigned (skip_hash_if_fresh (masked_after w (pending w) bytes)) → Unsigned (skip_hash_if_fresh (masked_after w (space ∷ []) bytes))
-  spaces w e s u = white_first space [] w bytes s refl (subst (λ (l : List ℕ). Unsigned (skip_hash_if_fresh (masked_after w l bytes))) e u)
+  spaces : (w : LexState) → pending w ≡ [] → Settled w [] → Unsigned (skip_white_and_hash (masked_after w (pending w) bytes)) → Unsigned (skip_white_and_hash (masked_after w (space ∷ []) bytes))
+  spaces w e s u = white_first space [] w bytes s refl (subst (λ (l : List ℕ). Unsigned (skip_white_and_hash (masked_after w l bytes))) e u)
 
-  from_slash : (b : ℕ) (c : Bool) → HasNoStop (white_at at_slash c) (b ∷ (bytes ++ tail)) → Unsigned (skip_hash_if_fresh (masked_after at_slash (slash ∷ []) (b ∷ bytes)))
+  from_slash : (b : ℕ) (c : Bool) → HasNoStop (white_at at_slash c) (b ∷ (bytes ++ tail)) → Unsigned (skip_white_and_hash (masked_after at_slash (slash ∷ []) (b ∷ bytes)))
   from_slash b c h = by_star (b == star) refl
     where
-      other : (o : Bool) (w : LexState) (y : ℕ) → o ≡ false → Unsigned (skip_hash_if_fresh (masked_after w ((if o then blank_last (slash ∷ []) else slash ∷ []) ++ y ∷ []) bytes))
+      other : (o : Bool) (w : LexState) (y : ℕ) → o ≡ false → Unsigned (skip_white_and_hash (masked_after w ((if o then blank_last (slash ∷ []) else slash ∷ []) ++ y ∷ []) bytes))
       other true w y e = cc
       other false w y e = black_first slash (y ∷ []) w bytes (settled_some w [] y) refl refl
 
-      opens_block : HasNoStop (white_at at_slash c) (star ∷ (bytes ++ tail)) → Unsigned (skip_hash_if_fresh (masked_after at_slash (slash ∷ []) (star ∷ bytes)))
+      opens_block : HasNoStop (white_at at_slash c) (star ∷ (bytes ++ tail)) → Unsigned (skip_white_and_hash (masked_after at_slash (slash ∷ []) (star ∷ bytes)))
       opens_block k = white_first space (space ∷ []) in_block bytes tt refl (spaces in_block refl tt (later in_block _ tt k.1))
 
-      opens_line : HasNoStop (white_at at_slash c) (slash ∷ (bytes ++ tail)) → Unsigned (skip_hash_if_fresh (masked_after at_slash (slash ∷ []) (slash ∷ bytes)))
+      opens_line : HasNoStop (white_at at_slash c) (slash ∷ (bytes ++ tail)) → Unsigned (skip_white_and_hash (masked_after at_slash (slash ∷ []) (slash ∷ bytes)))
       opens_line k = white_first space (space ∷ []) in_line bytes tt refl (spaces in_line refl tt (later in_line _ tt k.1))
 
-      by_slash : (t : Bool) → (b == slash) ≡ t → (b == star) ≡ false → Unsigned (skip_hash_if_fresh (masked_after at_slash (slash ∷ []) (b ∷ bytes)))
+      by_slash : (t : Bool) → (b == slash) ≡ t → (b == star) ≡ false → Unsigned (skip_white_and_hash (masked_after at_slash (slash ∷ []) (b ∷ bytes)))
       by_slash true e g =
-          subst (λ (x : ℕ). HasNoStop (white_at at_slash c) (x ∷ (bytes ++ tail)) → Unsigned (skip_hash_if_fresh (masked_after at_slash (slash ∷ []) (x ∷ bytes)))) (sym (eqb-true b slash e)) opens_line h
+          subst (λ (x : ℕ). HasNoStop (white_at at_slash c) (x ∷ (bytes ++ tail)) → Unsigned (skip_white_and_hash (masked_after at_slash (slash ∷ []) (x ∷ bytes)))) (sym (eqb-true b slash e)) opens_line h
       by_slash false e g = other (opens_comment at_slash b) (next_state at_slash b) (masked_byte at_slash b) (rw (e, g) refl)
 
-      by_star : (t : Bool) → (b == star) ≡ t → Unsigned (skip_hash_if_fresh (masked_after at_slash (slash ∷ []) (b ∷ bytes)))
+      by_star : (t : Bool) → (b == star) ≡ t → Unsigned (skip_white_and_hash (masked_after at_slash (slash ∷ []) (b ∷ bytes)))
       by_star true e =
-          subst (λ (x : ℕ). HasNoStop (white_at at_slash c) (x ∷ (bytes ++ tail)) → Unsigned (skip_hash_if_fresh (masked_after at_slash (slash ∷ []) (x ∷ bytes)))) (sym (eqb-true b star e)) opens_block h
+          subst (λ (x : ℕ). HasNoStop (white_at at_slash c) (x ∷ (bytes ++ tail)) → Unsigned (skip_white_and_hash (masked_after at_slash (slash ∷ []) (x ∷ bytes)))) (sym (eqb-true b star e)) opens_block h
       by_star false e = by_slash (b == slash) refl e
 
-  from_block : (b : ℕ) (c : Bool) → HasNoStop (white_at in_block c) (b ∷ (bytes ++ tail)) → Unsigned (skip_hash_if_fresh (masked_after in_block [] (b ∷ bytes)))
+  from_block : (b : ℕ) (c : Bool) → HasNoStop (white_at in_block c) (b ∷ (bytes ++ tail)) → Unsigned (skip_white_and_hash (masked_after in_block [] (b ∷ bytes)))
   from_block b c h = by_star (b == star) h.1
     where
       by_star : (t : Bool) → HasNoStop (white_at (if t then at_star else in_block) (spliced_after in_block c b)) (bytes ++ tail) →
-          Unsigned (skip_hash_if_fresh (masked_after (if t then at_star else in_block) (space ∷ []) bytes))
+          Unsigned (skip_white_and_hash (masked_after (if t then at_star else in_block) (space ∷ []) bytes))
       by_star true k = spaces at_star refl tt (later at_star _ tt k)
       by_star false k = spaces in_block refl tt (later in_block _ tt k)
 
-  from_star : (b : ℕ) (c : Bool) → HasNoStop (white_at at_star c) (b ∷ (bytes ++ tail)) → Unsigned (skip_hash_if_fresh (masked_after at_star [] (b ∷ bytes)))
+  from_star : (b : ℕ) (c : Bool) → HasNoStop (white_at at_star c) (b ∷ (bytes ++ tail)) → Unsigned (skip_white_and_hash (masked_after at_star [] (b ∷ bytes)))
   from_star b c h = by_tests (b == slash) (b == star) h.1
     where
       by_tests : (s t : Bool) → HasNoStop (white_at (if s then in_text else if t then at_star else in_block) (spliced_after at_star c b)) (bytes ++ tail) →
-          Unsigned (skip_hash_if_fresh (masked_after (if s then in_text else if t then at_star else in_block) (space ∷ []) bytes))
+          Unsigned (skip_white_and_hash (masked_after (if s then in_text else if t then at_star else in_block) (space ∷ []) bytes))
       by_tests true t k = spaces in_text refl tt (later in_text _ tt k)
       by_tests false true k = spaces at_star refl tt (later at_star _ tt k)
       by_tests false false k = spaces in_block refl tt (later in_block _ tt k)
 
-  from_line : (b : ℕ) (c : Bool) → (b == newline) ≡ false → HasNoStop (white_at in_line c) (b ∷ (bytes ++ tail)) → Unsigned (skip_hash_if_fresh (masked_after in_line [] (b ∷ bytes)))
+  from_line : (b : ℕ) (c : Bool) → (b == newline) ≡ false → HasNoStop (white_at in_line c) (b ∷ (bytes ++ tail)) → Unsigned (skip_white_and_hash (masked_after in_line [] (b ∷ bytes)))
   from_line b c i h = by_feed (b == newline) i h.1
     where
       by_feed : (t : Bool) → t ≡ false → HasNoStop (record { state = if t then in_text else in_line; white = if t then true else true; spliced = spliced_after in_line c b }) (bytes ++ tail) →
-          Unsigned (skip_hash_if_fresh (masked_after (if t then in_text else in_line) ((if t then b else space) ∷ []) bytes))
+          Unsigned (skip_white_and_hash (masked_after (if t then in_text else in_line) ((if t then b else space) ∷ []) bytes))
       by_feed true e k = cc
       by_feed false e k = spaces in_line refl tt (later in_line _ tt k)
 
 -- what is shown of a line without a stop begins with no `#`, unless another name follows it
 pub unsigned : (bytes tail : List ℕ) (w : LexState) (c : Bool) → NotLiteral w → NoNewline bytes → HasNoStop (white_at w c) (bytes ++ tail) →
-    is_other_word tail ≡ false → NoWord tail → Unsigned (skip_hash_if_fresh (masked_after w (pending w) bytes))
+    is_other_word tail ≡ false → NoWord tail → Unsigned (skip_white_and_hash (masked_after w (pending w) bytes))
 unsigned [] tail in_text c l o h f n = no_sign
 unsigned [] tail at_slash c l o h f n = no_sign
 unsigned [] tail in_block c l o h f n = no_sign

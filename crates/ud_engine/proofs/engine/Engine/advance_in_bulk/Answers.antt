@@ -1,6 +1,8 @@
 use Rattle.std.proofs.Common.{rules, refl, sym, ap, subst, ◌++◌, ◌+◌, drop, arith}
 use Rattle.ud_engine.specs.Advancing.{Advances, IsCursor, slice_between}
 use Rattle.ud_engine.specs.Feeding.{EngineState, EngineRepresentsBuffered}
+use Rattle.ud_faults.specs.declared.run.RunFault.TheVariants.{Write}
+use Rattle.ud_engine.proofs.ErrLemmas.{err_is}
 use Rattle.ud_engine.proofs.StepLemmas.{run_refused_by}
 use Rattle.ud_engine.proofs.CursorLemmas.{place_after, passed_kept, passed_dropped}
 use Rattle.ud_engine.proofs.engine.Engine.advance_in_bulk.Goals as goal
@@ -32,12 +34,13 @@ returns-then-skipped-clause-taken g c = λ o pieces text printed old.
     (place.ready c.requires.some) c.skip_text-skipped.ensures.bound c.skip_text-skipped.ensures.ends refl c.skip_text-skipped.ensures.consumed (c.skip_text-skipped.ensures.represents text h.took)
     (c.skip_text-skipped.ensures.printed o pieces h.items h.tree h.has) out out c.args.cursor.pending_start c.requires.cursor.from c.if-skipped.true refl)
 
-pub returns-then-not-append-clause-stops : goal.returns-then-not-append-clause-stops
-returns-then-not-append-clause-stops g c = λ o pieces text printed old.
+pub returns-in_err-append-clause-stops : goal.returns-in_err-append-clause-stops
+returns-in_err-append-clause-stops g c = λ o pieces text printed old.
     let h = subst (λ (e : EngineState g.row.S.Denot). EngineRepresentsBuffered g.S.Show.represents g.S.Show.piece e o pieces text printed) (sym c.self.view_is) old in
-    run_refused_by g.S.Show.represents g.S.Show.piece o pieces _ text printed h (g.W.Write.contents c.args.out.now.inner) (g.W.Write.contents c.append.new.out.inner)
+    err_is _ c.from_residual.result Write c.from_residual.ensures.1
+    (run_refused_by g.S.Show.represents g.S.Show.piece o pieces _ text printed h (g.W.Write.contents c.args.out.now.inner) (g.W.Write.contents c.append.new.out.inner)
     c.args.self.now.buffered (slice_between c.args.chunk.now c.args.cursor.pending_start c.args.cursor.pos) (drop c.args.cursor.pos c.args.chunk.now)
-    (ap (λ (e : EngineState g.row.S.Denot). e.buffered) c.self.view_is) c.if-not-append.ensures.appends
+    (ap (λ (e : EngineState g.row.S.Denot). e.buffered) c.self.view_is) c.in_err-append.ensures.appends)
 
 pub returns-clause-taken : goal.returns-clause-taken
 returns-clause-taken g c = λ o pieces text printed old.
@@ -52,4 +55,4 @@ returns-clause-taken g c = λ o pieces text printed old.
     (c.append.new.self ++ slice_between c.args.chunk.now (c.args.cursor.pos + c.skip_text-skipped.result.count) (c.args.cursor.pos + c.skip_text-skipped.result.count))) c.self.view_is
     (passed_dropped g.S.Show.represents g.S.Show.piece o pieces _ f text printed h c.args.chunk.now c.args.cursor.pos c.args.cursor.whole_end c.skip_text-skipped.result
     (place.ready c.requires.some) c.skip_text-skipped.ensures.bound c.skip_text-skipped.ensures.ends refl c.skip_text-skipped.ensures.consumed (c.skip_text-skipped.ensures.represents text h.took)
-    (c.skip_text-skipped.ensures.printed o pieces h.items h.tree h.has) out now c.args.cursor.pending_start c.requires.cursor.from (search rules) c.if-not-append.ensures.appends)
+    (c.skip_text-skipped.ensures.printed o pieces h.items h.tree h.has) out now c.args.cursor.pending_start c.requires.cursor.from (search rules) c.in_ok-append.ensures.appends)

@@ -1,5 +1,5 @@
 use Rattle.std.proofs.Common.{rules, sym, subst}
-use Rattle.ud_sections.specs.sections.MachineState.{fault_of}
+use Rattle.ud_faults.specs.Faults.{fault_of}
 use Rattle.ud_engine.specs.Feeding.{EngineState, EngineRepresents}
 use Rattle.ud_engine.proofs.EndLemmas.{rests, ends_at, ends_well}
 use Rattle.ud_engine.proofs.engine.Engine.finish_in_place.Goals as goal

@@ -1,6 +1,8 @@
 use Rattle.std.proofs.Common.{rules, refl, sym, subst, ◌∙◌, ◌++◌, ℕ, [], take, arith}
 use Rattle.ud_engine.specs.Advancing.{Advances, IsCursor, slice_between}
 use Rattle.ud_engine.specs.Feeding.{EngineState}
+use Rattle.ud_faults.specs.declared.run.RunFault.TheVariants.{Write}
+use Rattle.ud_engine.proofs.ErrLemmas.{err_is}
 use Rattle.ud_engine.proofs.FeedLemmas.{feed_begins, feed_goes_on, feed_fails, feed_ends, feed_falls_short}
 use Rattle.ud_engine.proofs.engine.Engine.process_chunk.Goals as goal
 
@@ -41,18 +43,19 @@ returns-in-Err-clause-fails g c = λ o pieces text printed h.
     c.in-Err.fault c.flush_and_fail.result
     (c.in-Err.ensures.stops o pieces (text ++ take c.loop-cursor.cursor.pos c.args.chunk.now) (printed ++ k.more) k.taken) c.in-Err.ensures.output_unchanged c.flush_and_fail.ensures.written
 
-pub returns-then-flush_pending-clause-represents : goal.returns-then-flush_pending-clause-represents
-returns-then-flush_pending-clause-represents g c = λ o pieces text printed h.
+pub returns-clause-represents : goal.returns-clause-represents
+returns-clause-represents g c = λ o pieces text printed h.
     let k = c.loop-cursor.invariant.taken o pieces text printed h in
-    let rest = c.flush_pending.ensures.rest in
+    let rest = c.in_ok-flush_pending.ensures.rest in
     feed_ends g.S.Show.represents g.S.Show.piece o pieces text printed c.loop-cursor.self
     (g.W.Write.contents c.args.out.now.inner) (g.W.Write.contents c.loop-cursor.out.inner) c.args.chunk.now c.loop-cursor.cursor.pos _ k
-    c.flush_pending.new.self (g.W.Write.contents c.flush_pending.new.out.inner) rest.0 rest.1 (rest.2 (search rules)) (c.loop-cursor.invariant.fault ∙ h.works) (search rules)
-    c.if-flush_pending.ensures.appends
+    c.flush_pending.new.self (g.W.Write.contents c.flush_pending.new.out.inner) rest.0 rest.1 rest.2 (c.loop-cursor.invariant.fault ∙ h.works) (search rules)
+    c.in_ok-flush_pending.ensures.appends
 
-pub returns-else-flush_pending-clause-fails : goal.returns-else-flush_pending-clause-fails
-returns-else-flush_pending-clause-fails g c = λ o pieces text printed h.
+pub returns-in_err-flush_pending-clause-fails : goal.returns-in_err-flush_pending-clause-fails
+returns-in_err-flush_pending-clause-fails g c = λ o pieces text printed h.
     let k = c.loop-cursor.invariant.taken o pieces text printed h in
-    feed_falls_short g.S.Show.represents g.S.Show.piece o pieces text printed c.loop-cursor.self
+    err_is _ c.from_residual.result Write c.from_residual.ensures.1
+    (feed_falls_short g.S.Show.represents g.S.Show.piece o pieces text printed c.loop-cursor.self
     (g.W.Write.contents c.args.out.now.inner) (g.W.Write.contents c.loop-cursor.out.inner) c.args.chunk.now c.loop-cursor.cursor.pos _ k
-    (g.W.Write.contents c.flush_pending.new.out.inner) c.flush_pending.new.out.failed (search rules) c.if-flush_pending.ensures.appends
+    (g.W.Write.contents c.flush_pending.new.out.inner) c.flush_pending.new.out.failed (search rules) c.in_err-flush_pending.ensures.appends)

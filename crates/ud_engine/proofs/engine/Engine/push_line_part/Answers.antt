@@ -2,10 +2,12 @@ use Rattle.std.proofs.Common.{rules, refl, sym, ap, subst, suc, Option, IfNone, 
 use Rattle.ud_cond.specs.symbols.SymbolTable.{TableRepresents}
 use Rattle.ud_model.specs.text.Lines.{Line, NoNewline, IsWhole}
 use Rattle.ud_text.specs.lines.LinesState.{LinesState, BreaksLimit}
-use Rattle.ud_text.specs.LineViews.{as_line}
-use Rattle.ud_text.specs.declared.lines.fault.TextFault.{TextFault}
+use Rattle.ud_model.specs.text.LineViews.{as_line}
+use Rattle.ud_faults.specs.declared.text.TextFault.{TextFault}
 use Rattle.ud_text.proofs.lemmas.lines.NewlineLemmas.{up_to_newline-some, whole_newlineless}
 use Rattle.ud_engine.specs.Feeding.{EngineState, EngineRepresentsBuffered}
+use Rattle.ud_faults.specs.declared.run.RunFault.TheVariants.{Write}
+use Rattle.ud_engine.proofs.ErrLemmas.{err_is}
 use Rattle.ud_engine.proofs.LinePartLemmas.{limit_stops}
 use Rattle.ud_engine.proofs.StepLemmas.{held_whole, is_within, still_open, open_step, line_step, line_refused, run_refused_by}
 use Rattle.ud_engine.proofs.engine.Engine.push_line_part.Goals as goal
@@ -21,16 +23,17 @@ invariant_of-self-then-not-taken g c =
     still_open c.self.inside.lines c.take.new.self c.args.rest.now c.in-Ok.taken.used c.in-Ok.taken.whole (search rules) c.self.invariant c.in-Ok.ensures.used c.in-Ok.ensures.value
     (c.in-Ok.ensures.limits (up_to_newline-some c.args.rest.now c.in-Ok.taken.used c.in-Ok.taken.whole c.in-Ok.ensures.used c.requires.some)).0
 
-pub invariant_of-self-then-not-append : goal.invariant_of-self-then-not-append
-invariant_of-self-then-not-append g c =
+pub invariant_of-self-in_err-append : goal.invariant_of-self-in_err-append
+invariant_of-self-in_err-append g c =
     still_open c.self.inside.lines c.take.new.self c.args.rest.now c.in-Ok.taken.used c.in-Ok.taken.whole (search rules) c.self.invariant c.in-Ok.ensures.used c.in-Ok.ensures.value
     (c.in-Ok.ensures.limits (up_to_newline-some c.args.rest.now c.in-Ok.taken.used c.in-Ok.taken.whole c.in-Ok.ensures.used c.requires.some)).0
 
-pub returns-then-not-append-clause-stops : goal.returns-then-not-append-clause-stops
-returns-then-not-append-clause-stops g c = λ o pieces text printed old.
+pub returns-in_err-append-clause-stops : goal.returns-in_err-append-clause-stops
+returns-in_err-append-clause-stops g c = λ o pieces text printed old.
     let h = subst (λ (e : EngineState g.row.S.Denot). EngineRepresentsBuffered g.S.Show.represents g.S.Show.piece e o pieces text printed) (sym c.self.view_is) old in
-    run_refused_by g.S.Show.represents g.S.Show.piece o pieces _ text printed h (g.W.Write.contents c.args.out.now.inner) (g.W.Write.contents c.append.new.out.inner)
-    c.args.self.now.buffered c.args.pending.now c.args.rest.now (ap (λ (e : EngineState g.row.S.Denot). e.buffered) c.self.view_is) c.if-not-append.ensures.appends
+    err_is _ c.from_residual.result Write c.from_residual.ensures.1
+    (run_refused_by g.S.Show.represents g.S.Show.piece o pieces _ text printed h (g.W.Write.contents c.args.out.now.inner) (g.W.Write.contents c.append.new.out.inner)
+    c.args.self.now.buffered c.args.pending.now c.args.rest.now (ap (λ (e : EngineState g.row.S.Denot). e.buffered) c.self.view_is) c.in_err-append.ensures.appends)
 
 pub returns-then-not-taken-clause-taken : goal.returns-then-not-taken-clause-taken
 returns-then-not-taken-clause-taken g c = λ o pieces text printed old.
@@ -38,7 +41,7 @@ returns-then-not-taken-clause-taken g c = λ o pieces text printed old.
     open_step g.S.Show.represents g.S.Show.piece o pieces _ text printed h (g.W.Write.contents c.args.out.now.inner) (g.W.Write.contents c.append.new.out.inner)
     c.args.self.now.buffered c.args.pending.now c.args.rest.now (ap (λ (e : EngineState g.row.S.Denot). e.buffered) c.self.view_is)
     _ c.in-Ok.taken.used c.in-Ok.taken.whole (search rules) c.in-Ok.ensures.used refl refl c.in-Ok.ensures.value (c.in-Ok.ensures.represents text h.took) c.in-Ok.ensures.no_fault
-    (c.in-Ok.ensures.limits (up_to_newline-some c.args.rest.now c.in-Ok.taken.used c.in-Ok.taken.whole c.in-Ok.ensures.used c.requires.some)) c.if-not-append.ensures.appends
+    (c.in-Ok.ensures.limits (up_to_newline-some c.args.rest.now c.in-Ok.taken.used c.in-Ok.taken.whole c.in-Ok.ensures.used c.requires.some)) c.in_ok-append.ensures.appends
 
 pub put_line-printed-requires-clause-within : goal.put_line-printed-requires-clause-within
 put_line-printed-requires-clause-within g c =

@@ -8,7 +8,7 @@ pub returns : goal.returns
 returns g c = λ o piece e represents stays. record {
   has = c.new.ensures o e;
   lister = c.lister_of.ensures ∙ ap (λ (s : Settings). lister_of s.listing) (sym e);
-  shown = λ off. represents;
+  shown = represents;
   stays = stays;
   differs = none_differ o.settings.listing piece;
 }

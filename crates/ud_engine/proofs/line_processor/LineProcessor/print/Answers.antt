@@ -1,21 +1,24 @@
 use Rattle.std.proofs.Common.{refl, rules}
-use Rattle.ud_text.specs.LineViews.{as_line}
+use Rattle.ud_model.specs.text.LineViews.{as_line}
 use Rattle.ud_model.specs.answer.Printing.{judged_lines}
 use Rattle.ud_model.specs.sections.Pruning.{marks}
+use Rattle.ud_faults.specs.declared.run.RunFault.TheVariants.{Write}
+use Rattle.ud_engine.proofs.ErrLemmas.{err_is}
 use Rattle.ud_engine.proofs.ProcessorLemmas.{show_fails, shows_line}
 use Rattle.ud_engine.proofs.line_processor.LineProcessor.print.Goals as goal
 
-pub returns-in-None-append_line-clause-err : goal.returns-in-None-append_line-clause-err
-returns-in-None-append_line-clause-err g c = λ o piece xs t represents h.
-    let one = c.in-Ok-decide.ensures.ok o xs t represents h.has in
-    show_fails g.S.Show.represents g.S.Show.piece o piece xs t (as_line c.args.line.now) c.args.self.now c.decide.new.self c.in-Ok-decide.step
+pub returns-in_err-shown-in-Ok-clause-err : goal.returns-in_err-shown-in-Ok-clause-err
+returns-in_err-shown-in-Ok-clause-err g c = λ o piece xs t represents h.
+    let one = c.in-Ok.ensures.ok o xs t represents h.has in
+    err_is _ c.from_residual-in_err-shown-in-Ok.result Write c.from_residual-in_err-shown-in-Ok.ensures.1
+    (show_fails g.S.Show.represents g.S.Show.piece o piece xs t (as_line c.args.line.now) c.args.self.now c.decide.new.self c.in-Ok.step
     (g.W.Write.contents c.args.out.now.inner) (g.W.Write.contents c.append_line.new.out.inner) c.args.output.now c.args.pending.now h
-    (search rules) one (c.in-None-append_line.ensures.none (judged_lines xs (marks t)))
+    (search rules) one (c.in_err-shown-in-Ok.ensures.failed_prefix (judged_lines xs (marks t))))
 
-pub returns-in-Some-append_line-clause-ok : goal.returns-in-Some-append_line-clause-ok
-returns-in-Some-append_line-clause-ok g c = λ o piece xs t represents h.
-    let one = c.in-Ok-decide.ensures.ok o xs t represents h.has in
-    shows_line g.S.Show.represents g.S.Show.piece o piece xs t (as_line c.args.line.now) c.args.self.now _ c.in-Ok-decide.step c.in-Some-append_line.shown
+pub returns-in_ok-shown-in-Ok-clause-ok : goal.returns-in_ok-shown-in-Ok-clause-ok
+returns-in_ok-shown-in-Ok-clause-ok g c = λ o piece xs t represents h.
+    let one = c.in-Ok.ensures.ok o xs t represents h.has in
+    shows_line g.S.Show.represents g.S.Show.piece o piece xs t (as_line c.args.line.now) c.args.self.now _ c.in-Ok.step c.in_ok-shown-in-Ok.shown
     (g.W.Write.contents c.args.out.now.inner) (g.W.Write.contents c.append_line.new.out.inner) c.args.output.now c.append_line.new.output c.args.pending.now h
-    (search rules) refl refl one c.in-Some-append_line.ensures.represents c.in-Some-append_line.ensures.stays
-    (c.in-Some-append_line.ensures.some (judged_lines xs (marks t)))
+    (search rules) refl refl one c.in_ok-shown-in-Ok.ensures.represents c.in_ok-shown-in-Ok.ensures.stays
+    (c.in_ok-shown-in-Ok.ensures.shown (judged_lines xs (marks t)))

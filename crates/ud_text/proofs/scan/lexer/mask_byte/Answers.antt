@@ -1,7 +1,7 @@
 -- One more byte, and a space in place of the slash before it if the byte begins a comment.
 use Rattle.std.proofs.Common.{sym, ◌∙◌, ap, true, false, ℕ, ◌++◌, ◌∷◌, []}
 use Rattle.arrayvec.specs.ArrayVec.{ArrayVec}
-use Rattle.ud_text.specs.LineViews.{lex_state_of}
+use Rattle.ud_text.specs.scan.LexerViews.{lex_state_of}
 use Rattle.ud_text.proofs.lemmas.scan.MaskLemmas.{one_more}
 use Rattle.ud_text.proofs.scan.lexer.mask_byte.Goals as goal
 use Rattle.ud_text.proofs.scan.lexer.mask_byte.Goals.{then-opens_comment, else-opens_comment}

@@ -1,7 +1,7 @@
 -- The content before `at` is shown.
 use Rattle.std.proofs.Common.{◌≡◌, ◌≤◌, ◌-◌, ℕ, List, ◌++◌, length, take}
 use Rattle.ud_model.specs.aids.LexStates.{LexesTo, Masks}
-use Rattle.ud_text.specs.LineViews.{lex_state_of}
+use Rattle.ud_text.specs.scan.LexerViews.{lex_state_of}
 use Rattle.ud_text.proofs.scan.lexer.mask_content.Given as goal
 
 abbrev pub invariant-loop-at : goal.invariant-loop-at

@@ -1,7 +1,7 @@
 -- Content without a mark is shown unchanged.
 use Rattle.std.proofs.Common.{◌≡◌, ◌∙◌, sym, ap, ◌&&◌}
 use Rattle.ud_model.specs.text.Bytes.{are_white}
-use Rattle.ud_text.specs.LineViews.{lex_state_of}
+use Rattle.ud_text.specs.scan.LexerViews.{lex_state_of}
 use Rattle.ud_text.proofs.lemmas.scan.MaskLemmas.{and_at_true, and_at_false, plain_run}
 use Rattle.ud_text.proofs.scan.lexer.mask_or_borrow.Goals as goal
 use Rattle.ud_text.proofs.scan.lexer.mask_or_borrow.Goals.{then-are_white, else-are_white}

@@ -1,6 +1,6 @@
 -- Runs of bytes that leave the state unchanged.
 use Rattle.std.proofs.Common.{sym, ◌∙◌, ap}
-use Rattle.ud_text.specs.LineViews.{lex_state_of}
+use Rattle.ud_text.specs.scan.LexerViews.{lex_state_of}
 use Rattle.ud_text.proofs.lemmas.scan.MaskLemmas.{and_at_true, and_at_false, text_run, block_run, line_run}
 use Rattle.ud_text.proofs.scan.lexer.mask_uniform.Goals as goal
 

@@ -2,7 +2,7 @@
 use Rattle.std.proofs.Common.{take, refl}
 use Rattle.ud_model.specs.declared.kind.Mode.TheVariants.{C}
 use Rattle.ud_text.specs.scan.ScannerState.{scanner_state_of}
-use Rattle.ud_text.specs.LineViews.{lex_state_of}
+use Rattle.ud_text.specs.scan.LexerViews.{lex_state_of}
 use Rattle.ud_text.proofs.lemmas.bulk.BulkPlainLemmas.{begins_ends}
 use Rattle.ud_text.proofs.lemmas.bulk.QuietLineLemmas.{passes_none, passes_run}
 use Rattle.ud_text.specs.bulk.BulkLexemes.{at_start}

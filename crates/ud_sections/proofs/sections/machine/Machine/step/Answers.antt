@@ -1,6 +1,6 @@
 use Rattle.std.proofs.Common.{◌∙◌, ap, sym, refl}
 use Rattle.ud_model.specs.sections.Pruning.{is_removed}
-use Rattle.ud_text.specs.LineViews.{as_line, as_scan}
+use Rattle.ud_model.specs.text.LineViews.{as_line, as_scan}
 use Rattle.ud_sections.proofs.lemmas.sections.TransitionLemmas.{turns_well, turns_ill, text_turn}
 use Rattle.ud_sections.proofs.lemmas.sections.MachineLemmas.{reads_line}
 use Rattle.ud_sections.proofs.sections.machine.Machine.step.Goals as goal

@@ -1,0 +1,31 @@
+-- Faults: the faults of the program, as the definitions have them.
+--
+--   limit_of f   the fault of the definitions for a limit that the text exceeds
+--   fault_of f   the fault of the definitions for a fault of the sections
+use Rattle.ud_model.specs.sections.Faults.{Fault, too_many_lines, line_too_long}
+use Rattle.ud_model.specs.sections.Faults.{inappropriate_elif, inappropriate_else}
+use Rattle.ud_model.specs.sections.Faults.{inappropriate_endif, too_many_levels, obfuscated}
+use Rattle.ud_model.specs.sections.Faults.{premature_eof, eof_in_comment}
+use Rattle.ud_faults.specs.declared.text.TextFault.{TextFault}
+use Rattle.ud_faults.specs.declared.text.TextFault.TheVariants.{TooManyLines, LineTooLong}
+use Rattle.ud_faults.specs.declared.sections.SectionFault.{SectionFault}
+use Rattle.ud_faults.specs.declared.sections.SectionFault.TheVariants.{InappropriateElif}
+use Rattle.ud_faults.specs.declared.sections.SectionFault.TheVariants.{InappropriateElse}
+use Rattle.ud_faults.specs.declared.sections.SectionFault.TheVariants.{InappropriateEndif}
+use Rattle.ud_faults.specs.declared.sections.SectionFault.TheVariants.{TooManyLevels, Obfuscated}
+use Rattle.ud_faults.specs.declared.sections.SectionFault.TheVariants.{PrematureEof, EofInComment}
+
+-- `limit_of f`: the fault of the definitions for a limit that the text exceeds.
+abbrev pub limit_of : TextFault → Fault
+limit_of (TooManyLines line) = too_many_lines line
+limit_of (LineTooLong line) = line_too_long line
+
+-- `fault_of f`: the fault of the definitions for a fault of the sections.
+abbrev pub fault_of : SectionFault → Fault
+fault_of (InappropriateElif n) = inappropriate_elif n
+fault_of (InappropriateElse n) = inappropriate_else n
+fault_of (InappropriateEndif n) = inappropriate_endif n
+fault_of (TooManyLevels n) = too_many_levels n
+fault_of (Obfuscated n) = obfuscated n
+fault_of (PrematureEof n if_line) = premature_eof n if_line
+fault_of (EofInComment n) = eof_in_comment n

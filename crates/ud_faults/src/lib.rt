@@ -1,0 +1,13 @@
+//! Why a run ends before the end of its text, as data. Lines are numbered from 1.
+//!
+//! `specs/Faults.antt` has each of them as a fault of the definitions (ud_model,
+//! `sections.Faults`). The messages for them are in ud_diagnostics.
+#![tactic(auto)]
+
+mod run;
+mod sections;
+mod text;
+
+pub use run::RunFault;
+pub use sections::SectionFault;
+pub use text::TextFault;

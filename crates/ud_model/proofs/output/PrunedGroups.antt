@@ -1,0 +1,369 @@
+-- The pruned tree is what the table leaves of each section and its groups.
+use Rattle.std.proofs.Common.{◌≡◌, List, [], ◌∷◌, ◌++◌, Bool, true, false, not, ◌&&◌, Some, None, if◌then◌else◌, refl, sym, ◌∙◌, ap, ap₂, subst, append_assoc, append-nil}
+use Rattle.std.specs.Prelude.{◌↔◌}
+use Rattle.ud_model.specs.declared.cond.Cond.{Cond}
+use Rattle.ud_model.specs.declared.cond.Cond.TheVariants.{Yes, No, Unknown}
+use Rattle.ud_model.specs.declared.verdict.Verdict.{Verdict}
+use Rattle.ud_model.specs.declared.verdict.Verdict.TheVariants.{Keep, Remove, ToElse, ToEndif}
+use Rattle.ud_model.specs.sections.Tree.{Item, Opener, Nodes, Groups, Elifs, text_line, if_line, elif_line, else_line, endif_line, nothing, text, section, conditional, otherwise, first, elif, lines_of_nodes, lines_of_groups, lines_of_elifs}
+use Rattle.ud_model.specs.sections.Pruning.{Part, an_if, an_elif, an_else, given_way, first_kept, next_after, further_on, up_to_true, is_false, is_kept, any_true, all_false, gives_way, ends_with_first_true, verdict_in_position, opener_verdict, first_kept_verdict, later_verdict, endif_verdict, conds_of_elifs, conds_of_groups}
+use Rattle.ud_model.specs.output.Pruned.{Edited, edited, edited_opener, kept_line, IsPruned, Group, group, groups_of_elifs, groups_of, is_kept_group, left_of, others_left, IsEndif, ArePruned, no_nodes, text_stays, gives_way_to, section_stays, AreOfFirst, no_group, of_later, of_this, AreKept, no_groups, without, with_this}
+use Rattle.ud_model.proofs.sections.Stages.{Stage, leading, given, going, at_true, past, stage, stage_inside, kept_at, endif_at, kept_by_stage, endif_by_stage}
+use Rattle.ud_model.proofs.output.Each.{Each, each_both}
+use Rattle.ud_model.proofs.output.Folded.{KeptGroups, none_kept, replaced, kept_groups, ended, with_group, with_else, then_kept, folded, kept_groups_of, kept_elifs_of}
+use Rattle.ud_model.proofs.output.PrintedPruned.{stage_of, lines_then, elifs_printed, groups_printed}
+use Rattle.ud_model.proofs.output.PrunedTree.{folded_is, is_folded}
+
+-- The flags of the conditions so far, by the stage.
+not_leading : (cs : List Cond) → stage_inside cs ≡ leading → ⊥
+not_leading [] e = cc
+not_leading (Yes ∷ []) e = cc
+not_leading (Yes ∷ c ∷ cs) e = cc
+not_leading (No ∷ cs) e = not_leading cs e
+not_leading (Unknown ∷ cs) e = not_leading cs e
+
+leading_flags : (cs : List Cond) → stage cs ≡ leading → (all_false cs ≡ true) × (any_true cs ≡ false)
+leading_flags [] e = (refl, refl)
+leading_flags (Yes ∷ cs) e = cc
+leading_flags (No ∷ cs) e = leading_flags cs e
+leading_flags (Unknown ∷ cs) e = absurd (not_leading cs e)
+
+inside_untrue : (cs : List Cond) → stage_inside cs ≡ going → any_true cs ≡ false
+inside_untrue [] e = refl
+inside_untrue (Yes ∷ []) e = cc
+inside_untrue (Yes ∷ c ∷ cs) e = cc
+inside_untrue (No ∷ cs) e = inside_untrue cs e
+inside_untrue (Unknown ∷ cs) e = inside_untrue cs e
+
+going_flags : (cs : List Cond) → stage cs ≡ going → (all_false cs ≡ false) × (any_true cs ≡ false)
+going_flags [] e = cc
+going_flags (Yes ∷ cs) e = cc
+going_flags (No ∷ cs) e = going_flags cs e
+going_flags (Unknown ∷ cs) e = (refl, inside_untrue cs e)
+
+inside_true : (cs : List Cond) → stage_inside cs ≡ at_true → (any_true cs ≡ true) × (ends_with_first_true cs ≡ true)
+inside_true [] e = cc
+inside_true (Yes ∷ []) e = (refl, refl)
+inside_true (Yes ∷ c ∷ cs) e = cc
+inside_true (No ∷ cs) e = inside_true cs e
+inside_true (Unknown ∷ cs) e = inside_true cs e
+
+true_flags : (cs : List Cond) → stage cs ≡ at_true → (all_false cs ≡ false) × (any_true cs ≡ true) × (ends_with_first_true cs ≡ true)
+true_flags [] e = cc
+true_flags (Yes ∷ cs) e = cc
+true_flags (No ∷ cs) e = true_flags cs e
+true_flags (Unknown ∷ cs) e = let r : (any_true cs ≡ true) × (ends_with_first_true cs ≡ true) = inside_true cs e in (refl, r.0, r.1)
+
+inside_past : (cs : List Cond) → stage_inside cs ≡ past → (any_true cs ≡ true) × (ends_with_first_true cs ≡ false)
+inside_past [] e = cc
+inside_past (Yes ∷ []) e = cc
+inside_past (Yes ∷ c ∷ cs) e = (refl, refl)
+inside_past (No ∷ cs) e = inside_past cs e
+inside_past (Unknown ∷ cs) e = inside_past cs e
+
+past_flags : (cs : List Cond) → stage cs ≡ past → (all_false cs ≡ false) × (any_true cs ≡ true) × (ends_with_first_true cs ≡ false)
+past_flags [] e = cc
+past_flags (Yes ∷ cs) e = cc
+past_flags (No ∷ cs) e = past_flags cs e
+past_flags (Unknown ∷ cs) e = let r : (any_true cs ≡ true) × (ends_with_first_true cs ≡ false) = inside_past cs e in (refl, r.0, r.1)
+
+-- A section at this stage gives way.
+abbrev way_at : Stage → Bool
+way_at leading = true
+way_at given = true
+way_at going = false
+way_at at_true = false
+way_at past = false
+
+inside_way : (cs : List Cond) → false ≡ way_at (stage_inside cs)
+inside_way [] = refl
+inside_way (Yes ∷ []) = refl
+inside_way (Yes ∷ c ∷ cs) = refl
+inside_way (No ∷ cs) = inside_way cs
+inside_way (Unknown ∷ cs) = inside_way cs
+
+way_by_stage : (cs : List Cond) → gives_way cs ≡ way_at (stage cs)
+way_by_stage [] = refl
+way_by_stage (Yes ∷ cs) = refl
+way_by_stage (No ∷ cs) = way_by_stage cs
+way_by_stage (Unknown ∷ cs) = inside_way cs
+
+-- The verdict of an opener, by the flags.
+abbrev by_flags : Bool → Bool → Bool → Bool → Part → Cond → Verdict
+by_flags way none some last part c =
+    verdict_in_position
+    (if way then given_way
+    else if none && not (is_false c) then first_kept
+    else if not some then up_to_true c
+    else if last then next_after
+    else further_on)
+    part
+
+module _ (all cs : List Cond) (stays : gives_way all ≡ false) where
+  leading_verdict : stage cs ≡ leading → (part : Part) → opener_verdict all cs part Unknown ≡ first_kept_verdict part
+  leading_verdict e part =
+      ap₂ (λ (w n : Bool). by_flags w n (any_true cs) (ends_with_first_true cs) part Unknown) stays (leading_flags cs e).0
+
+  false_verdict : stage cs ≡ leading → (part : Part) → opener_verdict all cs part No ≡ Remove
+  false_verdict e part =
+      ap₂ (λ (w n : Bool). by_flags w n (any_true cs) (ends_with_first_true cs) part No) stays (leading_flags cs e).0
+      ∙ ap (λ (s : Bool). by_flags false true s (ends_with_first_true cs) part No) (leading_flags cs e).1
+
+  past_verdict : stage cs ≡ past → (part : Part) (c : Cond) → opener_verdict all cs part c ≡ Remove
+  past_verdict e part c =
+      let f : (all_false cs ≡ false) × (any_true cs ≡ true) × (ends_with_first_true cs ≡ false) = past_flags cs e in
+      ap₂ (λ (w n : Bool). by_flags w n (any_true cs) (ends_with_first_true cs) part c) stays f.0
+      ∙ ap₂ (λ (s l : Bool). by_flags false false s l part c) f.1 f.2
+
+  going_verdict : stage cs ≡ going → (part : Part) (c : Cond) → opener_verdict all cs part c ≡ later_verdict part c
+  going_verdict e part c =
+      let f : (all_false cs ≡ false) × (any_true cs ≡ false) = going_flags cs e in
+      ap₂ (λ (w n : Bool). by_flags w n (any_true cs) (ends_with_first_true cs) part c) stays f.0
+      ∙ ap (λ (s : Bool). by_flags false false s (ends_with_first_true cs) part c) f.1
+
+  true_verdict : stage cs ≡ at_true → (part : Part) (c : Cond) → opener_verdict all cs part c ≡ ToEndif
+  true_verdict e part c =
+      let f : (all_false cs ≡ false) × (any_true cs ≡ true) × (ends_with_first_true cs ≡ true) = true_flags cs e in
+      ap₂ (λ (w n : Bool). by_flags w n (any_true cs) (ends_with_first_true cs) part c) stays f.0
+      ∙ ap₂ (λ (s l : Bool). by_flags false false s l part c) f.1 f.2
+
+kept_on : (cs : List Cond) (c : Cond) (s : Stage) → stage cs ≡ s → is_kept cs c ≡ kept_at s c
+kept_on cs c s e = kept_by_stage cs c ∙ ap (λ (t : Stage). kept_at t c) e
+
+way_on : (cs : List Cond) (s : Stage) → stage cs ≡ s → gives_way cs ≡ way_at s
+way_on cs s e = way_by_stage cs ∙ ap way_at e
+
+endif_on : (cs : List Cond) (s : Stage) → stage cs ≡ s → endif_verdict cs ≡ endif_at s
+endif_on cs s e = endif_by_stage cs ∙ ap endif_at e
+
+module _ {L : Type 0} where
+  -- The group isn't kept.
+  abbrev Gone : Group L → Type 0
+  Gone g = is_kept_group g ≡ false
+
+  none_of_first : (gs : List (Group L)) → Each Gone gs → AreOfFirst gs nothing
+  none_of_first [] h = no_group
+  none_of_first (g ∷ gs) h = of_later h.0 (none_of_first gs h.1)
+
+  none_then : (gs later : List (Group L)) (ps : Nodes (Edited L)) → Each Gone gs → AreOfFirst later ps → AreOfFirst (gs ++ later) ps
+  none_then [] later ps h f = f
+  none_then (g ∷ gs) later ps h f = of_later h.0 (none_then gs later ps h.1 f)
+
+  first_stays : {gs : List (Group L)} {ps : Nodes (Edited L)} (later : List (Group L)) → AreOfFirst gs ps → Each Gone later → AreOfFirst (gs ++ later) ps
+  first_stays later no_group h = none_of_first later h
+  first_stays later (of_later e f) h = of_later e (first_stays later f h)
+  first_stays later (of_this e p) h = of_this e p
+
+  none_are : (all : List Cond) (gs : List (Group L)) → Each Gone gs → AreKept all gs []
+  none_are all [] h = no_groups
+  none_are all (g ∷ gs) h = without h.0 (none_are all gs h.1)
+
+  kept_both : {all : List Cond} {gs : List (Group L)} {hs : List (Group (Edited L))} (later : List (Group L)) (more : List (Group (Edited L))) → AreKept all gs hs → AreKept all later more →
+      AreKept all (gs ++ later) (hs ++ more)
+  kept_both later more no_groups b = b
+  kept_both later more (without e a) b = without e (kept_both later more a b)
+  kept_both later more (with_this e o p a) b = with_this e o p (kept_both later more a b)
+
+  kept_longer : {all : List Cond} {gs : List (Group L)} {hs : List (Group (Edited L))} (later : List (Group L)) → AreKept all gs hs → Each Gone later → AreKept all (gs ++ later) hs
+  kept_longer {all} later no_groups h = none_are all later h
+  kept_longer later (without e a) h = without e (kept_longer later a h)
+  kept_longer later (with_this e o p a) h = with_this e o p (kept_longer later a h)
+
+  -- The openers that are left of the groups that aren't kept, with a group more.
+  others_both : (all : List Cond) (gs more : List (Group L)) → others_left all (gs ++ more) ≡ others_left all gs ++ others_left all more
+  others_both all [] more = refl
+  others_both all (g ∷ gs) more =
+      ap (λ (l : List (Item (Edited L))). (if is_kept_group g then [] else left_of all g) ++ l) (others_both all gs more)
+      ∙ sym (append_assoc (if is_kept_group g then [] else left_of all g) (others_left all gs) (others_left all more))
+
+  other_kept : (all : List Cond) (g : Group L) → is_kept_group g ≡ true → others_left all (g ∷ []) ≡ []
+  other_kept all g e = ap (λ (b : Bool). (if b then [] else left_of all g) ++ []) e
+
+  other_gone : (all : List Cond) (g : Group L) (l : List (Item (Edited L))) → is_kept_group g ≡ false → left_of all g ≡ l → others_left all (g ∷ []) ≡ l
+  other_gone all g l e f = ap (λ (b : Bool). (if b then [] else left_of all g) ++ []) e ∙ append-nil (left_of all g) ∙ f
+
+  others_then : (all : List Cond) (gs : List (Group L)) (g : Group L) (l m : List (Item (Edited L))) → others_left all gs ≡ l → others_left all (g ∷ []) ≡ m → others_left all (gs ++ g ∷ []) ≡ l ++ m
+  others_then all gs g l m e f = others_both all gs (g ∷ []) ∙ ap₂ (λ (x y : List (Item (Edited L))). x ++ y) e f
+
+  -- These groups are kept, and this line is left of the openers of the others.
+  record Left (all : List Cond) (gs : List (Group L)) (hs : List (Group (Edited L))) (ends : List (Item (Edited L))) : Type 0 where
+    pub are : AreKept all gs hs
+    pub others : others_left all gs ≡ ends
+
+  -- The rest of a section's groups is what the table leaves of them.
+  abbrev Leaves : List (Group L) → KeptGroups L → Type 0
+  Leaves gs none_kept = Each Gone gs × ((all : List Cond) → gives_way all ≡ false → others_left all gs ≡ [])
+  Leaves gs (replaced ms) = AreOfFirst gs ms
+  Leaves gs (kept_groups es) = (all : List Cond) → gives_way all ≡ false → Left all gs (groups_of_elifs es) []
+  Leaves gs (ended es l ms None) = (all : List Cond) → gives_way all ≡ false → Left all gs (groups_of (otherwise es l ms)) []
+  Leaves gs (ended es l ms (Some k)) = (all : List Cond) → gives_way all ≡ false → Left all gs (groups_of (otherwise es l ms)) (endif_line k ∷ [])
+
+  -- One more group is kept.
+  one_kept : (all : List Cond) (gs : List (Group L)) (hs : List (Group (Edited L))) (g : Group L) (h : Group (Edited L)) → Left all gs hs [] → is_kept_group g ≡ true → left_of all g ≡ h.opener ∷ [] →
+      ArePruned g.nodes h.nodes → Left all (gs ++ g ∷ []) (hs ++ h ∷ []) []
+  one_kept all gs hs g h l e o p = record {
+    are = kept_both (g ∷ []) (h ∷ []) l.are (with_this e o p no_groups);
+    others = others_then all gs g [] [] l.others (other_kept all g e);
+  }
+
+  -- One more group isn't kept.
+  one_gone : (all : List Cond) (gs : List (Group L)) (hs : List (Group (Edited L))) (g : Group L) (ends m : List (Item (Edited L))) → Left all gs hs ends → is_kept_group g ≡ false → left_of all g ≡ m →
+      Left all (gs ++ g ∷ []) hs (ends ++ m)
+  one_gone all gs hs g ends m l e o = record {
+    are = kept_longer (g ∷ []) l.are (e, tt);
+    others = others_then all gs g ends m l.others (other_gone all g m e o);
+  }
+
+  start_leaves : (part : Part) (x : Item L) (o : Opener L) → kept_line (first_kept_verdict part) x ≡ if_line (edited_opener (first_kept_verdict part) o) ∷ [] →
+      (cs : List Cond) (gs : List (Group L)) → stage cs ≡ leading → Leaves gs none_kept → (c : Cond) (ns : Nodes L) (ps : Nodes (Edited L)) → ArePruned ns ps →
+      Leaves (gs ++ group part cs c x ns ∷ []) (with_group none_kept part o c ps)
+  start_leaves part x o e cs gs s h Yes ns ps p = none_then gs (group part cs Yes x ns ∷ []) ps h.0 (of_this (kept_on cs Yes leading s) p)
+  start_leaves part x o e cs gs s h No ns ps p = (
+    each_both Gone gs (group part cs No x ns ∷ []) h.0 (kept_on cs No leading s, tt),
+    λ all stays. others_then all gs (group part cs No x ns) [] [] (h.1 all stays)
+        (other_gone all (group part cs No x ns) [] (kept_on cs No leading s) (ap (λ (v : Verdict). kept_line v x) (false_verdict all cs stays s part))),
+  )
+  start_leaves part x o e cs gs s h Unknown ns ps p =
+      λ all stays. one_kept all gs [] (group part cs Unknown x ns) (group an_if [] o.cond (if_line (edited_opener (first_kept_verdict part) o)) ps)
+      (record { are = none_are all gs h.0; others = h.1 all stays })
+      (kept_on cs Unknown leading s) (ap (λ (v : Verdict). kept_line v x) (leading_verdict all cs stays s part) ∙ e) p
+
+  elif_leaves : (cs : List Cond) (gs : List (Group L)) (left : KeptGroups L) → stage cs ≡ stage_of left → Leaves gs left → (o : Opener L) (c : Cond) (ns : Nodes L) (ps : Nodes (Edited L)) →
+      ArePruned ns ps → Leaves (gs ++ group an_elif cs c (elif_line o) ns ∷ []) (with_group left an_elif o c ps)
+  elif_leaves cs gs none_kept s h o c ns ps p = start_leaves an_elif (elif_line o) o refl cs gs s h c ns ps p
+  elif_leaves cs gs (replaced ms) s h o c ns ps p = first_stays (group an_elif cs c (elif_line o) ns ∷ []) h (kept_on cs c given s, tt)
+  elif_leaves cs gs (kept_groups es) s h o Yes ns ps p =
+      λ all stays. one_kept all gs (groups_of_elifs es) (group an_elif cs Yes (elif_line o) ns) (group an_else (conds_of_elifs es) Yes (else_line (edited ToElse o.line)) ps) (h all stays)
+      (kept_on cs Yes going s) (ap (λ (v : Verdict). kept_line v (elif_line o)) (going_verdict all cs stays s an_elif Yes)) p
+  elif_leaves cs gs (kept_groups es) s h o No ns ps p =
+      λ all stays. one_gone all gs (groups_of_elifs es) (group an_elif cs No (elif_line o) ns) [] [] (h all stays)
+      (kept_on cs No going s) (ap (λ (v : Verdict). kept_line v (elif_line o)) (going_verdict all cs stays s an_elif No))
+  elif_leaves cs gs (kept_groups es) s h o Unknown ns ps p =
+      λ all stays. one_kept all gs (groups_of_elifs es) (group an_elif cs Unknown (elif_line o) ns) (group an_elif (conds_of_elifs es) o.cond (elif_line (edited_opener Keep o)) ps) (h all stays)
+      (kept_on cs Unknown going s) (ap (λ (v : Verdict). kept_line v (elif_line o)) (going_verdict all cs stays s an_elif Unknown)) p
+  elif_leaves cs gs (ended es l ms None) s h o c ns ps p =
+      λ all stays. one_gone all gs (groups_of (otherwise es l ms)) (group an_elif cs c (elif_line o) ns) [] (endif_line (edited ToEndif o.line) ∷ []) (h all stays)
+      (kept_on cs c at_true s) (ap (λ (v : Verdict). kept_line v (elif_line o)) (true_verdict all cs stays s an_elif c))
+  elif_leaves cs gs (ended es l ms (Some k)) s h o c ns ps p =
+      λ all stays. one_gone all gs (groups_of (otherwise es l ms)) (group an_elif cs c (elif_line o) ns) (endif_line k ∷ []) [] (h all stays)
+      (kept_on cs c past s) (ap (λ (v : Verdict). kept_line v (elif_line o)) (past_verdict all cs stays s an_elif c))
+
+  else_leaves : (cs : List Cond) (gs : List (Group L)) (left : KeptGroups L) → stage cs ≡ stage_of left → Leaves gs left → (l : L) (ns : Nodes L) (ps : Nodes (Edited L)) →
+      ArePruned ns ps → Leaves (gs ++ group an_else cs Yes (else_line l) ns ∷ []) (with_else left l ps)
+  else_leaves cs gs none_kept s h l ns ps p = none_then gs (group an_else cs Yes (else_line l) ns ∷ []) ps h.0 (of_this (kept_on cs Yes leading s) p)
+  else_leaves cs gs (replaced ms) s h l ns ps p = first_stays (group an_else cs Yes (else_line l) ns ∷ []) h (kept_on cs Yes given s, tt)
+  else_leaves cs gs (kept_groups es) s h l ns ps p =
+      λ all stays. one_kept all gs (groups_of_elifs es) (group an_else cs Yes (else_line l) ns) (group an_else (conds_of_elifs es) Yes (else_line (edited Keep l)) ps) (h all stays)
+      (kept_on cs Yes going s) (ap (λ (v : Verdict). kept_line v (else_line l)) (going_verdict all cs stays s an_else Yes)) p
+  else_leaves cs gs (ended es k ms None) s h l ns ps p =
+      λ all stays. one_gone all gs (groups_of (otherwise es k ms)) (group an_else cs Yes (else_line l) ns) [] (endif_line (edited ToEndif l) ∷ []) (h all stays)
+      (kept_on cs Yes at_true s) (ap (λ (v : Verdict). kept_line v (else_line l)) (true_verdict all cs stays s an_else Yes))
+  else_leaves cs gs (ended es k ms (Some j)) s h l ns ps p =
+      λ all stays. one_gone all gs (groups_of (otherwise es k ms)) (group an_else cs Yes (else_line l) ns) (endif_line j ∷ []) [] (h all stays)
+      (kept_on cs Yes past s) (ap (λ (v : Verdict). kept_line v (else_line l)) (past_verdict all cs stays s an_else Yes))
+
+  -- The section's `#endif`, by the stage at its end.
+  is_endif : (gs : Groups L) (e : L) (k : Edited L) (ends m : List (Item (Edited L))) (v : Verdict) → others_left (conds_of_groups gs) (groups_of gs) ≡ ends → endif_verdict (conds_of_groups gs) ≡ v →
+      kept_line v (endif_line e) ≡ m → ends ++ m ≡ endif_line k ∷ [] → IsEndif (conds_of_groups gs) (groups_of gs) e k
+  is_endif gs e k ends m v o f g h = ap₂ (λ (x y : List (Item (Edited L))). x ++ y) o (ap (λ (w : Verdict). kept_line w (endif_line e)) f ∙ g) ∙ h
+
+  section_pruned : (ns : Nodes L) (gs : Groups L) (e : L) (ps : Nodes (Edited L)) (left : KeptGroups L) → stage (conds_of_groups gs) ≡ stage_of left → Leaves (groups_of gs) left →
+      ArePruned ns ps → ArePruned (section ns gs e) (then_kept ps left e)
+  section_pruned ns gs e ps none_kept s h p = gives_way_to (way_on (conds_of_groups gs) leading s) p (none_of_first (groups_of gs) h.0)
+  section_pruned ns gs e ps (replaced ms) s h p = gives_way_to (way_on (conds_of_groups gs) given s) p h
+  section_pruned ns gs e ps (kept_groups es) s h p =
+      let stays : gives_way (conds_of_groups gs) ≡ false = way_on (conds_of_groups gs) going s in
+      let l : Left (conds_of_groups gs) (groups_of gs) (groups_of_elifs es) [] = h (conds_of_groups gs) stays in
+      section_stays stays p l.are (is_endif gs e (edited Keep e) [] (endif_line (edited Keep e) ∷ []) Keep l.others (endif_on (conds_of_groups gs) going s) refl refl)
+  section_pruned ns gs e ps (ended es l ms None) s h p =
+      let stays : gives_way (conds_of_groups gs) ≡ false = way_on (conds_of_groups gs) at_true s in
+      let f : Left (conds_of_groups gs) (groups_of gs) (groups_of (otherwise es l ms)) [] = h (conds_of_groups gs) stays in
+      section_stays stays p f.are (is_endif gs e (edited Keep e) [] (endif_line (edited Keep e) ∷ []) Keep f.others (endif_on (conds_of_groups gs) at_true s) refl refl)
+  section_pruned ns gs e ps (ended es l ms (Some k)) s h p =
+      let stays : gives_way (conds_of_groups gs) ≡ false = way_on (conds_of_groups gs) past s in
+      let f : Left (conds_of_groups gs) (groups_of gs) (groups_of (otherwise es l ms)) (endif_line k ∷ []) = h (conds_of_groups gs) stays in
+      section_stays stays p f.are (is_endif gs e k (endif_line k ∷ []) [] Remove f.others (endif_on (conds_of_groups gs) past s) refl refl)
+
+  mutual
+    folded_pruned : (ns : Nodes L) → ArePruned ns (folded ns)
+    folded_pruned nothing = no_nodes
+    folded_pruned (text ns l) = text_stays (folded_pruned ns)
+    folded_pruned (section ns gs e) =
+        section_pruned ns gs e (folded ns) (kept_groups_of gs) (groups_printed gs).represents (groups_leave gs) (folded_pruned ns)
+
+    groups_leave : (gs : Groups L) → Leaves (groups_of gs) (kept_groups_of gs)
+    groups_leave (conditional es) = elifs_leave es
+    groups_leave (otherwise es l ns) =
+        else_leaves (conds_of_elifs es) (groups_of_elifs es) (kept_elifs_of es) (elifs_printed es).represents (elifs_leave es) l ns (folded ns) (folded_pruned ns)
+
+    elifs_leave : (es : Elifs L) → Leaves (groups_of_elifs es) (kept_elifs_of es)
+    elifs_leave (first o ns) = start_leaves an_if (if_line o) o refl [] [] refl (tt, λ all stays. refl) o.cond ns (folded ns) (folded_pruned ns)
+    elifs_leave (elif es o ns) =
+        elif_leaves (conds_of_elifs es) (groups_of_elifs es) (kept_elifs_of es) (elifs_printed es).represents (elifs_leave es) o o.cond ns (folded ns) (folded_pruned ns)
+
+-- The lines of groups, in order.
+abbrev lines_in : {M : Type 0} → List (Group M) → List (Item M)
+lines_in [] = []
+lines_in (g ∷ gs) = (g.opener ∷ lines_of_nodes g.nodes) ++ lines_in gs
+
+not_both : (b : Bool) → b ≡ true → b ≡ false → ⊥
+not_both b e f = let g : true ≡ false = sym e ∙ f in cc
+
+module _ {M : Type 0} where
+  lines_last : (gs : List (Group M)) (g : Group M) → lines_in (gs ++ g ∷ []) ≡ (lines_in gs ++ g.opener ∷ []) ++ lines_of_nodes g.nodes
+  lines_last [] g = append-nil (g.opener ∷ lines_of_nodes g.nodes)
+  lines_last (h ∷ gs) g =
+      ap (λ (l : List (Item M)). (h.opener ∷ lines_of_nodes h.nodes) ++ l) (lines_last gs g)
+      ∙ sym (append_assoc (h.opener ∷ lines_of_nodes h.nodes) (lines_in gs ++ g.opener ∷ []) (lines_of_nodes g.nodes))
+      ∙ ap (λ (l : List (Item M)). l ++ lines_of_nodes g.nodes) (sym (append_assoc (h.opener ∷ lines_of_nodes h.nodes) (lines_in gs) (g.opener ∷ [])))
+
+  elifs_lines_in : (es : Elifs M) → lines_in (groups_of_elifs es) ≡ lines_of_elifs es
+  elifs_lines_in (first o ns) = lines_last [] (group an_if [] o.cond (if_line o) ns)
+  elifs_lines_in (elif es o ns) =
+      lines_last (groups_of_elifs es) (group an_elif (conds_of_elifs es) o.cond (elif_line o) ns)
+      ∙ ap (λ (l : List (Item M)). (l ++ elif_line o ∷ []) ++ lines_of_nodes ns) (elifs_lines_in es)
+
+  groups_lines_in : (gs : Groups M) → lines_in (groups_of gs) ≡ lines_of_groups gs
+  groups_lines_in (conditional es) = elifs_lines_in es
+  groups_lines_in (otherwise es l ns) =
+      lines_last (groups_of_elifs es) (group an_else (conds_of_elifs es) Yes (else_line l) ns)
+      ∙ ap (λ (k : List (Item M)). (k ++ else_line l ∷ []) ++ lines_of_nodes ns) (elifs_lines_in es)
+
+module _ {L : Type 0} where
+  join3 : (a b c d : List (Item (Edited L))) (k j : List (Item (Edited L))) → a ≡ b → c ≡ d → k ≡ j → (a ++ c) ++ k ≡ (b ++ d) ++ j
+  join3 a b c d k j e f g = ap₂ (λ (x y : List (Item (Edited L))). x ++ y) (ap₂ (λ (x y : List (Item (Edited L))). x ++ y) e f) g
+
+  mutual
+    -- The table leaves the same lines in one way.
+    same_nodes : {ns : Nodes L} {ps qs : Nodes (Edited L)} → ArePruned ns ps → ArePruned ns qs → lines_of_nodes ps ≡ lines_of_nodes qs
+    same_nodes no_nodes no_nodes = refl
+    same_nodes (text_stays {l = l} p) (text_stays q) = ap (λ (xs : List (Item (Edited L))). xs ++ text_line (edited Keep l) ∷ []) (same_nodes p q)
+    same_nodes (gives_way_to {ps = ps} {qs = ms} w p f) (gives_way_to {ps = qs} {qs = ns} v q g) =
+        lines_then ps ms ∙ ap₂ (λ (x y : List (Item (Edited L))). x ++ y) (same_nodes p q) (same_first f g) ∙ sym (lines_then qs ns)
+    same_nodes (gives_way_to w p f) (section_stays v q a e) = absurd (not_both _ w v)
+    same_nodes (section_stays v q a e) (gives_way_to w p f) = absurd (not_both _ w v)
+    same_nodes (section_stays {ps = ps} {hs = hs} {k = k} w p a e) (section_stays {ps = qs} {hs = js} {k = j} v q b f) =
+        join3 (lines_of_nodes ps) (lines_of_nodes qs) (lines_of_groups hs) (lines_of_groups js) (endif_line k ∷ []) (endif_line j ∷ [])
+        (same_nodes p q) (sym (groups_lines_in hs) ∙ same_kept a b ∙ groups_lines_in js) (sym e ∙ f)
+
+    same_first : {gs : List (Group L)} {ps qs : Nodes (Edited L)} → AreOfFirst gs ps → AreOfFirst gs qs → lines_of_nodes ps ≡ lines_of_nodes qs
+    same_first no_group no_group = refl
+    same_first (of_later e f) (of_later d g) = same_first f g
+    same_first (of_later e f) (of_this d q) = absurd (not_both _ d e)
+    same_first (of_this e p) (of_later d g) = absurd (not_both _ e d)
+    same_first (of_this e p) (of_this d q) = same_nodes p q
+
+    same_kept : {all : List Cond} {gs : List (Group L)} {hs js : List (Group (Edited L))} → AreKept all gs hs → AreKept all gs js → lines_in hs ≡ lines_in js
+    same_kept no_groups no_groups = refl
+    same_kept (without e a) (without d b) = same_kept a b
+    same_kept (without e a) (with_this d o q b) = absurd (not_both _ d e)
+    same_kept (with_this e o p a) (without d b) = absurd (not_both _ e d)
+    same_kept (with_this {h = h} {hs = hs} e o p a) (with_this {h = j} {hs = js} d m q b) =
+        join3 (h.opener ∷ []) (j.opener ∷ []) (lines_of_nodes h.nodes) (lines_of_nodes j.nodes) (lines_in hs) (lines_in js) (sym o ∙ m) (same_nodes p q) (same_kept a b)
+
+  -- The pruned tree is what the table leaves, and nothing else is.
+  pub pruned_is : (ns : Nodes L) (ps : Nodes (Edited L)) → IsPruned ns ps ↔ ArePruned ns ps
+  pruned_is ns ps = (
+    λ h. subst (λ (qs : Nodes (Edited L)). ArePruned ns qs) (is_folded ns ps h) (folded_pruned ns),
+    λ p. same_nodes p (folded_pruned ns) ∙ folded_is ns,
+  )

@@ -1,0 +1,359 @@
+-- The content of a line, by the parts of its masked line.
+use Rattle.std.proofs.Common.{◌≡◌, ◌≢◌, ℕ, suc, ◌+◌, ◌-◌, ◌==◌, List, [], ◌∷◌, ◌++◌, length, Bool, true, false, not, ◌&&◌, ◌||◌, Option, Some, None, if◌then◌else◌, bytes_eq, refl, sym, ◌∙◌, ap, ap₂, subst, append-nil, arith, length-append, eqb-true, ◌⊎◌, inl, inr}
+use Rattle.std.specs.Prelude.{◌↔◌}
+use Rattle.std.proofs.lemmas.Bool.{and_parts, not-true}
+use Rattle.std.proofs.lemmas.Slice.Eq.{bytes_eq-Decides}
+use Rattle.ud_model.specs.text.Bytes.{number_sign, slash, is_white, is_word_byte, are_white, are_word_bytes, skip_white, leading_word, skip_word}
+use Rattle.ud_model.specs.text.Scans.{Scan}
+use Rattle.ud_model.specs.sections.Directives.{Content, Directive, cut_keyword, directive, text, content_of, skip_white_and_hash, skip_hash, may_split_keyword, has_split_keyword, content_after_hash, directive_at, kind_of, is_in_line, is_keyword_prefix, is_prefix_of_keyword, is_continued_outside_comment}
+use Rattle.ud_model.specs.sections.DirectiveParts.{DirectiveParts, AreParts, first_is, EndsInKeyword, nothing_follows, slash_follows, word_follows, IsSplitKeyword, HasSplitKeyword, HasDirective}
+use Rattle.ud_model.specs.declared.kind.Kind.{Kind}
+use Rattle.ud_model.proofs.text.LexLemmas.{same_front}
+
+-- White space after white space is skipped, too.
+past_white_then : (ws t : List ℕ) → are_white ws ≡ true → skip_white (ws ++ t) ≡ skip_white t
+past_white_then [] t h = refl
+past_white_then (b ∷ ws) t h =
+    let p : (is_white b ≡ true) × (are_white ws ≡ true) = and_parts (is_white b) (are_white ws) h in
+    ap (λ (w : Bool). if w then skip_white (ws ++ t) else b ∷ (ws ++ t)) p.0 ∙ past_white_then ws t p.1
+
+no_white : (t : List ℕ) → first_is is_white t ≡ false → skip_white t ≡ t
+no_white [] h = refl
+no_white (b ∷ t) h = ap (λ (w : Bool). if w then skip_white t else b ∷ t) h
+
+no_word : (t : List ℕ) → first_is is_word_byte t ≡ false → (leading_word t ≡ []) × (skip_word t ≡ t)
+no_word [] h = (refl, refl)
+no_word (b ∷ t) h = (ap (λ (w : Bool). if w then b ∷ leading_word t else []) h, ap (λ (w : Bool). if w then skip_word t else b ∷ t) h)
+
+-- A word before other bytes is the leading one.
+word_then : (word rest : List ℕ) → are_word_bytes word ≡ true → first_is is_word_byte rest ≡ false → (leading_word (word ++ rest) ≡ word) × (skip_word (word ++ rest) ≡ rest)
+word_then [] rest h n = no_word rest n
+word_then (b ∷ word) rest h n =
+    let p : (is_word_byte b ≡ true) × (are_word_bytes word ≡ true) = and_parts (is_word_byte b) (are_word_bytes word) h in
+    let r : (leading_word (word ++ rest) ≡ word) × (skip_word (word ++ rest) ≡ rest) = word_then word rest p.1 n in (
+      ap (λ (w : Bool). if w then b ∷ leading_word (word ++ rest) else []) p.0 ∙ ap (λ (l : List ℕ). b ∷ l) r.0,
+      ap (λ (w : Bool). if w then skip_word (word ++ rest) else b ∷ (word ++ rest)) p.0 ∙ r.1,
+    )
+
+-- A text is leading white space, and the rest.
+white_front : (t : List ℕ) → (ws : List ℕ) × (t ≡ ws ++ skip_white t) × (are_white ws ≡ true)
+white_front [] = ([], refl, refl)
+white_front (b ∷ t) = by_white (is_white b) refl (white_front t)
+  where
+    by_white : (w : Bool) → is_white b ≡ w → ((ws : List ℕ) × (t ≡ ws ++ skip_white t) × (are_white ws ≡ true)) → (ws : List ℕ) × (b ∷ t ≡ ws ++ (if w then skip_white t else b ∷ t)) × (are_white ws ≡ true)
+    by_white true e r = (b ∷ r.0, ap (λ (l : List ℕ). b ∷ l) r.1, ap₂ (λ (x y : Bool). x && y) e r.2)
+    by_white false e r = ([], refl, refl)
+
+white_gone : (t : List ℕ) → first_is is_white (skip_white t) ≡ false
+white_gone [] = refl
+white_gone (b ∷ t) = by_white (is_white b) refl (white_gone t)
+  where
+    by_white : (w : Bool) → is_white b ≡ w → first_is is_white (skip_white t) ≡ false → first_is is_white (if w then skip_white t else b ∷ t) ≡ false
+    by_white true e r = r
+    by_white false e r = e
+
+word_front : (t : List ℕ) → (t ≡ leading_word t ++ skip_word t) × (are_word_bytes (leading_word t) ≡ true) × (first_is is_word_byte (skip_word t) ≡ false)
+word_front [] = (refl, refl, refl)
+word_front (b ∷ t) = by_word (is_word_byte b) refl (word_front t)
+  where
+    by_word : (w : Bool) → is_word_byte b ≡ w → ((t ≡ leading_word t ++ skip_word t) × (are_word_bytes (leading_word t) ≡ true) × (first_is is_word_byte (skip_word t) ≡ false)) →
+        (b ∷ t ≡ (if w then b ∷ leading_word t else []) ++ (if w then skip_word t else b ∷ t)) × (are_word_bytes (if w then b ∷ leading_word t else []) ≡ true)
+        × (first_is is_word_byte (if w then skip_word t else b ∷ t) ≡ false)
+    by_word true e r = (ap (λ (l : List ℕ). b ∷ l) r.0, ap₂ (λ (x y : Bool). x && y) e r.1, r.2)
+    by_word false e r = (refl, refl, e)
+
+hash_front : (t rest : List ℕ) → skip_hash t ≡ Some rest → t ≡ number_sign ∷ rest
+hash_front [] rest e = cc
+hash_front (b ∷ t) rest e = by_hash (b == 35) refl e
+  where
+    by_hash : (s : Bool) → (b == 35) ≡ s → (if s then Some t else None) ≡ Some rest → b ∷ t ≡ 35 ∷ rest
+    by_hash true f g = let p : t ≡ rest = cc in ap₂ (λ (x : ℕ) (l : List ℕ). x ∷ l) (eqb-true b 35 f) p
+    by_hash false f g = cc
+
+-- A masked line with a `#` after white space has parts.
+parts_exist : (masked tail : List ℕ) → skip_white_and_hash masked ≡ Some tail → (p : DirectiveParts) × AreParts p masked
+parts_exist masked tail e =
+    let s : (ws : List ℕ) × (masked ≡ ws ++ skip_white masked) × (are_white ws ≡ true) = white_front masked in
+    let g : (gs : List ℕ) × (tail ≡ gs ++ skip_white tail) × (are_white gs ≡ true) = white_front tail in
+    let w = word_front (skip_white tail) in (
+      record { white = s.0; gap = g.0; word = leading_word (skip_white tail); rest = skip_word (skip_white tail) },
+      record {
+        joined = s.1 ∙ ap (λ (l : List ℕ). s.0 ++ l)
+            (hash_front (skip_white masked) tail e ∙ ap (λ (l : List ℕ). number_sign ∷ l) (g.1 ∙ ap (λ (l : List ℕ). g.0 ++ l) w.0));
+        white = s.2;
+        gap = g.2;
+        word = w.1;
+        gap_ends = ap (first_is is_white) (sym w.0) ∙ white_gone tail;
+        word_ends = w.2;
+      },
+    )
+
+-- The texts that are computed of a masked line with these parts.
+record Computed (p : DirectiveParts) (masked : List ℕ) : Type 0 where
+  pub tail : skip_white_and_hash masked ≡ Some (p.gap ++ (p.word ++ p.rest))
+  pub behind : skip_white (p.gap ++ (p.word ++ p.rest)) ≡ p.word ++ p.rest
+  pub word : leading_word (p.word ++ p.rest) ≡ p.word
+  pub rest : skip_word (p.word ++ p.rest) ≡ p.rest
+
+computed : (p : DirectiveParts) (masked : List ℕ) → AreParts p masked → Computed p masked
+computed p masked h =
+    let w = word_then p.word p.rest h.word h.word_ends in
+    record {
+      tail = ap skip_white_and_hash h.joined ∙ ap skip_hash (past_white_then p.white (number_sign ∷ (p.gap ++ (p.word ++ p.rest))) h.white);
+      behind = past_white_then p.gap (p.word ++ p.rest) h.gap ∙ no_white (p.word ++ p.rest) h.gap_ends;
+      word = w.0;
+      rest = w.1;
+    }
+
+-- If one of two facts is true, the first or the second is.
+pub either : (a b : Bool) → (a || b) ≡ true → (a ≡ true) ⊎ (b ≡ true)
+either true b e = inl refl
+either false b e = inr e
+
+or_last : (a b : Bool) → b ≡ true → (a || b) ≡ true
+or_last true b e = refl
+or_last false b e = e
+
+and_both : (a b : Bool) → a ≡ true → b ≡ true → (a && b) ≡ true
+and_both a b e f = ap₂ (λ (x y : Bool). x && y) e f
+
+-- If all are word bytes, nothing is left after the longest word.
+no_rest : (word rest : List ℕ) → are_word_bytes (word ++ rest) ≡ true → first_is is_word_byte rest ≡ false → rest ≡ []
+no_rest [] [] h n = refl
+no_rest [] (b ∷ rest) h n =
+    let p : (is_word_byte b ≡ true) × (are_word_bytes rest ≡ true) = and_parts (is_word_byte b) (are_word_bytes rest) h in
+    let q : true ≡ false = sym p.0 ∙ n in cc
+no_rest (b ∷ word) rest h n = no_rest word rest (and_parts (is_word_byte b) (are_word_bytes (word ++ rest)) h).1 n
+
+slash_is_no_word : (b : ℕ) (t : List ℕ) → is_word_byte b ≡ true → b ∷ t ≡ slash ∷ [] → ⊥
+slash_is_no_word b t h e =
+    let p : b ≡ slash = cc in
+    let q : is_word_byte slash ≡ true = sym (ap is_word_byte p) ∙ h in cc
+
+module _ (scan : Scan) (p : DirectiveParts) where
+  ends_by : (word rest : List ℕ) → p.word ≡ word → p.rest ≡ rest → are_word_bytes word ≡ true → first_is is_word_byte rest ≡ false →
+      may_split_keyword scan (word ++ rest) ≡ true → EndsInKeyword scan p
+  ends_by [] [] e f h n m = nothing_follows e f
+  ends_by [] (b ∷ rest) e f h n m =
+      let q : (is_continued_outside_comment scan ≡ true) × ((bytes_eq (b ∷ rest) (47 ∷ []) || is_keyword_prefix (b ∷ rest)) ≡ true) =
+      and_parts (is_continued_outside_comment scan) (bytes_eq (b ∷ rest) (47 ∷ []) || is_keyword_prefix (b ∷ rest)) m in
+      by_case q.0 (either (bytes_eq (b ∷ rest) (47 ∷ [])) (is_keyword_prefix (b ∷ rest)) q.1)
+    where
+      by_case : is_continued_outside_comment scan ≡ true → (bytes_eq (b ∷ rest) (47 ∷ []) ≡ true) ⊎ (is_keyword_prefix (b ∷ rest) ≡ true) → EndsInKeyword scan p
+      by_case c (inl s) = slash_follows e (f ∙ (bytes_eq-Decides (b ∷ rest) (47 ∷ [])).0 s) c
+      by_case c (inr s) =
+          let r : b ∷ rest ≡ [] = no_rest [] (b ∷ rest) (and_parts (are_word_bytes (b ∷ rest)) (is_prefix_of_keyword (b ∷ rest)) s).0 n in cc
+  ends_by (b ∷ word) rest e f h n m =
+      let q : (is_continued_outside_comment scan ≡ true) × ((bytes_eq (b ∷ (word ++ rest)) (47 ∷ []) || is_keyword_prefix (b ∷ (word ++ rest))) ≡ true) =
+      and_parts (is_continued_outside_comment scan) (bytes_eq (b ∷ (word ++ rest)) (47 ∷ []) || is_keyword_prefix (b ∷ (word ++ rest))) m in
+      by_case q.0 (either (bytes_eq (b ∷ (word ++ rest)) (47 ∷ [])) (is_keyword_prefix (b ∷ (word ++ rest))) q.1)
+    where
+      by_case : is_continued_outside_comment scan ≡ true → (bytes_eq (b ∷ (word ++ rest)) (47 ∷ []) ≡ true) ⊎ (is_keyword_prefix (b ∷ (word ++ rest)) ≡ true) → EndsInKeyword scan p
+      by_case c (inl s) =
+          absurd (slash_is_no_word b (word ++ rest) (and_parts (is_word_byte b) (are_word_bytes word) h).0 ((bytes_eq-Decides (b ∷ (word ++ rest)) (47 ∷ [])).0 s))
+      by_case c (inr s) =
+          let r : (are_word_bytes (b ∷ (word ++ rest)) ≡ true) × (is_prefix_of_keyword (b ∷ (word ++ rest)) ≡ true) =
+          and_parts (are_word_bytes (b ∷ (word ++ rest))) (is_prefix_of_keyword (b ∷ (word ++ rest))) s in
+          let z : rest ≡ [] = no_rest (b ∷ word) rest r.0 n in
+          let w : b ∷ (word ++ rest) ≡ p.word = ap (λ (t : List ℕ). b ∷ (word ++ t)) z ∙ append-nil (b ∷ word) ∙ sym e in
+          word_follows (λ g. let k : b ∷ word ≡ [] = sym e ∙ g in cc) (f ∙ z) (ap is_prefix_of_keyword (sym w) ∙ r.1) c
+
+  -- A masked line that may split a keyword ends so, and the other way round.
+  to_ends : AreParts p scan.masked → may_split_keyword scan (p.word ++ p.rest) ≡ true → EndsInKeyword scan p
+  to_ends h m = ends_by p.word p.rest refl refl h.word h.word_ends m
+
+  word_may : (word : List ℕ) → word ≢ [] → are_word_bytes word ≡ true → is_prefix_of_keyword word ≡ true → is_continued_outside_comment scan ≡ true → may_split_keyword scan word ≡ true
+  word_may [] n h e c = absurd (n refl)
+  word_may (b ∷ word) n h e c =
+      and_both (is_continued_outside_comment scan) (bytes_eq (b ∷ word) (47 ∷ []) || is_keyword_prefix (b ∷ word)) c
+      (or_last (bytes_eq (b ∷ word) (47 ∷ [])) (is_keyword_prefix (b ∷ word)) (and_both (are_word_bytes (b ∷ word)) (is_prefix_of_keyword (b ∷ word)) h e))
+
+  from_ends : AreParts p scan.masked → EndsInKeyword scan p → may_split_keyword scan (p.word ++ p.rest) ≡ true
+  from_ends h (nothing_follows e f) = ap₂ (λ (w r : List ℕ). may_split_keyword scan (w ++ r)) e f
+  from_ends h (slash_follows e f c) = ap₂ (λ (w r : List ℕ). may_split_keyword scan (w ++ r)) e f ∙ ap (λ (t : Bool). t && true) c
+  from_ends h (word_follows n f e c) =
+      ap (λ (r : List ℕ). may_split_keyword scan (p.word ++ r)) f ∙ ap (may_split_keyword scan) (append-nil p.word) ∙ word_may p.word n h.word e c
+
+  -- The keyword is split, as it is computed.
+  abbrev splits : Bool
+  splits = scan.fresh && scan.joins_after && not (is_in_line scan.comment) && may_split_keyword scan (p.word ++ p.rest)
+
+  not-false_is : (t : Bool) → t ≡ false → not t ≡ true
+  not-false_is t e = ap not e
+
+  to_split : AreParts p scan.masked → splits ≡ true → IsSplitKeyword scan p
+  to_split h e =
+      let a = and_parts (scan.fresh && scan.joins_after && not (is_in_line scan.comment)) (may_split_keyword scan (p.word ++ p.rest)) e in
+      let b = and_parts (scan.fresh && scan.joins_after) (not (is_in_line scan.comment)) a.0 in
+      let c = and_parts scan.fresh scan.joins_after b.0 in
+      record { fresh = c.0; joins = c.1; no_line_comment = not-true (is_in_line scan.comment) b.1; ends = to_ends h a.1 }
+
+  from_split : AreParts p scan.masked → IsSplitKeyword scan p → splits ≡ true
+  from_split h s =
+      and_both (scan.fresh && scan.joins_after && not (is_in_line scan.comment)) (may_split_keyword scan (p.word ++ p.rest))
+      (and_both (scan.fresh && scan.joins_after) (not (is_in_line scan.comment)) (and_both scan.fresh scan.joins_after s.fresh s.joins) (ap not s.no_line_comment))
+      (from_ends h s.ends)
+
+  -- The content of a line with these parts, by three choices.
+  abbrev content_by : Bool → Bool → Option Kind → Content
+  content_by split fresh k = if split then cut_keyword else if fresh then directive_at scan (p.word ++ p.rest) k else text
+
+  content_is : AreParts p scan.masked → content_of scan ≡ content_by splits scan.fresh (kind_of p.word)
+  content_is h =
+      let c = computed p scan.masked h in
+      ap (λ (o : Option (List ℕ)). if has_split_keyword scan o then cut_keyword else content_after_hash scan o) c.tail
+      ∙ ap (λ (t : List ℕ). if scan.fresh && scan.joins_after && not (is_in_line scan.comment) && may_split_keyword scan t then cut_keyword
+      else if scan.fresh then directive_at scan t (kind_of (leading_word t))
+      else text) c.behind
+      ∙ ap (λ (w : List ℕ). content_by splits scan.fresh (kind_of w)) c.word
+
+  -- The directive of this kind that a line with these parts has.
+  abbrev directive_by : Kind → Directive
+  directive_by k = record {
+    kind = k;
+    keyword = record { at = length scan.masked - length (p.word ++ p.rest); len = length (leading_word (p.word ++ p.rest)) };
+    after = skip_word (p.word ++ p.rest);
+    broken = is_continued_outside_comment scan;
+  }
+
+  place : AreParts p scan.masked → length scan.masked - length (p.word ++ p.rest) ≡ suc (length p.white + length p.gap)
+  place h =
+      let a = ap (λ (t : List ℕ). length t) h.joined in
+      let b = length-append p.white (number_sign ∷ (p.gap ++ (p.word ++ p.rest))) in
+      let c = length-append p.gap (p.word ++ p.rest) in
+      omega (arith, a, b, c)
+
+  has_this : AreParts p scan.masked → scan.fresh ≡ true → splits ≡ false → (k : Kind) → kind_of p.word ≡ Some k → HasDirective scan (directive_by k)
+  has_this h f s k e =
+      let c = computed p scan.masked h in
+      record {
+        parts = p;
+        are = h;
+        fresh = f;
+        whole = λ t. let q : true ≡ false = sym (from_split h t) ∙ s in cc;
+        kind = e;
+        at = place h;
+        len = ap (λ (w : List ℕ). length w) c.word;
+        after = c.rest;
+        broken = refl;
+      }
+
+  to_directive : AreParts p scan.masked → (split fresh : Bool) (k : Option Kind) (d : Directive) → splits ≡ split → scan.fresh ≡ fresh → kind_of p.word ≡ k →
+      content_by split fresh k ≡ directive d → HasDirective scan d
+  to_directive h true fresh k d s f e g = cc
+  to_directive h false false k d s f e g = cc
+  to_directive h false true None d s f e g = cc
+  to_directive h false true (Some k) d s f e g =
+      let q : directive_by k ≡ d = cc in subst (λ (x : Directive). HasDirective scan x) q (has_this h f s k e)
+
+  to_cut : (split fresh : Bool) (k : Option Kind) → content_by split fresh k ≡ cut_keyword → split ≡ true
+  to_cut true fresh k e = refl
+  to_cut false false k e = cc
+  to_cut false true None e = cc
+  to_cut false true (Some k) e = cc
+
+  to_text : AreParts p scan.masked → (split fresh : Bool) (k : Option Kind) → splits ≡ split → scan.fresh ≡ fresh → kind_of p.word ≡ k →
+      (HasSplitKeyword scan → ⊥) → ((d : Directive) → HasDirective scan d → ⊥) → content_by split fresh k ≡ text
+  to_text h true fresh k s f e n m = absurd (n (record { parts = p; are = h; split = to_split h s }))
+  to_text h false false k s f e n m = refl
+  to_text h false true None s f e n m = refl
+  to_text h false true (Some k) s f e n m = absurd (m (directive_by k) (has_this h f s k e))
+
+  unsplit : AreParts p scan.masked → ¬ IsSplitKeyword scan p → splits ≡ false
+  unsplit h n = by_split splits refl
+    where
+      by_split : (t : Bool) → splits ≡ t → t ≡ false
+      by_split true e = absurd (n (to_split h e))
+      by_split false e = refl
+
+same_directive : {k l : Kind} {a b n m : ℕ} {s t : List ℕ} {x y : Bool} → k ≡ l → a ≡ b → n ≡ m → s ≡ t → x ≡ y →
+    ◌≡◌ {A = Directive} (record { kind = k; keyword = record { at = a; len = n }; after = s; broken = x })
+    (record { kind = l; keyword = record { at = b; len = m }; after = t; broken = y })
+same_directive e f g h i = cc
+
+-- A line without a `#` after white space is text; another one has parts.
+data Split (scan : Scan) : Type 0 where
+  unsigned : content_of scan ≡ text → Split scan
+  signed : (p : DirectiveParts) → AreParts p scan.masked → Split scan
+
+split_line : (scan : Scan) → Split scan
+split_line scan = by_hash (skip_white_and_hash scan.masked) refl
+  where
+    by_hash : (o : Option (List ℕ)) → skip_white_and_hash scan.masked ≡ o → Split scan
+    by_hash None e = unsigned (ap (λ (o : Option (List ℕ)). if has_split_keyword scan o then cut_keyword else content_after_hash scan o) e)
+    by_hash (Some tail) e = let p : (p : DirectiveParts) × AreParts p scan.masked = parts_exist scan.masked tail e in signed p.0 p.1
+
+-- A keyword is split exactly if the parts say so.
+pub split_is : (scan : Scan) → (content_of scan ≡ cut_keyword) ↔ HasSplitKeyword scan
+split_is scan = (to (split_line scan), back)
+  where
+    to : Split scan → content_of scan ≡ cut_keyword → HasSplitKeyword scan
+    to (unsigned t) e = let q : text ≡ cut_keyword = sym t ∙ e in cc
+    to (signed p h) e =
+        let s : splits scan p ≡ true = to_cut scan p (splits scan p) scan.fresh (kind_of p.word) (sym (content_is scan p h) ∙ e) in
+        record { parts = p; are = h; split = to_split scan p h s }
+
+    back : HasSplitKeyword scan → content_of scan ≡ cut_keyword
+    back s =
+        content_is scan s.parts s.are
+        ∙ ap (λ (t : Bool). content_by scan s.parts t scan.fresh (kind_of s.parts.word)) (from_split scan s.parts s.are s.split)
+
+-- A line has a directive exactly if its parts say so.
+pub directive_is : (scan : Scan) (d : Directive) → (content_of scan ≡ directive d) ↔ HasDirective scan d
+directive_is scan d = (to (split_line scan), back)
+  where
+    to : Split scan → content_of scan ≡ directive d → HasDirective scan d
+    to (unsigned t) e = let q : text ≡ directive d = sym t ∙ e in cc
+    to (signed p h) e =
+        to_directive scan p h (splits scan p) scan.fresh (kind_of p.word) d refl refl refl (sym (content_is scan p h) ∙ e)
+
+    back : HasDirective scan d → content_of scan ≡ directive d
+    back h =
+        let c = computed h.parts scan.masked h.are in
+        content_is scan h.parts h.are
+        ∙ ap (λ (t : Bool). content_by scan h.parts t scan.fresh (kind_of h.parts.word)) (unsplit scan h.parts h.are h.whole)
+        ∙ ap₂ (λ (f : Bool) (k : Option Kind). content_by scan h.parts false f k) h.fresh h.kind
+        ∙ ap directive
+        (same_directive refl (place scan h.parts h.are ∙ sym h.at) (ap (λ (w : List ℕ). length w) c.word ∙ sym h.len) (c.rest ∙ sym h.after) (sym h.broken))
+
+-- Each other line is text.
+pub text_is : (scan : Scan) → (content_of scan ≡ text) ↔ ((HasSplitKeyword scan → ⊥) × ((d : Directive) → HasDirective scan d → ⊥))
+text_is scan = (to, λ n. back n (split_line scan))
+  where
+    to : content_of scan ≡ text → (HasSplitKeyword scan → ⊥) × ((d : Directive) → HasDirective scan d → ⊥)
+    to e = (
+      λ s. let q : text ≡ cut_keyword = sym e ∙ (split_is scan).1 s in cc,
+      λ d h. let q : text ≡ directive d = sym e ∙ (directive_is scan d).1 h in cc,
+    )
+
+    back : (HasSplitKeyword scan → ⊥) × ((d : Directive) → HasDirective scan d → ⊥) → Split scan → content_of scan ≡ text
+    back n (unsigned t) = t
+    back n (signed p h) = content_is scan p h ∙ to_text scan p h (splits scan p) scan.fresh (kind_of p.word) refl refl refl n.0 n.1
+
+same_parts : {a b c d e f g h : List ℕ} → a ≡ b → c ≡ d → e ≡ f → g ≡ h →
+    ◌≡◌ {A = DirectiveParts} (record { white = a; gap = c; word = e; rest = g }) (record { white = b; gap = d; word = f; rest = h })
+same_parts i j k l = cc
+
+-- Texts that are the same, and end the same, begin the same.
+front_same : (s t rest more : List ℕ) → s ++ rest ≡ t ++ more → rest ≡ more → s ≡ t
+front_same s t rest more e f =
+    let a = length-append s rest in
+    let b = length-append t more in
+    let c = ap (λ (l : List ℕ). length l) e in
+    let d = ap (λ (l : List ℕ). length l) f in
+    (same_front s t rest more e (omega (arith, a, b, c, d))).0
+
+-- A masked line has one split at most.
+pub parts_same : (masked : List ℕ) (p q : DirectiveParts) → AreParts p masked → AreParts q masked → p ≡ q
+parts_same masked p q h i =
+    let a = computed p masked h in
+    let b = computed q masked i in
+    let some : Some (p.gap ++ (p.word ++ p.rest)) ≡ Some (q.gap ++ (q.word ++ q.rest)) = sym a.tail ∙ b.tail in
+    let tails : p.gap ++ (p.word ++ p.rest) ≡ q.gap ++ (q.word ++ q.rest) = cc in
+    let behind : p.word ++ p.rest ≡ q.word ++ q.rest = sym a.behind ∙ ap skip_white tails ∙ b.behind in
+    same_parts
+    (front_same p.white q.white (number_sign ∷ (p.gap ++ (p.word ++ p.rest))) (number_sign ∷ (q.gap ++ (q.word ++ q.rest))) (sym h.joined ∙ i.joined)
+    (ap (λ (l : List ℕ). number_sign ∷ l) tails))
+    (front_same p.gap q.gap (p.word ++ p.rest) (q.word ++ q.rest) tails behind)
+    (sym a.word ∙ ap leading_word behind ∙ b.word)
+    (sym a.rest ∙ ap skip_word behind ∙ b.rest)

@@ -1,0 +1,28 @@
+//! Laws: functions without a body whose contracts are theorems. They say what follows from the
+//! contract of `tool`.
+
+ghost use Rattle.std.specs.Prelude.{◌≡◌, ◌⊎◌, true, false, IfSome};
+ghost use Rattle.ud_model.specs.answer.CommandLine.{display_name};
+ghost use Rattle.ud_model.specs.answer.Messages.{read_error, write_error};
+ghost use Rattle.ud_io.specs.Watched.{AppendsAllOrPrefix};
+ghost use Rattle.unifdef.specs.ToolCall.{Call};
+ghost use Rattle.unifdef.specs.ToolAnswer.{AnswersSpec};
+ghost use Rattle.unifdef.specs.ToolEnded.{CallEnds};
+
+/// A call of `tool` after which a stream has failed has status 2 and says so.
+///
+/// If only the flush failed, and the text has a fault, the message is that of the fault. The call
+/// then gives the definitions' answer.
+pub fn law_failed_streams<R, W>()
+    ensures read_status { (call : Call R W) → CallEnds call → call.new_reader.failed ≡ true →
+        call.status ≡ 2 }
+    ensures write_status { (call : Call R W) → CallEnds call → call.new_out.failed ≡ true →
+        call.status ≡ 2 }
+    ensures read_message { (call : Call R W) → CallEnds call → call.new_reader.failed ≡ true →
+        AppendsAllOrPrefix call.err_failed call.old_message call.new_message
+        (read_error (display_name call.args)) }
+    ensures write_message { (call : Call R W) → CallEnds call → call.new_out.failed ≡ true →
+        call.new_reader.failed ≡ false → IfSome call.input (λ input.
+        AppendsAllOrPrefix call.err_failed call.old_message call.new_message
+        (write_error (display_name call.args)) ⊎ AnswersSpec call input) }
+{}
