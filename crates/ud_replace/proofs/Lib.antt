@@ -1,0 +1,7 @@
+mod CallLemmas
+mod MomentLemmas
+mod RenameLemmas
+mod OutcomeLemmas
+mod TakesLemmas
+mod StepLemmas
+mod VersionLemmas

@@ -1,0 +1,230 @@
+-- The files after each call of a replacement, if all answers are true.
+use Rattle.std.proofs.Common.{◌≡◌, ◌⊎◌, inl, inr, ℕ, List, [], ◌∷◌, ◌++◌, take, Bool, true, false, Option, Some, None, Result, Ok, Err, refl, sym, ap, ◌∙◌, subst, true≢false}
+use Rattle.std.specs.Prelude.{bytes_eq, if◌then◌else◌}
+use Rattle.ud_model.specs.sections.Items.{Options}
+use Rattle.ud_model.specs.answer.Outcomes.{Outcome, HasOutcome}
+use Rattle.ud_replace.specs.declared.error.Update.{Update}
+use Rattle.ud_replace.specs.declared.error.ReplaceError.{ReplaceError}
+use Rattle.ud_replace.specs.declared.folder.CreateError.{CreateError}
+use Rattle.ud_replace.specs.declared.folder.CreateError.TheVariants.{Denied, Failed}
+use Rattle.ud_replace.specs.declared.stat.FileStat.{FileStat}
+use Rattle.ud_replace.specs.Calls.{Call, was_read, asked, made, appended, given, looked, renamed, removed}
+use Rattle.ud_replace.specs.Filling.{Takes, nothing, part, AppendsAll, all, stopped, LooksAgain, seen_same, seen_other, Fills, filled, not_taken, not_given, changed, not_renamed}
+use Rattle.ud_replace.specs.Replacing.{Renames, renames, removes, not_made, denied, denied_writes}
+use Rattle.ud_replace.specs.Replacing.{Puts, read_only, one_link, several, several_writes}
+use Rattle.ud_replace.specs.Replacing.{Judges, no_memory, faulty, same, differs, Replaces, unread, judged}
+use Rattle.ud_replace.specs.Moments.{Files, after, content, AreTrue, EachCall, no_call, then_call, HasOutput, OldOrNew, touches}
+use Rattle.ud_replace.proofs.CallLemmas.{if_false, if_true, same_name, name_of_test, untouched, extended}
+
+-- each call so far left each file as it was after `old`
+record Quiet (o : Options) (name : List ℕ) (first : Files) (old calls : List Call) : Type 0 where
+  each : EachCall (λ (c : Call) (earlier : List Call). OldOrNew o name first old (c ∷ earlier)) old calls
+  kept : (n bytes : List ℕ) → content first old n ≡ Some bytes → content first calls n ≡ Some bytes
+
+-- no file that there was after `old` has the name `fresh`
+abbrev Apart : Files → List Call → List ℕ → Type 0
+Apart first old fresh = (n bytes : List ℕ) → content first old n ≡ Some bytes → bytes_eq n fresh ≡ false
+
+-- one more call, which touches none of those files
+quiet_next : {o : Options} {name : List ℕ} {first : Files} {old calls : List Call} (c : Call) → Quiet o name first old calls →
+    ((n bytes : List ℕ) → content first old n ≡ Some bytes → touches c n ≡ false) → Quiet o name first old (c ∷ calls)
+quiet_next {first = first} {old = old} {calls = calls} c q t =
+    let kept : (n bytes : List ℕ) → content first old n ≡ Some bytes → content first (c ∷ calls) n ≡ Some bytes =
+    λ n bytes h. untouched c (content first calls) n (t n bytes h) ∙ q.kept n bytes h in
+    record { each = then_call q.each (λ n bytes h. inl (kept n bytes h)); kept = kept }
+
+quiet_at : {o : Options} {name : List ℕ} {first : Files} {old calls new : List Call} → new ≡ calls → Quiet o name first old calls → Quiet o name first old new
+quiet_at {o = o} {name = name} {first = first} {old = old} e q = subst (λ (l : List Call). Quiet o name first old l) (sym e) q
+
+true_at : (first : Files) {calls new : List Call} → new ≡ calls → AreTrue first new → AreTrue first calls
+true_at first e t = subst (λ (l : List Call). AreTrue first l) e t
+
+-- the fresh file takes bytes
+quiet_takes : {o : Options} {name fresh : List ℕ} {first : Files} {old base : List Call} (bytes : List ℕ) (calls : List Call) →
+    Apart first old fresh → Quiet o name first old base → Takes fresh base bytes calls → Quiet o name first old calls
+quiet_takes bytes calls a q nothing = q
+quiet_takes {fresh = fresh} _ _ a q (part {bytes = before} {calls = earlier} rest n taken fits) =
+    quiet_next (appended fresh rest (Some n)) (quiet_takes before earlier a q taken) a
+
+quiet_appends : {o : Options} {name fresh text : List ℕ} {first : Files} {old base new : List Call} {whole : Bool} →
+    Apart first old fresh → Quiet o name first old base → AppendsAll fresh text base new whole → Quiet o name first old new
+quiet_appends a q (all taken) = quiet_takes _ _ a q taken
+quiet_appends {fresh = fresh} a q (stopped taken rest calls answer joined took none e) =
+    quiet_at e (quiet_next (appended fresh rest answer) (quiet_takes taken calls a q took) a)
+
+quiet_looks : {o : Options} {name : List ℕ} {stat : FileStat} {first : Files} {old base new : List Call} {found : Bool} →
+    Quiet o name first old base → LooksAgain name stat base new found → Quiet o name first old new
+quiet_looks {name = name} q (seen_same seen version e) = quiet_at e (quiet_next (looked name seen) q (λ n bytes h. refl))
+quiet_looks {name = name} q (seen_other seen version e) = quiet_at e (quiet_next (looked name seen) q (λ n bytes h. refl))
+
+-- the fresh file is filled, up to the last look
+quiet_filled : {o : Options} {name fresh text : List ℕ} {stat : FileStat} {first : Files} {old base new : List Call} {found : Bool} (taken : List Call) →
+    Apart first old fresh → Quiet o name first old base → AppendsAll fresh text base taken true → LooksAgain name stat (given fresh stat true ∷ taken) new found → Quiet o name first old new
+quiet_filled {fresh = fresh} {stat = stat} taken a q h l = quiet_looks (quiet_next (given fresh stat true) (quiet_appends a q h) a) l
+
+-- a rename that failed
+quiet_not_renamed : {o : Options} {name fresh : List ℕ} {first : Files} {old calls : List Call} → Quiet o name first old calls → Quiet o name first old (renamed fresh name false ∷ calls)
+quiet_not_renamed q = record { each = then_call q.each (λ n bytes h. inl (q.kept n bytes h)); kept = q.kept }
+
+-- after a failure no file but the fresh one was touched
+quiet_fills : {o : Options} {name fresh text : List ℕ} {stat : FileStat} {first : Files} {old base new : List Call} (e : ReplaceError) →
+    Apart first old fresh → Quiet o name first old base → Fills name fresh text stat base new (Err e) → Quiet o name first old new
+quiet_fills e a q (not_taken h) = quiet_appends a q h
+quiet_fills {fresh = fresh} {stat = stat} e a q (not_given taken h is) = quiet_at is (quiet_next (given fresh stat false) (quiet_appends a q h) a)
+quiet_fills e a q (changed taken h l) = quiet_filled taken a q h l
+quiet_fills e a q (not_renamed taken seen h l is) = quiet_at is (quiet_not_renamed (quiet_filled taken a q h l))
+
+-- the bytes of the fresh file
+bytes_of_takes : (fresh : List ℕ) (first : Files) {base : List Call} (bytes : List ℕ) (calls : List Call) →
+    content first base fresh ≡ Some [] → Takes fresh base bytes calls → content first calls fresh ≡ Some bytes
+bytes_of_takes fresh first bytes calls e nothing = e
+bytes_of_takes fresh first _ _ e (part {bytes = before} {calls = earlier} rest n taken fits) =
+    extended fresh rest n (content first earlier) before (bytes_of_takes fresh first before earlier e taken)
+
+bytes_of_looks : (fresh : List ℕ) (first : Files) {name text : List ℕ} {stat : FileStat} {base new : List Call} {found : Bool} →
+    content first base fresh ≡ Some text → LooksAgain name stat base new found → content first new fresh ≡ Some text
+bytes_of_looks fresh first {text = text} h (seen_same seen version e) = subst (λ (l : List Call). content first l fresh ≡ Some text) (sym e) h
+bytes_of_looks fresh first {text = text} h (seen_other seen version e) = subst (λ (l : List Call). content first l fresh ≡ Some text) (sym e) h
+
+bytes_of_appends : (fresh : List ℕ) (first : Files) {text : List ℕ} {base new : List Call} →
+    content first base fresh ≡ Some [] → AppendsAll fresh text base new true → content first new fresh ≡ Some text
+bytes_of_appends fresh first e (all taken) = bytes_of_takes fresh first _ _ e taken
+
+-- true answers up to the end were true before
+true_takes : (first : Files) {fresh : List ℕ} {base : List Call} (bytes : List ℕ) (calls : List Call) → Takes fresh base bytes calls → AreTrue first calls → AreTrue first base
+true_takes first bytes calls nothing t = t
+true_takes first _ _ (part {bytes = before} {calls = earlier} rest n taken fits) t = true_takes first before earlier taken t.1
+
+true_appends : (first : Files) {fresh text : List ℕ} {base new : List Call} {whole : Bool} → AppendsAll fresh text base new whole → AreTrue first new → AreTrue first base
+true_appends first (all taken) t = true_takes first _ _ taken t
+true_appends first (stopped taken rest calls answer joined took none e) t = true_takes first taken calls took (true_at first e t).1
+
+true_looks : (first : Files) {name : List ℕ} {stat : FileStat} {base new : List Call} {found : Bool} → LooksAgain name stat base new found → AreTrue first new → AreTrue first base
+true_looks first (seen_same seen version e) t = (true_at first e t).1
+true_looks first (seen_other seen version e) t = (true_at first e t).1
+
+true_filled : (first : Files) {name fresh text : List ℕ} {stat : FileStat} {base new : List Call} {found : Bool} (taken : List Call) →
+    AppendsAll fresh text base taken true → LooksAgain name stat (given fresh stat true ∷ taken) new found → AreTrue first new → AreTrue first base
+true_filled first taken h l t = true_appends first h (true_looks first l t).1
+
+true_fills : (first : Files) {name fresh text : List ℕ} {stat : FileStat} {base new : List Call} {r : Result Unit ReplaceError} →
+    Fills name fresh text stat base new r → AreTrue first new → AreTrue first base
+true_fills first (filled taken seen h l is) t = true_filled first taken h l (true_at first is t).1
+true_fills first (not_taken h) t = true_appends first h t
+true_fills first (not_given taken h is) t = true_appends first h (true_at first is t).1
+true_fills first (changed taken h l) t = true_filled first taken h l t
+true_fills first (not_renamed taken seen h l is) t = true_filled first taken h l (true_at first is t).1
+
+some_is : (a b : List ℕ) → Some a ≡ Some b → a ≡ b
+some_is a b e = cc
+
+-- the name of the fresh file was free, so no file had it
+apart : (fresh : List ℕ) {o : Options} {name : List ℕ} {first : Files} {old calls : List Call} → Quiet o name first old calls → content first calls fresh ≡ None → Apart first old fresh
+apart fresh {first = first} {calls = calls} q free n bytes h = by_test (bytes_eq n fresh) refl
+  where
+    by_test : (b : Bool) → bytes_eq n fresh ≡ b → bytes_eq n fresh ≡ false
+    by_test false e = e
+    by_test true e =
+        let there : content first calls n ≡ Some bytes = q.kept n bytes h in
+        let gone : content first calls n ≡ None = ap (content first calls) (name_of_test n fresh e) ∙ free in
+        absurd cc
+
+-- the rename of a fresh file with the output
+renamed_moment : {o : Options} {name text : List ℕ} (fresh : List ℕ) (first : Files) {old calls : List Call} (a : Outcome) →
+    HasOutcome o text a → a.fault ≡ None → content first old name ≡ Some text → Apart first old fresh → Quiet o name first old calls →
+    content first calls fresh ≡ Some a.output → OldOrNew o name first old (renamed fresh name true ∷ calls)
+renamed_moment {o = o} {name = name} {text = text} fresh first {old = old} {calls = calls} a has sound read away q full n bytes h =
+    by_test (bytes_eq n name) refl
+  where
+    by_test : (b : Bool) → bytes_eq n name ≡ b →
+        (content first (renamed fresh name true ∷ calls) n ≡ Some bytes) ⊎ ((n ≡ name) × HasOutput o bytes (content first (renamed fresh name true ∷ calls) n))
+    by_test false e =
+        inl (if_false (bytes_eq n name) (content first calls fresh) (if bytes_eq n fresh then None else content first calls n) e
+        ∙ if_false (bytes_eq n fresh) None (content first calls n) (away n bytes h) ∙ q.kept n bytes h)
+    by_test true e =
+        let own : n ≡ name = name_of_test n name e in
+        let same_text : bytes ≡ text = some_is bytes text (sym h ∙ ap (content first old) own ∙ read) in
+        inr (
+          own,
+          record {
+            outcome = a;
+            has = subst (λ (t : List ℕ). HasOutcome o t a) (sym same_text) has;
+            no_fault = sound;
+            is_output = if_true (bytes_eq n name) (content first calls fresh) (if bytes_eq n fresh then None else content first calls n) e ∙ full;
+          },
+        )
+
+-- what a replacement shows at each of its moments
+abbrev Moments : Options → List ℕ → Files → List Call → List Call → Type 0
+Moments o name first old new = EachCall (λ (c : Call) (earlier : List Call). OldOrNew o name first old (c ∷ earlier)) old new
+
+moments_at : {o : Options} {name : List ℕ} {first : Files} {old calls new : List Call} → new ≡ calls → Moments o name first old calls → Moments o name first old new
+moments_at {o = o} {name = name} {first = first} {old = old} e m = subst (λ (l : List Call). Moments o name first old l) (sym e) m
+
+-- the fresh file is made
+quiet_made : {o : Options} {name fresh : List ℕ} {first : Files} {old base : List Call} → Apart first old fresh → Quiet o name first old base → Quiet o name first old (made fresh (Ok tt) ∷ base)
+quiet_made {fresh = fresh} a q = quiet_next (made fresh (Ok tt)) q a
+
+moments_filled : {o : Options} {name fresh text : List ℕ} {stat : FileStat} {first : Files} {old base new : List Call} (a : Outcome) →
+    HasOutcome o text a → a.fault ≡ None → content first old name ≡ Some text → Quiet o name first old base → AreTrue first new →
+    Fills name fresh a.output stat (made fresh (Ok tt) ∷ base) new (Ok tt) → Moments o name first old new
+moments_filled {fresh = fresh} {first = first} {base = base} a has sound read q t (filled taken seen h l is) =
+    let free = (true_fills first (filled taken seen h l is) t).0 in
+    let away = apart fresh q free in
+    let quiet = quiet_filled taken away (quiet_made away q) h l in
+    let empty = if_true (bytes_eq fresh fresh) (Some []) (content first base fresh) (same_name fresh) in
+    let full = bytes_of_looks fresh first (bytes_of_appends fresh first empty h) l in
+    moments_at is (then_call quiet.each (renamed_moment fresh first a has sound read away quiet full))
+
+moments_renames : {o : Options} {name fresh text : List ℕ} {stat : FileStat} {first : Files} {old base new : List Call} {r : Result Update ReplaceError} (a : Outcome) →
+    HasOutcome o text a → a.fault ≡ None → content first old name ≡ Some text → Quiet o name first old base → AreTrue first new →
+    Renames false name fresh text a.output stat base new r → Moments o name first old new
+moments_renames a has sound read q t (renames h) = moments_filled a has sound read q t h
+moments_renames {fresh = fresh} {first = first} a has sound read q t (removes e calls gone h is) =
+    let away = apart fresh q (true_fills first h (true_at first is t).1).0 in
+    (quiet_at is (quiet_next (removed fresh gone) (quiet_fills e away (quiet_made away q) h) away)).each
+moments_renames {fresh = fresh} a has sound read q t (not_made is) = moments_at is (then_call q.each (λ n bytes h. inl (q.kept n bytes h)))
+moments_renames {fresh = fresh} a has sound read q t (denied not_into is) = moments_at is (then_call q.each (λ n bytes h. inl (q.kept n bytes h)))
+moments_renames a has sound read q t (denied_writes into h) = absurd (true≢false (sym into))
+
+moments_puts : {o : Options} {name fresh text : List ℕ} {stat : FileStat} {first : Files} {old base new : List Call} {r : Result Update ReplaceError} (a : Outcome) →
+    HasOutcome o text a → a.fault ≡ None → content first old name ≡ Some text → Quiet o name first old base → AreTrue first new →
+    Puts false name fresh text a.output stat base new r → Moments o name first old new
+moments_puts {name = name} a has sound read q t (read_only is) = (quiet_at is (quiet_next (asked name false) q (λ n bytes h. refl))).each
+moments_puts {name = name} a has sound read q t (one_link few h) = moments_renames a has sound read (quiet_next (asked name true) q (λ n bytes h. refl)) t h
+moments_puts {name = name} a has sound read q t (several many not_into is) = (quiet_at is (quiet_next (asked name true) q (λ n bytes h. refl))).each
+moments_puts a has sound read q t (several_writes many into h) = absurd (true≢false (sym into))
+
+true_renames : (first : Files) {name fresh before text : List ℕ} {stat : FileStat} {base new : List Call} {r : Result Update ReplaceError} →
+    Renames false name fresh before text stat base new r → AreTrue first new → AreTrue first base
+true_renames first (renames h) t = (true_fills first h t).1
+true_renames first (removes e calls gone h is) t = (true_fills first h (true_at first is t).1).1
+true_renames first (not_made is) t = (true_at first is t).1
+true_renames first (denied not_into is) t = (true_at first is t).1
+true_renames first (denied_writes into h) t = absurd (true≢false (sym into))
+
+true_puts : (first : Files) {name fresh before text : List ℕ} {stat : FileStat} {base new : List Call} {r : Result Update ReplaceError} →
+    Puts false name fresh before text stat base new r → AreTrue first new → AreTrue first base
+true_puts first (read_only is) t = (true_at first is t).1
+true_puts first (one_link few h) t = (true_renames first h t).1
+true_puts first (several many not_into is) t = (true_at first is t).1
+true_puts first (several_writes many into h) t = absurd (true≢false (sym into))
+
+-- nothing was asked but to read the file
+quiet_read : (o : Options) (name : List ℕ) (first : Files) (old : List Call) (text : List ℕ) (seen : Option FileStat) → Quiet o name first old (was_read name text seen ∷ old)
+quiet_read o name first old text seen =
+    let start : Quiet o name first old old = record { each = no_call; kept = λ n bytes h. h } in
+    quiet_next (was_read name text seen) start (λ n bytes h. refl)
+
+moments_judges : (o : Options) (name fresh text : List ℕ) (stat : FileStat) (first : Files) (old new : List Call) (r : Result Update ReplaceError) →
+    AreTrue first new → Judges o false name fresh text stat (was_read name text (Some stat) ∷ old) new r → Moments o name first old new
+moments_judges o name fresh text stat first old new _ t (no_memory is) = (quiet_at is (quiet_read o name first old text (Some stat))).each
+moments_judges o name fresh text stat first old new _ t (faulty a f has told sound is) = (quiet_at is (quiet_read o name first old text (Some stat))).each
+moments_judges o name fresh text stat first old new _ t (same a has sound none is) = (quiet_at is (quiet_read o name first old text (Some stat))).each
+moments_judges o name fresh text stat first old new _ t (differs a has sound some h) =
+    moments_puts a has sound (true_puts first h t).0 (quiet_read o name first old text (Some stat)) t h
+
+pub old_or_new : (o : Options) (first : Files) (name fresh : List ℕ) (old new : List Call) (r : Result Update ReplaceError) → Replaces o false name fresh old new r →
+    AreTrue first new → EachCall (λ (c : Call) (earlier : List Call). OldOrNew o name first old (c ∷ earlier)) old new
+old_or_new o first name fresh old new _ (unread text is) t = (quiet_at is (quiet_read o name first old text None)).each
+old_or_new o first name fresh old new r (judged text stat h) t = moments_judges o name fresh text stat first old new r t h

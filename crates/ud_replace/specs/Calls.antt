@@ -1,0 +1,27 @@
+-- Calls: what is asked of a folder, and what it answers.
+--
+--   Call   a call of a folder with its answer
+use Rattle.std.specs.Prelude.{ℕ, List, Bool, Option, Result}
+use Rattle.ud_replace.specs.declared.folder.CreateError.{CreateError}
+use Rattle.ud_replace.specs.declared.stat.FileStat.{FileStat}
+
+-- `Call`: a call of a folder with its answer. Names and texts are bytes.
+pub data Call : Type 0 where
+  -- `was_read name text answer`: the file was read as `text`, or reading it failed
+  was_read : List ℕ → List ℕ → Option FileStat → Call
+  -- `asked name answer`: whether the user may write into the file
+  asked : List ℕ → Bool → Call
+  -- `made name answer`: an empty file was made, or not
+  made : List ℕ → Result Unit CreateError → Call
+  -- `appended name bytes answer`: that many first bytes of `bytes` were appended, or none
+  appended : List ℕ → List ℕ → Option ℕ → Call
+  -- `given name like answer`: the file got the mode and the owner of `like`, or not
+  given : List ℕ → FileStat → Bool → Call
+  -- `looked name answer`: what is known of the file
+  looked : List ℕ → Option FileStat → Call
+  -- `renamed from to answer`: the file `from` was renamed to `to`, or not
+  renamed : List ℕ → List ℕ → Bool → Call
+  -- `overwrote name text answer`: the file has `text` now, or any bytes
+  overwrote : List ℕ → List ℕ → Bool → Call
+  -- `removed name answer`: the file was removed, or not
+  removed : List ℕ → Bool → Call

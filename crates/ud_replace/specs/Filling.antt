@@ -1,0 +1,67 @@
+-- Filling: the calls that make a file of some bytes, and rename it over another one.
+--
+--   Takes name old bytes new                   `name` took these bytes
+--   AppendsAll name bytes old new all          `name` took all of `bytes`, or the last call failed
+--   IsVersionOf stat seen                      `seen` and `stat` are of the same version of a file
+--   LooksAgain name stat old new same          a file was looked at again
+--   Fills name fresh text stat old new r       `fresh` got `text`, and the name `name`
+--
+-- `old` and `new` are the calls before and after, the newest first.
+use Rattle.std.specs.Prelude.{◌≡◌, ℕ, ◌≤◌, List, [], ◌∷◌, ◌++◌, length, take, Bool, true, false}
+use Rattle.std.specs.Prelude.{Option, Some, None, Result, Ok, Err}
+use Rattle.ud_replace.specs.declared.error.ReplaceError.{ReplaceError}
+use Rattle.ud_replace.specs.declared.error.ReplaceError.TheVariants.{ChangedMeanwhile, Write}
+use Rattle.ud_replace.specs.declared.stat.FileStat.{FileStat}
+use Rattle.ud_replace.specs.Calls.{Call, appended, given, looked, renamed}
+
+-- `Takes name old bytes new`: since `old`, the file took exactly `bytes`, part by part, and no
+-- other call was made.
+pub data Takes (name : List ℕ) (old : List Call) : List ℕ → List Call → Type 0 where
+  nothing : Takes name old [] old
+  part : {bytes : List ℕ} {calls : List Call} (rest : List ℕ) (n : ℕ) →
+      Takes name old bytes calls → n ≤ length rest →
+      Takes name old (bytes ++ take n rest) (appended name rest (Some n) ∷ calls)
+
+-- `TakesNone answer`: a call that appends took no byte.
+abbrev pub TakesNone : Option ℕ → Type 0
+TakesNone None = Unit {0}
+TakesNone (Some n) = n ≡ 0
+
+-- `AppendsAll name bytes old new all`: the file took all of `bytes`. Or it took some first bytes of
+-- them, and then a call with the others took none.
+pub data AppendsAll (name bytes : List ℕ) (old new : List Call) : Bool → Type 0 where
+  all : Takes name old bytes new → AppendsAll name bytes old new true
+  stopped : (taken rest : List ℕ) (calls : List Call) (answer : Option ℕ) →
+      bytes ≡ taken ++ rest → Takes name old taken calls → TakesNone answer →
+      new ≡ appended name rest answer ∷ calls → AppendsAll name bytes old new false
+
+-- `IsVersionOf stat seen`: a look found a file, whose version is that of `stat`.
+abbrev pub IsVersionOf : FileStat → Option FileStat → Type 0
+IsVersionOf stat None = ⊥
+IsVersionOf stat (Some seen) = seen.version ≡ stat.version
+
+-- `LooksAgain name stat old new same`: the file was looked at again, and `same` if its version is
+-- that of `stat`.
+pub data LooksAgain (name : List ℕ) (stat : FileStat) (old new : List Call) : Bool → Type 0 where
+  seen_same : (seen : Option FileStat) → IsVersionOf stat seen → new ≡ looked name seen ∷ old →
+      LooksAgain name stat old new true
+  seen_other : (seen : Option FileStat) → ¬ IsVersionOf stat seen → new ≡ looked name seen ∷ old →
+      LooksAgain name stat old new false
+
+-- `Fills name fresh text stat old new r`: `fresh` took all of `text` and got the mode and owner of
+-- `stat`. Then `name` was looked at again, and its version was that of `stat`. At last `fresh` was
+-- renamed to `name`. Or one of these calls failed and was the last one, and `r` is the error.
+pub data Fills (name fresh text : List ℕ) (stat : FileStat) (old new : List Call) :
+    Result Unit ReplaceError → Type 0 where
+  filled : (taken seen : List Call) → AppendsAll fresh text old taken true →
+      LooksAgain name stat (given fresh stat true ∷ taken) seen true →
+      new ≡ renamed fresh name true ∷ seen → Fills name fresh text stat old new (Ok tt)
+  not_taken : AppendsAll fresh text old new false → Fills name fresh text stat old new (Err Write)
+  not_given : (taken : List Call) → AppendsAll fresh text old taken true →
+      new ≡ given fresh stat false ∷ taken → Fills name fresh text stat old new (Err Write)
+  changed : (taken : List Call) → AppendsAll fresh text old taken true →
+      LooksAgain name stat (given fresh stat true ∷ taken) new false →
+      Fills name fresh text stat old new (Err ChangedMeanwhile)
+  not_renamed : (taken seen : List Call) → AppendsAll fresh text old taken true →
+      LooksAgain name stat (given fresh stat true ∷ taken) seen true →
+      new ≡ renamed fresh name false ∷ seen → Fills name fresh text stat old new (Err Write)

@@ -1,0 +1,98 @@
+-- Replacing: the calls that replace a file by the output for it.
+--
+--   Overwrites name before text stat old new r           the output is written into the file
+--   Renames into name fresh before text stat old new r   a file with the output is renamed over it
+--   Puts into name fresh before text stat old new r      one of the two
+--   Judges o into name fresh text stat old new r         what follows once the file is read
+--   Replaces o into name fresh old new r                 all calls of `replace`, which returned `r`
+--
+-- `old` and `new` are the calls before and after, the newest first.
+use Rattle.std.specs.Prelude.{◌≡◌, ℕ, ◌<◌, ◌≤◌, List, ◌∷◌, Bool, true, false}
+use Rattle.std.specs.Prelude.{Option, Some, None, Result, Ok, Err}
+use Rattle.ud_model.specs.sections.Items.{Options}
+use Rattle.ud_model.specs.answer.Outcomes.{Outcome, HasOutcome}
+use Rattle.ud_faults.specs.declared.run.RunFault.{RunFault}
+use Rattle.ud_engine.specs.Finishing.{text_fault_of}
+use Rattle.ud_replace.specs.declared.error.Update.{Update}
+use Rattle.ud_replace.specs.declared.error.Update.TheVariants.{Unchanged, Replaced, WrittenInto}
+use Rattle.ud_replace.specs.declared.error.ReplaceError.{ReplaceError}
+use Rattle.ud_replace.specs.declared.error.ReplaceError.TheVariants.{Text, Read, OutOfMemory}
+use Rattle.ud_replace.specs.declared.error.ReplaceError.TheVariants.{ReadOnly, SeveralLinks}
+use Rattle.ud_replace.specs.declared.error.ReplaceError.TheVariants.{FolderDenied, HalfWritten}
+use Rattle.ud_replace.specs.declared.error.ReplaceError.TheVariants.{ChangedMeanwhile, Write}
+use Rattle.ud_replace.specs.declared.folder.CreateError.TheVariants.{Denied, Failed}
+use Rattle.ud_replace.specs.declared.stat.FileStat.{FileStat}
+use Rattle.ud_replace.specs.Calls.{Call, was_read, asked, made, overwrote, removed}
+use Rattle.ud_replace.specs.Filling.{LooksAgain, Fills}
+
+-- `Overwrites name before text stat old new r`: the file was looked at again, and its version was
+-- that of `stat`. Then `text` was written into it. If that failed, its old bytes `before` were.
+pub data Overwrites (name before text : List ℕ) (stat : FileStat) (old new : List Call) :
+    Result Update ReplaceError → Type 0 where
+  changed_before : LooksAgain name stat old new false →
+      Overwrites name before text stat old new (Err ChangedMeanwhile)
+  written : (seen : List Call) → LooksAgain name stat old seen true →
+      new ≡ overwrote name text true ∷ seen →
+      Overwrites name before text stat old new (Ok WrittenInto)
+  restored : (seen : List Call) → LooksAgain name stat old seen true →
+      new ≡ overwrote name before true ∷ overwrote name text false ∷ seen →
+      Overwrites name before text stat old new (Err Write)
+  spoiled : (seen : List Call) → LooksAgain name stat old seen true →
+      new ≡ overwrote name before false ∷ overwrote name text false ∷ seen →
+      Overwrites name before text stat old new (Err HalfWritten)
+
+-- `Renames into name fresh before text stat old new r`: the file `fresh` was made, was filled with
+-- `text`, and was renamed to `name`. If that failed, `fresh` was removed. If the folder can't be
+-- written, the file is written into, but only if `into`.
+pub data Renames (into : Bool) (name fresh before text : List ℕ) (stat : FileStat)
+    (old new : List Call) : Result Update ReplaceError → Type 0 where
+  renames : Fills name fresh text stat (made fresh (Ok tt) ∷ old) new (Ok tt) →
+      Renames into name fresh before text stat old new (Ok Replaced)
+  removes : (e : ReplaceError) (calls : List Call) (gone : Bool) →
+      Fills name fresh text stat (made fresh (Ok tt) ∷ old) calls (Err e) →
+      new ≡ removed fresh gone ∷ calls → Renames into name fresh before text stat old new (Err e)
+  not_made : new ≡ made fresh (Err Failed) ∷ old →
+      Renames into name fresh before text stat old new (Err Write)
+  denied : into ≡ false → new ≡ made fresh (Err Denied) ∷ old →
+      Renames into name fresh before text stat old new (Err FolderDenied)
+  denied_writes : {r : Result Update ReplaceError} → into ≡ true →
+      Overwrites name before text stat (made fresh (Err Denied) ∷ old) new r →
+      Renames into name fresh before text stat old new r
+
+-- `Puts into name fresh before text stat old new r`: if the user may write into the file, a file
+-- with one link is replaced by another one. One with several links is written into, but only if
+-- `into`.
+pub data Puts (into : Bool) (name fresh before text : List ℕ) (stat : FileStat)
+    (old new : List Call) : Result Update ReplaceError → Type 0 where
+  read_only : new ≡ asked name false ∷ old →
+      Puts into name fresh before text stat old new (Err ReadOnly)
+  one_link : {r : Result Update ReplaceError} → stat.links ≤ 1 →
+      Renames into name fresh before text stat (asked name true ∷ old) new r →
+      Puts into name fresh before text stat old new r
+  several : 1 < stat.links → into ≡ false → new ≡ asked name true ∷ old →
+      Puts into name fresh before text stat old new (Err SeveralLinks)
+  several_writes : {r : Result Update ReplaceError} → 1 < stat.links → into ≡ true →
+      Overwrites name before text stat (asked name true ∷ old) new r →
+      Puts into name fresh before text stat old new r
+
+-- `Judges o into name fresh text stat old new r`: no call was made, unless the outcome of `text`
+-- has no fault and differs. Then the file was replaced by the output of that outcome.
+pub data Judges (o : Options) (into : Bool) (name fresh text : List ℕ) (stat : FileStat)
+    (old new : List Call) : Result Update ReplaceError → Type 0 where
+  no_memory : new ≡ old → Judges o into name fresh text stat old new (Err OutOfMemory)
+  faulty : (a : Outcome) (f : RunFault) → HasOutcome o text a → a.fault ≡ text_fault_of f →
+      ¬ (a.fault ≡ None) → new ≡ old → Judges o into name fresh text stat old new (Err (Text f))
+  same : (a : Outcome) → HasOutcome o text a → a.fault ≡ None → a.differs ≡ false → new ≡ old →
+      Judges o into name fresh text stat old new (Ok Unchanged)
+  differs : {r : Result Update ReplaceError} (a : Outcome) → HasOutcome o text a →
+      a.fault ≡ None → a.differs ≡ true → Puts into name fresh text a.output stat old new r →
+      Judges o into name fresh text stat old new r
+
+-- `Replaces o into name fresh old new r`: the file was read once, and the rest goes by its text.
+pub data Replaces (o : Options) (into : Bool) (name fresh : List ℕ) (old new : List Call) :
+    Result Update ReplaceError → Type 0 where
+  unread : (text : List ℕ) → new ≡ was_read name text None ∷ old →
+      Replaces o into name fresh old new (Err Read)
+  judged : {r : Result Update ReplaceError} (text : List ℕ) (stat : FileStat) →
+      Judges o into name fresh text stat (was_read name text (Some stat) ∷ old) new r →
+      Replaces o into name fresh old new r

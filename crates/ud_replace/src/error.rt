@@ -1,0 +1,50 @@
+//! What became of a file.
+
+use thiserror::Error;
+use ud_faults::RunFault;
+
+/// The treatment of a file whose text has no fault.
+#[derive(Clone, Copy, Debug, PartialEq, Eq)]
+pub enum Update {
+    /// The output is the text itself, and nothing was done.
+    Unchanged,
+    /// A file with the output has the name now.
+    Replaced,
+    /// The output was written into the file.
+    WrittenInto,
+}
+
+/// The reason why a file wasn't replaced.
+///
+/// The file has its old bytes, but for `HalfWritten`. The texts of `Display` may change.
+#[derive(Clone, Copy, Debug, PartialEq, Eq, Error)]
+pub enum ReplaceError {
+    /// The text has a fault.
+    #[error("the text has a fault")]
+    Text(RunFault),
+    /// The file couldn't be read.
+    #[error("the file can't be read")]
+    Read,
+    /// Memory for the output couldn't be allocated.
+    #[error("out of memory")]
+    OutOfMemory,
+    /// The file is read-only.
+    #[error("the file is read-only")]
+    ReadOnly,
+    /// The file has several links, and writing into it wasn't allowed.
+    #[error("the file has several links")]
+    SeveralLinks,
+    /// The folder can't be written, and writing into the file wasn't allowed.
+    #[error("the folder can't be written")]
+    FolderDenied,
+    /// The file isn't any more the one that was read.
+    #[error("the file was changed meanwhile")]
+    ChangedMeanwhile,
+    /// The output couldn't be written, or the file couldn't be renamed.
+    #[error("the file can't be written")]
+    Write,
+    /// Neither the output nor then the old bytes could be written into the file, which may have a
+    /// part of either.
+    #[error("the file is half written")]
+    HalfWritten,
+}

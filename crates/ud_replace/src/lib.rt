@@ -1,0 +1,22 @@
+//! One file of a tree, replaced by the output for it.
+//!
+//! `replace` asks a `Folder` one call after another: to read a file, to make another one beside it,
+//! and to rename that one over the file. `Folder` notes each call with its answer, and the contract
+//! of `replace` states which calls are made (`specs/Replacing.antt`). So it holds whatever the
+//! system answers. `law_old_or_new` states what they do to the files if the answers are true.
+//!
+//! This crate makes no call of the system itself. The types that implement `Folder` do.
+#![tactic(auto)]
+
+mod append;
+mod error;
+mod folder;
+mod laws;
+mod replacement;
+mod stat;
+
+pub use error::{ReplaceError, Update};
+pub use folder::{CreateError, Folder};
+pub use laws::{law_old_or_new, law_one_rename};
+pub use replacement::{Target, replace};
+pub use stat::{FileStat, FileTime, FileVersion};

@@ -1,0 +1,235 @@
+//! Replacing one file by the output for it.
+
+ghost use Rattle.std.specs.Prelude.{◌≡◌, List};
+ghost use Rattle.ud_model.specs.sections.Items.{Options};
+ghost use Rattle.ud_cond.specs.symbols.SymbolTable.{TableRepresents};
+ghost use Rattle.ud_replace.specs.Calls.{Call};
+ghost use Rattle.ud_replace.specs.Filling.{LooksAgain, Fills};
+ghost use Rattle.ud_replace.specs.Replacing.{Overwrites, Renames, Puts, Judges, Replaces};
+
+use crate::append::append_all;
+use crate::error::{ReplaceError, Update};
+use crate::folder::{CreateError, Folder};
+use crate::stat::FileStat;
+use std::alloc::Global;
+use ud_args::Plan;
+use ud_engine::{RunFault, Watched, run};
+
+/// A file that is to be replaced.
+#[derive(Clone, Copy)]
+pub struct Target<'a> {
+    /// The file's name.
+    pub name: &'a [u8],
+    /// A free name in the same folder, for the file that is made.
+    pub fresh: &'a [u8],
+    /// True if the output may be written into a file that has several links, or whose folder can't
+    /// be written.
+    pub write_into: bool,
+}
+
+/// A file's text, and what was known of the file before it was read.
+#[derive(Clone, Copy)]
+struct Before<'a> {
+    text: &'a [u8],
+    stat: FileStat,
+}
+
+/// Replaces a file by the output for it, as the plan asks.
+///
+/// The file is read once. If its text has no fault and the output differs, the file `fresh` is
+/// made in the same folder. It takes the output, and the mode and the owner of the file. Then the
+/// file is looked at again, and `fresh` is renamed over it.
+///
+/// So the only call that touches the file is the rename, after every byte of the output was taken
+/// (`law_one_rename`). After each call the file has its old bytes or all of the new ones, if the
+/// answers are true (`law_old_or_new`). Bytes that another program writes into the file between the
+/// last look and the rename are lost.
+///
+/// If `write_into` is set, a file that has several links, or whose folder can't be written, is
+/// written into. These two laws don't hold for it.
+///
+/// If the plan lists names, nothing is replaced.
+///
+/// # Errors
+/// No file is changed, and `fresh` is removed again. Only after `HalfWritten` the file may have any
+/// bytes.
+///
+/// - `Read` if the file can't be read, and `OutOfMemory` if memory for the output can't be
+///   allocated.
+/// - `Text` if the text has a fault.
+/// - `ReadOnly` if the user may not write into the file.
+/// - `SeveralLinks` and `FolderDenied` if the file could only be written into, and `write_into`
+///   isn't set.
+/// - `ChangedMeanwhile` if the last look finds no file, or another version than was read.
+/// - `Write` if another call fails.
+/// - `HalfWritten` if the file was to be written into, and neither the output nor then the old
+///   bytes could be.
+///
+/// # Examples
+/// ```rust
+/// let target = Target {
+///     name: b"src/main.c",
+///     fresh: b"src/.unifdef-tree.1",
+///     write_into: false,
+/// };
+/// match replace(alloc, &plan, &mut folder, &target) {
+///     Ok(Update::Unchanged) => unchanged += 1,
+///     Ok(Update::Replaced | Update::WrittenInto) => changed += 1,
+///     Err(error) => eprintln!(rt; "src/main.c: {error}")?,
+/// }
+/// ```
+pub fn replace<F: Folder>(
+    alloc: Global,
+    plan: &Plan,
+    folder: &mut F,
+    target: &Target<'_>,
+) -> Result<Update, ReplaceError>
+    ensures calls { (o : Options) → o.settings ≡ plan.now.settings →
+        TableRepresents plan.now.symbols o.table →
+        Replaces o target.now.write_into target.now.name.now target.now.fresh.now
+        (F.history folder.old) (F.history folder.new) result }
+{
+    let mut text = Vec::new(alloc);
+    match folder.read(target.name, &mut text) {
+        None => Err(ReplaceError::Read),
+        Some(stat) => {
+            let text = text.as_slice();
+            replace_text(alloc, plan, folder, target, &Before { text, stat })
+        }
+    }
+}
+
+/// Replaces a file whose text was read.
+fn replace_text<F: Folder>(
+    alloc: Global,
+    plan: &Plan,
+    folder: &mut F,
+    target: &Target<'_>,
+    before: &Before<'_>,
+) -> Result<Update, ReplaceError>
+    ensures calls { (o : Options) → o.settings ≡ plan.now.settings →
+        TableRepresents plan.now.symbols o.table →
+        Judges o target.now.write_into target.now.name.now target.now.fresh.now
+        before.now.text.now before.now.stat
+        (F.history folder.old) (F.history folder.new) result }
+{
+    let mut reader = Watched::new(before.text);
+    let mut out = Watched::new(Vec::<u8>::new(alloc));
+    match run(plan, &mut reader, &mut out) {
+        Ok(false) => Ok(Update::Unchanged),
+        Ok(true) => put(folder, target, before, out.inner().as_slice()),
+        Err(RunFault::Read | RunFault::Write) => Err(ReplaceError::OutOfMemory),
+        Err(RunFault::Text(fault)) => Err(ReplaceError::Text(RunFault::Text(fault))),
+        Err(RunFault::Section(fault)) => Err(ReplaceError::Text(RunFault::Section(fault))),
+    }
+}
+
+/// Puts the output in the file's place, or into the file.
+fn put<F: Folder>(
+    folder: &mut F,
+    target: &Target<'_>,
+    before: &Before<'_>,
+    output: &[u8],
+) -> Result<Update, ReplaceError>
+    ensures { Puts target.now.write_into target.now.name.now target.now.fresh.now
+        before.now.text.now output.now before.now.stat
+        (F.history folder.old) (F.history folder.new) result }
+{
+    if !folder.may_write(target.name) {
+        return Err(ReplaceError::ReadOnly);
+    }
+    if before.stat.links <= 1 {
+        return rename_over(folder, target, before, output);
+    }
+    if !target.write_into {
+        return Err(ReplaceError::SeveralLinks);
+    }
+    overwrite(folder, target.name, before, output)
+}
+
+/// Makes a file with the output, and renames it over the file.
+fn rename_over<F: Folder>(
+    folder: &mut F,
+    target: &Target<'_>,
+    before: &Before<'_>,
+    output: &[u8],
+) -> Result<Update, ReplaceError>
+    ensures { Renames target.now.write_into target.now.name.now target.now.fresh.now
+        before.now.text.now output.now before.now.stat
+        (F.history folder.old) (F.history folder.new) result }
+{
+    match folder.create(target.fresh) {
+        Ok(()) => match fill(folder, target, &before.stat, output) {
+            Ok(()) => Ok(Update::Replaced),
+            Err(error) => {
+                let _gone = folder.remove(target.fresh);
+                Err(error)
+            }
+        },
+        Err(CreateError::Failed) => Err(ReplaceError::Write),
+        Err(CreateError::Denied) => {
+            if target.write_into {
+                overwrite(folder, target.name, before, output)
+            } else {
+                Err(ReplaceError::FolderDenied)
+            }
+        }
+    }
+}
+
+/// Fills the file that was made with the output, and renames it over the file.
+fn fill<F: Folder>(
+    folder: &mut F,
+    target: &Target<'_>,
+    stat: &FileStat,
+    output: &[u8],
+) -> Result<(), ReplaceError>
+    ensures { Fills target.now.name.now target.now.fresh.now output.now stat.now
+        (F.history folder.old) (F.history folder.new) result }
+{
+    if !append_all(folder, target.fresh, output) {
+        return Err(ReplaceError::Write);
+    }
+    if !folder.set_mode_and_owner(target.fresh, stat) {
+        return Err(ReplaceError::Write);
+    }
+    if !is_unchanged(folder, target.name, stat) {
+        return Err(ReplaceError::ChangedMeanwhile);
+    }
+    if !folder.rename(target.fresh, target.name) {
+        return Err(ReplaceError::Write);
+    }
+    Ok(())
+}
+
+/// Writes the output into the file. If that fails, writes the old bytes into it.
+fn overwrite<F: Folder>(
+    folder: &mut F,
+    name: &[u8],
+    before: &Before<'_>,
+    output: &[u8],
+) -> Result<Update, ReplaceError>
+    ensures { Overwrites name.now before.now.text.now output.now before.now.stat
+        (F.history folder.old) (F.history folder.new) result }
+{
+    if !is_unchanged(folder, name, &before.stat) {
+        return Err(ReplaceError::ChangedMeanwhile);
+    }
+    if folder.overwrite(name, output) {
+        return Ok(Update::WrittenInto);
+    }
+    if folder.overwrite(name, before.text) {
+        return Err(ReplaceError::Write);
+    }
+    Err(ReplaceError::HalfWritten)
+}
+
+/// Looks at a file again. Returns whether its version is that of `stat`.
+fn is_unchanged<F: Folder>(folder: &mut F, name: &[u8], stat: &FileStat) -> bool
+    ensures { LooksAgain name.now stat.now (F.history folder.old) (F.history folder.new) result }
+{
+    match folder.look(name) {
+        Some(seen) => seen.version == stat.version,
+        None => false,
+    }
+}

@@ -1,0 +1,40 @@
+//! The facts about a file, without its bytes.
+
+/// A point of time.
+#[derive(Clone, Copy, Debug, PartialEq, Eq)]
+pub struct FileTime {
+    /// The seconds since the beginning of 1970, below 0 before that.
+    pub seconds: i64,
+    /// The nanoseconds since the last full second.
+    pub nanoseconds: i64,
+}
+
+/// Which file it is, and in which state. Two equal ones are taken for the same bytes.
+#[derive(Clone, Copy, Debug, PartialEq, Eq)]
+pub struct FileVersion {
+    /// The number of the device.
+    pub device: u64,
+    /// The number of the file on that device.
+    pub inode: u64,
+    /// The number of bytes.
+    pub size: u64,
+    /// When the bytes were changed last.
+    pub modified: FileTime,
+    /// When the bytes, the mode, the owner or the links were changed last.
+    pub changed: FileTime,
+}
+
+/// The facts that a folder gives about a file.
+#[derive(Clone, Copy, Debug, PartialEq, Eq)]
+pub struct FileStat {
+    /// Which file it is, and in which state.
+    pub version: FileVersion,
+    /// The number of names that the file has.
+    pub links: u64,
+    /// The permissions, as `chmod` takes them.
+    pub mode: u32,
+    /// The number of the user to whom the file belongs.
+    pub owner: u32,
+    /// The number of the group to which the file belongs.
+    pub group: u32,
+}
