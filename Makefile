@@ -70,13 +70,16 @@ SOURCES := crates.txt HANDLES \
 all: build
 
 # Reports clearly that the command isn't there.
+NEED_KIT = command -v $(RT) > /dev/null || { echo "make: Rattle's command $(RT) is not there: put it on PATH, or run make RT=FILE" >&2; exit 1; }
+
 kit:
-	@command -v $(RT) > /dev/null || { echo "make: Rattle's command $(RT) is not there: put it on PATH, or run make RT=FILE" >&2; exit 1; }
+	@$(NEED_KIT)
 
 build: unifdef
 
 # The program without a proof. It isn't for use: ./unifdef is.
-$(UNPROVED): $(filter-out %.antt,$(SOURCES)) | kit
+$(UNPROVED): $(filter-out %.antt,$(SOURCES))
+	@$(NEED_KIT)
 	@echo 'make: builds the program without a proof, in half a minute' >&2
 	@RT='$(RT)' tools/unproved.py $@
 
@@ -89,7 +92,9 @@ try: $(UNPROVED)
 test: kit
 	@RT='$(RT)' MAKE='$(MAKE)' tests/quick.py
 
-unifdef: $(SOURCES) | kit
+# If it is up to date, nothing here needs the kit. So a built copy installs without it.
+unifdef: $(SOURCES)
+	@$(NEED_KIT)
 	@RT='$(RT)' tools/prove.py
 	cp $(CRATE)/out/unifdef_cli $@
 
@@ -128,7 +133,7 @@ install: unifdef
 	$(INSTALL) -d "$(DESTDIR)$(BASHDIR)" "$(DESTDIR)$(ZSHDIR)" "$(DESTDIR)$(FISHDIR)"
 	$(INSTALL) -m 755 unifdef tools/unifdef-tree "$(DESTDIR)$(BINDIR)"
 	$(INSTALL) -m 644 docs/unifdef.1 docs/unifdef-tree.1 "$(DESTDIR)$(MANDIR)/man1"
-	$(INSTALL) -m 644 docs/DEFINITIONS.md LICENSE "$(DESTDIR)$(DOCDIR)"
+	$(INSTALL) -m 644 docs/DEFINITIONS.md docs/PROVED.md LICENSE "$(DESTDIR)$(DOCDIR)"
 	$(INSTALL) -m 644 packaging/completions/unifdef.bash "$(DESTDIR)$(BASHDIR)/unifdef"
 	$(INSTALL) -m 644 packaging/completions/unifdef.bash "$(DESTDIR)$(BASHDIR)/unifdef-tree"
 	$(INSTALL) -m 644 packaging/completions/_unifdef "$(DESTDIR)$(ZSHDIR)"
@@ -138,7 +143,8 @@ install: unifdef
 uninstall:
 	rm -f "$(DESTDIR)$(BINDIR)/unifdef" "$(DESTDIR)$(BINDIR)/unifdef-tree"
 	rm -f "$(DESTDIR)$(MANDIR)/man1/unifdef.1" "$(DESTDIR)$(MANDIR)/man1/unifdef-tree.1"
-	rm -rf "$(DESTDIR)$(DOCDIR)"
+	rm -f "$(DESTDIR)$(DOCDIR)/DEFINITIONS.md" "$(DESTDIR)$(DOCDIR)/PROVED.md" "$(DESTDIR)$(DOCDIR)/LICENSE"
+	[ ! -d "$(DESTDIR)$(DOCDIR)" ] || rmdir "$(DESTDIR)$(DOCDIR)" 2> /dev/null || true
 	rm -f "$(DESTDIR)$(BASHDIR)/unifdef" "$(DESTDIR)$(BASHDIR)/unifdef-tree" "$(DESTDIR)$(ZSHDIR)/_unifdef"
 	rm -f "$(DESTDIR)$(FISHDIR)/unifdef.fish" "$(DESTDIR)$(FISHDIR)/unifdef-tree.fish"
 
@@ -166,10 +172,11 @@ bench-conditions: kit
 	cd crates/bench_conditions && $(RT) run -- conditions 1 < /dev/null > /dev/null
 	bench/conditions.sh
 
-pictures:
+pictures: unifdef
 	@command -v dot > /dev/null || { echo "make: graphviz's dot is not there" >&2; exit 1; }
 	dot -Tsvg docs/line.dot > docs/line.svg
 	python3 bench/chart.py bench/README.md > bench/speed.svg
+	tools/before_after.py docs/io.h -UVMS -DUNIX > docs/before-after.svg
 
 trees: unifdef
 	bench/trees.sh
@@ -193,4 +200,4 @@ fronts: unifdef
 
 clean:
 	rm -f unifdef unifdef-*.tar.gz *.deb
-	rm -rf crates/*/out
+	rm -rf crates/*/out .prove-*

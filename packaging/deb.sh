@@ -1,7 +1,9 @@
 #!/bin/sh
 # Makes the Debian package unifdef-proved_VERSION_ARCHITECTURE.deb of ./unifdef, with dpkg's tools.
 #
-# Debian's own package is called unifdef. The two can't be installed beside each other.
+# Debian's own package is called unifdef. The two can't be installed beside each other. The same
+# ./unifdef gives the same package, byte by byte: times are SOURCE_DATE_EPOCH or, without it, the
+# time of the last commit.
 set -eu
 umask 022
 cd "$(dirname "$0")/.."
@@ -18,11 +20,13 @@ package=unifdef-proved
 documents=$root/usr/share/doc/$package
 mv "$documents/LICENSE" "$documents/copyright"
 maintainer=$(git log -1 --format='%an <%ae>' 2> /dev/null || echo 'unifdef maintainers <maintainers@localhost>')
+SOURCE_DATE_EPOCH=${SOURCE_DATE_EPOCH:-$(git log -1 --format=%ct 2> /dev/null || stat -c %Y CHANGELOG.md)}
+export SOURCE_DATE_EPOCH
 cp CHANGELOG.md "$documents"
 printf '%s (%s) unstable; urgency=medium\n\n  * CHANGELOG.md has what changed.\n\n -- %s  %s\n' \
-  "$package" "$version" "$maintainer" "$(date -Rr CHANGELOG.md)" > "$documents/changelog"
+  "$package" "$version" "$maintainer" "$(date -uRd "@$SOURCE_DATE_EPOCH")" > "$documents/changelog"
 gzip -9n "$documents/changelog" "$root"/usr/share/man/man1/*.1
-strip "$root/usr/bin/unifdef"
+strip --remove-section=.comment "$root/usr/bin/unifdef"
 
 # The program needs a C library that is at least as new as the newest of its symbols.
 library=$(objdump -T unifdef | sed -n 's/.*GLIBC_\([0-9.]*\).*/\1/p' | sort -Vu | tail -n 1)
@@ -45,6 +49,7 @@ Description: remove preprocessor conditionals from C source, proved
  .
  The package also has unifdef-tree, which runs unifdef over the files of a tree.
 END
-(cd "$root" && find usr -type f -exec md5sum {} +) > "$root/DEBIAN/md5sums"
+(cd "$root" && find usr -type f -print0 | sort -z | xargs -0 md5sum) > "$root/DEBIAN/md5sums"
+find "$root" -exec touch -hd "@$SOURCE_DATE_EPOCH" {} +
 dpkg-deb --root-owner-group --build "$root" "${package}_${version}_$architecture.deb" > /dev/null
 echo "${package}_${version}_$architecture.deb"

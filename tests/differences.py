@@ -1,10 +1,12 @@
 #!/usr/bin/env python3
 """Runs the cases that say what unifdef 2.10 does instead, with both programs.
 
-    tests/differences.py [PROGRAM [RELEASED]]
+    tests/differences.py [PROGRAM [RELEASED ..]]
 
-PROGRAM is ./unifdef by default, and RELEASED the first unifdef on PATH whose -V reports 2.10; if
-there is none, it is left out. Each example of the manual under DIFFERENCES must be a case.
+PROGRAM is ./unifdef by default. The released programs are those of the arguments or, without them,
+the first unifdef on PATH whose -V reports 2.10, and the first one that reports 2.12. One that isn't
+there is left out. Each example of the manual under DIFFERENCES must be a case. 2.12 gives what the
+example says of it, or else what 2.10 gives.
 """
 
 import os
@@ -20,46 +22,53 @@ sys.dont_write_bytecode = True
 from cases import TOP, Answer, Case, CaseError, as_literal, cases_in, check, unescaped
 
 EXAMPLE = re.compile(
-    r"^(-[^:\n]*):  (.*)\nhere: ([012])(?:  (.*))?\n2\.10: ([012])(?:  (.*))?$", re.MULTILINE
+    r"^(-[^:\n]*):  (.*)\nhere: ([012])(?:  (.*))?\n2\.10: ([012])(?:  (.*))?$"
+    r"(?:\n2\.12: ([012])(?:  (.*))?$)?",
+    re.MULTILINE,
 )
 
+OLD, NEW = "2.10", "2.12"
 
-def is_released(program: Path) -> bool:
-    """Returns whether a program is unifdef 2.10."""
+
+def is_released(program: Path, version: str) -> bool:
+    """Returns whether a program is the released unifdef of this version."""
     try:
         done = subprocess.run(
             [str(program), "-V"], stdin=subprocess.DEVNULL, capture_output=True, check=False
         )
     except OSError:
         return False
-    return b"unifdef-2.10" in done.stdout + done.stderr
+    return f"unifdef-{version}".encode() in done.stdout + done.stderr
 
 
-def released_on_path() -> Optional[Path]:
-    """Returns the first unifdef on PATH that is 2.10."""
-    for folder in os.get_exec_path():
-        if is_released(Path(folder) / "unifdef"):
-            return Path(folder) / "unifdef"
+def released_in(programs: list[Path], version: str) -> Optional[Path]:
+    """Returns the first of the programs that is the released unifdef of this version."""
+    for program in programs:
+        if is_released(program, version):
+            return program
     return None
 
 
-def examples() -> Iterator[tuple[list[str], bytes, Answer, Answer]]:
-    """Yields the examples of the manual: arguments, input, and both answers without messages."""
+def examples() -> Iterator[tuple[list[str], bytes, Answer, Answer, Answer]]:
+    """Yields the examples of the manual: arguments, input, and the answers without messages of this
+    program, of 2.10 and of 2.12."""
     manual = (TOP / "docs" / "unifdef.1").read_text(encoding="utf-8")
     section = manual.partition("\n.Sh DIFFERENCES\n")[2].partition("\n.Sh ")[0]
     found_examples = list(EXAMPLE.finditer(section.replace("\\e", "\\")))
     if len(found_examples) != section.count("\nhere: ") or not found_examples:
         raise CaseError("docs/unifdef.1: an example under DIFFERENCES has another form")
     for found in found_examples:
-        arguments, text, status, output, other_status, other_output = found.groups(default="")
-        here = Answer(unescaped(output), None, int(status))
-        there = Answer(unescaped(other_output), None, int(other_status))
-        yield arguments.split(), unescaped(text), here, there
+        arguments, text, *answers = found.groups(default="")
+        here, old, new = (
+            Answer(unescaped(output), None, int(status)) if status else None
+            for status, output in zip(answers[::2], answers[1::2])
+        )
+        yield arguments.split(), unescaped(text), here, old, new or old
 
 
 def check_manual(cases: list[Case]) -> Iterator[bool]:
     """Prints each example of the manual that is no case, and yields False for it."""
-    for arguments, text, here, there in examples():
+    for arguments, text, here, there, _ in examples():
         same = [case for case in cases if (case.arguments, case.input) == (arguments, text)]
         if not any(here.matches(case.answer) and there.matches(case.released) for case in same):
             reason = f"{same[0].path} has other answers" if same else "no case has it"
@@ -96,7 +105,15 @@ def check_closed_pipe(program: Path) -> bool:
     return right
 
 
-def results(program: Path, released: Optional[Path]) -> Iterator[bool]:
+def check_new(program: Path, cases: list[Case]) -> Iterator[bool]:
+    """Yields whether 2.12 gives what the manual says, for each of its examples."""
+    for arguments, text, _, _, answer in examples():
+        for case in cases:
+            if (case.arguments, case.input) == (arguments, text):
+                yield check(program, case, answer, "differences, 2.12")
+
+
+def results(program: Path, released: Optional[Path], new: Optional[Path]) -> Iterator[bool]:
     """Yields whether each check holds."""
     cases = [case for case in cases_in() if case.released]
     yield from check_manual(cases)
@@ -107,6 +124,9 @@ def results(program: Path, released: Optional[Path]) -> Iterator[bool]:
     yield check_file(program, b"")
     if released:
         yield check_file(released, b' "in.c"')
+    if new:
+        yield check_file(new, b' "in.c"')
+        yield from check_new(new, cases)
     yield check_closed_pipe(program)
 
 
@@ -116,15 +136,18 @@ def main() -> int:
     if not os.access(program, os.X_OK):
         print(f"differences: {program} is not there: run make", file=sys.stderr)
         return 1
-    released = Path(sys.argv[2]).resolve() if len(sys.argv) > 2 else released_on_path()
-    if not released:
-        print("differences: unifdef 2.10 is not there, so it is left out", end=" ")
-        print("(Debian's package unifdef has it)")
-    elif not is_released(released):
-        print(f"differences: {released} is no unifdef 2.10", file=sys.stderr)
-        return 1
+    programs = [Path(name).resolve() for name in sys.argv[2:]]
+    for name in programs:
+        if not is_released(name, OLD) and not is_released(name, NEW):
+            print(f"differences: {name} is no unifdef {OLD} or {NEW}", file=sys.stderr)
+            return 1
+    programs = programs or [Path(folder) / "unifdef" for folder in os.get_exec_path()]
+    released, new = released_in(programs, OLD), released_in(programs, NEW)
+    for version, there in ((OLD, released), (NEW, new)):
+        if not there:
+            print(f"differences: unifdef {version} is not there, so it is left out")
     try:
-        found = list(results(program, released))
+        found = list(results(program, released, new))
     except (CaseError, OSError) as error:
         print(f"differences: {error}", file=sys.stderr)
         return 1

@@ -46,6 +46,9 @@ shows() {
   fi
 }
 
+# lintian_is_quiet PACKAGE: lintian finds no error and no warning.
+lintian_is_quiet() { ! lintian --allow-root "$1" 2>&1 | grep '^[EW]:'; }
+
 version=$(packaging/version.sh) || failed=$((failed + 1))
 
 # Installs into a folder with spaces, and uninstalls.
@@ -59,13 +62,24 @@ check 'install: files' same "$(cd "$target/opt/my tools" && find . -type f | sor
 ./share/bash-completion/completions/unifdef-tree
 ./share/doc/unifdef/DEFINITIONS.md
 ./share/doc/unifdef/LICENSE
+./share/doc/unifdef/PROVED.md
 ./share/fish/vendor_completions.d/unifdef-tree.fish
 ./share/fish/vendor_completions.d/unifdef.fish
 ./share/man/man1/unifdef-tree.1
 ./share/man/man1/unifdef.1
 ./share/zsh/site-functions/_unifdef"
+
+# A file of somebody else stays, and so does a folder that others use.
+documents="$target/opt/my tools/share/doc/unifdef"
+touch "$documents/theirs"
 check uninstall "$make" -s uninstall DESTDIR="$target" PREFIX="/opt/my tools"
-check 'uninstall: files' same "$(find "$target" -type f)" ''
+check 'uninstall: files' same "$(find "$target" -type f)" "$documents/theirs"
+rm "$documents/theirs"
+check 'uninstall: again' "$make" -s uninstall DESTDIR="$target" PREFIX="/opt/my tools"
+check 'uninstall: the folder' test ! -e "$documents"
+
+# What is built is installed without the kit.
+check 'install: without the kit' "$make" -s install DESTDIR="$target" PREFIX=/usr RT=no-such-command
 
 # Installs before a released program on PATH.
 mkdir -p "$work/first/bin" "$work/second"
@@ -93,11 +107,17 @@ fi
 # The Debian package, in a folder with a list of packages of its own.
 if command -v dpkg-deb > /dev/null && command -v objdump > /dev/null; then
   check deb "$make" -s -o unifdef deb
+  package=unifdef-proved_${version}_$(dpkg --print-architecture).deb
+  cp "$package" "$work/first.deb"
+  check 'deb: again' "$make" -s -o unifdef deb
+  check 'deb: the same bytes' cmp "$work/first.deb" "$package"
   root=$work/root
   mkdir -p "$root/var/lib/dpkg/info" "$root/var/lib/dpkg/updates" "$root/var/lib/dpkg/triggers"
   touch "$root/var/lib/dpkg/status" "$root/var/lib/dpkg/available"
-  package=unifdef-proved_${version}_$(dpkg --print-architecture).deb
   in_root() { dpkg --root="$root" --log=/dev/null --force-not-root --force-depends "$@"; }
+  if command -v lintian > /dev/null; then
+    check 'deb: lintian' lintian_is_quiet "$package"
+  fi
   check 'deb: installs' in_root -i "$here/$package"
   check 'deb: is known' in_root -s unifdef-proved
   works_in deb "$root/usr"
