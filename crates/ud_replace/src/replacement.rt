@@ -64,20 +64,6 @@ struct Before<'a> {
 /// - `Write` if another call fails.
 /// - `HalfWritten` if the file was to be written into, and neither the output nor then the old
 ///   bytes could be.
-///
-/// # Examples
-/// ```rust
-/// let target = Target {
-///     name: b"src/main.c",
-///     fresh: b"src/.unifdef-tree.1",
-///     write_into: false,
-/// };
-/// match replace(alloc, &plan, &mut folder, &target) {
-///     Ok(Update::Unchanged) => unchanged += 1,
-///     Ok(Update::Replaced | Update::WrittenInto) => changed += 1,
-///     Err(error) => eprintln!(rt; "src/main.c: {error}")?,
-/// }
-/// ```
 pub fn replace<F: Folder>(
     alloc: Global,
     plan: &Plan,
