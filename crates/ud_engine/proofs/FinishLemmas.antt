@@ -1,5 +1,5 @@
 -- Finish: the course and the end of a run, since it began.
-use Rattle.std.proofs.Common.{◌≡◌, ℕ, ◌≤◌, Bool, true, false, List, [], ◌++◌, length, Option, Result, Ok, Err, OnOk, IfOk, IfErr, refl, sym, subst, append-nil, arith}
+use Rattle.std.proofs.Common.{◌≡◌, ℕ, ◌≤◌, Bool, true, false, List, [], ◌++◌, length, Option, Result, Ok, Err, OnOk, refl, sym, subst, append-nil, arith}
 use Rattle.std.specs.Io.KnownBytes.{Consumes, Keeps, IsAtEnd}
 use Rattle.std.proofs.KnownBytes.{Appends-nil, Appends-trans, Consumes-nil, Consumes-trans, Consumes-kept}
 use Rattle.ud_model.specs.sections.Items.{Options}
@@ -8,10 +8,10 @@ use Rattle.ud_sections.specs.declared.printing.printer.Printer.{Printer}
 use Rattle.ud_faults.specs.declared.run.RunFault.{RunFault}
 use Rattle.ud_faults.specs.declared.run.RunFault.TheVariants.{Read}
 use Rattle.ud_engine.specs.declared.pump.TheConstants.{CHUNK_BYTES}
-use Rattle.ud_engine.specs.Finishing.{FinishOk, FinishErr, RunAnswers}
-use Rattle.ud_engine.specs.Feeding.{EngineState, EngineRepresents, FeedFails, Continues}
+use Rattle.ud_engine.specs.Finishing.{Finishes, RunAnswers}
+use Rattle.ud_engine.specs.Feeding.{EngineState, EngineRepresents, FeedFails, Continues, WriterMatches}
 use Rattle.ud_engine.specs.Runs.{InProgress, RunFinished, ErrorMatchesStreams}
-use Rattle.ud_engine.proofs.RunLemmas.{own_piece, input_is, input_begins, lag, ended_ran, ended_appended, ended_read, ended_write, fed_read, fed_write, feed_appended, ran_early, the_err}
+use Rattle.ud_engine.proofs.RunLemmas.{own_piece, own_session, input_is, input_begins, lag, ended_ran, ended_appended, ended_read, ended_write, fed_read, fed_write, feed_appended, ran_early, the_err}
 use Rattle.ud_engine.proofs.RunEndedLemmas.{printed_so_far, fed_ends, end_ends}
 
 -- A run begins.
@@ -37,18 +37,18 @@ module _ (o : Options) (e : EngineState Printer) (r₀ r₁ w₀ w₁ : Option (
 
   -- The reader was at its end.
   pub at_end : (r₂ w₂ : Option (List ℕ)) → Consumes r₁ r₂ [] → IsAtEnd r₂ → (reader writer : Bool) (result : Result Bool RunFault) →
-      IfOk result (FinishOk o (own_piece o) u.given u.printed w₁ w₂) → IfErr result (FinishErr o (own_piece o) writer w₁ w₂ u.given u.printed) →
+      Finishes (own_session o u.given u.printed) writer w₁ w₂ result →
       RunFinished o r₀ r₂ w₀ w₂ reader writer result
-  at_end r₂ w₂ last left reader writer result well ill =
+  at_end r₂ w₂ last left reader writer result ends =
       let joined = Consumes-trans r₀ r₁ r₂ u.given [] u.consumed last in
       let all : Consumes r₀ r₂ u.given = subst (λ (x : List ℕ). Consumes r₀ r₂ x) (append-nil u.given) joined in
-      let more = ended_appended o w₀ w₁ w₂ u.given u.printed writer u.appended result well ill in
+      let more = ended_appended o w₀ w₁ w₂ u.given u.printed writer u.appended result ends in
       record {
         ran = λ reads writes.
             input_is r₀ r₂ u.given (λ input. RunAnswers o input w₀ w₂ result) all left
-            (ended_ran o w₀ w₁ w₂ u.given u.printed writer u.appended result well ill writes);
+            (ended_ran o w₀ w₁ w₂ u.given u.printed writer u.appended result ends writes);
         lag = lag o printer_represents printer_piece e u.given u.printed u.fed.taken r₀ r₂ w₀ w₁ w₂ [] more.0 joined (omega arith) u.appended more.1;
-        ended = record { given = u.given; consumed = all; ends = end_ends o r₂ w₀ w₁ w₂ u.printed u.appended writer u.given left result well ill };
+        ended = record { given = u.given; consumed = all; ends = end_ends o r₂ w₀ w₁ w₂ u.printed u.appended writer u.given left result ends };
       }
 
   module _ (r₂ w₂ : Option (List ℕ)) (piece : List ℕ) (read : Consumes r₁ r₂ piece) where
@@ -81,17 +81,17 @@ pub read_told : (reader writer : Bool) → reader ≡ true → writer ≡ false 
 read_told reader writer failed works = record { works = tt; read_fails = (λ f. refl, λ f. failed); write_fails = (λ f. cc, λ f. cc) }
 
 module _ (o : Options) (b c : Option (List ℕ)) (printed : List ℕ) (reader writer : Bool) (reads : reader ≡ false) where
-  both_work : (result : Result Bool RunFault) → OnOk result (writer ≡ false) → OnOk result ((reader ≡ false) × (writer ≡ false))
+  both_work : (result : Result Bool RunFault) → WriterMatches writer result → OnOk result ((reader ≡ false) × (writer ≡ false))
   both_work (Ok d) works = (reads, works)
   both_work (Err f) works = tt
 
   -- The result at the end of the text, where a write may fail.
-  pub end_told : (given : List ℕ) (result : Result Bool RunFault) → OnOk result (writer ≡ false) → IfErr result (FinishErr o (own_piece o) writer b c given printed) →
+  pub end_told : (given : List ℕ) (result : Result Bool RunFault) → WriterMatches writer result → Finishes (own_session o given printed) writer b c result →
       ErrorMatchesStreams reader writer result
-  end_told given result works ill = record {
+  end_told given result works ends = record {
     works = both_work result works;
-    read_fails = ended_read o b c given printed writer reader result reads ill;
-    write_fails = ended_write o b c given printed writer result works ill;
+    read_fails = ended_read o b c given printed writer reader result reads ends;
+    write_fails = ended_write o b c given printed writer result works ends;
   }
 
   -- The result after a chunk is faulty, or a write of its output fails.

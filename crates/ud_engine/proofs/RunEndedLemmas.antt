@@ -1,5 +1,5 @@
 -- The end of a run, by what its engine was fed.
-use Rattle.std.proofs.Common.{◌≡◌, inl, inr, ℕ, Bool, List, ◌++◌, Option, Some, None, Result, Ok, Err, IfOk, IfErr, refl, ◌∙◌, subst}
+use Rattle.std.proofs.Common.{◌≡◌, inl, inr, ℕ, Bool, List, ◌++◌, Option, Some, None, Result, Ok, Err, refl, ◌∙◌, subst}
 use Rattle.std.specs.Io.KnownBytes.{Appends, IsAtEnd}
 use Rattle.std.proofs.KnownBytes.{Appends-trans}
 use Rattle.ud_model.specs.text.Scans.{Reading}
@@ -11,13 +11,13 @@ use Rattle.ud_model.specs.answer.Outcomes.{outcome_of, output_by, ran_as, came_a
 use Rattle.ud_faults.specs.Faults.{fault_of}
 use Rattle.ud_faults.specs.declared.run.RunFault.{RunFault}
 use Rattle.ud_faults.specs.declared.run.RunFault.TheVariants.{Text, Section, Read, Write}
-use Rattle.ud_engine.specs.Finishing.{FinishFault, FinishOk, FinishErr}
+use Rattle.ud_engine.specs.Finishing.{FinishFault, FinishErr, Finishes}
 use Rattle.ud_engine.specs.Feeding.{EngineState, EngineRepresentsBuffered, FeedFails, FaultsAfter}
 use Rattle.ud_faults.specs.Faults.{limit_of}
 use Rattle.ud_engine.specs.ProcessedLines.{text_by}
 use Rattle.ud_engine.specs.Runs.{PrintsSoFar, StoppedAtFault, EndsWith, in_course, at_end}
 use Rattle.ud_io.specs.Watched.{AppendsPrefix}
-use Rattle.ud_engine.proofs.RunLemmas.{own_piece, same_text, ran_well}
+use Rattle.ud_engine.proofs.RunLemmas.{own_piece, own_session, same_text, ran_well}
 use Rattle.ud_io.proofs.BufferingLemmas.{prefix_of_second}
 use Rattle.ud_engine.proofs.LinePartLemmas.{reads_so_far}
 
@@ -77,7 +77,6 @@ module _ (o : Options) where
         at_end ended (record { items = w.1.items; tree = w.1.tree; goes = w.1.goes; prefix = front_is w.1.items w.1.tree w.1.more w.1.printed_is w.1.prefix })
 
     -- The text has ended.
-    pub end_ends : (failed : Bool) (given : List ℕ) → IsAtEnd left → (r : Result Bool RunFault) → IfOk r (FinishOk o (own_piece o) given printed b c) →
-        IfErr r (FinishErr o (own_piece o) failed b c given printed) → EndsWith o given left a c r
-    end_ends failed given ended (Ok d) w x = (ended, ran_well o a b c given printed d before w)
-    end_ends failed given ended (Err f) w x = end_fails failed given ended f x
+    pub end_ends : (failed : Bool) (given : List ℕ) → IsAtEnd left → (r : Result Bool RunFault) → Finishes (own_session o given printed) failed b c r → EndsWith o given left a c r
+    end_ends failed given ended (Ok d) w = (ended, ran_well o a b c given printed d before w)
+    end_ends failed given ended (Err f) w = end_fails failed given ended f w

@@ -22,8 +22,8 @@ use Rattle.ud_faults.specs.Faults.{fault_of}
 use Rattle.ud_faults.specs.declared.run.RunFault.{RunFault}
 use Rattle.ud_faults.specs.declared.run.RunFault.TheVariants.{Text, Section, Read, Write}
 use Rattle.ud_engine.specs.declared.pump.TheConstants.{CHUNK_BYTES}
-use Rattle.ud_engine.specs.Finishing.{FinishFault, FinishOk, FinishErr, RunAnswers, ResultIs, text_fault_of}
-use Rattle.ud_engine.specs.Feeding.{EngineState, EngineRepresentsBuffered, FeedFails, FaultsAfter}
+use Rattle.ud_engine.specs.Finishing.{FinishFault, FinishOk, FinishErr, Finishes, RunAnswers, ResultIs, text_fault_of}
+use Rattle.ud_engine.specs.Feeding.{EngineState, EngineRepresentsBuffered, Session, FeedFails, FaultsAfter, WriterMatches}
 use Rattle.ud_faults.specs.Faults.{limit_of}
 use Rattle.ud_engine.specs.ProcessedLines.{text_by, differs_in}
 use Rattle.ud_engine.specs.Runs.{LagsOneRead, all_but_last_chunk, bytes_to_limit}
@@ -59,6 +59,10 @@ the_err f = Err f
 module _ (o : Options) where
   abbrev pub own_piece : List Judged → Judged → List ℕ
   own_piece = piece_after (style_of o.settings)
+
+  -- The session of a run: an engine that prints as the options ask was fed `text`.
+  abbrev pub own_session : List ℕ → List ℕ → Session
+  own_session text printed = record { options = o; pieces = own_piece; text = text; printed = printed }
 
   outcome_at : (input : List ℕ) (xs : List (Item Reading)) (t : Tree Reading) (f : Option Fault) (a b : Option (List ℕ)) (result : Result Bool RunFault) (all : List ℕ) →
       ReadsAs o input xs t f → all ≡ text_by o.settings.listing own_piece xs t → Appends a b all → ResultIs result (outcome_of o.settings xs t f) → RunAnswers o input a b result
@@ -182,16 +186,16 @@ module _ (o : Options) where
 
   module _ (a b c : Option (List ℕ)) (given printed : List ℕ) (failed : Bool) (before : Appends a b printed) where
     -- The end of the text.
-    pub ended_ran : (r : Result Bool RunFault) → IfOk r (FinishOk o own_piece given printed b c) → IfErr r (FinishErr o own_piece failed b c given printed) → failed ≡ false → RunAnswers o given a c r
-    ended_ran (Ok d) w x works = ran_well a b c given printed d before w
-    ended_ran (Err f) w x works = ran_ill a b c given printed failed f works before x
+    pub ended_ran : (r : Result Bool RunFault) → Finishes (own_session given printed) failed b c r → failed ≡ false → RunAnswers o given a c r
+    ended_ran (Ok d) w works = ran_well a b c given printed d before w
+    ended_ran (Err f) w works = ran_ill a b c given printed failed f works before w
 
-    pub ended_appended : (r : Result Bool RunFault) → IfOk r (FinishOk o own_piece given printed b c) → IfErr r (FinishErr o own_piece failed b c given printed) → (x : List ℕ) × Appends b c x
-    ended_appended (Ok d) w x = (w.more, w.appended)
-    ended_appended (Err f) w x = end_appended failed b c given printed f x
+    pub ended_appended : (r : Result Bool RunFault) → Finishes (own_session given printed) failed b c r → (x : List ℕ) × Appends b c x
+    ended_appended (Ok d) w = (w.more, w.appended)
+    ended_appended (Err f) w = end_appended failed b c given printed f w
 
   -- The faults possible at the end.
-  pub ended_read : (b c : Option (List ℕ)) (given printed : List ℕ) (failed reader : Bool) (r : Result Bool RunFault) → reader ≡ false → IfErr r (FinishErr o own_piece failed b c given printed) →
+  pub ended_read : (b c : Option (List ℕ)) (given printed : List ℕ) (failed reader : Bool) (r : Result Bool RunFault) → reader ≡ false → Finishes (own_session given printed) failed b c r →
       (reader ≡ true → r ≡ Err Read) × (r ≡ Err Read → reader ≡ true)
   ended_read b c given printed failed reader (Ok d) e w = (λ f. cc, λ f. cc)
   ended_read b c given printed failed reader (Err (Text f)) e w = (λ f. cc, λ f. cc)
@@ -199,7 +203,7 @@ module _ (o : Options) where
   ended_read b c given printed failed reader (Err Read) e w = absurd w
   ended_read b c given printed failed reader (Err Write) e w = (λ f. cc, λ f. cc)
 
-  pub ended_write : (b c : Option (List ℕ)) (given printed : List ℕ) (failed : Bool) (r : Result Bool RunFault) → OnOk r (failed ≡ false) → IfErr r (FinishErr o own_piece failed b c given printed) →
+  pub ended_write : (b c : Option (List ℕ)) (given printed : List ℕ) (failed : Bool) (r : Result Bool RunFault) → WriterMatches failed r → Finishes (own_session given printed) failed b c r →
       (failed ≡ true → r ≡ Err Write) × (r ≡ Err Write → failed ≡ true)
   ended_write b c given printed failed (Ok d) e w = (λ f. cc, λ f. cc)
   ended_write b c given printed failed (Err (Text f)) e w = (λ g. let no = w.0 in cc, λ g. cc)

@@ -4,11 +4,15 @@
 --   IsOpen lines                                         more bytes can be taken
 --   EngineRepresentsBuffered .. e o piece text printed   an engine took this text
 --   EngineRepresents .. e o piece text printed           it did, and all output is written
+--   Session                                              what an engine was fed and has printed
+--   IsInSession .. e s                                   an engine was fed and has printed this
 --   Continues .. e o piece longer printed old new        the next chunk was fed
 --   FeedFails .. old new longer printed f                feeding the next chunk failed
---   ErrorMatchesWriter failed f                          the error is `Write` if the writer failed
+--   Feeds .. e s chunk failed old new result             the next chunk was fed, or that failed
+--   WriterMatches failed result                          the error is `Write` if the writer failed
+--   RecordsFault fault result                            the fault that an engine records
 use Rattle.std.specs.Prelude.{◌≡◌, ℕ, ◌<◌, ◌≤◌, List, [], ◌++◌, length, Bool, true, false, Option}
-use Rattle.std.specs.Prelude.{Some, None}
+use Rattle.std.specs.Prelude.{Some, None, Result, Ok, Err}
 use Rattle.std.specs.Io.KnownBytes.{Appends}
 use Rattle.ud_model.specs.text.Lines.{Line, NoNewline, partial_line}
 use Rattle.ud_model.specs.text.Scans.{Reading}
@@ -72,6 +76,20 @@ pub record EngineRepresents {S : Type 0} (represents : S → List Judged → Typ
   pub works : e.fault ≡ None
   pub written : e.buffered ≡ []
 
+-- `Session`: the options and the printer's pieces of an engine, all bytes that it was fed, and the
+-- output for their whole lines.
+pub record Session : Type 0 where
+  pub options : Options
+  pub pieces : List Judged → Judged → List ℕ
+  pub text : List ℕ
+  pub printed : List ℕ
+
+-- `IsInSession .. e s`: `e` was fed and has printed what `s` says.
+abbrev pub IsInSession : {S : Type 0} → (S → List Judged → Type 0) → (S → List Judged → Judged →
+    List ℕ) → EngineState S → Session → Type 0
+IsInSession represents piece_of e s =
+    EngineRepresents represents piece_of e s.options s.pieces s.text s.printed
+
 -- `Continues .. e o piece longer printed old new`: `e` was fed `longer`, and the output for its
 -- lines after `printed` was appended. The text has no fault so far. The line that it begins and its
 -- open sections are within the limits.
@@ -130,3 +148,24 @@ ErrorMatchesWriter failed (Text f) = failed ≡ false
 ErrorMatchesWriter failed (Section f) = failed ≡ false
 ErrorMatchesWriter failed Read = ⊥
 ErrorMatchesWriter failed Write = failed ≡ true
+
+-- `Feeds .. e s chunk failed old new result`: an engine in the session `s` was fed `chunk`, and is
+-- `e` after it; or that failed.
+abbrev pub Feeds : {S T : Type 0} → (S → List Judged → Type 0) → (S → List Judged → Judged →
+    List ℕ) → EngineState S → Session → List ℕ → Bool → Option (List ℕ) → Option (List ℕ) →
+    Result T RunFault → Type 0
+Feeds represents piece_of e s chunk failed old new (Ok done) =
+    Continues represents piece_of e s.options s.pieces (s.text ++ chunk) s.printed old new
+Feeds represents piece_of e s chunk failed old new (Err f) =
+    FeedFails s.options s.pieces failed old new (s.text ++ chunk) s.printed f
+
+-- `WriterMatches failed result`: the writer hasn't failed after `Ok`, and `ErrorMatchesWriter` is
+-- true of an error.
+abbrev pub WriterMatches : {T : Type 0} → Bool → Result T RunFault → Type 0
+WriterMatches failed (Ok value) = failed ≡ false
+WriterMatches failed (Err f) = ErrorMatchesWriter failed f
+
+-- `RecordsFault fault result`: `fault` is the error, if there is one.
+abbrev pub RecordsFault : {T : Type 0} → Option RunFault → Result T RunFault → Type 0
+RecordsFault fault (Ok value) = fault ≡ None
+RecordsFault fault (Err f) = fault ≡ Some f

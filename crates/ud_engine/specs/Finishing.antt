@@ -2,8 +2,10 @@
 --
 --   without_fault symbols lines printer buffered   an engine that isn't fused
 --   PrintsAll .. p o piece text printed old new    all lines of the text are printed
+--   PrintsLast .. p s failed old new result        they are, or that failed
 --   FinishOk .. differs                            the text has no fault, and is printed
 --   FinishErr .. f                                 finishing failed
+--   Finishes s failed old new result               the text has ended, or that failed
 --   ResultIs result r                              the result of a run is this outcome
 use Rattle.std.specs.Prelude.{◌≡◌, ℕ, List, ◌++◌, Bool, true, false, Option, Some, None, Result, Ok}
 use Rattle.std.specs.Prelude.{Err}
@@ -21,7 +23,7 @@ use Rattle.ud_faults.specs.Faults.{fault_of}
 use Rattle.ud_faults.specs.declared.run.RunFault.{RunFault}
 use Rattle.ud_faults.specs.declared.run.RunFault.TheVariants.{Text, Section, Read, Write}
 use Rattle.ud_engine.specs.declared.line_processor.LineProcessor.{LineProcessor}
-use Rattle.ud_engine.specs.Feeding.{EngineState}
+use Rattle.ud_engine.specs.Feeding.{EngineState, Session}
 use Rattle.ud_faults.specs.Faults.{limit_of}
 use Rattle.ud_engine.specs.ProcessedLines.{ProcessorRepresents, text_by, differs_in}
 use Rattle.ud_io.specs.Watched.{AppendsPrefix}
@@ -99,6 +101,25 @@ FinishErr o piece failed old new text printed (Section f) = (failed ≡ false) �
 FinishErr o piece failed old new text printed Read = ⊥
 FinishErr o piece failed old new text printed Write = (failed ≡ true) ×
     FinishTruncated o piece text printed old new
+
+-- `Finishes s failed old new result`: the text of an engine in the session `s` has ended, or that
+-- failed.
+abbrev pub Finishes : Session → Bool → Option (List ℕ) → Option (List ℕ) → Result Bool RunFault →
+    Type 0
+Finishes s failed old new (Ok differs) =
+    FinishOk s.options s.pieces s.text s.printed old new differs
+Finishes s failed old new (Err f) =
+    FinishErr s.options s.pieces failed old new s.text s.printed f
+
+-- `PrintsLast .. p s failed old new result`: `p` printed all lines of the text of an engine in the
+-- session `s`; or that failed.
+abbrev pub PrintsLast : {S T : Type 0} → (S → List Judged → Type 0) → (S → List Judged →
+    Judged → List ℕ) → LineProcessor S → Session → Bool → Option (List ℕ) → Option (List ℕ) →
+    Result T RunFault → Type 0
+PrintsLast represents piece_of p s failed old new (Ok done) =
+    PrintsAll represents piece_of p s.options s.pieces s.text s.printed old new
+PrintsLast represents piece_of p s failed old new (Err f) =
+    FinishErr s.options s.pieces failed old new s.text s.printed f
 
 -- `text_fault_of f`: the fault of the definitions, if `f` is one of the text.
 abbrev pub text_fault_of : RunFault → Option Fault

@@ -16,8 +16,8 @@ ghost use Rattle.ud_model.specs.declared.settings.Listing.TheVariants.{Off};
 ghost use Rattle.ud_cond.specs.symbols.SymbolTable.{TableRepresents};
 ghost use Rattle.ud_io.specs.Buffering.{AppendsAllButOrPrefix};
 ghost use Rattle.ud_text.specs.lines.LinesState.{HasCapacity};
-ghost use Rattle.ud_engine.specs.Feeding.{IsOpen, EngineRepresents, ErrorMatchesWriter};
-ghost use Rattle.ud_engine.specs.Finishing.{FinishErr, PrintsAll, without_fault};
+ghost use Rattle.ud_engine.specs.Feeding.{IsOpen, Session, IsInSession, WriterMatches};
+ghost use Rattle.ud_engine.specs.Finishing.{PrintsLast, without_fault};
 ghost use Rattle.ud_engine.specs.Advancing.{IsCursor};
 
 use crate::line_processor::LineProcessor;
@@ -145,8 +145,9 @@ impl<'p, S: Show> Engine<'p, S, LongLineBuffer> {
 
 impl<'p, S: Show, H: LineBuffer> Engine<'p, S, H> {
     ghost use Rattle.ud_engine.specs.Feeding.{EngineRepresents, EngineRepresentsBuffered};
-    ghost use Rattle.ud_engine.specs.Feeding.{Continues, FeedFails, ErrorMatchesWriter};
-    ghost use Rattle.ud_engine.specs.Finishing.{FinishOk, FinishErr};
+    ghost use Rattle.ud_engine.specs.Feeding.{Session, IsInSession, Feeds, WriterMatches};
+    ghost use Rattle.ud_engine.specs.Feeding.{RecordsFault};
+    ghost use Rattle.ud_engine.specs.Finishing.{Finishes};
     ghost use Rattle.ud_engine.specs.Advancing.{Advances, StepFails, IsCursor, slice_between};
     ghost use Rattle.ud_engine.specs.Advancing.{measure};
     ghost use Rattle.ud_engine.specs.FaultEffects.{OutputUnchanged, ErrorMatchesFailure};
@@ -198,21 +199,11 @@ impl<'p, S: Show, H: LineBuffer> Engine<'p, S, H> {
     pub fn feed<W: Write>(&mut self, chunk: &[u8], out: &mut Watched<W>) -> Result<(), RunFault>
         requires not_failed { self.old.fault ≡ None → out.old.failed ≡ false }
         requires fits { HasCapacity H.CAPACITY self.old.lines (length chunk.now) }
-        ensures represents { (o : Options) → (pieces : List Judged → Judged → List ℕ) →
-            (text : List ℕ) → (printed : List ℕ) →
-            EngineRepresents S.represents S.piece self.old o pieces text printed →
-            OnOk result (Continues S.represents S.piece self.new o pieces (text ++ chunk.now)
-            printed (W.contents out.old.inner) (W.contents out.new.inner)) }
-        ensures fails { (o : Options) → (pieces : List Judged → Judged → List ℕ) → (text : List ℕ) →
-            (printed : List ℕ) →
-            EngineRepresents S.represents S.piece self.old o pieces text printed →
-            IfErr result (FeedFails o pieces out.new.failed (W.contents out.old.inner)
-            (W.contents out.new.inner) (text ++ chunk.now) printed) }
-        ensures not_failed { OnOk result (out.new.failed ≡ false) }
-        ensures error_matches { self.old.fault ≡ None →
-            IfErr result (ErrorMatchesWriter out.new.failed) }
-        ensures records_fault { IfErr result (λ f. self.new.fault ≡ Some f) }
-        ensures not_fused { OnOk result (self.new.fault ≡ None) }
+        ensures feeds { (s : Session) → IsInSession S.represents S.piece self.old s →
+            Feeds S.represents S.piece self.new s chunk.now out.new.failed
+            (W.contents out.old.inner) (W.contents out.new.inner) result }
+        ensures writer { self.old.fault ≡ None → WriterMatches out.new.failed result }
+        ensures records_fault { RecordsFault self.new.fault result }
         ensures fused { IfSome self.old.fault (λ f. (result ≡ Err f) × (self.new ≡ self.old) ×
             (out.new ≡ out.old)) }
     {
@@ -252,19 +243,9 @@ impl<'p, S: Show, H: LineBuffer> Engine<'p, S, H> {
     /// ```
     pub fn finish<W: Write>(self, out: &mut Watched<W>) -> Result<bool, RunFault>
         requires { self.fault ≡ None → out.old.failed ≡ false }
-        ensures ended { (o : Options) → (pieces : List Judged → Judged → List ℕ) → (text : List ℕ) →
-            (printed : List ℕ) →
-            EngineRepresents S.represents S.piece self.entry o pieces text printed →
-            IfOk result (FinishOk o pieces text printed (W.contents out.old.inner)
-            (W.contents out.new.inner)) }
-        ensures fails { (o : Options) → (pieces : List Judged → Judged → List ℕ) → (text : List ℕ) →
-            (printed : List ℕ) →
-            EngineRepresents S.represents S.piece self.entry o pieces text printed →
-            IfErr result (FinishErr o pieces out.new.failed (W.contents out.old.inner)
-            (W.contents out.new.inner) text printed) }
-        ensures not_failed { OnOk result (out.new.failed ≡ false) }
-        ensures error_matches { self.entry.fault ≡ None →
-            IfErr result (ErrorMatchesWriter out.new.failed) }
+        ensures finishes { (s : Session) → IsInSession S.represents S.piece self.entry s →
+            Finishes s out.new.failed (W.contents out.old.inner) (W.contents out.new.inner) result }
+        ensures writer { self.entry.fault ≡ None → WriterMatches out.new.failed result }
         ensures fused { IfSome self.entry.fault (λ f. (result ≡ Err f) × (out.new ≡ out.old)) }
     {
         let mut engine = self;
@@ -281,19 +262,9 @@ impl<'p, S: Show, H: LineBuffer> Engine<'p, S, H> {
         out: &mut Watched<W>,
     ) -> Result<bool, RunFault>
         requires { self.old.fault ≡ None → out.old.failed ≡ false }
-        ensures ended { (o : Options) → (pieces : List Judged → Judged → List ℕ) → (text : List ℕ) →
-            (printed : List ℕ) →
-            EngineRepresents S.represents S.piece self.old o pieces text printed →
-            IfOk result (FinishOk o pieces text printed (W.contents out.old.inner)
-            (W.contents out.new.inner)) }
-        ensures fails { (o : Options) → (pieces : List Judged → Judged → List ℕ) → (text : List ℕ) →
-            (printed : List ℕ) →
-            EngineRepresents S.represents S.piece self.old o pieces text printed →
-            IfErr result (FinishErr o pieces out.new.failed (W.contents out.old.inner)
-            (W.contents out.new.inner) text printed) }
-        ensures not_failed { OnOk result (out.new.failed ≡ false) }
-        ensures error_matches { self.old.fault ≡ None →
-            IfErr result (ErrorMatchesWriter out.new.failed) }
+        ensures finishes { (s : Session) → IsInSession S.represents S.piece self.old s →
+            Finishes s out.new.failed (W.contents out.old.inner) (W.contents out.new.inner) result }
+        ensures writer { self.old.fault ≡ None → WriterMatches out.new.failed result }
         ensures fused { IfSome self.old.fault (λ f. (result ≡ Err f) × (out.new ≡ out.old)) }
     {
         if let Some(earlier) = self.fault {
@@ -357,18 +328,10 @@ impl<'p, S: Show, H: LineBuffer> Engine<'p, S, H> {
     ) -> Result<(), RunFault>
         requires not_failed { out.old.failed ≡ false }
         requires fits { HasCapacity H.CAPACITY self.old.lines (length chunk.now) }
-        ensures represents { (o : Options) → (pieces : List Judged → Judged → List ℕ) →
-            (text : List ℕ) → (printed : List ℕ) →
-            EngineRepresents S.represents S.piece self.old o pieces text printed →
-            OnOk result (Continues S.represents S.piece self.new o pieces (text ++ chunk.now)
-            printed (W.contents out.old.inner) (W.contents out.new.inner)) }
-        ensures fails { (o : Options) → (pieces : List Judged → Judged → List ℕ) → (text : List ℕ) →
-            (printed : List ℕ) →
-            EngineRepresents S.represents S.piece self.old o pieces text printed →
-            IfErr result (FeedFails o pieces out.new.failed (W.contents out.old.inner)
-            (W.contents out.new.inner) (text ++ chunk.now) printed) }
-        ensures not_failed { OnOk result (out.new.failed ≡ false) }
-        ensures error_matches { IfErr result (ErrorMatchesWriter out.new.failed) }
+        ensures feeds { (s : Session) → IsInSession S.represents S.piece self.old s →
+            Feeds S.represents S.piece self.new s chunk.now out.new.failed
+            (W.contents out.old.inner) (W.contents out.new.inner) result }
+        ensures writer { WriterMatches out.new.failed result }
         ensures fault { OnOk result (self.new.fault ≡ self.old.fault) }
     {
         let mut cursor = cursor_at(&self.lines, chunk, 0);
@@ -668,20 +631,11 @@ fn print_last_line<S: Show, H: LineBuffer, W: Write>(
 ) -> Result<(), RunFault>
     requires not_failed { out.old.failed ≡ false }
     requires opened { IsOpen lines.old }
-    ensures last { (o : Options) → (pieces : List Judged → Judged → List ℕ) → (text : List ℕ) →
-        (printed : List ℕ) →
-        EngineRepresents S.represents S.piece
-        (without_fault symbols.now lines.old printer.old output.old) o pieces text printed →
-        OnOk result (PrintsAll S.represents S.piece printer.new o pieces text printed
-        (W.contents out.old.inner) (W.contents out.new.inner)) }
-    ensures fails { (o : Options) → (pieces : List Judged → Judged → List ℕ) → (text : List ℕ) →
-        (printed : List ℕ) →
-        EngineRepresents S.represents S.piece
-        (without_fault symbols.now lines.old printer.old output.old) o pieces text printed →
-        IfErr result (FinishErr o pieces out.new.failed (W.contents out.old.inner)
-        (W.contents out.new.inner) text printed) }
-    ensures not_failed { OnOk result (out.new.failed ≡ false) }
-    ensures error_matches { IfErr result (ErrorMatchesWriter out.new.failed) }
+    ensures last { (s : Session) → IsInSession S.represents S.piece
+        (without_fault symbols.now lines.old printer.old output.old) s →
+        PrintsLast S.represents S.piece printer.new s out.new.failed
+        (W.contents out.old.inner) (W.contents out.new.inner) result }
+    ensures writer { WriterMatches out.new.failed result }
     ensures limit { lines.new.last_line ≡ lines.old.last_line }
 {
     match lines.close() {

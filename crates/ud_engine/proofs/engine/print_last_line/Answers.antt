@@ -5,7 +5,7 @@ use Rattle.ud_model.specs.text.LineViews.{as_line}
 use Rattle.ud_engine.specs.Finishing.{without_fault}
 use Rattle.ud_io.specs.Buffering.{AppendsAllBut}
 use Rattle.ud_faults.specs.declared.run.RunFault.TheVariants.{Write}
-use Rattle.ud_engine.proofs.ErrLemmas.{err_is}
+use Rattle.ud_engine.proofs.ErrLemmas.{last_err}
 use Rattle.ud_engine.proofs.StepLemmas.{rest_feedless}
 use Rattle.ud_engine.proofs.EndLemmas.{last_printed, last_cut, last_fails}
 use Rattle.ud_engine.proofs.engine.print_last_line.Goals as goal
@@ -16,28 +16,28 @@ put_line-requires-clause-one_line g c =
     (rest_feedless (suc c.close.new.self.before) c.close.new.self.held
     (subst (λ (x : List ℕ). NoNewline x) (sym (ap (λ (l : LinesState). l.held) c.in-Ok-true.ensures.value.1)) c.requires.opened.no_newline))
 
-pub returns-in-Err-put_line-clause-fails : goal.returns-in-Err-put_line-clause-fails
-returns-in-Err-put_line-clause-fails g c = λ o pieces text printed fed.
-    last_fails g.S.Show.represents g.S.Show.piece o pieces (without_fault c.args.symbols.now c.args.lines.now c.args.printer.now c.args.output.now) text printed fed (search rules)
+pub returns-in-Err-put_line-clause-last : goal.returns-in-Err-put_line-clause-last
+returns-in-Err-put_line-clause-last g c = λ s fed.
+    last_fails g.S.Show.represents g.S.Show.piece s.options s.pieces (without_fault c.args.symbols.now c.args.lines.now c.args.printer.now c.args.output.now) s.text s.printed fed (search rules)
     c.close.new.self c.in-Ok-true.ensures.value.1 (as_line c.line.result) c.line.ensures.value
     g.W.Write.contents c.args.out.now c.put_line.new.out c.args.output.now c.put_line.new.output fed.written c.requires.not_failed c.in-Err-put_line.fault
-    (c.in-Err-put_line.ensures.err o pieces fed.taken.items fed.taken.tree fed.taken.symbols fed.taken.has) c.in-Err-put_line.ensures.output_unchanged
+    (c.in-Err-put_line.ensures.err s.options s.pieces fed.taken.items fed.taken.tree fed.taken.symbols fed.taken.has) c.in-Err-put_line.ensures.output_unchanged
 
 pub returns-in_ok-flush_buffer-in-Ok-clause-last : goal.returns-in_ok-flush_buffer-in-Ok-clause-last
-returns-in_ok-flush_buffer-in-Ok-clause-last g c = λ o pieces text printed fed.
-    last_printed g.S.Show.represents g.S.Show.piece o pieces (without_fault c.args.symbols.now c.args.lines.now c.args.printer.now c.args.output.now) text printed fed (search rules)
+returns-in_ok-flush_buffer-in-Ok-clause-last g c = λ s fed.
+    last_printed g.S.Show.represents g.S.Show.piece s.options s.pieces (without_fault c.args.symbols.now c.args.lines.now c.args.printer.now c.args.output.now) s.text s.printed fed (search rules)
     c.close.new.self c.in-Ok-true.ensures.value.1 (as_line c.line.result) c.line.ensures.value
     c.put_line.new.self (g.W.Write.contents c.args.out.now.inner) (g.W.Write.contents c.put_line.new.out.inner) c.put_line.new.output
-    (c.in-Ok.ensures.ok o pieces fed.taken.items fed.taken.tree fed.taken.symbols fed.taken.has) (g.W.Write.contents c.flush_buffer.new.out.inner)
+    (c.in-Ok.ensures.ok s.options s.pieces fed.taken.items fed.taken.tree fed.taken.symbols fed.taken.has) (g.W.Write.contents c.flush_buffer.new.out.inner)
     (subst (λ x. AppendsAllBut (g.W.Write.contents c.put_line.new.out.inner) (g.W.Write.contents c.flush_buffer.new.out.inner) c.put_line.new.output x)
     c.in_ok-flush_buffer-in-Ok.ensures.all c.in_ok-flush_buffer-in-Ok.ensures.appends)
 
-pub returns-in_err-flush_buffer-in-Ok-clause-fails : goal.returns-in_err-flush_buffer-in-Ok-clause-fails
-returns-in_err-flush_buffer-in-Ok-clause-fails g c = λ o pieces text printed fed. err_is _ c.from_residual.result Write c.from_residual.ensures.1 (
+pub returns-in_err-flush_buffer-in-Ok-clause-last : goal.returns-in_err-flush_buffer-in-Ok-clause-last
+returns-in_err-flush_buffer-in-Ok-clause-last g c = λ s fed. last_err g.S.Show.represents g.S.Show.piece _ s _ _ _ c.from_residual.result Write c.from_residual.ensures.1 (
   search rules,
-  last_cut g.S.Show.represents g.S.Show.piece o pieces (without_fault c.args.symbols.now c.args.lines.now c.args.printer.now c.args.output.now) text printed fed (search rules)
+  last_cut g.S.Show.represents g.S.Show.piece s.options s.pieces (without_fault c.args.symbols.now c.args.lines.now c.args.printer.now c.args.output.now) s.text s.printed fed (search rules)
       c.close.new.self c.in-Ok-true.ensures.value.1 (as_line c.line.result) c.line.ensures.value
       c.put_line.new.self (g.W.Write.contents c.args.out.now.inner) (g.W.Write.contents c.put_line.new.out.inner) c.put_line.new.output
-      (c.in-Ok.ensures.ok o pieces fed.taken.items fed.taken.tree fed.taken.symbols fed.taken.has) (g.W.Write.contents c.flush_buffer.new.out.inner)
+      (c.in-Ok.ensures.ok s.options s.pieces fed.taken.items fed.taken.tree fed.taken.symbols fed.taken.has) (g.W.Write.contents c.flush_buffer.new.out.inner)
       c.in_err-flush_buffer-in-Ok.ensures.appends,
 )

@@ -1,8 +1,6 @@
-use Rattle.std.proofs.Common.{◌≡◌, ◌++◌, ℕ, List, [], take, false}
-use Rattle.ud_model.specs.sections.Items.{Options}
-use Rattle.ud_model.specs.answer.Printing.{Judged}
+use Rattle.std.proofs.Common.{◌≡◌, ◌++◌, [], take, false}
 use Rattle.ud_engine.specs.Advancing.{Advances, IsCursor, slice_between, measure}
-use Rattle.ud_engine.specs.Feeding.{EngineRepresents}
+use Rattle.ud_engine.specs.Feeding.{Session, IsInSession}
 use Rattle.ud_engine.proofs.engine.Engine.process_chunk.Given as goal
 
 abbrev pub invariant-loop-cursor : goal.invariant-loop-cursor
@@ -10,8 +8,8 @@ invariant-loop-cursor g l = record {
   not_failed : l.out.failed ≡ false;
   place : IsCursor g.H.LineBuffer.CAPACITY l.self.lines l.chunk l.cursor;
   fault : l.self.fault ≡ l.initial.self.fault;
-  taken : (o : Options) (pieces : List Judged → Judged → List ℕ) (text printed : List ℕ) → EngineRepresents g.S.Show.represents g.S.Show.piece l.initial.self o pieces text printed →
-      Advances g.S.Show.represents g.S.Show.piece l.self o pieces text printed (take l.cursor.pos l.chunk)
+  taken : (s : Session) → IsInSession g.S.Show.represents g.S.Show.piece l.initial.self s →
+      Advances g.S.Show.represents g.S.Show.piece l.self s.options s.pieces s.text s.printed (take l.cursor.pos l.chunk)
       (g.W.Write.contents l.initial.out.inner) (g.W.Write.contents l.out.inner) [] (l.self.buffered ++ slice_between l.chunk l.cursor.pending_start l.cursor.pos);
 }
 
