@@ -14,7 +14,7 @@ use Rattle.ud_faults.specs.Faults.{fault_of}
 use Rattle.ud_faults.specs.declared.run.RunFault.{RunFault}
 use Rattle.ud_faults.specs.declared.run.RunFault.TheVariants.{Text, Section, Read, Write}
 use Rattle.ud_engine.specs.Advancing.{Advances, StepFails, WriteStops, slice_between}
-use Rattle.ud_engine.specs.Feeding.{EngineState, IsOpen, EngineRepresentsBuffered, EngineRepresents, Continues, FaultsAfter, PrintsPrefix, FeedFails}
+use Rattle.ud_engine.specs.Feeding.{EngineState, IsOpen, EngineRepresentsBuffered, EngineRepresents, Session, IsInSession, Continues, FaultsAfter, PrintsPrefix, FeedFails}
 use Rattle.ud_faults.specs.Faults.{limit_of}
 use Rattle.ud_engine.specs.ProcessedLines.{text_by}
 use Rattle.ud_engine.specs.FaultEffects.{OutputUnchanged, FailsAfterFlush, FlushesThenFails}
@@ -34,6 +34,13 @@ pub none_printed : (listing : Listing) (piece : List Judged → Judged → List 
 none_printed Off piece = refl
 none_printed Names piece = refl
 none_printed Depths piece = refl
+
+-- An engine that was fed nothing is in a session of no text.
+pub in_session : {S : Type 0} (represents : S → List Judged → Type 0) (piece_of : S → List Judged → Judged → List ℕ) (e : EngineState S) {s : Session} → s.text ≡ [] → s.printed ≡ [] →
+    EngineRepresents represents piece_of e s.options s.pieces [] [] → IsInSession represents piece_of e s
+in_session represents piece_of e {s} text printed h =
+    subst (λ x. EngineRepresents represents piece_of e s.options s.pieces x s.printed) (sym text)
+    (subst (λ x. EngineRepresents represents piece_of e s.options s.pieces [] x) (sym printed) h)
 
 -- At first, bytes can be taken.
 pub open_new : (lines : LinesState) → lines ≡ record { held = []; whole = false; before = 0; closed = false; fault = None; last_line = TEXT_LINES } → IsOpen lines

@@ -5,6 +5,10 @@
 --   measure piece r               how much is left to do
 --   Advances .. bytes ..          a step took these bytes
 --   StepFails .. f                a step failed
+--   Takes .. e f s rest pending old new used   an engine took bytes, and is another one after that
+--   StopsIn e s rest pending old new f         it can't take the next line
+--   Steps .. e f s piece at old new next       it took the bytes between two cursors
+--   StopsAt e s piece at old new f             it can't take the line after a cursor
 use Rattle.std.specs.Prelude.{ℕ, ◌+◌, ◌-◌, ◌<◌, ◌≤◌, List, ◌++◌, length, take, drop, if◌then◌else◌}
 use Rattle.std.specs.Prelude.{Option}
 use Rattle.ud_model.specs.sections.Items.{Options}
@@ -16,7 +20,7 @@ use Rattle.ud_engine.specs.declared.engine.Cursor.{Cursor}
 use Rattle.ud_faults.specs.declared.run.RunFault.{RunFault}
 use Rattle.ud_faults.specs.declared.run.RunFault.TheVariants.{Text, Section, Read, Write}
 use Rattle.ud_engine.specs.Feeding.{EngineState, EngineRepresentsBuffered, FaultsAfter}
-use Rattle.ud_engine.specs.Feeding.{PrintsPrefix}
+use Rattle.ud_engine.specs.Feeding.{PrintsPrefix, Session}
 use Rattle.ud_faults.specs.Faults.{limit_of}
 use Rattle.ud_io.specs.Buffering.{AppendsAllBut}
 use Rattle.ud_io.specs.Watched.{AppendsPrefix}
@@ -72,3 +76,37 @@ StepFails o piece longer printed old new pending (Section f) =
 StepFails o piece longer printed old new pending Read = ⊥
 StepFails o piece longer printed old new pending Write =
     WriteStops o piece longer printed old new pending
+
+-- `Takes .. e f s rest pending old new used`: the engine `e` in the session `s` took the first
+-- `used` bytes of `rest`, and is `f` after that. Before the output for them, `pending` is appended.
+abbrev pub Takes : {S : Type 0} → (S → List Judged → Type 0) → (S → List Judged → Judged →
+    List ℕ) → EngineState S → EngineState S → Session → List ℕ → List ℕ → Option (List ℕ) →
+    Option (List ℕ) → ℕ → Type 0
+Takes represents piece_of e f s rest pending old new used =
+    Advances represents piece_of f s.options s.pieces s.text s.printed (take used rest) old new
+    (e.buffered ++ pending) f.buffered
+
+-- `StopsIn e s rest pending old new f`: the engine `e` in the session `s` can't take the next line
+-- of `rest`, for the reason `f`.
+abbrev pub StopsIn : {S : Type 0} → EngineState S → Session → List ℕ → List ℕ → Option (List ℕ) →
+    Option (List ℕ) → RunFault → Type 0
+StopsIn e s rest pending old new f =
+    StepFails s.options s.pieces (s.text ++ rest) s.printed old new (e.buffered ++ pending) f
+
+-- `Steps .. e f s piece at old new next`: the engine `e` in the session `s` took the bytes of the
+-- chunk `piece` from the cursor `at` to the cursor `next`, and is `f` after that.
+abbrev pub Steps : {S : Type 0} → (S → List Judged → Type 0) → (S → List Judged → Judged →
+    List ℕ) → EngineState S → EngineState S → Session → List ℕ → Cursor → Option (List ℕ) →
+    Option (List ℕ) → Cursor → Type 0
+Steps represents piece_of e f s piece at old new next =
+    Advances represents piece_of f s.options s.pieces s.text s.printed
+    (slice_between piece at.pos next.pos) old new
+    (e.buffered ++ slice_between piece at.pending_start at.pos)
+    (f.buffered ++ slice_between piece next.pending_start next.pos)
+
+-- `StopsAt e s piece at old new f`: the engine `e` in the session `s` can't take the next line after
+-- the cursor `at` in the chunk `piece`, for the reason `f`.
+abbrev pub StopsAt : {S : Type 0} → EngineState S → Session → List ℕ → Cursor → Option (List ℕ) →
+    Option (List ℕ) → RunFault → Type 0
+StopsAt e s piece at old new f =
+    StopsIn e s (drop at.pos piece) (slice_between piece at.pending_start at.pos) old new f

@@ -5,7 +5,10 @@
 --   EngineRepresentsBuffered .. e o piece text printed   an engine took this text
 --   EngineRepresents .. e o piece text printed           it did, and all output is written
 --   Session                                              what an engine was fed and has printed
+--   Begins .. show settings symbols s                    a session before the first byte
 --   IsInSession .. e s                                   an engine was fed and has printed this
+--   IsBufferedIn .. e s                                  it did, and some output may be pending
+--   longer s bytes more                                  a session after more bytes
 --   Continues .. e o piece longer printed old new        the next chunk was fed
 --   FeedFails .. old new longer printed f                feeding the next chunk failed
 --   Feeds .. e s chunk failed old new result             the next chunk was fed, or that failed
@@ -22,6 +25,8 @@ use Rattle.ud_model.specs.sections.Items.{Options}
 use Rattle.ud_model.specs.sections.Faults.{Fault}
 use Rattle.ud_model.specs.answer.Printing.{Judged}
 use Rattle.ud_model.specs.answer.Outcomes.{HasNoFault, ReadsSoFar, lines_so_far}
+use Rattle.ud_model.specs.declared.settings.Settings.{Settings}
+use Rattle.ud_model.specs.declared.settings.Listing.TheVariants.{Off}
 use Rattle.ud_model.specs.declared.limits.TheConstants.{LINE_BYTES, TEXT_LINES, OPEN_SECTIONS}
 use Rattle.ud_cond.specs.symbols.SymbolTable.{TableRepresents}
 use Rattle.ud_text.specs.lines.LinesState.{LinesState, LinesRepresent}
@@ -84,11 +89,36 @@ pub record Session : Type 0 where
   pub text : List ℕ
   pub printed : List ℕ
 
+-- `Begins .. show settings symbols s`: `s` is the session of an engine before the first byte, which
+-- has these settings and symbols, and prints by `show`. `show` has printed no line yet, unless names
+-- are listed.
+pub record Begins {S : Type 0} (represents : S → List Judged → Type 0) (piece_of : S →
+    List Judged → Judged → List ℕ) (show : S) (settings : Settings) (symbols : List Argument)
+    (s : Session) : Type 0 where
+  pub settings_are : s.options.settings ≡ settings
+  pub symbols_are : TableRepresents symbols s.options.table
+  pub show_is_new : s.options.settings.listing ≡ Off → represents show []
+  pub pieces_are : (before : List Judged) → (j : Judged) →
+      piece_of show before j ≡ s.pieces before j
+  pub no_text : s.text ≡ []
+  pub no_output : s.printed ≡ []
+
 -- `IsInSession .. e s`: `e` was fed and has printed what `s` says.
 abbrev pub IsInSession : {S : Type 0} → (S → List Judged → Type 0) → (S → List Judged → Judged →
     List ℕ) → EngineState S → Session → Type 0
 IsInSession represents piece_of e s =
     EngineRepresents represents piece_of e s.options s.pieces s.text s.printed
+
+-- `IsBufferedIn .. e s`: `IsInSession`, but some of the output may be pending.
+abbrev pub IsBufferedIn : {S : Type 0} → (S → List Judged → Type 0) → (S → List Judged → Judged →
+    List ℕ) → EngineState S → Session → Type 0
+IsBufferedIn represents piece_of e s =
+    EngineRepresentsBuffered represents piece_of e s.options s.pieces s.text s.printed
+
+-- `longer s bytes more`: the session after `bytes` were fed, and `more` was printed for them.
+abbrev pub longer : Session → List ℕ → List ℕ → Session
+longer s bytes more =
+    record s { text = s.text ++ bytes; printed = s.printed ++ more }
 
 -- `Continues .. e o piece longer printed old new`: `e` was fed `longer`, and the output for its
 -- lines after `printed` was appended. The text has no fault so far. The line that it begins and its

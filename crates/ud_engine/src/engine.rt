@@ -115,7 +115,7 @@ impl<'p, S: Show, H: LineBuffer> Model for Engine<'p, S, H> {
 }
 
 impl<'p, S: Show> Engine<'p, S, LongLineBuffer> {
-    ghost use Rattle.ud_engine.specs.Feeding.{EngineRepresents};
+    ghost use Rattle.ud_engine.specs.Feeding.{Session, Begins, IsInSession};
 
     /// Returns an engine before the first byte. It prints by `show`, or lists names if the plan
     /// asks for that.
@@ -132,11 +132,9 @@ impl<'p, S: Show> Engine<'p, S, LongLineBuffer> {
     /// blanked: \nx\n\n
     /// ```
     pub fn new(plan: &'p Plan, show: S) -> Engine<'p, S, LongLineBuffer>
-        ensures represents { (o : Options) → (piece : List Judged → Judged → List ℕ) →
-            o.settings ≡ plan.now.settings → TableRepresents plan.now.symbols o.table →
-            (o.settings.listing ≡ Off → S.represents show []) →
-            ((before : List Judged) → (j : Judged) → S.piece show before j ≡ piece before j) →
-            EngineRepresents S.represents S.piece result o piece [] [] }
+        ensures represents { (s : Session) →
+            Begins S.represents S.piece show plan.now.settings plan.now.symbols s →
+            IsInSession S.represents S.piece result s }
         ensures no_fault { result.fault ≡ None }
     {
         Engine::with_buffer(plan, show)
@@ -144,23 +142,20 @@ impl<'p, S: Show> Engine<'p, S, LongLineBuffer> {
 }
 
 impl<'p, S: Show, H: LineBuffer> Engine<'p, S, H> {
-    ghost use Rattle.ud_engine.specs.Feeding.{EngineRepresents, EngineRepresentsBuffered};
-    ghost use Rattle.ud_engine.specs.Feeding.{Session, IsInSession, Feeds, WriterMatches};
+    ghost use Rattle.ud_engine.specs.Feeding.{Session, Begins, IsInSession};
+    ghost use Rattle.ud_engine.specs.Feeding.{IsBufferedIn, Feeds, WriterMatches};
     ghost use Rattle.ud_engine.specs.Feeding.{RecordsFault};
     ghost use Rattle.ud_engine.specs.Finishing.{Finishes};
-    ghost use Rattle.ud_engine.specs.Advancing.{Advances, StepFails, IsCursor, slice_between};
-    ghost use Rattle.ud_engine.specs.Advancing.{measure};
+    ghost use Rattle.ud_engine.specs.Advancing.{IsCursor, measure, Steps, StopsAt, Takes, StopsIn};
     ghost use Rattle.ud_engine.specs.FaultEffects.{OutputUnchanged, ErrorMatchesFailure};
     ghost use Rattle.ud_engine.specs.FaultEffects.{FailsAfterFlush};
     ghost use Rattle.ud_model.specs.declared.limits.TheConstants.{LINE_BYTES};
 
     /// Returns an engine before the first byte, as `new` does, whose line buffer is an `H`.
     pub(crate) fn with_buffer(plan: &'p Plan, show: S) -> Engine<'p, S, H>
-        ensures represents { (o : Options) → (piece : List Judged → Judged → List ℕ) →
-            o.settings ≡ plan.now.settings → TableRepresents plan.now.symbols o.table →
-            (o.settings.listing ≡ Off → S.represents show []) →
-            ((before : List Judged) → (j : Judged) → S.piece show before j ≡ piece before j) →
-            EngineRepresents S.represents S.piece result o piece [] [] }
+        ensures represents { (s : Session) →
+            Begins S.represents S.piece show plan.now.settings plan.now.symbols s →
+            IsInSession S.represents S.piece result s }
         ensures no_fault { result.fault ≡ None }
     {
         Engine {
@@ -368,20 +363,12 @@ impl<'p, S: Show, H: LineBuffer> Engine<'p, S, H> {
         ensures cursor { IfOk result (λ next. IsCursor H.CAPACITY self.new.lines chunk.now next) }
         ensures progress { IfOk result (λ next. (cursor.pos ≤ next.pos) ×
             (measure chunk.now next < measure chunk.now cursor)) }
-        ensures taken { (o : Options) → (pieces : List Judged → Judged → List ℕ) → (text : List ℕ) →
-            (printed : List ℕ) →
-            EngineRepresentsBuffered S.represents S.piece self.old o pieces text printed →
-            IfOk result (λ next. Advances S.represents S.piece self.new o pieces text printed
-            (slice_between chunk.now cursor.pos next.pos)
-            (W.contents out.old.inner) (W.contents out.new.inner)
-            (self.old.buffered ++ slice_between chunk.now cursor.pending_start cursor.pos)
-            (self.new.buffered ++ slice_between chunk.now next.pending_start next.pos)) }
-        ensures stops { (o : Options) → (pieces : List Judged → Judged → List ℕ) → (text : List ℕ) →
-            (printed : List ℕ) →
-            EngineRepresentsBuffered S.represents S.piece self.old o pieces text printed →
-            IfErr result (StepFails o pieces (text ++ drop cursor.pos chunk.now) printed
-            (W.contents out.old.inner) (W.contents out.new.inner)
-            (self.old.buffered ++ slice_between chunk.now cursor.pending_start cursor.pos)) }
+        ensures taken { (s : Session) → IsBufferedIn S.represents S.piece self.old s →
+            IfOk result (Steps S.represents S.piece self.old self.new s chunk.now cursor
+            (W.contents out.old.inner) (W.contents out.new.inner)) }
+        ensures stops { (s : Session) → IsBufferedIn S.represents S.piece self.old s →
+            IfErr result (StopsAt self.old s chunk.now cursor
+            (W.contents out.old.inner) (W.contents out.new.inner)) }
         ensures not_failed { OnOk result (out.new.failed ≡ false) }
         ensures output_unchanged { IfErr result
             (OutputUnchanged out.old out.new self.old.buffered self.new.buffered) }
@@ -414,20 +401,12 @@ impl<'p, S: Show, H: LineBuffer> Engine<'p, S, H> {
         ensures cursor { IfOk result (λ next. IsCursor H.CAPACITY self.new.lines chunk.now next) }
         ensures progress { IfOk result (λ next. (cursor.pos ≤ next.pos) ×
             (measure chunk.now next < measure chunk.now cursor)) }
-        ensures taken { (o : Options) → (pieces : List Judged → Judged → List ℕ) → (text : List ℕ) →
-            (printed : List ℕ) →
-            EngineRepresentsBuffered S.represents S.piece self.old o pieces text printed →
-            IfOk result (λ next. Advances S.represents S.piece self.new o pieces text printed
-            (slice_between chunk.now cursor.pos next.pos)
-            (W.contents out.old.inner) (W.contents out.new.inner)
-            (self.old.buffered ++ slice_between chunk.now cursor.pending_start cursor.pos)
-            (self.new.buffered ++ slice_between chunk.now next.pending_start next.pos)) }
-        ensures stops { (o : Options) → (pieces : List Judged → Judged → List ℕ) → (text : List ℕ) →
-            (printed : List ℕ) →
-            EngineRepresentsBuffered S.represents S.piece self.old o pieces text printed →
-            IfErr result (StepFails o pieces (text ++ drop cursor.pos chunk.now) printed
-            (W.contents out.old.inner) (W.contents out.new.inner)
-            (self.old.buffered ++ slice_between chunk.now cursor.pending_start cursor.pos)) }
+        ensures taken { (s : Session) → IsBufferedIn S.represents S.piece self.old s →
+            IfOk result (Steps S.represents S.piece self.old self.new s chunk.now cursor
+            (W.contents out.old.inner) (W.contents out.new.inner)) }
+        ensures stops { (s : Session) → IsBufferedIn S.represents S.piece self.old s →
+            IfErr result (StopsAt self.old s chunk.now cursor
+            (W.contents out.old.inner) (W.contents out.new.inner)) }
         ensures not_failed { OnOk result (out.new.failed ≡ false) }
         ensures output_unchanged { IfErr result
             (OutputUnchanged out.old out.new self.old.buffered self.new.buffered) }
@@ -470,20 +449,12 @@ impl<'p, S: Show, H: LineBuffer> Engine<'p, S, H> {
         ensures cursor { IfOk result (λ next. IsCursor H.CAPACITY self.new.lines chunk.now next) }
         ensures progress { IfOk result (λ next. (cursor.pos ≤ next.pos) ×
             (measure chunk.now next < measure chunk.now cursor)) }
-        ensures taken { (o : Options) → (pieces : List Judged → Judged → List ℕ) → (text : List ℕ) →
-            (printed : List ℕ) →
-            EngineRepresentsBuffered S.represents S.piece self.old o pieces text printed →
-            IfOk result (λ next. Advances S.represents S.piece self.new o pieces text printed
-            (slice_between chunk.now cursor.pos next.pos)
-            (W.contents out.old.inner) (W.contents out.new.inner)
-            (self.old.buffered ++ slice_between chunk.now cursor.pending_start cursor.pos)
-            (self.new.buffered ++ slice_between chunk.now next.pending_start next.pos)) }
-        ensures stops { (o : Options) → (pieces : List Judged → Judged → List ℕ) → (text : List ℕ) →
-            (printed : List ℕ) →
-            EngineRepresentsBuffered S.represents S.piece self.old o pieces text printed →
-            IfErr result (StepFails o pieces (text ++ drop cursor.pos chunk.now) printed
-            (W.contents out.old.inner) (W.contents out.new.inner)
-            (self.old.buffered ++ slice_between chunk.now cursor.pending_start cursor.pos)) }
+        ensures taken { (s : Session) → IsBufferedIn S.represents S.piece self.old s →
+            IfOk result (Steps S.represents S.piece self.old self.new s chunk.now cursor
+            (W.contents out.old.inner) (W.contents out.new.inner)) }
+        ensures stops { (s : Session) → IsBufferedIn S.represents S.piece self.old s →
+            IfErr result (StopsAt self.old s chunk.now cursor
+            (W.contents out.old.inner) (W.contents out.new.inner)) }
         ensures not_failed { OnOk result (out.new.failed ≡ false) }
         ensures output_unchanged { IfErr result
             (OutputUnchanged out.old out.new self.old.buffered self.new.buffered) }
@@ -538,19 +509,12 @@ impl<'p, S: Show, H: LineBuffer> Engine<'p, S, H> {
         ensures progress { IfOk result (λ used. (0 < used) × (used ≤ length rest.now)) }
         ensures fits { IfOk result (λ used. HasCapacity H.CAPACITY self.new.lines
             (length rest.now - used)) }
-        ensures taken { (o : Options) → (pieces : List Judged → Judged → List ℕ) → (text : List ℕ) →
-            (printed : List ℕ) →
-            EngineRepresentsBuffered S.represents S.piece self.old o pieces text printed →
-            IfOk result (λ used. Advances S.represents S.piece self.new o pieces text printed
-            (take used rest.now)
-            (W.contents out.old.inner) (W.contents out.new.inner) (self.old.buffered ++ pending.now)
-            self.new.buffered) }
-        ensures stops { (o : Options) → (pieces : List Judged → Judged → List ℕ) → (text : List ℕ) →
-            (printed : List ℕ) →
-            EngineRepresentsBuffered S.represents S.piece self.old o pieces text printed →
-            IfErr result (StepFails o pieces (text ++ rest.now) printed (W.contents out.old.inner)
-            (W.contents out.new.inner)
-            (self.old.buffered ++ pending.now)) }
+        ensures taken { (s : Session) → IsBufferedIn S.represents S.piece self.old s →
+            IfOk result (Takes S.represents S.piece self.old self.new s rest.now pending.now
+            (W.contents out.old.inner) (W.contents out.new.inner)) }
+        ensures stops { (s : Session) → IsBufferedIn S.represents S.piece self.old s →
+            IfErr result (StopsIn self.old s rest.now pending.now
+            (W.contents out.old.inner) (W.contents out.new.inner)) }
         ensures not_failed { OnOk result (out.new.failed ≡ false) }
         ensures output_unchanged { IfErr result
             (OutputUnchanged out.old out.new self.old.buffered self.new.buffered) }

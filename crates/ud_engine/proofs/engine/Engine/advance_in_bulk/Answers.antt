@@ -21,38 +21,38 @@ returns-clause-cursor g c =
     c.skip_text-skipped.ensures.bound c.skip_text-skipped.ensures.ends c.skip_text-skipped.ensures.consumed (c.args.cursor.pos + c.skip_text-skipped.result.count) (omega arith)
 
 pub returns-then-skipped-clause-taken : goal.returns-then-skipped-clause-taken
-returns-then-skipped-clause-taken g c = λ o pieces text printed old.
-    let h = subst (λ (e : EngineState g.row.S.Denot). EngineRepresentsBuffered g.S.Show.represents g.S.Show.piece e o pieces text printed) (sym c.self.view_is) old in
+returns-then-skipped-clause-taken g c = λ s old.
+    let h = subst (λ (e : EngineState g.row.S.Denot). EngineRepresentsBuffered g.S.Show.represents g.S.Show.piece e s.options s.pieces s.text s.printed) (sym c.self.view_is) old in
     let place = subst (λ (e : EngineState g.row.S.Denot). IsCursor g.H.LineBuffer.CAPACITY e.lines c.args.chunk.now c.args.cursor) (sym c.self.view_is) c.requires.cursor in
     let out = g.W.Write.contents c.args.out.now.inner in
     let f : EngineState g.row.S.Denot = record { symbols = c.self.inside.plan.now.symbols; lines = c.skip_text-skipped.new.lines; printer = c.skip_text-skipped.new.self; buffered = c.self.inside.output; fault = c.self.inside.fault } in
-    subst (λ (e : EngineState g.row.S.Denot). Advances g.S.Show.represents g.S.Show.piece f o pieces text printed
+    subst (λ (e : EngineState g.row.S.Denot). Advances g.S.Show.represents g.S.Show.piece f s.options s.pieces s.text s.printed
     (slice_between c.args.chunk.now c.args.cursor.pos (c.args.cursor.pos + c.skip_text-skipped.result.count)) out out
     (e.buffered ++ slice_between c.args.chunk.now c.args.cursor.pending_start c.args.cursor.pos)
     (c.self.inside.output ++ slice_between c.args.chunk.now c.args.cursor.pending_start (c.args.cursor.pos + c.skip_text-skipped.result.count))) c.self.view_is
-    (passed_kept g.S.Show.represents g.S.Show.piece o pieces _ f text printed h c.args.chunk.now c.args.cursor.pos c.args.cursor.whole_end c.skip_text-skipped.result
-    (place.ready c.requires.some) c.skip_text-skipped.ensures.bound c.skip_text-skipped.ensures.ends refl c.skip_text-skipped.ensures.consumed (c.skip_text-skipped.ensures.represents text h.took)
-    (c.skip_text-skipped.ensures.printed o pieces h.items h.tree h.has) out out c.args.cursor.pending_start c.requires.cursor.from c.if-skipped.true refl)
+    (passed_kept g.S.Show.represents g.S.Show.piece s.options s.pieces _ f s.text s.printed h c.args.chunk.now c.args.cursor.pos c.args.cursor.whole_end c.skip_text-skipped.result
+    (place.ready c.requires.some) c.skip_text-skipped.ensures.bound c.skip_text-skipped.ensures.ends refl c.skip_text-skipped.ensures.consumed (c.skip_text-skipped.ensures.represents s.text h.took)
+    (c.skip_text-skipped.ensures.printed s.options s.pieces h.items h.tree h.has) out out c.args.cursor.pending_start c.requires.cursor.from c.if-skipped.true refl)
 
 pub returns-in_err-append-clause-stops : goal.returns-in_err-append-clause-stops
-returns-in_err-append-clause-stops g c = λ o pieces text printed old.
-    let h = subst (λ (e : EngineState g.row.S.Denot). EngineRepresentsBuffered g.S.Show.represents g.S.Show.piece e o pieces text printed) (sym c.self.view_is) old in
+returns-in_err-append-clause-stops g c = λ s old.
+    let h = subst (λ (e : EngineState g.row.S.Denot). EngineRepresentsBuffered g.S.Show.represents g.S.Show.piece e s.options s.pieces s.text s.printed) (sym c.self.view_is) old in
     err_is _ c.from_residual.result Write c.from_residual.ensures.1
-    (run_refused_by g.S.Show.represents g.S.Show.piece o pieces _ text printed h (g.W.Write.contents c.args.out.now.inner) (g.W.Write.contents c.append.new.out.inner)
+    (run_refused_by g.S.Show.represents g.S.Show.piece s.options s.pieces _ s.text s.printed h (g.W.Write.contents c.args.out.now.inner) (g.W.Write.contents c.append.new.out.inner)
     c.args.self.now.buffered (slice_between c.args.chunk.now c.args.cursor.pending_start c.args.cursor.pos) (drop c.args.cursor.pos c.args.chunk.now)
     (ap (λ (e : EngineState g.row.S.Denot). e.buffered) c.self.view_is) c.in_err-append.ensures.appends)
 
 pub returns-clause-taken : goal.returns-clause-taken
-returns-clause-taken g c = λ o pieces text printed old.
-    let h = subst (λ (e : EngineState g.row.S.Denot). EngineRepresentsBuffered g.S.Show.represents g.S.Show.piece e o pieces text printed) (sym c.self.view_is) old in
+returns-clause-taken g c = λ s old.
+    let h = subst (λ (e : EngineState g.row.S.Denot). EngineRepresentsBuffered g.S.Show.represents g.S.Show.piece e s.options s.pieces s.text s.printed) (sym c.self.view_is) old in
     let place = subst (λ (e : EngineState g.row.S.Denot). IsCursor g.H.LineBuffer.CAPACITY e.lines c.args.chunk.now c.args.cursor) (sym c.self.view_is) c.requires.cursor in
     let out = g.W.Write.contents c.args.out.now.inner in
     let f : EngineState g.row.S.Denot = record { symbols = c.self.inside.plan.now.symbols; lines = c.skip_text-skipped.new.lines; printer = c.skip_text-skipped.new.self; buffered = c.append.new.self; fault = c.self.inside.fault } in
     let now = g.W.Write.contents c.append.new.out.inner in
-    subst (λ (e : EngineState g.row.S.Denot). Advances g.S.Show.represents g.S.Show.piece f o pieces text printed
+    subst (λ (e : EngineState g.row.S.Denot). Advances g.S.Show.represents g.S.Show.piece f s.options s.pieces s.text s.printed
     (slice_between c.args.chunk.now c.args.cursor.pos (c.args.cursor.pos + c.skip_text-skipped.result.count)) out now
     (e.buffered ++ slice_between c.args.chunk.now c.args.cursor.pending_start c.args.cursor.pos)
     (c.append.new.self ++ slice_between c.args.chunk.now (c.args.cursor.pos + c.skip_text-skipped.result.count) (c.args.cursor.pos + c.skip_text-skipped.result.count))) c.self.view_is
-    (passed_dropped g.S.Show.represents g.S.Show.piece o pieces _ f text printed h c.args.chunk.now c.args.cursor.pos c.args.cursor.whole_end c.skip_text-skipped.result
-    (place.ready c.requires.some) c.skip_text-skipped.ensures.bound c.skip_text-skipped.ensures.ends refl c.skip_text-skipped.ensures.consumed (c.skip_text-skipped.ensures.represents text h.took)
-    (c.skip_text-skipped.ensures.printed o pieces h.items h.tree h.has) out now c.args.cursor.pending_start c.requires.cursor.from (search rules) c.in_ok-append.ensures.appends)
+    (passed_dropped g.S.Show.represents g.S.Show.piece s.options s.pieces _ f s.text s.printed h c.args.chunk.now c.args.cursor.pos c.args.cursor.whole_end c.skip_text-skipped.result
+    (place.ready c.requires.some) c.skip_text-skipped.ensures.bound c.skip_text-skipped.ensures.ends refl c.skip_text-skipped.ensures.consumed (c.skip_text-skipped.ensures.represents s.text h.took)
+    (c.skip_text-skipped.ensures.printed s.options s.pieces h.items h.tree h.has) out now c.args.cursor.pending_start c.requires.cursor.from (search rules) c.in_ok-append.ensures.appends)

@@ -9,79 +9,79 @@ use Rattle.ud_engine.proofs.CursorLemmas.{place_after_line}
 use Rattle.ud_engine.proofs.engine.Engine.advance_line.Goals as goal
 
 pub returns-in-Err-clause-stops : goal.returns-in-Err-clause-stops
-returns-in-Err-clause-stops g c = λ o pieces text printed old.
-    let h = subst (λ (e : EngineState g.row.S.Denot). EngineRepresentsBuffered g.S.Show.represents g.S.Show.piece e o pieces text printed) (sym c.self.view_is) old in
+returns-in-Err-clause-stops g c = λ s old.
+    let h = subst (λ (e : EngineState g.row.S.Denot). EngineRepresentsBuffered g.S.Show.represents g.S.Show.piece e s.options s.pieces s.text s.printed) (sym c.self.view_is) old in
     let k = subst (λ (l : LinesState). EngineRepresentsBuffered g.S.Show.represents g.S.Show.piece
-    (record { symbols = c.self.inside.plan.now.symbols; lines = l; printer = c.self.inside.printer; buffered = c.self.inside.output; fault = c.self.inside.fault }) o pieces text printed)
+    (record { symbols = c.self.inside.plan.now.symbols; lines = l; printer = c.self.inside.printer; buffered = c.self.inside.output; fault = c.self.inside.fault }) s.options s.pieces s.text s.printed)
     (sym c.in_default.ensures.unchanged) h in
-    subst (λ (x : List ℕ). StepFails o pieces (text ++ x) printed (g.W.Write.contents c.args.out.now.inner) (g.W.Write.contents c.push_line_part.new.out.inner)
+    subst (λ (x : List ℕ). StepFails s.options s.pieces (s.text ++ x) s.printed (g.W.Write.contents c.args.out.now.inner) (g.W.Write.contents c.push_line_part.new.out.inner)
     (c.args.self.now.buffered ++ slice_between c.args.chunk.now c.args.cursor.pending_start c.args.cursor.pos) c.in-Err.fault) (slice_from c.args.chunk.now c.args.cursor.pos)
-    (subst (λ (e : EngineState g.row.S.Denot). StepFails o pieces (text ++ take (length c.args.chunk.now - c.args.cursor.pos) (drop c.args.cursor.pos c.args.chunk.now)) printed
+    (subst (λ (e : EngineState g.row.S.Denot). StepFails s.options s.pieces (s.text ++ take (length c.args.chunk.now - c.args.cursor.pos) (drop c.args.cursor.pos c.args.chunk.now)) s.printed
     (g.W.Write.contents c.args.out.now.inner) (g.W.Write.contents c.push_line_part.new.out.inner)
     (e.buffered ++ slice_between c.args.chunk.now c.args.cursor.pending_start c.args.cursor.pos) c.in-Err.fault) c.self.view_is
-    (c.in-Err.ensures.stops o pieces text printed k))
+    (c.in-Err.ensures.stops s k))
 
 pub returns-in-Ok-clause-taken : goal.returns-in-Ok-clause-taken
-returns-in-Ok-clause-taken g c = λ o pieces text printed old.
-    let h = subst (λ (e : EngineState g.row.S.Denot). EngineRepresentsBuffered g.S.Show.represents g.S.Show.piece e o pieces text printed) (sym c.self.view_is) old in
+returns-in-Ok-clause-taken g c = λ s old.
+    let h = subst (λ (e : EngineState g.row.S.Denot). EngineRepresentsBuffered g.S.Show.represents g.S.Show.piece e s.options s.pieces s.text s.printed) (sym c.self.view_is) old in
     let k = subst (λ (l : LinesState). EngineRepresentsBuffered g.S.Show.represents g.S.Show.piece
-    (record { symbols = c.self.inside.plan.now.symbols; lines = l; printer = c.self.inside.printer; buffered = c.self.inside.output; fault = c.self.inside.fault }) o pieces text printed)
+    (record { symbols = c.self.inside.plan.now.symbols; lines = l; printer = c.self.inside.printer; buffered = c.self.inside.output; fault = c.self.inside.fault }) s.options s.pieces s.text s.printed)
     (sym c.in_default.ensures.unchanged) h in
-    let there = λ (e : EngineState g.row.S.Denot) (n from at : ℕ). Advances g.S.Show.represents g.S.Show.piece e o pieces text printed (slice_between c.args.chunk.now c.args.cursor.pos n)
+    let there = λ (e : EngineState g.row.S.Denot) (n from at : ℕ). Advances g.S.Show.represents g.S.Show.piece e s.options s.pieces s.text s.printed (slice_between c.args.chunk.now c.args.cursor.pos n)
     (g.W.Write.contents c.args.out.now.inner) (g.W.Write.contents c.push_line_part.new.out.inner)
     (c.args.self.now.buffered ++ slice_between c.args.chunk.now c.args.cursor.pending_start c.args.cursor.pos) (e.buffered ++ slice_between c.args.chunk.now from at) in
     subst (λ n. there c.push_line_part.new.self n c.cursor_at.result.pending_start n) (sym c.cursor_at.ensures.at)
     (subst (λ n. there c.push_line_part.new.self (c.args.cursor.pos + c.in-Ok.used) n (c.args.cursor.pos + c.in-Ok.used)) (sym c.cursor_at.ensures.from)
-    (held_taken g.S.Show.represents g.S.Show.piece o pieces text printed (g.W.Write.contents c.args.out.now.inner) (g.W.Write.contents c.push_line_part.new.out.inner)
+    (held_taken g.S.Show.represents g.S.Show.piece s.options s.pieces s.text s.printed (g.W.Write.contents c.args.out.now.inner) (g.W.Write.contents c.push_line_part.new.out.inner)
     c.args.chunk.now (take (length c.args.chunk.now - c.args.cursor.pos) (drop c.args.cursor.pos c.args.chunk.now)) c.args.cursor.pos c.in-Ok.used
     (slice_from c.args.chunk.now c.args.cursor.pos) c.push_line_part.new.self (c.args.self.now.buffered ++ slice_between c.args.chunk.now c.args.cursor.pending_start c.args.cursor.pos)
-    (subst (λ (e : EngineState g.row.S.Denot). Advances g.S.Show.represents g.S.Show.piece c.push_line_part.new.self o pieces text printed
+    (subst (λ (e : EngineState g.row.S.Denot). Advances g.S.Show.represents g.S.Show.piece c.push_line_part.new.self s.options s.pieces s.text s.printed
     (take c.in-Ok.used (take (length c.args.chunk.now - c.args.cursor.pos) (drop c.args.cursor.pos c.args.chunk.now)))
     (g.W.Write.contents c.args.out.now.inner) (g.W.Write.contents c.push_line_part.new.out.inner)
     (e.buffered ++ slice_between c.args.chunk.now c.args.cursor.pending_start c.args.cursor.pos) c.push_line_part.new.self.buffered) c.self.view_is
-    (c.in-Ok.ensures.taken o pieces text printed k))))
+    (c.in-Ok.ensures.taken s k))))
 
 pub returns-in-Err-print-clause-stops : goal.returns-in-Err-print-clause-stops
-returns-in-Err-print-clause-stops g c = λ o pieces text printed old.
-    let h = subst (λ (e : EngineState g.row.S.Denot). EngineRepresentsBuffered g.S.Show.represents g.S.Show.piece e o pieces text printed) (sym c.self.view_is) old in
+returns-in-Err-print-clause-stops g c = λ s old.
+    let h = subst (λ (e : EngineState g.row.S.Denot). EngineRepresentsBuffered g.S.Show.represents g.S.Show.piece e s.options s.pieces s.text s.printed) (sym c.self.view_is) old in
     let len = length-append c.in-Some.line.body.now c.in-Some.line.ending.now in
-    lent_refused g.S.Show.represents g.S.Show.piece o pieces _ text printed h (g.W.Write.contents c.args.out.now.inner) (g.W.Write.contents c.print.new.out.inner)
+    lent_refused g.S.Show.represents g.S.Show.piece s.options s.pieces _ s.text s.printed h (g.W.Write.contents c.args.out.now.inner) (g.W.Write.contents c.print.new.out.inner)
     c.args.self.now.buffered (ap (λ (e : EngineState g.row.S.Denot). e.buffered) c.self.view_is) c.args.chunk.now
     (take (length c.args.chunk.now - c.args.cursor.pos) (drop c.args.cursor.pos c.args.chunk.now)) c.args.cursor.pending_start c.args.cursor.pos
     (c.args.cursor.pos + (length c.in-Some.line.body.now + length c.in-Some.line.ending.now)) (slice_from c.args.chunk.now c.args.cursor.pos)
     c.requires.cursor.from (omega arith)
     (record { symbols = c.self.inside.plan.now.symbols; lines = c.whole_in.new.self; printer = c.print.new.self; buffered = c.print.new.output; fault = c.self.inside.fault })
     (as_line c.in-Some.line) c.in-Some.ensures.borrowed c.in-Some.ensures.bytes (omega (arith, len)) c.in-Some.ensures.value c.in-Some.ensures.counted refl
-    (c.in-Some.ensures.represents text h.took) c.in-Err-print.fault
-    (c.in-Err-print.ensures.err o pieces h.items h.tree (subst (λ s. TableRepresents s o.table) (sym c.symbols.ensures) h.symbols) h.has)
+    (c.in-Some.ensures.represents s.text h.took) c.in-Err-print.fault
+    (c.in-Err-print.ensures.err s.options s.pieces h.items h.tree (subst (λ x. TableRepresents x s.options.table) (sym c.symbols.ensures) h.symbols) h.has)
 
 pub returns-then-put-clause-taken : goal.returns-then-put-clause-taken
-returns-then-put-clause-taken g c = λ o pieces text printed old.
-    let h = subst (λ (e : EngineState g.row.S.Denot). EngineRepresentsBuffered g.S.Show.represents g.S.Show.piece e o pieces text printed) (sym c.self.view_is) old in
+returns-then-put-clause-taken g c = λ s old.
+    let h = subst (λ (e : EngineState g.row.S.Denot). EngineRepresentsBuffered g.S.Show.represents g.S.Show.piece e s.options s.pieces s.text s.printed) (sym c.self.view_is) old in
     let len = length-append c.in-Some.line.body.now c.in-Some.line.ending.now in
-    lent_put g.S.Show.represents g.S.Show.piece o pieces _ text printed h (g.W.Write.contents c.args.out.now.inner) (g.W.Write.contents c.print.new.out.inner)
+    lent_put g.S.Show.represents g.S.Show.piece s.options s.pieces _ s.text s.printed h (g.W.Write.contents c.args.out.now.inner) (g.W.Write.contents c.print.new.out.inner)
     c.args.self.now.buffered (ap (λ (e : EngineState g.row.S.Denot). e.buffered) c.self.view_is) c.args.chunk.now
     (take (length c.args.chunk.now - c.args.cursor.pos) (drop c.args.cursor.pos c.args.chunk.now)) c.args.cursor.pending_start c.args.cursor.pos
     (c.args.cursor.pos + (length c.in-Some.line.body.now + length c.in-Some.line.ending.now)) (slice_from c.args.chunk.now c.args.cursor.pos)
     c.requires.cursor.from (omega arith)
     _ (as_line c.in-Some.line) c.in-Some.ensures.borrowed c.in-Some.ensures.bytes (omega (arith, len)) c.in-Some.ensures.value c.in-Some.ensures.counted refl
-    (c.in-Some.ensures.represents text h.took)
+    (c.in-Some.ensures.represents s.text h.took)
     c.in-Ok-print.put (search rules)
-    (c.in-Ok-print.ensures.ok o pieces h.items h.tree (subst (λ s. TableRepresents s o.table) (sym c.symbols.ensures) h.symbols) h.has)
+    (c.in-Ok-print.ensures.ok s.options s.pieces h.items h.tree (subst (λ x. TableRepresents x s.options.table) (sym c.symbols.ensures) h.symbols) h.has)
 
 pub returns-clause-taken : goal.returns-clause-taken
-returns-clause-taken g c = λ o pieces text printed old.
-    let h = subst (λ (e : EngineState g.row.S.Denot). EngineRepresentsBuffered g.S.Show.represents g.S.Show.piece e o pieces text printed) (sym c.self.view_is) old in
+returns-clause-taken g c = λ s old.
+    let h = subst (λ (e : EngineState g.row.S.Denot). EngineRepresentsBuffered g.S.Show.represents g.S.Show.piece e s.options s.pieces s.text s.printed) (sym c.self.view_is) old in
     let len = length-append c.in-Some.line.body.now c.in-Some.line.ending.now in
-    lent_kept g.S.Show.represents g.S.Show.piece o pieces _ text printed h (g.W.Write.contents c.args.out.now.inner) (g.W.Write.contents c.print.new.out.inner)
+    lent_kept g.S.Show.represents g.S.Show.piece s.options s.pieces _ s.text s.printed h (g.W.Write.contents c.args.out.now.inner) (g.W.Write.contents c.print.new.out.inner)
     c.args.self.now.buffered (ap (λ (e : EngineState g.row.S.Denot). e.buffered) c.self.view_is) c.args.chunk.now
     (take (length c.args.chunk.now - c.args.cursor.pos) (drop c.args.cursor.pos c.args.chunk.now)) c.args.cursor.pending_start c.args.cursor.pos
     (c.args.cursor.pos + (length c.in-Some.line.body.now + length c.in-Some.line.ending.now)) (slice_from c.args.chunk.now c.args.cursor.pos)
     c.requires.cursor.from (omega arith)
     _ (as_line c.in-Some.line) c.in-Some.ensures.borrowed c.in-Some.ensures.bytes (omega (arith, len)) c.in-Some.ensures.value c.in-Some.ensures.counted refl
-    (c.in-Some.ensures.represents text h.took)
+    (c.in-Some.ensures.represents s.text h.took)
     c.in-Ok-print.put (search rules)
-    (c.in-Ok-print.ensures.ok o pieces h.items h.tree (subst (λ s. TableRepresents s o.table) (sym c.symbols.ensures) h.symbols) h.has)
+    (c.in-Ok-print.ensures.ok s.options s.pieces h.items h.tree (subst (λ x. TableRepresents x s.options.table) (sym c.symbols.ensures) h.symbols) h.has)
 
 pub returns-then-put-clause-cursor : goal.returns-then-put-clause-cursor
 returns-then-put-clause-cursor g c =

@@ -2,18 +2,18 @@ use Rattle.std.proofs.Common.{refl, sym, ap, ◌∙◌, []}
 use Rattle.ud_model.specs.sections.Tree.{closed, nothing}
 use Rattle.ud_model.specs.sections.Faults.{no_lines}
 use Rattle.ud_text.specs.lines.LinesState.{LinesState}
-use Rattle.ud_engine.proofs.FeedLemmas.{none_so_far, none_printed, open_new, none_begun, none_count}
+use Rattle.ud_engine.proofs.FeedLemmas.{in_session, none_so_far, none_printed, open_new, none_begun, none_count}
 use Rattle.ud_engine.proofs.engine.Engine.with_buffer.Goals as goal
 
 pub returns-clause-represents : goal.returns-clause-represents
-returns-clause-represents g c = λ o chunk settings symbols represents stays. record {
+returns-clause-represents g c = λ s b. in_session g.S.Show.represents g.S.Show.piece _ b.no_text b.no_output (record {
   taken = record {
     items = [];
     tree = closed nothing;
     goes = record { sound = no_lines; are = none_so_far };
-    has = c.new.ensures o chunk (settings ∙ sym c.settings.ensures) represents stays;
-    printed_is = none_printed o.settings.listing chunk;
-    symbols = symbols;
+    has = c.new.ensures s.options s.pieces (b.settings_are ∙ sym c.settings.ensures) b.show_is_new b.pieces_are;
+    printed_is = none_printed s.options.settings.listing s.pieces;
+    symbols = b.symbols_are;
     opened = open_new c.with_buffer.result c.with_buffer.ensures.value;
     took = c.with_buffer.ensures.represents;
     no_fault = ap (λ (l : LinesState). l.fault) c.with_buffer.ensures.value;
@@ -22,4 +22,4 @@ returns-clause-represents g c = λ o chunk settings symbols represents stays. re
   };
   works = refl;
   written = c.new-2.ensures;
-}
+})
