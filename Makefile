@@ -28,7 +28,8 @@
 #                 faults, unifdef-tree and packages
 # make bench      measures ./unifdef beside the released program, and the speed of conditions
 #                 (bench/README.md)
-# make pictures   draws docs/line.svg by graphviz, and bench/speed.svg from the numbers in
+# make pictures   draws docs/line.svg, docs/states.svg and docs/crates.svg by graphviz,
+#                 docs/before-after.svg by ./unifdef, and bench/speed.svg from the numbers in
 #                 bench/README.md
 # make trees      runs ./unifdef over real trees beside the released program (bench/README.md)
 # make selects    compares what a C compiler selects of real files before and after ./unifdef
@@ -175,6 +176,8 @@ bench-conditions: kit
 pictures: unifdef
 	@command -v dot > /dev/null || { echo "make: graphviz's dot is not there" >&2; exit 1; }
 	dot -Tsvg docs/line.dot > docs/line.svg
+	tools/diagrams.py states | dot -Tsvg > docs/states.svg
+	tools/diagrams.py crates | dot -Tsvg > docs/crates.svg
 	python3 bench/chart.py bench/README.md > bench/speed.svg
 	tools/before_after.py docs/io.h -UVMS -DUNIX > docs/before-after.svg
 

@@ -104,8 +104,8 @@ Steps represents piece_of e f s piece at old new next =
     (e.buffered ++ slice_between piece at.pending_start at.pos)
     (f.buffered ++ slice_between piece next.pending_start next.pos)
 
--- `StopsAt e s piece at old new f`: the engine `e` in the session `s` can't take the next line after
--- the cursor `at` in the chunk `piece`, for the reason `f`.
+-- `StopsAt e s piece at old new f`: the engine `e` in the session `s` can't take the line after the
+-- cursor `at` in the chunk `piece`, for the reason `f`.
 abbrev pub StopsAt : {S : Type 0} → EngineState S → Session → List ℕ → Cursor → Option (List ℕ) →
     Option (List ℕ) → RunFault → Type 0
 StopsAt e s piece at old new f =

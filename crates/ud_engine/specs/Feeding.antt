@@ -90,8 +90,8 @@ pub record Session : Type 0 where
   pub printed : List ℕ
 
 -- `Begins .. show settings symbols s`: `s` is the session of an engine before the first byte, which
--- has these settings and symbols, and prints by `show`. `show` has printed no line yet, unless names
--- are listed.
+-- has these settings and symbols, and prints by `show`. `show` has printed no line yet, unless
+-- names are listed.
 pub record Begins {S : Type 0} (represents : S → List Judged → Type 0) (piece_of : S →
     List Judged → Judged → List ℕ) (show : S) (settings : Settings) (symbols : List Argument)
     (s : Session) : Type 0 where

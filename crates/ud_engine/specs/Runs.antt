@@ -6,6 +6,7 @@
 --   EndsWith o given left old new result       the output fits the bytes read and the result
 --   RunEnded .. result                         the output fits what the reader gave
 --   RunFinished .. result                      all of this, and the outcome if nothing failed
+--   Finished .. o reader reader' out out' result   the same with streams before and after
 --   ErrorMatchesStreams reader writer result   the result shows whether a stream failed
 use Rattle.std.specs.Prelude.{◌≡◌, ◌⊎◌, ℕ, ◌+◌, ◌*◌, ◌-◌, List, ◌++◌, length, take, Bool, true}
 use Rattle.std.specs.Prelude.{false, Option, Some, None, Result, Ok, Err, IfSome, OnOk}
@@ -29,7 +30,7 @@ use Rattle.ud_engine.specs.declared.pump.TheConstants.{CHUNK_BYTES}
 use Rattle.ud_engine.specs.Finishing.{RunAnswers}
 use Rattle.ud_engine.specs.Feeding.{EngineState, EngineRepresents}
 use Rattle.ud_faults.specs.Faults.{limit_of}
-use Rattle.ud_io.specs.Watched.{AppendsPrefix}
+use Rattle.ud_io.specs.Watched.{WatchedState, AppendsPrefix}
 
 -- `all_but_last_chunk given`: `given` without its last bytes, as many as one read gives at most.
 abbrev pub all_but_last_chunk : List ℕ → List ℕ
@@ -133,6 +134,15 @@ pub record RunFinished (o : Options) (read_old read_new old new : Option (List �
       IfSome read_old (λ input. RunAnswers o input old new result)
   pub lag : LagsOneRead o read_old read_new old new
   pub ended : RunEnded o read_old read_new old new result
+
+-- `Finished remaining contents o reader reader' out out' result`: `RunFinished` with these streams
+-- before and after the run.
+abbrev pub Finished : {R W : Type 0} → (R → Option (List ℕ)) → (W → Option (List ℕ)) → Options →
+    WatchedState R → WatchedState R → WatchedState W → WatchedState W → Result Bool RunFault →
+    Type 0
+Finished remaining contents o reader reader' out out' result =
+    RunFinished o (remaining reader.inner) (remaining reader'.inner) (contents out.inner)
+    (contents out'.inner) reader'.failed out'.failed result
 
 -- `ErrorMatchesStreams reader writer result`: `result` is `Read` exactly if a read has failed, and
 -- `Write` exactly if a write has.

@@ -4,13 +4,11 @@
 //! begins with an engine that buffers a short line only, and takes a buffer for the longest line
 //! when a line doesn't fit.
 
-ghost use Rattle.std.specs.Prelude.{◌≡◌, ◌<◌, ℕ, List, Option, true, false, Ok, Err, IfSome};
-ghost use Rattle.std.specs.Prelude.{IfNone, IfErr, OnOk};
+ghost use Rattle.std.specs.Prelude.{◌≡◌, ◌<◌, ℕ, List, Option, true, false, IfSome, IfNone};
 ghost use Rattle.ud_model.specs.sections.Items.{Options};
 ghost use Rattle.ud_cond.specs.symbols.SymbolTable.{TableRepresents};
-ghost use Rattle.ud_engine.specs.Finishing.{RunAnswers};
-ghost use Rattle.ud_engine.specs.Runs.{LagsOneRead, RunEnded, RepresentsSomeText, InProgress};
-ghost use Rattle.ud_engine.specs.Runs.{RunFinished, ErrorMatchesStreams};
+ghost use Rattle.ud_engine.specs.Runs.{RepresentsSomeText, InProgress, Finished, RunFinished};
+ghost use Rattle.ud_engine.specs.Runs.{ErrorMatchesStreams};
 ghost use Rattle.ud_model.specs.declared.limits.TheConstants.{LINE_BYTES};
 
 use crate::engine::Engine;
@@ -61,24 +59,10 @@ pub fn run<R: Read, W: Write>(
 ) -> Result<bool, RunFault>
     requires reader { reader.old.failed ≡ false }
     requires out { out.old.failed ≡ false }
-    ensures ran { (o : Options) → o.settings ≡ plan.now.settings →
+    ensures finished { (o : Options) → o.settings ≡ plan.now.settings →
         TableRepresents plan.now.symbols o.table →
-        reader.new.failed ≡ false → out.new.failed ≡ false →
-        IfSome (R.remaining reader.old.inner) (λ input.
-        RunAnswers o input (W.contents out.old.inner) (W.contents out.new.inner) result) }
-    ensures lag { (o : Options) → o.settings ≡ plan.now.settings →
-        TableRepresents plan.now.symbols o.table →
-        LagsOneRead o (R.remaining reader.old.inner) (R.remaining reader.new.inner)
-        (W.contents out.old.inner) (W.contents out.new.inner) }
-    ensures ended { (o : Options) → o.settings ≡ plan.now.settings →
-        TableRepresents plan.now.symbols o.table →
-        RunEnded o (R.remaining reader.old.inner) (R.remaining reader.new.inner)
-        (W.contents out.old.inner) (W.contents out.new.inner) result }
-    ensures not_failed { OnOk result ((reader.new.failed ≡ false) × (out.new.failed ≡ false)) }
-    ensures read_fails { (reader.new.failed ≡ true → result ≡ Err RunFault.Read) ×
-        (result ≡ Err RunFault.Read → reader.new.failed ≡ true) }
-    ensures write_fails { (out.new.failed ≡ true → result ≡ Err RunFault.Write) ×
-        (result ≡ Err RunFault.Write → out.new.failed ≡ true) }
+        Finished R.remaining W.contents o reader.old reader.new out.old out.new result }
+    ensures error_matches { ErrorMatchesStreams reader.new.failed out.new.failed result }
 {
     let mut engine: Engine<'_, Printer, ShortLineBuffer> = Engine::with_buffer(
         plan,

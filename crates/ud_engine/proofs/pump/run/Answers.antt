@@ -22,8 +22,8 @@ pump-requires-clause-begun g c =
       });
     }
 
-pub returns-in-Some-clause-ran : goal.returns-in-Some-clause-ran
-returns-in-Some-clause-ran g c = λ o s t reads writes.
+pub returns-in-Some-clause-finished : goal.returns-in-Some-clause-finished
+returns-in-Some-clause-finished g c = λ o s t.
     let u = begins o c.with_buffer-engine.result (g.R.Read.remaining c.args.reader.now.inner) (g.W.Write.contents c.args.out.now.inner)
     (c.with_buffer-engine.ensures.represents (own_session o [] []) (record {
       settings_are = s;
@@ -33,10 +33,10 @@ returns-in-Some-clause-ran g c = λ o s t reads writes.
       no_text = refl;
       no_output = refl;
     })) in
-    (c.in-Some.ensures.finished o (g.R.Read.remaining c.args.reader.now.inner) (g.W.Write.contents c.args.out.now.inner) u).ran reads writes
+    c.in-Some.ensures.finished o (g.R.Read.remaining c.args.reader.now.inner) (g.W.Write.contents c.args.out.now.inner) u
 
-pub returns-in-Some-clause-lag : goal.returns-in-Some-clause-lag
-returns-in-Some-clause-lag g c = λ o s t.
+pub returns-in-None-clause-finished : goal.returns-in-None-clause-finished
+returns-in-None-clause-finished g c = λ o s t.
     let u = begins o c.with_buffer-engine.result (g.R.Read.remaining c.args.reader.now.inner) (g.W.Write.contents c.args.out.now.inner)
     (c.with_buffer-engine.ensures.represents (own_session o [] []) (record {
       settings_are = s;
@@ -46,56 +46,5 @@ returns-in-Some-clause-lag g c = λ o s t.
       no_text = refl;
       no_output = refl;
     })) in
-    (c.in-Some.ensures.finished o (g.R.Read.remaining c.args.reader.now.inner) (g.W.Write.contents c.args.out.now.inner) u).lag
-
-pub returns-in-Some-clause-ended : goal.returns-in-Some-clause-ended
-returns-in-Some-clause-ended g c = λ o s t.
-    let u = begins o c.with_buffer-engine.result (g.R.Read.remaining c.args.reader.now.inner) (g.W.Write.contents c.args.out.now.inner)
-    (c.with_buffer-engine.ensures.represents (own_session o [] []) (record {
-      settings_are = s;
-      symbols_are = t;
-      show_is_new = λ off. c.of.ensures.represents;
-      pieces_are = λ before j. c.of.ensures.piece before j ∙ ap (λ q. piece_after (style_of q) before j) (c.settings.ensures ∙ sym s);
-      no_text = refl;
-      no_output = refl;
-    })) in
-    (c.in-Some.ensures.finished o (g.R.Read.remaining c.args.reader.now.inner) (g.W.Write.contents c.args.out.now.inner) u).ended
-
-pub returns-in-None-clause-ran : goal.returns-in-None-clause-ran
-returns-in-None-clause-ran g c = λ o s t reads writes.
-    let u = begins o c.with_buffer-engine.result (g.R.Read.remaining c.args.reader.now.inner) (g.W.Write.contents c.args.out.now.inner)
-    (c.with_buffer-engine.ensures.represents (own_session o [] []) (record {
-      settings_are = s;
-      symbols_are = t;
-      show_is_new = λ off. c.of.ensures.represents;
-      pieces_are = λ before j. c.of.ensures.piece before j ∙ ap (λ q. piece_after (style_of q) before j) (c.settings.ensures ∙ sym s);
-      no_text = refl;
-      no_output = refl;
-    })) in
-    (c.run_with_long_buffer.ensures.finished o (g.R.Read.remaining c.args.reader.now.inner) (g.W.Write.contents c.args.out.now.inner) (c.in-None.ensures.goes_on o (g.R.Read.remaining c.args.reader.now.inner) (g.W.Write.contents c.args.out.now.inner) u)).ran reads writes
-
-pub returns-in-None-clause-lag : goal.returns-in-None-clause-lag
-returns-in-None-clause-lag g c = λ o s t.
-    let u = begins o c.with_buffer-engine.result (g.R.Read.remaining c.args.reader.now.inner) (g.W.Write.contents c.args.out.now.inner)
-    (c.with_buffer-engine.ensures.represents (own_session o [] []) (record {
-      settings_are = s;
-      symbols_are = t;
-      show_is_new = λ off. c.of.ensures.represents;
-      pieces_are = λ before j. c.of.ensures.piece before j ∙ ap (λ q. piece_after (style_of q) before j) (c.settings.ensures ∙ sym s);
-      no_text = refl;
-      no_output = refl;
-    })) in
-    (c.run_with_long_buffer.ensures.finished o (g.R.Read.remaining c.args.reader.now.inner) (g.W.Write.contents c.args.out.now.inner) (c.in-None.ensures.goes_on o (g.R.Read.remaining c.args.reader.now.inner) (g.W.Write.contents c.args.out.now.inner) u)).lag
-
-pub returns-in-None-clause-ended : goal.returns-in-None-clause-ended
-returns-in-None-clause-ended g c = λ o s t.
-    let u = begins o c.with_buffer-engine.result (g.R.Read.remaining c.args.reader.now.inner) (g.W.Write.contents c.args.out.now.inner)
-    (c.with_buffer-engine.ensures.represents (own_session o [] []) (record {
-      settings_are = s;
-      symbols_are = t;
-      show_is_new = λ off. c.of.ensures.represents;
-      pieces_are = λ before j. c.of.ensures.piece before j ∙ ap (λ q. piece_after (style_of q) before j) (c.settings.ensures ∙ sym s);
-      no_text = refl;
-      no_output = refl;
-    })) in
-    (c.run_with_long_buffer.ensures.finished o (g.R.Read.remaining c.args.reader.now.inner) (g.W.Write.contents c.args.out.now.inner) (c.in-None.ensures.goes_on o (g.R.Read.remaining c.args.reader.now.inner) (g.W.Write.contents c.args.out.now.inner) u)).ended
+    c.run_with_long_buffer.ensures.finished o (g.R.Read.remaining c.args.reader.now.inner) (g.W.Write.contents c.args.out.now.inner)
+    (c.in-None.ensures.goes_on o (g.R.Read.remaining c.args.reader.now.inner) (g.W.Write.contents c.args.out.now.inner) u)

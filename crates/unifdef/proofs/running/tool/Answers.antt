@@ -25,7 +25,7 @@ status_is g c = c.report_result.ensures.status ∙ ap₂ result_status (c.settin
 pub returns-in-Ok-clause-lag : goal.returns-in-Ok-clause-lag
 returns-in-Ok-clause-lag g c = λ right.
     inl (flushed_kept_up (options_of (map string_bytes c.args.args.now)) _ _ _ _ _
-    (c.run-ran.ensures.lag (options_of (map string_bytes c.args.args.now)) (sym c.in-Ok.ensures.ok.said) c.in-Ok.ensures.ok.represents)
+    (c.run-ran.ensures.finished (options_of (map string_bytes c.args.args.now)) (sym c.in-Ok.ensures.ok.said) c.in-Ok.ensures.ok.represents).lag
     c.flush-flushed.ensures.unchanged)
 
 pub returns-in-Ok-clause-ended : goal.returns-in-Ok-clause-ended
@@ -34,11 +34,11 @@ returns-in-Ok-clause-ended g c = λ right.
       ran = c.run-ran.result;
       flushed = c.flush-flushed.result;
       ended = flushed_went (options_of (map string_bytes c.args.args.now)) _ _ _ _ _ c.run-ran.result
-          (c.run-ran.ensures.ended (options_of (map string_bytes c.args.args.now)) (sym c.in-Ok.ensures.ok.said) c.in-Ok.ensures.ok.represents)
+          (c.run-ran.ensures.finished (options_of (map string_bytes c.args.args.now)) (sym c.in-Ok.ensures.ok.said) c.in-Ok.ensures.ok.represents).ended
           c.flush-flushed.ensures.unchanged;
-      read_failed = read_reported c.run-ran.new.reader.failed c.run-ran.result c.run-ran.ensures.read_fails.0 c.run-ran.ensures.read_fails.1;
+      read_failed = read_reported c.run-ran.new.reader.failed c.run-ran.result c.run-ran.ensures.error_matches.read_fails.0 c.run-ran.ensures.error_matches.read_fails.1;
       write_failed = write_reported c.run-ran.new.out.failed c.flush-flushed.new.self.failed c.flush-flushed.result c.run-ran.result
-          c.run-ran.ensures.write_fails.0 c.run-ran.ensures.write_fails.1 c.flush-flushed.ensures.failed c.flush-flushed.ensures.fused;
+          c.run-ran.ensures.error_matches.write_fails.0 c.run-ran.ensures.error_matches.write_fails.1 c.flush-flushed.ensures.failed c.flush-flushed.ensures.fused;
       reported = message_is g c;
       answered = status_is g c;
     })
@@ -46,7 +46,7 @@ returns-in-Ok-clause-ended g c = λ right.
 pub returns-in-Ok-clause-answer : goal.returns-in-Ok-clause-answer
 returns-in-Ok-clause-answer g c = λ read_works write_works.
     flushed_answers _ c.run-ran.result c.run-ran.new.out.failed c.flush-flushed.result _ c.in-Ok.ensures.ok.right
-    (c.run-ran.ensures.ran (options_of (map string_bytes c.args.args.now)) (sym c.in-Ok.ensures.ok.said) c.in-Ok.ensures.ok.represents read_works)
+    ((c.run-ran.ensures.finished (options_of (map string_bytes c.args.args.now)) (sym c.in-Ok.ensures.ok.said) c.in-Ok.ensures.ok.represents).ran read_works)
     c.flush-flushed.ensures.unchanged c.flush-flushed.ensures.failed c.flush-flushed.ensures.fused write_works (message_is g c) (status_is g c)
 
 -- the arguments of a plan have no fault
