@@ -8,7 +8,7 @@ import sys
 from html import escape
 from math import log10
 
-COLOURS = ["#0b6e4f", "#c8553d", "#e9a03b", "#8a8d91"]
+COLOURS = ["#0b6e4f", "#c8553d", "#e9a03b", "#7a5195", "#8a8d91"]
 LEFT, RIGHT, TOP, BAR, GAP = 190, 60, 62, 11, 10
 WIDTH, GREATEST = 800, 10_000
 

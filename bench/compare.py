@@ -48,23 +48,28 @@ def heading(title, *cells):
 
 
 def cases(work, programs):
-    source, headers, comments = work / "source.c", work / "headers.h", work / "comments"
+    source, headers, crlf, comments = (work / name for name in ("source.c", "headers.h", "crlf.h", "comments"))
     if SOURCES:
         source.write_bytes(texts.files(SOURCES, "*.c", BYTES, list(programs.values())))
         for symbols in (0, 50, 1000):
             yield Case(f"C source, {symbols:,} symbols", source, texts.c_words(symbols))
-        yield Case("C source, 50 symbols, `-t`", source, [*texts.c_words(50), "-t"])
+        for option in ("-t", "-s", "-S"):
+            yield Case(f"C source, 50 symbols, `{option}`", source, [*texts.c_words(50), option])
     headers.write_bytes(texts.files(HEADERS, "*.h", BYTES, list(programs.values())))
     for symbols in (0, 50, 1000):
         yield Case(f"C headers, {symbols:,} symbols", headers, texts.c_words(symbols))
     for option in ("-t", "-b", "-n", "-c", "-s"):
         yield Case(f"C headers, 50 symbols, `{option}`", headers, [*texts.c_words(50), option])
+    crlf.write_bytes(headers.read_bytes().replace(b"\n", b"\r\n"))
+    yield Case("C headers with CRLF, 50 symbols", crlf, texts.c_words(50))
     comments.write_bytes(texts.COMMENTS * (BYTES // len(texts.COMMENTS)))
     yield Case("comments, 50 symbols", comments, texts.c_words(50))
     for symbols in (50, 1000):
         conditionals = work / f"conditionals{symbols}"
         conditionals.write_bytes(texts.conditionals(BYTES, symbols))
-        yield Case(f"conditionals, {symbols:,} symbols", conditionals, texts.conditional_words(symbols))
+        words = texts.conditional_words(symbols)
+        yield Case(f"conditionals, {symbols:,} symbols", conditionals, words)
+        yield Case(f"conditionals, {symbols:,} symbols, `-s`", conditionals, [*words, "-s"])
 
 
 def commands(programs, words, other):

@@ -2,7 +2,8 @@
 # Measures ./unifdef beside the released program and `cat`. README.md in this folder describes it.
 #
 # BENCH_BYTES: the size of each text. BENCH_RUNS: the number of rounds. BENCH_FILES: the number of
-# small files. BENCH_HEADERS, BENCH_SOURCES: the folders of headers and C sources.
+# small files. BENCH_HEADERS, BENCH_SOURCES: the folders of headers and C sources. BENCH_NEWER: a newer
+# unifdef.
 set -eu -o pipefail
 export LC_ALL=C
 here=$(cd "$(dirname "$0")" && pwd)
@@ -14,16 +15,29 @@ trap 'rm -rf "$work"' EXIT
 # Installs Debian's program, if it is missing.
 released() { [ -x /usr/bin/unifdef ] || $([ "$(id -u)" -eq 0 ] || echo sudo) apt-get install --yes --no-install-recommends unifdef; }
 
-# source_of PACKAGE: fetches the source of a Debian package into the temporary folder, by package
-# lists of its own.
+# lists_of KIND RELEASE: sets `apt` to an apt-get with package lists of its own, in the temporary
+# folder: those of packages (deb) or of sources (deb-src) of a release of Debian.
+lists_of() {
+  local key=/usr/share/keyrings/debian-archive-keyring.gpg own=$work/$2-$1
+  apt="apt-get -o Dir::Etc::SourceList=$own/list -o Dir::Etc::SourceParts=/dev/null -o Dir::State::Lists=$own/lists"
+  apt+=" -o Dir::Cache=$own/cache -o APT::Sandbox::User=root"
+  [ -e "$own/updated" ] || { mkdir -p "$own/lists/partial" "$own/cache/archives/partial" &&
+    echo "$1 [signed-by=$key] http://deb.debian.org/debian $2 main" > "$own/list" &&
+    $apt update && touch "$own/updated"; }
+}
+
+# source_of PACKAGE: fetches the source of a Debian package into the temporary folder.
 source_of() {
-  local apt key=/usr/share/keyrings/debian-archive-keyring.gpg release
-  release=$(sed -n 's/^VERSION_CODENAME=//p' /etc/os-release)
-  apt="apt-get -o Dir::Etc::SourceList=$work/list -o Dir::Etc::SourceParts=/dev/null -o Dir::State::Lists=$work/lists"
-  apt+=" -o Dir::Cache=$work/cache -o APT::Sandbox::User=root"
-  echo "deb-src [signed-by=$key] http://deb.debian.org/debian $release main" > "$work/list"
-  mkdir -p "$work/lists/partial" "$work/cache/archives/partial" "$work/source/$1" && cd "$work/source/$1" &&
-    { [ -e "$work/updated" ] || $apt update && touch "$work/updated"; } && $apt source "$1"
+  local apt
+  lists_of deb-src "$(sed -n 's/^VERSION_CODENAME=//p' /etc/os-release)" &&
+    mkdir -p "$work/source/$1" && cd "$work/source/$1" && $apt source "$1"
+}
+
+# Unpacks the program of Debian 13, and tries it: it may need another C library.
+newer() {
+  local apt
+  lists_of deb trixie && cd "$work" && $apt download unifdef && dpkg -x unifdef_*.deb "$work/newer" &&
+    "$work/newer/usr/bin/unifdef" -V
 }
 
 # Builds the released program from its source.
@@ -38,6 +52,7 @@ add() {
 }
 add released /usr/bin/unifdef
 add rebuilt "$work/rebuilt"
+if [ -n "${BENCH_NEWER:-}" ]; then programs+=("newer=$BENCH_NEWER"); else add newer "$work/newer/usr/bin/unifdef"; fi
 if [ -z "${BENCH_SOURCES:-}" ]; then
   if (source_of postgresql-15) > "$work/log" 2>&1; then BENCH_SOURCES=$work/source/postgresql-15; else
     echo "bench: left out: C source: $(tail -n 1 "$work/log")" >&2

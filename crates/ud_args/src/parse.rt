@@ -55,6 +55,7 @@ pub fn plan(alloc: Global, args: &[String]) -> Result<Plan, Usage>
         line = after;
         plan.apply(given)?;
     }
+    plan.cache_symbols();
     Ok(plan)
 }
 

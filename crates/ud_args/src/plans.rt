@@ -76,6 +76,13 @@ impl Plan {
         self.operand
     }
 
+    /// Caches the positions of the symbols, which are all in the table. Changes no result.
+    pub(crate) fn cache_symbols(&mut self)
+        ensures { self.new ≡ self.old }
+    {
+        self.symbols.cache_positions();
+    }
+
     /// Adds the next option or operand to the plan.
     ///
     /// # Errors

@@ -3,6 +3,9 @@
 //! Each name has one row. The rows are sorted by the names' keys, which are numbers, and then by
 //! the names. A binary search finds a name, and a later call for a name changes its row.
 //! Memory is taken before anything changes, so a failed call leaves the table as it was.
+//!
+//! A cache gives the position of most rows without a search. Positions change with each insertion,
+//! so all of them are cached once, after the last one.
 
 ghost use Rattle.std.specs.Prelude.{◌≡◌, ◌++◌, ◌∷◌, [], List, option_map, OnOk, OnErr, IfOk, IfErr};
 ghost use Rattle.std.specs.Prelude.{IsErrOf, Some, None, ◌↔◌, false, true, IsTrue, length};
@@ -40,17 +43,24 @@ pub struct Entry<'a> {
     pub ignoring: bool,
 }
 
-/// A row: a name and its entry.
+/// A name with what is known of it.
 #[derive(Drop)]
-struct Row {
+struct Named {
     /// The name.
     symbol: Vec<u8>,
-    /// The key of the name.
-    number: u64,
     /// The value of the name; `None` if the name is undefined.
     text: Option<Vec<u8>>,
     /// `true` if the sections that the name controls are plain text.
     ignores: bool,
+}
+
+/// A row: a name and its entry. Rows are moved when one is inserted, so a row is small.
+#[derive(Drop)]
+struct Row {
+    /// The key of the name.
+    number: u64,
+    /// The name and its entry.
+    named: Box<Named>,
 }
 
 impl Model for Row {
@@ -61,12 +71,49 @@ impl Model for Row {
 
     ghost Value = { Argument };
 
-    ghost view = { λ r. argument_for r.symbol.items (option_map (λ v. v.items) r.text) r.ignores };
+    ghost view = { λ r. argument_for r.named.value.symbol.items
+        (option_map (λ v. v.items) r.named.value.text) r.named.value.ignores };
 
-    ghost invariant = { λ r. r.number ≡ key_of r.symbol.items };
+    ghost invariant = { λ r. r.number ≡ key_of r.named.value.symbol.items };
 }
 
 impl Row {
+    /// Returns the row of a name, whose key is `key`.
+    ///
+    /// # Errors
+    /// `OutOfMemory` if an allocation fails.
+    fn new(
+        alloc: Global,
+        key: u64,
+        name: &[u8],
+        text: Option<Vec<u8>>,
+        ignores: bool,
+    ) -> Result<Row, SymbolFault>
+        requires { key ≡ spec.key_of name.now }
+        ensures row { IfOk result (λ r. r ≡ argument_for name.now
+            (option_map (λ v. v.items) text) ignores) }
+        ensures fault { OnErr result (IsErrOf result SymbolFault.OutOfMemory) }
+    {
+        let symbol = Vec::from_slice(alloc, name)?;
+        let named = Named {
+            symbol,
+            text,
+            ignores,
+        };
+        match Box::new(alloc, named) {
+            Ok(named) => Ok(Row { number: key, named }),
+            Err(_) => Err(SymbolFault::OutOfMemory),
+        }
+    }
+
+    /// Replaces the entry of the row's name.
+    fn set_entry(&mut self, text: Option<Vec<u8>>, ignores: bool)
+        ensures { self.new ≡ argument_for self.old.name (option_map (λ v. v.items) text) ignores }
+    {
+        self.named.text = text;
+        self.named.ignores = ignores;
+    }
+
     /// Returns the key of the row's name.
     fn key(&self) -> u64
         ensures { result ≡ spec.key_of self.now.name }
@@ -80,14 +127,14 @@ impl Row {
         requires { key ≡ spec.key_of name.now }
         ensures { IsTrue result → bytes_eq self.now.name name.now ≡ true }
     {
-        self.number == key && is_same(self.symbol.as_slice(), name)
+        self.number == key && is_same(self.named.symbol.as_slice(), name)
     }
 
     /// Returns whether the row is that of `name`.
     fn has_name(&self, name: &[u8]) -> bool
         ensures { result ≡ bytes_eq self.now.name name.now }
     {
-        self.symbol.as_slice() == name
+        self.named.symbol.as_slice() == name
     }
 
     /// Compares the row's name with `name`, whose key is `key`.
@@ -105,8 +152,8 @@ impl Row {
     fn compare_same_key(&self, name: &[u8]) -> Ordering
         ensures { result ≡ same_key_cmp self.now.name name.now }
     {
-        match self.symbol.len().cmp(&name.len()) {
-            Ordering::Equal => self.symbol.as_slice().cmp(&name),
+        match self.named.symbol.len().cmp(&name.len()) {
+            Ordering::Equal => self.named.symbol.as_slice().cmp(&name),
             other => other,
         }
     }
@@ -116,11 +163,11 @@ impl Row {
         ensures { as_entry result ≡ self.now.entry }
     {
         Entry {
-            value: match &self.text {
+            value: match &self.named.text {
                 Some(text) => Some(text.as_slice()),
                 None => None,
             },
-            ignoring: self.ignores,
+            ignoring: self.named.ignores,
         }
     }
 }
@@ -218,6 +265,16 @@ impl Symbols {
             Ok(i) => Some(self.rows[i].entry()),
             Err(_) => None,
         }
+    }
+
+    /// Caches the position of each row, so that `find` mostly needs no search. Changes no result.
+    ///
+    /// Each later call that inserts a row makes cached positions stale. So call it once, after the
+    /// last name.
+    pub fn cache_positions(&mut self)
+        ensures { self.new ≡ self.old }
+    {
+        cache_positions_of(&mut self.cache, self.rows.as_slice());
     }
 
     /// Returns the number of rows.
@@ -333,18 +390,11 @@ impl Symbols {
         match self.binary_search(key, name) {
             Ok(i) => {
                 let row = &mut self.rows[i];
-                row.text = text;
-                row.ignores = ignoring;
+                row.set_entry(text, ignoring);
                 Ok(())
             }
             Err(i) => {
-                let symbol = Vec::from_slice(self.alloc, name)?;
-                let row = Row {
-                    symbol,
-                    number: key,
-                    text,
-                    ignores: ignoring,
-                };
+                let row = Row::new(self.alloc, key, name, text, ignoring)?;
                 self.insert_at(i, key, row)
             }
         }
@@ -360,7 +410,7 @@ impl Symbols {
     {
         self.filter.insert(key);
         let added = self.rows.insert(i, row);
-        cache_positions_from(&mut self.cache, self.rows.as_slice(), i);
+        self.cache.set(key, i);
         match added {
             Ok(()) => Ok(()),
             Err(_) => Err(SymbolFault::OutOfMemory),
@@ -368,9 +418,9 @@ impl Symbols {
     }
 }
 
-/// Caches the position of each row from `from` on.
-fn cache_positions_from(cache: &mut SlotCache, rows: &[Row], from: usize) {
-    for i in from..rows.len() {
+/// Caches the position of each row.
+fn cache_positions_of(cache: &mut SlotCache, rows: &[Row]) {
+    for i in 0..rows.len() {
         cache.set(rows[i].key(), i);
     }
 }

@@ -1,5 +1,5 @@
 -- The state of a line processor after many text lines at once.
-use Rattle.std.proofs.Common.{◌≡◌, ℕ, suc, ◌<◌, List, [], ◌∷◌, ◌++◌, length, map, Bool, true, false, not, bytes_eq, ◌||◌, None, refl, sym, ◌∙◌, ap, ap₂, subst, append_assoc, append-nil, arith}
+use Rattle.std.proofs.Common.{◌≡◌, ℕ, suc, ◌<◌, List, [], ◌∷◌, ◌++◌, length, map, Bool, true, false, not, bytes_eq, ◌||◌, Option, Some, None, refl, sym, ◌∙◌, ap, ap₂, subst, append_assoc, append-nil, arith}
 use Rattle.std.specs.List.{concat}
 use Rattle.std.proofs.lemmas.List.Folds.{concat-append}
 use Rattle.std.proofs.lemmas.Slice.Eq.{bytes_eq-Decides}
@@ -10,7 +10,9 @@ use Rattle.ud_model.specs.sections.Pruning.{Mark, marks}
 use Rattle.ud_model.specs.sections.Items.{Options}
 use Rattle.ud_model.specs.answer.Printing.{Judged, judged_line, judged_lines, pieces_by, some_other}
 use Rattle.ud_model.specs.declared.settings.Listing.{Listing}
-use Rattle.ud_model.specs.declared.settings.Listing.TheVariants.{Off}
+use Rattle.std.specs.Option.{is_some}
+use Rattle.ud_model.specs.answer.Listing.{levels, listed}
+use Rattle.ud_model.specs.declared.settings.Listing.TheVariants.{Off, Names, Depths}
 use Rattle.ud_model.specs.declared.verdict.Verdict.{Verdict}
 use Rattle.ud_model.proofs.sections.Soundness.{sound_lines}
 use Rattle.ud_model.proofs.sections.Stays.{length_marks}
@@ -20,8 +22,9 @@ use Rattle.ud_text.proofs.lemmas.bulk.QuietLineLemmas.{ended_lines}
 use Rattle.ud_sections.specs.printing.PrinterOutputs.{judged_text, PrintsEach}
 use Rattle.ud_engine.specs.declared.line_processor.LineProcessor.{LineProcessor}
 use Rattle.ud_engine.specs.DecidedLines.{DecidesBulk}
-use Rattle.ud_engine.specs.ProcessedLines.{text_by, differs_in, ProcessorRepresents, PrintsBulk}
-use Rattle.ud_engine.proofs.ProcessorLemmas.{is_off}
+use Rattle.ud_engine.specs.ProcessedLines.{text_by, differs_in, lister_of, ProcessorRepresents, PrintsBulk}
+use Rattle.ud_engine.proofs.NameListingLemmas.{lists_none}
+use Rattle.ud_engine.proofs.ProcessorLemmas.{is_off, lists_same, not_off}
 
 judged_line-append : (xs ys : List (Item Reading)) (ms ns : List Mark) → length ms ≡ length xs →
     judged_lines (xs ++ ys) (ms ++ ns) ≡ judged_lines xs ms ++ judged_lines ys ns
@@ -96,6 +99,21 @@ pub or_some : (b : Bool) → true ≡ (b || true)
 or_some true = refl
 or_some false = refl
 
+depths_of : (q : Listing) → is_some (lister_of q) ≡ true → (depths : Bool) × (lister_of q ≡ Some depths)
+depths_of Off e = cc
+depths_of Names e = (false, refl)
+depths_of Depths e = (true, refl)
+
+lists_no_text : (o : Options) (piece : List Judged → Judged → List ℕ) (xs items : List (Item Reading)) (t u : Tree Reading) (depths : Bool) →
+    lister_of o.settings.listing ≡ Some depths → listed depths (xs ++ items) (levels u) ≡ listed depths xs (levels t) →
+    text_by o.settings.listing piece (xs ++ items) u ≡ text_by o.settings.listing piece xs t
+lists_no_text o piece xs items t u depths e m = by_listing o.settings.listing e
+  where
+    by_listing : (q : Listing) → lister_of q ≡ Some depths → text_by q piece (xs ++ items) u ≡ text_by q piece xs t
+    by_listing Off f = cc
+    by_listing Names f = let d : false ≡ depths = cc in subst (λ b. listed b (xs ++ items) (levels u) ≡ listed b xs (levels t)) (sym d) m
+    by_listing Depths f = let d : true ≡ depths = cc in subst (λ b. listed b (xs ++ items) (levels u) ≡ listed b xs (levels t)) (sym d) m
+
 module _ {S : Type 0} (represents : S → List Judged → Type 0) (piece_of : S → List Judged → Judged → List ℕ) (o : Options)
     (piece : List Judged → Judged → List ℕ) (xs : List (Item Reading)) (t : Tree Reading) (p : LineProcessor S) (h : ProcessorRepresents represents piece_of p o piece xs t) where
   -- No line is printed.
@@ -144,6 +162,27 @@ module _ {S : Type 0} (represents : S → List Judged → Type 0) (piece_of : S 
             subst (λ (l : Listing). text_by l piece (xs ++ one.items) one.tree ≡ text_by l piece xs t ++ more) (sym off)
             (ap (λ js. concat (pieces_by piece [] js)) all ∙ ap concat pieces ∙ concat-append (pieces_by piece [] before) (map own ls)
             ∙ ap (λ x. concat (pieces_by piece [] before) ++ x) joined);
+      }
+
+  -- Names are listed: text lines have none.
+  pub lists_run : (q : LineProcessor S) (ls : List Line) (verdict : Verdict) → is_some p.lister ≡ true → q.lister ≡ p.lister →
+      q.printer ≡ p.printer → q.differs ≡ p.differs → DecidesBulk o q.decider xs t ls verdict → PrintsBulk represents piece_of q o piece xs t ls []
+  lists_run q ls verdict e same_lister same_printer same_differs one =
+      let some : (depths : Bool) × (lister_of o.settings.listing ≡ Some depths) = depths_of o.settings.listing (ap is_some (sym h.lister) ∙ e) in
+      record {
+        items = one.items;
+        tree = one.tree;
+        has = record {
+          has = one.has;
+          lister = same_lister ∙ h.lister;
+          shown = λ off. absurd (not_off o.settings.listing some.0 some.1 off);
+          stays = λ bs j. ap (λ s. piece_of s bs j) same_printer ∙ h.stays bs j;
+          differs = same_differs ∙ h.differs ∙ lists_same o.settings.listing some.0 piece xs (xs ++ one.items) t one.tree some.1;
+        };
+        lines_are = one.lines_are;
+        is_more =
+            lists_no_text o piece xs one.items t one.tree some.0 some.1 (lists_none o some.0 xs one.items t one.tree h.has.read.sound one.has.read.sound one.texts)
+            ∙ sym (append-nil (text_by o.settings.listing piece xs t));
       }
 
 -- No bytes have no lines.

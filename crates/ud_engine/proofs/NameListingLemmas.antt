@@ -13,14 +13,14 @@ use Rattle.ud_model.specs.declared.kind.Kind.{Kind}
 use Rattle.ud_model.specs.declared.kind.Kind.TheVariants.{If, Ifdef, Ifndef, Elif, Elifdef, Elifndef, Else, Endif}
 use Rattle.ud_model.specs.declared.kind.Test.{Test}
 use Rattle.ud_model.specs.declared.kind.Test.TheVariants.{Nothing}
-use Rattle.ud_model.proofs.answer.LevelLemmas.{length_levels}
+use Rattle.ud_model.proofs.answer.LevelLemmas.{length_levels, levels_stay}
 use Rattle.ud_model.proofs.sections.Growth.{Adds}
 use Rattle.ud_model.proofs.sections.Soundness.{sound_lines, reading_of-item_of}
 use Rattle.ud_model.proofs.sections.Unique.{grows}
 use Rattle.ud_sections.proofs.lemmas.printing.ListingLemmas.{has_condition, LevelsGrow, levels_grow}
 use Rattle.ud_engine.specs.NameLines.{name_line}
 use Rattle.ud_io.specs.Buffering.{AppendsAllBut}
-use Rattle.ud_engine.specs.DecidedLines.{DeciderRepresents}
+use Rattle.ud_engine.specs.DecidedLines.{DeciderRepresents, AreText}
 use Rattle.ud_engine.specs.NameListing.{ListsLine, ListingFails}
 use Rattle.ud_engine.specs.declared.line_decider.LineDecider.{LineDecider}
 use Rattle.ud_io.specs.Watched.{AppendsPrefix}
@@ -113,6 +113,30 @@ listed-append depths (y ∷ ys) x [] n e = cc
 listed-append depths (y ∷ ys) x (m ∷ ns) n e =
     ap (λ t. listed_names (depth_prefix depths m) (names_at y) ++ t) (listed-append depths ys x ns n (let h : suc (length ns) ≡ suc (length ys) = e in omega (arith, h)))
     ∙ sym (append_assoc (listed_names (depth_prefix depths m) (names_at y)) (listed depths ys ns) (listed_names (depth_prefix depths n) (names_at x)))
+
+listed-join : (depths : Bool) (xs ys : List (Item Reading)) (ms ns : List ℕ) → length ms ≡ length xs →
+    listed depths (xs ++ ys) (ms ++ ns) ≡ listed depths xs ms ++ listed depths ys ns
+listed-join depths [] ys [] ns e = refl
+listed-join depths [] ys (m ∷ ms) ns e = cc
+listed-join depths (x ∷ xs) ys [] ns e = cc
+listed-join depths (x ∷ xs) ys (m ∷ ms) ns e =
+    ap (λ t. listed_names (depth_prefix depths m) (names_at x) ++ t) (listed-join depths xs ys ms ns (let h : suc (length ms) ≡ suc (length xs) = e in omega (arith, h)))
+    ∙ sym (append_assoc (listed_names (depth_prefix depths m) (names_at x)) (listed depths xs ms) (listed depths ys ns))
+
+text_unlisted : (depths : Bool) (xs : List (Item Reading)) (ns : List ℕ) → AreText xs → listed depths xs ns ≡ []
+text_unlisted depths [] ns a = refl
+text_unlisted depths (x ∷ xs) [] a = refl
+text_unlisted depths (x ∷ xs) (n ∷ ns) a =
+    ap₂ (λ c y. listed_names (depth_prefix depths n) (names_in_content c) ++ y) a.0 (text_unlisted depths xs ns a.1)
+
+-- With text lines more, no more names are listed.
+pub lists_none : (o : Options) (depths : Bool) (xs items : List (Item Reading)) (t u : Tree Reading) →
+    AreFaultless o xs t → AreFaultless o (xs ++ items) u → AreText items → listed depths (xs ++ items) (levels u) ≡ listed depths xs (levels t)
+lists_none o depths xs items t u s v a =
+    let more : (rest : List ℕ) × (levels u ≡ levels t ++ rest) = levels_stay t u items (sound_lines v ∙ ap (λ ys. ys ++ items) (sym (sound_lines s))) in
+    ap (listed depths (xs ++ items)) more.1
+    ∙ listed-join depths xs items (levels t) more.0 (length_levels t ∙ ap length (sound_lines s))
+    ∙ ap (λ y. listed depths xs (levels t) ++ y) (text_unlisted depths items more.0 a) ∙ append-nil (listed depths xs (levels t))
 
 -- With one line more, its names are listed too, with the depth of the sections open after it.
 pub lists_more : (o : Options) (depths : Bool) (xs : List (Item Reading)) (t u : Tree Reading) (l : Line) →

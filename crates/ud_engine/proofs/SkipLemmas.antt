@@ -26,7 +26,7 @@ use Rattle.ud_sections.specs.printing.PrinterOutputs.{judged_text}
 use Rattle.ud_sections.specs.sections.MachineState.{AreTextLines, StepsText, MachineRepresents, machine_fault}
 use Rattle.ud_sections.proofs.lemmas.sections.TransitionLemmas.{last_number_last}
 use Rattle.ud_engine.specs.declared.line_decider.LineDecider.{LineDecider}
-use Rattle.ud_engine.specs.DecidedLines.{DeciderRepresents, DecidesBulk, consumed}
+use Rattle.ud_engine.specs.DecidedLines.{DeciderRepresents, AreText, DecidesBulk, consumed}
 
 -- The first of some lines that can be consumed can be consumed.
 pub can_skip_take : (lines : LinesState) (bytes : List ℕ) (n : ℕ) → passing.AreWholeLines (take n bytes) → CanConsume lines bytes → CanConsume lines (take n bytes)
@@ -81,6 +81,14 @@ module _ (mode : Mode) where
   lines_are xs [] = refl
   lines_are xs (l ∷ ls) = ap (λ ks. l ∷ ks) (lines_are (xs ++ text_line (read_after xs mode l) ∷ []) ls)
 
+  texts_are : (xs : List (Item Reading)) (ls : List Line) → passing.HaveNoDirective mode (map reading_of xs) ls → AreText (map text_line (read_all xs ls))
+  texts_are xs [] a = tt
+  texts_are xs (l ∷ ls) a = (
+    a.0,
+    texts_are (xs ++ text_line (read_after xs mode l) ∷ []) ls
+        (subst (λ before. passing.HaveNoDirective mode before ls) (sym (one_reading xs (read_after xs mode l))) a.1),
+  )
+
   -- Text lines with one mark have that mark's verdict.
   judged_are : (xs : List (Item Reading)) (ls : List Line) (mark : Mark) (verdict : Verdict) → verdict ≡ mark.verdict → passing.HaveNoDirective mode (map reading_of xs) ls →
       judged_lines (map text_line (read_all xs ls)) (map (λ r. mark) (read_all xs ls)) ≡ map (judged_text verdict) ls
@@ -112,6 +120,7 @@ module _ (o : Options) (old new : LineDecider) (xs : List (Item Reading)) (t : T
       carries = subst (λ ys. ScannerRepresents new.scanner (map reading_of ys)) (sym (append-nil xs)) (skips.represents 0 (map reading_of xs) h.carries);
     };
     lines_are = refl;
+    texts = tt;
     own = [];
     marks_are = sym (append-nil (marks t));
     decided = refl;
@@ -140,6 +149,7 @@ module _ (o : Options) (old new : LineDecider) (xs : List (Item Reading)) (t : T
             carries = subst (ScannerRepresents new.scanner) (sym (readings_are mode xs all)) carries;
           };
           lines_are = lines_are mode xs all;
+          texts = texts_are mode xs all texts;
           own = map (λ r. done.mark) (first ∷ rest);
           marks_are = done.marks_are;
           decided = judged_are mode xs all done.mark verdict done.verdict_is texts;

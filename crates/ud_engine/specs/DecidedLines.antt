@@ -4,10 +4,12 @@
 --   DeciderRepresents o r xs t        a decider has read these items
 --   DecidesLine o r xs t l step       it has also read this line
 --   consumed lines bytes              a line buffer once these bytes are consumed
+--   AreText xs                        these items are text lines
 --   DecidesBulk o r xs t ls verdict   a decider has also read these text lines
 use Rattle.std.specs.Prelude.{◌≡◌, ℕ, ◌+◌, List, [], ◌∷◌, ◌++◌, length, map, None}
 use Rattle.ud_model.specs.text.Lines.{Line, whole_lines}
 use Rattle.ud_model.specs.text.Scans.{Reading}
+use Rattle.ud_model.specs.sections.Directives.{text, content_of}
 use Rattle.ud_model.specs.sections.Tree.{Item, Tree}
 use Rattle.ud_model.specs.sections.Pruning.{Mark, marks}
 use Rattle.ud_model.specs.sections.Items.{Options, reading_of, line_of, next_item}
@@ -49,6 +51,11 @@ pub record DecidesLine (o : Options) (r : LineDecider) (xs : List (Item Reading)
 abbrev pub consumed : LinesState → List ℕ → LinesState
 consumed lines bytes = record lines { before = lines.before + length (whole_lines bytes) }
 
+-- `AreText xs`: each of the items `xs` is a text line.
+abbrev pub AreText : List (Item Reading) → Type 0
+AreText [] = Unit {0}
+AreText (x ∷ xs) = (content_of (reading_of x).scan ≡ text) × AreText xs
+
 -- `DecidesBulk o r xs t ls verdict`: after the items `xs`, `r` has also read the lines `ls`, if
 -- any. Each of them is a text line with this verdict.
 pub record DecidesBulk (o : Options) (r : LineDecider) (xs : List (Item Reading)) (t : Tree Reading)
@@ -57,6 +64,7 @@ pub record DecidesBulk (o : Options) (r : LineDecider) (xs : List (Item Reading)
   pub tree : Tree Reading
   pub has : DeciderRepresents o r (xs ++ items) tree
   pub lines_are : map line_of items ≡ ls
+  pub texts : AreText items
   pub own : List Mark
   pub marks_are : marks tree ≡ marks t ++ own
   pub decided : judged_lines items own ≡ map (judged_text verdict) ls

@@ -185,8 +185,8 @@ impl<S: Show> LineProcessor<S> {
         Ok(())
     }
 
-    /// Consumes the longest prefix of `bytes` that is recognized as text lines, if the printer
-    /// copies or drops all text. Appends nothing.
+    /// Consumes the longest prefix of `bytes` that is recognized as text lines, if names are listed
+    /// or the printer copies or drops all text. Appends nothing.
     ///
     /// `bytes` are the next whole lines.
     pub(crate) fn skip_text<H: LineBuffer>(
@@ -213,10 +213,14 @@ impl<S: Show> LineProcessor<S> {
             count: 0,
             kept: true,
         };
-        if self.lister.is_some() {
-            return none;
-        }
         let policy = self.decider.text_policy();
+        if self.lister.is_some() {
+            // Text lines have no names.
+            return SkippedText {
+                count: self.decider.skip_text(policy, bytes, lines),
+                kept: false,
+            };
+        }
         match self.printer.bulk_output(policy.verdict) {
             BulkOutput::OneByOne => none,
             BulkOutput::Copied => SkippedText {

@@ -455,7 +455,7 @@ fn up_to_newline(chunk: &[u8]) -> Taken
 
 /// Returns the first line of `chunk` with its ending. `None` if `chunk` has no newline, or if the
 /// line has more than `LINE_BYTES`.
-fn first_line(chunk: &[u8]) -> Option<&[u8]>
+pub(crate) fn first_line(chunk: &[u8]) -> Option<&[u8]>
     ensures some { IfSome result (λ line. IsFirstLine chunk.now line.now) }
     ensures none { IfNone result ((used : ℕ) → UpToNewline chunk.now used true →
         LINE_BYTES < used) }
@@ -469,7 +469,7 @@ fn first_line(chunk: &[u8]) -> Option<&[u8]>
 }
 
 /// Splits a line into its body and its ending.
-fn split_ending(line: &[u8]) -> (&[u8], &[u8])
+pub(crate) fn split_ending(line: &[u8]) -> (&[u8], &[u8])
     ensures value { (number : ℕ) →
         IsLineOf result.0.now result.1.now number (line_at number line.now) }
     ensures ended { IsTrue (is_ending result.1.now) }

@@ -4,6 +4,7 @@
 --   HaveNoDirective mode before lines   read in this mode after these readings, no line has a
 --                                       directive or a split keyword
 --   AreWholeLines bytes                 the bytes end with a newline, or there are none
+--   ArePlainText bytes                  the bytes are whole lines, all text in plain mode
 --   SkipsText mode old new bytes        whatever readings `old` represents, `new` represents them
 --                                       and those of the bytes' lines; these are text
 --
@@ -18,6 +19,7 @@ use Rattle.ud_model.specs.text.Scans.{Reading}
 use Rattle.ud_model.specs.text.Scanning.{scan_after, next_reading, readings_after}
 use Rattle.ud_model.specs.sections.Directives.{content_of, text}
 use Rattle.ud_model.specs.declared.kind.Mode.{Mode}
+use Rattle.ud_model.specs.declared.kind.Mode.TheVariants.{Plain}
 use Rattle.ud_text.specs.scan.ScannerState.{ScannerState, ScannerRepresents}
 
 -- `line_in_mode mode line`: the line in this mode
@@ -39,6 +41,12 @@ HaveNoDirective mode before (line ∷ lines) =
 -- `AreWholeLines bytes`: the bytes end with a newline, or there are none
 abbrev pub AreWholeLines : List ℕ → Type 0
 AreWholeLines bytes = partial_line bytes ≡ []
+
+-- `ArePlainText bytes`: the bytes are whole lines, and read in plain mode none has a directive
+pub record ArePlainText (bytes : List ℕ) : Type 0 where
+  pub ends : AreWholeLines bytes
+  pub texts : (n : ℕ) (before : List Reading) →
+      HaveNoDirective Plain before (numbered_from n (whole_lines bytes))
 
 -- `SkipsText mode old new bytes`: if `old` represents some readings, `new` represents them and
 -- those of the lines of `bytes`. All of these lines are text.

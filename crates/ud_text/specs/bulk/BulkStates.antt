@@ -6,6 +6,7 @@
 --   next_bulk_state s b            the state after one more byte
 --   bulk_state_after s bytes       the state after these bytes
 --   is_other_word bytes            the first word, after white space, is no keyword
+--   is_other_hash rest             there is no `#`, or such a word follows it
 --   HasNoStop s bytes              read from `s`, no splice counts and no `#` may belong to a
 --                                  directive
 --   NoNewlineInBlock s bytes       read from `s`, no newline is in a block comment
@@ -25,7 +26,7 @@
 -- Example: `x /* c` with its newline leads from `code_state true` without a stop to
 -- `block_state false`.
 use Rattle.std.specs.Prelude.{◌≡◌, ℕ, ◌==◌, List, [], ◌∷◌, Bool, true, false, not, ◌&&◌, ◌||◌}
-use Rattle.std.specs.Prelude.{if◌then◌else◌}
+use Rattle.std.specs.Prelude.{if◌then◌else◌, Option, Some, None}
 use Rattle.ud_model.specs.text.Bytes.{newline, carriage_return, backslash, number_sign, skip_white}
 use Rattle.ud_model.specs.text.Bytes.{is_word_byte}
 use Rattle.ud_model.specs.text.Scanning.{is_block}
@@ -125,6 +126,12 @@ starts_with_no_keyword (a ∷ b ∷ bytes) = is_no_keyword a b
 -- `is_other_word bytes`: a word that is no keyword comes first, but for white space
 abbrev pub is_other_word : List ℕ → Bool
 is_other_word bytes = starts_with_no_keyword (skip_white bytes)
+
+-- `is_other_hash rest`: there is no `#`, or a word that is no keyword follows it. `rest` follows the
+-- `#`, if there is one.
+abbrev pub is_other_hash : Option (List ℕ) → Bool
+is_other_hash None = true
+is_other_hash (Some rest) = is_other_word rest
 
 -- `stops_bulk s b rest`: `b`, which `rest` follows, is a newline of a splice that counts, or a `#`
 -- that may belong to a directive

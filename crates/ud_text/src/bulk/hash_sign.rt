@@ -27,6 +27,16 @@ fn is_no_keyword(first: u8, second: u8) -> bool
     }
 }
 
+/// Returns whether the first word is no keyword, as its first two bytes show.
+pub(crate) fn is_other_word(bytes: &[u8]) -> bool
+    ensures { result ≡ is_other_word bytes.now }
+{
+    match skip_white(bytes) {
+        [first, second, ..] => is_no_keyword(*first, *second),
+        _ => false,
+    }
+}
+
 /// Returns how many leading bytes show that the first word is no keyword: the white space before
 /// the word, and two of its bytes. None of these bytes is significant.
 pub(crate) fn other_word_len(bytes: &[u8]) -> Option<usize>

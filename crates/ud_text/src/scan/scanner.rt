@@ -27,7 +27,7 @@ ghost use Rattle.ud_text.specs.bulk.BulkScanning.{AreWholeLines, SkipsText};
 ghost use Rattle.ud_text.specs.bulk.BulkStates.{can_start, continues_line};
 ghost use Rattle.ud_model.specs.text.Scanning.{is_block};
 
-use crate::bulk::plain::lines_without_hash;
+use crate::bulk::plain::plain_text_len;
 use crate::bulk::skip_text_lines;
 use crate::scan::lexer::{
     LexState, Lexer, is_fresh, is_in_block_comment, mask_or_borrow, next_state, stays_white,
@@ -348,7 +348,7 @@ fn skip_text_in_plain_mode(scan_state: ScanState, lines: &[u8]) -> (usize, ScanS
     ensures skips { SkipsText Mode.Plain (scanner_state_of scan_state) (scanner_state_of result.1)
         (take result.0 lines.now) }
 {
-    let count = lines_without_hash(lines);
+    let count = plain_text_len(lines);
     if count == 0 {
         return (0, scan_state);
     }

@@ -383,7 +383,7 @@ stands_append mode n before (l ∷ ls) ms =
     stands_append mode (suc n) (before ++ next_reading before mode (line_at n l) ∷ []) ls ms
     ∙ ap (λ (k : ℕ). readings_after (readings_after before (lines_in_mode mode n (l ∷ ls))) (lines_in_mode mode k ms)) e
 
-texts_append : (mode : Mode) (n : ℕ) (before : List Reading) (ls ms : List (List ℕ)) → HaveNoDirective mode before (numbered_from n ls) →
+pub texts_append : (mode : Mode) (n : ℕ) (before : List Reading) (ls ms : List (List ℕ)) → HaveNoDirective mode before (numbered_from n ls) →
     HaveNoDirective mode (readings_after before (lines_in_mode mode n ls)) (numbered_from (n + length ls) ms) → HaveNoDirective mode before (numbered_from n (ls ++ ms))
 texts_append mode n before [] ms h k = let e : n + length {A = List ℕ} [] ≡ n = omega arith in subst (λ (m : ℕ). HaveNoDirective mode before (numbered_from m ms)) e k
 texts_append mode n before (l ∷ ls) ms h k =

@@ -1,4 +1,4 @@
-use Rattle.std.proofs.Common.{◌≡◌, rules, ap, [], suc, take, true, false, refl, subst, arith}
+use Rattle.std.proofs.Common.{◌≡◌, rules, ap, sym, ◌∙◌, [], suc, take, true, false, refl, subst, arith}
 use Rattle.std.proofs.Math.ListN.{length-take}
 use Rattle.ud_model.specs.text.Lines.{text_of, numbered_from, whole_lines}
 use Rattle.ud_sections.specs.sections.Transitions.{text_verdict}
@@ -7,18 +7,14 @@ use Rattle.ud_text.specs.bulk.BulkLexemes.{at_start}
 use Rattle.ud_text.proofs.lemmas.bulk.BulkPlainLemmas.{begins_ends}
 use Rattle.ud_engine.specs.DecidedLines.{DecidesBulk}
 use Rattle.ud_engine.proofs.SkipLemmas.{skips_none}
-use Rattle.ud_engine.proofs.BulkPrintLemmas.{prints_none, prints_run, kept_same, kept_text, dropped_differ, dropped_text, no_lines, none_other, or_none, or_some}
+use Rattle.ud_engine.proofs.BulkPrintLemmas.{prints_none, prints_run, lists_run, kept_same, kept_text, dropped_differ, dropped_text, no_lines, none_other, or_none, or_some}
 use Rattle.ud_engine.proofs.line_processor.LineProcessor.skip_text.Goals as goal
-
-pub returns-then-is_some-clause-ends : goal.returns-then-is_some-clause-ends
-returns-then-is_some-clause-ends g c = begins_ends _ at_start
-
-pub returns-then-is_some-clause-consumed : goal.returns-then-is_some-clause-consumed
-returns-then-is_some-clause-consumed g c = skips_none c.args.lines.now
 
 pub returns-then-is_some-clause-printed : goal.returns-then-is_some-clause-printed
 returns-then-is_some-clause-printed g c = λ o piece xs t h.
-    prints_none g.S.Show.represents g.S.Show.piece o piece xs t c.args.self.now h (suc c.args.lines.now.before)
+    let bytes = take c.skip_text.result c.args.bytes.now in
+    lists_run g.S.Show.represents g.S.Show.piece o piece xs t c.args.self.now h _ (numbered_from (suc c.args.lines.now.before) (whole_lines bytes)) (text_verdict c.args.self.now.decider.machine)
+    (sym c.is_some.ensures ∙ c.if-is_some.true) refl refl refl (c.skip_text.ensures.read o xs t h.has)
 
 pub returns-in-OneByOne-clause-ends : goal.returns-in-OneByOne-clause-ends
 returns-in-OneByOne-clause-ends g c = begins_ends _ at_start
@@ -32,13 +28,13 @@ returns-in-OneByOne-clause-printed g c = λ o piece xs t h.
 
 pub returns-in-Copied-clause-printed : goal.returns-in-Copied-clause-printed
 returns-in-Copied-clause-printed g c = λ o piece xs t h.
-    let bytes = take c.skip_text.result c.args.bytes.now in
+    let bytes = take c.skip_text-in-Copied.result c.args.bytes.now in
     let verdict = text_verdict c.args.self.now.decider.machine in
     prints_run g.S.Show.represents g.S.Show.piece o piece xs t c.args.self.now h _ (numbered_from (suc c.args.lines.now.before) (whole_lines bytes)) verdict text_of false bytes
-    (search rules) refl refl (or_none c.args.self.now.differs) (c.skip_text.ensures.read o xs t h.has)
+    (search rules) refl refl (or_none c.args.self.now.differs) (c.skip_text-in-Copied.ensures.read o xs t h.has)
     (subst (λ v. PrintsEach (g.S.Show.represents c.args.self.now.printer) (g.S.Show.piece c.args.self.now.printer) v text_of) (ap (λ p. p.verdict) c.text_policy-policy.ensures) c.in-Copied.ensures.bulk_output)
     (kept_same verdict (numbered_from (suc c.args.lines.now.before) (whole_lines bytes)))
-    (kept_text (suc c.args.lines.now.before) bytes c.skip_text.ensures.ends)
+    (kept_text (suc c.args.lines.now.before) bytes c.skip_text-in-Copied.ensures.ends)
 
 pub returns-then-count-eq0-clause-printed : goal.returns-then-count-eq0-clause-printed
 returns-then-count-eq0-clause-printed g c = λ o piece xs t h.
