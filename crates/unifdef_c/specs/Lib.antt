@@ -1,0 +1,4 @@
+pub mod Words
+pub mod ArgsFaults
+pub mod TextCalls
+pub mod Parts
