@@ -22,7 +22,7 @@ import subprocess
 import sys
 
 PAGES = re.compile(r"(README|CONTRIBUTING)\.md|docs/\w+\.md|(bench|tests|crates)/.*README\.md")
-SOURCE = re.compile(r"(crates|bench|tests|tools|packaging)/.*|Makefile|crates\.txt")
+SOURCE = re.compile(r"(crates|bench|lib|tests|tools|packaging)/.*|Makefile|crates\.txt")
 ENDING = re.compile(r"\.(rt|antt|md|sh|py|txt|svg|dot|c|h|1)$")
 PATH = re.compile(r"[\w.+-]*(/[\w.+-]+)*/?")
 PAIR = re.compile(r"\b([A-Z]\w*)(::|\.)([a-z]\w*|[A-Z]\w*)\b")

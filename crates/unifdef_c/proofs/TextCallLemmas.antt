@@ -1,5 +1,5 @@
 -- TextCallLemmas: from the answer of the tool to the answer of a call.
-use Rattle.std.proofs.Common.{◌≡◌, ◌⊎◌, inl, inr, refl, sym, subst, ◌∙◌, ℕ, List, [], ◌++◌, Bool, false, Option, Some}
+use Rattle.std.proofs.Common.{◌≡◌, ◌⊎◌, inl, inr, sym, subst, ℕ, List, [], Bool, false, Option, Some}
 use Rattle.std.specs.Io.KnownBytes.{Appends}
 use Rattle.ud_model.specs.answer.Answer.{Answer, IsAnswer, memory_answer}
 use Rattle.ud_io.specs.Watched.{AppendsAllOrPrefix}

@@ -1,4 +1,4 @@
-use Rattle.std.proofs.Common.{arith, refl, ◌∙◌, ap, ◌++◌, map, string_bytes, ◌∷◌, [], List, ℕ, ◌≡◌, append_assoc, Global}
+use Rattle.std.proofs.Common.{◌∙◌, ap, ◌++◌, map, string_bytes, ◌∷◌, [], List, ℕ, ◌≡◌, Global}
 use Rattle.std.proofs.lemmas.Result.{err_from_is_err_and}
 use Rattle.unifdef_c.specs.Words.{words_of}
 use Rattle.unifdef_c.proofs.WordLemmas.{word_refused, word_taken, word_pushed, AreUtf8-append}

@@ -1,4 +1,4 @@
-use Rattle.std.proofs.Common.{◌∙◌, refl, sym, ap, inr, ℕ, List, Some, Vec, Global}
+use Rattle.std.proofs.Common.{refl, sym, inr}
 use Rattle.ud_model.specs.answer.Answer.{memory_answer}
 use Rattle.unifdef_c.proofs.TextCallLemmas.{gave_answer}
 use Rattle.unifdef_c.proofs.text.run_tool.Goals as goal
