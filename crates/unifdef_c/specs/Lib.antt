@@ -2,3 +2,4 @@ pub mod Words
 pub mod ArgsFaults
 pub mod TextCalls
 pub mod Parts
+pub mod Decisions

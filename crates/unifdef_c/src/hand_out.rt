@@ -47,7 +47,7 @@ pub(crate) fn hand_out(
 }
 
 /// Writes as many of `bytes` as fit to the beginning of `room`.
-fn overwrite(room: &mut [u8], bytes: &[u8])
+pub(crate) fn overwrite(room: &mut [u8], bytes: &[u8])
     ensures { room.new ≡ overwritten room.old bytes.now }
 {
     let count = room.len().min(bytes.len());

@@ -6,5 +6,6 @@
 #![tactic(auto)]
 
 mod args;
+mod decide;
 mod hand_out;
 mod text;
