@@ -1,9 +1,9 @@
 /*
  * unifdef.h - removes preprocessor conditionals from C source, in memory
  *
- * One call does what the program unifdef(1) does, over memory in place of files. It is proved that
- * output, message and status are those of the definitions of unifdef(1), as they are for the
- * program. The manual page unifdef(3) has examples.
+ * unifdef_text does what the program unifdef(1) does, over memory in place of files. Two more calls
+ * are for programs that look at directives themselves. It is proved that what each call writes and
+ * returns is that of the definitions of unifdef(1). The manual page unifdef(3) has examples.
  *
  * Nothing is kept between calls, and no call frees or keeps what it is passed. So any number of
  * threads may call at once, each with buffers of its own. No call may be made in a signal handler,
@@ -64,6 +64,44 @@ int unifdef_text(const char *words, size_t words_len,
                  char *output, size_t output_len,
                  char *message, size_t message_len,
                  struct unifdef_sizes *sizes);
+
+/* What unifdef_condition returns. */
+#define UNIFDEF_FALSE 0
+#define UNIFDEF_TRUE 1
+#define UNIFDEF_UNKNOWN 2
+
+/* What unifdef_condition and unifdef_names return for an error. */
+#define UNIFDEF_BAD_WORDS (-1) /* the words have a fault, or one of them isn't UTF-8 */
+#define UNIFDEF_NO_MEMORY (-2) /* memory was refused */
+#define UNIFDEF_TOO_LONG (-3)  /* the expression is longer than UNIFDEF_LINE_BYTES */
+
+/* The most bytes of a line, and so of an expression. */
+#define UNIFDEF_LINE_BYTES 65536
+
+/*
+ * Decides the expression of an #if or #elif.
+ *
+ * words are those of unifdef_text, of which -D, -U, -iD, -iU, -k and -K count. expression is what
+ * follows the keyword, on one line, with a space in place of each comment.
+ *
+ * Returns UNIFDEF_TRUE or UNIFDEF_FALSE if the words decide the expression. If they don't, or if it
+ * can't be understood, UNIFDEF_UNKNOWN. An error is negative.
+ */
+int unifdef_condition(const char *words, size_t words_len,
+                      const char *expression, size_t expression_len);
+
+/*
+ * Lists the names in the expression of an #if or #elif.
+ *
+ * The names go to names in their order, with a zero byte after each. A name that occurs twice is
+ * listed twice. An expression that can't be understood has none. How many bytes all names take is
+ * written to size, which may not be null.
+ *
+ * Returns 0, or UNIFDEF_TOO_SMALL if names_len is less than that. The bytes that fit are written
+ * then. An error is negative, and nothing is written.
+ */
+int unifdef_names(const char *expression, size_t expression_len,
+                  char *names, size_t names_len, size_t *size);
 
 #ifdef __cplusplus
 }

@@ -53,7 +53,10 @@ static void words(void) {
     check("no text", gives("-DA", 3, NULL, 0, 0, "", ""));
     check("not UTF-8", gives("-DA\0-UB\xff", 9, TEXT, len, 2, "", WORDS));
     check("UTF-8", gives("\xc3\xa9.c\0-D", 8, "#else\n", 6, 2, "", "unifdef: Too many files\n"));
-    check("a zero byte in the text", gives("-DA", 4, "a\0b", 3, 0, "a", "") == 0);
+    char out[3];
+    struct unifdef_sizes sizes;
+    check("a zero byte in the text", unifdef_text("-DA", 3, "a\0b", 3, out, 3, NULL, 0, &sizes) == 0 &&
+                                         sizes.output == 3 && memcmp(out, "a\0b", 3) == 0);
 }
 
 static void short_buffers(void) {
@@ -101,6 +104,56 @@ static void memory(void) {
     check("memory: was allocated", k > 2);
 }
 
+static int decides(const char *words, size_t words_len, const char *expression) {
+    return unifdef_condition(words, words_len, expression, strlen(expression));
+}
+
+/* The conditions are those of the worked rows of unifdef(1) and of C11, 6.10.1. */
+static void conditions(void) {
+    check("true", decides("-DA=201112L", 11, " A >= 199901L") == UNIFDEF_TRUE);
+    check("false", decides("-UA", 3, "A && B") == UNIFDEF_FALSE);
+    check("unknown", decides("-DB", 3, "A && B") == UNIFDEF_UNKNOWN);
+    check("strict", decides("-K\0-UA", 6, "A && B") == UNIFDEF_UNKNOWN);
+    check("a constant", decides("-DA", 3, "0") == UNIFDEF_UNKNOWN);
+    check("a constant by -k", decides("-kDA", 4, "0") == UNIFDEF_FALSE);
+    check("not understood", decides("-DA", 3, "A ? 1 : 2") == UNIFDEF_UNKNOWN);
+    check("no words", unifdef_condition(NULL, 0, NULL, 0) == UNIFDEF_UNKNOWN);
+    check("no such option", decides("-q", 2, "1") == UNIFDEF_BAD_WORDS);
+    check("condition: not UTF-8", decides("-D\xff", 3, "1") == UNIFDEF_BAD_WORDS);
+    allowed = 1;
+    check("condition: no memory", decides("-DA", 3, "A") == UNIFDEF_NO_MEMORY);
+    allowed = -1;
+    char *lengthy = calloc(1, UNIFDEF_LINE_BYTES + 1);
+    if (lengthy == NULL) exit(1);
+    memset(lengthy, ' ', UNIFDEF_LINE_BYTES + 1);
+    lengthy[0] = 'A';
+    check("the longest", unifdef_condition("-DA", 3, lengthy, UNIFDEF_LINE_BYTES) == UNIFDEF_TRUE);
+    check("too long", unifdef_condition("-DA", 3, lengthy, UNIFDEF_LINE_BYTES + 1) == UNIFDEF_TOO_LONG);
+    size_t size = 7;
+    check("names: too long", unifdef_names(lengthy, UNIFDEF_LINE_BYTES + 1, NULL, 0, &size) ==
+                                     UNIFDEF_TOO_LONG && size == 7);
+    free(lengthy);
+}
+
+static void names(void) {
+    char block[16];
+    size_t size;
+    const char *text = " F(X) + defined(Y) > F";
+    memset(block, '?', sizeof block);
+    check("names", unifdef_names(text, strlen(text), block, sizeof block, &size) == 0 && size == 6 &&
+                       memcmp(block, "F\0Y\0F", 6) == 0 && block[6] == '?');
+    memset(block, '?', sizeof block);
+    check("names: too small", unifdef_names(text, strlen(text), block, 5, &size) == UNIFDEF_TOO_SMALL &&
+                                  size == 6 && memcmp(block, "F\0Y\0F?", 6) == 0);
+    check("names: no buffer", unifdef_names("A", 1, NULL, 0, &size) == UNIFDEF_TOO_SMALL && size == 2);
+    check("names: none", unifdef_names("A ? 1", 5, NULL, 0, &size) == 0 && size == 0);
+    check("names: null", unifdef_names(NULL, 0, NULL, 0, &size) == 0 && size == 0);
+    allowed = 1;
+    size = 7;
+    check("names: no memory", unifdef_names("A", 1, block, 16, &size) == UNIFDEF_NO_MEMORY && size == 7);
+    allowed = -1;
+}
+
 static void *many(void *number) {
     char words[8], out[64];
     struct unifdef_sizes sizes;
@@ -132,6 +185,8 @@ int main(void) {
     words();
     short_buffers();
     memory();
+    conditions();
+    names();
     threads();
     printf("library: %d calls right, %d wrong\n", right, wrong);
     return wrong != 0;

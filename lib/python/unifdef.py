@@ -13,9 +13,9 @@ from __future__ import annotations
 
 import ctypes
 import os
-from typing import NamedTuple, Union
+from typing import NamedTuple, Optional, Union
 
-__all__ = ["Answer", "Trouble", "run", "strip"]
+__all__ = ["Answer", "Trouble", "condition", "names", "run", "strip"]
 
 TROUBLE = 2
 TOO_SMALL = 3
@@ -30,6 +30,12 @@ _BYTES = [ctypes.c_char_p, ctypes.c_size_t]
 _BUFFER = [ctypes.c_void_p, ctypes.c_size_t]
 _library.unifdef_text.argtypes = [*_BYTES, *_BYTES, *_BUFFER, *_BUFFER, ctypes.POINTER(_Sizes)]
 _library.unifdef_text.restype = ctypes.c_int
+
+
+_library.unifdef_condition.argtypes = [*_BYTES, *_BYTES]
+_library.unifdef_condition.restype = ctypes.c_int
+_library.unifdef_names.argtypes = [*_BYTES, *_BUFFER, ctypes.POINTER(ctypes.c_size_t)]
+_library.unifdef_names.restype = ctypes.c_int
 
 
 class Answer(NamedTuple):
@@ -82,6 +88,37 @@ def strip(text: bytes, *arguments: Union[str, bytes]) -> bytes:
     if answer.status == TROUBLE:
         raise Trouble(answer)
     return answer.output
+
+
+def condition(expression: bytes, *arguments: Union[str, bytes]) -> Optional[bool]:
+    """Returns whether the expression of an `#if` is true, or None if the arguments don't decide it.
+
+    >>> condition(b"A && B", "-UA"), condition(b"A && B", "-DA")
+    (False, None)
+    """
+    words = b"".join(_word(argument) + b"\0" for argument in arguments)
+    found = _library.unifdef_condition(words, len(words), expression, len(expression))
+    if found < 0:
+        raise _ERRORS[found](_REASONS[found])
+    return {0: False, 1: True, 2: None}[found]
+
+
+def names(expression: bytes) -> list[bytes]:
+    """Returns the names in the expression of an `#if`, or none if it can't be understood.
+
+    >>> names(b"defined(A) && B > F(C)")
+    [b'A', b'B', b'F']
+    """
+    size = ctypes.c_size_t(2 * len(expression) + 1)
+    block = ctypes.create_string_buffer(size.value)
+    found = _library.unifdef_names(expression, len(expression), block, len(block), size)
+    if found < 0:
+        raise _ERRORS[found](_REASONS[found])
+    return block.raw[: size.value].split(b"\0")[:-1]
+
+
+_ERRORS = {-1: ValueError, -2: MemoryError, -3: ValueError}
+_REASONS = {-1: "the arguments have a fault", -2: "memory was refused", -3: "the expression is too long"}
 
 
 def _word(argument: Union[str, bytes]) -> bytes:
