@@ -33,6 +33,13 @@ done
 "$cc" "${flags[@]}" -O2 -o "$work/shared" lib/examples/filter.c -Llib -lunifdef
 [ "$(printf '#ifdef A\nx\n#endif\n' | LD_LIBRARY_PATH=lib "$work/shared" -DA)" = x ]
 
+# The example of the manual, and what it prints.
+sed -n '/^\.Sh EXAMPLES/,/^\.Sh ERRORS/p' docs/unifdef.3 | sed 's/\\e/\\/g' > "$work/examples"
+awk '/^\.Bd/ { n++; next } /^\.Ed/ { next } n == 1 && !/^\./' "$work/examples" | sed '/^}$/q' > "$work/example.c"
+awk '/^\.Bd/ { n++; next } /^\.Ed/ { n += n > 1 } n == 2' "$work/examples" > "$work/wanted"
+"$cc" "${flags[@]}" "${checked[@]}" -o "$work/example" "$work/example.c" lib/libunifdef.a
+"$work/example" | diff -u "$work/wanted" - || { echo 'library: the example of unifdef(3) prints this'; exit 1; }
+
 command -v python3 > /dev/null || { echo 'library: python3 is not there, so it is left out'; exit 0; }
 export UNIFDEF_LIBRARY=$PWD/lib/libunifdef.so.1 PYTHONDONTWRITEBYTECODE=1
 (cd lib/python && python3 -m unifdef)
