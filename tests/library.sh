@@ -10,7 +10,7 @@ command -v "$cc" > /dev/null || { echo "library: $cc is not there, so nothing is
 work=$(mktemp -d)
 trap 'rm -rf "$work"' EXIT
 flags=(-std=c99 -D_POSIX_C_SOURCE=200809L -Wall -Wextra -Wpedantic -Werror -g -Ilib)
-checked=(-O1 -fsanitize=address,undefined -fno-sanitize-recover=all)
+checked=(-O1 -fsanitize=address -fsanitize=undefined -fno-sanitize-recover=all)
 
 # The header alone, for C and for C++.
 for language in c:-std=c99 c++:-std=c++11; do

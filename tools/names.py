@@ -34,6 +34,7 @@ COMMENTED = re.compile(r"^\s*(?://|--).*?\b(\w+(?:/\w+)+\.(?:antt|rt|md|sh|py))\
 EXCEPTIONS = {
     "C's types and escapes": ["intmax_t", "uintmax_t", "\\xHH"],
     "files of examples": ["a.c", "in.c"],
+    "built": ["lib/libunifdef.a", "lib/libunifdef.so", "libunifdef.so.1"],
     "stand for others": ["NAME.antt", "NAME.case", "vVERSION", "step_counts_no_line"],
     "units": ["conditions/s", "MB/s"],
     "Debian's and Linux's": ["linux-source-6.1", "make headers_install", "include/uapi"],

@@ -2,8 +2,8 @@
 --
 --   IsDecision block text n       `n` says how the words of `block` decide the expression
 --   NamesAnswer text ..           the names of the expression were written, as far as they fit
-use Rattle.std.specs.Prelude.{◌≡◌, ◌⊎◌, ℕ, ℤ, pos, negsuc, ◌<◌, ◌≤◌, List, length, nat_le, None, Some}
-use Rattle.std.specs.Prelude.{if◌then◌else◌}
+use Rattle.std.specs.Prelude.{◌≡◌, ◌⊎◌, ℕ, ℤ, pos, negsuc, ◌<◌, ◌≤◌, List, length, nat_le}
+use Rattle.std.specs.Prelude.{None, Some, if◌then◌else◌}
 use Rattle.ud_model.specs.answer.CommandLine.{UsageFault, usage_fault, options_of}
 use Rattle.ud_model.specs.conditions.Conditions.{condition_of}
 use Rattle.ud_model.specs.conditions.Names.{names_of}

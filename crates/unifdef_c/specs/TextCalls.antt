@@ -10,7 +10,8 @@ use Rattle.unifdef_c.specs.declared.hand_out.Sizes.{Sizes}
 
 -- The answer to words that aren't UTF-8.
 abbrev pub words_answer : Answer
-words_answer = record { output = []; message = codes "unifdef: Cannot take arguments\n"; status = 2 }
+words_answer =
+    record { output = []; message = codes "unifdef: Cannot take arguments\n"; status = 2 }
 
 -- `IsTextAnswer block text a`: `a` is the one answer of the definitions to the words of `block` and
 -- this text, or that to words that aren't UTF-8. Or memory was refused.
@@ -20,20 +21,20 @@ pub data IsTextAnswer (block text : List ℕ) : Answer → Type 0 where
   not_words : ¬ (AreUtf8 (words_of block)) → IsTextAnswer block text words_answer
   no_memory : IsTextAnswer block text memory_answer
 
--- `overwritten room bytes`: `room` with as many of `bytes` as fit at its beginning.
+-- `overwritten buffer bytes`: `buffer` with as many of `bytes` as fit at its beginning.
 abbrev pub overwritten : List ℕ → List ℕ → List ℕ
-overwritten room bytes = take (length room) bytes ++ drop (length bytes) room
+overwritten buffer bytes = take (length buffer) bytes ++ drop (length bytes) buffer
 
 -- `status_if_fits a output message`: the status of `a`, or 3 if its output or its message is longer
--- than the room for it.
+-- than its buffer.
 abbrev pub status_if_fits : Answer → List ℕ → List ℕ → ℕ
 status_if_fits a output message =
     if nat_le (length a.output) (length output) && nat_le (length a.message) (length message)
     then a.status
     else 3
 
--- `HandsOut a output output' message message' sizes status`: the answer `a` was handed out: what
--- fits of its output and its message was written, their lengths were told, and the status is that
+-- `HandsOut a output output' message message' sizes status`: the answer `a` was handed out. What
+-- fits of its output and its message was written, `sizes` has their lengths, and the status is that
 -- of `a`, or 3 if they don't fit.
 pub record HandsOut (a : Answer) (output output' message message' : List ℕ) (sizes : Sizes)
     (status : ℕ) : Type 0 where

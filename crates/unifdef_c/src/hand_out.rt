@@ -33,8 +33,8 @@ pub(crate) fn hand_out(
     message: &mut [u8],
     sizes: &mut Sizes,
 ) -> u8
-    ensures { HandsOut (answer_of answer.entry) output.old output.new message.old message.new sizes.new
-        result }
+    ensures { HandsOut (answer_of answer.entry) output.old output.new message.old message.new
+        sizes.new result }
 {
     *sizes = Sizes {
         output: answer.output.len(),
@@ -46,10 +46,10 @@ pub(crate) fn hand_out(
     if fits { answer.status } else { TOO_SMALL }
 }
 
-/// Writes as many of `bytes` as fit to the beginning of `room`.
-pub(crate) fn overwrite(room: &mut [u8], bytes: &[u8])
-    ensures { room.new ≡ overwritten room.old bytes.now }
+/// Writes as many of `bytes` as fit to the beginning of `buffer`.
+pub(crate) fn overwrite(buffer: &mut [u8], bytes: &[u8])
+    ensures { buffer.new ≡ overwritten buffer.old bytes.now }
 {
-    let count = room.len().min(bytes.len());
-    room[..count].copy_from_slice(&bytes[..count]);
+    let count = buffer.len().min(bytes.len());
+    buffer[..count].copy_from_slice(&bytes[..count]);
 }

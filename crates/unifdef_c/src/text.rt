@@ -14,9 +14,9 @@ use unifdef::{EXIT_TROUBLE, tool};
 ///
 /// `words` has the arguments, without the program's name. A zero byte ends each of them; the last
 /// one may lack it. What fits of the output and of the message is written to `output` and
-/// `message`, and their whole lengths to `sizes`. The rest of the room is unchanged.
+/// `message`, and their whole lengths to `sizes`. The rest of a buffer is unchanged.
 ///
-/// Returns the exit status, or 3 if the output or the message is longer than the room for it.
+/// Returns the exit status, or 3 if the output or the message is longer than its buffer.
 ///
 /// # Errors
 /// The status is 2, with the program's message, for a fault of the arguments or of the text. This
