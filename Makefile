@@ -17,6 +17,9 @@
 # make tree-test  runs tools/unifdef-tree over trees with every trap, and interrupts it
 # make install    installs ./unifdef, unifdef-tree, manuals and completions under DESTDIR and
 #                 PREFIX; make uninstall removes them
+# make lib        proves and builds the library for C: lib/libunifdef.a and lib/libunifdef.so
+# make lib-test   tries both from C and from Python, with sanitizers, and runs all cases through them
+# make install-lib  installs the library, unifdef.h, unifdef.pc, the module for Python and unifdef(3)
 # make dist       makes unifdef-VERSION.tar.gz of the last commit, which builds by itself
 # make deb        makes a Debian package of ./unifdef
 # make packages-test  installs and uninstalls in folders of its own, makes both packages, and tries
@@ -52,6 +55,10 @@ DOCDIR ?= $(DATADIR)/doc/unifdef
 BASHDIR ?= $(DATADIR)/bash-completion/completions
 ZSHDIR ?= $(DATADIR)/zsh/site-functions
 FISHDIR ?= $(DATADIR)/fish/vendor_completions.d
+LIBDIR ?= $(PREFIX)/lib
+INCLUDEDIR ?= $(PREFIX)/include
+PKGCONFIGDIR ?= $(LIBDIR)/pkgconfig
+PYTHONDIR ?= $(PREFIX)/lib/python3/dist-packages
 INSTALL ?= install
 
 # Rattle's command: the one on PATH, or `make RT=FILE`.
@@ -66,6 +73,7 @@ SOURCES := crates.txt HANDLES \
 .PHONY: all build kit try test check edits cases examples manual-examples differences
 .PHONY: faults fail-alloc tree-test
 .PHONY: install uninstall dist deb packages-test manuals around bench bench-text
+.PHONY: lib lib-test install-lib uninstall-lib
 .PHONY: bench-conditions pictures trees selects lines lines-test hostile fronts clean
 
 all: build
@@ -98,6 +106,18 @@ unifdef: $(SOURCES)
 	@$(NEED_KIT)
 	@RT='$(RT)' tools/prove.py
 	cp $(CRATE)/out/unifdef_cli $@
+
+# The library for C. `rt doc` prints a page in the folder of the kit, which has the C functions that
+# allocate memory.
+lib: lib/libunifdef.a
+
+lib/libunifdef.a: $(SOURCES) lib/build.sh lib/unifdef.map CHANGELOG.md
+	@$(NEED_KIT)
+	@RT='$(RT)' tools/prove.py unifdef_c
+	lib/build.sh crates/unifdef_c/out/libunifdef_c.a "$$(dirname "$$($(RT) doc)")/c/liblibc_c.a"
+
+lib-test: lib
+	@tests/library.sh
 
 check: kit
 	@$(RT) ci
@@ -149,6 +169,22 @@ uninstall:
 	rm -f "$(DESTDIR)$(BASHDIR)/unifdef" "$(DESTDIR)$(BASHDIR)/unifdef-tree" "$(DESTDIR)$(ZSHDIR)/_unifdef"
 	rm -f "$(DESTDIR)$(FISHDIR)/unifdef.fish" "$(DESTDIR)$(FISHDIR)/unifdef-tree.fish"
 
+install-lib: lib
+	@MAJOR=$$(packaging/version.sh | sed 's/\..*//') && \
+	$(INSTALL) -d "$(DESTDIR)$(LIBDIR)" "$(DESTDIR)$(PKGCONFIGDIR)" "$(DESTDIR)$(INCLUDEDIR)" "$(DESTDIR)$(MANDIR)/man3" "$(DESTDIR)$(PYTHONDIR)" && \
+	$(INSTALL) -m 644 lib/libunifdef.a lib/libunifdef.so.$$MAJOR "$(DESTDIR)$(LIBDIR)" && \
+	ln -sf libunifdef.so.$$MAJOR "$(DESTDIR)$(LIBDIR)/libunifdef.so" && \
+	$(INSTALL) -m 644 lib/unifdef.h "$(DESTDIR)$(INCLUDEDIR)" && \
+	$(INSTALL) -m 644 docs/unifdef.3 "$(DESTDIR)$(MANDIR)/man3" && \
+	$(INSTALL) -m 644 lib/python/unifdef.py "$(DESTDIR)$(PYTHONDIR)" && \
+	sed -e 's|@PREFIX@|$(PREFIX)|' -e 's|@LIBDIR@|$(LIBDIR)|' -e 's|@INCLUDEDIR@|$(INCLUDEDIR)|' -e "s|@VERSION@|$$(packaging/version.sh)|" \
+	  lib/unifdef.pc.in > "$(DESTDIR)$(PKGCONFIGDIR)/unifdef.pc"
+
+uninstall-lib:
+	rm -f "$(DESTDIR)$(LIBDIR)"/libunifdef.a "$(DESTDIR)$(LIBDIR)"/libunifdef.so "$(DESTDIR)$(LIBDIR)"/libunifdef.so.[0-9]*
+	rm -f "$(DESTDIR)$(PKGCONFIGDIR)/unifdef.pc" "$(DESTDIR)$(INCLUDEDIR)/unifdef.h"
+	rm -f "$(DESTDIR)$(MANDIR)/man3/unifdef.3" "$(DESTDIR)$(PYTHONDIR)/unifdef.py"
+
 dist:
 	@packaging/dist.sh
 
@@ -162,7 +198,7 @@ packages-test: unifdef
 manuals:
 	@tools/lint.sh
 
-around: manuals cases examples manual-examples differences faults lines-test tree-test packages-test
+around: manuals cases examples manual-examples differences faults lines-test tree-test lib-test packages-test
 
 bench: bench-text bench-conditions
 
@@ -202,5 +238,5 @@ fronts: unifdef
 	N='$(N)' SEED='$(SEED)' bench/fronts.sh
 
 clean:
-	rm -f unifdef unifdef-*.tar.gz *.deb
+	rm -f unifdef unifdef-*.tar.gz *.deb lib/libunifdef.*
 	rm -rf crates/*/out .prove-*

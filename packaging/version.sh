@@ -1,5 +1,6 @@
 #!/bin/sh
-# Prints the version. Fails if CHANGELOG.md, the manuals and the commit's tag don't agree on it.
+# Prints the version. Fails if CHANGELOG.md, the manuals, lib/unifdef.h and the commit's tag don't
+# agree on it.
 #
 # The version is that of the first heading of CHANGELOG.md with a number, as "## 1.0".
 set -u
@@ -11,12 +12,17 @@ if [ -z "$version" ]; then
   exit 1
 fi
 result=0
-for manual in docs/*.1; do
+for manual in docs/*.[13]; do
   if ! grep -qx "\\.Os unifdef $version" "$manual"; then
     echo "version: $manual has no line .Os unifdef $version" >&2
     result=1
   fi
 done
+number=$(echo "$version" | awk -F. '{ print $1 * 10000 + $2 * 100 }')
+if ! grep -qx "#define UNIFDEF_VERSION $number" lib/unifdef.h; then
+  echo "version: lib/unifdef.h has no line #define UNIFDEF_VERSION $number" >&2
+  result=1
+fi
 tags=$(git tag --points-at HEAD 2> /dev/null | grep '^v[0-9]') || tags=''
 for tag in $tags; do
   if [ "$tag" != "v$version" ]; then

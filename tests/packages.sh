@@ -81,6 +81,37 @@ check 'uninstall: the folder' test ! -e "$documents"
 # What is built is installed without the kit.
 check 'install: without the kit' "$make" -s install DESTDIR="$target" PREFIX=/usr RT=no-such-command
 
+# The library, in a folder that pkg-config, the linker and Python are told of.
+built_by_pkg_config() {
+  local flags
+  read -ra flags <<< "$(PKG_CONFIG_PATH=$1/lib/pkgconfig pkg-config --cflags --libs unifdef)"
+  cc -o "$work/filter" lib/examples/filter.c "${flags[@]}" && objdump -p "$work/filter" | grep -q 'NEEDED *libunifdef.so.1$'
+}
+if [ -e lib/libunifdef.a ] && command -v cc > /dev/null && command -v pkg-config > /dev/null; then
+  prefix=$work/library
+  check install-lib "$make" -s -o lib/libunifdef.a install-lib PREFIX="$prefix"
+  check 'install-lib: files' same "$(cd "$prefix" && find . ! -type d | sort)" \
+"./include/unifdef.h
+./lib/libunifdef.a
+./lib/libunifdef.so
+./lib/libunifdef.so.1
+./lib/pkgconfig/unifdef.pc
+./lib/python3/dist-packages/unifdef.py
+./share/man/man3/unifdef.3"
+  check 'install-lib: the version' same "$(PKG_CONFIG_PATH=$prefix/lib/pkgconfig pkg-config --modversion unifdef)" "$version"
+  check 'install-lib: builds' built_by_pkg_config "$prefix"
+  check 'install-lib: runs' same "$(printf '#ifdef A\nx\n#endif\n' | LD_LIBRARY_PATH=$prefix/lib "$work/filter" -DA)" x
+  check 'install-lib: the manual' shows "$prefix/share/man/man3/unifdef.3" "unifdef $version"
+  if command -v python3 > /dev/null; then
+    check 'install-lib: Python' same "$(LD_LIBRARY_PATH=$prefix/lib PYTHONPATH=$prefix/lib/python3/dist-packages \
+      python3 -Bc 'import unifdef; print(unifdef.names(b"A || B"))')" "[b'A', b'B']"
+  fi
+  check uninstall-lib "$make" -s uninstall-lib PREFIX="$prefix"
+  check 'uninstall-lib: files' same "$(find "$prefix" ! -type d)" ''
+else
+  echo 'packages: the library, cc or pkg-config is not there, so the library is left out'
+fi
+
 # Installs before a released program on PATH.
 mkdir -p "$work/first/bin" "$work/second"
 printf '#!/bin/sh\necho "Version: unifdef-2.10" >&2\n' > "$work/second/unifdef"

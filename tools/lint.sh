@@ -10,7 +10,7 @@ packaging/version.sh > /dev/null || result=1
 if command -v mandoc > /dev/null; then
   # Which other manuals exist depends on the machine. -W style leaves out rules for BSD's own
   # manuals.
-  findings=$(mandoc -T lint -W style docs/*.1 2>&1 |
+  findings=$(mandoc -T lint -W style docs/*.[13] 2>&1 |
     grep -v -e 'referenced manual not found' -e 'outdated mandoc.db')
   [ -z "$findings" ] || { printf '%s\n' "$findings"; result=1; }
 else

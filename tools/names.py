@@ -22,7 +22,7 @@ import subprocess
 import sys
 
 PAGES = re.compile(r"(README|CONTRIBUTING)\.md|docs/\w+\.md|(bench|tests|crates)/.*README\.md")
-SOURCE = re.compile(r"(crates|bench|tests|tools|packaging)/.*|Makefile|crates\.txt")
+SOURCE = re.compile(r"(crates|bench|lib|tests|tools|packaging)/.*|Makefile|crates\.txt")
 ENDING = re.compile(r"\.(rt|antt|md|sh|py|txt|svg|dot|c|h|1)$")
 PATH = re.compile(r"[\w.+-]*(/[\w.+-]+)*/?")
 PAIR = re.compile(r"\b([A-Z]\w*)(::|\.)([a-z]\w*|[A-Z]\w*)\b")
@@ -34,6 +34,7 @@ COMMENTED = re.compile(r"^\s*(?://|--).*?\b(\w+(?:/\w+)+\.(?:antt|rt|md|sh|py))\
 EXCEPTIONS = {
     "C's types and escapes": ["intmax_t", "uintmax_t", "\\xHH"],
     "files of examples": ["a.c", "in.c"],
+    "built": ["lib/libunifdef.a", "lib/libunifdef.so", "libunifdef.so.1"],
     "stand for others": ["NAME.antt", "NAME.case", "vVERSION", "step_counts_no_line"],
     "units": ["conditions/s", "MB/s"],
     "Debian's and Linux's": ["linux-source-6.1", "make headers_install", "include/uapi"],

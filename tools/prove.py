@@ -36,6 +36,7 @@ SECONDS = {
     "ud_diagnostics": 27,
     "unifdef": 43,
     "unifdef_cli": 68,
+    "unifdef_c": 60,
 }
 OTHER = 60
 

@@ -1,0 +1,74 @@
+-- Decisions: what a call from C gives for one expression.
+--
+--   IsDecision block text n       `n` says how the words of `block` decide the expression
+--   NamesAnswer text ..           the names of the expression were written, as far as they fit
+use Rattle.std.specs.Prelude.{◌≡◌, ◌⊎◌, ℕ, ℤ, pos, negsuc, ◌<◌, ◌≤◌, List, length, nat_le}
+use Rattle.std.specs.Prelude.{None, Some, if◌then◌else◌}
+use Rattle.ud_model.specs.answer.CommandLine.{UsageFault, usage_fault, options_of}
+use Rattle.ud_model.specs.conditions.Conditions.{condition_of}
+use Rattle.ud_model.specs.conditions.Names.{names_of}
+use Rattle.ud_model.specs.sections.Items.{rules_of}
+use Rattle.ud_model.specs.declared.cond.Cond.{Cond}
+use Rattle.ud_model.specs.declared.cond.Cond.TheVariants.{Yes, No, Unknown}
+use Rattle.ud_model.specs.declared.kind.Kind.TheVariants.{If}
+use Rattle.ud_model.specs.declared.limits.TheConstants.{LINE_BYTES}
+use Rattle.unifdef_c.specs.Words.{words_of, block_of, AreUtf8}
+use Rattle.unifdef_c.specs.TextCalls.{overwritten}
+use Rattle.unifdef_c.specs.declared.decide.Decision.{Decision}
+use Rattle.unifdef_c.specs.declared.decide.Decision.TheVariants as is
+
+-- `cond_by args text`: the condition of the expression `text` by the options of `args`.
+abbrev pub cond_by : List (List ℕ) → List ℕ → Cond
+cond_by args text =
+    (condition_of If text (options_of args).table (rules_of (options_of args).settings)).cond
+
+-- `Decides args text cond`: the arguments have no fault, and `cond` is the condition of `text`.
+abbrev pub Decides : List (List ℕ) → List ℕ → Cond → Type 0
+Decides args text cond = (usage_fault args ≡ None) × (cond_by args text ≡ cond)
+
+-- `IsDecisionByArgs args text d`: `d` is how the arguments decide the expression `text`. Memory for
+-- a symbol may be refused.
+abbrev pub IsDecisionByArgs : List (List ℕ) → List ℕ → Decision → Type 0
+IsDecisionByArgs args text is.False = Decides args text No
+IsDecisionByArgs args text is.True = Decides args text Yes
+IsDecisionByArgs args text is.Unknown = Decides args text Unknown
+IsDecisionByArgs args text is.BadWords = (f : UsageFault) × (usage_fault args ≡ Some f)
+IsDecisionByArgs args text is.OutOfMemory = Unit {0}
+IsDecisionByArgs args text is.TooLong = ⊥
+
+-- `as_int d`: the number of a decision.
+abbrev pub as_int : Decision → ℤ
+as_int is.False = pos 0
+as_int is.True = pos 1
+as_int is.Unknown = pos 2
+as_int is.BadWords = negsuc 0
+as_int is.OutOfMemory = negsuc 1
+as_int is.TooLong = negsuc 2
+
+-- `IsDecision block text n`: `n` is the number of how the words of `block` decide the expression.
+-- A word that isn't UTF-8 is a fault, and an expression may be longer than a line.
+pub data IsDecision (block text : List ℕ) : ℤ → Type 0 where
+  by_args : (d : Decision) → AreUtf8 (words_of block) → length text ≤ LINE_BYTES →
+      IsDecisionByArgs (words_of block) text d → IsDecision block text (as_int d)
+  not_words : ¬ (AreUtf8 (words_of block)) → length text ≤ LINE_BYTES →
+      IsDecision block text (as_int is.BadWords)
+  no_memory : length text ≤ LINE_BYTES → IsDecision block text (as_int is.OutOfMemory)
+  too_long : LINE_BYTES < length text → IsDecision block text (as_int is.TooLong)
+
+-- The names of the expression, each with a zero byte after it.
+abbrev pub names_block : List ℕ → List ℕ
+names_block text = block_of (names_of If text)
+
+-- `WritesNames text block block' size' n`: what fits of the names was written, and their length.
+pub record WritesNames (text block block' : List ℕ) (size' : ℕ) (n : ℤ) : Type 0 where
+  pub fits : length text ≤ LINE_BYTES
+  pub written : block' ≡ overwritten block (names_block text)
+  pub measured : size' ≡ length (names_block text)
+  pub returned : n ≡ pos (if nat_le (length (names_block text)) (length block) then 0 else 3)
+
+-- `NamesAnswer text block block' size size' n`: `WritesNames`. Or memory was refused, or the
+-- expression is longer than a line, and nothing was written.
+abbrev pub NamesAnswer : List ℕ → List ℕ → List ℕ → ℕ → ℕ → ℤ → Type 0
+NamesAnswer text block block' size size' n = WritesNames text block block' size' n ⊎
+    ((block' ≡ block) × (size' ≡ size) × ((n ≡ negsuc 1) × (length text ≤ LINE_BYTES) ⊎
+    (n ≡ negsuc 2) × (LINE_BYTES < length text)))

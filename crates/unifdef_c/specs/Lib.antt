@@ -1,0 +1,5 @@
+pub mod Words
+pub mod ArgsFaults
+pub mod TextCalls
+pub mod Parts
+pub mod Decisions

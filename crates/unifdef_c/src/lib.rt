@@ -1,0 +1,11 @@
+//! unifdef(1) for C, and for whatever calls C.
+//!
+//! Each exported function is declared and described in lib/unifdef.h. It takes numbers and slices,
+//! a slice as a pointer and a length, and writes only to what it is passed. Nothing is kept between
+//! calls.
+#![tactic(auto)]
+
+mod args;
+mod decide;
+mod hand_out;
+mod text;

@@ -1,0 +1,138 @@
+"""unifdef(1) over bytes in memory, by the library libunifdef.
+
+    >>> import unifdef
+    >>> unifdef.run(b"#ifdef A\\nx\\n#else\\ny\\n#endif\\n", "-DA").output
+    b'x\\n'
+
+`python3 -m unifdef` runs these examples. The library is the file that the environment's UNIFDEF_LIBRARY
+names, or the installed one. The calls keep nothing, so any number of threads may call at once: the
+interpreter's lock isn't held meanwhile.
+"""
+
+from __future__ import annotations
+
+import ctypes
+import os
+from typing import NamedTuple, Optional, Union
+
+__all__ = ["Answer", "Trouble", "condition", "names", "run", "strip"]
+
+TROUBLE = 2
+TOO_SMALL = 3
+
+
+class _Sizes(ctypes.Structure):
+    _fields_ = [("output", ctypes.c_size_t), ("message", ctypes.c_size_t)]
+
+
+_library = ctypes.CDLL(os.environ.get("UNIFDEF_LIBRARY", "libunifdef.so.1"))
+_BYTES = [ctypes.c_char_p, ctypes.c_size_t]
+_BUFFER = [ctypes.c_void_p, ctypes.c_size_t]
+_library.unifdef_text.argtypes = [*_BYTES, *_BYTES, *_BUFFER, *_BUFFER, ctypes.POINTER(_Sizes)]
+_library.unifdef_text.restype = ctypes.c_int
+
+
+_library.unifdef_condition.argtypes = [*_BYTES, *_BYTES]
+_library.unifdef_condition.restype = ctypes.c_int
+_library.unifdef_names.argtypes = [*_BYTES, *_BUFFER, ctypes.POINTER(ctypes.c_size_t)]
+_library.unifdef_names.restype = ctypes.c_int
+
+
+class Answer(NamedTuple):
+    """What the program writes for a text, and its exit status."""
+
+    output: bytes
+    message: str
+    status: int
+
+
+class Trouble(Exception):
+    """The arguments or the text have a fault. `answer` has the output for what comes before it."""
+
+    def __init__(self, answer: Answer) -> None:
+        super().__init__(answer.message.rstrip("\n"))
+        self.answer = answer
+
+
+def run(text: bytes, *arguments: Union[str, bytes]) -> Answer:
+    """Returns what unifdef(1) gives for `text` with these arguments, whether or not it is a fault.
+
+    >>> run(b"#if A\\nx\\n#endif\\n", "-DA=1")
+    Answer(output=b'x\\n', message='', status=1)
+    >>> run(b"x\\n#endif\\n", "-DA", "a.c")
+    Answer(output=b'x\\n', message='unifdef: a.c: 2: Inappropriate #endif\\n', status=2)
+    """
+    words = b"".join(_word(argument) + b"\0" for argument in arguments)
+    sizes = _Sizes(len(text), len(words) + 80)
+    while True:
+        output = ctypes.create_string_buffer(max(sizes.output, 1))
+        message = ctypes.create_string_buffer(max(sizes.message, 1))
+        status = _library.unifdef_text(
+            words, len(words), text, len(text), output, len(output), message, len(message), sizes
+        )
+        if status != TOO_SMALL:
+            told = message.raw[: sizes.message].decode(errors="surrogateescape")
+            return Answer(ctypes.string_at(output, sizes.output), told, status)
+
+
+def strip(text: bytes, *arguments: Union[str, bytes]) -> bytes:
+    """Returns the output for `text` with these arguments. Raises `Trouble` if there is a fault.
+
+    >>> strip(b"#ifndef A\\nx\\n#endif\\ny\\n", "-DA")
+    b'y\\n'
+    >>> strip(b"#ifdef A\\n", "-DA")
+    Traceback (most recent call last):
+    unifdef.Trouble: unifdef: stdin: 1: Premature EOF (#if line 1)
+    """
+    answer = run(text, *arguments)
+    if answer.status == TROUBLE:
+        raise Trouble(answer)
+    return answer.output
+
+
+def condition(expression: bytes, *arguments: Union[str, bytes]) -> Optional[bool]:
+    """Returns whether the expression of an `#if` is true, or None if the arguments don't decide it.
+
+    >>> condition(b"A && B", "-UA"), condition(b"A && B", "-DA")
+    (False, None)
+    """
+    words = b"".join(_word(argument) + b"\0" for argument in arguments)
+    found = _library.unifdef_condition(words, len(words), expression, len(expression))
+    if found < 0:
+        raise _ERRORS[found](_REASONS[found])
+    return {0: False, 1: True, 2: None}[found]
+
+
+def names(expression: bytes) -> list[bytes]:
+    """Returns the names in the expression of an `#if`, or none if it can't be understood.
+
+    >>> names(b"defined(A) && B > F(C)")
+    [b'A', b'B', b'F']
+    """
+    size = ctypes.c_size_t(2 * len(expression) + 1)
+    block = ctypes.create_string_buffer(size.value)
+    found = _library.unifdef_names(expression, len(expression), block, len(block), size)
+    if found < 0:
+        raise _ERRORS[found](_REASONS[found])
+    return block.raw[: size.value].split(b"\0")[:-1]
+
+
+_ERRORS = {-1: ValueError, -2: MemoryError, -3: ValueError}
+_REASONS = {-1: "the arguments have a fault", -2: "memory was refused", -3: "the expression is too long"}
+
+
+def _word(argument: Union[str, bytes]) -> bytes:
+    """Returns the bytes of an argument, which has no zero byte, as no argument of a program has."""
+    word = argument.encode(errors="surrogateescape") if isinstance(argument, str) else argument
+    if b"\0" in word:
+        raise ValueError("an argument has a zero byte")
+    return word
+
+
+if __name__ == "__main__":
+    import doctest
+    import sys
+
+    import unifdef
+
+    sys.exit(1 if doctest.testmod(unifdef).failed else 0)

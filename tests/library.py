@@ -1,0 +1,64 @@
+#!/usr/bin/env python3
+"""Compares the library with the cases of the program, as a C program and as a Python module.
+
+    tests/library.py FILTER     lib/examples/filter.c, built; UNIFDEF_LIBRARY is the library
+
+Each case that needs no stream of its own is run through both. Output, message and status must be
+those of the case. Then many threads run all cases at once.
+"""
+
+import subprocess
+import sys
+from concurrent.futures import ThreadPoolExecutor
+from pathlib import Path
+
+sys.dont_write_bytecode = True
+TOP = Path(__file__).resolve().parent.parent
+sys.path[:0] = [str(TOP / "tests"), str(TOP / "lib" / "python")]
+
+import cases  # noqa: E402
+import unifdef  # noqa: E402
+
+THREADS = 8
+
+
+def by_filter(program: str, case: cases.Case) -> cases.Answer:
+    """Returns what the C program gives for a case."""
+    done = subprocess.run(
+        [program, *case.arguments], input=case.input, capture_output=True, timeout=60
+    )
+    return cases.Answer(done.stdout, done.stderr, done.returncode)
+
+
+def by_module(case: cases.Case) -> cases.Answer:
+    """Returns what the Python module gives for a case."""
+    answer = unifdef.run(case.input, *case.arguments)
+    return cases.Answer(answer.output, answer.message.encode(errors="surrogateescape"), answer.status)
+
+
+def main() -> int:
+    """Compares all cases. Returns the exit status."""
+    [program] = sys.argv[1:]
+    wrong = 0
+
+    def compare(way: str, case: cases.Case, found: cases.Answer) -> None:
+        nonlocal wrong
+        if not case.answer.matches(found):
+            wrong += 1
+            print(f"library: {way}: {case.path}\n  expected {case.answer}\n  found    {found}")
+
+    tried = [case for case in cases.cases_in() if not case.streams]
+    for case in tried:
+        compare("C", case, by_filter(program, case))
+        compare("Python", case, by_module(case))
+    with ThreadPoolExecutor(THREADS) as pool:
+        for _ in range(THREADS):
+            found = list(pool.map(by_module, tried))
+            for case, answer in zip(tried, found):
+                compare("threads", case, answer)
+    print(f"library: {len(tried)} cases in C, in Python and in {THREADS} threads, {wrong} wrong")
+    return 1 if wrong or not tried else 0
+
+
+if __name__ == "__main__":
+    sys.exit(main())

@@ -1,0 +1,46 @@
+#!/usr/bin/env bash
+# Tries lib/libunifdef.a and lib/libunifdef.so: the examples and calls of tests/library_calls.c under
+# sanitizers, the module for Python with its examples, and all cases through both. `make lib-test`
+# runs it. Without a C compiler or Python, it says so.
+set -eu -o pipefail
+export LC_ALL=C
+cd "$(dirname "$0")/.."
+cc=${CC:-cc}
+command -v "$cc" > /dev/null || { echo "library: $cc is not there, so nothing is tried"; exit 0; }
+work=$(mktemp -d)
+trap 'rm -rf "$work"' EXIT
+flags=(-std=c99 -D_POSIX_C_SOURCE=200809L -Wall -Wextra -Wpedantic -Werror -g -Ilib)
+checked=(-O1 -fsanitize=address -fsanitize=undefined -fno-sanitize-recover=all)
+
+# The header alone, for C and for C++.
+for language in c:-std=c99 c++:-std=c++11; do
+  "$cc" -x "${language%%:*}" "${language#*:}" -Wall -Wextra -Wpedantic -Werror -fsyntax-only lib/unifdef.h
+done
+
+# Only the functions of the header are exported, by both libraries.
+declared=$(sed -n 's/^[a-z].* \**\(unifdef_[a-z_]*\)(.*/\1/p' lib/unifdef.h | sort)
+for found in "$(nm -g --defined-only lib/libunifdef.a | sed -n 's/.* T //p' | sort)" \
+  "$(nm -D --defined-only lib/libunifdef.so | sed -n 's/.* T \([^@]*\).*/\1/p' | sort)"; do
+  [ "$found" = "$declared" ] || { printf 'library: exported are\n%s\n' "$found"; exit 1; }
+done
+
+"$cc" "${flags[@]}" "${checked[@]}" -Wl,--wrap=malloc,--wrap=realloc -pthread \
+  -o "$work/calls" tests/library_calls.c lib/libunifdef.a
+"$work/calls"
+"$cc" "${flags[@]}" "${checked[@]}" -o "$work/filter" lib/examples/filter.c lib/libunifdef.a
+
+# Through the shared library: what pkg-config prints is what a program needs.
+"$cc" "${flags[@]}" -O2 -o "$work/shared" lib/examples/filter.c -Llib -lunifdef
+[ "$(printf '#ifdef A\nx\n#endif\n' | LD_LIBRARY_PATH=lib "$work/shared" -DA)" = x ]
+
+# The example of the manual, and what it prints.
+sed -n '/^\.Sh EXAMPLES/,/^\.Sh ERRORS/p' docs/unifdef.3 | sed 's/\\e/\\/g' > "$work/examples"
+awk '/^\.Bd/ { n++; next } /^\.Ed/ { next } n == 1 && !/^\./' "$work/examples" | sed '/^}$/q' > "$work/example.c"
+awk '/^\.Bd/ { n++; next } /^\.Ed/ { n += n > 1 } n == 2' "$work/examples" > "$work/wanted"
+"$cc" "${flags[@]}" "${checked[@]}" -o "$work/example" "$work/example.c" lib/libunifdef.a
+"$work/example" | diff -u "$work/wanted" - || { echo 'library: the example of unifdef(3) prints this'; exit 1; }
+
+command -v python3 > /dev/null || { echo 'library: python3 is not there, so it is left out'; exit 0; }
+export UNIFDEF_LIBRARY=$PWD/lib/libunifdef.so.1 PYTHONDONTWRITEBYTECODE=1
+(cd lib/python && python3 -m unifdef)
+tests/library.py "$work/filter"

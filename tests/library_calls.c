@@ -1,0 +1,193 @@
+/* Calls of the library that no case makes: short buffers, null, empty words, refused memory, threads.
+ * tests/library.sh builds it with sanitizers, and with malloc and realloc wrapped. */
+#include <pthread.h>
+#include <stdio.h>
+#include <stdlib.h>
+#include <string.h>
+#include <unifdef.h>
+
+static int right, wrong;
+static __thread long allowed = -1;
+
+static int refused(void) {
+    if (allowed > 0) allowed--;
+    return allowed == 0;
+}
+
+void *__real_malloc(size_t size);
+void *__wrap_malloc(size_t size) { return refused() ? NULL : __real_malloc(size); }
+void *__real_realloc(void *old, size_t size);
+void *__wrap_realloc(void *old, size_t size) { return refused() ? NULL : __real_realloc(old, size); }
+
+static void check(const char *what, int holds) {
+    if (holds) {
+        right++;
+        return;
+    }
+    wrong++;
+    printf("library: %s\n", what);
+}
+
+static const char TEXT[] = "#ifdef A\nx\n#else\ny\n#endif\n";
+static const char MEMORY[] = "unifdef: Out of memory\n";
+static const char WORDS[] = "unifdef: Cannot take arguments\n";
+
+/* Whether an answer has this status, output and message, in buffers that are long enough. */
+static int gives(const char *words, size_t words_len, const char *text, size_t text_len, int status,
+                 const char *output, const char *message) {
+    char out[200], told[200];
+    struct unifdef_sizes sizes;
+    int got = unifdef_text(words, words_len, text, text_len, out, sizeof out, told, sizeof told, &sizes);
+    return got == status && sizes.output == strlen(output) && sizes.message == strlen(message) &&
+           memcmp(out, output, sizes.output) == 0 && memcmp(told, message, sizes.message) == 0;
+}
+
+static void words(void) {
+    size_t len = sizeof TEXT - 1;
+    check("each word ends in a zero byte", gives("-DA\0-UB", 8, TEXT, len, 1, "x\n", ""));
+    check("the last word may lack it", gives("-UB\0-UA", 7, TEXT, len, 1, "y\n", ""));
+    check("no word", gives(NULL, 0, TEXT, len, 0, TEXT, ""));
+    check("an empty word is a file's name", gives("-DA\0", 5, "#else\n", 6, 2, "",
+                                                  "unifdef: : 1: Inappropriate #else\n"));
+    check("two empty words", gives("\0", 2, "x", 1, 2, "", "unifdef: Too many files\n"));
+    check("no text", gives("-DA", 3, NULL, 0, 0, "", ""));
+    check("not UTF-8", gives("-DA\0-UB\xff", 9, TEXT, len, 2, "", WORDS));
+    check("UTF-8", gives("\xc3\xa9.c\0-D", 8, "#else\n", 6, 2, "", "unifdef: Too many files\n"));
+    char out[3];
+    struct unifdef_sizes sizes;
+    check("a zero byte in the text", unifdef_text("-DA", 3, "a\0b", 3, out, 3, NULL, 0, &sizes) == 0 &&
+                                         sizes.output == 3 && memcmp(out, "a\0b", 3) == 0);
+}
+
+static void short_buffers(void) {
+    char out[4], told[40];
+    struct unifdef_sizes sizes;
+    const char *fault = "unifdef: stdin: 3: Inappropriate #endif\n";
+    for (size_t len = 0; len <= 4; len++) {
+        memset(out, '?', sizeof out);
+        int status = unifdef_text("-DA", 3, "abc\nx\n#endif\n", 13, len == 0 ? NULL : out, len, NULL, 0, &sizes);
+        check("too small: the status", status == UNIFDEF_TOO_SMALL);
+        check("too small: the lengths", sizes.output == 6 && sizes.message == strlen(fault));
+        check("too small: what fits", memcmp(out, "abc\n", len) == 0);
+        check("too small: the rest", len == 4 || out[len] == '?');
+    }
+    memset(told, '?', sizeof told);
+    char exact[6];
+    int status = unifdef_text("-DA", 3, "abc\nx\n#endif\n", 13, exact, 6, told, strlen(fault), &sizes);
+    check("just enough", status == 2 && memcmp(exact, "abc\nx\n", 6) == 0 &&
+                             memcmp(told, fault, strlen(fault)) == 0);
+    status = unifdef_text("-DA", 3, "abc\nx\n#endif\n", 13, exact, 6, told, 9, &sizes);
+    check("a short message alone", status == UNIFDEF_TOO_SMALL && sizes.message == strlen(fault));
+    status = unifdef_text("-DA", 3, "", 0, NULL, 0, NULL, 0, &sizes);
+    check("no buffers and nothing to write", status == 0 && sizes.output == 0 && sizes.message == 0);
+}
+
+/* Each allocation of a call fails in turn. What was allocated before is freed: the sanitizer tells. */
+static void memory(void) {
+    long k = 1;
+    for (;; k++) {
+        char out[200], told[200];
+        struct unifdef_sizes sizes;
+        allowed = k;
+        int status = unifdef_text("-DA\0-UB=1\0", 4, TEXT, sizeof TEXT - 1, out, sizeof out, told,
+                                  sizeof told, &sizes);
+        int all = allowed != 0;
+        allowed = -1;
+        if (all) {
+            check("memory: all of it", status == 1 && sizes.output == 2);
+            break;
+        }
+        check("memory: reported", status == 2 && sizes.output == 0 &&
+                                      sizes.message == strlen(MEMORY) &&
+                                      memcmp(told, MEMORY, sizes.message) == 0);
+    }
+    check("memory: was allocated", k > 2);
+}
+
+static int decides(const char *words, size_t words_len, const char *expression) {
+    return unifdef_condition(words, words_len, expression, strlen(expression));
+}
+
+/* The conditions are those of the worked rows of unifdef(1) and of C11, 6.10.1. */
+static void conditions(void) {
+    check("true", decides("-DA=201112L", 11, " A >= 199901L") == UNIFDEF_TRUE);
+    check("false", decides("-UA", 3, "A && B") == UNIFDEF_FALSE);
+    check("unknown", decides("-DB", 3, "A && B") == UNIFDEF_UNKNOWN);
+    check("strict", decides("-K\0-UA", 6, "A && B") == UNIFDEF_UNKNOWN);
+    check("a constant", decides("-DA", 3, "0") == UNIFDEF_UNKNOWN);
+    check("a constant by -k", decides("-kDA", 4, "0") == UNIFDEF_FALSE);
+    check("not understood", decides("-DA", 3, "A ? 1 : 2") == UNIFDEF_UNKNOWN);
+    check("no words", unifdef_condition(NULL, 0, NULL, 0) == UNIFDEF_UNKNOWN);
+    check("no such option", decides("-q", 2, "1") == UNIFDEF_BAD_WORDS);
+    check("condition: not UTF-8", decides("-D\xff", 3, "1") == UNIFDEF_BAD_WORDS);
+    allowed = 1;
+    check("condition: no memory", decides("-DA", 3, "A") == UNIFDEF_NO_MEMORY);
+    allowed = -1;
+    char *lengthy = calloc(1, UNIFDEF_LINE_BYTES + 1);
+    if (lengthy == NULL) exit(1);
+    memset(lengthy, ' ', UNIFDEF_LINE_BYTES + 1);
+    lengthy[0] = 'A';
+    check("the longest", unifdef_condition("-DA", 3, lengthy, UNIFDEF_LINE_BYTES) == UNIFDEF_TRUE);
+    check("too long", unifdef_condition("-DA", 3, lengthy, UNIFDEF_LINE_BYTES + 1) == UNIFDEF_TOO_LONG);
+    size_t size = 7;
+    check("names: too long", unifdef_names(lengthy, UNIFDEF_LINE_BYTES + 1, NULL, 0, &size) ==
+                                     UNIFDEF_TOO_LONG && size == 7);
+    free(lengthy);
+}
+
+static void names(void) {
+    char block[16];
+    size_t size;
+    const char *text = " F(X) + defined(Y) > F";
+    memset(block, '?', sizeof block);
+    check("names", unifdef_names(text, strlen(text), block, sizeof block, &size) == 0 && size == 6 &&
+                       memcmp(block, "F\0Y\0F", 6) == 0 && block[6] == '?');
+    memset(block, '?', sizeof block);
+    check("names: too small", unifdef_names(text, strlen(text), block, 5, &size) == UNIFDEF_TOO_SMALL &&
+                                  size == 6 && memcmp(block, "F\0Y\0F?", 6) == 0);
+    check("names: no buffer", unifdef_names("A", 1, NULL, 0, &size) == UNIFDEF_TOO_SMALL && size == 2);
+    check("names: none", unifdef_names("A ? 1", 5, NULL, 0, &size) == 0 && size == 0);
+    check("names: null", unifdef_names(NULL, 0, NULL, 0, &size) == 0 && size == 0);
+    allowed = 1;
+    size = 7;
+    check("names: no memory", unifdef_names("A", 1, block, 16, &size) == UNIFDEF_NO_MEMORY && size == 7);
+    allowed = -1;
+}
+
+static void *many(void *number) {
+    char words[8], out[64];
+    struct unifdef_sizes sizes;
+    long wrong = 0;
+    int odd = *(int *)number % 2;
+    memcpy(words, odd ? "-DA" : "-UA", 3);
+    for (int i = 0; i < 500; i++) {
+        int status = unifdef_text(words, 3, TEXT, sizeof TEXT - 1, out, sizeof out, NULL, 0, &sizes);
+        wrong += status != 1 || sizes.output != 2 || memcmp(out, odd ? "x\n" : "y\n", 2) != 0;
+    }
+    return wrong == 0 ? number : NULL;
+}
+
+static void threads(void) {
+    pthread_t all[16];
+    int numbers[16];
+    for (int i = 0; i < 16; i++) {
+        numbers[i] = i;
+        if (pthread_create(&all[i], NULL, many, &numbers[i]) != 0) exit(1);
+    }
+    for (int i = 0; i < 16; i++) {
+        void *held;
+        pthread_join(all[i], &held);
+        check("a thread", held != NULL);
+    }
+}
+
+int main(void) {
+    words();
+    short_buffers();
+    memory();
+    conditions();
+    names();
+    threads();
+    printf("library: %d calls right, %d wrong\n", right, wrong);
+    return wrong != 0;
+}
