@@ -81,7 +81,7 @@ check 'uninstall: the folder' test ! -e "$documents"
 # What is built is installed without the kit.
 check 'install: without the kit' "$make" -s install DESTDIR="$target" PREFIX=/usr RT=no-such-command
 
-# The library, in a folder that pkg-config, the linker and Python are told of.
+# The library, in a folder that pkg-config, the linker and Python look in.
 built_by_pkg_config() {
   local flags
   read -ra flags <<< "$(PKG_CONFIG_PATH=$1/lib/pkgconfig pkg-config --cflags --libs unifdef)"

@@ -127,8 +127,8 @@ starts_with_no_keyword (a ∷ b ∷ bytes) = is_no_keyword a b
 abbrev pub is_other_word : List ℕ → Bool
 is_other_word bytes = starts_with_no_keyword (skip_white bytes)
 
--- `is_other_hash rest`: there is no `#`, or a word that is no keyword follows it. `rest` follows the
--- `#`, if there is one.
+-- `is_other_hash rest`: there is no `#`, or a word that is no keyword follows it. `rest` follows
+-- the `#`, if there is one.
 abbrev pub is_other_hash : Option (List ℕ) → Bool
 is_other_hash None = true
 is_other_hash (Some rest) = is_other_word rest
