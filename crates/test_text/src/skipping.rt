@@ -196,8 +196,8 @@ fn skipping_scans_as_reading_does(rt: HostRuntime) -> Result<(), Fail> {
 }
 
 /// Skips the lines that begin a text, and compares the length that was skipped.
-fn goes(rt: &impl Abort, lines: &[u8], count: usize) {
-    assert_eq!(rt; Scanner::new().skip_text(Mode::C, lines), count);
+fn goes(rt: &impl Abort, mode: Mode, lines: &[u8], count: usize) {
+    assert_eq!(rt; Scanner::new().skip_text(mode, lines), count);
 }
 
 /// Lines, and the number of bytes that are skipped from the start of a text.
@@ -248,7 +248,32 @@ const PASSES: &[(&[u8], usize)] = &[
 #[test]
 fn skipping_goes_up_to_the_line_that_may_be_none(rt: HostRuntime) -> Result<(), Fail> {
     for &(lines, count) in PASSES {
-        goes(&rt, lines, count);
+        goes(&rt, Mode::C, lines, count);
+    }
+    Ok(())
+}
+
+/// Lines, and the number of bytes that are skipped from the start of a text in plain mode.
+const PLAIN_PASSES: &[(&[u8], usize)] = &[
+    // A skip goes through text, also past a `#` that belongs to no directive.
+    (b"", 0),
+    (b"a\nb\r\nc", 5),
+    (b"a # if\n'#else\n", 14),
+    (b"#include <a>\n# define X\r\n\t#error e\nx\n", 37),
+    (b"/* #\nc\\\n", 8),
+    // A skip stops at a line that may not be text.
+    (b"a\n#if X\nb\n", 2),
+    (b"a\n \t# else\n", 2),
+    (b"#define X\n#\nb\n", 10),
+    (b"a\n#define X", 2),
+];
+
+#[test]
+fn skipping_in_plain_mode_goes_up_to_the_line_that_may_be_none(
+    rt: HostRuntime,
+) -> Result<(), Fail> {
+    for &(lines, count) in PLAIN_PASSES {
+        goes(&rt, Mode::Plain, lines, count);
     }
     Ok(())
 }
@@ -281,9 +306,9 @@ fn skipping_goes_through_spans_of_each_length(rt: HostRuntime) -> Result<(), Fai
         for (begin, end) in spans {
             let mut lines = spanning(rt.alloc(), begin, count, end)?;
             let passed = lines.len();
-            goes(&rt, lines.as_slice(), passed);
+            goes(&rt, Mode::C, lines.as_slice(), passed);
             lines.extend_from_slice(b"#if X\n")?;
-            goes(&rt, lines.as_slice(), passed);
+            goes(&rt, Mode::C, lines.as_slice(), passed);
         }
     }
     Ok(())
