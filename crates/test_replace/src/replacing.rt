@@ -37,10 +37,10 @@ const CHANGED: Failures = Failures {
     changed: true,
 };
 
-/// What is left of a file.
+/// The state that `replace` leaves.
 #[derive(Clone, Copy)]
 struct Left {
-    /// What was returned.
+    /// The value that was returned.
     result: Result<Update, ReplaceError>,
     /// The calls, as `FakeFolder` has them.
     calls: &'static [u8],

@@ -12,7 +12,7 @@ pub enum FolderCall<'a> {
         text: &'a [u8],
         answer: Option<FileStat>,
     },
-    /// Whether the user may write into the file.
+    /// The user was found to be allowed to write into the file, or not.
     MayWrite {
         name: &'a [u8],
         answer: bool,
@@ -34,7 +34,7 @@ pub enum FolderCall<'a> {
         like: FileStat,
         answer: bool,
     },
-    /// What is known of a file.
+    /// A file was looked at.
     Look {
         name: &'a [u8],
         answer: Option<FileStat>,
