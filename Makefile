@@ -1,4 +1,6 @@
 # make            proves the crates side by side, builds the program and copies it to ./unifdef
+# make unifdef-tree  proves and builds the program that is to replace tools/unifdef-tree. Nothing
+#                 installs it yet
 # make try        runs the program without a proof: make try ARGS='-DA' < in.c. It is built first, in
 #                 half a minute. Statuses 0 and 1 are success, and the status is printed
 # make test       runs every case and test without a proof, side by side; make check proves them
@@ -14,7 +16,8 @@
 # make faults     runs ./unifdef with failing streams, refused memory and a small stack
 #                 (tests/faults/README.md)
 # make fail-alloc  makes each allocation of the program fail in turn, by the kit's fault injection
-# make tree-test  runs tools/unifdef-tree over trees with every trap, and interrupts it
+# make tree-test  runs tools/unifdef-tree over trees with every trap, and interrupts it. If
+#                 ./unifdef-tree is built, runs that too
 # make install    installs ./unifdef, unifdef-tree, manuals and completions under DESTDIR and
 #                 PREFIX; make uninstall removes them
 # make lib        proves and builds the library for C: lib/libunifdef.a and lib/libunifdef.so
@@ -107,6 +110,11 @@ unifdef: $(SOURCES)
 	@RT='$(RT)' tools/prove.py
 	cp $(CRATE)/out/unifdef_cli $@
 
+unifdef-tree: $(SOURCES)
+	@$(NEED_KIT)
+	@RT='$(RT)' tools/prove.py unifdef_tree_cli
+	cp crates/unifdef_tree_cli/out/unifdef_tree_cli $@
+
 # The library for C. `rt doc` prints a page in the folder of the kit, which has the C functions that
 # allocate memory.
 lib: lib/libunifdef.a
@@ -148,6 +156,7 @@ fail-alloc: kit
 
 tree-test: unifdef
 	@tests/tree.sh
+	@[ ! -x unifdef-tree ] || TREE=./unifdef-tree tests/tree.sh
 
 install: unifdef
 	$(INSTALL) -d "$(DESTDIR)$(BINDIR)" "$(DESTDIR)$(MANDIR)/man1" "$(DESTDIR)$(DOCDIR)"
@@ -238,5 +247,5 @@ fronts: unifdef
 	N='$(N)' SEED='$(SEED)' bench/fronts.sh
 
 clean:
-	rm -f unifdef unifdef-*.tar.gz *.deb lib/libunifdef.*
+	rm -f unifdef unifdef-tree unifdef-*.tar.gz *.deb lib/libunifdef.*
 	rm -rf crates/*/out .prove-*

@@ -1,13 +1,16 @@
 #!/usr/bin/env bash
 # Runs unifdef-tree over trees with every trap that its manual names, and interrupts it.
 #
-# tree.sh [PROGRAM]: ./unifdef by default. Everything is run once with each shell that is there.
+# tree.sh [PROGRAM]: ./unifdef by default. Everything is run once with each shell that is there. Or
+# TREE names the program that is to replace the script, and is run once. It differs in a few points,
+# which `by_program` has.
 set -u -o pipefail
 export LC_ALL=C
 here=$(cd "$(dirname "$0")" && pwd)
 UNIFDEF=$(realpath "${1:-$here/../unifdef}")
 export UNIFDEF
-[ -x "$UNIFDEF" ] || { echo "tree-test: $UNIFDEF is not there: run make" >&2; exit 1; }
+TREE=${TREE:+$(realpath "$TREE")}
+[ -x "${TREE:-$UNIFDEF}" ] || { echo "tree-test: ${TREE:-$UNIFDEF} is not there: run make" >&2; exit 1; }
 
 work=$(mktemp -d)
 trap 'umount "$work/small" 2> /dev/null; rm -rf "$work"' EXIT
@@ -31,7 +34,16 @@ check() {
 # $work/err.
 tree() {
   status=0
-  (cd "$work/run" && $shell "$here/../tools/unifdef-tree" "$@" > "$work/out" 2> "$work/err") || status=$?
+  if [ -n "$TREE" ]; then
+    (cd "$work/run" && "$TREE" "$@" > "$work/out" 2> "$work/err") || status=$?
+  else
+    (cd "$work/run" && $shell "$here/../tools/unifdef-tree" "$@" > "$work/out" 2> "$work/err") || status=$?
+  fi
+}
+
+# by_program ONE OTHER: prints what the program does, or else what the script does.
+by_program() {
+  if [ -n "$TREE" ]; then printf '%s' "$1"; else printf '%s' "$2"; fi
 }
 
 holds() { [ "$(cat "$1"; echo .)" = "$(printf '%b' "$2"; echo .)" ]; }
@@ -65,9 +77,21 @@ names() {
     put "$name" "$text"
   done
   mkfifo src/pipe.c
+  if [ -n "$TREE" ]; then
+    tree -DA -- src
+    check 'names: not UTF-8: status' same "$status" 2
+    check 'names: not UTF-8: message' has_line "$work/err" "unifdef-tree: src/\\x81\\x88\\xff.c: Its name isn't UTF-8"
+    check 'names: not UTF-8: count' has_line "$work/err" 'unifdef-tree: 16 changed, 0 unchanged, 1 faulty'
+    rm src/$'\x81\x88\xff.c'
+    odd=("${odd[@]/$'\x81\x88\xff.c'/a b.c}")
+    for name in "${odd[@]}" x.cc x.hpp x.h.in -DB/y.C folder.c/z.H; do
+      put "src/$name" "$text"
+    done
+  fi
   tree -DA -- src
   check 'names: status' same "$status" 1
-  check 'names: count' has_line "$work/err" 'unifdef-tree: 17 changed, 0 unchanged, 0 faulty'
+  check 'names: count' has_line "$work/err" \
+    "unifdef-tree: $(by_program 16 17) changed, 0 unchanged, 0 faulty"
   for name in "${odd[@]}" x.cc x.hpp x.h.in -DB/y.C folder.c/z.H; do
     check "names: $name" holds "src/$name" 'yes\n'
   done
@@ -103,9 +127,19 @@ keeps() {
   local before_same before_one
   before_same=$(stat -c '%i %y' src/same.c)
   before_one=$(number src/one.c)
-  tree -j1 -DA -- src src/one.c ./src/mode.c
+  if [ -n "$TREE" ]; then
+    tree -n -DA -- src src/one.c ./src/mode.c
+    check 'keeps: -n: each file once' has_line "$work/err" 'unifdef-tree: 3 would change, 1 unchanged, 0 faulty'
+    tree -DA -- src/one.c src/three.c
+    check 'keeps: links: status' same "$status" 2
+    check 'keeps: links: message' has_line "$work/err" 'unifdef-tree: src/one.c: Has several links; -w writes into it'
+    check 'keeps: links: text' holds src/one.c "$text"
+  fi
+  # shellcheck disable=SC2046
+  tree -j1 -DA $(by_program -w '') -- src src/one.c ./src/mode.c
   check 'keeps: status' same "$status" 1
-  check 'keeps: count' has_line "$work/err" 'unifdef-tree: 3 changed, 3 unchanged, 0 faulty'
+  check 'keeps: count' has_line "$work/err" \
+    "unifdef-tree: 3 changed, $(by_program 1 3) unchanged, 0 faulty"
   check 'keeps: mode' same "$(stat -c %a src/mode.c)" 754
   check 'keeps: text of a mode' holds src/mode.c 'yes\n'
   check 'keeps: an unchanged file and its time' same "$(stat -c '%i %y' src/same.c)" "$before_same"
@@ -124,7 +158,8 @@ keeps() {
   check 'keeps: a link to a file that is named' same "$status $(head -n 1 "$work/err")" \
     '2 unifdef-tree: src/outside.c: Is a symbolic link'
   put src/one.c "$text"
-  tree -j1 -c -DA -- src/one.c src ./src
+  # shellcheck disable=SC2046
+  tree -j1 -c -DA $(by_program -w '') -- src/one.c src ./src
   check 'keeps: each file once' holds src/two.c '#ifdef A\n#else\nno\n#endif\n'
 }
 
@@ -137,9 +172,18 @@ faults() {
 bad.c' 'x\n#else\n'
   tree -DA src nowhere
   check 'faults: status' same "$status" 2
-  check 'faults: count' has_line "$work/err" 'unifdef-tree: 1 changed, 0 unchanged, 3 faulty'
-  check 'faults: message' has_line "$work/err" 'unifdef: src/bad.c: 1: Inappropriate #endif'
   check 'faults: path' has_line "$work/err" 'unifdef-tree: nowhere: No such file or folder'
+  if [ -n "$TREE" ]; then
+    check 'faults: a missing path: nothing is done' holds src/good.c "$text"
+    tree -DA src -n
+    check 'faults: a late option: status' same "$status" 2
+    check 'faults: a late option: message' has_line "$work/err" 'unifdef-tree: Option after a path: -n'
+    check 'faults: a late option: nothing is done' holds src/good.c "$text"
+    tree -DA src
+  fi
+  check 'faults: count' has_line "$work/err" \
+    "unifdef-tree: 1 changed, 0 unchanged, $(by_program 2 3) faulty"
+  check 'faults: message' has_line "$work/err" 'unifdef: src/bad.c: 1: Inappropriate #endif'
   check 'faults: a faulty file' holds src/bad.c '#endif\n'
   check 'faults: another file' holds src/good.c 'yes\n'
   rm src/*bad.c
@@ -242,14 +286,40 @@ full_disk() {
     rm src/c.c
     ln src/a.c src/linked.c
     head -c 200000 /dev/zero > src/filled 2> /dev/null
-    tree -DA src
-    check 'full disk: a file with two links' cmp was/a.c src/a.c
+    # shellcheck disable=SC2046
+    tree -DA $(by_program -w '') src
+    # The program writes a shorter text into the file, which takes no space.
+    [ -n "$TREE" ] || check 'full disk: a file with two links' cmp was/a.c src/a.c
     rm src/filled
-    tree -DA src
+    # shellcheck disable=SC2046
+    tree -DA $(by_program -w '') src
     check 'full disk: the same with space' same "$(wc -l < src/linked.c)" 9002
     rm src
     umount "$work/small"
   fi
+}
+
+# Tests paths from the input, which only the program reads.
+paths_from_input() {
+  fresh_tree
+  put src/a.txt "$text"
+  put src/b.c "$text"
+  ln -s a.txt src/link
+  # shellcheck disable=SC2012
+  printf 'src/a.txt\0src/link\0src/none\0src/\x81\0' > "$work/paths"
+  status=0
+  (cd "$work/run" && "$TREE" -0 -DA < "$work/paths" > "$work/out" 2> "$work/err") || status=$?
+  check 'input: status' same "$status" 2
+  check 'input: a file' holds src/a.txt 'yes\n'
+  check 'input: another file' holds src/b.c "$text"
+  check 'input: a link' has_line "$work/err" 'unifdef-tree: src/link: Is no regular file'
+  check 'input: a missing file' has_line "$work/err" 'unifdef-tree: src/none: No such file or folder'
+  check 'input: not UTF-8' has_line "$work/err" "unifdef-tree: src/\\x81: Its name isn't UTF-8"
+  check 'input: count' has_line "$work/err" 'unifdef-tree: 1 changed, 0 unchanged, 3 faulty'
+  tree -0 src
+  check 'input: with a path' same "$status" 2
+  tree -V
+  check 'version' same "$(cut -d ' ' -f 1 "$work/out")" unifdef-tree
 }
 
 # Makes ready for a run with the program $work/held. Of its calls, the first $1 pass. Each later one
@@ -406,6 +476,19 @@ read -r _ < "$work/go"
 exec "$UNIFDEF" "\$@"
 END
 chmod +x "$work/held"
+if [ -n "$TREE" ]; then
+  shell=program
+  names
+  keeps
+  faults
+  refusals
+  lists
+  full_disk
+  paths_from_input
+  echo "unifdef-tree: $passed checks hold, $failed don't"
+  [ "$failed" -eq 0 ]
+  exit
+fi
 shells=()
 for one in dash 'bash --posix' 'busybox sh'; do
   command -v "${one%% *}" > /dev/null && shells+=("$one")

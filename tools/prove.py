@@ -37,6 +37,8 @@ SECONDS = {
     "unifdef": 43,
     "unifdef_cli": 68,
     "unifdef_c": 60,
+    "ud_replace": 100,
+    "ud_tree": 150,
 }
 OTHER = 60
 
@@ -61,6 +63,15 @@ def at_or_below(crate, used):
     for it in used[crate]:
         found += [below for below in at_or_below(it, used) if below not in found]
     return [*found, crate]
+
+
+def words_of(folder):
+    """Returns the arguments of a program's stored run."""
+    try:
+        with open(f"{folder}/args", encoding="utf-8") as lines:
+            return lines.read().splitlines()
+    except FileNotFoundError:
+        return []
 
 
 def free_memory():
@@ -126,10 +137,10 @@ class Run:
         self.log = tempfile.TemporaryFile()
         self.room = Room(crate, below)
         folder = self.room.folder
-        # `rt run` proves and builds before it runs. An empty input is copied, with status 0.
-        verb = "run" if os.path.exists(f"{folder}/src/main.rt") else "lib"
+        # `rt run` proves and builds before it runs. The words of the stored run give status 0.
+        verb = ["run", "--", *words_of(folder)] if os.path.exists(f"{folder}/src/main.rt") else ["lib"]
         self.process = subprocess.Popen(
-            [RT, verb],
+            [RT, *verb],
             cwd=folder,
             stdin=subprocess.DEVNULL,
             stdout=self.log,

@@ -2,3 +2,4 @@ pub mod Calls
 pub mod Filling
 pub mod Replacing
 pub mod Moments
+pub mod CallRecords

@@ -9,14 +9,18 @@
 #![tactic(auto)]
 
 mod append;
+mod call;
 mod error;
 mod folder;
+mod history;
 mod laws;
 mod replacement;
 mod stat;
 
+pub use call::FolderCall;
 pub use error::{ReplaceError, Update};
 pub use folder::{CreateError, Folder};
+pub use history::History;
 pub use laws::{law_old_or_new, law_one_rename};
 pub use replacement::{Target, replace};
 pub use stat::{FileStat, FileTime, FileVersion};

@@ -76,7 +76,7 @@ impl<'a> Pieces<'a> {
     /// Creates the output for a line by its step alone, with `blank` in place of a line that is
     /// removed.
     #[inline(always)]
-    pub(crate) fn for_line(line: &Line<'a>, step: Step, blank: &'a [u8]) -> Pieces<'a>
+    pub fn for_line(line: &Line<'a>, step: Step, blank: &'a [u8]) -> Pieces<'a>
         requires keyword { HoldsKeyword step line.now }
         ensures parts { concatenated result ≡ (if is_removed step.verdict then blank.now
             else piece_by step.verdict (as_span step.keyword) (as_line line.now)) }
@@ -106,7 +106,7 @@ impl<'a> Pieces<'a> {
 
     /// Prepends `first` to these parts, which are at most four. The result is printed in place of
     /// `line`.
-    pub(crate) fn prepend(self, first: &'a [u8], line: &Line<'_>) -> Pieces<'a>
+    pub fn prepend(self, first: &'a [u8], line: &Line<'_>) -> Pieces<'a>
         requires has_space { count_of self ≤ 4 }
         ensures parts { concatenated result ≡ first.now ++ concatenated self.entry }
         ensures count { count_of result ≡ count_of self.entry + 1 }

@@ -1,0 +1,7 @@
+//! Tests of `replace` over a folder in memory, whose calls fail as each case asks.
+#![tactic(auto)]
+
+#[cfg(test)]
+mod fake;
+#[cfg(test)]
+mod replacing;

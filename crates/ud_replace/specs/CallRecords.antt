@@ -1,0 +1,21 @@
+-- CallRecords: the calls that code hands to a history.
+--
+--   call_of c   the call of a `FolderCall`
+use Rattle.ud_replace.specs.declared.call.FolderCall.{FolderCall}
+use Rattle.ud_replace.specs.declared.call.FolderCall.TheVariants.{Read, MayWrite, Create, Append}
+use Rattle.ud_replace.specs.declared.call.FolderCall.TheVariants.{SetModeAndOwner, Look, Rename}
+use Rattle.ud_replace.specs.declared.call.FolderCall.TheVariants.{Overwrite, Remove}
+use Rattle.ud_replace.specs.Calls.{Call, was_read, asked, made, appended, given, looked, renamed}
+use Rattle.ud_replace.specs.Calls.{overwrote, removed}
+
+-- `call_of c`: the same call over the bytes to which `c` refers.
+abbrev pub call_of : FolderCall → Call
+call_of (Read name text answer) = was_read name.now text.now answer
+call_of (MayWrite name answer) = asked name.now answer
+call_of (Create name answer) = made name.now answer
+call_of (Append name bytes answer) = appended name.now bytes.now answer
+call_of (SetModeAndOwner name like answer) = given name.now like answer
+call_of (Look name answer) = looked name.now answer
+call_of (Rename from to answer) = renamed from.now to.now answer
+call_of (Overwrite name text answer) = overwrote name.now text.now answer
+call_of (Remove name answer) = removed name.now answer

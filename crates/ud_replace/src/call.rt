@@ -1,0 +1,59 @@
+//! A call of a folder, as `History` takes it.
+
+use crate::folder::CreateError;
+use crate::stat::FileStat;
+
+/// A call of a folder with its answer.
+#[derive(Clone, Copy, Drop)]
+pub enum FolderCall<'a> {
+    /// A file was read as `text`, or reading it failed.
+    Read {
+        name: &'a [u8],
+        text: &'a [u8],
+        answer: Option<FileStat>,
+    },
+    /// The user was found to be allowed to write into the file, or not.
+    MayWrite {
+        name: &'a [u8],
+        answer: bool,
+    },
+    /// An empty file was made, or not.
+    Create {
+        name: &'a [u8],
+        answer: Result<(), CreateError>,
+    },
+    /// That many first bytes of `bytes` were appended, or none.
+    Append {
+        name: &'a [u8],
+        bytes: &'a [u8],
+        answer: Option<usize>,
+    },
+    /// A file got the mode and the owner of `like`, or not.
+    SetModeAndOwner {
+        name: &'a [u8],
+        like: FileStat,
+        answer: bool,
+    },
+    /// A file was looked at.
+    Look {
+        name: &'a [u8],
+        answer: Option<FileStat>,
+    },
+    /// The file `from` was renamed to `to`, or not.
+    Rename {
+        from: &'a [u8],
+        to: &'a [u8],
+        answer: bool,
+    },
+    /// A file has `text` now, or any bytes.
+    Overwrite {
+        name: &'a [u8],
+        text: &'a [u8],
+        answer: bool,
+    },
+    /// A file was removed, or not.
+    Remove {
+        name: &'a [u8],
+        answer: bool,
+    },
+}

@@ -1,0 +1,40 @@
+//! The calls of a folder, for types that implement `Folder`.
+
+ghost use Rattle.std.specs.Prelude.{◌≡◌, List, [], ◌∷◌};
+ghost use Rattle.std.specs.Borrow.{ftrue};
+ghost use Rattle.ud_replace.specs.Calls.{Call};
+
+use crate::call::FolderCall;
+use std::marker::Model;
+
+/// The calls of a folder with their answers. It takes no memory: only clauses read it.
+///
+/// Nothing ties it to what the system was asked. A type that implements `Folder` appends each call
+/// that it makes.
+#[derive(Drop)]
+pub struct History {
+    /// The calls, the newest first.
+    pub ghost calls: { List Call },
+}
+
+impl Model for History {
+    ghost also_owns = { λ _. ftrue };
+}
+
+impl History {
+    ghost use Rattle.ud_replace.specs.CallRecords.{call_of};
+
+    /// Returns the history without calls.
+    pub fn new() -> History
+        ensures { result.calls ≡ [] }
+    {
+        History {}
+    }
+
+    /// Returns this history with one more call.
+    pub fn with(&self, _call: &FolderCall<'_>) -> History
+        ensures { result.calls ≡ call_of _call.now ∷ self.now.calls }
+    {
+        History {}
+    }
+}

@@ -1,0 +1,28 @@
+-- One byte more of a path, and how far its last slash is.
+use Rattle.std.proofs.Common.{◌≡◌, ℕ, ◌+◌, ◌≤◌, List, [], ◌∷◌, ◌++◌, length, ◌==◌, cond, true, false}
+use Rattle.std.proofs.Common.{arith, take, get_or, ◌<◌, ◌≢◌, ap, ◌∙◌}
+use Rattle.std.proofs.lemmas.List.{take_more, length-take}
+use Rattle.ud_tree.specs.Paths.{folder_len}
+
+-- A slash ends the folder, and no other byte does.
+pub folder_len-append : (path : List ℕ) (b : ℕ) →
+    folder_len (path ++ b ∷ []) ≡ cond (b == 47) (length path + 1) (folder_len path)
+folder_len-append [] b = grind arith
+folder_len-append (a ∷ path) b = grind (arith, folder_len-append path b)
+
+-- The last slash is in the path.
+pub folder_len-le : (path : List ℕ) → folder_len path ≤ length path
+folder_len-le [] = omega arith
+folder_len-le (a ∷ path) = grind (arith, folder_len-le path)
+
+-- A slash at `i` ends the folder there.
+pub folder_len_slash : (path : List ℕ) (i : ℕ) → i < length path → get_or path i 0 ≡ 47 →
+    folder_len (take (i + 1) path) ≡ i + 1
+folder_len_slash path i within is =
+    grind (arith, take_more path i 0 within, folder_len-append (take i path) (get_or path i 0), length-take i path)
+
+-- Another byte at `i` doesn't change the folder.
+pub folder_len_other : (path : List ℕ) (i : ℕ) → i < length path → get_or path i 0 ≢ 47 →
+    folder_len (take (i + 1) path) ≡ folder_len (take i path)
+folder_len_other path i within is =
+    grind (arith, take_more path i 0 within, folder_len-append (take i path) (get_or path i 0))

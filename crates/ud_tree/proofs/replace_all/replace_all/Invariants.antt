@@ -1,0 +1,5 @@
+use Rattle.std.proofs.Common.{◌≡◌, ◌+◌}
+use Rattle.ud_tree.proofs.replace_all.replace_all.Given as goal
+
+abbrev pub invariant-loop-done : goal.invariant-loop-done
+invariant-loop-done g l = l.counts.changed + l.counts.unchanged + l.counts.faulty ≡ l.done

@@ -1,0 +1,5 @@
+pub mod Marks
+pub mod Paths
+pub mod Statuses
+pub mod Fates
+pub mod Runs

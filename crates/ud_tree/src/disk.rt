@@ -1,0 +1,343 @@
+//! The real tree: files of the operating system.
+//!
+//! Each method of `Folder` makes the call that it notes. Paths are UTF-8: the library opens no
+//! others, so a name that isn't is one that can't be read.
+
+ghost use Rattle.std.specs.Prelude.{◌≡◌, Some, None, MatchResult};
+ghost use Rattle.std.specs.Io.{WritesAtMost};
+
+use crate::tree::{FileId, Node, NodeKind, Tree};
+use std::alloc::{AllocError, Global};
+use std::fs::{self, Metadata, OpenFile, OpenOptions, Permissions};
+use std::io::{self, ErrorKind, Read, Write};
+use std::os::unix::fs::{MetadataExt, OpenOptionsExt, PermissionsExt};
+use std::rt::Files;
+use ud_replace::{CreateError, FileStat, FileTime, FileVersion, Folder, FolderCall, History};
+
+/// The bits of a mode that say who may read, write and run a file.
+const ACCESS: u32 = 0o777;
+
+/// The bits of a mode that `chmod` sets.
+const MODE: u32 = 0o7777;
+
+/// The files of a runtime.
+#[derive(Drop)]
+pub struct Disk<'r, R: Files> {
+    files: &'r R,
+    alloc: Global,
+    /// The file that `create` made, and that wasn't renamed or removed yet.
+    fresh: Option<R::File>,
+    /// Why the last call failed that did.
+    reason: Option<io::Error>,
+    history: History,
+}
+
+impl<'r, R: Files> Disk<'r, R> {
+    /// Returns the files of a runtime, before any call.
+    pub fn new(files: &'r R, alloc: Global) -> Disk<'r, R> {
+        Disk {
+            files,
+            alloc,
+            fresh: None,
+            reason: None,
+            history: History::new(),
+        }
+    }
+
+    /// Keeps the error of a call. Returns its value, if it has one.
+    fn kept<T>(&mut self, answer: io::Result<T>) -> Option<T>
+        ensures value { MatchResult answer (λ x. result ≡ Some x) (λ e. result ≡ None) }
+        ensures calls { self.new.history.calls ≡ self.old.history.calls }
+    {
+        match answer {
+            Ok(value) => Some(value),
+            Err(error) => {
+                self.reason = Some(error);
+                None
+            }
+        }
+    }
+}
+
+/// Returns a path as text.
+fn text_of(name: &[u8]) -> io::Result<&str> {
+    match std::str::from_utf8(name) {
+        Ok(path) => Ok(path),
+        Err(_) => Err(io::Error::from(ErrorKind::InvalidFilename)),
+    }
+}
+
+/// Returns the facts about a regular file.
+fn stat_of(found: &Metadata) -> io::Result<FileStat> {
+    if !found.is_file() {
+        return Err(io::Error::from(ErrorKind::Unsupported));
+    }
+    Ok(FileStat {
+        version: FileVersion {
+            device: found.dev(),
+            inode: found.ino(),
+            size: found.size(),
+            modified: FileTime {
+                seconds: found.mtime(),
+                nanoseconds: found.mtime_nsec(),
+            },
+            changed: FileTime {
+                seconds: found.ctime(),
+                nanoseconds: found.ctime_nsec(),
+            },
+        },
+        links: found.nlink(),
+        mode: found.mode() & MODE,
+        owner: found.uid(),
+        group: found.gid(),
+    })
+}
+
+/// Returns what is known of a regular file, without following a link.
+fn look_at<R: Files>(files: &R, name: &[u8]) -> io::Result<FileStat> {
+    stat_of(&files.symlink_metadata(text_of(name)?)?)
+}
+
+/// Reads a regular file, and returns what was known of it before.
+fn read_file<R: Files>(files: &R, name: &[u8], text: &mut Vec<u8>) -> io::Result<FileStat> {
+    let stat = look_at(files, name)?;
+    let mut file = fs::open(files, text_of(name)?)?;
+    file.read_to_end(text)?;
+    Ok(stat)
+}
+
+/// Opens a file for writing, and leaves its bytes as they are.
+fn open_to_write<R: Files>(files: &R, name: &[u8]) -> io::Result<R::File> {
+    OpenOptions::new().write(true).open(files, text_of(name)?)
+}
+
+/// Makes an empty file, which only the user may read and write.
+fn create_file<R: Files>(files: &R, name: &[u8]) -> io::Result<R::File> {
+    OpenOptions::new()
+        .write(true)
+        .create_new(true)
+        .mode(0o600)
+        .open(files, text_of(name)?)
+}
+
+/// Writes some first bytes of `bytes`. Returns how many.
+fn write_some<W: Write>(file: &mut Option<W>, bytes: &[u8]) -> io::Result<usize>
+    ensures { WritesAtMost result bytes.now }
+{
+    match file {
+        None => Err(io::Error::from(ErrorKind::NotFound)),
+        Some(file) => file.write(bytes),
+    }
+}
+
+/// Gives a file the owner and the group of another one, or the group alone, as the user may. Then
+/// gives it that one's mode, but no other rights if the owner or the group is another one.
+fn set_mode_and_owner<R: Files>(
+    files: &R,
+    file: &R::File,
+    name: &[u8],
+    like: &FileStat,
+) -> io::Result<()> {
+    let path = text_of(name)?;
+    let own = file.metadata()?;
+    if own.uid() != like.owner || own.gid() != like.group {
+        let both = files.chown(path, Some(like.owner), Some(like.group));
+        if both.is_err() {
+            let _ = files.chown(path, None, Some(like.group));
+        }
+    }
+    let now = file.metadata()?;
+    let same = now.uid() == like.owner && now.gid() == like.group;
+    let mode = if same { like.mode } else { like.mode & ACCESS };
+    file.set_permissions(Permissions::from_mode(mode))
+}
+
+/// Writes `text` over the bytes of a file, and cuts off the rest.
+fn overwrite_file<R: Files>(files: &R, name: &[u8], text: &[u8]) -> io::Result<()> {
+    let mut file = open_to_write(files, name)?;
+    file.write_all(text)?;
+    match u64::try_from(text.len()) {
+        Ok(len) => file.set_len(len),
+        Err(_) => Err(io::Error::from(ErrorKind::FileTooLarge)),
+    }
+}
+
+/// Returns why no file was made.
+fn create_error(error: &io::Error) -> CreateError {
+    match error.kind() {
+        ErrorKind::PermissionDenied | ErrorKind::ReadOnlyFilesystem => CreateError::Denied,
+        _ => CreateError::Failed,
+    }
+}
+
+impl<R: Files> Folder for Disk<'_, R> {
+    ghost history = { λ d. d.history.calls };
+
+    fn read(&mut self, name: &[u8], text: &mut Vec<u8>) -> Option<FileStat> {
+        let read = read_file(self.files, name, text);
+        let answer = self.kept(read);
+        let text = text.as_slice();
+        self.history = self.history.with(&FolderCall::Read { name, text, answer });
+        answer
+    }
+
+    fn may_write(&mut self, name: &[u8]) -> bool {
+        let opened = open_to_write(self.files, name);
+        let answer = self.kept(opened).is_some();
+        self.history = self.history.with(&FolderCall::MayWrite { name, answer });
+        answer
+    }
+
+    fn create(&mut self, name: &[u8]) -> Result<(), CreateError> {
+        let answer = match create_file(self.files, name) {
+            Ok(file) => {
+                self.fresh = Some(file);
+                Ok(())
+            }
+            Err(error) => {
+                self.reason = Some(error);
+                Err(create_error(&error))
+            }
+        };
+        self.history = self.history.with(&FolderCall::Create { name, answer });
+        answer
+    }
+
+    fn append(&mut self, name: &[u8], bytes: &[u8]) -> Option<usize> {
+        let written = write_some(&mut self.fresh, bytes);
+        let answer = self.kept(written);
+        self.history = self.history.with(&FolderCall::Append {
+            name,
+            bytes,
+            answer,
+        });
+        answer
+    }
+
+    fn set_mode_and_owner(&mut self, name: &[u8], like: &FileStat) -> bool {
+        let set = match &self.fresh {
+            None => Err(io::Error::from(ErrorKind::NotFound)),
+            Some(file) => set_mode_and_owner(self.files, file, name, like),
+        };
+        let answer = self.kept(set).is_some();
+        let like = *like;
+        self.history = self
+            .history
+            .with(&FolderCall::SetModeAndOwner { name, like, answer });
+        answer
+    }
+
+    fn look(&mut self, name: &[u8]) -> Option<FileStat> {
+        let found = look_at(self.files, name);
+        let answer = self.kept(found);
+        self.history = self.history.with(&FolderCall::Look { name, answer });
+        answer
+    }
+
+    fn rename(&mut self, from: &[u8], to: &[u8]) -> bool {
+        self.fresh = None;
+        let renamed = rename_file(self.files, from, to);
+        let answer = self.kept(renamed).is_some();
+        self.history = self.history.with(&FolderCall::Rename { from, to, answer });
+        answer
+    }
+
+    fn overwrite(&mut self, name: &[u8], text: &[u8]) -> bool {
+        let written = overwrite_file(self.files, name, text);
+        let answer = self.kept(written).is_some();
+        self.history = self
+            .history
+            .with(&FolderCall::Overwrite { name, text, answer });
+        answer
+    }
+
+    fn remove(&mut self, name: &[u8]) -> bool {
+        self.fresh = None;
+        let answer = remove_file(self.files, name).is_ok();
+        self.history = self.history.with(&FolderCall::Remove { name, answer });
+        answer
+    }
+}
+
+/// Gives a file another name.
+fn rename_file<R: Files>(files: &R, from: &[u8], to: &[u8]) -> io::Result<()> {
+    files.rename(text_of(from)?, text_of(to)?)
+}
+
+/// Removes a file.
+fn remove_file<R: Files>(files: &R, name: &[u8]) -> io::Result<()> {
+    files.remove_file(text_of(name)?)
+}
+
+/// Returns what has a path, by the facts about it.
+fn node_of(found: &Metadata) -> Node {
+    let kind = if found.is_file() {
+        NodeKind::File
+    } else if found.is_dir() {
+        NodeKind::Folder
+    } else if found.is_symlink() {
+        NodeKind::Link
+    } else {
+        NodeKind::Other
+    };
+    let id = FileId {
+        device: found.dev(),
+        inode: found.ino(),
+    };
+    Node { kind, id }
+}
+
+/// Appends the names in a folder.
+fn list_folder<R: Files>(
+    files: &R,
+    alloc: Global,
+    folder: &str,
+    names: &mut Vec<Vec<u8>>,
+) -> io::Result<()> {
+    let mut open = files.open_dir(folder)?;
+    let mut buffer = [0u8; 32768];
+    for _ in 0..u64::MAX {
+        let count = open.read(&mut buffer)?;
+        if count == 0 {
+            break;
+        }
+        append_names(alloc, &buffer[..count], names)?;
+    }
+    Ok(())
+}
+
+/// Appends names, each of which ends in a NUL.
+fn append_names(alloc: Global, packed: &[u8], names: &mut Vec<Vec<u8>>) -> Result<(), AllocError> {
+    for name in packed.split(|byte| *byte == 0) {
+        if !name.is_empty() && name != b".".as_slice() && name != b"..".as_slice() {
+            let mut owned = Vec::new(alloc);
+            owned.extend_from_slice(name)?;
+            names.push(owned).map_err(AllocError::from)?;
+        }
+    }
+    Ok(())
+}
+
+impl<R: Files> Tree for Disk<'_, R> {
+    fn node(&mut self, path: &str) -> Option<Node> {
+        let found = self.files.symlink_metadata(path);
+        let found = self.kept(found)?;
+        Some(node_of(&found))
+    }
+
+    fn leads_to_folder(&mut self, path: &str) -> bool {
+        match self.files.metadata(path) {
+            Ok(found) => found.is_dir(),
+            Err(_) => false,
+        }
+    }
+
+    fn list(&mut self, folder: &str, names: &mut Vec<Vec<u8>>) -> bool {
+        let listed = list_folder(self.files, self.alloc, folder, names);
+        self.kept(listed).is_some()
+    }
+
+    fn reason(&self) -> Option<io::Error> {
+        self.reason
+    }
+}

@@ -1,0 +1,31 @@
+//! unifdef-tree(1): unifdef over the files of a tree, in place.
+//!
+//! `parse_arguments` parses a command line. `find_files` walks over the folders, and `run_tree`
+//! has each file replaced by `ud_replace`, or shows what would change, or lists names. Both ask a
+//! `Tree`, of which `Disk` is the real one.
+#![tactic(auto)]
+
+mod arguments;
+mod counts;
+mod disk;
+mod job;
+mod list_all;
+mod marked;
+mod names;
+mod paths;
+mod pattern;
+mod patterns;
+mod replace_all;
+mod report;
+mod run;
+mod run_file;
+mod show_all;
+mod tree;
+mod unified_diff;
+mod walk;
+
+pub use arguments::{ArgumentFault, Arguments, Request, Task, parse_arguments};
+pub use disk::Disk;
+pub use report::{report_argument_fault, report_line};
+pub use run::{Streams, run_tree};
+pub use tree::{FileId, Node, NodeKind, Tree};

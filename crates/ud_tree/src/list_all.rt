@@ -1,0 +1,60 @@
+//! Listing the names of all files.
+
+ghost use Rattle.ud_tree.specs.Runs.{ReadsOne};
+
+use crate::counts::{Counts, Fate};
+use crate::job::Job;
+use crate::names::Names;
+use crate::report::Report;
+use crate::run_file::run_file;
+use crate::tree::Tree;
+use crate::walk::Found;
+use std::io::Write;
+use ud_model::Mode;
+
+/// Adds the names of all files to `names`, and reports their faults. Returns what became of them.
+///
+/// Nothing is asked but that each file is read once.
+pub(crate) fn list_all<T: Tree, E: Write>(
+    job: &Job<'_>,
+    tree: &mut T,
+    files: &[Found],
+    names: &mut Names,
+    report: &mut Report<E>,
+) -> Counts {
+    let mut counts = Counts::new();
+    for (done, file) in files.iter().enumerate() {
+        report.progress(done, files.len());
+        counts.add(list_file(job, tree, file.path.as_bytes(), names, report));
+    }
+    counts
+}
+
+/// Adds the names of a file. If it has a fault, the names up to the fault count, and the fault is
+/// reported.
+fn list_file<T: Tree, E: Write>(
+    job: &Job<'_>,
+    tree: &mut T,
+    name: &[u8],
+    names: &mut Names,
+    report: &mut Report<E>,
+) -> Fate
+    ensures { ReadsOne name.now (T.history tree.old) (T.history tree.new) }
+{
+    let mut listed = Vec::new(job.alloc);
+    let ran = run_file(job, tree, name, &mut listed, report);
+    let added = names.add(listed.as_slice());
+    let Some((text, _)) = ran else {
+        return Fate::Faulty;
+    };
+    let mode = if job.arguments.plan.settings().plain {
+        Mode::Plain
+    } else {
+        Mode::C
+    };
+    if added.is_err() || names.add_hidden(text.as_slice(), mode).is_err() {
+        report.fault(name, b"Out of memory");
+        return Fate::Faulty;
+    }
+    Fate::Same
+}

@@ -1,0 +1,74 @@
+//! Paths: their last names, and names for new files.
+
+ghost use Rattle.std.specs.Prelude.{◌≡◌, ◌≤◌, length, IfOk};
+ghost use Rattle.ud_tree.specs.Paths.{folder_len, last_name, fresh_name};
+
+use std::alloc::{AllocError, Global};
+
+/// Returns the number of bytes of a path up to its last slash, which is included; 0 if there is
+/// none.
+#[tactic(auto, using(crate::proofs::PathLemmas::folder_len_slash, crate::proofs::PathLemmas::folder_len_other))]
+fn folder_len(path: &[u8]) -> usize
+    ensures value { result ≡ folder_len path.now }
+    ensures within { result ≤ length path.now }
+{
+    let mut len = 0;
+    for (i, byte) in path.iter().enumerate() {
+        if *byte == b'/' {
+            len = i + 1;
+        }
+    }
+    len
+}
+
+/// Returns what follows the last slash of a path, or the path if there is none.
+pub(crate) fn last_name(path: &[u8]) -> &[u8]
+    ensures { result.now ≡ last_name path.now }
+{
+    &path[folder_len(path)..]
+}
+
+/// Returns whether a name is one of those that `fresh_name` gives.
+pub(crate) fn is_fresh(name: &[u8]) -> bool {
+    name.starts_with(b".unifdef-tree.")
+}
+
+/// Returns the name of a new file in the same folder, which ends in `tag`.
+///
+/// # Errors
+/// Fails if memory runs out.
+pub(crate) fn fresh_name(alloc: Global, path: &[u8], tag: &[u8]) -> Result<Vec<u8>, AllocError>
+    ensures { IfOk result (λ v. v.items ≡ fresh_name tag.now path.now) }
+{
+    let mut fresh = Vec::new(alloc);
+    fresh.extend_from_slice(&path[..folder_len(path)])?;
+    fresh.extend_from_slice(b".unifdef-tree.")?;
+    fresh.extend_from_slice(tag)?;
+    Ok(fresh)
+}
+
+/// Appends the hexadecimal digit of a number below 16.
+fn push_digit(out: &mut Vec<u8>, digit: u8) -> Result<(), AllocError> {
+    let base = if digit < 10 { b'0' } else { b'a' - 10 };
+    out.push(base.saturating_add(digit))?;
+    Ok(())
+}
+
+/// Returns a name with each byte that isn't printable ASCII, and each backslash, as `\x` and two
+/// hexadecimal digits.
+///
+/// # Errors
+/// Fails if memory runs out.
+pub(crate) fn escaped(alloc: Global, name: &[u8]) -> Result<Vec<u8>, AllocError> {
+    let mut out = Vec::new(alloc);
+    for byte in name {
+        if matches!(*byte, b' '..=b'~') && *byte != b'\\' {
+            out.push(*byte)?;
+        } else {
+            out.extend_from_slice(b"\\x")?;
+            push_digit(&mut out, *byte / 16)?;
+            push_digit(&mut out, *byte % 16)?;
+        }
+    }
+    Ok(out)
+}

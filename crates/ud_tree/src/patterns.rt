@@ -1,0 +1,46 @@
+//! The patterns by which files are chosen.
+
+use crate::paths::is_fresh;
+use crate::pattern::matches;
+
+/// The patterns of a run without `-g`: sources and headers of C and C++, and those from which
+/// `configure` makes one.
+const USUAL: [&[u8]; 18] = [
+    b"*.[chCH]",
+    b"*.cc",
+    b"*.hh",
+    b"*.cpp",
+    b"*.hpp",
+    b"*.cxx",
+    b"*.hxx",
+    b"*.c++",
+    b"*.h++",
+    b"*.ipp",
+    b"*.tpp",
+    b"*.tcc",
+    b"*.inl",
+    b"*.[ch].in",
+    b"*.cc.in",
+    b"*.hh.in",
+    b"*.cpp.in",
+    b"*.hpp.in",
+];
+
+/// Returns whether a file of this name is chosen by one of the patterns, or by the usual ones if
+/// there are none. A file that a run made beside another one never is.
+pub(crate) fn chooses(patterns: &[String], name: &[u8]) -> bool {
+    if is_fresh(name) {
+        return false;
+    }
+    if patterns.is_empty() {
+        return USUAL.iter().any(|pattern| matches(pattern, name));
+    }
+    patterns
+        .iter()
+        .any(|pattern| matches(pattern.as_bytes(), name))
+}
+
+/// Returns whether a folder of this name is left out: those of version control.
+pub(crate) fn is_left_out(name: &[u8]) -> bool {
+    matches!(name, b".git" | b".hg" | b".svn")
+}

@@ -1,0 +1,101 @@
+//! Replacing all files of a run.
+
+ghost use Rattle.std.specs.Prelude.{◌≡◌};
+ghost use Rattle.ud_tree.specs.Runs.{fate_of};
+
+use crate::counts::{Counts, Fate};
+use crate::job::Job;
+use crate::paths::fresh_name;
+use crate::report::Report;
+use crate::tree::Tree;
+use crate::walk::Found;
+use std::io::Write;
+use ud_model::Settings;
+use ud_replace::{ReplaceError, Target, Update, replace};
+
+/// Replaces all files in order, and reports their faults. Returns what became of them.
+pub(crate) fn replace_all<T: Tree, E: Write>(
+    job: &Job<'_>,
+    tree: &mut T,
+    files: &[Found],
+    report: &mut Report<E>,
+) -> Counts {
+    let mut counts = Counts::new();
+    for (done, file) in files.iter().enumerate() {
+        report.progress(done, files.len());
+        let result = replace_file(job, tree, file.path.as_bytes(), report);
+        counts.add(fate_of(result));
+    }
+    counts
+}
+
+/// Returns what became of a file.
+fn fate_of(update: Result<Update, ReplaceError>) -> Fate
+    ensures { result ≡ fate_of update }
+{
+    match update {
+        Ok(Update::Unchanged) => Fate::Same,
+        Ok(Update::Replaced | Update::WrittenInto) => Fate::Changed,
+        Err(_) => Fate::Faulty,
+    }
+}
+
+/// Replaces a file, and reports its fault.
+fn replace_file<T: Tree, E: Write>(
+    job: &Job<'_>,
+    tree: &mut T,
+    name: &[u8],
+    report: &mut Report<E>,
+) -> Result<Update, ReplaceError> {
+    let update = replace_named(job, tree, name);
+    if let Err(error) = update {
+        report_error(tree, name, job.arguments.plan.settings(), error, report);
+    }
+    update
+}
+
+/// Replaces a file by one with a name of its own.
+fn replace_named<T: Tree>(
+    job: &Job<'_>,
+    tree: &mut T,
+    name: &[u8],
+) -> Result<Update, ReplaceError> {
+    match fresh_name(job.alloc, name, job.tag) {
+        Err(_) => Err(ReplaceError::OutOfMemory),
+        Ok(fresh) => {
+            let target = Target {
+                name,
+                fresh: fresh.as_slice(),
+                write_into: job.arguments.write_into,
+            };
+            replace(job.alloc, &job.arguments.plan, tree, &target)
+        }
+    }
+}
+
+/// Reports why a file wasn't replaced.
+fn report_error<T: Tree, E: Write>(
+    tree: &T,
+    path: &[u8],
+    settings: Settings,
+    error: ReplaceError,
+    report: &mut Report<E>,
+) {
+    match error {
+        ReplaceError::Text(fault) => report.text_fault(path, settings, fault),
+        ReplaceError::Read => report.failure(path, b"Cannot be read", tree.reason()),
+        ReplaceError::OutOfMemory => report.fault(path, b"Out of memory"),
+        ReplaceError::ReadOnly | ReplaceError::Write => {
+            report.failure(path, b"Cannot be written", tree.reason());
+        }
+        ReplaceError::SeveralLinks => report.fault(path, b"Has several links; -w writes into it"),
+        ReplaceError::FolderDenied => {
+            report.fault(
+                path,
+                b"Its folder can't be written; -w writes into the file",
+            );
+        }
+        ReplaceError::ChangedMeanwhile => report.fault(path, b"Changed meanwhile"),
+        ReplaceError::HalfWritten => report.failure(path, b"Half written", tree.reason()),
+    }
+}

@@ -1,0 +1,187 @@
+//! The messages of unifdef-tree, and how far it is.
+//!
+//! A message is a line on the error stream, which begins with the program's name. Each message of a
+//! `Report` is a fault, and faults are counted. On a terminal, a line with the number of files is
+//! shown during the run, and removed before each message.
+
+use crate::arguments::ArgumentFault;
+use itoa::Buffer;
+use std::alloc::Global;
+use std::io::{self, ErrorKind, Write};
+use ud_diagnostics::report_result;
+use ud_faults::RunFault;
+use ud_io::{Watched, write_all};
+use ud_model::Settings;
+
+/// The number of files after which the line on the terminal is shown again.
+const STEP: usize = 64;
+
+/// Writes parts in order, until a write fails.
+pub(crate) fn write_parts<E: Write>(err: &mut Watched<E>, parts: &[&[u8]]) {
+    for part in parts {
+        if err.failed() {
+            return;
+        }
+        write_all(err, part);
+    }
+}
+
+/// Writes a message that is no fault: the program's name, the parts, and a newline.
+pub fn report_line<E: Write>(err: &mut Watched<E>, parts: &[&[u8]]) {
+    write_parts(err, &[b"unifdef-tree: "]);
+    write_parts(err, parts);
+    write_parts(err, &[b"\n"]);
+}
+
+/// Returns the text of an error of the system without its number.
+fn without_code(text: &str) -> &str {
+    match text.rsplit_once(" (os error ") {
+        Some((reason, _)) => reason,
+        None => text,
+    }
+}
+
+/// The messages of a run.
+#[derive(Drop)]
+pub(crate) struct Report<E> {
+    alloc: Global,
+    err: Watched<E>,
+    /// True if the error stream is a terminal.
+    is_terminal: bool,
+    /// True if the terminal shows the number of files.
+    is_shown: bool,
+    /// The number of faults.
+    faulty: usize,
+}
+
+impl<E: Write> Report<E> {
+    /// Returns a report without messages.
+    pub(crate) fn new(alloc: Global, err: E, is_terminal: bool) -> Report<E> {
+        Report {
+            alloc,
+            err: Watched::new(err),
+            is_terminal,
+            is_shown: false,
+            faulty: 0,
+        }
+    }
+
+    /// Returns the number of faults.
+    pub(crate) fn faulty(&self) -> usize {
+        self.faulty
+    }
+
+    /// Removes the number of files from the terminal.
+    fn clear(&mut self) {
+        if self.is_shown {
+            self.is_shown = false;
+            write_parts(&mut self.err, &[b"\r\x1b[K"]);
+        }
+    }
+
+    /// Shows on a terminal how many of the files are done.
+    pub(crate) fn progress(&mut self, done: usize, all: usize) {
+        if self.is_terminal && done % STEP == 0 {
+            let (mut first, mut second) = (Buffer::new(), Buffer::new());
+            let done = first.format(done).as_bytes();
+            let all = second.format(all).as_bytes();
+            self.is_shown = true;
+            write_parts(
+                &mut self.err,
+                &[b"\runifdef-tree: ", done, b" of ", all, b" files "],
+            );
+        }
+    }
+
+    /// Writes a message that is no fault.
+    pub(crate) fn line(&mut self, parts: &[&[u8]]) {
+        self.clear();
+        report_line(&mut self.err, parts);
+    }
+
+    /// Writes a fault of a path.
+    pub(crate) fn fault(&mut self, path: &[u8], text: &[u8]) {
+        self.faulty = self.faulty.saturating_add(1);
+        self.line(&[path, b": ", text]);
+    }
+
+    /// Writes a fault of a name in a folder, whose path ends in a slash.
+    pub(crate) fn fault_in(&mut self, folder: &[u8], name: &[u8], text: &[u8]) {
+        self.faulty = self.faulty.saturating_add(1);
+        self.line(&[folder, name, b": ", text]);
+    }
+
+    /// Writes a fault of a path, and why a call failed.
+    pub(crate) fn failure(&mut self, path: &[u8], text: &[u8], reason: Option<io::Error>) {
+        match reason {
+            None => self.fault(path, text),
+            Some(error) => match format!(in self.alloc; "{error}") {
+                Err(_) => self.fault(path, text),
+                Ok(reason) => {
+                    self.faulty = self.faulty.saturating_add(1);
+                    let reason = without_code(reason.as_str()).as_bytes();
+                    self.line(&[path, b": ", text, b": ", reason]);
+                }
+            },
+        }
+    }
+
+    /// Writes that there is nothing at a path, or why that isn't known.
+    pub(crate) fn missing(&mut self, path: &[u8], reason: Option<io::Error>) {
+        match reason {
+            Some(error) if error.kind() != ErrorKind::NotFound => {
+                self.failure(path, b"Cannot be found", Some(error));
+            }
+            _ => self.fault(path, b"No such file or folder"),
+        }
+    }
+
+    /// Writes the fault of a file's text, as unifdef does.
+    pub(crate) fn text_fault(&mut self, path: &[u8], settings: Settings, fault: RunFault) {
+        self.faulty = self.faulty.saturating_add(1);
+        self.clear();
+        if !self.err.failed() {
+            report_result(&mut self.err, path, settings, Err(fault));
+        }
+    }
+}
+
+/// How the program is called.
+const USAGE: &[u8] =
+    b"usage: unifdef-tree [-nqw0] [-g pattern]... [-bcKklt] [-Dsym[=val]]... [-Usym]...\n                    [-iDsym[=val]]... [-iUsym]... [-xmode] [--] path...\n       unifdef-tree -s [-q0] [-g pattern]... [-t] [--] path...\n       unifdef-tree -V\n";
+
+/// Writes the message of a fault of the arguments.
+pub fn report_argument_fault<E: Write>(err: &mut Watched<E>, fault: &ArgumentFault) {
+    match fault {
+        ArgumentFault::UnknownOption(letter) => {
+            report_letter(err, b"Unknown option -", *letter, b"");
+            write_parts(err, &[USAGE]);
+        }
+        ArgumentFault::MissingArgument(letter) => {
+            report_letter(err, b"Option -", *letter, b" needs an argument");
+        }
+        ArgumentFault::BadSymbol(word) => report_line(err, &[b"Bad symbol: ", word.as_bytes()]),
+        ArgumentFault::BadMode(word) => {
+            let word = word.as_bytes();
+            let mode = word.strip_prefix(b"-x".as_slice()).unwrap_or(word);
+            report_line(err, &[b"Bad exit mode: ", mode]);
+        }
+        ArgumentFault::BadJobs(word) => {
+            report_line(err, &[b"Bad number of jobs: ", word.as_bytes()]);
+        }
+        ArgumentFault::DiffAndNames => report_line(err, &[b"-n and -s don't go together"]),
+        ArgumentFault::OptionAfterPath(word) => {
+            report_line(err, &[b"Option after a path: ", word.as_bytes()]);
+        }
+        ArgumentFault::PathsAndInput => report_line(err, &[b"-0 takes no paths"]),
+        ArgumentFault::NoPath => write_parts(err, &[USAGE]),
+        ArgumentFault::OutOfMemory => report_line(err, &[b"Out of memory"]),
+    }
+}
+
+/// Writes a message with a letter between two texts.
+fn report_letter<E: Write>(err: &mut Watched<E>, before: &[u8], letter: char, after: &[u8]) {
+    let mut buffer = [0; 4];
+    let bytes = letter.encode_utf8(&mut buffer).as_bytes();
+    report_line(err, &[before, bytes, after]);
+}

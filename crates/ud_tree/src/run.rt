@@ -1,0 +1,271 @@
+//! The run over all files of a tree.
+
+ghost use Rattle.std.specs.Prelude.{◌≡◌};
+ghost use Rattle.ud_model.specs.answer.Answer.{status_by};
+ghost use Rattle.ud_tree.specs.Statuses.{tree_status};
+
+use crate::arguments::{Arguments, Task};
+use crate::counts::Counts;
+use crate::job::Job;
+use crate::list_all::list_all;
+use crate::names::Names;
+use crate::replace_all::replace_all;
+use crate::report::{Report, write_parts};
+use crate::show_all::show_all;
+use crate::tree::Tree;
+use crate::walk::{Found, Walk};
+use itoa::Buffer;
+use std::alloc::{AllocError, Global};
+use std::io::{Read, Write};
+use ud_engine::Watched;
+use ud_model::ExitMode;
+
+/// The status of a fault, of any kind.
+const EXIT_TROUBLE: u8 = 2;
+
+/// The streams of a run.
+#[derive(Drop)]
+pub struct Streams<R, W, E> {
+    /// Paths are read from here if the arguments ask for that.
+    pub input: R,
+    /// Diffs and names are written here.
+    pub out: W,
+    /// Messages are written here.
+    pub err: E,
+    /// True if `err` is a terminal.
+    pub is_terminal: bool,
+}
+
+/// Runs over the files that the arguments name, and returns the exit status. `tag` differs from run
+/// to run. The files that are made beside others end in it.
+///
+/// # Errors
+/// The status is 2, and there is a message for each fault, in each of these cases:
+///
+/// - A path doesn't exist, or is a link to a file. No file was changed.
+/// - A folder can't be read, or a file can't be replaced. The other files are.
+/// - The output can't be written.
+pub fn run_tree<T: Tree, R: Read + Drop, W: Write + Drop, E: Write + Drop>(
+    alloc: Global,
+    arguments: &Arguments,
+    tree: &mut T,
+    streams: Streams<R, W, E>,
+    tag: &[u8],
+) -> u8 {
+    let Streams {
+        input,
+        out,
+        err,
+        is_terminal,
+    } = streams;
+    let job = Job {
+        alloc,
+        arguments,
+        tag,
+    };
+    let mut out = Watched::new(out);
+    let mut report = Report::new(alloc, err, is_terminal);
+    match find_files(&job, tree, input, &mut report) {
+        Err(_) => {
+            report.fault(b"", b"Out of memory");
+            EXIT_TROUBLE
+        }
+        Ok(None) => EXIT_TROUBLE,
+        Ok(Some(files)) => process_all(&job, tree, files.as_slice(), &mut out, &mut report),
+    }
+}
+
+/// Returns the files of the run; `None` if a path of the command line has a fault.
+fn find_files<T: Tree, R: Read + Drop, E: Write>(
+    job: &Job<'_>,
+    tree: &mut T,
+    input: R,
+    report: &mut Report<E>,
+) -> Result<Option<Vec<Found>>, AllocError>
+    ensures { T.history tree.new ≡ T.history tree.old }
+{
+    let mut walk = Walk::new(job.alloc, job.arguments.patterns.as_slice());
+    if job.arguments.from_input {
+        add_input(job.alloc, &mut walk, tree, input, report)?;
+        return Ok(Some(walk.finish()?));
+    }
+    for path in job.arguments.paths.as_slice() {
+        walk.start(tree, report, path.as_str())?;
+    }
+    if report.faulty() > 0 {
+        return Ok(None);
+    }
+    walk.go(tree, report)?;
+    Ok(Some(walk.finish()?))
+}
+
+/// Adds the files whose paths are on the input, each ended by a NUL.
+fn add_input<T: Tree, R: Read + Drop, E: Write>(
+    alloc: Global,
+    walk: &mut Walk<'_>,
+    tree: &mut T,
+    input: R,
+    report: &mut Report<E>,
+) -> Result<(), AllocError>
+    ensures { T.history tree.new ≡ T.history tree.old }
+{
+    let mut input = input;
+    let mut text = Vec::new(alloc);
+    if input.read_to_end(&mut text).is_err() {
+        report.fault(b"stdin", b"Cannot be read");
+    }
+    let paths = split_paths(alloc, text.as_slice())?;
+    for name in paths.as_slice() {
+        walk.add(tree, report, name.as_slice())?;
+    }
+    Ok(())
+}
+
+/// Returns the paths of a text, each of which ends in a NUL.
+fn split_paths(alloc: Global, text: &[u8]) -> Result<Vec<Vec<u8>>, AllocError> {
+    let mut paths = Vec::new(alloc);
+    for path in text.split(|byte| *byte == 0) {
+        if !path.is_empty() {
+            let mut owned = Vec::new(alloc);
+            owned.extend_from_slice(path)?;
+            paths.push(owned).map_err(AllocError::from)?;
+        }
+    }
+    Ok(paths)
+}
+
+/// Processes all files in order, and writes the counts. Returns the exit status.
+fn process_all<T: Tree, W: Write, E: Write>(
+    job: &Job<'_>,
+    tree: &mut T,
+    files: &[Found],
+    out: &mut Watched<W>,
+    report: &mut Report<E>,
+) -> u8 {
+    let walk_faults = report.faulty();
+    let mut names = Names::new(job.alloc);
+    let counts = process_files(job, tree, files, out, &mut names, report);
+    let list_faults = write_names(job, out, report, &names);
+    let out_faults = finish_output(out, report);
+    let faults = walk_faults
+        .saturating_add(list_faults)
+        .saturating_add(out_faults)
+        .saturating_add(counts.faulty);
+    if !job.arguments.quiet {
+        report_counts(job.arguments.task, report, names.hidden(), counts, faults);
+    }
+    status(job.arguments, faults, counts.changed)
+}
+
+/// Does with each file what the arguments ask for. Returns what became of the files.
+fn process_files<T: Tree, W: Write, E: Write>(
+    job: &Job<'_>,
+    tree: &mut T,
+    files: &[Found],
+    out: &mut Watched<W>,
+    names: &mut Names,
+    report: &mut Report<E>,
+) -> Counts {
+    match job.arguments.task {
+        Task::Replace => replace_all(job, tree, files, report),
+        Task::Diff => show_all(job, tree, files, out, report),
+        Task::Names => list_all(job, tree, files, names, report),
+    }
+}
+
+/// Writes the names that were counted. Returns the number of faults, 0 or 1, which were reported.
+fn write_names<W: Write, E: Write>(
+    job: &Job<'_>,
+    out: &mut Watched<W>,
+    report: &mut Report<E>,
+    names: &Names,
+) -> usize {
+    let mut list = Vec::new(job.alloc);
+    let listed = names.append_to(&mut list);
+    write_parts(out, &[list.as_slice()]);
+    if listed.is_err() {
+        report.fault(b"stdout", b"Out of memory");
+        1
+    } else {
+        0
+    }
+}
+
+/// Flushes the output. Returns the number of its faults, 0 or 1, which were reported.
+fn finish_output<W: Write, E: Write>(out: &mut Watched<W>, report: &mut Report<E>) -> usize {
+    if out.failed() || !out.flush() {
+        report.fault(b"stdout", b"Cannot be written");
+        1
+    } else {
+        0
+    }
+}
+
+/// Writes the counts.
+fn report_counts<E: Write>(
+    task: Task,
+    report: &mut Report<E>,
+    hidden: usize,
+    counts: Counts,
+    faults: usize,
+) {
+    let (mut first, mut second) = (Buffer::new(), Buffer::new());
+    let (mut third, mut fourth) = (Buffer::new(), Buffer::new());
+    let changed = first.format(counts.changed).as_bytes();
+    let unchanged = second.format(counts.unchanged).as_bytes();
+    let faulty = third.format(faults).as_bytes();
+    let hidden = fourth.format(hidden).as_bytes();
+    match task {
+        Task::Replace => {
+            report.line(&[
+                changed,
+                b" changed, ",
+                unchanged,
+                b" unchanged, ",
+                faulty,
+                b" faulty",
+            ]);
+        }
+        Task::Diff => report.line(&[
+            changed,
+            b" would change, ",
+            unchanged,
+            b" unchanged, ",
+            faulty,
+            b" faulty",
+        ]),
+        Task::Names => report.line(&[
+            unchanged,
+            b" files listed, ",
+            faulty,
+            b" faulty; ",
+            hidden,
+            b" conditions could not be listed",
+        ]),
+    }
+}
+
+/// Returns the exit status.
+fn status(arguments: &Arguments, faults: usize, changed: usize) -> u8
+    ensures { result ≡ tree_status arguments.now.task arguments.now.plan.settings.exit_mode faults
+        changed }
+{
+    if faults > 0 {
+        return EXIT_TROUBLE;
+    }
+    match arguments.task {
+        Task::Replace | Task::Diff => status_by(arguments.plan.settings().exit_mode, changed > 0),
+        Task::Names => 0,
+    }
+}
+
+/// Returns the status of files without a fault.
+fn status_by(mode: ExitMode, some_changed: bool) -> u8
+    ensures { result ≡ status_by mode some_changed }
+{
+    match mode {
+        ExitMode::Zero => u8::from(some_changed),
+        ExitMode::One => u8::from(!some_changed),
+        ExitMode::Two => 0,
+    }
+}

@@ -1,0 +1,217 @@
+//! The walk over a tree: the files below some paths, each once, in the order of the paths' bytes.
+
+ghost use Rattle.std.specs.Prelude.{◌≡◌};
+
+use crate::paths::{escaped, last_name};
+use crate::patterns::{chooses, is_left_out};
+use crate::report::Report;
+use crate::tree::{FileId, Node, NodeKind, Tree};
+use std::alloc::{AllocError, Global};
+use std::collections::BTreeSet;
+use std::io::Write;
+
+/// The fault of a file that can't be opened.
+const NOT_UTF8: &[u8] = b"Its name isn't UTF-8";
+
+/// A file that was found. Files are in the order of their paths.
+#[derive(PartialEq, Eq, PartialOrd, Ord, Drop)]
+pub(crate) struct Found {
+    /// The file's path.
+    pub path: String,
+    /// Which file it is.
+    id: FileId,
+}
+
+/// A walk: the files that were found, and the folders that weren't listed yet.
+#[derive(Drop)]
+pub(crate) struct Walk<'w> {
+    alloc: Global,
+    patterns: &'w [String],
+    found: Vec<Found>,
+    /// The paths of folders, each of which ends in a slash.
+    folders: Vec<String>,
+}
+
+impl<'w> Walk<'w> {
+    /// Returns a walk before its first path.
+    pub(crate) fn new(alloc: Global, patterns: &'w [String]) -> Walk<'w> {
+        Walk {
+            alloc,
+            patterns,
+            found: Vec::new(alloc),
+            folders: Vec::new(alloc),
+        }
+    }
+
+    /// Begins at a path of the command line. A folder may be named by a link.
+    ///
+    /// # Errors
+    /// Fails if memory runs out.
+    pub(crate) fn start<T: Tree, E: Write>(
+        &mut self,
+        tree: &mut T,
+        report: &mut Report<E>,
+        path: &str,
+    ) -> Result<(), AllocError>
+        ensures { T.history tree.new ≡ T.history tree.old }
+    {
+        let Some(node) = tree.node(path) else {
+            report.missing(path.as_bytes(), tree.reason());
+            return Ok(());
+        };
+        match node.kind {
+            NodeKind::Folder => self.add_folder(path),
+            NodeKind::Link if tree.leads_to_folder(path) => self.add_folder(path),
+            NodeKind::Link => {
+                report.fault(path.as_bytes(), b"Is a symbolic link");
+                Ok(())
+            }
+            NodeKind::File => self.add_file(path, last_name(path.as_bytes()), node.id),
+            NodeKind::Other => Ok(()),
+        }
+    }
+
+    /// Adds a file of the input as it is, whatever its name.
+    ///
+    /// # Errors
+    /// Fails if memory runs out.
+    pub(crate) fn add<T: Tree, E: Write>(
+        &mut self,
+        tree: &mut T,
+        report: &mut Report<E>,
+        name: &[u8],
+    ) -> Result<(), AllocError>
+        ensures { T.history tree.new ≡ T.history tree.old }
+    {
+        let Ok(path) = std::str::from_utf8(name) else {
+            report.fault(escaped(self.alloc, name)?.as_slice(), NOT_UTF8);
+            return Ok(());
+        };
+        match tree.node(path) {
+            None => {
+                report.missing(name, tree.reason());
+                Ok(())
+            }
+            Some(node) if node.kind == NodeKind::File => self.push_file(path, node.id),
+            Some(_) => {
+                report.fault(name, b"Is no regular file");
+                Ok(())
+            }
+        }
+    }
+
+    /// Adds a folder.
+    fn add_folder(&mut self, path: &str) -> Result<(), AllocError> {
+        let mut folder = String::from_str(self.alloc, path)?;
+        if !path.ends_with('/') {
+            folder.push('/')?;
+        }
+        self.folders.push(folder).map_err(AllocError::from)
+    }
+
+    /// Adds a file, if its name is chosen.
+    fn add_file(&mut self, path: &str, name: &[u8], id: FileId) -> Result<(), AllocError> {
+        if chooses(self.patterns, name) {
+            self.push_file(path, id)
+        } else {
+            Ok(())
+        }
+    }
+
+    /// Adds a file.
+    fn push_file(&mut self, path: &str, id: FileId) -> Result<(), AllocError> {
+        let path = String::from_str(self.alloc, path)?;
+        self.found
+            .push(Found { path, id })
+            .map_err(AllocError::from)
+    }
+
+    /// Adds what has a name in a folder.
+    fn visit<T: Tree, E: Write>(
+        &mut self,
+        tree: &mut T,
+        report: &mut Report<E>,
+        folder: &str,
+        name: &[u8],
+    ) -> Result<(), AllocError>
+        ensures { T.history tree.new ≡ T.history tree.old }
+    {
+        let mut path = String::from_str(self.alloc, folder)?;
+        let Ok(text) = std::str::from_utf8(name) else {
+            let name = escaped(self.alloc, name)?;
+            report.fault_in(path.as_bytes(), name.as_slice(), NOT_UTF8);
+            return Ok(());
+        };
+        path.push_str(text)?;
+        let Some(node) = tree.node(path.as_str()) else {
+            report.missing(path.as_bytes(), tree.reason());
+            return Ok(());
+        };
+        self.add_node(path.as_str(), name, node)
+    }
+
+    /// Adds a file or a folder. Others are left out.
+    fn add_node(&mut self, path: &str, name: &[u8], node: Node) -> Result<(), AllocError> {
+        match node.kind {
+            NodeKind::File => self.add_file(path, name, node.id),
+            NodeKind::Folder if !is_left_out(name) => self.add_folder(path),
+            NodeKind::Folder | NodeKind::Link | NodeKind::Other => Ok(()),
+        }
+    }
+
+    /// Lists a folder, and adds what is in it.
+    fn enter<T: Tree, E: Write>(
+        &mut self,
+        tree: &mut T,
+        report: &mut Report<E>,
+        folder: &str,
+    ) -> Result<(), AllocError>
+        ensures { T.history tree.new ≡ T.history tree.old }
+    {
+        let mut names = Vec::new(self.alloc);
+        if !tree.list(folder, &mut names) {
+            report.failure(folder.as_bytes(), b"Cannot be read", tree.reason());
+        }
+        for name in names.as_slice() {
+            self.visit(tree, report, folder, name.as_slice())?;
+        }
+        Ok(())
+    }
+
+    /// Lists all folders, and those in them.
+    ///
+    /// # Errors
+    /// Fails if memory runs out.
+    pub(crate) fn go<T: Tree, E: Write>(
+        &mut self,
+        tree: &mut T,
+        report: &mut Report<E>,
+    ) -> Result<(), AllocError>
+        ensures { T.history tree.new ≡ T.history tree.old }
+    {
+        'folders: for _ in 0..u64::MAX {
+            let Some(folder) = self.folders.pop() else {
+                break;
+            };
+            self.enter(tree, report, folder.as_str())?;
+        }
+        Ok(())
+    }
+
+    /// Returns the files that were found, each once, by the first of its paths.
+    ///
+    /// # Errors
+    /// Fails if memory runs out.
+    pub(crate) fn finish(self) -> Result<Vec<Found>, AllocError> {
+        let mut walk = self;
+        walk.found.sort()?;
+        let mut seen = BTreeSet::new(walk.alloc);
+        let mut files = Vec::new(walk.alloc);
+        for found in walk.found {
+            if seen.insert(found.id).map_err(AllocError::from)? {
+                files.push(found).map_err(AllocError::from)?;
+            }
+        }
+        Ok(files)
+    }
+}

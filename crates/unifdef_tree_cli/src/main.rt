@@ -1,0 +1,83 @@
+//! unifdef-tree(1): runs unifdef over the files of a tree, in place.
+//!
+//! The tool itself is the library `ud_tree`. This program passes it the arguments, the files of the
+//! system and the standard streams.
+#![tactic(auto)]
+
+use std::alloc::{AllocError, Global};
+use std::io::IsTerminal;
+use std::process::{self, ExitCode};
+use std::time::{SystemTime, UNIX_EPOCH};
+use std::{env, io};
+use ud_io::Watched;
+use ud_tree::{
+    Arguments, Disk, Request, Streams, parse_arguments, report_argument_fault, report_line,
+    run_tree,
+};
+
+/// The version that `-V` prints.
+const VERSION: &str = "unifdef-tree 1.0";
+
+/// The status of a fault, of any kind.
+const EXIT_TROUBLE: u8 = 2;
+
+fn main(rt: HostRuntime) -> ExitCode {
+    let Ok(args) = args(&rt) else {
+        let mut err = Watched::new(rt.stderr());
+        report_line(&mut err, &[b"Cannot take arguments"]);
+        return ExitCode::from(EXIT_TROUBLE);
+    };
+    match parse_arguments(rt.alloc(), args.as_slice()) {
+        Err(fault) => {
+            let mut err = Watched::new(rt.stderr());
+            report_argument_fault(&mut err, &fault);
+            ExitCode::from(EXIT_TROUBLE)
+        }
+        Ok(Request::Version) => match rt.println(VERSION) {
+            Ok(()) => ExitCode::from(0),
+            Err(_) => ExitCode::from(EXIT_TROUBLE),
+        },
+        Ok(Request::Run(arguments)) => run(&rt, &arguments),
+    }
+}
+
+/// Runs over the files of the system.
+fn run(rt: &HostRuntime, arguments: &Arguments) -> ExitCode {
+    let Ok(tag) = tag(rt, rt.alloc()) else {
+        let mut err = Watched::new(rt.stderr());
+        report_line(&mut err, &[b"Out of memory"]);
+        return ExitCode::from(EXIT_TROUBLE);
+    };
+    let mut disk = Disk::new(rt, rt.alloc());
+    let err = rt.stderr();
+    let is_terminal = err.is_terminal();
+    let streams = Streams {
+        input: rt.stdin(),
+        out: rt.stdout(),
+        err,
+        is_terminal,
+    };
+    ExitCode::from(run_tree(rt.alloc(), arguments, &mut disk, streams, tag.as_bytes()))
+}
+
+/// Returns a text that differs from run to run: the number of the process, and the time.
+fn tag(rt: &HostRuntime, alloc: Global) -> Result<String, AllocError> {
+    let pid = process::id(rt.process());
+    let nanos = match SystemTime::now(rt) {
+        Ok(now) => match now.duration_since(UNIX_EPOCH) {
+            Ok(since) => since.subsec_nanos(),
+            Err(_) => 0,
+        },
+        Err(_) => 0,
+    };
+    format!(in alloc; "{pid}.{nanos}")
+}
+
+/// Returns the arguments after the program's name.
+fn args(rt: &HostRuntime) -> io::Result<Vec<String>> {
+    let mut args = Vec::new(rt.alloc());
+    for word in env::args(rt)?.skip(1) {
+        args.push(word).map_err(AllocError::from)?;
+    }
+    Ok(args)
+}
