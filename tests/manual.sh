@@ -52,16 +52,18 @@ while IFS= read -r line; do
   fi
 done < <(section OPTIONS 'EXIT STATUS')
 
-# The commands of the section EXAMPLES. All of them change their text, with status 1.
+# The commands of the section EXAMPLES. Each changes its text, so the status is 1, or 0 if the pipe
+# ends with another program.
 command=''
 while IFS= read -r line; do
   if [[ "$line" == "$ "* ]]; then
     command=${line#"$ "}
     : > "$work/wanted"
   elif [ "$line" = .Ed ] && [ -n "$command" ]; then
-    status=0
+    status=0 wanted=0
+    [[ "${command##*| }" != "unifdef "* ]] || wanted=1
     (cd "$work" && PATH=$work/bin:$PATH bash -c "$command") > "$work/out" 2>&1 < /dev/null || status=$?
-    compare "$command" "$status" 1
+    compare "$command" "$status" "$wanted"
     command=''
   elif [ -n "$command" ]; then
     printf '%s\n' "$line" >> "$work/wanted"

@@ -16,6 +16,8 @@ looked for in backquotes, outside of code blocks:
 
 Other words have no `_`, no capital inside, and aren't one capitalized word: they are skipped. A
 comment is no source.
+
+Without PAGE, it also checks that the manual has each message of the program under DIAGNOSTICS.
 """
 import re
 import subprocess
@@ -135,15 +137,29 @@ def problems(tree, pages):
                 yield f"{page}:{line}: no clause is called {name}"
 
 
+def unlisted_messages(tree):
+    """Yields each part of a message of the program that the manual doesn't have."""
+    with open("docs/unifdef.1", encoding="utf-8") as file:
+        listed = file.read().partition("\n.Sh DIAGNOSTICS\n")[2].partition("\n.Sh ")[0]
+    for path in filter(re.compile(r"crates/(ud_diagnostics|unifdef_cli)/src/.*\.rt").fullmatch, tree.files):
+        with open(path, encoding="utf-8") as file:
+            source = without_comments(path, file.read())
+        for literal in re.findall(r'"((?:[^"\\]|\\.)*)"', source):
+            for part in re.split(r"\{\w+\}|\\n", literal):
+                if part.strip(": ") not in listed:
+                    yield f"docs/unifdef.1: no message '{part.strip(': ')}' of {path}"
+
+
 def main():
     tree = Tree()
     found = list(problems(tree, sys.argv[1:] or filter(PAGES.fullmatch, tree.files)))
     if not sys.argv[1:]:
         found += [f"{path}: {cited} doesn't exist" for path, cited in tree.commented
                   if cited not in tree.ends]
+        found += unlisted_messages(tree)
     print(*found, sep="\n", end="\n" if found else "")
     if found:
-        print(f"names: {len(found)} names don't exist", file=sys.stderr)
+        print(f"names: {len(found)} findings", file=sys.stderr)
     return 1 if found else 0
 
 
