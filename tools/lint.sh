@@ -30,11 +30,8 @@ for script in "${scripts[@]}"; do
     *) bash -n "$script" || result=1 ;;
   esac
 done
-# Without arguments, both go by the files that git tracks.
 if ! command -v python3 > /dev/null; then
   echo 'manuals: python3 is not there, so tools/style.py and tools/names.py are left out'
-elif ! git rev-parse HEAD > /dev/null 2>&1; then
-  echo 'manuals: not under version control, so tools/style.py and tools/names.py are left out'
 else
   python3 tools/style.py || result=1
   python3 tools/names.py || result=1

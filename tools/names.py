@@ -20,8 +20,11 @@ comment is no source.
 Without PAGE, it also checks that the manual has each message of the program under DIAGNOSTICS.
 """
 import re
-import subprocess
 import sys
+
+sys.dont_write_bytecode = True
+
+from files import tracked
 
 PAGES = re.compile(r"(README|CONTRIBUTING)\.md|docs/\w+\.md|(bench|tests|crates)/.*README\.md")
 SOURCE = re.compile(r"(crates|bench|lib|tests|tools|packaging)/.*|Makefile|crates\.txt")
@@ -60,11 +63,10 @@ def without_comments(path, text):
 
 
 class Tree:
-    """What there is: the tracked files, and the words of each source."""
+    """What there is: the files, and the words of each source."""
 
     def __init__(self):
-        listed = subprocess.run(["git", "ls-files"], check=True, capture_output=True, text=True)
-        self.files = listed.stdout.split()
+        self.files = tracked()
         self.ends = set()
         for path in self.files:
             parts = path.split("/")

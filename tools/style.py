@@ -1,16 +1,23 @@
 #!/usr/bin/env python3
 """Checks the language of comments and pages (CONTRIBUTING.md, "How we write").
 
-    tools/style.py [FILE ..]     the files, or all that git tracks
+    tools/style.py [FILE ..]     the files, or all of the repository (files.py)
 
 Prints each finding as FILE:LINE: REASON, and exits with 1 if there is one. Text in backquotes is
-left out. Rows of tables, attributes and lines of code with a text in quotes may be wide.
+left out, and counts as one word of its sentence. Rows of tables, attributes and lines of code with
+a text in quotes may be wide.
 """
 import re
-import subprocess
 import sys
 
+sys.dont_write_bytecode = True
+
+from files import tracked
+
 COLUMNS = 100
+
+# The most words of a sentence of a page. The rule has 25, and this leaves some to judgement.
+WORDS_AT_MOST = 30
 
 # Words of no field, and what to write in their place.
 WORDS = [
@@ -68,7 +75,7 @@ def kind_of(path):
         return "rt"
     if path.endswith(".antt"):
         return "antt"
-    if path.endswith((".md", ".1")):
+    if path.endswith((".md", ".1", ".3")):
         return "page"
     if path.endswith((".sh", ".py")) or path.split("/")[-1] in ("Makefile", "crates.txt", "run"):
         return "script"
@@ -116,6 +123,38 @@ def findings(path, text):
         if kind in ("rt", "antt") and OPENING.match(line) and comment_of(before, kind) is None:
             yield number, "an item's comment begins with a verb or a noun"
     yield from bare_items(path, lines)
+    if path.endswith(".md"):
+        yield from long_sentences(lines)
+
+
+def sentences(lines):
+    """Yields the line on which each sentence of a page begins, and its text. Headings, tables and
+    code have none, and a colon or a semicolon ends one too."""
+    begun, text, fenced = 0, "", False
+    for number, line in enumerate([*lines, ""], 1):
+        bare = line.strip()
+        fenced ^= bare.startswith("```")
+        apart = fenced or bare == "" or bare.startswith(("|", "#", "!", "```"))
+        if apart or re.match(r"([-*]|\d+\.) ", bare):
+            if text:
+                yield begun, text
+            begun, text = number, ""
+        if apart:
+            continue
+        for part in re.split(r"(?<=[.:;?!])\s|(?<=[.:;?!][*)])\s|(?<=[.:;?!]\*\*)\s", bare):
+            text, begun = (text + " " + part, begun) if text else (part, number)
+            if re.search(r"[.:;?!][*)]*$", part):
+                yield begun, text
+                text = ""
+
+
+def long_sentences(lines):
+    """Yields each sentence of a page that has too many words."""
+    for number, text in sentences(lines):
+        text = re.sub(r"`[^`]*`", "code", re.sub(r"\]\([^)]*\)", "]", text))
+        words = len(re.findall(r"\w[\w'.,-]*", text))
+        if words > WORDS_AT_MOST:
+            yield number, f"a sentence of {words} words, {WORDS_AT_MOST} at most"
 
 
 def bare_items(path, lines):
@@ -142,8 +181,7 @@ def documented(lines, index, mark):
 def main():
     paths = sys.argv[1:]
     if not paths:
-        tracked = subprocess.run(["git", "ls-files"], check=True, capture_output=True, text=True)
-        paths = tracked.stdout.split()
+        paths = tracked()
     count = 0
     for path in paths:
         if kind_of(path) is None or path.endswith(("renames.txt", "style.py")):

@@ -1,0 +1,37 @@
+"""Which files belong to this repository, with git and without: for style.py and names.py."""
+import os
+import subprocess
+import sys
+
+sys.dont_write_bytecode = True
+
+TOP = os.path.dirname(os.path.dirname(os.path.realpath(__file__)))
+
+# What a build makes, as .gitignore has it.
+MADE_FOLDERS = (".git", "out", "__pycache__")
+MADE = ("unifdef", "unifdef-tree", "lib/libunifdef.")
+
+
+def tracked():
+    """Returns the files that git tracks. Without git, as in a tarball: all files that no build
+    makes."""
+    try:
+        top = subprocess.run(
+            ["git", "rev-parse", "--show-prefix"], cwd=TOP, capture_output=True, text=True, check=True
+        )
+        if top.stdout.strip() == "":
+            listed = ["git", "ls-files"]
+            return subprocess.run(listed, cwd=TOP, check=True, capture_output=True, text=True).stdout.split()
+    except (OSError, subprocess.CalledProcessError):
+        pass
+    return sorted(unmade())
+
+
+def unmade():
+    """Yields the path of each file that no build makes."""
+    for folder, folders, names in os.walk(TOP):
+        folders[:] = [it for it in folders if it not in MADE_FOLDERS and not it.startswith(".prove-")]
+        for name in names:
+            path = os.path.relpath(os.path.join(folder, name), TOP)
+            if path not in MADE[:2] and not path.startswith(MADE[2]) and not path.endswith((".deb", ".tar.gz")):
+                yield path
