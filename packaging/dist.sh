@@ -3,9 +3,16 @@
 set -eu
 cd "$(dirname "$0")/.."
 version=$(packaging/version.sh)
+if ! [ -e .git ] || ! command -v git > /dev/null; then
+  echo 'dist: a tarball is made of a commit, and this folder is not under version control' >&2
+  exit 1
+fi
 if [ -n "$(git status --porcelain)" ]; then
   echo 'dist: changes that are not committed are left out' >&2
 fi
-git archive --format=tar --prefix="unifdef-$version/" HEAD | gzip -9n > "unifdef-$version.tar.gz.new"
-mv "unifdef-$version.tar.gz.new" "unifdef-$version.tar.gz"
+work=$(mktemp -d)
+trap 'rm -rf "$work"' EXIT
+git archive --format=tar --prefix="unifdef-$version/" --output="$work/tar" HEAD
+gzip -9n < "$work/tar" > "$work/gz"
+cat "$work/gz" > "unifdef-$version.tar.gz"
 echo "unifdef-$version.tar.gz"

@@ -1,5 +1,6 @@
 """Which files belong to this repository, with git and without: for style.py and names.py."""
 import os
+import shutil
 import subprocess
 import sys
 
@@ -15,15 +16,9 @@ MADE = ("unifdef", "unifdef-tree", "lib/libunifdef.")
 def tracked():
     """Returns the files that git tracks. Without git, as in a tarball: all files that no build
     makes."""
-    try:
-        top = subprocess.run(
-            ["git", "rev-parse", "--show-prefix"], cwd=TOP, capture_output=True, text=True, check=True
-        )
-        if top.stdout.strip() == "":
-            listed = ["git", "ls-files"]
-            return subprocess.run(listed, cwd=TOP, check=True, capture_output=True, text=True).stdout.split()
-    except (OSError, subprocess.CalledProcessError):
-        pass
+    if os.path.exists(f"{TOP}/.git") and shutil.which("git"):
+        listed = subprocess.run(["git", "ls-files"], cwd=TOP, check=True, capture_output=True, text=True)
+        return listed.stdout.split()
     return sorted(unmade())
 
 
