@@ -67,6 +67,8 @@ INSTALL ?= install
 # Rattle's command: the one on PATH, or `make RT=FILE`.
 RT ?= rt
 
+# Recipes name make by MAKE_COMMAND: make -n runs each line that names it by MAKE.
+
 CRATE := crates/unifdef_cli
 UNPROVED := $(CRATE)/out/unproved
 SOURCES := crates.txt HANDLES \
@@ -102,7 +104,7 @@ try: $(UNPROVED)
 	[ $$status -le 1 ]
 
 test: kit
-	@RT='$(RT)' MAKE='$(MAKE)' tests/quick.py
+	@RT='$(RT)' MAKE='$(MAKE_COMMAND)' tests/quick.py
 
 # If it is up to date, nothing here needs the kit. So a built copy installs without it.
 unifdef: $(SOURCES)
@@ -198,10 +200,10 @@ dist:
 	@packaging/dist.sh
 
 deb: unifdef
-	@MAKE="$(MAKE)" packaging/deb.sh
+	@MAKE="$(MAKE_COMMAND)" packaging/deb.sh
 
 packages-test: unifdef
-	@MAKE="$(MAKE)" tests/packages.sh
+	@MAKE="$(MAKE_COMMAND)" tests/packages.sh
 	@tests/completions.sh
 
 manuals:
