@@ -131,6 +131,8 @@ if git rev-parse HEAD > /dev/null 2>&1; then
   check 'dist: files' same "$(cd "$work/unifdef-$version" && find . -type f | sed 's|^\./||' | sort)" \
     "$(git ls-tree -r --name-only HEAD | sort)"
   check 'dist: its version' same "$("$work/unifdef-$version/packaging/version.sh")" "$version"
+  check 'dist: its pages and scripts' "$work/unifdef-$version/tools/lint.sh"
+  check 'dist: make' "$make" -n -C "$work/unifdef-$version" all install
 else
   echo 'packages: not under version control, so the tarball is left out'
 fi
