@@ -25,6 +25,7 @@
 # make install-lib  installs the library, unifdef.h, unifdef.pc, the module for Python and unifdef(3)
 # make dist       makes unifdef-VERSION.tar.gz of the last commit, which builds by itself
 # make deb        makes a Debian package of ./unifdef
+# make deb-lib    makes the Debian packages libunifdef1, libunifdef-dev and python3-unifdef
 # make packages-test  installs and uninstalls in folders of its own, makes both packages, and tries
 #                 the completions
 # make manuals    checks the version, the manuals by mandoc, the scripts by shellcheck, the language
@@ -78,7 +79,7 @@ SOURCES := crates.txt HANDLES \
 .PHONY: all build kit try test check edits cases examples manual-examples differences
 .PHONY: faults fail-alloc tree-test
 .PHONY: install uninstall dist deb packages-test manuals around bench bench-text
-.PHONY: lib lib-test install-lib uninstall-lib
+.PHONY: lib lib-test install-lib uninstall-lib deb-lib
 .PHONY: bench-conditions pictures trees selects lines lines-test hostile fronts clean
 
 all: build
@@ -202,8 +203,12 @@ dist:
 deb: unifdef
 	@MAKE="$(MAKE_COMMAND)" packaging/deb.sh
 
+deb-lib: lib
+	@MAKE="$(MAKE_COMMAND)" packaging/deb-lib.sh
+
 packages-test: unifdef
 	@MAKE="$(MAKE_COMMAND)" tests/packages.sh
+	@MAKE="$(MAKE_COMMAND)" tests/packages-lib.sh
 	@tests/completions.sh
 
 manuals:

@@ -21,8 +21,15 @@
 extern "C" {
 #endif
 
-/* The version of this header: major * 10000 + minor * 100. */
+/* The version of this header, as text and as a number: major * 10000 + minor * 100. */
+#define UNIFDEF_VERSION_STRING "1.0"
 #define UNIFDEF_VERSION 10000
+
+/*
+ * Returns the version of the library that the program runs with, as a number like UNIFDEF_VERSION.
+ * It is less than UNIFDEF_VERSION if the library is older than the header.
+ */
+int unifdef_version(void);
 
 /* The status if something is wrong. The message says what. */
 #define UNIFDEF_TROUBLE 2

@@ -181,7 +181,16 @@ static void threads(void) {
     }
 }
 
+static void version(void) {
+    char text[30];
+    int number = unifdef_version();
+    snprintf(text, sizeof text, "%d.%d", number / 10000, number % 10000 / 100);
+    check("the version as a number", number == UNIFDEF_VERSION);
+    check("the version as text", strcmp(text, UNIFDEF_VERSION_STRING) == 0);
+}
+
 int main(void) {
+    version();
     words();
     short_buffers();
     memory();

@@ -15,7 +15,7 @@ import ctypes
 import os
 from typing import NamedTuple, Optional, Union
 
-__all__ = ["Answer", "Trouble", "condition", "names", "run", "strip"]
+__all__ = ["Answer", "Trouble", "condition", "names", "run", "strip", "version"]
 
 TROUBLE = 2
 TOO_SMALL = 3
@@ -36,6 +36,8 @@ _library.unifdef_condition.argtypes = [*_BYTES, *_BYTES]
 _library.unifdef_condition.restype = ctypes.c_int
 _library.unifdef_names.argtypes = [*_BYTES, *_BUFFER, ctypes.POINTER(ctypes.c_size_t)]
 _library.unifdef_names.restype = ctypes.c_int
+_library.unifdef_version.argtypes = []
+_library.unifdef_version.restype = ctypes.c_int
 
 
 class Answer(NamedTuple):
@@ -115,6 +117,16 @@ def names(expression: bytes) -> list[bytes]:
     if found < 0:
         raise _ERRORS[found](_REASONS[found])
     return block.raw[: size.value].split(b"\0")[:-1]
+
+
+def version() -> tuple[int, int]:
+    """Returns the version of the library: the numbers before and after the point.
+
+    >>> version() >= (1, 0)
+    True
+    """
+    number = _library.unifdef_version()
+    return number // 10000, number % 10000 // 100
 
 
 _ERRORS = {-1: ValueError, -2: MemoryError, -3: ValueError}

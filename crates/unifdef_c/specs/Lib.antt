@@ -3,3 +3,4 @@ pub mod ArgsFaults
 pub mod TextCalls
 pub mod Parts
 pub mod Decisions
+pub mod Versions

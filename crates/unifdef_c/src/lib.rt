@@ -9,3 +9,4 @@ mod args;
 mod decide;
 mod hand_out;
 mod text;
+mod version;
