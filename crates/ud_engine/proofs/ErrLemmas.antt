@@ -18,6 +18,11 @@ pub match_err : {T E : Type 0} (P : T → Type 0) (Q : E → Type 0) (r : Result
 match_err P Q (Ok x) e h q = absurd h
 match_err P Q (Err f) e h q = subst Q (sym h) q
 
+-- The result is an error, and the same is stated of each.
+pub match_ill : {T E : Type 0} (P : T → Type 0) (Q : Type 0) (F : E → Type 0) (r : Result T E) → IsErrAnd r F → Q → MatchResult r P (λ e. Q)
+match_ill P Q F (Ok x) h q = absurd h
+match_ill P Q F (Err f) h q = q
+
 -- The result is this error, so feeding failed with it.
 pub feeds_err : {S T : Type 0} (represents : S → List Judged → Type 0) (piece_of : S → List Judged → Judged → List ℕ) (e : EngineState S) (s : Session) (chunk : List ℕ) (failed : Bool) →
     (a b : Option (List ℕ)) (r : Result T RunFault) (f : RunFault) → IsErrAnd r (λ x. x ≡ f) → FeedFails s.options s.pieces failed a b (s.text ++ chunk) s.printed f →

@@ -15,7 +15,7 @@
 --   IsPart room lines rest used                the first bytes of `rest` are taken
 --   IsStep e f old new result                  streams and recorded fault after a step
 use Rattle.std.specs.Prelude.{ℕ, ◌+◌, ◌-◌, ◌<◌, ◌≤◌, List, ◌++◌, length, take, drop, if◌then◌else◌}
-use Rattle.std.specs.Prelude.{◌≡◌, Bool, false, Option, Result, MatchResult, OnOk, IfErr}
+use Rattle.std.specs.Prelude.{◌≡◌, false, Option, Result, MatchResult, OnOk, IfErr}
 use Rattle.ud_model.specs.sections.Items.{Options}
 use Rattle.ud_model.specs.answer.Printing.{Judged}
 use Rattle.ud_text.specs.lines.LinesState.{LinesState, HasCapacity}

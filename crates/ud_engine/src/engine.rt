@@ -16,8 +16,8 @@ ghost use Rattle.ud_model.specs.declared.settings.Listing.TheVariants.{Off};
 ghost use Rattle.ud_cond.specs.symbols.SymbolTable.{TableRepresents};
 ghost use Rattle.ud_io.specs.Buffering.{AppendsAllButOrPrefix};
 ghost use Rattle.ud_text.specs.lines.LinesState.{HasCapacity};
-ghost use Rattle.ud_engine.specs.Feeding.{IsOpen, Session, IsInSession, WriterMatches};
-ghost use Rattle.ud_engine.specs.Finishing.{PrintsLast, without_fault};
+ghost use Rattle.ud_engine.specs.Feeding.{IsOpen, WriterMatches};
+ghost use Rattle.ud_engine.specs.Finishing.{PrintsRest, without_fault};
 ghost use Rattle.ud_engine.specs.Advancing.{IsCursor};
 
 use crate::line_processor::LineProcessor;
@@ -143,7 +143,7 @@ impl<'p, S: Show> Engine<'p, S, LongLineBuffer> {
 
 impl<'p, S: Show, H: LineBuffer> Engine<'p, S, H> {
     ghost use Rattle.ud_engine.specs.Feeding.{Session, Begins, IsInSession};
-    ghost use Rattle.ud_engine.specs.Feeding.{Feeds, WriterMatches};
+    ghost use Rattle.ud_engine.specs.Feeding.{FeedsChunk, WriterMatches};
     ghost use Rattle.ud_engine.specs.Feeding.{RecordsFault};
     ghost use Rattle.ud_engine.specs.Finishing.{Finishes};
     ghost use Rattle.ud_engine.specs.Advancing.{IsCursor, IsNext, Moves, IsPart, TakesPart, IsStep};
@@ -193,9 +193,8 @@ impl<'p, S: Show, H: LineBuffer> Engine<'p, S, H> {
     pub fn feed<W: Write>(&mut self, chunk: &[u8], out: &mut Watched<W>) -> Result<(), RunFault>
         requires not_failed { self.old.fault ≡ None → out.old.failed ≡ false }
         requires fits { HasCapacity H.CAPACITY self.old.lines (length chunk.now) }
-        ensures feeds { (s : Session) → IsInSession S.represents S.piece self.old s →
-            Feeds S.represents S.piece self.new s chunk.now out.new.failed
-            (W.contents out.old.inner) (W.contents out.new.inner) result }
+        ensures feeds { FeedsChunk S.represents S.piece W.contents self.old self.new chunk.now
+            out.old out.new result }
         ensures writer { self.old.fault ≡ None → WriterMatches out.new.failed result }
         ensures records_fault { RecordsFault self.new.fault result }
         ensures fused { IfSome self.old.fault (λ f. (result ≡ Err f) × (self.new ≡ self.old) ×
@@ -322,9 +321,8 @@ impl<'p, S: Show, H: LineBuffer> Engine<'p, S, H> {
     ) -> Result<(), RunFault>
         requires not_failed { out.old.failed ≡ false }
         requires fits { HasCapacity H.CAPACITY self.old.lines (length chunk.now) }
-        ensures feeds { (s : Session) → IsInSession S.represents S.piece self.old s →
-            Feeds S.represents S.piece self.new s chunk.now out.new.failed
-            (W.contents out.old.inner) (W.contents out.new.inner) result }
+        ensures feeds { FeedsChunk S.represents S.piece W.contents self.old self.new chunk.now
+            out.old out.new result }
         ensures writer { WriterMatches out.new.failed result }
         ensures fault { OnOk result (self.new.fault ≡ self.old.fault) }
     {
@@ -558,10 +556,9 @@ fn print_last_line<S: Show, H: LineBuffer, W: Write>(
 ) -> Result<(), RunFault>
     requires not_failed { out.old.failed ≡ false }
     requires opened { IsOpen lines.old }
-    ensures last { (s : Session) → IsInSession S.represents S.piece
-        (without_fault symbols.now lines.old printer.old output.old) s →
-        PrintsLast S.represents S.piece printer.new s out.new.failed
-        (W.contents out.old.inner) (W.contents out.new.inner) result }
+    ensures last { PrintsRest S.represents S.piece W.contents
+        (without_fault symbols.now lines.old printer.old output.old) printer.new
+        out.old out.new result }
     ensures writer { WriterMatches out.new.failed result }
     ensures limit { lines.new.last_line ≡ lines.old.last_line }
 {

@@ -64,7 +64,7 @@ returns-in-Err-printed-clause-takes g c = λ s old.
     line_refused g.S.Show.represents g.S.Show.piece s.options s.pieces _ s.text s.printed h (g.W.Write.contents c.args.out.now.inner) (g.W.Write.contents c.put_line-printed.new.out.inner)
     c.args.self.now.buffered c.args.pending.now c.args.rest.now (ap (λ (e : EngineState g.row.S.Denot). e.buffered) c.self.view_is)
     c.take.new.self c.in-Ok.taken.used c.in-Ok.taken.whole (as_line c.line.result) c.in-Err-printed.fault (search rules) c.in-Ok.ensures.used c.in-Ok.ensures.value c.line.ensures.value
-    (c.in-Err-printed.ensures.err s.options s.pieces h.items h.tree (subst (λ x. TableRepresents x s.options.table) (sym c.symbols.ensures) h.symbols) h.has)
+    (c.in-Err-printed.ensures.prints s.options s.pieces h.items h.tree (subst (λ x. TableRepresents x s.options.table) (sym c.symbols.ensures) h.symbols) h.has)
 
 pub returns-clause-takes : goal.returns-clause-takes
 returns-clause-takes g c = λ s old.
@@ -74,4 +74,4 @@ returns-clause-takes g c = λ s old.
     _ c.take.new.self c.in-Ok.taken.used c.in-Ok.taken.whole (as_line c.line.result) (search rules) c.in-Ok.ensures.used refl c.in-Ok.ensures.value c.clear.ensures.value
     (c.clear.ensures.represents _ (c.in-Ok.ensures.represents s.text h.took)) c.in-Ok.ensures.no_fault
     (c.in-Ok.ensures.limits (up_to_newline-some c.args.rest.now c.in-Ok.taken.used c.in-Ok.taken.whole c.in-Ok.ensures.used c.requires.some)).1 c.line.ensures.value
-    (c.in_default.ensures.ok s.options s.pieces h.items h.tree (subst (λ x. TableRepresents x s.options.table) (sym c.symbols.ensures) h.symbols) h.has)
+    (c.in_default.ensures.prints s.options s.pieces h.items h.tree (subst (λ x. TableRepresents x s.options.table) (sym c.symbols.ensures) h.symbols) h.has)
