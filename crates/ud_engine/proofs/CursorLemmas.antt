@@ -13,9 +13,10 @@ use Rattle.ud_text.specs.lines.Borrowing.{CanBorrow}
 use Rattle.ud_text.specs.bulk.BulkScanning.{AreWholeLines}
 use Rattle.ud_text.specs.lines.Consuming.{CanConsume}
 use Rattle.ud_text.proofs.lemmas.lines.ConsumeLemmas.{lines_joined, can_consume_rest}
+use Rattle.ud_text.proofs.lemmas.lines.NewlineLemmas.{up_to_newline-some}
 use Rattle.ud_engine.specs.declared.engine.Cursor.{Cursor}
 use Rattle.ud_engine.specs.declared.line_processor.SkippedText.{SkippedText}
-use Rattle.ud_engine.specs.Advancing.{Advances, IsCursor, slice_between, measure}
+use Rattle.ud_engine.specs.Advancing.{Advances, IsCursor, IsNext, slice_between, measure}
 use Rattle.ud_engine.specs.Feeding.{EngineState, IsOpen, EngineRepresentsBuffered}
 use Rattle.ud_engine.specs.ProcessedLines.{PrintsBulk, printed_of}
 use Rattle.ud_engine.specs.DecidedLines.{consumed}
@@ -137,7 +138,7 @@ module _ (room : ℕ) (lines new : LinesState) (bytes : List ℕ) (r : Cursor) (
   cut : take n (slice_between bytes r.pos r.whole_end) ≡ slice_between bytes r.pos (r.pos + n)
   cut = first_between bytes r.pos r.whole_end n within
 
-  pub place_after : (from : ℕ) → from ≤ r.pos + n → IsCursor room new bytes (record { pending_start = from; pos = r.pos + n; whole_end = r.whole_end; bulk_tried = true })
+  place_after : (from : ℕ) → from ≤ r.pos + n → IsCursor room new bytes (record { pending_start = from; pos = r.pos + n; whole_end = r.whole_end; bulk_tried = true })
   place_after from ordered = record {
     from = ordered;
     at =
@@ -150,8 +151,15 @@ module _ (room : ℕ) (lines new : LinesState) (bytes : List ℕ) (r : Cursor) (
     fits = λ small. let f = place.fits small in let z = ap (λ (k : LinesState). length k.held) given_up in omega (arith, f, z);
   }
 
+  -- After a try to skip text, the cursor is the next one.
+  pub next_after : r.bulk_tried ≡ false → (from : ℕ) → from ≤ r.pos + n →
+      IsNext room new bytes r (record { pending_start = from; pos = r.pos + n; whole_end = r.whole_end; bulk_tried = true })
+  next_after untried from ordered =
+      let next : Cursor = record { pending_start = from; pos = r.pos + n; whole_end = r.whole_end; bulk_tried = true } in
+      record { cursor = place_after from ordered; forward = omega arith; less = tried_done bytes r next untried refl (omega arith) }
+
 -- The cursor after a line.
-pub place_after_line : (room : ℕ) (lines new : LinesState) (bytes rest : List ℕ) (r : Cursor) → rest ≡ drop r.pos bytes → IsCursor room lines bytes r → (l : Line) →
+place_after_line : (room : ℕ) (lines new : LinesState) (bytes rest : List ℕ) (r : Cursor) → rest ≡ drop r.pos bytes → IsCursor room lines bytes r → (l : Line) →
     CanBorrow lines rest (length (text_of l)) → (end : ℕ) → end ≡ r.pos + length (text_of l) → new ≡ record lines { before = lines.before + 1 } →
     (from : ℕ) → from ≤ end → IsCursor room new bytes (record { pending_start = from; pos = end; whole_end = r.whole_end; bulk_tried = false })
 place_after_line room lines new bytes rest r rest_from place l lends end ends counted from ordered =
@@ -166,6 +174,19 @@ place_after_line room lines new bytes rest r rest_from place l lends end ends co
           (counted ∙ ap (λ n. record lines { before = lines.before + n }) (sym one.1 ∙ ap (λ x. length (whole_lines x)) prefix));
       fits = λ small. let f = place.fits small in let z = ap (λ (k : LinesState). length k.held) counted in omega (arith, f, z, ends);
     }
+
+-- After a line, the cursor is the next one.
+pub next_after_line : (room : ℕ) (lines new : LinesState) (bytes rest : List ℕ) (r : Cursor) → rest ≡ drop r.pos bytes → r.pos < length bytes → IsCursor room lines bytes r → (l : Line) →
+    CanBorrow lines rest (length (text_of l)) → (end : ℕ) → end ≡ r.pos + length (text_of l) → new ≡ record lines { before = lines.before + 1 } →
+    (from : ℕ) → from ≤ end → IsNext room new bytes r (record { pending_start = from; pos = end; whole_end = r.whole_end; bulk_tried = false })
+next_after_line room lines new bytes rest r rest_from more place l lends end ends counted from ordered =
+    let next : Cursor = record { pending_start = from; pos = end; whole_end = r.whole_end; bulk_tried = false } in
+    let cursor : IsCursor room new bytes next = place_after_line room lines new bytes rest r rest_from place l lends end ends counted from ordered in
+    let k = ap length rest_from in
+    let m = length-drop r.pos bytes in
+    let some = up_to_newline-some rest (length (text_of l)) true lends.prefix (omega (arith, k, m, more)) in
+    let at = cursor.at in
+    record { cursor = cursor; forward = omega (arith, ends); less = line_done bytes r next (omega (arith, ends, some)) at }
 
 -- The skipped lines were also taken.
 module _ {S : Type 0} (represents : S → List Judged → Type 0) (piece_of : S → List Judged → Judged → List ℕ) (o : Options) (piece : List Judged → Judged → List ℕ)

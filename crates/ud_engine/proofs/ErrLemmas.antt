@@ -1,5 +1,5 @@
 -- Results of a function in which a call has failed.
-use Rattle.std.proofs.Common.{◌≡◌, Result, Ok, Err, Option, List, ◌++◌, ℕ, Bool, true, sym, subst, is_ok, IsErr, IsErrAnd, IfErr, OnErr, OnOk}
+use Rattle.std.proofs.Common.{◌≡◌, Result, Ok, Err, Option, List, ◌++◌, ℕ, Bool, true, sym, subst, is_ok, IsErr, IsErrAnd, MatchResult, IfErr, OnErr, OnOk}
 use Rattle.ud_model.specs.answer.Printing.{Judged}
 use Rattle.ud_faults.specs.declared.run.RunFault.{RunFault}
 use Rattle.ud_engine.specs.declared.line_processor.LineProcessor.{LineProcessor}
@@ -12,6 +12,16 @@ use Rattle.ud_io.specs.Buffering.{AppendsAllButOrPrefix}
 pub err_is : {T E : Type 0} (Q : E → Type 0) (r : Result T E) (e : E) → IsErrAnd r (λ f. f ≡ e) → Q e → IfErr r Q
 err_is Q (Ok x) e h q = tt
 err_is Q (Err f) e h q = subst Q (sym h) q
+
+-- The error is this one, and nothing is stated of a value.
+pub match_err : {T E : Type 0} (P : T → Type 0) (Q : E → Type 0) (r : Result T E) (e : E) → IsErrAnd r (λ f. f ≡ e) → Q e → MatchResult r P Q
+match_err P Q (Ok x) e h q = absurd h
+match_err P Q (Err f) e h q = subst Q (sym h) q
+
+-- The result is an error, and the same is stated of each.
+pub match_ill : {T E : Type 0} (P : T → Type 0) (Q : Type 0) (F : E → Type 0) (r : Result T E) → IsErrAnd r F → Q → MatchResult r P (λ e. Q)
+match_ill P Q F (Ok x) h q = absurd h
+match_ill P Q F (Err f) h q = q
 
 -- The result is this error, so feeding failed with it.
 pub feeds_err : {S T : Type 0} (represents : S → List Judged → Type 0) (piece_of : S → List Judged → Judged → List ℕ) (e : EngineState S) (s : Session) (chunk : List ℕ) (failed : Bool) →

@@ -7,10 +7,15 @@
 --   StepFails .. f                a step failed
 --   Takes .. e f s rest pending old new used   an engine took bytes, and is another one after that
 --   StopsIn e s rest pending old new f         it can't take the next line
+--   TakesPart .. e f rest pending old new r    the one or the other, in each session
 --   Steps .. e f s piece at old new next       it took the bytes between two cursors
 --   StopsAt e s piece at old new f             it can't take the line after a cursor
+--   Moves .. e f piece at old new result       the one or the other, in each session
+--   IsNext room lines piece at next            a cursor after another one
+--   IsPart room lines rest used                the first bytes of `rest` are taken
+--   IsStep e f old new result                  streams and recorded fault after a step
 use Rattle.std.specs.Prelude.{ℕ, ◌+◌, ◌-◌, ◌<◌, ◌≤◌, List, ◌++◌, length, take, drop, if◌then◌else◌}
-use Rattle.std.specs.Prelude.{Option}
+use Rattle.std.specs.Prelude.{◌≡◌, false, Option, Result, MatchResult, OnOk, IfErr}
 use Rattle.ud_model.specs.sections.Items.{Options}
 use Rattle.ud_model.specs.answer.Printing.{Judged}
 use Rattle.ud_text.specs.lines.LinesState.{LinesState, HasCapacity}
@@ -20,10 +25,11 @@ use Rattle.ud_engine.specs.declared.engine.Cursor.{Cursor}
 use Rattle.ud_faults.specs.declared.run.RunFault.{RunFault}
 use Rattle.ud_faults.specs.declared.run.RunFault.TheVariants.{Text, Section, Read, Write}
 use Rattle.ud_engine.specs.Feeding.{EngineState, EngineRepresentsBuffered, FaultsAfter}
-use Rattle.ud_engine.specs.Feeding.{PrintsPrefix, Session}
+use Rattle.ud_engine.specs.Feeding.{PrintsPrefix, Session, IsBufferedIn}
+use Rattle.ud_engine.specs.FaultEffects.{OutputUnchanged}
 use Rattle.ud_faults.specs.Faults.{limit_of}
 use Rattle.ud_io.specs.Buffering.{AppendsAllBut}
-use Rattle.ud_io.specs.Watched.{AppendsPrefix}
+use Rattle.ud_io.specs.Watched.{WatchedState, AppendsPrefix}
 
 -- `slice_between piece from at`: the bytes of `piece` from the position `from` up to `at`.
 abbrev pub slice_between : List ℕ → ℕ → ℕ → List ℕ
@@ -93,6 +99,16 @@ abbrev pub StopsIn : {S : Type 0} → EngineState S → Session → List ℕ →
 StopsIn e s rest pending old new f =
     StepFails s.options s.pieces (s.text ++ rest) s.printed old new (e.buffered ++ pending) f
 
+-- `TakesPart .. contents e f rest pending out out' result`: in each session of `e`, it took bytes
+-- of `rest` (`Takes`); or it can't take the next line (`StopsIn`).
+abbrev pub TakesPart : {S W : Type 0} → (S → List Judged → Type 0) → (S → List Judged → Judged →
+    List ℕ) → (W → Option (List ℕ)) → EngineState S → EngineState S → List ℕ → List ℕ →
+    WatchedState W → WatchedState W → Result ℕ RunFault → Type 0
+TakesPart represents piece_of contents e f rest pending out out' result =
+    (s : Session) → IsBufferedIn represents piece_of e s → MatchResult result
+    (Takes represents piece_of e f s rest pending (contents out.inner) (contents out'.inner))
+    (StopsIn e s rest pending (contents out.inner) (contents out'.inner))
+
 -- `Steps .. e f s piece at old new next`: the engine `e` in the session `s` took the bytes of the
 -- chunk `piece` from the cursor `at` to the cursor `next`, and is `f` after that.
 abbrev pub Steps : {S : Type 0} → (S → List Judged → Type 0) → (S → List Judged → Judged →
@@ -110,3 +126,35 @@ abbrev pub StopsAt : {S : Type 0} → EngineState S → Session → List ℕ →
     Option (List ℕ) → RunFault → Type 0
 StopsAt e s piece at old new f =
     StopsIn e s (drop at.pos piece) (slice_between piece at.pending_start at.pos) old new f
+
+-- `Moves .. contents e f piece at out out' result`: in each session of `e`, it took the bytes from
+-- the cursor `at` to the next one (`Steps`); or it can't take the line after `at` (`StopsAt`).
+abbrev pub Moves : {S W : Type 0} → (S → List Judged → Type 0) → (S → List Judged → Judged →
+    List ℕ) → (W → Option (List ℕ)) → EngineState S → EngineState S → List ℕ → Cursor →
+    WatchedState W → WatchedState W → Result Cursor RunFault → Type 0
+Moves represents piece_of contents e f piece at out out' result =
+    (s : Session) → IsBufferedIn represents piece_of e s → MatchResult result
+    (Steps represents piece_of e f s piece at (contents out.inner) (contents out'.inner))
+    (StopsAt e s piece at (contents out.inner) (contents out'.inner))
+
+-- `IsNext room lines piece at next`: `next` is a cursor in `piece`, not before `at`, and less is
+-- left to do after it.
+pub record IsNext (room : ℕ) (lines : LinesState) (piece : List ℕ) (at next : Cursor) : Type 0 where
+  pub cursor : IsCursor room lines piece next
+  pub forward : at.pos ≤ next.pos
+  pub less : measure piece next < measure piece at
+
+-- `IsPart room lines rest used`: the first `used` bytes of `rest` were taken, at least one. The
+-- others fit.
+pub record IsPart (room : ℕ) (lines : LinesState) (rest : List ℕ) (used : ℕ) : Type 0 where
+  pub some : 0 < used
+  pub within : used ≤ length rest
+  pub fits : HasCapacity room lines (length rest - used)
+
+-- `IsStep e f out out' result`: after a step from the engine `e` to `f`, the recorded fault is the
+-- same. After `Ok` the writer hasn't failed; after an error, `OutputUnchanged`.
+pub record IsStep {S W T : Type 0} (e f : EngineState S) (out out' : WatchedState W)
+    (result : Result T RunFault) : Type 0 where
+  pub not_failed : OnOk result (out'.failed ≡ false)
+  pub output_unchanged : IfErr result (OutputUnchanged out out' e.buffered f.buffered)
+  pub fault_unchanged : f.fault ≡ e.fault

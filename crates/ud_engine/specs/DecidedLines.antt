@@ -3,21 +3,30 @@
 --   decider_of scanner machine        the decider with this scanner and this machine
 --   DeciderRepresents o r xs t        a decider has read these items
 --   DecidesLine o r xs t l step       it has also read this line
+--   DecidesNext symbols r new l result   it did, whatever it had read, or the line is faulty
 --   consumed lines bytes              a line buffer once these bytes are consumed
 --   AreText xs                        these items are text lines
 --   DecidesBulk o r xs t ls verdict   a decider has also read these text lines
-use Rattle.std.specs.Prelude.{◌≡◌, ℕ, ◌+◌, List, [], ◌∷◌, ◌++◌, length, map, None}
-use Rattle.ud_model.specs.text.Lines.{Line, whole_lines}
+--   DecidesText r new lines bytes     it did, whatever it had read
+use Rattle.std.specs.Prelude.{◌≡◌, ℕ, suc, ◌+◌, List, [], ◌∷◌, ◌++◌, length, map, None, Result}
+use Rattle.std.specs.Prelude.{MatchResult}
+use Rattle.ud_model.specs.text.Lines.{Line, whole_lines, numbered_from}
 use Rattle.ud_model.specs.text.Scans.{Reading}
 use Rattle.ud_model.specs.sections.Directives.{text, content_of}
+use Rattle.ud_model.specs.sections.Faults.{FaultOf}
+use Rattle.ud_model.specs.conditions.Table.{Argument}
 use Rattle.ud_model.specs.sections.Tree.{Item, Tree}
 use Rattle.ud_model.specs.sections.Pruning.{Mark, marks}
 use Rattle.ud_model.specs.sections.Items.{Options, reading_of, line_of, next_item}
 use Rattle.ud_model.specs.answer.Printing.{judged_line, judged_lines}
 use Rattle.ud_model.specs.declared.verdict.Verdict.{Verdict}
+use Rattle.ud_cond.specs.symbols.SymbolTable.{TableRepresents}
+use Rattle.ud_faults.specs.Faults.{fault_of}
+use Rattle.ud_faults.specs.declared.sections.SectionFault.{SectionFault}
 use Rattle.ud_text.specs.scan.ScannerState.{ScannerState, ScannerRepresents}
 use Rattle.ud_text.specs.lines.LinesState.{LinesState}
 use Rattle.ud_sections.specs.sections.MachineState.{MachineRepresents, machine_fault}
+use Rattle.ud_sections.specs.sections.Transitions.{text_verdict}
 use Rattle.ud_sections.specs.printing.PrinterOutputs.{judged_text}
 use Rattle.ud_sections.specs.sections.StepViews.{as_span}
 use Rattle.ud_sections.specs.declared.sections.step.Step.{Step}
@@ -47,6 +56,16 @@ pub record DecidesLine (o : Options) (r : LineDecider) (xs : List (Item Reading)
   pub decided : record { line = l; verdict = step.verdict; keyword = as_span step.keyword } ≡
       judged_line (next_item o xs t l) mark
 
+-- `DecidesNext symbols r new l result`: whatever items `r` has read, under options with these
+-- symbols, `new` has also read the line `l`, with this step; or `l` has this fault.
+abbrev pub DecidesNext : List Argument → LineDecider → LineDecider → Line →
+    Result Step SectionFault → Type 0
+DecidesNext symbols r new l result =
+    (o : Options) → (xs : List (Item Reading)) → (t : Tree Reading) →
+    TableRepresents symbols o.table → DeciderRepresents o r xs t →
+    MatchResult result (DecidesLine o new xs t l)
+    (λ f. FaultOf xs (next_item o xs t l) (fault_of f))
+
 -- `consumed lines bytes`: `lines` once the whole lines of `bytes` are consumed too.
 abbrev pub consumed : LinesState → List ℕ → LinesState
 consumed lines bytes = record lines { before = lines.before + length (whole_lines bytes) }
@@ -68,3 +87,12 @@ pub record DecidesBulk (o : Options) (r : LineDecider) (xs : List (Item Reading)
   pub own : List Mark
   pub marks_are : marks tree ≡ marks t ++ own
   pub decided : judged_lines items own ≡ map (judged_text verdict) ls
+
+-- `DecidesText r new lines bytes`: whatever items `r` has read, `new` has also read the lines of
+-- `bytes`, which come after those of `lines`. Each of them is a text line with the verdict of `r`.
+abbrev pub DecidesText : LineDecider → LineDecider → LinesState → List ℕ → Type 0
+DecidesText r new lines bytes =
+    (o : Options) → (xs : List (Item Reading)) → (t : Tree Reading) →
+    DeciderRepresents o r xs t →
+    DecidesBulk o new xs t (numbered_from (suc lines.before) (whole_lines bytes))
+    (text_verdict r.machine)

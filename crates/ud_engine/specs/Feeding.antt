@@ -12,6 +12,7 @@
 --   Continues .. e o piece longer printed old new        the next chunk was fed
 --   FeedFails .. old new longer printed f                feeding the next chunk failed
 --   Feeds .. e s chunk failed old new result             the next chunk was fed, or that failed
+--   FeedsChunk .. e f chunk out out' result              the same, in each session
 --   WriterMatches failed result                          the error is `Write` if the writer failed
 --   RecordsFault fault result                            the fault that an engine records
 use Rattle.std.specs.Prelude.{◌≡◌, ℕ, ◌<◌, ◌≤◌, List, [], ◌++◌, length, Bool, true, false, Option}
@@ -35,7 +36,7 @@ use Rattle.ud_faults.specs.declared.run.RunFault.{RunFault}
 use Rattle.ud_faults.specs.declared.run.RunFault.TheVariants.{Text, Section, Read, Write}
 use Rattle.ud_engine.specs.declared.line_processor.LineProcessor.{LineProcessor}
 use Rattle.ud_engine.specs.ProcessedLines.{ProcessorRepresents, text_by}
-use Rattle.ud_io.specs.Watched.{AppendsPrefix}
+use Rattle.ud_io.specs.Watched.{WatchedState, AppendsPrefix}
 
 -- `EngineState S`: the symbols, the line buffer, the processor that prints by an `S`, the pending
 -- output, and the fault after which the engine is fused.
@@ -188,6 +189,15 @@ Feeds represents piece_of e s chunk failed old new (Ok done) =
     Continues represents piece_of e s.options s.pieces (s.text ++ chunk) s.printed old new
 Feeds represents piece_of e s chunk failed old new (Err f) =
     FeedFails s.options s.pieces failed old new (s.text ++ chunk) s.printed f
+
+-- `FeedsChunk .. contents e f chunk out out' result`: in each session of `e`, it was fed `chunk`,
+-- and is `f` after it; or that failed (`Feeds`).
+abbrev pub FeedsChunk : {S W T : Type 0} → (S → List Judged → Type 0) → (S → List Judged →
+    Judged → List ℕ) → (W → Option (List ℕ)) → EngineState S → EngineState S → List ℕ →
+    WatchedState W → WatchedState W → Result T RunFault → Type 0
+FeedsChunk represents piece_of contents e f chunk out out' result =
+    (s : Session) → IsInSession represents piece_of e s → Feeds represents piece_of f s chunk
+    out'.failed (contents out.inner) (contents out'.inner) result
 
 -- `WriterMatches failed result`: the writer hasn't failed after `Ok`, and `ErrorMatchesWriter` is
 -- true of an error.

@@ -3,6 +3,7 @@
 --   without_fault symbols lines printer buffered   an engine that isn't fused
 --   PrintsAll .. p o piece text printed old new    all lines of the text are printed
 --   PrintsLast .. p s failed old new result        they are, or that failed
+--   PrintsRest .. e p out out' result              the same, in each session
 --   FinishOk .. differs                            the text has no fault, and is printed
 --   FinishErr .. f                                 finishing failed
 --   Finishes s failed old new result               the text has ended, or that failed
@@ -23,10 +24,10 @@ use Rattle.ud_faults.specs.Faults.{fault_of}
 use Rattle.ud_faults.specs.declared.run.RunFault.{RunFault}
 use Rattle.ud_faults.specs.declared.run.RunFault.TheVariants.{Text, Section, Read, Write}
 use Rattle.ud_engine.specs.declared.line_processor.LineProcessor.{LineProcessor}
-use Rattle.ud_engine.specs.Feeding.{EngineState, Session}
+use Rattle.ud_engine.specs.Feeding.{EngineState, Session, IsInSession}
 use Rattle.ud_faults.specs.Faults.{limit_of}
 use Rattle.ud_engine.specs.ProcessedLines.{ProcessorRepresents, text_by, differs_in}
-use Rattle.ud_io.specs.Watched.{AppendsPrefix}
+use Rattle.ud_io.specs.Watched.{WatchedState, AppendsPrefix}
 
 -- `without_fault symbols lines printer buffered`: an engine of these parts that isn't fused.
 abbrev pub without_fault : {S : Type 0} → List Argument → LinesState → LineProcessor S → List ℕ →
@@ -120,6 +121,15 @@ PrintsLast represents piece_of p s failed old new (Ok done) =
     PrintsAll represents piece_of p s.options s.pieces s.text s.printed old new
 PrintsLast represents piece_of p s failed old new (Err f) =
     FinishErr s.options s.pieces failed old new s.text s.printed f
+
+-- `PrintsRest .. contents e p out out' result`: in each session of the engine `e`, `p` printed all
+-- lines of its text; or that failed (`PrintsLast`).
+abbrev pub PrintsRest : {S W T : Type 0} → (S → List Judged → Type 0) → (S → List Judged →
+    Judged → List ℕ) → (W → Option (List ℕ)) → EngineState S → LineProcessor S →
+    WatchedState W → WatchedState W → Result T RunFault → Type 0
+PrintsRest represents piece_of contents e p out out' result =
+    (s : Session) → IsInSession represents piece_of e s → PrintsLast represents piece_of p s
+    out'.failed (contents out.inner) (contents out'.inner) result
 
 -- `text_fault_of f`: the fault of the definitions, if `f` is one of the text.
 abbrev pub text_fault_of : RunFault → Option Fault

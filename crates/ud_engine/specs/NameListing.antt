@@ -2,12 +2,15 @@
 --
 --   ListsLine o r xs t l depths ..   it has also read this line, and listed its names
 --   ListErr o xs t l depths .. f     listing this line failed
-use Rattle.std.specs.Prelude.{◌≡◌, ℕ, List, [], ◌∷◌, ◌++◌, Bool, Option}
+--   ListsNext .. r new l depths ..   the one or the other, whatever the decider had read
+use Rattle.std.specs.Prelude.{◌≡◌, ℕ, List, [], ◌∷◌, ◌++◌, Bool, Option, Result, MatchResult}
 use Rattle.ud_model.specs.text.Lines.{Line}
 use Rattle.ud_model.specs.text.Scans.{Reading}
 use Rattle.ud_model.specs.sections.Tree.{Item, Tree}
 use Rattle.ud_model.specs.sections.Items.{Options, next_item}
 use Rattle.ud_model.specs.sections.Faults.{AreFaultless, FaultOf}
+use Rattle.ud_model.specs.conditions.Table.{Argument}
+use Rattle.ud_cond.specs.symbols.SymbolTable.{TableRepresents}
 use Rattle.ud_model.specs.answer.Listing.{levels, listed}
 use Rattle.ud_faults.specs.Faults.{fault_of}
 use Rattle.ud_faults.specs.declared.run.RunFault.{RunFault}
@@ -15,7 +18,7 @@ use Rattle.ud_faults.specs.declared.run.RunFault.TheVariants.{Text, Section, Rea
 use Rattle.ud_engine.specs.declared.line_decider.LineDecider.{LineDecider}
 use Rattle.ud_engine.specs.DecidedLines.{DeciderRepresents}
 use Rattle.ud_io.specs.Buffering.{AppendsAllBut}
-use Rattle.ud_io.specs.Watched.{AppendsPrefix}
+use Rattle.ud_io.specs.Watched.{WatchedState, AppendsPrefix}
 
 -- `ListsMore o xs t l depths tree more`: `more` lists the names of the line `l`, after the items
 -- `xs`.
@@ -57,3 +60,16 @@ ListErr o xs t l depths old new buffered pending Write =
     ListingFails o xs t l depths old new buffered pending
 ListErr o xs t l depths old new buffered pending (Text f) = ⊥
 ListErr o xs t l depths old new buffered pending Read = ⊥
+
+-- `ListsNext contents symbols r new l depths pending buffered left out out' result`: whatever items
+-- `r` has read, under options with these symbols, `new` has also read the line `l`, and its names
+-- were listed (`ListsLine`); or that failed (`ListErr`).
+abbrev pub ListsNext : {W T : Type 0} → (W → Option (List ℕ)) → List Argument → LineDecider →
+    LineDecider → Line → Bool → List ℕ → List ℕ → List ℕ → WatchedState W → WatchedState W →
+    Result T RunFault → Type 0
+ListsNext contents symbols r new l depths pending buffered left out out' result =
+    (o : Options) → (xs : List (Item Reading)) → (t : Tree Reading) →
+    TableRepresents symbols o.table → DeciderRepresents o r xs t → MatchResult result
+    (λ done. ListsLine o new xs t l depths (contents out.inner) (contents out'.inner)
+    buffered left pending)
+    (ListErr o xs t l depths (contents out.inner) (contents out'.inner) buffered pending)

@@ -3,32 +3,43 @@
 --   text_by listing piece xs t                           the output for these items
 --   differs_in listing piece xs t                        the output for some line differs from it
 --   ProcessorRepresents stands piece_of p o piece xs t   a processor has read these items
+--   BeginsLines .. settings show p                       a processor before the first line
+--   HasEndFault .. p fault                               the fault at the end of what it read
+--   HasDifference .. p differs                           whether some line that it read differs
+--   ShowsNext .. show j pending ..                       a printer's piece of the next line
 --   PrintsLine .. l put ..                               it has also printed this line
 --   IsLeftOf left ending                                 the output is nothing or the ending
 --   printed_of passed bytes                              the output for skipped text
 --   PrintsBulk .. ls more                                a processor has also printed these lines
+--   PrintsText .. p q lines bytes more                   it did, whatever it had read
 --   PrintErr .. l f ..                                   printing this line failed
-use Rattle.std.specs.Prelude.{◌≡◌, ◌⊎◌, ℕ, List, [], ◌∷◌, ◌++◌, take, map, Bool, true, false, not}
-use Rattle.std.specs.Prelude.{bytes_eq, if◌then◌else◌, Option, Some, None}
+--   PrintsNext .. p q l ..                               it did or that failed, whatever was read
+use Rattle.std.specs.Prelude.{◌≡◌, ◌⊎◌, ℕ, suc, List, [], ◌∷◌, ◌++◌, take, map, Bool, true, false}
+use Rattle.std.specs.Prelude.{not, bytes_eq, if◌then◌else◌, Option, Some, None, Result, MatchResult}
 use Rattle.std.specs.List.{concat}
-use Rattle.ud_model.specs.text.Lines.{Line, text_of}
+use Rattle.ud_model.specs.text.Lines.{Line, text_of, whole_lines, numbered_from}
 use Rattle.ud_model.specs.text.Scans.{Reading}
-use Rattle.ud_model.specs.sections.Tree.{Item, Tree}
+use Rattle.ud_model.specs.conditions.Table.{Argument}
+use Rattle.ud_model.specs.sections.Tree.{Item, Tree, closed, nothing}
 use Rattle.ud_model.specs.sections.Pruning.{marks}
 use Rattle.ud_model.specs.sections.Items.{Options, line_of, next_item}
-use Rattle.ud_model.specs.sections.Faults.{AreFaultless, FaultOf}
+use Rattle.ud_model.specs.sections.Faults.{Fault, AreFaultless, FaultOf, end_fault}
 use Rattle.ud_model.specs.answer.Printing.{Judged, judged_lines, pieces_by, some_other}
 use Rattle.ud_model.specs.answer.Listing.{levels, listed}
+use Rattle.ud_model.specs.declared.settings.Settings.{Settings}
 use Rattle.ud_model.specs.declared.settings.Listing.{Listing}
 use Rattle.ud_model.specs.declared.settings.Listing.TheVariants.{Off, Names, Depths}
+use Rattle.ud_cond.specs.symbols.SymbolTable.{TableRepresents}
+use Rattle.ud_text.specs.lines.LinesState.{LinesState}
 use Rattle.ud_faults.specs.Faults.{fault_of}
 use Rattle.ud_faults.specs.declared.run.RunFault.{RunFault}
 use Rattle.ud_faults.specs.declared.run.RunFault.TheVariants.{Text, Section, Read, Write}
+use Rattle.ud_engine.specs.declared.write_failed.WriteFailed.{WriteFailed}
 use Rattle.ud_engine.specs.declared.line_processor.LineProcessor.{LineProcessor}
 use Rattle.ud_engine.specs.declared.line_processor.SkippedText.{SkippedText}
 use Rattle.ud_engine.specs.DecidedLines.{DeciderRepresents}
 use Rattle.ud_io.specs.Buffering.{AppendsAllBut}
-use Rattle.ud_io.specs.Watched.{AppendsPrefix}
+use Rattle.ud_io.specs.Watched.{WatchedState, AppendsPrefix}
 
 -- `text_by listing piece xs t`: the output for the items `xs` with the tree `t`: their pieces by
 -- the definition `piece`, or their names.
@@ -65,6 +76,33 @@ pub record ProcessorRepresents {S : Type 0} (represents : S → List Judged → 
   pub stays : (before : List Judged) → (j : Judged) → piece_of p.printer before j ≡ piece before j
   pub differs : p.differs ≡ differs_in o.settings.listing piece xs t
 
+-- `BeginsLines .. settings show p`: under options with these settings, `p` has read no line, if the
+-- printer `show` has printed none, unless names are listed.
+abbrev pub BeginsLines : {S : Type 0} → (S → List Judged → Type 0) → (S → List Judged → Judged →
+    List ℕ) → Settings → S → LineProcessor S → Type 0
+BeginsLines represents piece_of settings show p =
+    (o : Options) → (piece : List Judged → Judged → List ℕ) → o.settings ≡ settings →
+    (o.settings.listing ≡ Off → represents show []) →
+    ((before : List Judged) → (j : Judged) → piece_of show before j ≡ piece before j) →
+    ProcessorRepresents represents piece_of p o piece [] (closed nothing)
+
+-- `HasEndFault .. p fault`: whatever items `p` has read, `fault` is that of the text's end.
+abbrev pub HasEndFault : {S : Type 0} → (S → List Judged → Type 0) → (S → List Judged → Judged →
+    List ℕ) → LineProcessor S → Option Fault → Type 0
+HasEndFault represents piece_of p fault =
+    (o : Options) → (piece : List Judged → Judged → List ℕ) → (xs : List (Item Reading)) →
+    (t : Tree Reading) → ProcessorRepresents represents piece_of p o piece xs t →
+    fault ≡ end_fault xs t
+
+-- `HasDifference .. p differs`: whatever items `p` has read, `differs` says whether the output for
+-- some line differs from the line.
+abbrev pub HasDifference : {S : Type 0} → (S → List Judged → Type 0) → (S → List Judged → Judged →
+    List ℕ) → LineProcessor S → Bool → Type 0
+HasDifference represents piece_of p differs =
+    (o : Options) → (piece : List Judged → Judged → List ℕ) → (xs : List (Item Reading)) →
+    (t : Tree Reading) → ProcessorRepresents represents piece_of p o piece xs t →
+    differs ≡ differs_in o.settings.listing piece xs t
+
 -- `PrintsMore o piece xs t l tree more`: `more` is the output for the line `l` after the items
 -- `xs`.
 abbrev pub PrintsMore : Options → (List Judged → Judged → List ℕ) → List (Item Reading) →
@@ -89,6 +127,19 @@ abbrev pub ShowsLine : Bool → Option (List ℕ) → Option (List ℕ) → List
     List ℕ → List ℕ → Type 0
 ShowsLine put old new buffered left pending piece own = (put ≡ not (bytes_eq piece own)) ×
     IsAppended put old new buffered left pending piece own
+
+-- `ShowsNext .. contents show j pending buffered left out out' result`: whatever lines `show` has
+-- printed, its piece for the line `j` was appended after `pending`, if that differs from the line
+-- (`ShowsLine`); or a write failed, after a prefix.
+abbrev pub ShowsNext : {S W : Type 0} → (S → List Judged → Type 0) → (S → List Judged → Judged →
+    List ℕ) → (W → Option (List ℕ)) → S → Judged → List ℕ → List ℕ → List ℕ → WatchedState W →
+    WatchedState W → Result Bool WriteFailed → Type 0
+ShowsNext represents piece_of contents show j pending buffered left out out' result =
+    (before : List Judged) → represents show before → MatchResult result
+    (λ shown. ShowsLine shown (contents out.inner) (contents out'.inner) buffered left pending
+    (piece_of show before j) (text_of j.line))
+    (λ failed. AppendsPrefix (contents out.inner) (contents out'.inner)
+    (buffered ++ (pending ++ piece_of show before j)))
 
 -- `IsLeftOf left ending`: the output for a line is nothing or its ending.
 abbrev pub IsLeftOf : List ℕ → List ℕ → Type 0
@@ -128,6 +179,16 @@ pub record PrintsBulk {S : Type 0} (represents : S → List Judged → Type 0) (
   pub is_more : text_by o.settings.listing piece (xs ++ items) tree ≡
       text_by o.settings.listing piece xs t ++ more
 
+-- `PrintsText .. p q lines bytes more`: whatever items `p` has read, `q` has also read the lines of
+-- `bytes`, which come after those of `lines`, and `more` is the output for them.
+abbrev pub PrintsText : {S : Type 0} → (S → List Judged → Type 0) → (S → List Judged → Judged →
+    List ℕ) → LineProcessor S → LineProcessor S → LinesState → List ℕ → List ℕ → Type 0
+PrintsText represents piece_of p q lines bytes more =
+    (o : Options) → (piece : List Judged → Judged → List ℕ) → (xs : List (Item Reading)) →
+    (t : Tree Reading) → ProcessorRepresents represents piece_of p o piece xs t →
+    PrintsBulk represents piece_of q o piece xs t
+    (numbered_from (suc lines.before) (whole_lines bytes)) more
+
 -- `WriteFails o piece xs t l old new buffered pending`: a write failed. A prefix of `buffered`,
 -- `pending` and the output for the line `l`, which isn't faulty, was appended.
 pub record WriteFails (o : Options) (piece : List Judged → Judged →
@@ -150,3 +211,18 @@ PrintErr o piece xs t l old new buffered pending Write =
     WriteFails o piece xs t l old new buffered pending
 PrintErr o piece xs t l old new buffered pending (Text f) = ⊥
 PrintErr o piece xs t l old new buffered pending Read = ⊥
+
+-- `PrintsNext .. contents symbols p q l pending buffered left out out' put result`: whatever items
+-- `p` has read, under options with these symbols, `q` has also read the line `l`. Its output was
+-- appended as `put` has it (`PrintsLine`); or that failed (`PrintErr`).
+abbrev pub PrintsNext : {S W T : Type 0} → (S → List Judged → Type 0) → (S → List Judged → Judged →
+    List ℕ) → (W → Option (List ℕ)) → List Argument → LineProcessor S → LineProcessor S → Line →
+    List ℕ → List ℕ → List ℕ → WatchedState W → WatchedState W → (T → Bool) → Result T RunFault →
+    Type 0
+PrintsNext represents piece_of contents symbols p q l pending buffered left out out' put result =
+    (o : Options) → (piece : List Judged → Judged → List ℕ) → (xs : List (Item Reading)) →
+    (t : Tree Reading) → TableRepresents symbols o.table →
+    ProcessorRepresents represents piece_of p o piece xs t → MatchResult result
+    (λ value. PrintsLine represents piece_of q o piece xs t l (put value) (contents out.inner)
+    (contents out'.inner) buffered left pending)
+    (PrintErr o piece xs t l (contents out.inner) (contents out'.inner) buffered pending)

@@ -7,6 +7,8 @@
 --   RunEnded .. result                         the output fits what the reader gave
 --   RunFinished .. result                      all of this, and the outcome if nothing failed
 --   Finished .. o reader reader' out out' result   the same with streams before and after
+--   FinishesRun .. e .. result                 each run in progress is finished
+--   ContinuesRun .. e f ..                     each run in progress still is
 --   ErrorMatchesStreams reader writer result   the result shows whether a stream failed
 use Rattle.std.specs.Prelude.{◌≡◌, ◌⊎◌, ℕ, ◌+◌, ◌*◌, ◌-◌, List, ◌++◌, length, take, Bool, true}
 use Rattle.std.specs.Prelude.{false, Option, Some, None, Result, Ok, Err, IfSome, OnOk}
@@ -143,6 +145,27 @@ abbrev pub Finished : {R W : Type 0} → (R → Option (List ℕ)) → (W → Op
 Finished remaining contents o reader reader' out out' result =
     RunFinished o (remaining reader.inner) (remaining reader'.inner) (contents out.inner)
     (contents out'.inner) reader'.failed out'.failed result
+
+-- `FinishesRun remaining contents e reader reader' out out' result`: each run that was in progress
+-- with the engine `e` is finished with `result` (`RunFinished`).
+abbrev pub FinishesRun : {R W : Type 0} → (R → Option (List ℕ)) → (W → Option (List ℕ)) →
+    EngineState Printer → WatchedState R → WatchedState R → WatchedState W → WatchedState W →
+    Result Bool RunFault → Type 0
+FinishesRun remaining contents e reader reader' out out' result =
+    (o : Options) → (read written : Option (List ℕ)) →
+    InProgress e o read (remaining reader.inner) written (contents out.inner) →
+    RunFinished o read (remaining reader'.inner) written (contents out'.inner)
+    reader'.failed out'.failed result
+
+-- `ContinuesRun remaining contents e f reader reader' out out'`: each run that was in progress with
+-- the engine `e` is in progress with `f`.
+abbrev pub ContinuesRun : {R W : Type 0} → (R → Option (List ℕ)) → (W → Option (List ℕ)) →
+    EngineState Printer → EngineState Printer → WatchedState R → WatchedState R →
+    WatchedState W → WatchedState W → Type 0
+ContinuesRun remaining contents e f reader reader' out out' =
+    (o : Options) → (read written : Option (List ℕ)) →
+    InProgress e o read (remaining reader.inner) written (contents out.inner) →
+    InProgress f o read (remaining reader'.inner) written (contents out'.inner)
 
 -- `ErrorMatchesStreams reader writer result`: `result` is `Read` exactly if a read has failed, and
 -- `Write` exactly if a write has.

@@ -16,8 +16,8 @@ ghost use Rattle.ud_model.specs.declared.settings.Listing.TheVariants.{Off};
 ghost use Rattle.ud_cond.specs.symbols.SymbolTable.{TableRepresents};
 ghost use Rattle.ud_io.specs.Buffering.{AppendsAllButOrPrefix};
 ghost use Rattle.ud_text.specs.lines.LinesState.{HasCapacity};
-ghost use Rattle.ud_engine.specs.Feeding.{IsOpen, Session, IsInSession, WriterMatches};
-ghost use Rattle.ud_engine.specs.Finishing.{PrintsLast, without_fault};
+ghost use Rattle.ud_engine.specs.Feeding.{IsOpen, WriterMatches};
+ghost use Rattle.ud_engine.specs.Finishing.{PrintsRest, without_fault};
 ghost use Rattle.ud_engine.specs.Advancing.{IsCursor};
 
 use crate::line_processor::LineProcessor;
@@ -143,12 +143,11 @@ impl<'p, S: Show> Engine<'p, S, LongLineBuffer> {
 
 impl<'p, S: Show, H: LineBuffer> Engine<'p, S, H> {
     ghost use Rattle.ud_engine.specs.Feeding.{Session, Begins, IsInSession};
-    ghost use Rattle.ud_engine.specs.Feeding.{IsBufferedIn, Feeds, WriterMatches};
+    ghost use Rattle.ud_engine.specs.Feeding.{FeedsChunk, WriterMatches};
     ghost use Rattle.ud_engine.specs.Feeding.{RecordsFault};
     ghost use Rattle.ud_engine.specs.Finishing.{Finishes};
-    ghost use Rattle.ud_engine.specs.Advancing.{IsCursor, measure, Steps, StopsAt, Takes, StopsIn};
-    ghost use Rattle.ud_engine.specs.FaultEffects.{OutputUnchanged, ErrorMatchesFailure};
-    ghost use Rattle.ud_engine.specs.FaultEffects.{FailsAfterFlush};
+    ghost use Rattle.ud_engine.specs.Advancing.{IsCursor, IsNext, Moves, IsPart, TakesPart, IsStep};
+    ghost use Rattle.ud_engine.specs.FaultEffects.{ErrorMatchesFailure, FailsAfterFlush};
     ghost use Rattle.ud_model.specs.declared.limits.TheConstants.{LINE_BYTES};
 
     /// Returns an engine before the first byte, as `new` does, whose line buffer is an `H`.
@@ -194,9 +193,8 @@ impl<'p, S: Show, H: LineBuffer> Engine<'p, S, H> {
     pub fn feed<W: Write>(&mut self, chunk: &[u8], out: &mut Watched<W>) -> Result<(), RunFault>
         requires not_failed { self.old.fault ≡ None → out.old.failed ≡ false }
         requires fits { HasCapacity H.CAPACITY self.old.lines (length chunk.now) }
-        ensures feeds { (s : Session) → IsInSession S.represents S.piece self.old s →
-            Feeds S.represents S.piece self.new s chunk.now out.new.failed
-            (W.contents out.old.inner) (W.contents out.new.inner) result }
+        ensures feeds { FeedsChunk S.represents S.piece W.contents self.old self.new chunk.now
+            out.old out.new result }
         ensures writer { self.old.fault ≡ None → WriterMatches out.new.failed result }
         ensures records_fault { RecordsFault self.new.fault result }
         ensures fused { IfSome self.old.fault (λ f. (result ≡ Err f) × (self.new ≡ self.old) ×
@@ -323,9 +321,8 @@ impl<'p, S: Show, H: LineBuffer> Engine<'p, S, H> {
     ) -> Result<(), RunFault>
         requires not_failed { out.old.failed ≡ false }
         requires fits { HasCapacity H.CAPACITY self.old.lines (length chunk.now) }
-        ensures feeds { (s : Session) → IsInSession S.represents S.piece self.old s →
-            Feeds S.represents S.piece self.new s chunk.now out.new.failed
-            (W.contents out.old.inner) (W.contents out.new.inner) result }
+        ensures feeds { FeedsChunk S.represents S.piece W.contents self.old self.new chunk.now
+            out.old out.new result }
         ensures writer { WriterMatches out.new.failed result }
         ensures fault { OnOk result (self.new.fault ≡ self.old.fault) }
     {
@@ -360,19 +357,10 @@ impl<'p, S: Show, H: LineBuffer> Engine<'p, S, H> {
         requires not_failed { out.old.failed ≡ false }
         requires cursor { IsCursor H.CAPACITY self.old.lines chunk.now cursor }
         requires some { cursor.pos < length chunk.now }
-        ensures cursor { IfOk result (λ next. IsCursor H.CAPACITY self.new.lines chunk.now next) }
-        ensures progress { IfOk result (λ next. (cursor.pos ≤ next.pos) ×
-            (measure chunk.now next < measure chunk.now cursor)) }
-        ensures taken { (s : Session) → IsBufferedIn S.represents S.piece self.old s →
-            IfOk result (Steps S.represents S.piece self.old self.new s chunk.now cursor
-            (W.contents out.old.inner) (W.contents out.new.inner)) }
-        ensures stops { (s : Session) → IsBufferedIn S.represents S.piece self.old s →
-            IfErr result (StopsAt self.old s chunk.now cursor
-            (W.contents out.old.inner) (W.contents out.new.inner)) }
-        ensures not_failed { OnOk result (out.new.failed ≡ false) }
-        ensures output_unchanged { IfErr result
-            (OutputUnchanged out.old out.new self.old.buffered self.new.buffered) }
-        ensures fault_unchanged { self.new.fault ≡ self.old.fault }
+        ensures next { IfOk result (IsNext H.CAPACITY self.new.lines chunk.now cursor) }
+        ensures moves { Moves S.represents S.piece W.contents self.old self.new chunk.now cursor
+            out.old out.new result }
+        ensures step { IsStep self.old self.new out.old out.new result }
     {
         if may_skip_text(chunk, cursor) {
             self.advance_in_bulk(chunk, cursor, out)
@@ -398,19 +386,10 @@ impl<'p, S: Show, H: LineBuffer> Engine<'p, S, H> {
         requires cursor { IsCursor H.CAPACITY self.old.lines chunk.now cursor }
         requires untried { cursor.bulk_tried ≡ false }
         requires some { cursor.pos < cursor.whole_end }
-        ensures cursor { IfOk result (λ next. IsCursor H.CAPACITY self.new.lines chunk.now next) }
-        ensures progress { IfOk result (λ next. (cursor.pos ≤ next.pos) ×
-            (measure chunk.now next < measure chunk.now cursor)) }
-        ensures taken { (s : Session) → IsBufferedIn S.represents S.piece self.old s →
-            IfOk result (Steps S.represents S.piece self.old self.new s chunk.now cursor
-            (W.contents out.old.inner) (W.contents out.new.inner)) }
-        ensures stops { (s : Session) → IsBufferedIn S.represents S.piece self.old s →
-            IfErr result (StopsAt self.old s chunk.now cursor
-            (W.contents out.old.inner) (W.contents out.new.inner)) }
-        ensures not_failed { OnOk result (out.new.failed ≡ false) }
-        ensures output_unchanged { IfErr result
-            (OutputUnchanged out.old out.new self.old.buffered self.new.buffered) }
-        ensures fault_unchanged { self.new.fault ≡ self.old.fault }
+        ensures next { IfOk result (IsNext H.CAPACITY self.new.lines chunk.now cursor) }
+        ensures moves { Moves S.represents S.piece W.contents self.old self.new chunk.now cursor
+            out.old out.new result }
+        ensures step { IsStep self.old self.new out.old out.new result }
     {
         let pending = &chunk[cursor.pending_start..cursor.pos];
         let lines = &chunk[cursor.pos..cursor.whole_end];
@@ -446,19 +425,10 @@ impl<'p, S: Show, H: LineBuffer> Engine<'p, S, H> {
         requires not_failed { out.old.failed ≡ false }
         requires cursor { IsCursor H.CAPACITY self.old.lines chunk.now cursor }
         requires some { cursor.pos < length chunk.now }
-        ensures cursor { IfOk result (λ next. IsCursor H.CAPACITY self.new.lines chunk.now next) }
-        ensures progress { IfOk result (λ next. (cursor.pos ≤ next.pos) ×
-            (measure chunk.now next < measure chunk.now cursor)) }
-        ensures taken { (s : Session) → IsBufferedIn S.represents S.piece self.old s →
-            IfOk result (Steps S.represents S.piece self.old self.new s chunk.now cursor
-            (W.contents out.old.inner) (W.contents out.new.inner)) }
-        ensures stops { (s : Session) → IsBufferedIn S.represents S.piece self.old s →
-            IfErr result (StopsAt self.old s chunk.now cursor
-            (W.contents out.old.inner) (W.contents out.new.inner)) }
-        ensures not_failed { OnOk result (out.new.failed ≡ false) }
-        ensures output_unchanged { IfErr result
-            (OutputUnchanged out.old out.new self.old.buffered self.new.buffered) }
-        ensures fault_unchanged { self.new.fault ≡ self.old.fault }
+        ensures next { IfOk result (IsNext H.CAPACITY self.new.lines chunk.now cursor) }
+        ensures moves { Moves S.represents S.piece W.contents self.old self.new chunk.now cursor
+            out.old out.new result }
+        ensures step { IsStep self.old self.new out.old out.new result }
     {
         let pending = &chunk[cursor.pending_start..cursor.pos];
         let rest = &chunk[cursor.pos..];
@@ -506,19 +476,10 @@ impl<'p, S: Show, H: LineBuffer> Engine<'p, S, H> {
         requires not_failed { out.old.failed ≡ false }
         requires some { 0 < length rest.now }
         requires fits { HasCapacity H.CAPACITY self.old.lines (length rest.now) }
-        ensures progress { IfOk result (λ used. (0 < used) × (used ≤ length rest.now)) }
-        ensures fits { IfOk result (λ used. HasCapacity H.CAPACITY self.new.lines
-            (length rest.now - used)) }
-        ensures taken { (s : Session) → IsBufferedIn S.represents S.piece self.old s →
-            IfOk result (Takes S.represents S.piece self.old self.new s rest.now pending.now
-            (W.contents out.old.inner) (W.contents out.new.inner)) }
-        ensures stops { (s : Session) → IsBufferedIn S.represents S.piece self.old s →
-            IfErr result (StopsIn self.old s rest.now pending.now
-            (W.contents out.old.inner) (W.contents out.new.inner)) }
-        ensures not_failed { OnOk result (out.new.failed ≡ false) }
-        ensures output_unchanged { IfErr result
-            (OutputUnchanged out.old out.new self.old.buffered self.new.buffered) }
-        ensures fault_unchanged { self.new.fault ≡ self.old.fault }
+        ensures part { IfOk result (IsPart H.CAPACITY self.new.lines rest.now) }
+        ensures takes { TakesPart S.represents S.piece W.contents self.old self.new rest.now
+            pending.now out.old out.new result }
+        ensures step { IsStep self.old self.new out.old out.new result }
     {
         let taken = match self.lines.take(rest) {
             Ok(taken) => taken,
@@ -595,10 +556,9 @@ fn print_last_line<S: Show, H: LineBuffer, W: Write>(
 ) -> Result<(), RunFault>
     requires not_failed { out.old.failed ≡ false }
     requires opened { IsOpen lines.old }
-    ensures last { (s : Session) → IsInSession S.represents S.piece
-        (without_fault symbols.now lines.old printer.old output.old) s →
-        PrintsLast S.represents S.piece printer.new s out.new.failed
-        (W.contents out.old.inner) (W.contents out.new.inner) result }
+    ensures last { PrintsRest S.represents S.piece W.contents
+        (without_fault symbols.now lines.old printer.old output.old) printer.new
+        out.old out.new result }
     ensures writer { WriterMatches out.new.failed result }
     ensures limit { lines.new.last_line ≡ lines.old.last_line }
 {

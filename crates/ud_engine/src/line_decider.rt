@@ -1,13 +1,12 @@
 //! Deciding lines, one after another, by a scanner and a machine.
 
-ghost use Rattle.std.specs.Prelude.{◌≡◌, ◌≤◌, ◌+◌, ◌∷◌, [], ◌++◌, ℕ, suc, List, length, take, IfOk};
-ghost use Rattle.std.specs.Prelude.{IfErr, OnOk, false};
-ghost use Rattle.ud_model.specs.text.Lines.{NoNewline, whole_lines, numbered_from};
+ghost use Rattle.std.specs.Prelude.{◌≡◌, ◌≤◌, ◌++◌, [], ℕ, List, length, take, IfOk, IfErr, OnOk};
+ghost use Rattle.std.specs.Prelude.{false};
+ghost use Rattle.ud_model.specs.text.Lines.{NoNewline};
 ghost use Rattle.ud_model.specs.text.Scans.{Reading};
 ghost use Rattle.ud_model.specs.sections.Tree.{Item, Tree, closed, nothing};
-ghost use Rattle.ud_model.specs.sections.Items.{Options, next_item};
-ghost use Rattle.ud_model.specs.sections.Faults.{FaultOf, end_fault};
-ghost use Rattle.ud_cond.specs.symbols.SymbolTable.{TableRepresents};
+ghost use Rattle.ud_model.specs.sections.Items.{Options};
+ghost use Rattle.ud_model.specs.sections.Faults.{end_fault};
 ghost use Rattle.ud_model.specs.declared.limits.TheConstants.{TEXT_LINES};
 ghost use Rattle.ud_text.specs.lines.LinesState.{LinesRepresent};
 ghost use Rattle.ud_model.specs.text.LineViews.{as_line};
@@ -16,11 +15,10 @@ ghost use Rattle.ud_text.specs.lines.Consuming.{CanConsume};
 ghost use Rattle.ud_sections.specs.sections.Limits.{IsWithinLimits};
 ghost use Rattle.ud_sections.specs.sections.StepViews.{HoldsKeyword};
 ghost use Rattle.ud_sections.specs.sections.MachineState.{end_fault_of};
-ghost use Rattle.ud_faults.specs.Faults.{fault_of};
-ghost use Rattle.ud_sections.specs.sections.Transitions.{text_policy_of, text_verdict};
-ghost use Rattle.ud_engine.specs.DecidedLines.{DeciderRepresents, DecidesLine, DecidesBulk};
+ghost use Rattle.ud_sections.specs.sections.Transitions.{text_policy_of};
+ghost use Rattle.ud_engine.specs.DecidedLines.{DeciderRepresents, DecidesNext, DecidesText};
 ghost use Rattle.ud_engine.specs.DecidedLines.{consumed, decider_of};
-ghost use Rattle.ud_engine.specs.NameListing.{ListsLine, ListErr};
+ghost use Rattle.ud_engine.specs.NameListing.{ListsNext};
 ghost use Rattle.ud_engine.specs.FaultEffects.{OutputUnchanged};
 
 use crate::listing::append_names;
@@ -67,12 +65,7 @@ impl LineDecider {
     ) -> Result<Step, SectionFault>
         requires within { IsWithinLimits (as_line line.now) }
         requires one_line { NoNewline line.now.body.now }
-        ensures ok { (o : Options) → (xs : List (Item Reading)) → (t : Tree Reading) →
-            TableRepresents symbols.now o.table → DeciderRepresents o self.old xs t →
-            IfOk result (DecidesLine o self.new xs t (as_line line.now)) }
-        ensures err { (o : Options) → (xs : List (Item Reading)) → (t : Tree Reading) →
-            TableRepresents symbols.now o.table → DeciderRepresents o self.old xs t →
-            IfErr result (λ f. FaultOf xs (next_item o xs t (as_line line.now)) (fault_of f)) }
+        ensures decides { DecidesNext symbols.now self.old self.new (as_line line.now) result }
         ensures cursor { IfOk result (λ s. HoldsKeyword s line.now) }
     {
         if line.body.len() > SHORT_LINE_BYTES {
@@ -90,12 +83,7 @@ impl LineDecider {
     fn decide_long(&mut self, line: &Line<'_>, symbols: &Symbols) -> Result<Step, SectionFault>
         requires within { IsWithinLimits (as_line line.now) }
         requires one_line { NoNewline line.now.body.now }
-        ensures ok { (o : Options) → (xs : List (Item Reading)) → (t : Tree Reading) →
-            TableRepresents symbols.now o.table → DeciderRepresents o self.old xs t →
-            IfOk result (DecidesLine o self.new xs t (as_line line.now)) }
-        ensures err { (o : Options) → (xs : List (Item Reading)) → (t : Tree Reading) →
-            TableRepresents symbols.now o.table → DeciderRepresents o self.old xs t →
-            IfErr result (λ f. FaultOf xs (next_item o xs t (as_line line.now)) (fault_of f)) }
+        ensures decides { DecidesNext symbols.now self.old self.new (as_line line.now) result }
         ensures cursor { IfOk result (λ s. HoldsKeyword s line.now) }
     {
         let mut scanner = Scanner::new();
@@ -124,15 +112,8 @@ impl LineDecider {
         requires within { IsWithinLimits (as_line line.now) }
         requires one_line { NoNewline line.now.body.now }
         requires not_failed { out.old.failed ≡ false }
-        ensures ok { (o : Options) → (xs : List (Item Reading)) → (t : Tree Reading) →
-            TableRepresents symbols.now o.table → DeciderRepresents o self.old xs t →
-            OnOk result (ListsLine o self.new xs t (as_line line.now) lister.old
-            (W.contents out.old.inner) (W.contents out.new.inner)
-            output.old output.new pending.now) }
-        ensures err { (o : Options) → (xs : List (Item Reading)) → (t : Tree Reading) →
-            TableRepresents symbols.now o.table → DeciderRepresents o self.old xs t →
-            IfErr result (ListErr o xs t (as_line line.now) lister.old (W.contents out.old.inner)
-            (W.contents out.new.inner) output.old pending.now) }
+        ensures lists { ListsNext W.contents symbols.now self.old self.new (as_line line.now)
+            lister.old pending.now output.old output.new out.old out.new result }
         ensures not_failed { OnOk result (out.new.failed ≡ false) }
         ensures output_unchanged { IfErr result
             (OutputUnchanged out.old out.new output.old output.new) }
@@ -167,15 +148,8 @@ impl LineDecider {
         requires within { IsWithinLimits (as_line line.now) }
         requires one_line { NoNewline line.now.body.now }
         requires not_failed { out.old.failed ≡ false }
-        ensures ok { (o : Options) → (xs : List (Item Reading)) → (t : Tree Reading) →
-            TableRepresents symbols.now o.table → DeciderRepresents o self.old xs t →
-            OnOk result (ListsLine o self.new xs t (as_line line.now) lister.old
-            (W.contents out.old.inner) (W.contents out.new.inner)
-            output.old output.new pending.now) }
-        ensures err { (o : Options) → (xs : List (Item Reading)) → (t : Tree Reading) →
-            TableRepresents symbols.now o.table → DeciderRepresents o self.old xs t →
-            IfErr result (ListErr o xs t (as_line line.now) lister.old (W.contents out.old.inner)
-            (W.contents out.new.inner) output.old pending.now) }
+        ensures lists { ListsNext W.contents symbols.now self.old self.new (as_line line.now)
+            lister.old pending.now output.old output.new out.old out.new result }
         ensures not_failed { OnOk result (out.new.failed ≡ false) }
         ensures output_unchanged { IfErr result
             (OutputUnchanged out.old out.new output.old output.new) }
@@ -224,10 +198,7 @@ impl LineDecider {
         ensures consumed { lines.new ≡ consumed lines.old (take result bytes.now) }
         ensures represents { (text : List ℕ) → LinesRepresent lines.old text →
             LinesRepresent lines.new (text ++ take result bytes.now) }
-        ensures read { (o : Options) → (xs : List (Item Reading)) → (t : Tree Reading) →
-            DeciderRepresents o self.old xs t →
-            DecidesBulk o self.new xs t (numbered_from (suc lines.old.before)
-            (whole_lines (take result bytes.now))) (text_verdict self.old.machine) }
+        ensures read { DecidesText self.old self.new lines.old (take result bytes.now) }
     {
         let count = self.scanner.skip_text(policy.mode, bytes);
         if count == 0 {
@@ -264,14 +235,8 @@ fn decide_with<const N: usize>(
     requires fits { length line.now.body.now ≤ N }
     requires within { IsWithinLimits (as_line line.now) }
     requires one_line { NoNewline line.now.body.now }
-    ensures ok { (o : Options) → (xs : List (Item Reading)) → (t : Tree Reading) →
-        TableRepresents symbols.now o.table →
-        DeciderRepresents o (decider_of scanner.old machine.old) xs t → IfOk result
-        (DecidesLine o (decider_of scanner.new machine.new) xs t (as_line line.now)) }
-    ensures err { (o : Options) → (xs : List (Item Reading)) → (t : Tree Reading) →
-        TableRepresents symbols.now o.table →
-        DeciderRepresents o (decider_of scanner.old machine.old) xs t →
-        IfErr result (λ f. FaultOf xs (next_item o xs t (as_line line.now)) (fault_of f)) }
+    ensures decides { DecidesNext symbols.now (decider_of scanner.old machine.old)
+        (decider_of scanner.new machine.new) (as_line line.now) result }
     ensures cursor { IfOk result (λ s. HoldsKeyword s line.now) }
 {
     let mode = machine.mode();
@@ -301,16 +266,9 @@ fn list_names_with<const N: usize, W: Write>(
     requires within { IsWithinLimits (as_line line.now) }
     requires one_line { NoNewline line.now.body.now }
     requires not_failed { out.old.failed ≡ false }
-    ensures ok { (o : Options) → (xs : List (Item Reading)) → (t : Tree Reading) →
-        TableRepresents symbols.now o.table →
-        DeciderRepresents o (decider_of scanner.old machine.old) xs t → OnOk result
-        (ListsLine o (decider_of scanner.new machine.new) xs t (as_line line.now) lister.old
-        (W.contents out.old.inner) (W.contents out.new.inner) output.old output.new pending.now) }
-    ensures err { (o : Options) → (xs : List (Item Reading)) → (t : Tree Reading) →
-        TableRepresents symbols.now o.table →
-        DeciderRepresents o (decider_of scanner.old machine.old) xs t →
-        IfErr result (ListErr o xs t (as_line line.now) lister.old (W.contents out.old.inner)
-        (W.contents out.new.inner) output.old pending.now) }
+    ensures lists { ListsNext W.contents symbols.now (decider_of scanner.old machine.old)
+        (decider_of scanner.new machine.new) (as_line line.now) lister.old
+        pending.now output.old output.new out.old out.new result }
     ensures not_failed { OnOk result (out.new.failed ≡ false) }
     ensures output_unchanged { IfErr result
         (OutputUnchanged out.old out.new output.old output.new) }

@@ -4,16 +4,10 @@
 //! the printer leaves unchanged isn't appended: the engine copies it from the chunk, with its
 //! neighbors.
 
-ghost use Rattle.std.specs.Prelude.{◌≡◌, bytes_eq, ◌∷◌, [], ◌++◌, ◌≤◌, List, ℕ, suc, length, take};
-ghost use Rattle.std.specs.Prelude.{IfOk, IfErr, OnOk, OnErr, true, false, is_err};
-ghost use Rattle.ud_model.specs.text.Lines.{NoNewline, text_of, whole_lines, numbered_from};
-ghost use Rattle.ud_model.specs.text.Scans.{Reading};
-ghost use Rattle.ud_model.specs.sections.Tree.{Item, Tree, closed, nothing};
-ghost use Rattle.ud_model.specs.sections.Items.{Options};
-ghost use Rattle.ud_model.specs.sections.Faults.{end_fault};
+ghost use Rattle.std.specs.Prelude.{◌≡◌, bytes_eq, ◌∷◌, [], ◌++◌, ◌≤◌, List, ℕ, length, take, IfOk};
+ghost use Rattle.std.specs.Prelude.{IfErr, OnOk, OnErr, true, false, is_err};
+ghost use Rattle.ud_model.specs.text.Lines.{NoNewline, text_of};
 ghost use Rattle.ud_model.specs.answer.Printing.{Judged};
-ghost use Rattle.ud_model.specs.declared.settings.Listing.TheVariants.{Off};
-ghost use Rattle.ud_cond.specs.symbols.SymbolTable.{TableRepresents};
 ghost use Rattle.ud_model.specs.declared.limits.TheConstants.{TEXT_LINES};
 ghost use Rattle.ud_text.specs.lines.LinesState.{LinesRepresent};
 ghost use Rattle.ud_model.specs.text.LineViews.{as_line};
@@ -23,6 +17,7 @@ ghost use Rattle.ud_sections.specs.sections.Limits.{IsWithinLimits};
 ghost use Rattle.ud_sections.specs.sections.MachineState.{end_fault_of};
 ghost use Rattle.ud_sections.specs.sections.StepViews.{judged_step, HoldsKeyword};
 ghost use Rattle.ud_engine.specs.ProcessedLines.{ShowsLine, IsLeftOf, lister_of, printed_of};
+ghost use Rattle.ud_engine.specs.ProcessedLines.{ShowsNext};
 ghost use Rattle.ud_engine.specs.DecidedLines.{consumed};
 ghost use Rattle.ud_engine.specs.FaultEffects.{OutputUnchanged};
 ghost use Rattle.ud_io.specs.Watched.{AppendsPrefix};
@@ -72,15 +67,12 @@ fn lister_of(listing: Listing) -> Option<Lister>
 }
 
 impl<S: Show> LineProcessor<S> {
-    ghost use Rattle.ud_engine.specs.ProcessedLines.{ProcessorRepresents, PrintsLine, PrintErr};
-    ghost use Rattle.ud_engine.specs.ProcessedLines.{PrintsBulk, differs_in};
+    ghost use Rattle.ud_engine.specs.ProcessedLines.{BeginsLines, PrintsNext, PrintsText};
+    ghost use Rattle.ud_engine.specs.ProcessedLines.{HasEndFault, HasDifference};
 
     /// Returns a processor before the first line, which prints by `printer`.
     pub(crate) fn new(settings: Settings, printer: S) -> LineProcessor<S>
-        ensures { (o : Options) → (piece : List Judged → Judged → List ℕ) → o.settings ≡ settings →
-            (o.settings.listing ≡ Off → S.represents printer []) →
-            ((before : List Judged) → (j : Judged) → S.piece printer before j ≡ piece before j) →
-            ProcessorRepresents S.represents S.piece result o piece [] (closed nothing) }
+        ensures { BeginsLines S.represents S.piece settings printer result }
     {
         LineProcessor {
             decider: LineDecider::new(settings),
@@ -110,20 +102,9 @@ impl<S: Show> LineProcessor<S> {
         requires within { IsWithinLimits (as_line line.now) }
         requires one_line { NoNewline line.now.body.now }
         requires not_failed { out.old.failed ≡ false }
-        ensures ok { (o : Options) → (piece : List Judged → Judged → List ℕ) →
-            (xs : List (Item Reading)) → (t : Tree Reading) →
-            TableRepresents symbols.now o.table →
-            ProcessorRepresents S.represents S.piece self.old o piece xs t →
-            IfOk result (λ put. PrintsLine S.represents S.piece self.new o piece xs t
-            (as_line line.now) put
-            (W.contents out.old.inner) (W.contents out.new.inner)
-            output.old output.new pending.now) }
-        ensures err { (o : Options) → (piece : List Judged → Judged → List ℕ) →
-            (xs : List (Item Reading)) → (t : Tree Reading) →
-            TableRepresents symbols.now o.table →
-            ProcessorRepresents S.represents S.piece self.old o piece xs t →
-            IfErr result (PrintErr o piece xs t (as_line line.now) (W.contents out.old.inner)
-            (W.contents out.new.inner) output.old pending.now) }
+        ensures prints { PrintsNext S.represents S.piece W.contents symbols.now self.old self.new
+            (as_line line.now) pending.now output.old output.new out.old out.new (λ put. put)
+            result }
         ensures not_failed { OnOk result (out.new.failed ≡ false) }
         ensures output_unchanged { IfErr result
             (OutputUnchanged out.old out.new output.old output.new) }
@@ -160,20 +141,9 @@ impl<S: Show> LineProcessor<S> {
         requires within { IsWithinLimits (as_line line.now) }
         requires one_line { NoNewline line.now.body.now }
         requires not_failed { out.old.failed ≡ false }
-        ensures ok { (o : Options) → (piece : List Judged → Judged → List ℕ) →
-            (xs : List (Item Reading)) → (t : Tree Reading) →
-            TableRepresents symbols.now o.table →
-            ProcessorRepresents S.represents S.piece self.old o piece xs t →
-            OnOk result (PrintsLine S.represents S.piece self.new o piece xs t (as_line line.now)
-            true
-            (W.contents out.old.inner) (W.contents out.new.inner)
-            output.old output.new pending.now) }
-        ensures err { (o : Options) → (piece : List Judged → Judged → List ℕ) →
-            (xs : List (Item Reading)) → (t : Tree Reading) →
-            TableRepresents symbols.now o.table →
-            ProcessorRepresents S.represents S.piece self.old o piece xs t →
-            IfErr result (PrintErr o piece xs t (as_line line.now) (W.contents out.old.inner)
-            (W.contents out.new.inner) output.old pending.now) }
+        ensures prints { PrintsNext S.represents S.piece W.contents symbols.now self.old self.new
+            (as_line line.now) pending.now output.old output.new out.old out.new (λ done. true)
+            result }
         ensures not_failed { OnOk result (out.new.failed ≡ false) }
         ensures output_unchanged { IfErr result
             (OutputUnchanged out.old out.new output.old output.new) }
@@ -202,12 +172,8 @@ impl<S: Show> LineProcessor<S> {
         ensures consumed { lines.new ≡ consumed lines.old (take result.count bytes.now) }
         ensures represents { (text : List ℕ) → LinesRepresent lines.old text →
             LinesRepresent lines.new (text ++ take result.count bytes.now) }
-        ensures printed { (o : Options) → (piece : List Judged → Judged → List ℕ) →
-            (xs : List (Item Reading)) → (t : Tree Reading) →
-            ProcessorRepresents S.represents S.piece self.old o piece xs t →
-            PrintsBulk S.represents S.piece self.new o piece xs t
-            (numbered_from (suc lines.old.before) (whole_lines (take result.count bytes.now)))
-            (printed_of result bytes.now) }
+        ensures printed { PrintsText S.represents S.piece self.old self.new lines.old
+            (take result.count bytes.now) (printed_of result bytes.now) }
     {
         let none = SkippedText {
             count: 0,
@@ -243,20 +209,14 @@ impl<S: Show> LineProcessor<S> {
     /// # Errors
     /// Fails if the text ends in a block comment, or else in a section.
     pub(crate) fn finish(&self) -> Result<(), SectionFault>
-        ensures { (o : Options) → (piece : List Judged → Judged → List ℕ) →
-            (xs : List (Item Reading)) → (t : Tree Reading) →
-            ProcessorRepresents S.represents S.piece self.now o piece xs t →
-            end_fault_of result ≡ end_fault xs t }
+        ensures { HasEndFault S.represents S.piece self.now (end_fault_of result) }
     {
         self.decider.finish()
     }
 
     /// Returns whether the output for some line differs from the line; never if names are listed.
     pub(crate) fn differs(&self) -> bool
-        ensures { (o : Options) → (piece : List Judged → Judged → List ℕ) →
-            (xs : List (Item Reading)) → (t : Tree Reading) →
-            ProcessorRepresents S.represents S.piece self.now o piece xs t →
-            result ≡ differs_in o.settings.listing piece xs t }
+        ensures { HasDifference S.represents S.piece self.now result }
     {
         self.differs
     }
@@ -283,13 +243,8 @@ fn append_line<S: Show, W: Write>(
     ensures stays { (before : List Judged) → (j : Judged) →
         S.piece show.new before j ≡ S.piece show.old before j }
     ensures failed { out.new.failed ≡ is_err result }
-    ensures failed_prefix { OnErr result ((before : List Judged) → S.represents show.old before →
-        AppendsPrefix (W.contents out.old.inner) (W.contents out.new.inner) (output.old ++
-        (pending.now ++ S.piece show.old before (judged_step line.now step)))) }
-    ensures shown { IfOk result (λ shown. (before : List Judged) → S.represents show.old before →
-        ShowsLine shown (W.contents out.old.inner) (W.contents out.new.inner) output.old output.new
-        pending.now
-        (S.piece show.old before (judged_step line.now step)) (text_of (as_line line.now))) }
+    ensures shows { ShowsNext S.represents S.piece W.contents show.old (judged_step line.now step)
+        pending.now output.old output.new out.old out.new result }
 {
     match show.line_output(step.verdict) {
         LineOutput::Whole => Ok(false),
@@ -361,13 +316,8 @@ fn append_parts_of<S: Show, W: Write>(
     ensures stays { (before : List Judged) → (j : Judged) →
         S.piece show.new before j ≡ S.piece show.old before j }
     ensures failed { out.new.failed ≡ is_err result }
-    ensures failed_prefix { OnErr result ((before : List Judged) → S.represents show.old before →
-        AppendsPrefix (W.contents out.old.inner) (W.contents out.new.inner) (output.old ++
-        (pending.now ++ S.piece show.old before (judged_step line.now step)))) }
-    ensures shown { IfOk result (λ shown. (before : List Judged) → S.represents show.old before →
-        ShowsLine shown (W.contents out.old.inner) (W.contents out.new.inner) output.old output.new
-        pending.now
-        (S.piece show.old before (judged_step line.now step)) (text_of (as_line line.now))) }
+    ensures shows { ShowsNext S.represents S.piece W.contents show.old (judged_step line.now step)
+        pending.now output.old output.new out.old out.new result }
 {
     let line = Line {
         body: line.body,

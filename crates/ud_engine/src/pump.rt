@@ -7,7 +7,7 @@
 ghost use Rattle.std.specs.Prelude.{◌≡◌, ◌<◌, ℕ, List, Option, true, false, IfSome, IfNone};
 ghost use Rattle.ud_model.specs.sections.Items.{Options};
 ghost use Rattle.ud_cond.specs.symbols.SymbolTable.{TableRepresents};
-ghost use Rattle.ud_engine.specs.Runs.{RepresentsSomeText, InProgress, Finished, RunFinished};
+ghost use Rattle.ud_engine.specs.Runs.{RepresentsSomeText, Finished, FinishesRun, ContinuesRun};
 ghost use Rattle.ud_engine.specs.Runs.{ErrorMatchesStreams};
 ghost use Rattle.ud_model.specs.declared.limits.TheConstants.{LINE_BYTES};
 
@@ -91,11 +91,8 @@ fn run_with_long_buffer<R: Read, W: Write>(
     requires reader { reader.old.failed ≡ false }
     requires out { out.old.failed ≡ false }
     requires begun { RepresentsSomeText short.old }
-    ensures finished { (o : Options) → (read written : Option (List ℕ)) →
-        InProgress short.old o read (R.remaining reader.old.inner) written
-        (W.contents out.old.inner) →
-        RunFinished o read (R.remaining reader.new.inner) written (W.contents out.new.inner)
-        reader.new.failed out.new.failed result }
+    ensures finished { FinishesRun R.remaining W.contents short.old reader.old reader.new
+        out.old out.new result }
     ensures error_matches { ErrorMatchesStreams reader.new.failed out.new.failed result }
 {
     let mut engine: Engine<'_, Printer, LongLineBuffer> = short.take_as_long(Printer::of(
@@ -122,18 +119,12 @@ fn pump<R: Read, W: Write, H: LineBuffer>(
     requires reader { reader.old.failed ≡ false }
     requires out { out.old.failed ≡ false }
     requires begun { RepresentsSomeText engine.old }
-    ensures finished { (o : Options) → (read written : Option (List ℕ)) →
-        InProgress engine.old o read (R.remaining reader.old.inner) written
-        (W.contents out.old.inner) →
-        IfSome result (λ ended. RunFinished o read (R.remaining reader.new.inner) written
-        (W.contents out.new.inner) reader.new.failed out.new.failed ended) }
+    ensures finished { IfSome result (FinishesRun R.remaining W.contents engine.old
+        reader.old reader.new out.old out.new) }
     ensures error_matches { IfSome result
         (λ ended. ErrorMatchesStreams reader.new.failed out.new.failed ended) }
-    ensures goes_on { (o : Options) → (read written : Option (List ℕ)) →
-        InProgress engine.old o read (R.remaining reader.old.inner) written
-        (W.contents out.old.inner) →
-        IfNone result (InProgress engine.new o read (R.remaining reader.new.inner) written
-        (W.contents out.new.inner)) }
+    ensures goes_on { IfNone result (ContinuesRun R.remaining W.contents engine.old engine.new
+        reader.old reader.new out.old out.new) }
     ensures begun { IfNone result (RepresentsSomeText engine.new) }
     ensures not_failed { IfNone result ((reader.new.failed ≡ false) × (out.new.failed ≡ false)) }
     ensures full { IfNone result (H.CAPACITY < LINE_BYTES) }

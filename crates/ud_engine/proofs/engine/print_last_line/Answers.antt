@@ -21,14 +21,14 @@ returns-in-Err-put_line-clause-last g c = λ s fed.
     last_fails g.S.Show.represents g.S.Show.piece s.options s.pieces (without_fault c.args.symbols.now c.args.lines.now c.args.printer.now c.args.output.now) s.text s.printed fed (search rules)
     c.close.new.self c.in-Ok-true.ensures.value.1 (as_line c.line.result) c.line.ensures.value
     g.W.Write.contents c.args.out.now c.put_line.new.out c.args.output.now c.put_line.new.output fed.written c.requires.not_failed c.in-Err-put_line.fault
-    (c.in-Err-put_line.ensures.err s.options s.pieces fed.taken.items fed.taken.tree fed.taken.symbols fed.taken.has) c.in-Err-put_line.ensures.output_unchanged
+    (c.in-Err-put_line.ensures.prints s.options s.pieces fed.taken.items fed.taken.tree fed.taken.symbols fed.taken.has) c.in-Err-put_line.ensures.output_unchanged
 
 pub returns-in_ok-flush_buffer-in-Ok-clause-last : goal.returns-in_ok-flush_buffer-in-Ok-clause-last
 returns-in_ok-flush_buffer-in-Ok-clause-last g c = λ s fed.
     last_printed g.S.Show.represents g.S.Show.piece s.options s.pieces (without_fault c.args.symbols.now c.args.lines.now c.args.printer.now c.args.output.now) s.text s.printed fed (search rules)
     c.close.new.self c.in-Ok-true.ensures.value.1 (as_line c.line.result) c.line.ensures.value
     c.put_line.new.self (g.W.Write.contents c.args.out.now.inner) (g.W.Write.contents c.put_line.new.out.inner) c.put_line.new.output
-    (c.in-Ok.ensures.ok s.options s.pieces fed.taken.items fed.taken.tree fed.taken.symbols fed.taken.has) (g.W.Write.contents c.flush_buffer.new.out.inner)
+    (c.in-Ok.ensures.prints s.options s.pieces fed.taken.items fed.taken.tree fed.taken.symbols fed.taken.has) (g.W.Write.contents c.flush_buffer.new.out.inner)
     (subst (λ x. AppendsAllBut (g.W.Write.contents c.put_line.new.out.inner) (g.W.Write.contents c.flush_buffer.new.out.inner) c.put_line.new.output x)
     c.in_ok-flush_buffer-in-Ok.ensures.all c.in_ok-flush_buffer-in-Ok.ensures.appends)
 
@@ -38,6 +38,6 @@ returns-in_err-flush_buffer-in-Ok-clause-last g c = λ s fed. last_err g.S.Show.
   last_cut g.S.Show.represents g.S.Show.piece s.options s.pieces (without_fault c.args.symbols.now c.args.lines.now c.args.printer.now c.args.output.now) s.text s.printed fed (search rules)
       c.close.new.self c.in-Ok-true.ensures.value.1 (as_line c.line.result) c.line.ensures.value
       c.put_line.new.self (g.W.Write.contents c.args.out.now.inner) (g.W.Write.contents c.put_line.new.out.inner) c.put_line.new.output
-      (c.in-Ok.ensures.ok s.options s.pieces fed.taken.items fed.taken.tree fed.taken.symbols fed.taken.has) (g.W.Write.contents c.flush_buffer.new.out.inner)
+      (c.in-Ok.ensures.prints s.options s.pieces fed.taken.items fed.taken.tree fed.taken.symbols fed.taken.has) (g.W.Write.contents c.flush_buffer.new.out.inner)
       c.in_err-flush_buffer-in-Ok.ensures.appends,
 )

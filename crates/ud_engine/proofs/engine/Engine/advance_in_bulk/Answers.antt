@@ -2,26 +2,26 @@ use Rattle.std.proofs.Common.{rules, refl, sym, ap, subst, ◌++◌, ◌+◌, dr
 use Rattle.ud_engine.specs.Advancing.{Advances, IsCursor, slice_between}
 use Rattle.ud_engine.specs.Feeding.{EngineState, EngineRepresentsBuffered}
 use Rattle.ud_faults.specs.declared.run.RunFault.TheVariants.{Write}
-use Rattle.ud_engine.proofs.ErrLemmas.{err_is}
+use Rattle.ud_engine.proofs.ErrLemmas.{match_err}
 use Rattle.ud_engine.proofs.StepLemmas.{run_refused_by}
-use Rattle.ud_engine.proofs.CursorLemmas.{place_after, passed_kept, passed_dropped}
+use Rattle.ud_engine.proofs.CursorLemmas.{next_after, passed_kept, passed_dropped}
 use Rattle.ud_engine.proofs.engine.Engine.advance_in_bulk.Goals as goal
 
-pub returns-then-skipped-clause-cursor : goal.returns-then-skipped-clause-cursor
-returns-then-skipped-clause-cursor g c =
+pub returns-then-skipped-clause-next : goal.returns-then-skipped-clause-next
+returns-then-skipped-clause-next g c =
     let place = subst (λ (e : EngineState g.row.S.Denot). IsCursor g.H.LineBuffer.CAPACITY e.lines c.args.chunk.now c.args.cursor) (sym c.self.view_is) c.requires.cursor in
     let from = c.requires.cursor.from in
-    place_after g.H.LineBuffer.CAPACITY c.self.inside.lines c.skip_text-skipped.new.lines c.args.chunk.now c.args.cursor place c.requires.some c.skip_text-skipped.result.count
-    c.skip_text-skipped.ensures.bound c.skip_text-skipped.ensures.ends c.skip_text-skipped.ensures.consumed c.args.cursor.pending_start (omega (arith, from))
+    next_after g.H.LineBuffer.CAPACITY c.self.inside.lines c.skip_text-skipped.new.lines c.args.chunk.now c.args.cursor place c.requires.some c.skip_text-skipped.result.count
+    c.skip_text-skipped.ensures.bound c.skip_text-skipped.ensures.ends c.skip_text-skipped.ensures.consumed c.requires.untried c.args.cursor.pending_start (omega (arith, from))
 
-pub returns-clause-cursor : goal.returns-clause-cursor
-returns-clause-cursor g c =
+pub returns-clause-next : goal.returns-clause-next
+returns-clause-next g c =
     let place = subst (λ (e : EngineState g.row.S.Denot). IsCursor g.H.LineBuffer.CAPACITY e.lines c.args.chunk.now c.args.cursor) (sym c.self.view_is) c.requires.cursor in
-    place_after g.H.LineBuffer.CAPACITY c.self.inside.lines c.skip_text-skipped.new.lines c.args.chunk.now c.args.cursor place c.requires.some c.skip_text-skipped.result.count
-    c.skip_text-skipped.ensures.bound c.skip_text-skipped.ensures.ends c.skip_text-skipped.ensures.consumed (c.args.cursor.pos + c.skip_text-skipped.result.count) (omega arith)
+    next_after g.H.LineBuffer.CAPACITY c.self.inside.lines c.skip_text-skipped.new.lines c.args.chunk.now c.args.cursor place c.requires.some c.skip_text-skipped.result.count
+    c.skip_text-skipped.ensures.bound c.skip_text-skipped.ensures.ends c.skip_text-skipped.ensures.consumed c.requires.untried (c.args.cursor.pos + c.skip_text-skipped.result.count) (omega arith)
 
-pub returns-then-skipped-clause-taken : goal.returns-then-skipped-clause-taken
-returns-then-skipped-clause-taken g c = λ s old.
+pub returns-then-skipped-clause-moves : goal.returns-then-skipped-clause-moves
+returns-then-skipped-clause-moves g c = λ s old.
     let h = subst (λ (e : EngineState g.row.S.Denot). EngineRepresentsBuffered g.S.Show.represents g.S.Show.piece e s.options s.pieces s.text s.printed) (sym c.self.view_is) old in
     let place = subst (λ (e : EngineState g.row.S.Denot). IsCursor g.H.LineBuffer.CAPACITY e.lines c.args.chunk.now c.args.cursor) (sym c.self.view_is) c.requires.cursor in
     let out = g.W.Write.contents c.args.out.now.inner in
@@ -34,16 +34,16 @@ returns-then-skipped-clause-taken g c = λ s old.
     (place.ready c.requires.some) c.skip_text-skipped.ensures.bound c.skip_text-skipped.ensures.ends refl c.skip_text-skipped.ensures.consumed (c.skip_text-skipped.ensures.represents s.text h.took)
     (c.skip_text-skipped.ensures.printed s.options s.pieces h.items h.tree h.has) out out c.args.cursor.pending_start c.requires.cursor.from c.if-skipped.true refl)
 
-pub returns-in_err-append-clause-stops : goal.returns-in_err-append-clause-stops
-returns-in_err-append-clause-stops g c = λ s old.
+pub returns-in_err-append-clause-moves : goal.returns-in_err-append-clause-moves
+returns-in_err-append-clause-moves g c = λ s old.
     let h = subst (λ (e : EngineState g.row.S.Denot). EngineRepresentsBuffered g.S.Show.represents g.S.Show.piece e s.options s.pieces s.text s.printed) (sym c.self.view_is) old in
-    err_is _ c.from_residual.result Write c.from_residual.ensures.1
+    match_err _ _ c.from_residual.result Write c.from_residual.ensures.1
     (run_refused_by g.S.Show.represents g.S.Show.piece s.options s.pieces _ s.text s.printed h (g.W.Write.contents c.args.out.now.inner) (g.W.Write.contents c.append.new.out.inner)
     c.args.self.now.buffered (slice_between c.args.chunk.now c.args.cursor.pending_start c.args.cursor.pos) (drop c.args.cursor.pos c.args.chunk.now)
     (ap (λ (e : EngineState g.row.S.Denot). e.buffered) c.self.view_is) c.in_err-append.ensures.appends)
 
-pub returns-clause-taken : goal.returns-clause-taken
-returns-clause-taken g c = λ s old.
+pub returns-clause-moves : goal.returns-clause-moves
+returns-clause-moves g c = λ s old.
     let h = subst (λ (e : EngineState g.row.S.Denot). EngineRepresentsBuffered g.S.Show.represents g.S.Show.piece e s.options s.pieces s.text s.printed) (sym c.self.view_is) old in
     let place = subst (λ (e : EngineState g.row.S.Denot). IsCursor g.H.LineBuffer.CAPACITY e.lines c.args.chunk.now c.args.cursor) (sym c.self.view_is) c.requires.cursor in
     let out = g.W.Write.contents c.args.out.now.inner in

@@ -5,11 +5,11 @@ use Rattle.ud_model.specs.text.LineViews.{as_line}
 use Rattle.ud_engine.specs.Advancing.{Advances, StepFails, IsCursor, slice_between}
 use Rattle.ud_engine.specs.Feeding.{EngineState, EngineRepresentsBuffered}
 use Rattle.ud_engine.proofs.StepLemmas.{slice_from, lent_put, lent_kept, lent_refused, held_taken}
-use Rattle.ud_engine.proofs.CursorLemmas.{place_after_line}
+use Rattle.ud_engine.proofs.CursorLemmas.{next_after_line}
 use Rattle.ud_engine.proofs.engine.Engine.advance_line.Goals as goal
 
-pub returns-in-Err-clause-stops : goal.returns-in-Err-clause-stops
-returns-in-Err-clause-stops g c = λ s old.
+pub returns-in-Err-clause-moves : goal.returns-in-Err-clause-moves
+returns-in-Err-clause-moves g c = λ s old.
     let h = subst (λ (e : EngineState g.row.S.Denot). EngineRepresentsBuffered g.S.Show.represents g.S.Show.piece e s.options s.pieces s.text s.printed) (sym c.self.view_is) old in
     let k = subst (λ (l : LinesState). EngineRepresentsBuffered g.S.Show.represents g.S.Show.piece
     (record { symbols = c.self.inside.plan.now.symbols; lines = l; printer = c.self.inside.printer; buffered = c.self.inside.output; fault = c.self.inside.fault }) s.options s.pieces s.text s.printed)
@@ -19,10 +19,10 @@ returns-in-Err-clause-stops g c = λ s old.
     (subst (λ (e : EngineState g.row.S.Denot). StepFails s.options s.pieces (s.text ++ take (length c.args.chunk.now - c.args.cursor.pos) (drop c.args.cursor.pos c.args.chunk.now)) s.printed
     (g.W.Write.contents c.args.out.now.inner) (g.W.Write.contents c.push_line_part.new.out.inner)
     (e.buffered ++ slice_between c.args.chunk.now c.args.cursor.pending_start c.args.cursor.pos) c.in-Err.fault) c.self.view_is
-    (c.in-Err.ensures.stops s k))
+    (c.in-Err.ensures.takes s k))
 
-pub returns-in-Ok-clause-taken : goal.returns-in-Ok-clause-taken
-returns-in-Ok-clause-taken g c = λ s old.
+pub returns-in-Ok-clause-moves : goal.returns-in-Ok-clause-moves
+returns-in-Ok-clause-moves g c = λ s old.
     let h = subst (λ (e : EngineState g.row.S.Denot). EngineRepresentsBuffered g.S.Show.represents g.S.Show.piece e s.options s.pieces s.text s.printed) (sym c.self.view_is) old in
     let k = subst (λ (l : LinesState). EngineRepresentsBuffered g.S.Show.represents g.S.Show.piece
     (record { symbols = c.self.inside.plan.now.symbols; lines = l; printer = c.self.inside.printer; buffered = c.self.inside.output; fault = c.self.inside.fault }) s.options s.pieces s.text s.printed)
@@ -39,10 +39,10 @@ returns-in-Ok-clause-taken g c = λ s old.
     (take c.in-Ok.used (take (length c.args.chunk.now - c.args.cursor.pos) (drop c.args.cursor.pos c.args.chunk.now)))
     (g.W.Write.contents c.args.out.now.inner) (g.W.Write.contents c.push_line_part.new.out.inner)
     (e.buffered ++ slice_between c.args.chunk.now c.args.cursor.pending_start c.args.cursor.pos) c.push_line_part.new.self.buffered) c.self.view_is
-    (c.in-Ok.ensures.taken s k))))
+    (c.in-Ok.ensures.takes s k))))
 
-pub returns-in-Err-print-clause-stops : goal.returns-in-Err-print-clause-stops
-returns-in-Err-print-clause-stops g c = λ s old.
+pub returns-in-Err-print-clause-moves : goal.returns-in-Err-print-clause-moves
+returns-in-Err-print-clause-moves g c = λ s old.
     let h = subst (λ (e : EngineState g.row.S.Denot). EngineRepresentsBuffered g.S.Show.represents g.S.Show.piece e s.options s.pieces s.text s.printed) (sym c.self.view_is) old in
     let len = length-append c.in-Some.line.body.now c.in-Some.line.ending.now in
     lent_refused g.S.Show.represents g.S.Show.piece s.options s.pieces _ s.text s.printed h (g.W.Write.contents c.args.out.now.inner) (g.W.Write.contents c.print.new.out.inner)
@@ -53,10 +53,10 @@ returns-in-Err-print-clause-stops g c = λ s old.
     (record { symbols = c.self.inside.plan.now.symbols; lines = c.whole_in.new.self; printer = c.print.new.self; buffered = c.print.new.output; fault = c.self.inside.fault })
     (as_line c.in-Some.line) c.in-Some.ensures.borrowed c.in-Some.ensures.bytes (omega (arith, len)) c.in-Some.ensures.value c.in-Some.ensures.counted refl
     (c.in-Some.ensures.represents s.text h.took) c.in-Err-print.fault
-    (c.in-Err-print.ensures.err s.options s.pieces h.items h.tree (subst (λ x. TableRepresents x s.options.table) (sym c.symbols.ensures) h.symbols) h.has)
+    (c.in-Err-print.ensures.prints s.options s.pieces h.items h.tree (subst (λ x. TableRepresents x s.options.table) (sym c.symbols.ensures) h.symbols) h.has)
 
-pub returns-then-put-clause-taken : goal.returns-then-put-clause-taken
-returns-then-put-clause-taken g c = λ s old.
+pub returns-then-put-clause-moves : goal.returns-then-put-clause-moves
+returns-then-put-clause-moves g c = λ s old.
     let h = subst (λ (e : EngineState g.row.S.Denot). EngineRepresentsBuffered g.S.Show.represents g.S.Show.piece e s.options s.pieces s.text s.printed) (sym c.self.view_is) old in
     let len = length-append c.in-Some.line.body.now c.in-Some.line.ending.now in
     lent_put g.S.Show.represents g.S.Show.piece s.options s.pieces _ s.text s.printed h (g.W.Write.contents c.args.out.now.inner) (g.W.Write.contents c.print.new.out.inner)
@@ -67,10 +67,10 @@ returns-then-put-clause-taken g c = λ s old.
     _ (as_line c.in-Some.line) c.in-Some.ensures.borrowed c.in-Some.ensures.bytes (omega (arith, len)) c.in-Some.ensures.value c.in-Some.ensures.counted refl
     (c.in-Some.ensures.represents s.text h.took)
     c.in-Ok-print.put (search rules)
-    (c.in-Ok-print.ensures.ok s.options s.pieces h.items h.tree (subst (λ x. TableRepresents x s.options.table) (sym c.symbols.ensures) h.symbols) h.has)
+    (c.in-Ok-print.ensures.prints s.options s.pieces h.items h.tree (subst (λ x. TableRepresents x s.options.table) (sym c.symbols.ensures) h.symbols) h.has)
 
-pub returns-clause-taken : goal.returns-clause-taken
-returns-clause-taken g c = λ s old.
+pub returns-clause-moves : goal.returns-clause-moves
+returns-clause-moves g c = λ s old.
     let h = subst (λ (e : EngineState g.row.S.Denot). EngineRepresentsBuffered g.S.Show.represents g.S.Show.piece e s.options s.pieces s.text s.printed) (sym c.self.view_is) old in
     let len = length-append c.in-Some.line.body.now c.in-Some.line.ending.now in
     lent_kept g.S.Show.represents g.S.Show.piece s.options s.pieces _ s.text s.printed h (g.W.Write.contents c.args.out.now.inner) (g.W.Write.contents c.print.new.out.inner)
@@ -81,25 +81,25 @@ returns-clause-taken g c = λ s old.
     _ (as_line c.in-Some.line) c.in-Some.ensures.borrowed c.in-Some.ensures.bytes (omega (arith, len)) c.in-Some.ensures.value c.in-Some.ensures.counted refl
     (c.in-Some.ensures.represents s.text h.took)
     c.in-Ok-print.put (search rules)
-    (c.in-Ok-print.ensures.ok s.options s.pieces h.items h.tree (subst (λ x. TableRepresents x s.options.table) (sym c.symbols.ensures) h.symbols) h.has)
+    (c.in-Ok-print.ensures.prints s.options s.pieces h.items h.tree (subst (λ x. TableRepresents x s.options.table) (sym c.symbols.ensures) h.symbols) h.has)
 
-pub returns-then-put-clause-cursor : goal.returns-then-put-clause-cursor
-returns-then-put-clause-cursor g c =
+pub returns-then-put-clause-next : goal.returns-then-put-clause-next
+returns-then-put-clause-next g c =
     let place = subst (λ (e : EngineState g.row.S.Denot). IsCursor g.H.LineBuffer.CAPACITY e.lines c.args.chunk.now c.args.cursor) (sym c.self.view_is) c.requires.cursor in
     let len = length-append c.in-Some.line.body.now c.in-Some.line.ending.now in
-    place_after_line g.H.LineBuffer.CAPACITY c.self.inside.lines c.whole_in.new.self c.args.chunk.now
-    (take (length c.args.chunk.now - c.args.cursor.pos) (drop c.args.cursor.pos c.args.chunk.now)) c.args.cursor (slice_from c.args.chunk.now c.args.cursor.pos) place
+    next_after_line g.H.LineBuffer.CAPACITY c.self.inside.lines c.whole_in.new.self c.args.chunk.now
+    (take (length c.args.chunk.now - c.args.cursor.pos) (drop c.args.cursor.pos c.args.chunk.now)) c.args.cursor (slice_from c.args.chunk.now c.args.cursor.pos) c.requires.some place
     (as_line c.in-Some.line) c.in-Some.ensures.borrowed
     (c.args.cursor.pos + (length c.in-Some.line.body.now + length c.in-Some.line.ending.now)) (omega (arith, len)) c.in-Some.ensures.counted
     (c.args.cursor.pos + (length c.in-Some.line.body.now + length c.in-Some.line.ending.now)) (omega arith)
 
-pub returns-clause-cursor : goal.returns-clause-cursor
-returns-clause-cursor g c =
+pub returns-clause-next : goal.returns-clause-next
+returns-clause-next g c =
     let place = subst (λ (e : EngineState g.row.S.Denot). IsCursor g.H.LineBuffer.CAPACITY e.lines c.args.chunk.now c.args.cursor) (sym c.self.view_is) c.requires.cursor in
     let len = length-append c.in-Some.line.body.now c.in-Some.line.ending.now in
     let from = c.requires.cursor.from in
-    place_after_line g.H.LineBuffer.CAPACITY c.self.inside.lines c.whole_in.new.self c.args.chunk.now
-    (take (length c.args.chunk.now - c.args.cursor.pos) (drop c.args.cursor.pos c.args.chunk.now)) c.args.cursor (slice_from c.args.chunk.now c.args.cursor.pos) place
+    next_after_line g.H.LineBuffer.CAPACITY c.self.inside.lines c.whole_in.new.self c.args.chunk.now
+    (take (length c.args.chunk.now - c.args.cursor.pos) (drop c.args.cursor.pos c.args.chunk.now)) c.args.cursor (slice_from c.args.chunk.now c.args.cursor.pos) c.requires.some place
     (as_line c.in-Some.line) c.in-Some.ensures.borrowed
     (c.args.cursor.pos + (length c.in-Some.line.body.now + length c.in-Some.line.ending.now)) (omega (arith, len)) c.in-Some.ensures.counted
     c.args.cursor.pending_start (omega (arith, from))

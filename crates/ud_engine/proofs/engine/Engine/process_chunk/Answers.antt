@@ -23,14 +23,14 @@ loop-cursor-init g c = record {
 pub loop-cursor-preserved : goal.loop-cursor-preserved
 loop-cursor-preserved g c = record {
   not_failed = search rules;
-  place = c.in-Ok.ensures.cursor;
-  fault = c.in-Ok.ensures.fault_unchanged ∙ c.loop-cursor.invariant.fault;
+  place = c.in-Ok.ensures.next.cursor;
+  fault = c.in-Ok.ensures.step.fault_unchanged ∙ c.loop-cursor.invariant.fault;
   taken = λ s h.
       let k = c.loop-cursor.invariant.taken s h in
       feed_goes_on g.S.Show.represents g.S.Show.piece s.options s.pieces s.text s.printed c.loop-cursor.self c.advance.new.self
       (g.W.Write.contents c.args.out.now.inner) (g.W.Write.contents c.loop-cursor.out.inner) (g.W.Write.contents c.advance.new.out.inner)
-      c.args.chunk.now c.loop-cursor.cursor.pos c.in-Ok.next.pos _ _ (let f = c.in-Ok.ensures.progress.0 in omega (arith, f)) k
-      (c.in-Ok.ensures.taken (longer s (take c.loop-cursor.cursor.pos c.args.chunk.now) k.more) k.taken);
+      c.args.chunk.now c.loop-cursor.cursor.pos c.in-Ok.next.pos _ _ (let f = c.in-Ok.ensures.next.forward in omega (arith, f)) k
+      (c.in-Ok.ensures.moves (longer s (take c.loop-cursor.cursor.pos c.args.chunk.now) k.more) k.taken);
 }
 
 pub returns-in-Err-clause-feeds : goal.returns-in-Err-clause-feeds
@@ -41,7 +41,7 @@ returns-in-Err-clause-feeds g c = λ s h.
     g.W.Write.contents c.loop-cursor.out c.advance.new.out c.loop-cursor.self.buffered c.advance.new.self.buffered
     (slice_between c.args.chunk.now c.loop-cursor.cursor.pending_start c.loop-cursor.cursor.pos) refl refl (g.W.Write.contents c.flush_and_fail.new.out.inner) c.flush_and_fail.new.out.failed
     c.in-Err.fault c.flush_and_fail.result
-    (c.in-Err.ensures.stops (longer s (take c.loop-cursor.cursor.pos c.args.chunk.now) k.more) k.taken) c.in-Err.ensures.output_unchanged c.flush_and_fail.ensures.written
+    (c.in-Err.ensures.moves (longer s (take c.loop-cursor.cursor.pos c.args.chunk.now) k.more) k.taken) c.in-Err.ensures.step.output_unchanged c.flush_and_fail.ensures.written
 
 pub returns-clause-feeds : goal.returns-clause-feeds
 returns-clause-feeds g c = λ s h.
