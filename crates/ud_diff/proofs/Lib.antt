@@ -1,0 +1,4 @@
+mod LineLemmas
+mod ScriptLemmas
+mod HunkLemmas
+mod PatchLemmas

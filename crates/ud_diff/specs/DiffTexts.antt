@@ -1,0 +1,67 @@
+-- DiffTexts: the printed form of a unified diff (POSIX XCU, diff -u).
+--
+--   range_text before count   where so many lines begin, and their number
+--   signed_text l             a line after its sign
+--   hunk_text h               a hunk: its ranges and its lines
+--   diff_text path hunks      the names of the file, and the hunks
+--
+-- Example: the range of two lines after one other is `2,2`, that of one line after it `2`, and that
+-- of no line after it `1,0`.
+use Rattle.std.specs.Prelude.{ℕ, ◌+◌, ◌==◌, nat_eq, List, [], ◌∷◌, ◌++◌, length, codes, decimal}
+use Rattle.std.specs.Prelude.{if◌then◌else◌}
+use Rattle.std.specs.List.{ends_with, flat_map, list_any}
+use Rattle.ud_model.specs.text.Bytes.{newline}
+use Rattle.ud_diff.specs.declared.line.Sign.{Sign}
+use Rattle.ud_diff.specs.declared.line.Sign.TheVariants.{Kept, Removed, Added}
+use Rattle.ud_diff.specs.Hunks.{SignedLine, Hunk, old_lines, new_lines}
+
+-- `range_text before count`: the number of the first of `count` lines that come after `before`
+-- others, or of the line before if there are none. Then a comma and the count, unless it is 1.
+unfoldable pub range_text : ℕ → ℕ → List ℕ
+range_text before count = decimal (if count == 0 then before else before + 1) ++
+    (if count == 1 then [] else 44 ∷ decimal count)
+
+-- `sign_byte sign`: a space for a kept line, `-` for a removed one, `+` for an added one.
+abbrev pub sign_byte : Sign → ℕ
+sign_byte Kept = 32
+sign_byte Removed = 45
+sign_byte Added = 43
+
+-- `no_newline_text`: what follows a line without a newline.
+abbrev pub no_newline_text : List ℕ
+no_newline_text = newline ∷ 92 ∷ codes " No newline at end of file" ++ newline ∷ []
+
+-- `ended_text bytes`: a line with its newline. If it has none, a line follows that says so.
+unfoldable pub ended_text : List ℕ → List ℕ
+ended_text bytes = if ends_with nat_eq bytes (newline ∷ []) then bytes else bytes ++ no_newline_text
+
+-- `signed_text l`: the line `l` after its sign.
+abbrev pub signed_text : SignedLine → List ℕ
+signed_text l = sign_byte l.sign ∷ ended_text l.bytes
+
+-- `ranges_text m old n new`: the first line of a hunk: where its `old` lines of the old text begin,
+-- after `m` others, and its `new` lines of the new text, after `n` others.
+unfoldable pub ranges_text : ℕ → ℕ → ℕ → ℕ → List ℕ
+ranges_text m old n new =
+    codes "@@ -" ++ (range_text m old ++ (codes " +" ++ (range_text n new ++ (codes " @@" ++ newline ∷ []))))
+
+-- `hunk_text h`: the hunk `h`: its ranges, and then its lines.
+abbrev pub hunk_text : Hunk → List ℕ
+hunk_text h = ranges_text h.old_before (length (old_lines h.lines)) h.new_before
+    (length (new_lines h.lines)) ++ flat_map signed_text h.lines
+
+-- `tab_after path`: a tab, if the name of a file has a space, since else it would end there.
+abbrev pub tab_after : List ℕ → List ℕ
+tab_after path = if list_any (λ b. b == 32) path then 9 ∷ [] else []
+
+-- `name_text sign path`: the line that names a file, after its sign.
+unfoldable pub name_text : List ℕ → List ℕ → List ℕ
+name_text sign path = sign ++ (path ++ (tab_after path ++ newline ∷ []))
+
+-- `names_text path`: the lines that name the old file and the new one.
+abbrev pub names_text : List ℕ → List ℕ
+names_text path = name_text (codes "--- ") path ++ name_text (codes "+++ ") path
+
+-- `diff_text path hunks`: the names of the file, and the hunks.
+abbrev pub diff_text : List ℕ → List Hunk → List ℕ
+diff_text path hunks = names_text path ++ flat_map hunk_text hunks

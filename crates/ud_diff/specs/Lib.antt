@@ -1,0 +1,4 @@
+pub mod Hunks
+pub mod Patching
+pub mod DiffTexts
+pub mod Scripts

@@ -1,0 +1,59 @@
+-- Patching: what hunks make of the lines of a text (POSIX XCU, patch).
+--
+--   rest_after wanted lines        the lines after `wanted`, if the lines begin with them
+--   patched_from done hunks lines  the new lines, if `done` lines come before these old ones
+--   patched hunks lines            the new lines of a whole text
+--   Turns hunks old new            the hunks turn all of `old` into all of `new`
+--   IsDiff path old new bytes      `bytes` are a diff that turns the text `old` into `new`, and back
+--
+-- Example: the hunk before which one line comes, and which removes the line `b` and adds `c`, makes
+-- the lines `a`, `c` of the lines `a`, `b`. Of `a`, `d` it makes nothing.
+use Rattle.std.specs.Prelude.{◌≡◌, ℕ, ◌+◌, ◌-◌, List, [], ◌∷◌, ◌++◌, length, take, drop, map, ◌&&◌}
+use Rattle.std.specs.Prelude.{Option, Some, None, option_and_then, option_map, nat_le, bytes_eq}
+use Rattle.std.specs.Prelude.{if◌then◌else◌, Bool}
+use Rattle.ud_model.specs.text.Lines.{texts_of}
+use Rattle.ud_diff.specs.Hunks.{Hunk, old_lines, new_lines, turned}
+use Rattle.ud_diff.specs.DiffTexts.{diff_text}
+
+-- `rest_after wanted lines`: the lines after `wanted`; none if the lines don't begin with them.
+abbrev pub rest_after : List (List ℕ) → List (List ℕ) → Option (List (List ℕ))
+rest_after [] lines = Some lines
+rest_after (w ∷ ws) [] = None
+rest_after (w ∷ ws) (l ∷ ls) = if bytes_eq w l then rest_after ws ls else None
+
+-- `is_within done h lines`: the hunk `h` begins at one of these old lines, before which `done`
+-- others come, or at their end.
+abbrev pub is_within : ℕ → Hunk → List (List ℕ) → Bool
+is_within done h lines = nat_le done h.old_before && nat_le (h.old_before - done) (length lines)
+
+-- `patched_from done hunks lines`: what the hunks make of the old lines `lines`, before which
+-- `done` others come. Each hunk must begin among them, and its old lines must be there.
+abbrev pub patched_from : ℕ → List Hunk → List (List ℕ) → Option (List (List ℕ))
+patched_from done [] lines = Some lines
+patched_from done (h ∷ hunks) lines =
+    if is_within done h lines then option_and_then
+    (λ rest. option_map (λ news. take (h.old_before - done) lines ++ (new_lines h.lines ++ news))
+    (patched_from (h.old_before + length (old_lines h.lines)) hunks rest))
+    (rest_after (old_lines h.lines) (drop (h.old_before - done) lines))
+    else None
+
+-- `patched hunks lines`: what the hunks make of the lines of a text; none if they don't fit them.
+abbrev pub patched : List Hunk → List (List ℕ) → Option (List (List ℕ))
+patched hunks lines = patched_from 0 hunks lines
+
+-- `Turns hunks old new`: the hunks turn the lines `old` into `new`. Where no hunk is, lines stay.
+pub data Turns : List Hunk → List (List ℕ) → List (List ℕ) → Type 0 where
+  nothing : Turns [] [] []
+  stay : (hunks : List Hunk) (old new : List (List ℕ)) (ls : List (List ℕ)) → Turns hunks old new →
+      Turns hunks (old ++ ls) (new ++ ls)
+  change : (hunks : List Hunk) (old new : List (List ℕ)) (h : Hunk) → Turns hunks old new →
+      h.old_before ≡ length old → h.new_before ≡ length new →
+      Turns (hunks ++ h ∷ []) (old ++ old_lines h.lines) (new ++ new_lines h.lines)
+
+-- `IsDiff path old new bytes`: `bytes` are the printed form of hunks for the file `path`. Applied
+-- to the text `old` they give `new`, and turned round and applied to `new` they give `old`.
+pub record IsDiff (path old new bytes : List ℕ) : Type 0 where
+  pub hunks : List Hunk
+  pub printed : bytes ≡ diff_text path hunks
+  pub applied : patched hunks (texts_of old) ≡ Some (texts_of new)
+  pub reversed : patched (map turned hunks) (texts_of new) ≡ Some (texts_of old)

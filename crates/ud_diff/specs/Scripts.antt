@@ -1,0 +1,66 @@
+-- Scripts: the lines of two texts with their signs, as far as the texts are read.
+--
+--   signed line             a line of the program, as a signed one
+--   signed_lines lines      several of them
+--   Extends s t             the script `t` has more of the same two texts than `s`
+--   IsScript old new lines  `lines` are all lines of the two texts
+--   hunk_of m n lines       the hunk of these lines
+--   AppendsHunks lines old new   hunks that turn the old lines into the new ones are appended
+use Rattle.std.specs.Prelude.{◌≡◌, ℕ, ◌-◌, ◌<◌, ◌≤◌, List, [], ◌∷◌, ◌++◌, map, take, drop, length}
+use Rattle.std.specs.Prelude.{false}
+use Rattle.ud_model.specs.text.Lines.{texts_of}
+use Rattle.ud_diff.specs.declared.line.DiffLine.{DiffLine}
+use Rattle.ud_diff.specs.declared.script.Script.{Script}
+use Rattle.std.specs.List.{flat_map}
+use Rattle.ud_diff.specs.Hunks.{SignedLine, Hunk, old_lines, new_lines, is_change}
+use Rattle.ud_diff.specs.DiffTexts.{hunk_text}
+use Rattle.ud_diff.specs.Patching.{Turns}
+
+-- `signed line`: the line with its sign and its bytes.
+abbrev pub signed : DiffLine → SignedLine
+signed line = record { sign = line.sign; bytes = line.bytes.now }
+
+-- `signed_lines lines`: the lines with their signs and their bytes.
+abbrev pub signed_lines : List DiffLine → List SignedLine
+signed_lines lines = map signed lines
+
+-- `Extends s t`: `t` is `s` after some lines were taken from the rests of the two texts.
+pub record Extends (s t : Script) : Type 0 where
+  pub taken : List DiffLine
+  pub lines : t.lines.items ≡ s.lines.items ++ taken
+  pub old : texts_of s.old_rest.now ≡ old_lines (signed_lines taken) ++ texts_of t.old_rest.now
+  pub new : texts_of s.new_rest.now ≡ new_lines (signed_lines taken) ++ texts_of t.new_rest.now
+
+-- `IsScript old new lines`: the old ones of the lines are those of the text `old`, and the new ones
+-- those of `new`.
+pub record IsScript (old new : List ℕ) (lines : List SignedLine) : Type 0 where
+  pub old_are : old_lines lines ≡ texts_of old
+  pub new_are : new_lines lines ≡ texts_of new
+
+-- `hunk_of old_before new_before lines`: the hunk of these lines.
+abbrev pub hunk_of : ℕ → ℕ → List DiffLine → Hunk
+hunk_of old_before new_before lines = record {
+  old_before = old_before;
+  new_before = new_before;
+  lines = signed_lines lines;
+}
+
+-- `AppendsHunks lines old new`: the printed form of hunks is appended to the bytes `old`, which are
+-- then `new`. The hunks turn the old ones of the lines into the new ones.
+pub record AppendsHunks (lines : List SignedLine) (old new : List ℕ) : Type 0 where
+  pub hunks : List Hunk
+  pub printed : new ≡ old ++ flat_map hunk_text hunks
+  pub turns : Turns hunks (old_lines lines) (new_lines lines)
+
+-- `AreKept lines`: each of the lines is in both texts.
+abbrev pub AreKept : List DiffLine → Type 0
+AreKept [] = Unit {0}
+AreKept (l ∷ ls) = (is_change l.sign ≡ false) × AreKept ls
+
+-- `IsNextHunk script from start end`: in the script, the lines from the position `from` up to
+-- `start` are kept ones, and some lines are from there up to `end`.
+pub record IsNextHunk (script : List DiffLine) (from start end : ℕ) : Type 0 where
+  pub after : from ≤ start
+  pub some : start < end
+  pub within : end ≤ length script
+  pub kept : AreKept (take (start - from) (drop from script))

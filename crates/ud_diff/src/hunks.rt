@@ -1,0 +1,122 @@
+//! The hunks of a script: its changes, with the lines around them.
+
+ghost use Rattle.std.specs.Prelude.{◌≡◌, ◌+◌, ◌<◌, ◌≤◌, ◌^◌, ◌++◌, OnOk, length, position, drop};
+ghost use Rattle.std.specs.Prelude.{MatchOption, IfSome};
+ghost use Rattle.std.specs.List.{count_by, flat_map};
+ghost use Rattle.ud_diff.specs.Hunks.{is_old, is_new, is_change};
+ghost use Rattle.ud_diff.specs.DiffTexts.{signed_text, hunk_text};
+ghost use Rattle.ud_diff.specs.Scripts.{signed_lines, hunk_of, AppendsHunks};
+ghost use Rattle.ud_diff.specs.Scripts.{AreKept, IsNextHunk};
+
+use crate::line::DiffLine;
+use crate::print::{append_line, append_ranges};
+use std::alloc::AllocError;
+
+/// The number of kept lines that are shown around a change.
+const CONTEXT: usize = 3;
+
+/// Returns how many of the lines are in the old text.
+fn count_old(lines: &[DiffLine<'_>]) -> usize
+    ensures { result ≡ count_by (λ l. is_old l.sign) lines.now }
+{
+    lines.iter().filter(|line| line.is_old()).count()
+}
+
+/// Returns how many of the lines are in the new text.
+fn count_new(lines: &[DiffLine<'_>]) -> usize
+    ensures { result ≡ count_by (λ l. is_new l.sign) lines.now }
+{
+    lines.iter().filter(|line| line.is_new()).count()
+}
+
+/// Returns the position of the first line that is in one text alone.
+fn first_change(lines: &[DiffLine<'_>]) -> Option<usize>
+    ensures { result ≡ position (λ l. is_change l.sign) lines.now }
+{
+    lines.iter().position(|line| line.is_change())
+}
+
+/// Returns how many lines a hunk has that begins here. It ends with the context after the last
+/// change before more kept lines than two contexts have.
+fn hunk_len(lines: &[DiffLine<'_>]) -> usize
+    requires { 0 < length lines.now }
+    ensures some { 0 < result }
+    ensures within { result ≤ length lines.now }
+{
+    let mut last = 0usize;
+    for (at, line) in lines.iter().enumerate() {
+        if line.is_change() {
+            last = at + 1;
+        } else if last > 0 && at - last >= 2 * CONTEXT {
+            break;
+        }
+    }
+    lines.len().min(last.saturating_add(CONTEXT))
+}
+
+/// Returns where the next hunk begins and ends, from this position on; `None` if no change is left.
+fn next_hunk(script: &[DiffLine<'_>], from: usize) -> Option<(usize, usize)>
+    requires { from ≤ length script.now }
+    ensures next { MatchOption result (AreKept (drop from script.now))
+        (λ range. IsNextHunk script.now from range.0 range.1) }
+    ensures fits { IfSome result (λ range. range.1 < 2 ^ 64) }
+{
+    let rest = &script[from..];
+    let Some(first) = first_change(rest) else {
+        return None;
+    };
+    let skipped = first.saturating_sub(CONTEXT);
+    let len = hunk_len(&rest[skipped..]);
+    Some((from + skipped, from + skipped + len))
+}
+
+/// Appends the lines of a hunk.
+fn append_lines(out: &mut Vec<u8>, lines: &[DiffLine<'_>]) -> Result<(), AllocError>
+    ensures { OnOk result (out.new.items ≡
+        out.old.items ++ flat_map signed_text (signed_lines lines.now)) }
+{
+    for line in lines {
+        append_line(out, line)?;
+    }
+    Ok(())
+}
+
+/// Appends a hunk, before which so many lines come in the two texts.
+fn append_hunk(
+    out: &mut Vec<u8>,
+    old_before: usize,
+    new_before: usize,
+    lines: &[DiffLine<'_>],
+) -> Result<(), AllocError>
+    requires old { old_before + length lines.now < 2 ^ 64 }
+    requires new { new_before + length lines.now < 2 ^ 64 }
+    ensures { OnOk result (out.new.items ≡ out.old.items ++
+        hunk_text (hunk_of old_before new_before lines.now)) }
+{
+    append_ranges(
+        out,
+        old_before,
+        count_old(lines),
+        new_before,
+        count_new(lines),
+    )?;
+    append_lines(out, lines)?;
+    Ok(())
+}
+
+/// Appends the hunks of a script.
+pub(crate) fn append_hunks(out: &mut Vec<u8>, script: &[DiffLine<'_>]) -> Result<(), AllocError>
+    ensures { OnOk result (AppendsHunks (signed_lines script.now) out.old.items out.new.items) }
+{
+    let (mut at, mut old_before, mut new_before) = (0usize, 0usize, 0usize);
+    while let Some((start, end)) = next_hunk(script, at) {
+        old_before += start - at;
+        new_before += start - at;
+        let hunk = &script[start..end];
+        append_hunk(out, old_before, new_before, hunk)?;
+        old_before += count_old(hunk);
+        new_before += count_new(hunk);
+        at = end;
+    }
+    Ok(())
+}

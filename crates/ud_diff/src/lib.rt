@@ -1,0 +1,16 @@
+//! A unified diff (POSIX XCU, diff -u) of a text and the output for it.
+//!
+//! `unified_diff` makes it from both texts. Marks say which lines stay; were they wrong, the diff
+//! would have more changes, and still turn one text into the other. `specs/Hunks.antt` and
+//! `specs/Patching.antt` define what hunks are and what they make of a text,
+//! `specs/DiffTexts.antt` how they are printed.
+#![tactic(auto)]
+
+mod diff;
+mod hunks;
+mod line;
+mod print;
+mod script;
+
+pub use diff::unified_diff;
+pub use script::{EDITED, SAME};

@@ -1,0 +1,110 @@
+//! Printing parts of a diff.
+
+ghost use Rattle.std.specs.Prelude.{◌≡◌, ◌+◌, ◌<◌, ◌^◌, ◌++◌, OnOk, decimal};
+ghost use Rattle.ud_diff.specs.DiffTexts.{range_text, ranges_text, sign_byte, ended_text};
+ghost use Rattle.ud_diff.specs.DiffTexts.{signed_text, name_text, names_text};
+ghost use Rattle.ud_diff.specs.Scripts.{signed};
+
+use crate::line::{DiffLine, Sign};
+use itoa::Buffer;
+use std::alloc::AllocError;
+
+/// Appends a number.
+fn append_number(out: &mut Vec<u8>, number: usize) -> Result<(), AllocError>
+    ensures { OnOk result (out.new.items ≡ out.old.items ++ decimal number) }
+{
+    let mut digits = Buffer::new();
+    out.extend_from_slice(digits.format(number).as_bytes())?;
+    Ok(())
+}
+
+/// Appends where some lines begin, and how many they are. `before` lines come before them.
+#[tactic(auto, unfolding(crate::specs::DiffTexts::range_text))]
+fn append_range(out: &mut Vec<u8>, before: usize, count: usize) -> Result<(), AllocError>
+    requires { before + count < 2 ^ 64 }
+    ensures { OnOk result (out.new.items ≡ out.old.items ++ range_text before count) }
+{
+    let start = if count == 0 { before } else { before + 1 };
+    append_number(out, start)?;
+    if count != 1 {
+        out.push(b',')?;
+        append_number(out, count)?;
+    }
+    Ok(())
+}
+
+/// Appends the first line of a hunk: where its lines of both texts begin, and how many they are.
+pub(crate) fn append_ranges(
+    out: &mut Vec<u8>,
+    old_before: usize,
+    old_count: usize,
+    new_before: usize,
+    new_count: usize,
+) -> Result<(), AllocError>
+    requires old { old_before + old_count < 2 ^ 64 }
+    requires new { new_before + new_count < 2 ^ 64 }
+    ensures { OnOk result (out.new.items ≡ out.old.items ++
+        ranges_text old_before old_count new_before new_count) }
+{
+    out.extend_from_slice(b"@@ -")?;
+    append_range(out, old_before, old_count)?;
+    out.extend_from_slice(b" +")?;
+    append_range(out, new_before, new_count)?;
+    out.extend_from_slice(b" @@\n")?;
+    Ok(())
+}
+
+/// Returns the byte that shows a sign.
+fn sign_byte(sign: Sign) -> u8
+    ensures { result ≡ sign_byte sign }
+{
+    match sign {
+        Sign::Kept => b' ',
+        Sign::Removed => b'-',
+        Sign::Added => b'+',
+    }
+}
+
+/// Appends a line. If it has no newline, a line that says so follows.
+#[tactic(auto, unfolding(crate::specs::DiffTexts::ended_text))]
+fn append_ended(out: &mut Vec<u8>, bytes: &[u8]) -> Result<(), AllocError>
+    ensures { OnOk result (out.new.items ≡ out.old.items ++ ended_text bytes.now) }
+{
+    out.extend_from_slice(bytes)?;
+    if !bytes.ends_with(b"\n") {
+        out.extend_from_slice(b"\n\\ No newline at end of file\n")?;
+    }
+    Ok(())
+}
+
+/// Appends a line after its sign.
+pub(crate) fn append_line(out: &mut Vec<u8>, line: &DiffLine<'_>) -> Result<(), AllocError>
+    ensures { OnOk result (out.new.items ≡ out.old.items ++ signed_text (signed line.now)) }
+{
+    out.push(sign_byte(line.sign))?;
+    append_ended(out, line.bytes)?;
+    Ok(())
+}
+
+/// Appends a line that names the file. `patch` takes a name with spaces if a tab follows it.
+#[tactic(auto, unfolding(crate::specs::DiffTexts::name_text))]
+fn append_name(out: &mut Vec<u8>, sign: &[u8], path: &[u8]) -> Result<(), AllocError>
+    ensures { OnOk result (out.new.items ≡ out.old.items ++ name_text sign.now path.now) }
+{
+    out.extend_from_slice(sign)?;
+    out.extend_from_slice(path)?;
+    if path.contains(&b' ') {
+        out.push(b'\t')?;
+    }
+    out.push(b'\n')?;
+    Ok(())
+}
+
+/// Appends the lines that name the old file and the new one.
+pub(crate) fn append_names(out: &mut Vec<u8>, path: &[u8]) -> Result<(), AllocError>
+    ensures { OnOk result (out.new.items ≡ out.old.items ++ names_text path.now) }
+{
+    append_name(out, b"--- ", path)?;
+    append_name(out, b"+++ ", path)?;
+    Ok(())
+}
