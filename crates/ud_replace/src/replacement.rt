@@ -1,6 +1,6 @@
 //! Replacing one file by the output for it.
 
-ghost use Rattle.std.specs.Prelude.{◌≡◌, List};
+ghost use Rattle.std.specs.Prelude.{◌≡◌, List, [], false};
 ghost use Rattle.ud_model.specs.sections.Items.{Options};
 ghost use Rattle.ud_cond.specs.symbols.SymbolTable.{TableRepresents};
 ghost use Rattle.ud_replace.specs.Calls.{Call};
@@ -75,24 +75,48 @@ pub fn replace<F: Folder>(
         Replaces o target.now.write_into target.now.name.now target.now.fresh.now
         (F.history folder.old) (F.history folder.new) result }
 {
+    let mut out = Watched::new(Vec::<u8>::new(alloc));
+    replace_keeping(alloc, plan, folder, target, &mut out)
+}
+
+/// Replaces a file as `replace` does, and leaves the output for it in `out`, which is empty before.
+///
+/// # Errors
+/// As `replace`. Then `out` may have any bytes.
+pub fn replace_keeping<F: Folder>(
+    alloc: Global,
+    plan: &Plan,
+    folder: &mut F,
+    target: &Target<'_>,
+    out: &mut Watched<Vec<u8>>,
+) -> Result<Update, ReplaceError>
+    requires empty { out.old.inner.items ≡ [] }
+    requires not_failed { out.old.failed ≡ false }
+    ensures calls { (o : Options) → o.settings ≡ plan.now.settings →
+        TableRepresents plan.now.symbols o.table →
+        Replaces o target.now.write_into target.now.name.now target.now.fresh.now
+        (F.history folder.old) (F.history folder.new) result }
+{
     let mut text = Vec::new(alloc);
     match folder.read(target.name, &mut text) {
         None => Err(ReplaceError::Read),
         Some(stat) => {
             let text = text.as_slice();
-            replace_text(alloc, plan, folder, target, &Before { text, stat })
+            replace_text(plan, folder, target, &Before { text, stat }, out)
         }
     }
 }
 
 /// Replaces a file whose text was read.
 fn replace_text<F: Folder>(
-    alloc: Global,
     plan: &Plan,
     folder: &mut F,
     target: &Target<'_>,
     before: &Before<'_>,
+    out: &mut Watched<Vec<u8>>,
 ) -> Result<Update, ReplaceError>
+    requires empty { out.old.inner.items ≡ [] }
+    requires not_failed { out.old.failed ≡ false }
     ensures calls { (o : Options) → o.settings ≡ plan.now.settings →
         TableRepresents plan.now.symbols o.table →
         Judges o target.now.write_into target.now.name.now target.now.fresh.now
@@ -100,8 +124,7 @@ fn replace_text<F: Folder>(
         (F.history folder.old) (F.history folder.new) result }
 {
     let mut reader = Watched::new(before.text);
-    let mut out = Watched::new(Vec::<u8>::new(alloc));
-    match run(plan, &mut reader, &mut out) {
+    match run(plan, &mut reader, out) {
         Ok(false) => Ok(Update::Unchanged),
         Ok(true) => put(folder, target, before, out.inner().as_slice()),
         Err(RunFault::Read | RunFault::Write) => Err(ReplaceError::OutOfMemory),

@@ -2,7 +2,7 @@ use Rattle.std.proofs.Common.{ℕ, List, ◌∷◌, Some, sym, ap, ◌∙◌}
 use Rattle.ud_replace.specs.Calls.{was_read}
 use Rattle.ud_replace.specs.Replacing.{unread, judged}
 use Rattle.ud_replace.proofs.StepLemmas.{judges_from}
-use Rattle.ud_replace.proofs.replacement.replace.Goals as goal
+use Rattle.ud_replace.proofs.replacement.replace_keeping.Goals as goal
 
 pub returns-in-None : goal.returns-in-None
 returns-in-None g c = record { calls = λ o s t. unread _ c.in-None.ensures.noted }
