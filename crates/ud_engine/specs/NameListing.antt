@@ -3,6 +3,7 @@
 --   ListsLine o r xs t l depths ..   it has also read this line, and listed its names
 --   ListErr o xs t l depths .. f     listing this line failed
 --   ListsNext .. r new l depths ..   the one or the other, whatever the decider had read
+--   ListsWith .. l depths ..         the same of the deciders of these scanners and machines
 use Rattle.std.specs.Prelude.{◌≡◌, ℕ, List, [], ◌∷◌, ◌++◌, Bool, Option, Result, MatchResult}
 use Rattle.ud_model.specs.text.Lines.{Line}
 use Rattle.ud_model.specs.text.Scans.{Reading}
@@ -16,7 +17,9 @@ use Rattle.ud_faults.specs.Faults.{fault_of}
 use Rattle.ud_faults.specs.declared.run.RunFault.{RunFault}
 use Rattle.ud_faults.specs.declared.run.RunFault.TheVariants.{Text, Section, Read, Write}
 use Rattle.ud_engine.specs.declared.line_decider.LineDecider.{LineDecider}
-use Rattle.ud_engine.specs.DecidedLines.{DeciderRepresents}
+use Rattle.ud_text.specs.scan.ScannerState.{ScannerState}
+use Rattle.ud_sections.specs.declared.sections.machine.Machine.{Machine}
+use Rattle.ud_engine.specs.DecidedLines.{DeciderRepresents, decider_of}
 use Rattle.ud_io.specs.Buffering.{AppendsAllBut}
 use Rattle.ud_io.specs.Watched.{WatchedState, AppendsPrefix}
 
@@ -73,3 +76,12 @@ ListsNext contents symbols r new l depths pending buffered left out out' result 
     (λ done. ListsLine o new xs t l depths (contents out.inner) (contents out'.inner)
     buffered left pending)
     (ListErr o xs t l depths (contents out.inner) (contents out'.inner) buffered pending)
+
+-- `ListsWith .. scanner scanner' m m' l depths pending buffered left out out' result`: `ListsNext`
+-- of the decider of `scanner` and `m`, and of that of `scanner'` and `m'`.
+abbrev pub ListsWith : {W T : Type 0} → (W → Option (List ℕ)) → List Argument → ScannerState →
+    ScannerState → Machine → Machine → Line → Bool → List ℕ → List ℕ → List ℕ → WatchedState W →
+    WatchedState W → Result T RunFault → Type 0
+ListsWith contents symbols scanner scanner' m m' l depths pending buffered left out out' result =
+    ListsNext contents symbols (decider_of scanner m) (decider_of scanner' m') l depths
+    pending buffered left out out' result

@@ -18,7 +18,7 @@ ghost use Rattle.ud_sections.specs.sections.MachineState.{end_fault_of};
 ghost use Rattle.ud_sections.specs.sections.Transitions.{text_policy_of};
 ghost use Rattle.ud_engine.specs.DecidedLines.{DeciderRepresents, DecidesNext, DecidesText};
 ghost use Rattle.ud_engine.specs.DecidedLines.{consumed, decider_of};
-ghost use Rattle.ud_engine.specs.NameListing.{ListsNext};
+ghost use Rattle.ud_engine.specs.NameListing.{ListsNext, ListsWith};
 ghost use Rattle.ud_engine.specs.FaultEffects.{OutputUnchanged};
 
 use crate::listing::append_names;
@@ -266,9 +266,8 @@ fn list_names_with<const N: usize, W: Write>(
     requires within { IsWithinLimits (as_line line.now) }
     requires one_line { NoNewline line.now.body.now }
     requires not_failed { out.old.failed ≡ false }
-    ensures lists { ListsNext W.contents symbols.now (decider_of scanner.old machine.old)
-        (decider_of scanner.new machine.new) (as_line line.now) lister.old
-        pending.now output.old output.new out.old out.new result }
+    ensures lists { ListsWith W.contents symbols.now scanner.old scanner.new machine.old machine.new
+        (as_line line.now) lister.old pending.now output.old output.new out.old out.new result }
     ensures not_failed { OnOk result (out.new.failed ≡ false) }
     ensures output_unchanged { IfErr result
         (OutputUnchanged out.old out.new output.old output.new) }

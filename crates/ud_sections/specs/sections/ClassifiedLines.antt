@@ -1,12 +1,13 @@
 -- ClassifiedLines: what decides a line among the sections.
 --
 --   line_kind_in role d             the kind of a directive with this role and decision
+--   directive_kind scan d table rules   the kind of this directive
 --   classified scan table rules c   the classified line of a scan that carries `c`
 --   item_kind x                     the kind of an item
 use Rattle.std.specs.Prelude.{List, Result, Ok, Err}
 use Rattle.ud_model.specs.text.Scans.{Scan, Reading, is_spanning}
 use Rattle.ud_model.specs.sections.Directives.{Content, cut_keyword, directive, text, role_of}
-use Rattle.ud_model.specs.sections.Directives.{Span as TextSpan}
+use Rattle.ud_model.specs.sections.Directives.{Directive, Span as TextSpan}
 use Rattle.ud_model.specs.conditions.Conditions.{Decision, Rules, decision_on}
 use Rattle.ud_model.specs.conditions.Table.{Argument}
 use Rattle.ud_model.specs.sections.Tree.{Item, text_line, if_line, elif_line, else_line, endif_line}
@@ -25,6 +26,10 @@ line_kind_in IfGroup d = If d.cond d.ignoring
 line_kind_in ElifGroup d = Elif d.cond
 line_kind_in ElseGroup d = Else
 line_kind_in EndifLine d = Endif
+
+-- `directive_kind scan d table rules`: the kind of the directive `d` of this scan.
+abbrev pub directive_kind : Scan → Directive → List Argument → Rules → LineKind
+directive_kind scan d table rules = line_kind_in (role_of d.kind) (decision_on scan d table rules)
 
 -- `span_of s`: a span of the definitions, as the program has it.
 abbrev pub span_of : TextSpan → Span
@@ -47,8 +52,7 @@ abbrev pub classified : Scan → List Argument → Rules → Content → Result 
 classified scan table rules cut_keyword = Err (record {})
 classified scan table rules text = Ok (classified_with scan (record { at = 0; len = 0 }) Text)
 classified scan table rules (directive d) =
-    Ok (classified_with scan d.keyword
-    (line_kind_in (role_of d.kind) (decision_on scan d table rules)))
+    Ok (classified_with scan d.keyword (directive_kind scan d table rules))
 
 -- `item_kind x`: the kind of an item among the sections.
 abbrev pub item_kind : Item Reading → LineKind

@@ -3,8 +3,12 @@
 --   MachineRepresents m o xs t      the machine has read the items `xs` under these options
 --   ComesNext o xs t scan l table   the line `l` with this scan comes next
 --   StepsLine m o xs t l step       the machine has read `l` too, with this step
+--   StepsNext m new scan l table result    it did, whatever it had read
+--   FindsFault m scan l table result       an error is the fault of `l`
 --   AreTextLines o mode xs rs       the lines `rs` after the items `xs` are text
 --   StepsText m o xs t rs verdict   the machine has read these text lines too
+--   StepsOverText m new last verdict       it did, whatever it had read
+--   HasEndFault m in_comment fault         the fault at the end of what it read
 --   machine_fault m                 the fault of the machine, if it has one
 --   machine_with_fault m f          the machine with this fault
 --   end_fault_of result             the fault at the end of a text, if it has one
@@ -13,8 +17,8 @@
 -- a line is faulty, the machine still represents the lines before that one.
 --
 -- Example: a machine that has read only `#if X` has one open section, and that line wasn't text.
-use Rattle.std.specs.Prelude.{◌≡◌, List, [], ◌∷◌, ◌++◌, map, true, Option, Some, None, Result, Ok}
-use Rattle.std.specs.Prelude.{Err}
+use Rattle.std.specs.Prelude.{◌≡◌, ℕ, List, [], ◌∷◌, ◌++◌, map, Bool, true, Option, Some, None}
+use Rattle.std.specs.Prelude.{Result, Ok, Err, IfOk, IfErr}
 use Rattle.ud_model.specs.text.Lines.{Line}
 use Rattle.ud_model.specs.text.Scans.{Scan, Reading}
 use Rattle.ud_model.specs.text.Scanning.{scan_after}
@@ -23,7 +27,8 @@ use Rattle.ud_model.specs.conditions.Table.{Argument}
 use Rattle.ud_model.specs.sections.Tree.{Item, Tree, text_line}
 use Rattle.ud_model.specs.sections.Pruning.{Mark, marks}
 use Rattle.ud_model.specs.sections.Items.{Options, reading_of, mode_after, read_after, next_item}
-use Rattle.ud_model.specs.sections.Faults.{Fault, AreFaultless, last_number, ends_removed}
+use Rattle.ud_model.specs.sections.Faults.{Fault, AreFaultless, FaultOf, last_number, ends_removed}
+use Rattle.ud_model.specs.sections.Faults.{ends_in_comment, end_fault}
 use Rattle.ud_model.specs.sections.Faults.{obfuscated, inappropriate_elif, inappropriate_else}
 use Rattle.ud_model.specs.sections.Faults.{inappropriate_endif, too_many_levels, eof_in_comment}
 use Rattle.ud_model.specs.sections.Faults.{premature_eof}
@@ -85,6 +90,16 @@ pub record StepsText (m : Machine) (o : Options) (xs : List (Item Reading)) (t :
   pub marks_are : marks tree ≡ marks t ++ map (λ r. mark) rs
   pub verdict_is : verdict ≡ mark.verdict
 
+-- `StepsOverText m new last verdict`: whatever items `m` has read, if text lines come next, at
+-- least one, and the last of them has the number `last`, then `new` has read them too, each with
+-- this verdict.
+abbrev pub StepsOverText : Machine → Machine → ℕ → Verdict → Type 0
+StepsOverText m new last verdict =
+    (o : Options) → (xs : List (Item Reading)) → (t : Tree Reading) →
+    MachineRepresents m o xs t → (r : Reading) → (rs : List Reading) →
+    AreTextLines o (mode_after o t) xs (r ∷ rs) →
+    last ≡ last_number (xs ++ map text_line (r ∷ rs)) → StepsText new o xs t (r ∷ rs) verdict
+
 -- `machine_fault m`: the fault after which the machine is fused, if it has one.
 abbrev pub machine_fault : Machine → Option SectionFault
 machine_fault m = m.fault
@@ -97,3 +112,28 @@ machine_with_fault m f = record m { fault = Some f }
 abbrev pub end_fault_of : Result (Unit {0}) SectionFault → Option Fault
 end_fault_of (Ok _) = None
 end_fault_of (Err f) = Some (fault_of f)
+
+-- `StepsNext m new scan l table result`: whatever items `m` has read, if `l` with this scan comes
+-- next, `new` has read it too, with this step.
+abbrev pub StepsNext : Machine → Machine → Scan → Line → List Argument →
+    Result Step SectionFault → Type 0
+StepsNext m new scan l table result =
+    (o : Options) → (xs : List (Item Reading)) → (t : Tree Reading) →
+    MachineRepresents m o xs t → ComesNext o xs t scan l table →
+    IfOk result (StepsLine new o xs t l)
+
+-- `FindsFault m scan l table result`: whatever items `m` has read, if `l` with this scan comes
+-- next, and `m` has no fault, then an error is the fault of `l`.
+abbrev pub FindsFault : Machine → Scan → Line → List Argument → Result Step SectionFault → Type 0
+FindsFault m scan l table result =
+    (o : Options) → (xs : List (Item Reading)) → (t : Tree Reading) →
+    MachineRepresents m o xs t → ComesNext o xs t scan l table → machine_fault m ≡ None →
+    IfErr result (λ f. FaultOf xs (next_item o xs t l) (fault_of f))
+
+-- `HasEndFault m in_comment fault`: whatever items `m` has read, if it has no fault, and
+-- `in_comment` is whether they end in a comment, then `fault` is that of the text's end.
+abbrev pub HasEndFault : Machine → Bool → Option Fault → Type 0
+HasEndFault m in_comment fault =
+    (o : Options) → (xs : List (Item Reading)) → (t : Tree Reading) →
+    MachineRepresents m o xs t → machine_fault m ≡ None → in_comment ≡ ends_in_comment xs →
+    fault ≡ end_fault xs t

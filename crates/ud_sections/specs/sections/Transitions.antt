@@ -4,9 +4,14 @@
 --   text_verdict m             the verdict of the next line, if it is text
 --   text_policy_of m           the mode of the next line, and its verdict if it is text
 --   transition_of before n s   the transition of the classified line `s` of number `n`
-use Rattle.std.specs.Prelude.{ℕ, length, Result, Ok, Err}
+--   IsTransition m scan table n result   the result is the transition of the line of this scan
+use Rattle.std.specs.Prelude.{◌≡◌, ℕ, List, length, Result, Ok, Err}
+use Rattle.ud_model.specs.text.Scans.{Scan}
+use Rattle.ud_model.specs.sections.Directives.{content_of}
+use Rattle.ud_model.specs.conditions.Table.{Argument}
 use Rattle.ud_model.specs.declared.verdict.Verdict.{Verdict}
-use Rattle.ud_model.specs.sections.Items.{mode_by}
+use Rattle.ud_model.specs.sections.Items.{mode_by, rules_of}
+use Rattle.ud_cond.specs.symbols.SymbolTable.{TableRepresents}
 use Rattle.ud_faults.specs.declared.sections.SectionFault.{SectionFault}
 use Rattle.ud_faults.specs.declared.sections.SectionFault.TheVariants.{Obfuscated}
 use Rattle.ud_sections.specs.declared.directives.Cut.{Cut}
@@ -19,6 +24,7 @@ use Rattle.ud_sections.specs.declared.sections.step.Span.{Span}
 use Rattle.ud_sections.specs.declared.sections.text_policy.TextPolicy.{TextPolicy}
 use Rattle.ud_sections.specs.sections.Actions.{kept_at, plain_at, text_action}
 use Rattle.ud_sections.specs.sections.StackOps.{innermost_of}
+use Rattle.ud_sections.specs.sections.ClassifiedLines.{classified}
 use Rattle.ud_sections.specs.sections.Checking.{checked_by}
 
 -- `context_of m`: the context of the next line, which is what the lines before it decide.
@@ -53,3 +59,12 @@ abbrev pub transition_of : LineContext → ℕ → Result ClassifiedLine Cut →
     Result Transition SectionFault
 transition_of before n (Ok scanned) = transition_with scanned.keyword (checked_by before scanned n)
 transition_of before n (Err cut) = Err (Obfuscated n)
+
+-- `IsTransition m scan table n result`: for the calls that `table` represents, `result` is the
+-- transition of the line of number `n` with this scan.
+abbrev pub IsTransition : Machine → Scan → List Argument → ℕ →
+    Result Transition SectionFault → Type 0
+IsTransition m scan table n result =
+    (calls : List Argument) → TableRepresents table calls →
+    result ≡ transition_of (context_of m) n
+    (classified scan calls (rules_of m.settings) (content_of scan))

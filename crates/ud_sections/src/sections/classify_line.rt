@@ -2,7 +2,7 @@
 
 ghost use Rattle.std.specs.Prelude.{◌≡◌, ◌≤◌, ◌+◌, List, length, IfOk, Some};
 ghost use Rattle.ud_model.specs.text.Scans.{is_spanning};
-ghost use Rattle.ud_model.specs.sections.Directives.{content_of, skip_white_and_hash, role_of};
+ghost use Rattle.ud_model.specs.sections.Directives.{content_of, skip_white_and_hash};
 ghost use Rattle.ud_model.specs.conditions.Conditions.{decision_on};
 ghost use Rattle.ud_model.specs.sections.Items.{rules_of};
 ghost use Rattle.ud_model.specs.conditions.Table.{Argument};
@@ -11,7 +11,7 @@ ghost use Rattle.ud_cond.specs.symbols.SymbolTable.{TableRepresents};
 ghost use Rattle.ud_cond.specs.CondViews.{as_decision, as_rules};
 ghost use Rattle.ud_model.specs.text.LineViews.{as_scan};
 ghost use Rattle.ud_sections.specs.directives.ParsedDirectives.{as_directive};
-ghost use Rattle.ud_sections.specs.sections.ClassifiedLines.{line_kind_in, classified};
+ghost use Rattle.ud_sections.specs.sections.ClassifiedLines.{directive_kind, classified};
 
 use crate::directives::parse_directive::directive_after_hash;
 use crate::directives::{Cut, Directive};
@@ -121,8 +121,8 @@ fn line_kind_of(
 ) -> LineKind
     requires { length found.now.after.now ≤ LINE_BYTES }
     ensures { (calls : List Argument) → TableRepresents symbols.now calls →
-        result ≡ line_kind_in (role_of found.now.kind)
-        (decision_on (as_scan scan.now) (as_directive found.now) calls (rules_of settings)) }
+        result ≡ directive_kind (as_scan scan.now) (as_directive found.now) calls
+        (rules_of settings) }
 {
     match found.kind.role() {
         Role::IfGroup => {

@@ -6,17 +6,14 @@
 //! sections change. `specs/sections/MachineState.antt` defines what a machine represents: a list of
 //! lines and their tree.
 
-ghost use Rattle.std.specs.Prelude.{◌≡◌, ◌≤◌, ◌<◌, ◌+◌, ◌∷◌, [], ◌++◌, List, length, map, IsTrue};
-ghost use Rattle.std.specs.Prelude.{IfOk, IfErr, OnOk, OnErr, None, Some};
+ghost use Rattle.std.specs.Prelude.{◌≡◌, ◌≤◌, ◌<◌, ◌+◌, [], List, length, IsTrue, IfOk, IfErr};
+ghost use Rattle.std.specs.Prelude.{OnOk, OnErr, None, Some};
 ghost use Rattle.arrayvec.specs.ArrayVec.{array_vec_len};
 ghost use Rattle.ud_model.specs.text.Scans.{Reading};
-ghost use Rattle.ud_model.specs.sections.Tree.{Item, Tree, text_line, closed, nothing, depth};
-ghost use Rattle.ud_model.specs.sections.Directives.{content_of, skip_white_and_hash};
-ghost use Rattle.ud_model.specs.conditions.Table.{Argument};
-ghost use Rattle.ud_model.specs.sections.Items.{Options, mode_after, next_item, rules_of};
-ghost use Rattle.ud_model.specs.sections.Faults.{FaultOf, ends_in_comment, end_fault, last_number};
+ghost use Rattle.ud_model.specs.sections.Tree.{Item, Tree, closed, nothing, depth};
+ghost use Rattle.ud_model.specs.sections.Directives.{skip_white_and_hash};
+ghost use Rattle.ud_model.specs.sections.Items.{Options, mode_after};
 ghost use Rattle.ud_model.specs.declared.limits.TheConstants.{LINE_BYTES, OPEN_SECTIONS};
-ghost use Rattle.ud_cond.specs.symbols.SymbolTable.{TableRepresents};
 ghost use Rattle.ud_model.specs.text.LineViews.{as_line, as_scan};
 ghost use Rattle.ud_sections.specs.sections.Limits.{IsWithinLimits};
 ghost use Rattle.ud_sections.specs.sections.StepViews.{HoldsKeyword};
@@ -60,15 +57,12 @@ pub struct Machine {
 }
 
 impl Machine {
-    ghost use Rattle.ud_sections.specs.sections.MachineState.{MachineRepresents, ComesNext};
-    ghost use Rattle.ud_sections.specs.sections.MachineState.{StepsLine, AreTextLines, StepsText};
+    ghost use Rattle.ud_sections.specs.sections.MachineState.{MachineRepresents, StepsNext};
+    ghost use Rattle.ud_sections.specs.sections.MachineState.{FindsFault, StepsOverText};
+    ghost use Rattle.ud_sections.specs.sections.MachineState.{HasEndFault, end_fault_of};
     ghost use Rattle.ud_sections.specs.sections.MachineState.{machine_fault, machine_with_fault};
-    ghost use Rattle.ud_sections.specs.sections.MachineState.{end_fault_of};
-    ghost use Rattle.ud_faults.specs.Faults.{fault_of};
-    ghost use Rattle.ud_sections.specs.sections.Transitions.{context_of, transition_of};
-    ghost use Rattle.ud_sections.specs.sections.Transitions.{text_verdict, text_policy_of};
-    ghost use Rattle.ud_sections.specs.sections.Actions.{kept_at, text_action};
-    ghost use Rattle.ud_sections.specs.sections.ClassifiedLines.{classified};
+    ghost use Rattle.ud_sections.specs.sections.Transitions.{IsTransition, text_verdict};
+    ghost use Rattle.ud_sections.specs.sections.Transitions.{text_policy_of};
     ghost use Rattle.ud_sections.specs.sections.EndFaults.{end_in};
 
     /// Creates a machine that has read no line.
@@ -154,15 +148,10 @@ impl Machine {
     ) -> Result<Step, SectionFault>
         requires fits { length scan.now.masked.now ≤ length line.now.body.now }
         requires within { IsWithinLimits (as_line line.now) }
-        ensures represents { (o : Options) → (xs : List (Item Reading)) → (t : Tree Reading) →
-            MachineRepresents self.old o xs t →
-            ComesNext o xs t (as_scan scan.now) (as_line line.now) symbols.now →
-            IfOk result (StepsLine self.new o xs t (as_line line.now)) }
-        ensures finds_fault { (o : Options) → (xs : List (Item Reading)) → (t : Tree Reading) →
-            MachineRepresents self.old o xs t →
-            ComesNext o xs t (as_scan scan.now) (as_line line.now) symbols.now →
-            machine_fault self.old ≡ None →
-            IfErr result (λ f. FaultOf xs (next_item o xs t (as_line line.now)) (fault_of f)) }
+        ensures represents { StepsNext self.old self.new (as_scan scan.now) (as_line line.now)
+            symbols.now result }
+        ensures finds_fault { FindsFault self.old (as_scan scan.now) (as_line line.now)
+            symbols.now result }
         ensures keyword_within { IfOk result (λ step. HoldsKeyword step line.now) }
         ensures no_fault { OnOk result ((machine_fault self.old ≡ None) ×
             (machine_fault self.new ≡ None)) }
@@ -201,10 +190,7 @@ impl Machine {
     /// The error of a failed `step`, again. Else the text ends in a block comment, or else in a
     /// section.
     pub fn finish(&self, in_comment: bool) -> Result<(), SectionFault>
-        ensures value { (o : Options) → (xs : List (Item Reading)) → (t : Tree Reading) →
-            MachineRepresents self.now o xs t →
-            machine_fault self.now ≡ None → in_comment ≡ ends_in_comment xs →
-            end_fault_of result ≡ end_fault xs t }
+        ensures value { HasEndFault self.now in_comment (end_fault_of result) }
         ensures fused { (f : SectionFault) → machine_fault self.now ≡ Some f → result ≡ Err f }
     {
         if let Some(fault) = self.fault {
@@ -216,11 +202,7 @@ impl Machine {
     /// Reads all lines up to the one of number `last`, at least one, and all of them text. Returns
     /// the verdict of them all.
     pub fn step_text(&mut self, last: u32) -> Verdict
-        ensures value { (o : Options) → (xs : List (Item Reading)) → (t : Tree Reading) →
-            MachineRepresents self.old o xs t →
-            (r : Reading) → (rs : List Reading) → AreTextLines o (mode_after o t) xs (r ∷ rs) →
-            last ≡ last_number (xs ++ map text_line (r ∷ rs)) →
-            StepsText self.new o xs t (r ∷ rs) result }
+        ensures value { StepsOverText self.old self.new last result }
         ensures verdict { result ≡ text_verdict self.old }
         ensures policy { text_policy_of self.new ≡ text_policy_of self.old }
         ensures fault_unchanged { machine_fault self.new ≡ machine_fault self.old }
@@ -266,10 +248,7 @@ impl Machine {
     ) -> Result<Transition, SectionFault>
         requires fits { length scan.now.masked.now ≤ LINE_BYTES }
         requires after_hash { skip_white_and_hash scan.now.masked.now ≡ Some after.now }
-        ensures value { (calls : List Argument) → TableRepresents symbols.now calls →
-            result ≡ transition_of (context_of self.now) number
-            (classified (as_scan scan.now) calls (rules_of self.now.settings)
-            (content_of (as_scan scan.now))) }
+        ensures value { IsTransition self.now (as_scan scan.now) symbols.now number result }
         ensures keyword_within { IfOk result
             (λ next. next.step.keyword.at + next.step.keyword.len ≤ length
             scan.now.masked.now) }
