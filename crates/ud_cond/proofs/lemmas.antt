@@ -2,3 +2,4 @@
 pub mod expressions
 pub mod symbols
 pub mod NameListLemmas
+pub mod WordLemmas

@@ -13,6 +13,7 @@ mod conditions;
 mod expressions;
 mod list_names;
 mod symbols;
+mod words;
 
 pub use conditions::{Answer, Rules, condition};
 pub use list_names::names;

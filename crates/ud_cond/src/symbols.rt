@@ -195,7 +195,7 @@ impl Model for Symbols {
 
     ghost view = { λ s. s.rows.items };
 
-    ghost invariant = { λ s. AreSorted s.rows.items × AreInFilter s.filter.slots s.rows.items };
+    ghost invariant = { λ s. AreSorted s.rows.items × AreInFilter s.filter.words s.rows.items };
 }
 
 impl Symbols {
@@ -208,7 +208,7 @@ impl Symbols {
             alloc,
             rows: Vec::new(alloc),
             filter: NameFilter::new(),
-            cache: SlotCache::new(),
+            cache: SlotCache::new(alloc),
         }
     }
 
@@ -369,6 +369,7 @@ impl Symbols {
         if !is_name(name) {
             return Err(SymbolFault::BadName);
         }
+        self.cache.reserve(self.alloc)?;
         self.insert_or_replace(name, value, ignoring)
     }
 

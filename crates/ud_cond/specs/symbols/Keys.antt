@@ -3,14 +3,14 @@
 --   key_in bytes   the first bytes of a text as one number
 --   key_of n       the key of a name
 use Rattle.std.specs.Prelude.{ℕ, ◌-◌, List, [], ◌∷◌, length, drop, slice_index}
-use Rattle.std.specs.Int.{w64, from_le_bytes}
+use Rattle.std.specs.Int.{w64, from_be_bytes}
 use Rattle.ud_cond.specs.declared.symbols.keys.TheConstants.{KEY_BYTES}
 
--- `key_in b`: the first bytes of `b` as one number, as many as a key is made of; a missing byte
--- counts as 0
+-- `key_in b`: the first bytes of `b` as one number, as many as a key is made of; the first byte
+-- counts most, and a missing byte counts as 0
 abbrev pub key_in : List ℕ → ℕ
 key_in b =
-    from_le_bytes w64 (slice_index b 0 ∷ slice_index b 1 ∷ slice_index b 2 ∷ slice_index b 3
+    from_be_bytes w64 (slice_index b 0 ∷ slice_index b 1 ∷ slice_index b 2 ∷ slice_index b 3
     ∷ slice_index b 4 ∷ slice_index b 5 ∷ slice_index b 6 ∷ slice_index b 7 ∷ [])
 
 -- `key_of n`: the key of the name `n`, which is its last bytes as one number

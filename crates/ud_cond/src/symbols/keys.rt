@@ -7,6 +7,9 @@ ghost use Rattle.ud_cond.specs.symbols.Keys as spec;
 pub(crate) const KEY_BYTES: usize = 8;
 
 /// Returns the key of a name: its last bytes as one number, since names often begin alike.
+///
+/// The first of these bytes counts most. So names that are numbered, or sorted by their last bytes,
+/// have rising keys, and each of their rows is added after all others.
 #[inline(always)]
 pub(crate) fn key_of(name: &[u8]) -> u64
     ensures { result ≡ spec.key_of name.now }
@@ -14,13 +17,14 @@ pub(crate) fn key_of(name: &[u8]) -> u64
     key_in(&name[name.len().saturating_sub(KEY_BYTES)..])
 }
 
-/// Returns the first bytes of a text as one number. Missing bytes count as 0.
+/// Returns the first bytes of a text as one number, in which the first byte counts most. Missing
+/// bytes count as 0.
 #[inline(always)]
 fn key_in(bytes: &[u8]) -> u64
     ensures { result ≡ spec.key_in bytes.now }
 {
     match bytes {
-        [a, b, c, d, e, f, g, h] => u64::from_le_bytes([*a, *b, *c, *d, *e, *f, *g, *h]),
+        [a, b, c, d, e, f, g, h] => u64::from_be_bytes([*a, *b, *c, *d, *e, *f, *g, *h]),
         _ => byte_by_byte(bytes),
     }
 }
@@ -57,7 +61,7 @@ fn is_same_text(a: &[u8], b: &[u8]) -> bool
 fn byte_by_byte(bytes: &[u8]) -> u64
     ensures { result ≡ spec.key_in bytes.now }
 {
-    u64::from_le_bytes([
+    u64::from_be_bytes([
         byte_at(bytes, 0),
         byte_at(bytes, 1),
         byte_at(bytes, 2),

@@ -6,6 +6,12 @@ ghost use Rattle.ud_cond.specs.symbols.NameFilters as spec;
 /// The number of slots.
 pub(crate) const FILTER_SLOTS: usize = 2048;
 
+/// The number of slots that one word has a bit for.
+pub(crate) const WORD_SLOTS: usize = 64;
+
+/// The number of words.
+const FILTER_WORDS: usize = FILTER_SLOTS / WORD_SLOTS;
+
 /// The number that a key is multiplied by. It is odd and its bits are spread, so all bytes of
 /// a key count in the middle bits of the product.
 const HASH_MULTIPLIER: u64 = 0x9e37_79b9_7f4a_7c15;
@@ -17,33 +23,35 @@ const LOW_BITS: u32 = 52;
 /// names share one.
 #[derive(Drop)]
 pub(crate) struct NameFilter {
-    /// For each slot, `true` if a key of the slot was inserted.
-    slots: [bool; FILTER_SLOTS],
+    /// A bit for each slot, which is 1 if a key of the slot was inserted.
+    words: [u64; FILTER_WORDS],
 }
 
 impl NameFilter {
     /// Returns an empty filter.
     pub(crate) fn new() -> NameFilter {
         NameFilter {
-            slots: [false; FILTER_SLOTS],
+            words: [0; FILTER_WORDS],
         }
     }
 
     /// Returns whether the slot of `key` is set.
     #[inline(always)]
     pub(crate) fn may_contain(&self, key: u64) -> bool
-        ensures { result ≡ spec.slot_is_set self.now.slots key }
+        ensures { result ≡ spec.slot_is_set self.now.words key }
     {
-        self.slots[slot_of(key)]
+        let slot = slot_of(key);
+        self.words[slot / WORD_SLOTS] >> (slot % WORD_SLOTS) & 1 == 1
     }
 
     /// Sets the slot of `key`.
     pub(crate) fn insert(&mut self, key: u64)
-        ensures inserted { spec.slot_is_set self.new.slots key ≡ true }
-        ensures others_kept { (other : ℕ) → spec.slot_is_set self.old.slots other ≡ true →
-            spec.slot_is_set self.new.slots other ≡ true }
+        ensures inserted { spec.slot_is_set self.new.words key ≡ true }
+        ensures others_kept { (other : ℕ) → spec.slot_is_set self.old.words other ≡ true →
+            spec.slot_is_set self.new.words other ≡ true }
     {
-        self.slots[slot_of(key)] = true;
+        let slot = slot_of(key);
+        self.words[slot / WORD_SLOTS] |= 1 << (slot % WORD_SLOTS);
     }
 }
 

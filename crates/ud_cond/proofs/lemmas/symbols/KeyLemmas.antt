@@ -1,10 +1,10 @@
 -- Names with the same key: which of their bytes are equal.
 use Rattle.std.proofs.Common.{◌≡◌, ◌≤◌, ◌<◌, ◌+◌, ◌-◌, ℕ, zero, suc, List, [], ◌∷◌, length, take, drop, get_or, true, bytes_eq, refl, sym, ◌∙◌, ap, ap₂, arith, inl, inr, ◌⊎◌}
-use Rattle.std.proofs.lemmas.Nat.{le_bytes_8}
+use Rattle.std.proofs.lemmas.Nat.{be_bytes_8}
 use Rattle.std.proofs.lemmas.Slice.Eq.{bytes_eq-Decides}
 use Rattle.std.proofs.lemmas.Bool.{cases_lt}
 use Rattle.std.proofs.lemmas.List.{get_or-drop}
-use Rattle.std.specs.Int.{w64, from_le_bytes, to_le_bytes}
+use Rattle.std.specs.Int.{w64, from_be_bytes, to_be_bytes}
 use Rattle.ud_cond.specs.symbols.Keys.{key_in, key_of}
 
 -- each element is a byte
@@ -28,7 +28,7 @@ bytes-first_eight a h (suc (suc (suc (suc (suc (suc (suc (suc i)))))))) = omega 
 -- texts with the same number have the same first bytes
 first_eight-key_in : (a b : List ℕ) → AreBytes a → AreBytes b → key_in a ≡ key_in b → first_eight a ≡ first_eight b
 first_eight-key_in a b h k e =
-    sym (le_bytes_8 (first_eight a) (key_in a) refl (bytes-first_eight a h) refl) ∙ ap (to_le_bytes w64) e ∙ le_bytes_8 (first_eight b) (key_in b) refl (bytes-first_eight b k) refl
+    sym (be_bytes_8 (first_eight a) (key_in a) refl (bytes-first_eight a h) refl) ∙ ap (to_be_bytes w64) e ∙ be_bytes_8 (first_eight b) (key_in b) refl (bytes-first_eight b k) refl
 
 at-key_in : (a b : List ℕ) → first_eight a ≡ first_eight b → (i : ℕ) → i < 8 → get_or a i 0 ≡ get_or b i 0
 at-key_in a b e zero l = ap (λ s. get_or s 0 0) e
@@ -83,7 +83,7 @@ module _ (a b : List ℕ) (h : AreBytes a) (k : AreBytes b) (l : length a ≡ le
   -- a name of at most sixteen bytes is determined by its first bytes too
   pub same-middle : 8 ≤ length a → length a ≤ 16 → key_in (take 8 a) ≡ key_in (take 8 b) → a ≡ b
   same-middle some few f =
-      let prefix : key_in a ≡ key_in b = sym (ap (from_le_bytes w64) (key_in-take a)) ∙ f ∙ ap (from_le_bytes w64) (key_in-take b) in
+      let prefix : key_in a ≡ key_in b = sym (ap (from_be_bytes w64) (key_in-take a)) ∙ f ∙ ap (from_be_bytes w64) (key_in-take b) in
       same-by-bytes a b l (λ i m. by_place i m (cases_lt i 8) prefix)
     where
       by_place : (i : ℕ) → i < length a → (i < 8) ⊎ (8 ≤ i) → key_in a ≡ key_in b → get_or a i 0 ≡ get_or b i 0

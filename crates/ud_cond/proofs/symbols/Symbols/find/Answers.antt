@@ -26,7 +26,7 @@ missed c = sym (entry_from-none None c.args.self.now c.args.name.now (none-at_al
 -- a name whose slot isn't set has no row
 unmarked : (c : Then-not-may_contain) → None ≡ entry_in c.args.self.now c.args.name.now
 unmarked c =
-    let none = none-unmarked c.self.inside.filter.slots c.self.inside.rows.items c.args.name.now c.self.invariant.1 (ap (slot_is_set c.self.inside.filter.slots) (sym c.key_of-key.ensures) ∙ sym c.may_contain.ensures ∙ c.if-not-may_contain.true) in
+    let none = none-unmarked c.self.inside.filter.words c.self.inside.rows.items c.args.name.now c.self.invariant.1 (ap (slot_is_set c.self.inside.filter.words) (sym c.key_of-key.ensures) ∙ sym c.may_contain.ensures ∙ c.if-not-may_contain.true) in
     sym (entry_from-none None c.self.inside.rows.items c.args.name.now none) ∙ ap (λ rows. entry_in rows c.args.name.now) c.self.view_is
 
 pub returns-then-not-may_contain-clause-value : goal.returns-then-not-may_contain-clause-value

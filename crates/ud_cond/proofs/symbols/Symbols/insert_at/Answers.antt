@@ -9,9 +9,9 @@ use Rattle.ud_cond.proofs.symbols.Symbols.insert_at.Goals as goal
 pub invariant_of-self : goal.invariant_of-self
 invariant_of-self c =
     let gap : IsGapFor c.self.inside.rows.items c.args.i c.args.row.name = subst (λ rows. IsGapFor rows c.args.i c.args.row.name) (sym c.self.view_is) c.requires.gap in
-    let new : slot_is_set c.insert.new.self.slots (key_of c.args.row.name) ≡ true = ap (slot_is_set c.insert.new.self.slots) (sym c.requires.keyed) ∙ c.insert.ensures.inserted in
+    let new : slot_is_set c.insert.new.self.words (key_of c.args.row.name) ≡ true = ap (slot_is_set c.insert.new.self.words) (sym c.requires.keyed) ∙ c.insert.ensures.inserted in
     rw c.insert-added.ensures.items (
       sorted-added c.self.inside.rows.items c.args.i c.args.row (is_ok c.insert-added.result) c.self.invariant.0 gap,
-      noted-added c.insert.new.self.slots c.self.inside.rows.items c.args.i c.args.row (is_ok c.insert-added.result)
-          (noted-kept c.self.inside.filter.slots c.insert.new.self.slots c.self.inside.rows.items c.insert.ensures.others_kept c.self.invariant.1) gap.within new,
+      noted-added c.insert.new.self.words c.self.inside.rows.items c.args.i c.args.row (is_ok c.insert-added.result)
+          (noted-kept c.self.inside.filter.words c.insert.new.self.words c.self.inside.rows.items c.insert.ensures.others_kept c.self.invariant.1) gap.within new,
     )

@@ -15,7 +15,7 @@ invariant_of-self c =
     get_or_read c.self.inside.rows.items c.in-Ok.i c.index_mut-row.result.now at.within c.index_mut-row.ensures.value no_row in
     let named : c.set_entry.new.self.name ≡ c.args.name.now = ap (λ a. a.name) c.set_entry.ensures ∙ ap (λ a. a.name) row ∙ at.named in (
       sorted-set c.self.inside.rows.items c.in-Ok.i _ c.self.invariant.0 (subst (λ n. IsRowOf c.self.inside.rows.items c.in-Ok.i n) (sym named) at),
-      noted-set c.self.inside.filter.slots c.self.inside.rows.items c.in-Ok.i _ c.self.invariant.1 at.within (at.named ∙ sym named),
+      noted-set c.self.inside.filter.words c.self.inside.rows.items c.in-Ok.i _ c.self.invariant.1 at.within (at.named ∙ sym named),
     )
 
 pub returns-in-Ok-clause-ok : goal.returns-in-Ok-clause-ok
