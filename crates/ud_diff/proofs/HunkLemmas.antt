@@ -88,7 +88,7 @@ next_hunk_is script from first skipped len e h some within =
       kept = subst (λ (n : ℕ). AreKept (take n (drop from script))) so_many (kept_before (drop from script) first skipped e h);
     }
 
--- The same for the rests of slices.
+-- A hunk that begins before the first change of the rest of a slice, with some lines.
 pub next_hunk_at : (script : List DiffLine) (from first skipped len : ℕ) →
     position (λ (l : DiffLine). is_change l.sign) (take (length script - from) (drop from script)) ≡ Some first → skipped ≤ first → 0 < len →
     len ≤ length (take (length (take (length script - from) (drop from script)) - skipped) (drop skipped (take (length script - from) (drop from script)))) →
@@ -193,7 +193,7 @@ kept_length_new xs ys kept =
 upto_later : (ls : List DiffLine) (i j : ℕ) → i ≤ j → take j ls ≡ take i ls ++ take (j - i) (drop i ls)
 upto_later ls i j h = let so_many : j ≡ i + (j - i) = omega arith in ap (λ (n : ℕ). take n ls) so_many ∙ take-add i (j - i) ls
 
--- As many lines as are taken.
+-- The number of lines between two positions.
 taken_length : (ls : List DiffLine) (i j : ℕ) → i ≤ j → j ≤ length ls → length (take (j - i) (drop i ls)) ≡ j - i
 taken_length ls i j h within = let all : length (drop i ls) ≡ length ls - i = length-drop i ls in length-take-le (j - i) (drop i ls) (omega arith)
 

@@ -19,7 +19,7 @@ data TurnsFrom : ℕ → ℕ → List Hunk → List (List ℕ) → List (List �
       TurnsFrom (h.old_before + length (old_lines h.lines)) (h.new_before + length (new_lines h.lines)) hunks old new →
       TurnsFrom m n (h ∷ hunks) (ls ++ (old_lines h.lines ++ old)) (ls ++ (new_lines h.lines ++ new))
 
--- The same at equal lines.
+-- Hunks turn equal lines alike.
 turns_cast : {m n : ℕ} {hunks : List Hunk} {o p w x : List (List ℕ)} → o ≡ p → w ≡ x → TurnsFrom m n hunks o w → TurnsFrom m n hunks p x
 turns_cast {m} {n} {hunks} {o} {p} {w} {x} e f t = subst (λ (a : List (List ℕ)). TurnsFrom m n hunks a x) e (subst (λ (a : List (List ℕ)). TurnsFrom m n hunks o a) f t)
 
@@ -60,12 +60,12 @@ rest_after_at [] rest = refl
 rest_after_at (w ∷ ws) rest =
     ap (λ (b : Bool). if b then rest_after ws (ws ++ rest) else None) ((bytes_eq-Decides w w).1 refl) ∙ rest_after_at ws rest
 
--- What a hunk makes of lines, step by step.
+-- The lines that a hunk makes, step by step.
 abbrev made : Bool → List (List ℕ) → Option (List (List ℕ)) → (List (List ℕ) → Option (List (List ℕ))) → List (List ℕ) → Option (List (List ℕ))
 made inside front found f news =
     if inside then option_and_then (λ (rest : List (List ℕ)). option_map (λ (w : List (List ℕ)). front ++ (news ++ w)) (f rest)) found else None
 
--- It makes the lines before it, its new ones, and what the later hunks make.
+-- A hunk makes the lines before it, its new ones, and what the later hunks make.
 made_is : (inside : Bool) (front : List (List ℕ)) (found : Option (List (List ℕ))) (f : List (List ℕ) → Option (List (List ℕ)))
     (ls rest news later : List (List ℕ)) → inside ≡ true → front ≡ ls → found ≡ Some rest → f rest ≡ Some later →
     made inside front found f news ≡ Some (ls ++ (news ++ later))
@@ -101,7 +101,7 @@ turns_makes hunks old new t =
     (subst (λ (hs : List Hunk). TurnsFrom 0 0 hs old new) (append-nil hunks)
     (turns_cast (append-nil old) (append-nil new) (turns_then hunks old new t [] [] [] (done (length old) (length new) []))))
 
--- A line that is turned is in the new text where it was in the old one.
+-- A turned line is in the new text where it was in the old one.
 turned_line-old : (sign : Sign) (bytes : List ℕ) (ls ms : List SignedLine) → old_lines ms ≡ new_lines ls →
     old_lines (record { sign = turned_sign sign; bytes = bytes } ∷ ms) ≡ new_lines (record { sign = sign; bytes = bytes } ∷ ls)
 turned_line-old Kept bytes ls ms e = ap (λ (xs : List (List ℕ)). bytes ∷ xs) e
@@ -114,17 +114,17 @@ turned_line-new Kept bytes ls ms e = ap (λ (xs : List (List ℕ)). bytes ∷ xs
 turned_line-new Removed bytes ls ms e = ap (λ (xs : List (List ℕ)). bytes ∷ xs) e
 turned_line-new Added bytes ls ms e = e
 
--- The old lines of a hunk that is turned are its new ones.
+-- The old lines of a turned hunk are its new ones.
 turned_old : (ls : List SignedLine) → old_lines (map turned_line ls) ≡ new_lines ls
 turned_old [] = refl
 turned_old (l ∷ ls) = turned_line-old l.sign l.bytes ls (map turned_line ls) (turned_old ls)
 
--- The new lines of a hunk that is turned are its old ones.
+-- The new lines of a turned hunk are its old ones.
 turned_new : (ls : List SignedLine) → new_lines (map turned_line ls) ≡ old_lines ls
 turned_new [] = refl
 turned_new (l ∷ ls) = turned_line-new l.sign l.bytes ls (map turned_line ls) (turned_new ls)
 
--- Hunks that are turned turn the new text into the old one.
+-- Turned hunks turn the new text into the old one.
 turns_back : (hunks : List Hunk) (old new : List (List ℕ)) → Turns hunks old new → Turns (map turned hunks) new old
 turns_back _ _ _ nothing = nothing
 turns_back _ _ _ (stay hunks old new ls t) = stay (map turned hunks) new old ls (turns_back hunks old new t)

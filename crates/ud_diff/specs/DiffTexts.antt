@@ -42,8 +42,8 @@ signed_text l = sign_byte l.sign ∷ ended_text l.bytes
 -- `ranges_text m old n new`: the first line of a hunk: where its `old` lines of the old text begin,
 -- after `m` others, and its `new` lines of the new text, after `n` others.
 unfoldable pub ranges_text : ℕ → ℕ → ℕ → ℕ → List ℕ
-ranges_text m old n new =
-    codes "@@ -" ++ (range_text m old ++ (codes " +" ++ (range_text n new ++ (codes " @@" ++ newline ∷ []))))
+ranges_text m old n new = codes "@@ -" ++ range_text m old ++ codes " +" ++ range_text n new ++
+    codes " @@" ++ newline ∷ []
 
 -- `hunk_text h`: the hunk `h`: its ranges, and then its lines.
 abbrev pub hunk_text : Hunk → List ℕ

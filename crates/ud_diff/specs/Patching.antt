@@ -4,7 +4,7 @@
 --   patched_from done hunks lines  the new lines, if `done` lines come before these old ones
 --   patched hunks lines            the new lines of a whole text
 --   Turns hunks old new            the hunks turn all of `old` into all of `new`
---   IsDiff path old new bytes      `bytes` are a diff that turns the text `old` into `new`, and back
+--   IsDiff path old new bytes      a diff that turns the text `old` into `new`, and back
 --
 -- Example: the hunk before which one line comes, and which removes the line `b` and adds `c`, makes
 -- the lines `a`, `c` of the lines `a`, `b`. Of `a`, `d` it makes nothing.

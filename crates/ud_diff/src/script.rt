@@ -18,7 +18,7 @@ pub(crate) struct Script<'t> {
     lines: Vec<DiffLine<'t>>,
     old_rest: &'t [u8],
     new_rest: &'t [u8],
-    /// How many lines of the new text come before the next line that stays.
+    /// The number of lines of the new text before the next line that stays.
     pending: usize,
 }
 
