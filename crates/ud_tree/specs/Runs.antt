@@ -1,22 +1,42 @@
--- Runs: what is asked for a file of a run, and what becomes of it.
+-- Runs: what is asked for the files of a run, and what becomes of them.
 --
 --   ReadsOne name old new   a file was read, and nothing else was asked
+--   Reads name old new fate   the same, whatever became of the file
 --   fate_of r               what became of a file, by the result of replacing it
+--   IsPlanned plan o        `o` has the settings and the symbols of a plan
+--   ReplacesOne plan into tag name old new fate   a file was replaced, or its name took no memory
+--   EachFile P old names new fates   `P` holds of each file in turn, and nothing else was asked
+--   CountsAre counts fates  these are the numbers of each fate
+--   Counted P old names new counts   each file in turn, with the numbers of each fate
+--   names_of files          the paths of the files that the walk found
 --
 -- `old` and `new` are the calls before and after, the newest first.
-use Rattle.std.specs.Prelude.{◌≡◌, ℕ, List, ◌∷◌, Option, Result, Ok, Err}
+use Rattle.std.specs.Prelude.{◌≡◌, ℕ, List, [], ◌∷◌, ◌++◌, Bool, Option, Result, Ok, Err, map}
+use Rattle.std.specs.Prelude.{count_by, string_bytes}
+use Rattle.ud_model.specs.sections.Items.{Options}
+use Rattle.ud_cond.specs.symbols.SymbolTable.{TableRepresents}
+use Rattle.ud_args.specs.Plans.{PlanState}
 use Rattle.ud_replace.specs.declared.error.Update.{Update}
 use Rattle.ud_replace.specs.declared.error.Update.TheVariants.{Unchanged, Replaced, WrittenInto}
 use Rattle.ud_replace.specs.declared.error.ReplaceError.{ReplaceError}
 use Rattle.ud_replace.specs.declared.stat.FileStat.{FileStat}
 use Rattle.ud_replace.specs.Calls.{Call, was_read}
+use Rattle.ud_replace.specs.Replacing.{Replaces}
 use Rattle.ud_tree.specs.declared.counts.Fate.{Fate}
 use Rattle.ud_tree.specs.declared.counts.Fate.TheVariants.{Changed, Same, Faulty}
+use Rattle.ud_tree.specs.declared.counts.Counts.{Counts}
+use Rattle.ud_tree.specs.declared.walk.Found.{Found}
+use Rattle.ud_tree.specs.Fates.{is_changed, is_same, is_faulty}
+use Rattle.ud_tree.specs.Paths.{fresh_name}
 
 -- `ReadsOne name old new`: the file `name` was read, and nothing else was asked.
 pub data ReadsOne (name : List ℕ) (old new : List Call) : Type 0 where
   reads : (text : List ℕ) (answer : Option FileStat) → new ≡ was_read name text answer ∷ old →
       ReadsOne name old new
+
+-- `Reads name old new fate`: the file `name` was read, and nothing else was asked, whatever `fate`.
+abbrev pub Reads : List ℕ → List Call → List Call → Fate → Type 0
+Reads name old new fate = ReadsOne name old new
 
 -- `fate_of r`: what became of a file.
 abbrev pub fate_of : Result Update ReplaceError → Fate
@@ -24,3 +44,45 @@ fate_of (Ok Unchanged) = Same
 fate_of (Ok Replaced) = Changed
 fate_of (Ok WrittenInto) = Changed
 fate_of (Err e) = Faulty
+
+-- `IsPlanned plan o`: the options `o` have the settings and the symbols of `plan`.
+pub record IsPlanned (plan : PlanState) (o : Options) : Type 0 where
+  pub settings : o.settings ≡ plan.settings
+  pub table : TableRepresents plan.symbols o.table
+
+-- `ReplacesOne plan into tag name old new fate`: the calls are those that replace the file `name`,
+-- by the help of one whose name ends in `tag`. The result has this fate. Or memory for that name
+-- couldn't be allocated. Then nothing was asked, and the file counts as faulty.
+pub data ReplacesOne (plan : PlanState) (into : Bool) (tag name : List ℕ) (old new : List Call) :
+    Fate → Type 0 where
+  replaces : (r : Result Update ReplaceError) (fresh : List ℕ) → fresh ≡ fresh_name tag name →
+      ((o : Options) → IsPlanned plan o → Replaces o into name fresh old new r) →
+      ReplacesOne plan into tag name old new (fate_of r)
+  no_name : new ≡ old → ReplacesOne plan into tag name old new Faulty
+
+-- `EachFile P old names new fates`: `P name mid next fate` holds of each file in turn, where `mid`
+-- and `next` are the calls before and after it. Nothing else was asked.
+pub data EachFile (P : List ℕ → List Call → List Call → Fate → Type 0) (old : List Call) :
+    List (List ℕ) → List Call → List Fate → Type 0 where
+  no_file : EachFile P old [] old []
+  then_file : {names : List (List ℕ)} {mid next : List Call} {fates : List Fate} {name : List ℕ}
+      {fate : Fate} → EachFile P old names mid fates → P name mid next fate →
+      EachFile P old (names ++ name ∷ []) next (fates ++ fate ∷ [])
+
+-- `CountsAre counts fates`: `counts` has the number of each fate.
+pub record CountsAre (counts : Counts) (fates : List Fate) : Type 0 where
+  pub changed : counts.changed ≡ count_by is_changed fates
+  pub unchanged : counts.unchanged ≡ count_by is_same fates
+  pub faulty : counts.faulty ≡ count_by is_faulty fates
+
+-- `Counted P old names new counts`: `P` holds of each file in turn, and `counts` has the numbers
+-- of their fates.
+pub record Counted (P : List ℕ → List Call → List Call → Fate → Type 0) (old : List Call)
+    (names : List (List ℕ)) (new : List Call) (counts : Counts) : Type 0 where
+  pub fates : List Fate
+  pub each : EachFile P old names new fates
+  pub counts_are : CountsAre counts fates
+
+-- `names_of files`: the paths of the files, in order.
+abbrev pub names_of : List Found → List (List ℕ)
+names_of files = map (λ f. string_bytes f.path) files

@@ -1,6 +1,6 @@
 //! Listing the names of all files.
 
-ghost use Rattle.ud_tree.specs.Runs.{ReadsOne};
+ghost use Rattle.ud_tree.specs.Runs.{ReadsOne, Reads, Counted, names_of};
 
 use crate::counts::{Counts, Fate};
 use crate::job::Job;
@@ -21,7 +21,9 @@ pub(crate) fn list_all<T: Tree, E: Write>(
     files: &[Found],
     names: &mut Names,
     report: &mut Report<E>,
-) -> Counts {
+) -> Counts
+    ensures { Counted Reads (T.history tree.old) (names_of files.now) (T.history tree.new) result }
+{
     let mut counts = Counts::new();
     for (done, file) in files.iter().enumerate() {
         report.progress(done, files.len());

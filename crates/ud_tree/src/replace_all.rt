@@ -1,7 +1,7 @@
 //! Replacing all files of a run.
 
 ghost use Rattle.std.specs.Prelude.{◌≡◌};
-ghost use Rattle.ud_tree.specs.Runs.{fate_of};
+ghost use Rattle.ud_tree.specs.Runs.{ReplacesOne, Counted, fate_of, names_of};
 
 use crate::counts::{Counts, Fate};
 use crate::job::Job;
@@ -14,12 +14,18 @@ use ud_model::Settings;
 use ud_replace::{ReplaceError, Target, Update, replace};
 
 /// Replaces all files in order, and reports their faults. Returns what became of them.
+///
+/// Nothing is asked but what replaces each file, once.
 pub(crate) fn replace_all<T: Tree, E: Write>(
     job: &Job<'_>,
     tree: &mut T,
     files: &[Found],
     report: &mut Report<E>,
-) -> Counts {
+) -> Counts
+    ensures { Counted
+        (ReplacesOne job.now.arguments.now.plan job.now.arguments.now.write_into job.now.tag.now)
+        (T.history tree.old) (names_of files.now) (T.history tree.new) result }
+{
     let mut counts = Counts::new();
     for (done, file) in files.iter().enumerate() {
         report.progress(done, files.len());
@@ -46,7 +52,10 @@ fn replace_file<T: Tree, E: Write>(
     tree: &mut T,
     name: &[u8],
     report: &mut Report<E>,
-) -> Result<Update, ReplaceError> {
+) -> Result<Update, ReplaceError>
+    ensures { ReplacesOne job.now.arguments.now.plan job.now.arguments.now.write_into
+        job.now.tag.now name.now (T.history tree.old) (T.history tree.new) (fate_of result) }
+{
     let update = replace_named(job, tree, name);
     if let Err(error) = update {
         report_error(tree, name, job.arguments.plan.settings(), error, report);
@@ -55,11 +64,10 @@ fn replace_file<T: Tree, E: Write>(
 }
 
 /// Replaces a file by one with a name of its own.
-fn replace_named<T: Tree>(
-    job: &Job<'_>,
-    tree: &mut T,
-    name: &[u8],
-) -> Result<Update, ReplaceError> {
+fn replace_named<T: Tree>(job: &Job<'_>, tree: &mut T, name: &[u8]) -> Result<Update, ReplaceError>
+    ensures { ReplacesOne job.now.arguments.now.plan job.now.arguments.now.write_into
+        job.now.tag.now name.now (T.history tree.old) (T.history tree.new) (fate_of result) }
+{
     match fresh_name(job.alloc, name, job.tag) {
         Err(_) => Err(ReplaceError::OutOfMemory),
         Ok(fresh) => {

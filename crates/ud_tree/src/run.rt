@@ -2,7 +2,9 @@
 
 ghost use Rattle.std.specs.Prelude.{◌≡◌};
 ghost use Rattle.ud_model.specs.answer.Answer.{status_by};
+ghost use Rattle.ud_tree.specs.Runs.{Counted, names_of};
 ghost use Rattle.ud_tree.specs.Statuses.{tree_status};
+ghost use Rattle.ud_tree.specs.TreeRuns.{DoesOne, Ends, IsRun};
 
 use crate::arguments::{Arguments, Task};
 use crate::counts::Counts;
@@ -51,7 +53,9 @@ pub fn run_tree<T: Tree, R: Read + Drop, W: Write + Drop, E: Write + Drop>(
     tree: &mut T,
     streams: Streams<R, W, E>,
     tag: &[u8],
-) -> u8 {
+) -> u8
+    ensures { IsRun arguments.now tag.now (T.history tree.old) (T.history tree.new) result }
+{
     let Streams {
         input,
         out,
@@ -141,7 +145,10 @@ fn process_all<T: Tree, W: Write, E: Write>(
     files: &[Found],
     out: &mut Watched<W>,
     report: &mut Report<E>,
-) -> u8 {
+) -> u8
+    ensures { Ends job.now.arguments.now job.now.tag.now (T.history tree.old) (names_of files.now)
+        (T.history tree.new) result }
+{
     let walk_faults = report.faulty();
     let mut names = Names::new(job.alloc);
     let counts = process_files(job, tree, files, out, &mut names, report);
@@ -165,7 +172,10 @@ fn process_files<T: Tree, W: Write, E: Write>(
     out: &mut Watched<W>,
     names: &mut Names,
     report: &mut Report<E>,
-) -> Counts {
+) -> Counts
+    ensures { Counted (DoesOne job.now.arguments.now job.now.tag.now) (T.history tree.old)
+        (names_of files.now) (T.history tree.new) result }
+{
     match job.arguments.task {
         Task::Replace => replace_all(job, tree, files, report),
         Task::Diff => show_all(job, tree, files, out, report),

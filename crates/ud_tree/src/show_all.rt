@@ -1,6 +1,6 @@
 //! Showing what would change of all files.
 
-ghost use Rattle.ud_tree.specs.Runs.{ReadsOne};
+ghost use Rattle.ud_tree.specs.Runs.{ReadsOne, Reads, Counted, names_of};
 
 use crate::counts::{Counts, Fate};
 use crate::job::Job;
@@ -25,7 +25,9 @@ pub(crate) fn show_all<T: Tree, W: Write, E: Write>(
     files: &[Found],
     out: &mut Watched<W>,
     report: &mut Report<E>,
-) -> Counts {
+) -> Counts
+    ensures { Counted Reads (T.history tree.old) (names_of files.now) (T.history tree.new) result }
+{
     let mut counts = Counts::new();
     for (done, file) in files.iter().enumerate() {
         report.progress(done, files.len());

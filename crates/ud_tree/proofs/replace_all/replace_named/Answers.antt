@@ -1,0 +1,9 @@
+use Rattle.std.proofs.Common.{refl, ◌∙◌}
+use Rattle.ud_tree.specs.Runs.{replaces, no_name}
+use Rattle.ud_tree.proofs.replace_all.replace_named.Goals as goal
+
+pub returns-in-Err : goal.returns-in-Err
+returns-in-Err g c = no_name refl
+
+pub returns-in-Ok : goal.returns-in-Ok
+returns-in-Ok g c = replaces c.replace.result c.as_slice.result.now (c.as_slice.ensures.value ∙ c.in-Ok.ensures) (λ o h. c.replace.ensures.calls o h.settings h.table)
