@@ -8,7 +8,14 @@ import sys
 from html import escape
 from math import log10
 
-COLOURS = ["#0b6e4f", "#c8553d", "#e9a03b", "#7a5195", "#8a8d91"]
+# Each program has its colour, whichever programs were there.
+COLOURS = {
+    "this": "#0b6e4f",
+    "released": "#c8553d",
+    "rebuilt": "#e9a03b",
+    "newer": "#7a5195",
+    "cat": "#8a8d91",
+}
 LEFT, RIGHT, TOP, BAR, GAP = 190, 60, 62, 11, 10
 WIDTH, GREATEST = 800, 10_000
 
@@ -47,7 +54,7 @@ def drawing(names, rows):
     yield f'<rect width="{WIDTH}" height="{height}" fill="#fff"/>'
     yield text(8, 18, "Millions of bytes a second by processor time; each line to the right is ten times the speed")
     for index, name in enumerate(names):
-        yield f'<rect x="{LEFT + 110 * index}" y="28" width="10" height="10" fill="{COLOURS[index % len(COLOURS)]}"/>'
+        yield f'<rect x="{LEFT + 110 * index}" y="28" width="10" height="10" fill="{COLOURS[name]}"/>'
         yield text(LEFT + 110 * index + 15, 37, name)
     for power in range(int(log10(GREATEST)) + 1):
         x = across(10**power)
@@ -56,9 +63,9 @@ def drawing(names, rows):
     y = TOP
     for name, speeds in rows:
         yield text(LEFT - 8, y + len(speeds) * BAR / 2 + 4, name, "end")
-        for index, speed in enumerate(speeds):
+        for program, speed in zip(names, speeds):
             width = max(across(speed) - LEFT, 1)
-            yield f'<rect x="{LEFT}" y="{y}" width="{width:.1f}" height="{BAR - 1}" fill="{COLOURS[index % len(COLOURS)]}"/>'
+            yield f'<rect x="{LEFT}" y="{y}" width="{width:.1f}" height="{BAR - 1}" fill="{COLOURS[program]}"/>'
             yield text(LEFT + width + 4, y + BAR - 2, f"{speed:,.0f}")
             y += BAR
         y += GAP

@@ -5,7 +5,8 @@
 # Examples are the fenced blocks of docs/LIBRARY.md, and those of the `///` and `//!` comments in
 # the sources of all crates. The lines of a ```rust block must be consecutive lines of a source of
 # crates/example_library. The lines of a ```text block, or of a block without a language, must be
-# consecutive lines of its stdout. Indentation is ignored, and so is the mark of a comment.
+# consecutive lines of its stdout. A ```sh block is left out. Indentation is ignored, and so is the
+# mark of a comment.
 set -eu -o pipefail
 cd "$(dirname "$0")/.."
 library=crates/example_library
@@ -29,6 +30,7 @@ right=0 wrong=0
 check_block() {
   local page=$1 language=$2 block=$3 text=''
   case "$language" in
+    sh) return ;;
     rust) text=$code ;;
     text | '') text=$printed ;;
   esac

@@ -14,11 +14,14 @@ looked for in backquotes, outside of code blocks:
     law_lines, LineBuffer, Engine      a word of some source, a file's stem, or an edit
     answer, ended                      a clause's label, in a table's column "Clause"
 
+So are the files and headings to which links lead.
+
 Other words have no `_`, no capital inside, and aren't one capitalized word: they are skipped. A
 comment is no source.
 
 Without PAGE, it also checks that the manual has each message of the program under DIAGNOSTICS.
 """
+import os
 import re
 import sys
 
@@ -127,6 +130,25 @@ def clauses(text):
             yield line, name
 
 
+def headings(page):
+    """Returns the anchors of a page's headings."""
+    with open(page, encoding="utf-8") as file:
+        text = re.sub(r"^```.*?^```", "", file.read(), flags=re.MULTILINE | re.DOTALL)
+    titles = re.findall(r"^#+ (.*)$", text, re.MULTILINE)
+    return {re.sub(r"[^\w -]", "", title.lower()).replace(" ", "-") for title in titles}
+
+
+def dead_links(page, text):
+    """Yields the line and each link of a page that leads to no file or no heading."""
+    for found in re.finditer(r"\]\(([^()\s]+)\)", text):
+        path, _, anchor = found.group(1).partition("#")
+        target = os.path.normpath(os.path.join(os.path.dirname(page), path)) if path else page
+        if "://" in path:
+            continue
+        if not os.path.exists(target) or (anchor and anchor not in headings(target)):
+            yield text.count("\n", 0, found.start()) + 1, found.group(1)
+
+
 def problems(tree, pages):
     """Yields a message for each name in a page that doesn't exist."""
     for page in pages:
@@ -134,6 +156,7 @@ def problems(tree, pages):
             text = file.read()
         for line, cited in citations(text):
             yield from (f"{page}:{line}: {name} doesn't exist" for name in tree.missing(cited))
+        yield from (f"{page}:{line}: {link} leads nowhere" for line, link in dead_links(page, text))
         for line, name in clauses(text):
             if name not in tree.labels:
                 yield f"{page}:{line}: no clause is called {name}"
