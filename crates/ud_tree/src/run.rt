@@ -43,6 +43,7 @@ pub struct Streams<R, W, E> {
 /// The status is 2, and there is a message for each fault, in each of these cases:
 ///
 /// - A path doesn't exist, or is a link to a file. No file was changed.
+/// - The paths name no file. If paths come from the input, that is no fault.
 /// - A folder can't be read, or a file can't be replaced. The other files are.
 /// - The output can't be written.
 pub fn run_tree<T: Tree, R: Read + Drop, W: Write + Drop, E: Write + Drop>(
@@ -75,7 +76,8 @@ pub fn run_tree<T: Tree, R: Read + Drop, W: Write + Drop, E: Write + Drop>(
     }
 }
 
-/// Returns the files of the run; `None` if a path of the command line has a fault.
+/// Returns the files of the run; `None` if a path of the command line has a fault, or if no file
+/// matches.
 fn find_files<T: Tree, R: Read + Drop, E: Write>(
     job: &Job<'_>,
     tree: &mut T,
@@ -96,7 +98,12 @@ fn find_files<T: Tree, R: Read + Drop, E: Write>(
         return Ok(None);
     }
     walk.go(tree, report)?;
-    Ok(Some(walk.finish()?))
+    let files = walk.finish()?;
+    if files.is_empty() {
+        report.line(&[b"No file matches"]);
+        return Ok(None);
+    }
+    Ok(Some(files))
 }
 
 /// Adds the files whose paths are on the input, each ended by a NUL.
