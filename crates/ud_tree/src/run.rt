@@ -65,7 +65,7 @@ pub fn run_tree<T: Tree, R: Read + Drop, W: Write + Drop, E: Write + Drop>(
         tag,
     };
     let mut out = Watched::new(out);
-    let mut report = Report::new(alloc, err, is_terminal);
+    let mut report = Report::new(alloc, err, is_terminal, arguments.list_remaining);
     match find_files(&job, tree, input, &mut report) {
         Err(_) => {
             report.fault(b"", b"Out of memory");
@@ -152,7 +152,7 @@ fn process_all<T: Tree, W: Write, E: Write>(
     let walk_faults = report.faulty();
     let mut names = Names::new(job.alloc);
     let counts = process_files(job, tree, files, out, &mut names, report);
-    let list_faults = write_names(job, out, report, &names);
+    let list_faults = write_lists(job, out, report, &names);
     let out_faults = finish_output(out, report);
     let faults = walk_faults
         .saturating_add(list_faults)
@@ -160,6 +160,7 @@ fn process_all<T: Tree, W: Write, E: Write>(
         .saturating_add(counts.faulty);
     if !job.arguments.quiet {
         report_counts(job.arguments.task, report, names.hidden(), counts, faults);
+        report_remaining(job.arguments, report);
     }
     status(job.arguments, faults, counts.changed)
 }
@@ -180,8 +181,9 @@ fn process_files<T: Tree, W: Write, E: Write>(
     }
 }
 
-/// Writes the names that were counted. Returns the number of faults, 0 or 1, which were reported.
-fn write_names<W: Write, E: Write>(
+/// Writes the names that were counted, and the conditions that still name a symbol. Returns the
+/// number of faults, 0 or 1, which were reported.
+fn write_lists<W: Write, E: Write>(
     job: &Job<'_>,
     out: &mut Watched<W>,
     report: &mut Report<E>,
@@ -190,7 +192,8 @@ fn write_names<W: Write, E: Write>(
     let mut list = Vec::new(job.alloc);
     let listed = names.append_to(&mut list);
     write_parts(out, &[list.as_slice()]);
-    if listed.is_err() {
+    report.write_remaining(out);
+    if listed.is_err() || report.has_lost() {
         report.fault(b"stdout", b"Out of memory");
         1
     } else {
@@ -249,6 +252,29 @@ fn report_counts<E: Write>(
             hidden,
             b" conditions could not be listed",
         ]),
+    }
+}
+
+/// Writes how many conditions still name a symbol, if they were listed or if there are some.
+fn report_remaining<E: Write>(arguments: &Arguments, report: &mut Report<E>) {
+    let count = report.remaining();
+    if count == 0 && !arguments.list_remaining {
+        return;
+    }
+    let mut digits = Buffer::new();
+    let number = digits.format(count).as_bytes();
+    if arguments.list_remaining {
+        report.line(&[number, remaining_text(count)]);
+    } else {
+        report.line(&[number, remaining_text(count), b"; -r lists them"]);
+    }
+}
+
+/// Returns what follows the number of conditions that still name a symbol.
+fn remaining_text(count: usize) -> &'static [u8] {
+    match count {
+        1 => b" condition still names a symbol",
+        _ => b" conditions still name a symbol",
     }
 }
 
