@@ -1,6 +1,5 @@
 # make            proves the crates side by side, builds the program and copies it to ./unifdef
-# make unifdef-tree  proves and builds the program that is to replace tools/unifdef-tree. Nothing
-#                 installs it yet
+# make unifdef-tree  proves and builds the program for trees, and copies it to ./unifdef-tree
 # make try        runs the program without a proof: make try ARGS='-DA' < in.c. It is built first, in
 #                 half a minute. Statuses 0 and 1 are success, and the status is printed
 # make test       runs every case and test without a proof, side by side; make check proves them
@@ -16,15 +15,14 @@
 # make faults     runs ./unifdef with failing streams, refused memory and a small stack
 #                 (tests/faults/README.md)
 # make fail-alloc  makes each allocation of the program fail in turn, by the kit's fault injection
-# make tree-test  runs tools/unifdef-tree over trees with every trap, and interrupts it. If
-#                 ./unifdef-tree is built, runs that too
-# make install    installs ./unifdef, unifdef-tree, manuals and completions under DESTDIR and
+# make tree-test  runs ./unifdef-tree over trees with every trap, and kills it at each system call
+# make install    installs ./unifdef, ./unifdef-tree, manuals and completions under DESTDIR and
 #                 PREFIX; make uninstall removes them
 # make lib        proves and builds the library for C: lib/libunifdef.a and lib/libunifdef.so
 # make lib-test   tries both from C and from Python, with sanitizers, and runs all cases through them
 # make install-lib  installs the library, unifdef.h, unifdef.pc, the module for Python and unifdef(3)
 # make dist       makes unifdef-VERSION.tar.gz of the last commit, which builds by itself
-# make deb        makes a Debian package of ./unifdef
+# make deb        makes a Debian package of both programs
 # make deb-lib    makes the Debian packages libunifdef1, libunifdef-dev and python3-unifdef
 # make packages-test  installs and uninstalls in folders of its own, makes both packages, and tries
 #                 the completions
@@ -136,7 +134,7 @@ check: kit
 edits: kit
 	RT='$(RT)' tests/edits.sh $(CRATES)
 
-examples: unifdef
+examples: unifdef unifdef-tree
 	@tests/examples.sh README.md
 	@tests/examples.sh docs/EXAMPLES.md
 	@tests/quotes.sh
@@ -157,14 +155,13 @@ faults: unifdef
 fail-alloc: kit
 	RT='$(RT)' tests/faults/fail-alloc.sh
 
-tree-test: unifdef
+tree-test: unifdef unifdef-tree
 	@tests/tree.sh
-	@[ ! -x unifdef-tree ] || TREE=./unifdef-tree tests/tree.sh
 
-install: unifdef
+install: unifdef unifdef-tree
 	$(INSTALL) -d "$(DESTDIR)$(BINDIR)" "$(DESTDIR)$(MANDIR)/man1" "$(DESTDIR)$(DOCDIR)"
 	$(INSTALL) -d "$(DESTDIR)$(BASHDIR)" "$(DESTDIR)$(ZSHDIR)" "$(DESTDIR)$(FISHDIR)"
-	$(INSTALL) -m 755 unifdef tools/unifdef-tree "$(DESTDIR)$(BINDIR)"
+	$(INSTALL) -m 755 unifdef unifdef-tree "$(DESTDIR)$(BINDIR)"
 	$(INSTALL) -m 644 docs/unifdef.1 docs/unifdef-tree.1 "$(DESTDIR)$(MANDIR)/man1"
 	$(INSTALL) -m 644 docs/DEFINITIONS.md docs/PROVED.md LICENSE "$(DESTDIR)$(DOCDIR)"
 	$(INSTALL) -m 644 packaging/completions/unifdef.bash "$(DESTDIR)$(BASHDIR)/unifdef"
@@ -200,13 +197,13 @@ uninstall-lib:
 dist:
 	@packaging/dist.sh
 
-deb: unifdef
+deb: unifdef unifdef-tree
 	@MAKE="$(MAKE_COMMAND)" packaging/deb.sh
 
 deb-lib: lib
 	@MAKE="$(MAKE_COMMAND)" packaging/deb-lib.sh
 
-packages-test: unifdef
+packages-test: unifdef unifdef-tree
 	@MAKE="$(MAKE_COMMAND)" tests/packages.sh
 	@MAKE="$(MAKE_COMMAND)" tests/packages-lib.sh
 	@tests/completions.sh

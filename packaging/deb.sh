@@ -1,9 +1,10 @@
 #!/bin/sh
-# Makes the Debian package unifdef-proved_VERSION_ARCHITECTURE.deb of ./unifdef, with dpkg's tools.
+# Makes the Debian package unifdef-proved_VERSION_ARCHITECTURE.deb of ./unifdef and ./unifdef-tree,
+# with dpkg's tools.
 #
 # Debian's own package is called unifdef. The two can't be installed beside each other. The same
-# ./unifdef gives the same package, byte by byte: times are SOURCE_DATE_EPOCH or, without it, the
-# time of the last commit.
+# programs give the same package, byte by byte: times are SOURCE_DATE_EPOCH or, without it, the time
+# of the last commit.
 set -eu
 umask 022
 cd "$(dirname "$0")/.."
@@ -15,7 +16,7 @@ trap 'rm -rf "$stage"' EXIT
 root=$stage/root
 package=unifdef-proved
 
-"${MAKE:-make}" -s -o unifdef install DESTDIR="$root" PREFIX=/usr DOCDIR="/usr/share/doc/$package" \
+"${MAKE:-make}" -s -o unifdef -o unifdef-tree install DESTDIR="$root" PREFIX=/usr DOCDIR="/usr/share/doc/$package" \
   ZSHDIR=/usr/share/zsh/vendor-completions
 documents=$root/usr/share/doc/$package
 mv "$documents/LICENSE" "$documents/copyright"
@@ -26,10 +27,10 @@ cp CHANGELOG.md "$documents"
 printf '%s (%s) unstable; urgency=medium\n\n  * CHANGELOG.md has what changed.\n\n -- %s  %s\n' \
   "$package" "$version" "$maintainer" "$(date -uRd "@$SOURCE_DATE_EPOCH")" > "$documents/changelog"
 gzip -9n "$documents/changelog" "$root"/usr/share/man/man1/*.1
-strip --remove-section=.comment "$root/usr/bin/unifdef"
+strip --remove-section=.comment "$root/usr/bin/unifdef" "$root/usr/bin/unifdef-tree"
 
-# The program needs a C library that is at least as new as the newest of its symbols.
-library=$(objdump -T unifdef | sed -n 's/.*GLIBC_\([0-9.]*\).*/\1/p' | sort -Vu | tail -n 1)
+# The programs need a C library that is at least as new as the newest of their symbols.
+library=$(objdump -T unifdef unifdef-tree | sed -n 's/.*GLIBC_\([0-9.]*\).*/\1/p' | sort -Vu | tail -n 1)
 mkdir "$root/DEBIAN"
 cat > "$root/DEBIAN/control" << END
 Package: $package

@@ -1,6 +1,6 @@
 #!/bin/sh
-# Prints the version. Fails if CHANGELOG.md, the manuals, lib/unifdef.h, the library's code and the
-# commit's tag don't agree on it.
+# Prints the version. Fails if CHANGELOG.md, the manuals, lib/unifdef.h, the library's code, the
+# option -V of unifdef-tree and the commit's tag don't agree on it.
 #
 # The version is that of the first heading of CHANGELOG.md with a number, as "## 1.0".
 set -u
@@ -21,6 +21,10 @@ done
 number=$(echo "$version" | awk -F. '{ print $1 * 10000 + $2 * 100 }')
 if ! grep -qx "#define UNIFDEF_VERSION $number" lib/unifdef.h; then
   echo "version: lib/unifdef.h has no line #define UNIFDEF_VERSION $number" >&2
+  result=1
+fi
+if ! grep -qxF "const VERSION: &str = \"unifdef-tree $version\";" crates/unifdef_tree_cli/src/main.rt; then
+  echo "version: crates/unifdef_tree_cli/src/main.rt has another version than $version" >&2
   result=1
 fi
 if ! grep -qx "#define UNIFDEF_VERSION_STRING \"$version\"" lib/unifdef.h; then

@@ -1,7 +1,7 @@
 #!/usr/bin/env bash
 # Tries the completions in each of bash, zsh and fish that is installed.
 #
-# completions.sh [PROGRAM]: ./unifdef by default.
+# completions.sh [PROGRAM]: ./unifdef by default. ./unifdef-tree is the other program.
 set -u -o pipefail
 here=$(cd "$(dirname "$0")" && pwd)
 program=$(realpath "${1:-$here/../unifdef}")
@@ -12,7 +12,7 @@ work=$(mktemp -d)
 trap 'rm -rf "$work"' EXIT
 mkdir "$work/bin" "$work/here"
 ln -s "$program" "$work/bin/unifdef"
-ln -s "$here/../tools/unifdef-tree" "$work/bin/unifdef-tree"
+ln -s "$(realpath "$here/../unifdef-tree")" "$work/bin/unifdef-tree"
 export PATH=$work/bin:$PATH HOME=$work XDG_CONFIG_HOME=$work XDG_DATA_HOME=$work
 cd "$work/here" || exit 1
 printf '#if DEBUG > 1 && defined(DEEP)\n#endif\n' > a.h
@@ -79,6 +79,7 @@ for shell in bash zsh fish; do
   fi
   offers "$shell" 'unifdef -' -S -j
   offers "$shell" 'unifdef-tree -' -j -S
+  offers "$shell" 'unifdef-tree -' -r -S
   case $shell in
     zsh) names='' ;;
     *) names=-U ;;

@@ -6,7 +6,7 @@
 # An example is a fenced block that begins with ```console. A line that begins with "$ " is a
 # command, and the lines up to the next command are its output, on either stream. Further lines of a
 # command begin with "> ". The commands of a block run in order, in a folder of their own, in which
-# ./unifdef is the program. The folder is on PATH.
+# ./unifdef and ./unifdef-tree are the programs. The folder is on PATH.
 #
 # The rest of a block is left out if it begins with a header of the machine that is another one
 # here. It is also left out if it needs git or a C compiler and there is none.
@@ -55,7 +55,7 @@ run_block() {
   rm -rf "$work/folder"
   mkdir "$work/folder"
   ln -s "$program" "$work/folder/unifdef"
-  ln -s "$here/../tools/unifdef-tree" "$work/folder/unifdef-tree"
+  ln -s "$here/../unifdef-tree" "$work/folder/unifdef-tree"
   while IFS= read -r line || [ -n "$line" ]; do
     if [[ "$line" == "$ "* ]]; then
       if [ -n "$command" ]; then

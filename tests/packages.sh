@@ -1,5 +1,5 @@
 #!/usr/bin/env bash
-# Installs and uninstalls ./unifdef in folders of its own, and tries both packages.
+# Installs and uninstalls both programs in folders of its own, and tries both packages.
 set -u -o pipefail
 export LC_ALL=C
 unset MAKEFLAGS MAKELEVEL
@@ -30,6 +30,7 @@ works_in() {
   check "$1: runs" same "$("$2/bin/unifdef" -DA "$work/a.c"; echo $?)" $'x\n1'
   check "$1: over a tree" same "$("$2/bin/unifdef-tree" -DA "$work/a.c" 2>&1; cat "$work/a.c")" \
     $'unifdef-tree: 1 changed, 0 unchanged, 0 faulty\nx'
+  check "$1: the version" same "$("$2/bin/unifdef-tree" -V)" "unifdef-tree $version"
   for manual in "$2"/share/man/man1/unifdef.1* "$2"/share/man/man1/unifdef-tree.1*; do
     check "$1: ${manual##*/}" shows "$manual" "unifdef $version"
   done
@@ -53,7 +54,7 @@ version=$(packaging/version.sh) || failed=$((failed + 1))
 
 # Installs into a folder with spaces, and uninstalls.
 target="$work/a folder/with spaces"
-check install "$make" -s -o unifdef install DESTDIR="$target" PREFIX="/opt/my tools"
+check install "$make" -s -o unifdef -o unifdef-tree install DESTDIR="$target" PREFIX="/opt/my tools"
 works_in install "$target/opt/my tools"
 check 'install: files' same "$(cd "$target/opt/my tools" && find . -type f | sort)" \
 "./bin/unifdef
@@ -118,7 +119,7 @@ printf '#!/bin/sh\necho "Version: unifdef-2.10" >&2\n' > "$work/second/unifdef"
 chmod +x "$work/second/unifdef"
 ln -s "$(command -v grep)" "$work/second/grep"
 warned() { PATH=$1 packaging/warn.sh "$work/first/bin" 2>&1 | grep -c 'comes before the released'; }
-check 'install: warns' same "$(PATH="$work/first/bin:$work/second:$PATH" "$make" -s -o unifdef install PREFIX="$work/first" 2>&1 |
+check 'install: warns' same "$(PATH="$work/first/bin:$work/second:$PATH" "$make" -s -o unifdef -o unifdef-tree install PREFIX="$work/first" 2>&1 |
   grep -c "comes before the released $work/second/unifdef")" 1
 check 'install: warns of one' same "$(warned "$work/first/bin:$work/second")" 1
 check 'install: no warning after it' same "$(warned "$work/second:$work/first/bin")" 0
@@ -139,10 +140,10 @@ fi
 
 # The Debian package, in a folder with a list of packages of its own.
 if command -v dpkg-deb > /dev/null && command -v objdump > /dev/null; then
-  check deb "$make" -s -o unifdef deb
+  check deb "$make" -s -o unifdef -o unifdef-tree deb
   package=unifdef-proved_${version}_$(dpkg --print-architecture).deb
   cp "$package" "$work/first.deb"
-  check 'deb: again' "$make" -s -o unifdef deb
+  check 'deb: again' "$make" -s -o unifdef -o unifdef-tree deb
   check 'deb: the same bytes' cmp "$work/first.deb" "$package"
   root=$work/root
   mkdir -p "$root/var/lib/dpkg/info" "$root/var/lib/dpkg/updates" "$root/var/lib/dpkg/triggers"

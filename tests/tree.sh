@@ -1,21 +1,16 @@
 #!/usr/bin/env bash
-# Runs unifdef-tree over trees with every trap that its manual names, and interrupts it.
+# Runs unifdef-tree over trees with every trap that its manual names, and kills it at each system
+# call. Everything is done in $TMPDIR and, if it is there, in /dev/shm.
 #
-# tree.sh [PROGRAM]: ./unifdef by default. Everything is run once with each shell that is there. Or
-# TREE names the program that is to replace the script, and is run once. It differs in a few points,
-# which `by_program` has.
+# tree.sh [PROGRAM [UNIFDEF]]: ./unifdef-tree and ./unifdef by default.
 set -u -o pipefail
 export LC_ALL=C
 here=$(cd "$(dirname "$0")" && pwd)
-UNIFDEF=$(realpath "${1:-$here/../unifdef}")
-export UNIFDEF
-TREE=${TREE:+$(realpath "$TREE")}
-[ -x "${TREE:-$UNIFDEF}" ] || { echo "tree-test: ${TREE:-$UNIFDEF} is not there: run make" >&2; exit 1; }
-
-work=$(mktemp -d)
-trap 'umount "$work/small" 2> /dev/null; rm -rf "$work"' EXIT
-mkdir "$work/tmp"
-export TMPDIR=$work/tmp
+TREE=$(realpath "${1:-$here/../unifdef-tree}")
+UNIFDEF=$(realpath "${2:-$here/../unifdef}")
+for program in "$TREE" "$UNIFDEF"; do
+  [ -x "$program" ] || { echo "tree-test: $program is not there: run make ${program##*/}" >&2; exit 1; }
+done
 passed=0 failed=0
 
 # check WHAT COMMAND..: the command must succeed.
@@ -26,31 +21,34 @@ check() {
     passed=$((passed + 1))
   else
     failed=$((failed + 1))
-    echo "tree-test: $shell: $what: failed: $*"
+    echo "tree-test: $work: $what: failed: $*"
   fi
 }
 
-# tree ARGUMENT..: runs unifdef-tree with the current shell. Its output is in $work/out and
-# $work/err.
+# tree ARGUMENT..: runs unifdef-tree. Its output is in $work/out and $work/err.
 tree() {
   status=0
-  if [ -n "$TREE" ]; then
-    (cd "$work/run" && "$TREE" "$@" > "$work/out" 2> "$work/err") || status=$?
-  else
-    (cd "$work/run" && $shell "$here/../tools/unifdef-tree" "$@" > "$work/out" 2> "$work/err") || status=$?
-  fi
+  (cd "$work/run" && "$TREE" "$@" > "$work/out" 2> "$work/err" < /dev/null) || status=$?
 }
 
-# by_program ONE OTHER: prints what the program does, or else what the script does.
-by_program() {
-  if [ -n "$TREE" ]; then printf '%s' "$1"; else printf '%s' "$2"; fi
+# tree_as_user ARGUMENT..: the same as a user other than root.
+tree_as_user() {
+  status=0
+  if [ "$(id -u)" -eq 0 ]; then
+    chown -R 65534:65534 "$work/run"
+    (cd "$work/run" && setpriv --reuid 65534 --regid 65534 --clear-groups "$work/program" "$@" \
+      > "$work/out" 2> "$work/err" < /dev/null) || status=$?
+  else
+    tree "$@"
+  fi
 }
 
 holds() { [ "$(cat "$1"; echo .)" = "$(printf '%b' "$2"; echo .)" ]; }
 same() { [ "$1" = "$2" ]; }
 has_line() { grep -qxF -e "$2" "$1"; }
-no_rest() { [ -z "$(find "$work/run" "$TMPDIR" -mindepth 1 -name '*unifdef-tree*')" ]; }
+no_rest() { [ -z "$(find "$work/run" -name '.unifdef-tree*')" ]; }
 number() { stat -c %i "$1"; }
+has() { command -v "$1" > /dev/null; }
 
 text='#ifdef A\nyes\n#else\nno\n#endif\n'
 fresh_tree() {
@@ -64,7 +62,7 @@ put() { printf '%b' "$2" > "$1"; }
 names() {
   fresh_tree
   # shellcheck disable=SC2016 # The dollar belongs to the name.
-  local odd=('a b.c' $'line\nfeed.c' $'ends in\n.h' '-n.c' '*.c' "it's.c" '$(x).h' 'back\slash.c' $'\x81\x88\xff.c' '(.c' '!.c' 'a=b.c')
+  local odd=('a b.c' $'line\nfeed.c' $'ends in\n.h' '-n.c' '*.c' "it's.c" '$(x).h' 'back\slash.c' '(.c' '!.c' 'a=b.c')
   local name
   mkdir src/.git 'src/-DB' src/folder.c
   for name in "${odd[@]}"; do
@@ -77,21 +75,15 @@ names() {
     put "$name" "$text"
   done
   mkfifo src/pipe.c
-  if [ -n "$TREE" ]; then
-    tree -DA -- src
-    check 'names: not UTF-8: status' same "$status" 2
-    check 'names: not UTF-8: message' has_line "$work/err" "unifdef-tree: src/\\x81\\x88\\xff.c: Its name isn't UTF-8"
-    check 'names: not UTF-8: count' has_line "$work/err" 'unifdef-tree: 16 changed, 0 unchanged, 1 faulty'
-    rm src/$'\x81\x88\xff.c'
-    odd=("${odd[@]/$'\x81\x88\xff.c'/a b.c}")
-    for name in "${odd[@]}" x.cc x.hpp x.h.in -DB/y.C folder.c/z.H; do
-      put "src/$name" "$text"
-    done
-  fi
+  put src/$'\x81\x88\xff.c' "$text"
   tree -DA -- src
-  check 'names: status' same "$status" 1
-  check 'names: count' has_line "$work/err" \
-    "unifdef-tree: $(by_program 16 17) changed, 0 unchanged, 0 faulty"
+  check 'names: not UTF-8: status' same "$status" 2
+  check 'names: not UTF-8: message' has_line "$work/err" "unifdef-tree: src/\\x81\\x88\\xff.c: Its name isn't UTF-8"
+  check 'names: count' has_line "$work/err" 'unifdef-tree: 16 changed, 0 unchanged, 1 faulty'
+  check 'names: not UTF-8: text' holds src/$'\x81\x88\xff.c' "$text"
+  rm src/$'\x81\x88\xff.c'
+  tree -DA -- src
+  check 'names: status' same "$status" 0
   for name in "${odd[@]}" x.cc x.hpp x.h.in -DB/y.C folder.c/z.H; do
     check "names: $name" holds "src/$name" 'yes\n'
   done
@@ -104,6 +96,13 @@ names() {
   put ./-x.c "$text"
   tree -DA -- -x.c
   check 'names: a path with a hyphen' holds ./-x.c 'yes\n'
+  put src/a.txt "$text"
+  for name in '-g *.none src' src/a.txt; do
+    # shellcheck disable=SC2086
+    set -f && tree -DA $name && set +f
+    check "no file matches: $name" same "$status $(cat "$work/err")" '2 unifdef-tree: No file matches'
+  done
+  check 'no file matches: nothing is done' holds src/a.txt "$text"
 }
 
 # Tests modes, times and links.
@@ -127,19 +126,15 @@ keeps() {
   local before_same before_one
   before_same=$(stat -c '%i %y' src/same.c)
   before_one=$(number src/one.c)
-  if [ -n "$TREE" ]; then
-    tree -n -DA -- src src/one.c ./src/mode.c
-    check 'keeps: -n: each file once' has_line "$work/err" 'unifdef-tree: 3 would change, 1 unchanged, 0 faulty'
-    tree -DA -- src/one.c src/three.c
-    check 'keeps: links: status' same "$status" 2
-    check 'keeps: links: message' has_line "$work/err" 'unifdef-tree: src/one.c: Has several links; -w writes into it'
-    check 'keeps: links: text' holds src/one.c "$text"
-  fi
-  # shellcheck disable=SC2046
-  tree -j1 -DA $(by_program -w '') -- src src/one.c ./src/mode.c
+  tree -n -DA -- src src/one.c ./src/mode.c
+  check 'keeps: -n: each file once' has_line "$work/err" 'unifdef-tree: 3 would change, 1 unchanged, 0 faulty'
+  tree -DA -- src/one.c src/three.c
+  check 'keeps: links: status' same "$status" 2
+  check 'keeps: links: message' has_line "$work/err" 'unifdef-tree: src/one.c: Has several links; -w writes into it'
+  check 'keeps: links: text' holds src/one.c "$text"
+  tree -j1 -DA -w -- src src/one.c ./src/mode.c
   check 'keeps: status' same "$status" 1
-  check 'keeps: count' has_line "$work/err" \
-    "unifdef-tree: 3 changed, $(by_program 1 3) unchanged, 0 faulty"
+  check 'keeps: count' has_line "$work/err" 'unifdef-tree: 3 changed, 1 unchanged, 0 faulty'
   check 'keeps: mode' same "$(stat -c %a src/mode.c)" 754
   check 'keeps: text of a mode' holds src/mode.c 'yes\n'
   check 'keeps: an unchanged file and its time' same "$(stat -c '%i %y' src/same.c)" "$before_same"
@@ -158,8 +153,7 @@ keeps() {
   check 'keeps: a link to a file that is named' same "$status $(head -n 1 "$work/err")" \
     '2 unifdef-tree: src/outside.c: Is a symbolic link'
   put src/one.c "$text"
-  # shellcheck disable=SC2046
-  tree -j1 -c -DA $(by_program -w '') -- src/one.c src ./src
+  tree -j1 -c -DA -w -- src/one.c src ./src
   check 'keeps: each file once' holds src/two.c '#ifdef A\n#else\nno\n#endif\n'
 }
 
@@ -173,16 +167,13 @@ bad.c' 'x\n#else\n'
   tree -DA src nowhere
   check 'faults: status' same "$status" 2
   check 'faults: path' has_line "$work/err" 'unifdef-tree: nowhere: No such file or folder'
-  if [ -n "$TREE" ]; then
-    check 'faults: a missing path: nothing is done' holds src/good.c "$text"
-    tree -DA src -n
-    check 'faults: a late option: status' same "$status" 2
-    check 'faults: a late option: message' has_line "$work/err" 'unifdef-tree: Option after a path: -n'
-    check 'faults: a late option: nothing is done' holds src/good.c "$text"
-    tree -DA src
-  fi
-  check 'faults: count' has_line "$work/err" \
-    "unifdef-tree: 1 changed, 0 unchanged, $(by_program 2 3) faulty"
+  check 'faults: a missing path: nothing is done' holds src/good.c "$text"
+  tree -DA src -n
+  check 'faults: a late option: status' same "$status" 2
+  check 'faults: a late option: message' has_line "$work/err" 'unifdef-tree: Option after a path: -n'
+  check 'faults: a late option: nothing is done' holds src/good.c "$text"
+  tree -DA src
+  check 'faults: count' has_line "$work/err" 'unifdef-tree: 1 changed, 0 unchanged, 2 faulty'
   check 'faults: message' has_line "$work/err" 'unifdef: src/bad.c: 1: Inappropriate #endif'
   check 'faults: a faulty file' holds src/bad.c '#endif\n'
   check 'faults: another file' holds src/good.c 'yes\n'
@@ -209,7 +200,7 @@ bad.c' 'x\n#else\n'
     check '-n: and the right one' diff -r is src
   fi
   local words
-  for words in '-D1A' '-Udefined' '-iXA' '-x3' '-j0' '-S' '-L' '-n -s' '-DA'; do
+  for words in '-D1A' '-Udefined' '-iXA' '-x3' '-j0' '-S' '-L' '-n -s' '-r -s' '-DA'; do
     # shellcheck disable=SC2086
     tree $words src
     [ "$words" = -DA ] || check "refused: $words" same "$status" 2
@@ -223,23 +214,43 @@ bad.c' 'x\n#else\n'
   check 'words go on as they are' holds src/good.c 'yes\n'
 }
 
-# Tests files that can't be read or written, if the user isn't root.
+# Tests files that can't be read or written, and those of another owner.
 refusals() {
-  [ "$(id -u)" -ne 0 ] || return 0
+  if [ "$(id -u)" -eq 0 ] && ! has setpriv; then
+    echo 'tree-test: setpriv is not there, so files that refuse a user are left out'
+    return
+  fi
   fresh_tree
+  cp "$TREE" "$work/program"
   put src/unreadable.c "$text"
   put src/locked.c "$text"
-  mkdir src/sealed
+  mkdir src/sealed src/closed
   put src/sealed/a.c "$text"
+  put src/closed/a.c "$text"
   chmod 0 src/unreadable.c
   chmod 444 src/locked.c
   chmod 555 src/sealed
-  tree -DA src
-  check 'refusals: count' has_line "$work/err" 'unifdef-tree: 0 changed, 0 unchanged, 3 faulty'
+  chmod 0 src/closed
+  tree_as_user -DA src
+  check 'refusals: count' has_line "$work/err" 'unifdef-tree: 0 changed, 0 unchanged, 4 faulty'
   check 'refusals: a read-only file' holds src/locked.c "$text"
+  check 'refusals: its message' has_line "$work/err" 'unifdef-tree: src/locked.c: Cannot be written: Permission denied'
   check 'refusals: a sealed folder' holds src/sealed/a.c "$text"
-  chmod 755 src/sealed
+  check 'refusals: its message' has_line "$work/err" "unifdef-tree: src/sealed/a.c: Its folder can't be written; -w writes into the file"
+  check 'refusals: a closed folder' has_line "$work/err" 'unifdef-tree: src/closed/: Cannot be read: Permission denied'
+  check 'refusals: an unreadable file' has_line "$work/err" 'unifdef-tree: src/unreadable.c: Cannot be read: Permission denied'
+  tree_as_user -w -DA src/sealed
+  check 'refusals: -w into a sealed folder' holds src/sealed/a.c 'yes\n'
+  chmod 755 src/sealed src/closed
   chmod 644 src/unreadable.c
+  [ "$(id -u)" -eq 0 ] || return 0
+  fresh_tree
+  put src/a.c "$text"
+  chmod 640 src/a.c
+  chown 65534:65533 src/a.c
+  tree -DA src
+  check 'refusals: another owner stays' same "$(stat -c '%u:%g %a' src/a.c)" '65534:65533 640'
+  check 'refusals: text of another owner' holds src/a.c 'yes\n'
 }
 
 # Tests the list of a tree's names.
@@ -255,6 +266,36 @@ lists() {
   rm src/c.h
   tree -s -j 5 src
   check '-s: status 0' same "$status" 0
+}
+
+# Tests the list of the conditions that still name a symbol. The wanted lines were found by hand.
+remaining() {
+  fresh_tree
+  put src/a.c '#ifdef VMS\nx\n#endif\n#if defined(UNIX) || defined(VMS)\n#elif A\n#endif\n# elif VMS\n'
+  put src/b.c '#if A && \\\n  B || V\\\nMS\r\n#elif VMS ? 1 : 2\n#elifdef VMS\n#endif // VMS\n#if C /* VMS */\n#endif\n'
+  put src/c.c '/*\n#if VMS\n*/\n#if VMS2 + xVMS\n#define VMS\n#endif\n#if A\\\n /* c\n */ (VMS\n#endif\n'
+  put src/none.c '#ifndef VMS\nx\n#endif\n'
+  # shellcheck disable=SC1003 # The backslash belongs to the line.
+  local listed='src/b.c:1: #if A && \
+src/b.c:4: #elif VMS ? 1 : 2
+src/c.c:7: #if A\'
+  tree -r -n -UVMS src/b.c src/c.c
+  check '-r: of a text that would be' same "$(grep '^src' "$work/out")" "$listed"
+  tree -r -UVMS src
+  check '-r: status' same "$status" 2
+  check '-r: list' same "$(cat "$work/out")" "$listed"
+  check '-r: count' same "$(tail -n 1 "$work/err")" 'unifdef-tree: 3 conditions still name a symbol'
+  put src/a.c '#ifdef VMS\nx\n#endif\n#if defined(UNIX) || defined(VMS)\n#elif A\n#endif\n'
+  tree -UVMS src
+  check 'remaining: status' same "$status" 1
+  check 'remaining: count' same "$(tail -n 1 "$work/err")" 'unifdef-tree: 4 conditions still name a symbol; -r lists them'
+  check 'remaining: no list' same "$(cat "$work/out")" ''
+  tree -q -r -UVMS src
+  check '-r: line numbers of the output' same "$(head -n 1 "$work/out")" 'src/a.c:1: #if defined(UNIX) || defined(VMS)'
+  check '-r -q: no count' same "$(cat "$work/err")" ''
+  tree -r -DOTHER=1 -UVMS2 src/none.c
+  check '-r: none' same "$(cat "$work/err")" 'unifdef-tree: 0 changed, 1 unchanged, 0 faulty
+unifdef-tree: 0 conditions still name a symbol'
 }
 
 # Tests a full disk: a small file system, or else a limit on the size of files.
@@ -286,14 +327,10 @@ full_disk() {
     rm src/c.c
     ln src/a.c src/linked.c
     head -c 200000 /dev/zero > src/filled 2> /dev/null
-    # shellcheck disable=SC2046
-    tree -DA $(by_program -w '') src
-    # The program writes a shorter text into the file, which takes no space.
-    [ -n "$TREE" ] || check 'full disk: a file with two links' cmp was/a.c src/a.c
+    # A shorter text, written into a file, takes no space.
+    tree -DA -w src
+    check 'full disk: a file with two links' same "$(wc -l < src/linked.c)" 9002
     rm src/filled
-    # shellcheck disable=SC2046
-    tree -DA $(by_program -w '') src
-    check 'full disk: the same with space' same "$(wc -l < src/linked.c)" 9002
     rm src
     umount "$work/small"
   fi
@@ -318,194 +355,170 @@ paths_from_input() {
   check 'input: count' has_line "$work/err" 'unifdef-tree: 1 changed, 0 unchanged, 3 faulty'
   tree -0 src
   check 'input: with a path' same "$status" 2
+  tree -0 -DA
+  check 'input: no path' same "$status $(cat "$work/err")" '0 unifdef-tree: 0 changed, 0 unchanged, 0 faulty'
   tree -V
-  check 'version' same "$(cut -d ' ' -f 1 "$work/out")" unifdef-tree
+  check 'version' same "$(cat "$work/out")" "unifdef-tree $("$here/../packaging/version.sh")"
 }
 
-# Makes ready for a run with the program $work/held. Of its calls, the first $1 pass. Each later one
-# announces itself with a line that can be read from descriptor 4, and waits for one byte written to
-# descriptor 5.
-hold_after() {
-  rm -rf "$work/passes" "$work/started" "$work/go"
-  mkdir "$work/passes"
-  (cd "$work/passes" && seq 1 "$1" | xargs -r touch)
-  mkfifo "$work/started" "$work/go"
-  exec 4<> "$work/started" 5<> "$work/go"
-}
-
-# Waits until so many calls have announced themselves. Two minutes are a guard against hanging.
-started() {
-  local _
-  for _ in $(seq 1 "$1"); do
-    read -r -t 120 -u 4 || return
-  done
-}
-
-# Lets so many calls pass that wait.
-let_pass() { head -c "$1" /dev/zero | tr '\0' '\n' >&5; }
-
-# Lets each further call pass as it announces itself.
-let_all_pass() {
-  while read -r -u 4; do let_pass 1; done &
-  passing=$!
-}
-
-# Ends what let_all_pass started.
-end_passing() {
-  kill "$passing"
-  wait "$passing" 2> /dev/null
-  exec 4>&- 5>&-
-}
-
-# Waits until a run has removed what it made. A minute is a guard, as no process announces that.
-removed() {
-  local _
-  for _ in $(seq 1 600); do
-    ! no_rest || return 0
-    sleep 0.1
-  done
-  return 1
-}
-
-# Tests an interrupt in the middle: every file is old or new, and nothing is left over. It comes
-# when some files are done, and each of the three parts is inside a call of the program.
-interrupts() {
-  local signal=$1 whom=$2 wanted=$3 i name old=0 new=0 pid
-  fresh_tree
-  for i in $(seq 1 200); do
-    put "src/$i.c" "$text"
-  done
-  for i in $(seq 1 20); do
-    put "src/linked$i.c" "$text"
-    ln "src/linked$i.c" "src/other$i.c"
-  done
-  hold_after 30
-  set -m
-  UNIFDEF=$work/held $shell "$here/../tools/unifdef-tree" -j 3 -DA src > "$work/out" 2> "$work/err" 4>&- 5>&- &
-  pid=$!
-  set +m
-  check "interrupt $signal: has started" started 3
-  if [ "$whom" = group ]; then pid_to=-$pid; else pid_to=$pid; fi
-  kill -s "$signal" -- "$pid_to"
-  let_pass 3
-  let_all_pass
-  wait "$pid" 2> /dev/null
-  check "interrupt $signal: status" same $? "$wanted"
-  end_passing
-  for name in src/*.c; do
-    if holds "$name" "$text"; then
-      old=$((old + 1))
-    elif holds "$name" 'yes\n'; then
-      new=$((new + 1))
-    else
-      check "interrupt $signal: a file is old or new" same "$name" whole
-    fi
-  done
-  check "interrupt $signal: in the middle" test "$old" -gt 0 -a "$new" -gt 0
-  check "interrupt $signal: reported" has_line "$work/err" 'unifdef-tree: Interrupted'
-  check "interrupt $signal: nothing left over" removed
-  tree -DA src
-  check "interrupt $signal: the rest later" same "$(cat src/*.c | sort | uniq -c | tr -s ' ')" ' 240 yes'
-}
-
-# Tests an interrupt while a file with two links is written into: the whole text is written.
-interrupts_link() {
-  local pid
-  fresh_tree
-  put src/one.c "$text$text$text"
-  ln src/one.c src/two.c
-  mkdir bin
-  # shellcheck disable=SC2016
-  printf '#!/bin/sh\n"%s" "$@"\nstatus=$?\necho > "%s"\nread -r _ < "%s"\nexit "$status"\n' \
-    "$(command -v dd)" "$work/started" "$work/go" > bin/dd
-  chmod +x bin/dd
-  hold_after 0
-  set -m
-  PATH=$work/run/bin:$PATH $shell "$here/../tools/unifdef-tree" -DA src > "$work/out" 2> "$work/err" 4>&- 5>&- &
-  pid=$!
-  set +m
-  check 'interrupt of a link: has started' started 1
-  kill -s TERM -- "-$pid"
-  let_pass 1
-  let_all_pass
-  wait "$pid" 2> /dev/null
-  check 'interrupt of a link: status' same $? 143
-  end_passing
-  check 'interrupt of a link: text' holds src/two.c 'yes\nyes\nyes\n'
-  check 'interrupt of a link: nothing left over' removed
-}
-
-# Copies its input, and lets all calls pass once the counter is there.
-until_counted() {
-  local word so_far=''
-  while IFS= read -r -d ' ' word; do
-    printf '%s ' "$word"
-    so_far+="$word "
-    if [[ $so_far == *" of 40 files "* ]]; then
-      so_far=''
-      let_pass 100
-    fi
-  done
-  printf '%s' "$word"
-}
-
-# Tests the counter on a terminal. The run goes on once it has shown the counter.
+# Tests the counter on a terminal.
 counts() {
-  command -v script > /dev/null || return 0
+  has script || return 0
   fresh_tree
   local i
-  for i in $(seq 1 40); do
+  for i in $(seq 1 100); do
     put "src/$i.c" "$text"
   done
-  hold_after 10
-  UNIFDEF=$work/held timeout 120 script -qec "$shell $here/../tools/unifdef-tree -j 1 -DA src" /dev/null < /dev/null |
-    until_counted > "$work/out"
-  exec 4>&- 5>&-
-  check 'counter: on a terminal' grep -q 'unifdef-tree: [0-9]* of 40 files' "$work/out"
+  script -qec "'$TREE' -DA src" /dev/null < /dev/null > "$work/out"
+  check 'counter: on a terminal' grep -q 'unifdef-tree: 64 of 100 files' "$work/out"
+  check 'counter: goes away' grep -q $'\r\x1b\\[Kunifdef-tree: 100 changed, 0 unchanged, 0 faulty' "$work/out"
   tree -DA src
-  check 'counter: nowhere else' same "$(cat "$work/err")" 'unifdef-tree: 0 changed, 40 unchanged, 0 faulty'
+  check 'counter: nowhere else' same "$(cat "$work/err")" 'unifdef-tree: 0 changed, 100 unchanged, 0 faulty'
+  tree -q -DA src
+  check '-q: no counts' same "$(cat "$work/err")" ''
 }
 
-cat > "$work/held" << END
-#!/bin/sh
-for pass in "$work"/passes/*; do
-  ! rm "\$pass" 2> /dev/null || exec "$UNIFDEF" "\$@"
-done
-echo > "$work/started"
-read -r _ < "$work/go"
-exec "$UNIFDEF" "\$@"
-END
-chmod +x "$work/held"
-if [ -n "$TREE" ]; then
-  shell=program
+# Makes a tree whose files are changed, unchanged, faulty, and in a folder.
+small_tree() {
+  fresh_tree
+  mkdir src/folder
+  put src/a.c "$text"
+  put src/bad.c '#endif\n'
+  put src/folder/b.c "$text"
+  put src/same.c 'int a;\n'
+}
+
+# each_old_or_new WHAT: checks that each file of the small tree is old or new.
+each_old_or_new() {
+  local name
+  for name in src/a.c src/folder/b.c; do
+    holds "$name" "$text" || check "$1: $name is old or new" holds "$name" 'yes\n'
+  done
+  check "$1: a faulty file" holds src/bad.c '#endif\n'
+  check "$1: an unchanged file" holds src/same.c 'int a;\n'
+}
+
+# signal_at SIGNAL CALL N: runs over the small tree, and sends a signal when a system call is
+# entered for the Nth time.
+signal_at() {
+  small_tree
+  (strace -f -o /dev/null -e trace="$2" -e inject="$2:signal=$1:when=$3" "$TREE" -DA src
+    exit "$?") > "$work/out" 2> "$work/err"
+  status=$?
+}
+
+# Kills the program at each of its system calls, from the first one about the tree on. Each file is
+# then old or new, and a second run does the rest.
+kills() {
+  local call i killed=0
+  small_tree
+  strace -f -o "$work/calls" "$TREE" -DA src 2> /dev/null
+  while read -r call i <&3; do
+    signal_at KILL "$call" "$i"
+    [ "$status" -ne 137 ] || killed=$((killed + 1))
+    each_old_or_new "kill at $call $i"
+    tree -DA src
+    check "kill at $call $i: the rest later" holds src/a.c 'yes\n'
+    check "kill at $call $i: the rest later" holds src/folder/b.c 'yes\n'
+    check "kill at $call $i: the count" grep -q ', 1 faulty$' "$work/err"
+  done 3< <(sed -n 's/^[0-9]* *\([a-z_0-9]*\)(\(.*\)/\1 \2/p' "$work/calls" |
+    awk '{ count[$1]++ } /AT_FDCWD, "src"/ { begun = 1 } begun && !/^exit/ { print $1, count[$1] }')
+  check 'kill: was killed' test "$killed" -gt 40
+  for i in HUP INT TERM; do
+    signal_at "$i" rename 1
+    check "$i: ends by the signal" test "$status" -gt 128
+    check "$i: the first file is new" holds src/a.c 'yes\n'
+    check "$i: the second one is old" holds src/folder/b.c "$text"
+  done
+}
+
+# Runs a command while a run over the small tree waits between its read of src/a.c and its last look
+# at it. strace announces that.
+run_meanwhile() {
+  local pid line tracer
+  small_tree
+  rm -f "$work/trace"
+  mkfifo "$work/trace"
+  strace -f -o "$work/trace" -e trace=fchmod -e inject=fchmod:signal=STOP:when=1 \
+    "$TREE" -DA src > "$work/out" 2> "$work/err" &
+  tracer=$!
+  exec 6< "$work/trace"
+  while read -r pid line <&6; do
+    [[ $line != *'stopped by SIGSTOP'* ]] || break
+  done
+  "$@"
+  kill -s CONT "$pid"
+  cat <&6 > /dev/null
+  exec 6<&-
+  status=0
+  wait "$tracer" || status=$?
+}
+
+other_run() { "$TREE" -q -UA src 2> /dev/null; }
+
+# Tests a file that changes between read and rename, and two runs at once.
+meanwhile() {
+  run_meanwhile put src/a.c 'mine\n'
+  check 'meanwhile: status' same "$status" 2
+  check 'meanwhile: message' has_line "$work/err" 'unifdef-tree: src/a.c: Changed meanwhile'
+  check 'meanwhile: the file' holds src/a.c 'mine\n'
+  check 'meanwhile: another file' holds src/folder/b.c 'yes\n'
+  check 'meanwhile: nothing left over' no_rest
+  run_meanwhile rm src/a.c
+  check 'meanwhile: a file that went' same "$status $(ls src)" $'2 bad.c\nfolder\nsame.c'
+  run_meanwhile other_run
+  check 'two runs: status' same "$status" 2
+  check 'two runs: one is reported' has_line "$work/err" 'unifdef-tree: src/a.c: Changed meanwhile'
+  check 'two runs: no update is lost' holds src/a.c 'no\n'
+  check 'two runs: nothing left over' no_rest
+}
+
+# Compares a run in place over real headers with unifdef on each file.
+like_unifdef() {
+  [ -d /usr/include/linux ] || return 0
+  fresh_tree
+  local name status differ=0
+  cp -rL /usr/include/linux src
+  cp -r src was
+  tree -q -g '*' -D__KERNEL__ -U__cplusplus -- src
+  while IFS= read -r name; do
+    status=0
+    "$UNIFDEF" -D__KERNEL__ -U__cplusplus "was/${name#src/}" > "$work/new" 2> /dev/null || status=$?
+    [ "$status" -lt 2 ] || cp "was/${name#src/}" "$work/new"
+    cmp -s "$work/new" "$name" || differ=$((differ + 1))
+  done < <(find src -type f)
+  check 'real headers: as unifdef' same "$differ" 0
+  check 'real headers: some changed' test "$(diff -rq was src | wc -l)" -gt 0
+}
+
+# Tests everything in a folder of its own below $1.
+in_folder() {
+  work=$(mktemp -d "$1/tree-test.XXXXXX")
+  chmod 755 "$work"
   names
   keeps
   faults
   refusals
   lists
+  remaining
   full_disk
   paths_from_input
-  echo "unifdef-tree: $passed checks hold, $failed don't"
-  [ "$failed" -eq 0 ]
-  exit
-fi
-shells=()
-for one in dash 'bash --posix' 'busybox sh'; do
-  command -v "${one%% *}" > /dev/null && shells+=("$one")
-done
-for shell in "${shells[@]}"; do
-  names
-  keeps
-  faults
-  refusals
-  lists
-  full_disk
-  interrupts TERM one 143
-  interrupts TERM group 143
-  interrupts HUP group 129
-  interrupts INT group 130
-  interrupts_link
   counts
-done
-echo "unifdef-tree with $(printf '%s, ' "${shells[@]}")$passed checks hold, $failed don't"
+  if can_trace; then
+    kills
+    meanwhile
+  else
+    echo 'tree-test: strace is not there or not allowed, so kills and changes meanwhile are left out'
+  fi
+  like_unifdef
+  cd /
+  rm -rf "$work"
+}
+
+can_trace() { has strace && strace -o /dev/null true 2> /dev/null; }
+
+trap 'umount "$work/small" 2> /dev/null; rm -rf "$work"' EXIT
+in_folder "${TMPDIR:-/tmp}"
+[ ! -w /dev/shm ] || in_folder /dev/shm
+echo "unifdef-tree: $passed checks hold, $failed don't"
 [ "$failed" -eq 0 ]

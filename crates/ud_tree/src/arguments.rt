@@ -29,8 +29,20 @@ pub struct Arguments {
     pub write_into: bool,
     /// True if the files' paths come from the input.
     pub from_input: bool,
-    /// True if the last line with the counts is left out.
+    /// True if the last lines with the counts are left out.
     pub quiet: bool,
+    /// True if the conditions are listed that still name a symbol.
+    pub list_remaining: bool,
+    /// True if some option names a symbol.
+    pub has_symbols: bool,
+}
+
+impl Arguments {
+    /// Returns whether the conditions are searched that still name a symbol: those are listed or
+    /// counted.
+    pub(crate) fn search_remaining(&self) -> bool {
+        self.has_symbols && (self.list_remaining || !self.quiet)
+    }
 }
 
 /// The request of a command line.
@@ -57,6 +69,8 @@ pub enum ArgumentFault {
     BadJobs(String),
     /// `-n` and `-s` together.
     DiffAndNames,
+    /// `-r` and `-s` together.
+    RemainingAndNames,
     /// An option after the first path.
     OptionAfterPath(String),
     /// Paths beside `-0`.
@@ -94,6 +108,8 @@ struct Given {
     write_into: bool,
     from_input: bool,
     quiet: bool,
+    list_remaining: bool,
+    has_symbols: bool,
     version: bool,
 }
 
@@ -131,6 +147,8 @@ impl Given {
             write_into: false,
             from_input: false,
             quiet: false,
+            list_remaining: false,
+            has_symbols: false,
             version: false,
         }
     }
@@ -196,6 +214,7 @@ impl Given {
             'w' => self.write_into = true,
             '0' => self.from_input = true,
             'q' => self.quiet = true,
+            'r' => self.list_remaining = true,
             'V' => self.version = true,
             'b' | 'c' | 'K' | 'k' | 'l' | 't' => self.pass_on(letter, "")?,
             _ => return Err(ArgumentFault::UnknownOption(letter)),
@@ -213,7 +232,11 @@ impl Given {
             }
             'j' if is_number_of_jobs(argument.as_bytes()) => Ok(()),
             'j' => Err(ArgumentFault::BadJobs(self.copy(argument)?)),
-            _ => self.pass_on(letter, argument),
+            'x' => self.pass_on(letter, argument),
+            _ => {
+                self.has_symbols = true;
+                self.pass_on(letter, argument)
+            }
         }
     }
 
@@ -244,6 +267,9 @@ impl Given {
         }
         if given.diff && given.names {
             return Err(ArgumentFault::DiffAndNames);
+        }
+        if given.list_remaining && given.names {
+            return Err(ArgumentFault::RemainingAndNames);
         }
         if given.names {
             given.pass_on('s', "")?;
@@ -276,6 +302,8 @@ impl Given {
             write_into: self.write_into,
             from_input: self.from_input,
             quiet: self.quiet,
+            list_remaining: self.list_remaining,
+            has_symbols: self.has_symbols,
         }
     }
 

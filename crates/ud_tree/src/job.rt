@@ -2,6 +2,7 @@
 
 use crate::arguments::Arguments;
 use std::alloc::Global;
+use ud_model::Mode;
 
 /// The arguments of a run, and what names its new files.
 #[derive(Clone, Copy)]
@@ -10,4 +11,15 @@ pub(crate) struct Job<'a> {
     pub arguments: &'a Arguments,
     /// The end of the names of the files that are made. It differs from run to run.
     pub tag: &'a [u8],
+}
+
+impl Job<'_> {
+    /// Returns the mode in which lines are read.
+    pub(crate) fn mode(&self) -> Mode {
+        if self.arguments.plan.settings().plain {
+            Mode::Plain
+        } else {
+            Mode::C
+        }
+    }
 }

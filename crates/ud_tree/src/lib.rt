@@ -15,6 +15,7 @@ mod names;
 mod paths;
 mod pattern;
 mod patterns;
+mod remaining;
 mod replace_all;
 mod report;
 mod run;

@@ -10,7 +10,6 @@ use crate::run_file::run_file;
 use crate::tree::Tree;
 use crate::walk::Found;
 use std::io::Write;
-use ud_model::Mode;
 
 /// Adds the names of all files to `names`, and reports their faults. Returns what became of them.
 ///
@@ -49,12 +48,7 @@ fn list_file<T: Tree, E: Write>(
     let Some((text, _)) = ran else {
         return Fate::Faulty;
     };
-    let mode = if job.arguments.plan.settings().plain {
-        Mode::Plain
-    } else {
-        Mode::C
-    };
-    if added.is_err() || names.add_hidden(text.as_slice(), mode).is_err() {
+    if added.is_err() || names.add_hidden(text.as_slice(), job.mode()).is_err() {
         report.fault(name, b"Out of memory");
         return Fate::Faulty;
     }

@@ -1,6 +1,6 @@
 //! Replacing all files of a run.
 
-ghost use Rattle.std.specs.Prelude.{◌≡◌};
+ghost use Rattle.std.specs.Prelude.{◌≡◌, [], false};
 ghost use Rattle.ud_tree.specs.Runs.{ReplacesOne, Counted, fate_of, names_of};
 
 use crate::counts::{Counts, Fate};
@@ -10,8 +10,9 @@ use crate::report::Report;
 use crate::tree::Tree;
 use crate::walk::Found;
 use std::io::Write;
+use ud_engine::Watched;
 use ud_model::Settings;
-use ud_replace::{ReplaceError, Target, Update, replace};
+use ud_replace::{ReplaceError, Target, Update, replace_keeping};
 
 /// Replaces all files in order, and reports their faults. Returns what became of them.
 ///
@@ -46,7 +47,7 @@ fn fate_of(update: Result<Update, ReplaceError>) -> Fate
     }
 }
 
-/// Replaces a file, and reports its fault.
+/// Replaces a file, and reports its fault or the conditions that still name a symbol.
 fn replace_file<T: Tree, E: Write>(
     job: &Job<'_>,
     tree: &mut T,
@@ -56,15 +57,25 @@ fn replace_file<T: Tree, E: Write>(
     ensures { ReplacesOne job.now.arguments.now.plan job.now.arguments.now.write_into
         job.now.tag.now name.now (T.history tree.old) (T.history tree.new) (fate_of result) }
 {
-    let update = replace_named(job, tree, name);
-    if let Err(error) = update {
-        report_error(tree, name, job.arguments.plan.settings(), error, report);
+    let mut output = Watched::new(Vec::<u8>::new(job.alloc));
+    let update = replace_named(job, tree, name, &mut output);
+    match update {
+        Ok(_) => report.search(job, name, output.inner().as_slice()),
+        Err(error) => report_error(tree, name, job.arguments.plan.settings(), error, report),
     }
     update
 }
 
-/// Replaces a file by one with a name of its own.
-fn replace_named<T: Tree>(job: &Job<'_>, tree: &mut T, name: &[u8]) -> Result<Update, ReplaceError>
+/// Replaces a file by one with a name of its own. The output for it is left in `output`, which is
+/// empty before.
+fn replace_named<T: Tree>(
+    job: &Job<'_>,
+    tree: &mut T,
+    name: &[u8],
+    output: &mut Watched<Vec<u8>>,
+) -> Result<Update, ReplaceError>
+    requires empty { output.old.inner.items ≡ [] }
+    requires not_failed { output.old.failed ≡ false }
     ensures { ReplacesOne job.now.arguments.now.plan job.now.arguments.now.write_into
         job.now.tag.now name.now (T.history tree.old) (T.history tree.new) (fate_of result) }
 {
@@ -76,7 +87,7 @@ fn replace_named<T: Tree>(job: &Job<'_>, tree: &mut T, name: &[u8]) -> Result<Up
                 fresh: fresh.as_slice(),
                 write_into: job.arguments.write_into,
             };
-            replace(job.alloc, &job.arguments.plan, tree, &target)
+            replace_keeping(job.alloc, &job.arguments.plan, tree, &target, output)
         }
     }
 }

@@ -5,6 +5,8 @@
 //! shown during the run, and removed before each message.
 
 use crate::arguments::ArgumentFault;
+use crate::job::Job;
+use crate::remaining::Remaining;
 use itoa::Buffer;
 use std::alloc::Global;
 use std::io::{self, ErrorKind, Write};
@@ -52,23 +54,54 @@ pub(crate) struct Report<E> {
     is_shown: bool,
     /// The number of faults.
     faulty: usize,
+    /// The conditions that still name a symbol.
+    remaining: Remaining,
+    /// True if memory ran out for some of these conditions.
+    has_lost: bool,
 }
 
 impl<E: Write> Report<E> {
-    /// Returns a report without messages.
-    pub(crate) fn new(alloc: Global, err: E, is_terminal: bool) -> Report<E> {
+    /// Returns a report without messages. If `list_remaining`, it lists the conditions that still
+    /// name a symbol.
+    pub(crate) fn new(alloc: Global, err: E, is_terminal: bool, list_remaining: bool) -> Report<E> {
         Report {
             alloc,
             err: Watched::new(err),
             is_terminal,
             is_shown: false,
             faulty: 0,
+            remaining: Remaining::new(alloc, list_remaining),
+            has_lost: false,
         }
     }
 
     /// Returns the number of faults.
     pub(crate) fn faulty(&self) -> usize {
         self.faulty
+    }
+
+    /// Returns the number of conditions that still name a symbol.
+    pub(crate) fn remaining(&self) -> usize {
+        self.remaining.count()
+    }
+
+    /// Writes the list of conditions that still name a symbol.
+    pub(crate) fn write_remaining<W: Write>(&self, out: &mut Watched<W>) {
+        write_parts(out, &[self.remaining.list()]);
+    }
+
+    /// Returns whether memory ran out for some of the conditions that still name a symbol.
+    pub(crate) fn has_lost(&self) -> bool {
+        self.has_lost
+    }
+
+    /// Adds the conditions of a file's output that still name a symbol, if they are wanted.
+    pub(crate) fn search(&mut self, job: &Job<'_>, name: &[u8], output: &[u8]) {
+        if job.arguments.search_remaining() {
+            let symbols = job.arguments.plan.symbols();
+            let added = self.remaining.add(name, output, job.mode(), symbols);
+            self.has_lost |= added.is_err();
+        }
     }
 
     /// Removes the number of files from the terminal.
@@ -148,7 +181,7 @@ impl<E: Write> Report<E> {
 
 /// How the program is called.
 const USAGE: &[u8] =
-    b"usage: unifdef-tree [-nqw0] [-g pattern]... [-bcKklt] [-Dsym[=val]]... [-Usym]...\n                    [-iDsym[=val]]... [-iUsym]... [-xmode] [--] path...\n       unifdef-tree -s [-q0] [-g pattern]... [-t] [--] path...\n       unifdef-tree -V\n";
+    b"usage: unifdef-tree [-nqrw0] [-g pattern]... [-bcKklt] [-Dsym[=val]]... [-Usym]...\n                    [-iDsym[=val]]... [-iUsym]... [-xmode] [--] path...\n       unifdef-tree -s [-q0] [-g pattern]... [-t] [--] path...\n       unifdef-tree -V\n";
 
 /// Writes the message of a fault of the arguments.
 pub fn report_argument_fault<E: Write>(err: &mut Watched<E>, fault: &ArgumentFault) {
@@ -170,6 +203,7 @@ pub fn report_argument_fault<E: Write>(err: &mut Watched<E>, fault: &ArgumentFau
             report_line(err, &[b"Bad number of jobs: ", word.as_bytes()]);
         }
         ArgumentFault::DiffAndNames => report_line(err, &[b"-n and -s don't go together"]),
+        ArgumentFault::RemainingAndNames => report_line(err, &[b"-r and -s don't go together"]),
         ArgumentFault::OptionAfterPath(word) => {
             report_line(err, &[b"Option after a path: ", word.as_bytes()]);
         }

@@ -45,6 +45,7 @@ pub struct Streams<R, W, E> {
 /// The status is 2, and there is a message for each fault, in each of these cases:
 ///
 /// - A path doesn't exist, or is a link to a file. No file was changed.
+/// - The paths name no file. If paths come from the input, that is no fault.
 /// - A folder can't be read, or a file can't be replaced. The other files are.
 /// - The output can't be written.
 pub fn run_tree<T: Tree, R: Read + Drop, W: Write + Drop, E: Write + Drop>(
@@ -68,7 +69,7 @@ pub fn run_tree<T: Tree, R: Read + Drop, W: Write + Drop, E: Write + Drop>(
         tag,
     };
     let mut out = Watched::new(out);
-    let mut report = Report::new(alloc, err, is_terminal);
+    let mut report = Report::new(alloc, err, is_terminal, arguments.list_remaining);
     match find_files(&job, tree, input, &mut report) {
         Err(_) => {
             report.fault(b"", b"Out of memory");
@@ -79,7 +80,8 @@ pub fn run_tree<T: Tree, R: Read + Drop, W: Write + Drop, E: Write + Drop>(
     }
 }
 
-/// Returns the files of the run; `None` if a path of the command line has a fault.
+/// Returns the files of the run; `None` if a path of the command line has a fault, or if no file
+/// matches.
 fn find_files<T: Tree, R: Read + Drop, E: Write>(
     job: &Job<'_>,
     tree: &mut T,
@@ -100,7 +102,12 @@ fn find_files<T: Tree, R: Read + Drop, E: Write>(
         return Ok(None);
     }
     walk.go(tree, report)?;
-    Ok(Some(walk.finish()?))
+    let files = walk.finish()?;
+    if files.is_empty() {
+        report.line(&[b"No file matches"]);
+        return Ok(None);
+    }
+    Ok(Some(files))
 }
 
 /// Adds the files whose paths are on the input, each ended by a NUL.
@@ -152,7 +159,7 @@ fn process_all<T: Tree, W: Write, E: Write>(
     let walk_faults = report.faulty();
     let mut names = Names::new(job.alloc);
     let counts = process_files(job, tree, files, out, &mut names, report);
-    let list_faults = write_names(job, out, report, &names);
+    let list_faults = write_lists(job, out, report, &names);
     let out_faults = finish_output(out, report);
     let faults = walk_faults
         .saturating_add(list_faults)
@@ -160,6 +167,7 @@ fn process_all<T: Tree, W: Write, E: Write>(
         .saturating_add(counts.faulty);
     if !job.arguments.quiet {
         report_counts(job.arguments.task, report, names.hidden(), counts, faults);
+        report_remaining(job.arguments, report);
     }
     status(job.arguments, faults, counts.changed)
 }
@@ -183,8 +191,9 @@ fn process_files<T: Tree, W: Write, E: Write>(
     }
 }
 
-/// Writes the names that were counted. Returns the number of faults, 0 or 1, which were reported.
-fn write_names<W: Write, E: Write>(
+/// Writes the names that were counted, and the conditions that still name a symbol. Returns the
+/// number of faults, 0 or 1, which were reported.
+fn write_lists<W: Write, E: Write>(
     job: &Job<'_>,
     out: &mut Watched<W>,
     report: &mut Report<E>,
@@ -193,7 +202,8 @@ fn write_names<W: Write, E: Write>(
     let mut list = Vec::new(job.alloc);
     let listed = names.append_to(&mut list);
     write_parts(out, &[list.as_slice()]);
-    if listed.is_err() {
+    report.write_remaining(out);
+    if listed.is_err() || report.has_lost() {
         report.fault(b"stdout", b"Out of memory");
         1
     } else {
@@ -252,6 +262,29 @@ fn report_counts<E: Write>(
             hidden,
             b" conditions could not be listed",
         ]),
+    }
+}
+
+/// Writes how many conditions still name a symbol, if they were listed or if there are some.
+fn report_remaining<E: Write>(arguments: &Arguments, report: &mut Report<E>) {
+    let count = report.remaining();
+    if count == 0 && !arguments.list_remaining {
+        return;
+    }
+    let mut digits = Buffer::new();
+    let number = digits.format(count).as_bytes();
+    if arguments.list_remaining {
+        report.line(&[number, remaining_text(count)]);
+    } else {
+        report.line(&[number, remaining_text(count), b"; -r lists them"]);
+    }
+}
+
+/// Returns what follows the number of conditions that still name a symbol.
+fn remaining_text(count: usize) -> &'static [u8] {
+    match count {
+        1 => b" condition still names a symbol",
+        _ => b" conditions still name a symbol",
     }
 }
 

@@ -50,6 +50,7 @@ fn show_file<T: Tree, W: Write, E: Write>(
     let Some((text, differs)) = run_file(job, tree, name, &mut output, report) else {
         return Fate::Faulty;
     };
+    report.search(job, name, output.as_slice());
     if !differs {
         return Fate::Same;
     }
