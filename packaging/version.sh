@@ -37,9 +37,9 @@ if [ "$numbers" != "$version" ]; then
   echo "version: $code has the version $numbers" >&2
   result=1
 fi
-tags=''
+tags=$(git tag --points-at HEAD 2> /dev/null | grep '^v[0-9]') || tags=''
 # In a tarball there is no commit, and a repository around it has tags of its own.
-[ ! -e .git ] || tags=$(git tag --points-at HEAD 2> /dev/null | grep '^v[0-9]') || tags=''
+[ -e .git ] || tags=''
 for tag in $tags; do
   if [ "$tag" != "v$version" ]; then
     echo "version: the tag $tag isn't v$version" >&2
