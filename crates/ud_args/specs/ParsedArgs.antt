@@ -7,7 +7,7 @@ use Rattle.std.specs.Prelude.{ℕ, List, [], ◌∷◌, map, chars, string_bytes
 use Rattle.std.specs.Prelude.{if◌then◌else◌}
 use Rattle.ud_model.specs.answer.CommandLine.{flag, option, operand, unknown, lacking}
 use Rattle.ud_model.specs.answer.CommandLine.{operands_from, parsed_from, parsed_after_option}
-use Rattle.ud_model.specs.aids.LettersThen.{parsed_letters}
+use Rattle.ud_model.specs.aids.LettersThen.{parsed_option, parsed_letters}
 use Rattle.ud_model.specs.answer.CommandLine.{ParsedArg as GivenInWords}
 use Rattle.ud_args.specs.declared.command_line.CommandLine.{CommandLine}
 use Rattle.ud_args.specs.declared.command_line.ParsedArg.{ParsedArg}
@@ -27,6 +27,12 @@ parsed_arg (MissingArgument letter) = lacking letter
 abbrev pub parsed_after_letters : ℕ → List ℕ → List (List ℕ) → List GivenInWords
 parsed_after_letters read letters args =
     parsed_letters read letters (λ c. parsed_after_option c read args) (parsed_from read args)
+
+-- `parsed_with_argument c read letters args`: all that the option `c` and the rest of `args` give.
+-- Its argument is `letters`; if there are none, the first of `args`.
+abbrev pub parsed_with_argument : ℕ → ℕ → List ℕ → List (List ℕ) → List GivenInWords
+parsed_with_argument c read letters args =
+    parsed_option c read letters (parsed_after_option c read args) (parsed_from read args)
 
 -- `remaining_args line`: all options and operands that are still to be read from the command line
 abbrev pub remaining_args : CommandLine → List GivenInWords

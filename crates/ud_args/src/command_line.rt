@@ -4,10 +4,9 @@
 //! the faults of an option's argument. Reading takes no memory.
 
 ghost use Rattle.std.specs.Prelude.{◌≡◌, ◌∷◌, ◌+◌, ◌<◌, ◌^◌, length, map, chars, string_bytes};
-ghost use Rattle.ud_model.specs.aids.LettersThen.{parsed_option, parsed_letters};
 ghost use Rattle.ud_model.specs.answer.CommandLine.{is_flag, takes_argument, option_letters};
 ghost use Rattle.ud_model.specs.answer.CommandLine.{operands_from};
-ghost use Rattle.ud_model.specs.answer.CommandLine.{parsed_from, parsed_after_option, parsed_args};
+ghost use Rattle.ud_model.specs.answer.CommandLine.{parsed_from, parsed_args};
 ghost use Rattle.ud_args.specs.LetterSplits.{letters_then, bytes_then};
 
 /// An option or an operand, as read from the arguments.
@@ -55,6 +54,7 @@ pub(crate) struct CommandLine<'a> {
 
 impl<'a> CommandLine<'a> {
     ghost use Rattle.ud_args.specs.ParsedArgs.{remaining_args, parsed_arg, parsed_then};
+    ghost use Rattle.ud_args.specs.ParsedArgs.{parsed_after_letters, parsed_with_argument};
 
     /// Returns the whole command line of `args`, which are without the program's name.
     pub(crate) fn new(args: &'a [String]) -> CommandLine<'a>
@@ -121,10 +121,8 @@ impl<'a> CommandLine<'a> {
 
     /// Reads a letter of the argument that was read last. The letters `after` follow it.
     fn option(&self, letter: char, after: &'a str) -> (ParsedArg<'a>, CommandLine<'a>)
-        ensures { parsed_letters self.now.read (letter ∷ chars after.now)
-            (λ c. parsed_after_option c self.now.read (map string_bytes self.now.args.now))
-            (parsed_from self.now.read (map string_bytes self.now.args.now)) ≡ parsed_arg result.0 ∷
-            remaining_args result.1 }
+        ensures { parsed_after_letters self.now.read (letter ∷ chars after.now)
+            (map string_bytes self.now.args.now) ≡ parsed_arg result.0 ∷ remaining_args result.1 }
     {
         if takes_argument(letter) {
             return self.option_with_argument(letter, after);
@@ -140,10 +138,8 @@ impl<'a> CommandLine<'a> {
     /// Reads an option with its argument. The letters `after` follow the option's: they are its
     /// argument or, if there are none, the next command-line argument is.
     fn option_with_argument(&self, letter: char, after: &'a str) -> (ParsedArg<'a>, CommandLine<'a>)
-        ensures { parsed_option letter self.now.read (chars after.now)
-            (parsed_after_option letter self.now.read (map string_bytes self.now.args.now))
-            (parsed_from self.now.read (map string_bytes self.now.args.now)) ≡ parsed_arg result.0 ∷
-            remaining_args result.1 }
+        ensures { parsed_with_argument letter self.now.read (chars after.now)
+            (map string_bytes self.now.args.now) ≡ parsed_arg result.0 ∷ remaining_args result.1 }
     {
         if !after.is_empty() {
             let word = self.read;
@@ -182,9 +178,8 @@ impl<'a> CommandLine<'a> {
 
     /// Returns the same command line with `letters` as the remaining letters.
     fn with_letters(&self, letters: &'a str) -> CommandLine<'a>
-        ensures { remaining_args result ≡ parsed_letters self.now.read (chars letters.now)
-            (λ c. parsed_after_option c self.now.read (map string_bytes self.now.args.now))
-            (parsed_from self.now.read (map string_bytes self.now.args.now)) }
+        ensures { remaining_args result ≡ parsed_after_letters self.now.read (chars letters.now)
+            (map string_bytes self.now.args.now) }
     {
         CommandLine {
             letters,

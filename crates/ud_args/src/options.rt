@@ -51,9 +51,9 @@ pub(crate) fn parse_arg<'a>(
     behind_operand: bool,
 ) -> Result<Setting<'a>, Usage>
     ensures ok { IfOk result (IsSetting (parsed_arg given.entry)) }
-    ensures err { (gs : List GivenInWords) → (more : List GivenInWords) → first_fault gs ≡ None →
-        is_some (operand_in gs) ≡ behind_operand
-        → IfErr result (IsFaultOf (first_fault (gs ++ parsed_arg given.entry ∷ more))) }
+    ensures err { (gs more : List GivenInWords) → first_fault gs ≡ None →
+        is_some (operand_in gs) ≡ behind_operand →
+        IfErr result (IsFaultOf (first_fault (gs ++ parsed_arg given.entry ∷ more))) }
     ensures first { IfOk result (λ s. behind_operand ≡ false) }
 {
     if behind_operand {
