@@ -48,7 +48,7 @@ Description: remove preprocessor conditionals from C source, proved
  decide, and the lines that they exclude. It is proved that the program gives
  the answer of a definition of unifdef that can be read.
  .
- The package also has unifdef-tree, which runs unifdef over the files of a tree.
+ The package also has unifdef-tree, which does this to the files of a tree.
 END
 (cd "$root" && find usr -type f -print0 | sort -z | xargs -0 md5sum) > "$root/DEBIAN/md5sums"
 find "$root" -exec touch -hd "@$SOURCE_DATE_EPOCH" {} +

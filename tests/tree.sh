@@ -103,6 +103,10 @@ names() {
     check "no file matches: $name" same "$status $(cat "$work/err")" '2 unifdef-tree: No file matches'
   done
   check 'no file matches: nothing is done' holds src/a.txt "$text"
+  put src/x.cc "$text"
+  tree -DA src/x.cc src/pipe.c
+  check 'names: a pipe that is named' same "$status $(cat "$work/err")" '2 unifdef-tree: src/pipe.c: Is no regular file'
+  check 'names: a pipe that is named: nothing is done' holds src/x.cc "$text"
 }
 
 # Tests modes, times and links.

@@ -1,5 +1,5 @@
 -- Single calls: which files they leave as they are.
-use Rattle.std.proofs.Common.{◌≡◌, ◌||◌, ℕ, List, [], ◌∷◌, ◌++◌, take, Bool, true, false, Option, Some, None, Result, Ok, Err, refl, sym, ◌∙◌, true≢false}
+use Rattle.std.proofs.Common.{◌≡◌, ◌||◌, ℕ, List, [], ◌++◌, take, Bool, true, false, Option, Some, None, Ok, Err, refl, sym, ◌∙◌, true≢false}
 use Rattle.std.specs.Prelude.{bytes_eq, if◌then◌else◌, option_map}
 use Rattle.std.proofs.lemmas.Slice.Eq.{bytes_eq-Decides}
 use Rattle.ud_replace.specs.Calls.{Call, was_read, asked, made, appended, given, looked, renamed, overwrote, removed}

@@ -1,19 +1,17 @@
 -- The files after each call of a replacement, if all answers are true.
-use Rattle.std.proofs.Common.{◌≡◌, ◌⊎◌, inl, inr, ℕ, List, [], ◌∷◌, ◌++◌, take, Bool, true, false, Option, Some, None, Result, Ok, Err, refl, sym, ap, ◌∙◌, subst, true≢false}
+use Rattle.std.proofs.Common.{◌≡◌, ◌⊎◌, inl, inr, ℕ, List, [], ◌∷◌, Bool, true, false, Option, Some, None, Result, Ok, Err, refl, sym, ap, ◌∙◌, subst, true≢false}
 use Rattle.std.specs.Prelude.{bytes_eq, if◌then◌else◌}
 use Rattle.ud_model.specs.sections.Items.{Options}
 use Rattle.ud_model.specs.answer.Outcomes.{Outcome, HasOutcome}
 use Rattle.ud_replace.specs.declared.error.Update.{Update}
 use Rattle.ud_replace.specs.declared.error.ReplaceError.{ReplaceError}
-use Rattle.ud_replace.specs.declared.folder.CreateError.{CreateError}
-use Rattle.ud_replace.specs.declared.folder.CreateError.TheVariants.{Denied, Failed}
 use Rattle.ud_replace.specs.declared.stat.FileStat.{FileStat}
 use Rattle.ud_replace.specs.Calls.{Call, was_read, asked, made, appended, given, looked, renamed, removed}
 use Rattle.ud_replace.specs.Filling.{Takes, nothing, part, AppendsAll, all, stopped, LooksAgain, seen_same, seen_other, Fills, filled, not_taken, not_given, changed, not_renamed}
 use Rattle.ud_replace.specs.Replacing.{Renames, renames, removes, not_made, denied, denied_writes}
 use Rattle.ud_replace.specs.Replacing.{Puts, read_only, one_link, several, several_writes}
 use Rattle.ud_replace.specs.Replacing.{Judges, no_memory, faulty, same, differs, Replaces, unread, judged}
-use Rattle.ud_replace.specs.Moments.{Files, after, content, AreTrue, EachCall, no_call, then_call, HasOutput, OldOrNew, touches}
+use Rattle.ud_replace.specs.Moments.{Files, content, AreTrue, EachCall, no_call, then_call, HasOutput, OldOrNew, touches}
 use Rattle.ud_replace.proofs.CallLemmas.{if_false, if_true, same_name, name_of_test, untouched, extended}
 
 -- each call so far left each file as it was after `old`

@@ -1,5 +1,5 @@
 -- Versions of a file that are compared field by field.
-use Rattle.std.proofs.Common.{◌≡◌, ◌&&◌, ℕ, ℤ, Bool, true, false, Some, List, ◌∷◌, refl, sym, ap, ap₂, ◌∙◌, subst, int_eq, true≢false}
+use Rattle.std.proofs.Common.{◌≡◌, ◌&&◌, ℕ, ℤ, Bool, true, false, Some, List, ◌∷◌, refl, sym, ap, ap₂, ◌∙◌, int_eq, true≢false}
 use lib.Dec.{eqb}
 use Rattle.std.proofs.lemmas.Bool.Decides.{Decides-eqb, Decides-int_eq}
 use Rattle.ud_replace.specs.declared.stat.FileTime.{FileTime}

@@ -5,10 +5,12 @@
 --   Puts into name fresh before text stat old new r      one of the two
 --   Judges o into name fresh text stat old new r         what follows once the file is read
 --   Replaces o into name fresh old new r                 all calls of `replace`, which returned `r`
+--   IsOutputOf o text output                             the output of the outcome of a text
+--   Keeps o into name fresh old new r output             the same calls, and the output of the text
 --
 -- `old` and `new` are the calls before and after, the newest first.
 use Rattle.std.specs.Prelude.{◌≡◌, ℕ, ◌<◌, ◌≤◌, List, ◌∷◌, Bool, true, false}
-use Rattle.std.specs.Prelude.{Option, Some, None, Result, Ok, Err}
+use Rattle.std.specs.Prelude.{Some, None, Result, Ok, Err}
 use Rattle.ud_model.specs.sections.Items.{Options}
 use Rattle.ud_model.specs.answer.Outcomes.{Outcome, HasOutcome}
 use Rattle.ud_faults.specs.declared.run.RunFault.{RunFault}
@@ -96,3 +98,15 @@ pub data Replaces (o : Options) (into : Bool) (name fresh : List ℕ) (old new :
   judged : {r : Result Update ReplaceError} (text : List ℕ) (stat : FileStat) →
       Judges o into name fresh text stat (was_read name text (Some stat) ∷ old) new r →
       Replaces o into name fresh old new r
+
+-- `IsOutputOf o text output`: `output` is that of the outcome of `text`.
+pub data IsOutputOf (o : Options) (text output : List ℕ) : Type 0 where
+  output_of : (a : Outcome) → HasOutcome o text a → output ≡ a.output → IsOutputOf o text output
+
+-- `Keeps o into name fresh old new r output`: the file was read once, and the rest went by its
+-- text. `output` is that of the outcome of this text.
+pub data Keeps (o : Options) (into : Bool) (name fresh : List ℕ) (old new : List Call)
+    (r : Result Update ReplaceError) (output : List ℕ) : Type 0 where
+  keeps : (text : List ℕ) (stat : FileStat) →
+      Judges o into name fresh text stat (was_read name text (Some stat) ∷ old) new r →
+      IsOutputOf o text output → Keeps o into name fresh old new r output

@@ -1,11 +1,12 @@
 //! Replacing one file by the output for it.
 
-ghost use Rattle.std.specs.Prelude.{◌≡◌, List, [], false};
+ghost use Rattle.std.specs.Prelude.{◌≡◌, List, [], true, false, is_ok};
 ghost use Rattle.ud_model.specs.sections.Items.{Options};
 ghost use Rattle.ud_cond.specs.symbols.SymbolTable.{TableRepresents};
 ghost use Rattle.ud_replace.specs.Calls.{Call};
 ghost use Rattle.ud_replace.specs.Filling.{LooksAgain, Fills};
 ghost use Rattle.ud_replace.specs.Replacing.{Overwrites, Renames, Puts, Judges, Replaces};
+ghost use Rattle.ud_replace.specs.Replacing.{IsOutputOf, Keeps};
 
 use crate::append::append_all;
 use crate::error::{ReplaceError, Update};
@@ -80,6 +81,7 @@ pub fn replace<F: Folder>(
 }
 
 /// Replaces a file as `replace` does, and leaves the output for it in `out`, which is empty before.
+/// The output is that of the text that was read, also if the file is unchanged.
 ///
 /// # Errors
 /// As `replace`. Then `out` may have any bytes.
@@ -96,6 +98,10 @@ pub fn replace_keeping<F: Folder>(
         TableRepresents plan.now.symbols o.table →
         Replaces o target.now.write_into target.now.name.now target.now.fresh.now
         (F.history folder.old) (F.history folder.new) result }
+    ensures output { (o : Options) → o.settings ≡ plan.now.settings →
+        TableRepresents plan.now.symbols o.table → is_ok result ≡ true →
+        Keeps o target.now.write_into target.now.name.now target.now.fresh.now
+        (F.history folder.old) (F.history folder.new) result out.new.inner.items }
 {
     let mut text = Vec::new(alloc);
     match folder.read(target.name, &mut text) {
@@ -122,6 +128,9 @@ fn replace_text<F: Folder>(
         Judges o target.now.write_into target.now.name.now target.now.fresh.now
         before.now.text.now before.now.stat
         (F.history folder.old) (F.history folder.new) result }
+    ensures output { (o : Options) → o.settings ≡ plan.now.settings →
+        TableRepresents plan.now.symbols o.table → is_ok result ≡ true →
+        IsOutputOf o before.now.text.now out.new.inner.items }
 {
     let mut reader = Watched::new(before.text);
     match run(plan, &mut reader, out) {

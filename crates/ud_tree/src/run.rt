@@ -44,7 +44,7 @@ pub struct Streams<R, W, E> {
 /// # Errors
 /// The status is 2, and there is a message for each fault, in each of these cases:
 ///
-/// - A path doesn't exist, or is a link to a file. No file was changed.
+/// - A path doesn't exist, or is a link to a file, a pipe or a device. No file was changed.
 /// - The paths name no file. If paths come from the input, that is no fault.
 /// - A folder can't be read, or a file can't be replaced. The other files are.
 /// - The output can't be written.

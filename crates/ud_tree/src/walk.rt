@@ -67,7 +67,10 @@ impl<'w> Walk<'w> {
                 Ok(())
             }
             NodeKind::File => self.add_file(path, last_name(path.as_bytes()), node.id),
-            NodeKind::Other => Ok(()),
+            NodeKind::Other => {
+                report.fault(path.as_bytes(), b"Is no regular file");
+                Ok(())
+            }
         }
     }
 
