@@ -1,1 +1,2 @@
 pub mod PathLemmas
+mod ShownLemmas

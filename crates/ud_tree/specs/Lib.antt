@@ -3,3 +3,4 @@ pub mod Paths
 pub mod Statuses
 pub mod Fates
 pub mod Runs
+pub mod Shown
