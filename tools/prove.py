@@ -38,6 +38,7 @@ SECONDS = {
     "unifdef_cli": 68,
     "unifdef_c": 60,
     "ud_replace": 100,
+    "ud_diff": 60,
     "ud_tree": 150,
 }
 OTHER = 60

@@ -4,3 +4,4 @@ pub mod Statuses
 pub mod Fates
 pub mod Runs
 pub mod TreeRuns
+pub mod Shown

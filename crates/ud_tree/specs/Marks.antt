@@ -1,11 +1,11 @@
--- Marks: the output for a line, with a byte before it that says what became of the line.
+-- Marks: a byte in place of the output for a line, which says what became of the line.
 --
 --   plain_piece blank j    what is printed for the judged line `j`
 --   mark_of blank j        the mark of the line
---   marked_piece blank j   the mark, and what is printed
+--   mark_piece blank j     the mark alone, as the output for the line
 --
--- Example: a kept line `x` has the piece `=x`, and a removed one the piece `-`.
-use Rattle.std.specs.Prelude.{ℕ, List, [], ◌∷◌, Bool, true, false, bytes_eq, if◌then◌else◌, not}
+-- Example: a kept line `x` has the piece `=`, and a removed one the piece `-`.
+use Rattle.std.specs.Prelude.{ℕ, List, [], ◌∷◌, Bool, bytes_eq, if◌then◌else◌, not}
 use Rattle.std.specs.Prelude.{◌&&◌}
 use Rattle.ud_model.specs.text.Lines.{text_of}
 use Rattle.ud_model.specs.answer.Printing.{Judged, piece_by}
@@ -22,6 +22,6 @@ abbrev pub mark_of : Bool → Judged → ℕ
 mark_of blank j = if is_removed j.verdict && not blank then 45
     else (if bytes_eq (plain_piece blank j) (text_of j.line) then 61 else 126)
 
--- `marked_piece blank j`: the mark of `j`, and what is printed for it.
-abbrev pub marked_piece : Bool → Judged → List ℕ
-marked_piece blank j = mark_of blank j ∷ plain_piece blank j
+-- `mark_piece blank j`: the mark of `j` alone.
+abbrev pub mark_piece : Bool → Judged → List ℕ
+mark_piece blank j = mark_of blank j ∷ []

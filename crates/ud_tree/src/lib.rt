@@ -8,6 +8,7 @@
 mod arguments;
 mod counts;
 mod disk;
+mod file_diff;
 mod job;
 mod list_all;
 mod marked;
@@ -22,7 +23,6 @@ mod run;
 mod run_file;
 mod show_all;
 mod tree;
-mod unified_diff;
 mod walk;
 
 pub use arguments::{ArgumentFault, Arguments, Request, Task, parse_arguments};

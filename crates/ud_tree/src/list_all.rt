@@ -10,6 +10,7 @@ use crate::run_file::run_file;
 use crate::tree::Tree;
 use crate::walk::Found;
 use std::io::Write;
+use ud_engine::Watched;
 
 /// Adds the names of all files to `names`, and reports their faults. Returns what became of them.
 ///
@@ -42,9 +43,9 @@ fn list_file<T: Tree, E: Write>(
 ) -> Fate
     ensures { ReadsOne name.now (T.history tree.old) (T.history tree.new) }
 {
-    let mut listed = Vec::new(job.alloc);
+    let mut listed = Watched::new(Vec::<u8>::new(job.alloc));
     let ran = run_file(job, tree, name, &mut listed, report);
-    let added = names.add(listed.as_slice());
+    let added = names.add(listed.inner().as_slice());
     let Some((text, _)) = ran else {
         return Fate::Faulty;
     };

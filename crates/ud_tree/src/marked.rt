@@ -1,16 +1,11 @@
 //! A printer that says what became of each line.
 
+use ud_model::Verdict;
 use ud_sections::{Pieces, Show, Step};
 use ud_text::Line;
 
-/// The mark of a line that is printed as it is.
-pub(crate) const SAME: u8 = b'=';
-
-/// The mark of a line for which another one is printed.
-pub(crate) const EDITED: u8 = b'~';
-
-/// A printer that prints a mark before the output for each line: `=` if the line is printed as it
-/// is, `-` if nothing is printed, and `~` for another line.
+/// A printer that prints a mark in place of the output for each line, as `unified_diff` takes it:
+/// `=` if the line is printed as it is, `-` if nothing is printed, and `~` for another line.
 #[derive(Drop)]
 pub(crate) struct Marked {
     /// True if removed lines are blanked.
@@ -25,21 +20,26 @@ impl Marked {
 }
 
 impl Show for Marked {
-    ghost use Rattle.ud_tree.specs.Marks.{marked_piece};
+    ghost use Rattle.ud_tree.specs.Marks.{mark_piece};
 
     ghost represents = { λ m before. Unit {0} };
 
-    ghost piece = { λ m before. marked_piece m.blank };
+    ghost piece = { λ m before. mark_piece m.blank };
 
     fn pieces<'a>(&'a mut self, line: &Line<'a>, step: Step) -> Pieces<'a> {
         let blank: &'a [u8] = if self.blank { line.ending } else { &[] };
-        let pieces = Pieces::for_line(line, step, blank);
-        if step.verdict.is_removed() && !self.blank {
-            pieces.prepend(b"-", line)
-        } else if pieces.same() {
-            pieces.prepend(b"=", line)
+        let same = Pieces::for_line(line, step, blank).same();
+        let mark: &'a [u8] = if step.verdict.is_removed() && !self.blank {
+            b"-"
+        } else if same {
+            b"="
         } else {
-            pieces.prepend(b"~", line)
-        }
+            b"~"
+        };
+        let alone = Step {
+            verdict: Verdict::Remove,
+            keyword: step.keyword,
+        };
+        Pieces::for_line(line, alone, mark)
     }
 }

@@ -1,7 +1,10 @@
 //! Reading a file, and running over its text.
 
-ghost use Rattle.std.specs.Prelude.{◌≡◌};
+ghost use Rattle.std.specs.Prelude.{◌≡◌, false, IfOk, IfSome};
+ghost use Rattle.ud_model.specs.sections.Items.{Options};
+ghost use Rattle.ud_cond.specs.symbols.SymbolTable.{TableRepresents};
 ghost use Rattle.ud_tree.specs.Runs.{ReadsOne};
+ghost use Rattle.ud_tree.specs.Shown.{WasRead, RunsOver};
 
 use crate::job::Job;
 use crate::report::Report;
@@ -13,7 +16,8 @@ use ud_engine::{RunFault, Watched, run};
 /// Reads a file, and runs over its text. Appends the output to `output`. Returns the text, and
 /// whether the output differs.
 ///
-/// Nothing is asked but that the file is read.
+/// Nothing is asked but that the file is read. After a fault of the text, the output up to it was
+/// appended.
 ///
 /// # Errors
 /// `None` after a fault, which was reported.
@@ -21,10 +25,16 @@ pub(crate) fn run_file<T: Tree, E: Write>(
     job: &Job<'_>,
     tree: &mut T,
     name: &[u8],
-    output: &mut Vec<u8>,
+    output: &mut Watched<Vec<u8>>,
     report: &mut Report<E>,
 ) -> Option<(Vec<u8>, bool)>
-    ensures { ReadsOne name.now (T.history tree.old) (T.history tree.new) }
+    requires not_failed { output.old.failed ≡ false }
+    ensures reads { ReadsOne name.now (T.history tree.old) (T.history tree.new) }
+    ensures text { IfSome result (λ ran.
+        WasRead name.now ran.0.items (T.history tree.old) (T.history tree.new)) }
+    ensures ran { (o : Options) → o.settings ≡ job.now.arguments.now.plan.settings →
+        TableRepresents job.now.arguments.now.plan.symbols o.table → IfSome result (λ ran.
+        RunsOver o ran.0.items output.old.inner.items output.new.inner.items ran.1) }
 {
     let mut text = Vec::new(job.alloc);
     if tree.read(name, &mut text).is_none() {
@@ -45,8 +55,12 @@ pub(crate) fn run_file<T: Tree, E: Write>(
 }
 
 /// Runs over a text. Appends the output, and returns whether it differs.
-fn run_text(plan: &Plan, text: &[u8], output: &mut Vec<u8>) -> Result<bool, RunFault> {
+fn run_text(plan: &Plan, text: &[u8], output: &mut Watched<Vec<u8>>) -> Result<bool, RunFault>
+    requires { output.old.failed ≡ false }
+    ensures { (o : Options) → o.settings ≡ plan.now.settings →
+        TableRepresents plan.now.symbols o.table → IfOk result (λ differs.
+        RunsOver o text.now output.old.inner.items output.new.inner.items differs) }
+{
     let mut reader = Watched::new(text);
-    let mut out = Watched::new(output);
-    run(plan, &mut reader, &mut out)
+    run(plan, &mut reader, output)
 }

@@ -1,19 +1,21 @@
 //! Showing what would change of all files.
 
+ghost use Rattle.std.specs.Prelude.{◌≡◌, false};
+ghost use Rattle.ud_model.specs.sections.Items.{Options};
+ghost use Rattle.ud_cond.specs.symbols.SymbolTable.{TableRepresents};
+ghost use Rattle.ud_io.specs.Watched.{AppendsAllOrPrefix};
 ghost use Rattle.ud_tree.specs.Runs.{ReadsOne, Reads, Counted, names_of};
+ghost use Rattle.ud_tree.specs.Shown.{ShowsFile};
 
 use crate::counts::{Counts, Fate};
+use crate::file_diff::diff_of;
 use crate::job::Job;
-use crate::marked::Marked;
-use crate::report::{Report, write_parts};
+use crate::report::Report;
 use crate::run_file::run_file;
 use crate::tree::Tree;
-use crate::unified_diff::append_diff;
 use crate::walk::Found;
 use std::io::Write;
-use ud_args::Plan;
-use ud_engine::{Engine, RunFault, Watched};
-use ud_sections::{Complement, Show};
+use ud_io::{Watched, write_all};
 
 /// Writes the diffs of all files in order, and reports their faults. Returns what would become of
 /// them.
@@ -44,56 +46,34 @@ fn show_file<T: Tree, W: Write, E: Write>(
     out: &mut Watched<W>,
     report: &mut Report<E>,
 ) -> Fate
-    ensures { ReadsOne name.now (T.history tree.old) (T.history tree.new) }
+    ensures reads { ReadsOne name.now (T.history tree.old) (T.history tree.new) }
+    ensures shows { (o : Options) → o.settings ≡ job.now.arguments.now.plan.settings →
+        TableRepresents job.now.arguments.now.plan.symbols o.table → out.old.failed ≡ false →
+        ShowsFile o name.now out.new.failed (T.history tree.old) (T.history tree.new)
+        (W.contents out.old.inner) (W.contents out.new.inner) result }
 {
-    let mut output = Vec::new(job.alloc);
+    let mut output = Watched::new(Vec::<u8>::new(job.alloc));
     let Some((text, differs)) = run_file(job, tree, name, &mut output, report) else {
         return Fate::Faulty;
     };
-    report.search(job, name, output.as_slice());
+    report.search(job, name, output.inner().as_slice());
     if !differs {
         return Fate::Same;
     }
-    match diff_of(job, name, text.as_slice()) {
-        None => {
-            report.fault(name, b"Out of memory");
-            Fate::Faulty
-        }
-        Some(diff) => {
-            write_parts(out, &[diff.as_slice()]);
-            Fate::Changed
-        }
-    }
-}
-
-/// Returns the diff of a text without a fault; `None` if memory runs out.
-fn diff_of(job: &Job<'_>, name: &[u8], text: &[u8]) -> Option<Vec<u8>> {
-    let plan = &job.arguments.plan;
-    let settings = plan.settings();
-    let printer = Marked::new(settings.blank);
-    let mut marked = Vec::new(job.alloc);
-    let printed = if settings.complement {
-        print_text(plan, Complement::new(printer), text, &mut marked)
-    } else {
-        print_text(plan, printer, text, &mut marked)
+    let Some(diff) = diff_of(job, name, text.as_slice(), output.inner().as_slice()) else {
+        report.fault(name, b"Out of memory");
+        return Fate::Faulty;
     };
-    if printed.is_err() {
-        return None;
-    }
-    let mut diff = Vec::new(job.alloc);
-    append_diff(job.alloc, &mut diff, name, text, marked.as_slice()).ok()?;
-    Some(diff)
+    write_diff(out, diff.as_slice());
+    Fate::Changed
 }
 
-/// Appends the output of a printer for a text.
-fn print_text<S: Show>(
-    plan: &Plan,
-    printer: S,
-    text: &[u8],
-    output: &mut Vec<u8>,
-) -> Result<bool, RunFault> {
-    let mut out = Watched::new(output);
-    let mut engine = Engine::new(plan, printer);
-    engine.feed(text, &mut out)?;
-    engine.finish(&mut out)
+/// Writes a diff, unless a write has failed.
+fn write_diff<W: Write>(out: &mut Watched<W>, diff: &[u8])
+    ensures { out.old.failed ≡ false → AppendsAllOrPrefix out.new.failed
+        (W.contents out.old.inner) (W.contents out.new.inner) diff.now }
+{
+    if !out.failed() {
+        write_all(out, diff);
+    }
 }

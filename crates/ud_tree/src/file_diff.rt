@@ -1,0 +1,46 @@
+//! The diff of one file.
+
+ghost use Rattle.std.specs.Prelude.{IfSome};
+ghost use Rattle.ud_diff.specs.Patching.{IsDiff};
+
+use crate::job::Job;
+use crate::marked::Marked;
+use ud_args::Plan;
+use ud_diff::unified_diff;
+use ud_engine::{Engine, RunFault, Watched};
+use ud_sections::{Complement, Show};
+
+/// Returns the diff of a text without a fault and its output; `None` if memory runs out.
+pub(crate) fn diff_of(job: &Job<'_>, name: &[u8], text: &[u8], output: &[u8]) -> Option<Vec<u8>>
+    ensures { IfSome result (λ diff. IsDiff name.now text.now output.now diff.items) }
+{
+    let plan = &job.arguments.plan;
+    let settings = plan.settings();
+    let printer = Marked::new(settings.blank);
+    let mut marks = Vec::new(job.alloc);
+    let printed = if settings.complement {
+        print_text(plan, Complement::new(printer), text, &mut marks)
+    } else {
+        print_text(plan, printer, text, &mut marks)
+    };
+    if printed.is_err() {
+        return None;
+    }
+    match unified_diff(job.alloc, name, text, output, marks.as_slice()) {
+        Ok(diff) => Some(diff),
+        Err(_) => None,
+    }
+}
+
+/// Appends the output of a printer for a text.
+fn print_text<S: Show>(
+    plan: &Plan,
+    printer: S,
+    text: &[u8],
+    output: &mut Vec<u8>,
+) -> Result<bool, RunFault> {
+    let mut out = Watched::new(output);
+    let mut engine = Engine::new(plan, printer);
+    engine.feed(text, &mut out)?;
+    engine.finish(&mut out)
+}
