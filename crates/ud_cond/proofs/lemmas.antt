@@ -2,4 +2,3 @@
 pub mod expressions
 pub mod symbols
 pub mod NameListLemmas
-pub mod WordLemmas

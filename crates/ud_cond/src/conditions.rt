@@ -16,8 +16,7 @@ use crate::expressions::fast_path::evaluate_fast;
 use crate::expressions::parsing::evaluate;
 use crate::expressions::values::{Scope, Value};
 use crate::symbols::Symbols;
-use crate::words::leading_word_len;
-use ud_model::bytes::{are_white, is_digit, skip_white};
+use ud_model::bytes::{are_white, is_digit, skip_white, word_len};
 use ud_model::{Cond, Kind, Role, Test};
 
 /// The options for the values of expressions.
@@ -109,7 +108,7 @@ pub(crate) fn sole_name(text: &[u8]) -> Option<&[u8]>
     ensures { option_map (λ n. n.now) result ≡ spec.sole_name text.now }
 {
     let text = skip_white(text);
-    let length = leading_word_len(text);
+    let length = word_len(text);
     let word = &text[..length];
     if is_name_word(word) && are_white(&text[length..]) {
         Some(word)

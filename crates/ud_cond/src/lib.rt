@@ -13,7 +13,6 @@ mod conditions;
 mod expressions;
 mod list_names;
 mod symbols;
-mod words;
 
 pub use conditions::{Answer, Rules, condition};
 pub use list_names::names;

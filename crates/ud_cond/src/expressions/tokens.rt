@@ -9,9 +9,8 @@ ghost use Rattle.ud_model.specs.text.Bytes as bytes;
 ghost use Rattle.ud_cond.specs.CondViews.{as_next};
 
 use crate::expressions::constants::is_constant;
-use crate::words::leading_word_len;
 use ud_model::Operator;
-use ud_model::bytes::{is_digit, is_word_byte, skip_white};
+use ud_model::bytes::{is_digit, is_word_byte, skip_white, word_len};
 
 /// A token of an expression.
 #[derive(Clone, Copy)]
@@ -196,7 +195,7 @@ pub(crate) fn next_token(text: &[u8]) -> NextToken<'_>
         [] => NextToken::AtEnd,
         [first, rest @ ..] => {
             if is_word_byte(*first) {
-                let length = leading_word_len(text);
+                let length = word_len(text);
                 word_token(&text[..length], &text[length..])
             } else {
                 punctuator(*first, rest)
