@@ -1,6 +1,7 @@
 -- NameFilters: the slots by which most unlisted names are rejected without a search.
 --
 --   slot_of key              the slot of a key
+--   bit_of words slot        the bit of a slot
 --   slot_is_set noted key    the slot of the key is set
 --   AreInFilter noted rows   the slot of each row's name is set
 use Rattle.std.specs.Prelude.{◌≡◌, ℕ, ◌*◌, ◌/◌, ◌%◌, ◌^◌, ◌==◌, List, [], ◌∷◌, get_or, Bool, true}
