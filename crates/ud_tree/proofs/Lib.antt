@@ -1,2 +1,5 @@
 pub mod PathLemmas
+pub mod WalkLemmas
+pub mod TreeLaws
 pub mod RunLemmas
+pub mod PickLemmas
