@@ -2,7 +2,7 @@
 use Rattle.std.proofs.Common.{◌≡◌, ◌||◌, ℕ, List, [], ◌++◌, take, Bool, true, false, Option, Some, None, Ok, Err, refl, sym, ◌∙◌, true≢false}
 use Rattle.std.specs.Prelude.{bytes_eq, if◌then◌else◌, option_map}
 use Rattle.std.proofs.lemmas.Slice.Eq.{bytes_eq-Decides}
-use Rattle.ud_replace.specs.Calls.{Call, was_read, asked, made, appended, given, looked, renamed, overwrote, removed}
+use Rattle.ud_replace.specs.Calls.{Call, was_read, asked, made, appended, given, looked, renamed, overwrote, removed, walked}
 use Rattle.ud_replace.specs.Moments.{Files, after, touches}
 
 -- a choice by a test that fails
@@ -46,6 +46,7 @@ untouched (renamed from to false) f n h = refl
 untouched (overwrote m text ok) f n h = if_false (bytes_eq n m) (Some text) (f n) h
 untouched (removed m true) f n h = if_false (bytes_eq n m) None (f n) h
 untouched (removed m false) f n h = refl
+untouched (walked w) f n h = refl
 
 -- appended bytes follow those that the file had
 pub extended : (m rest : List ℕ) (k : ℕ) (f : Files) (t : List ℕ) → f m ≡ Some t → after (appended m rest (Some k)) f m ≡ Some (t ++ take k rest)

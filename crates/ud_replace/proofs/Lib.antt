@@ -1,6 +1,6 @@
-mod CallLemmas
-mod MomentLemmas
-mod RenameLemmas
+pub mod CallLemmas
+pub mod MomentLemmas
+pub mod RenameLemmas
 mod OutcomeLemmas
 mod TakesLemmas
 mod StepLemmas

@@ -1,12 +1,23 @@
 -- CallRecords: the calls that code hands to a history.
 --
---   call_of c   the call of a `FolderCall`
+--   walk_call_of w   the call of a `FolderWalk`
+--   call_of c        the call of a `FolderCall`
+use Rattle.std.specs.Prelude.{map}
+use Rattle.ud_replace.specs.declared.call.FolderWalk.{FolderWalk}
+use Rattle.ud_replace.specs.declared.call.FolderWalk.TheVariants.{Met, Followed, Listed}
 use Rattle.ud_replace.specs.declared.call.FolderCall.{FolderCall}
 use Rattle.ud_replace.specs.declared.call.FolderCall.TheVariants.{Read, MayWrite, Create, Append}
 use Rattle.ud_replace.specs.declared.call.FolderCall.TheVariants.{SetModeAndOwner, Look, Rename}
-use Rattle.ud_replace.specs.declared.call.FolderCall.TheVariants.{Overwrite, Remove}
+use Rattle.ud_replace.specs.declared.call.FolderCall.TheVariants.{Overwrite, Remove, Walk}
 use Rattle.ud_replace.specs.Calls.{Call, was_read, asked, made, appended, given, looked, renamed}
-use Rattle.ud_replace.specs.Calls.{overwrote, removed}
+use Rattle.ud_replace.specs.Calls.{overwrote, removed, walked}
+use Rattle.ud_replace.specs.Calls.{WalkCall, met, followed, listed}
+
+-- `walk_call_of w`: the same call over the bytes to which `w` refers.
+abbrev pub walk_call_of : FolderWalk → WalkCall
+walk_call_of (Met path answer) = met path.now answer
+walk_call_of (Followed path answer) = followed path.now answer
+walk_call_of (Listed folder names answer) = listed folder.now (map (λ n. n.items) names.now) answer
 
 -- `call_of c`: the same call over the bytes to which `c` refers.
 abbrev pub call_of : FolderCall → Call
@@ -19,3 +30,4 @@ call_of (Look name answer) = looked name.now answer
 call_of (Rename from to answer) = renamed from.now to.now answer
 call_of (Overwrite name text answer) = overwrote name.now text.now answer
 call_of (Remove name answer) = removed name.now answer
+call_of (Walk w) = walked (walk_call_of w)

@@ -1,9 +1,20 @@
 -- Calls: what is asked of a folder, and what it answers.
 --
---   Call   a call of a folder with its answer
+--   WalkCall   a call that a walk over folders makes, with its answer
+--   Call       a call of a folder with its answer
 use Rattle.std.specs.Prelude.{ℕ, List, Bool, Option, Result}
 use Rattle.ud_replace.specs.declared.folder.CreateError.{CreateError}
+use Rattle.ud_replace.specs.declared.node.Node.{Node}
 use Rattle.ud_replace.specs.declared.stat.FileStat.{FileStat}
+
+-- `WalkCall`: a call that a walk over folders makes, with its answer. Paths are bytes.
+pub data WalkCall : Type 0 where
+  -- `met path answer`: what has the path
+  met : List ℕ → Option Node → WalkCall
+  -- `followed path answer`: whether the path is that of a folder, or of a link to one
+  followed : List ℕ → Bool → WalkCall
+  -- `listed folder names answer`: these are all the names in the folder, or some of them
+  listed : List ℕ → List (List ℕ) → Bool → WalkCall
 
 -- `Call`: a call of a folder with its answer. Names and texts are bytes.
 pub data Call : Type 0 where
@@ -25,3 +36,5 @@ pub data Call : Type 0 where
   overwrote : List ℕ → List ℕ → Bool → Call
   -- `removed name answer`: the file was removed, or not
   removed : List ℕ → Bool → Call
+  -- `walked w`: a call of a walk, which changes nothing
+  walked : WalkCall → Call

@@ -18,7 +18,7 @@ use Rattle.ud_model.specs.sections.Items.{Options}
 use Rattle.ud_model.specs.answer.Outcomes.{Outcome, HasOutcome}
 use Rattle.ud_replace.specs.declared.stat.FileStat.{FileStat}
 use Rattle.ud_replace.specs.Calls.{Call, was_read, asked, made, appended, given, looked, renamed}
-use Rattle.ud_replace.specs.Calls.{overwrote, removed}
+use Rattle.ud_replace.specs.Calls.{overwrote, removed, walked}
 use Rattle.ud_replace.specs.Filling.{Takes}
 
 -- `Files`: the bytes of each file, by its name; `None` if no file has the name.
@@ -43,6 +43,7 @@ after (renamed from to false) f n = f n
 after (overwrote m text ok) f n = if bytes_eq n m then Some text else f n
 after (removed m true) f n = if bytes_eq n m then None else f n
 after (removed m false) f n = f n
+after (walked w) f n = f n
 
 -- `content first calls`: the files `first` after these calls, of which the newest comes first.
 abbrev pub content : Files → List Call → Files
@@ -63,6 +64,7 @@ IsTrueOf (looked m seen) f = Unit {0}
 IsTrueOf (renamed from to ok) f = Unit {0}
 IsTrueOf (overwrote m text ok) f = Unit {0}
 IsTrueOf (removed m gone) f = Unit {0}
+IsTrueOf (walked w) f = Unit {0}
 
 -- `AreTrue first calls`: the answer of each call is true of the files before it.
 abbrev pub AreTrue : Files → List Call → Type 0
@@ -100,6 +102,7 @@ touches (looked m seen) n = false
 touches (renamed from to ok) n = bytes_eq n from || bytes_eq n to
 touches (overwrote m text ok) n = bytes_eq n m
 touches (removed m gone) n = bytes_eq n m
+touches (walked w) n = false
 
 -- `TookOutput o name fresh old calls`: after `old`, `name` was read. Then `fresh` was made, and
 -- took all of the output for these bytes. It got the mode of `name`, which was looked at again.

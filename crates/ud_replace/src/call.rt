@@ -1,7 +1,29 @@
 //! A call of a folder, as `History` takes it.
 
 use crate::folder::CreateError;
+use crate::node::Node;
 use crate::stat::FileStat;
+
+/// A call that a walk over folders makes, with its answer.
+#[derive(Clone, Copy, Drop)]
+pub enum FolderWalk<'a> {
+    /// The path was found to be that of a node, or of nothing.
+    Met {
+        path: &'a [u8],
+        answer: Option<Node>,
+    },
+    /// The path was found to be that of a folder, or of a link to one, or not.
+    Followed {
+        path: &'a [u8],
+        answer: bool,
+    },
+    /// These are all the names in a folder, or some of them.
+    Listed {
+        folder: &'a [u8],
+        names: &'a [Vec<u8>],
+        answer: bool,
+    },
+}
 
 /// A call of a folder with its answer.
 #[derive(Clone, Copy, Drop)]
@@ -56,4 +78,6 @@ pub enum FolderCall<'a> {
         name: &'a [u8],
         answer: bool,
     },
+    /// A walk made a call, which changes nothing.
+    Walk(FolderWalk<'a>),
 }

@@ -14,13 +14,15 @@ mod error;
 mod folder;
 mod history;
 mod laws;
+mod node;
 mod replacement;
 mod stat;
 
-pub use call::FolderCall;
+pub use call::{FolderCall, FolderWalk};
 pub use error::{ReplaceError, Update};
 pub use folder::{CreateError, Folder};
 pub use history::History;
 pub use laws::{law_old_or_new, law_one_rename};
+pub use node::{FileId, Node, NodeKind};
 pub use replacement::{Target, replace, replace_keeping};
 pub use stat::{FileStat, FileTime, FileVersion};

@@ -12,6 +12,7 @@ use Rattle.ud_tree.specs.declared.arguments.Task.{Task}
 use Rattle.ud_tree.specs.Fates.{is_changed, is_same, is_faulty}
 use Rattle.ud_tree.specs.Runs.{EachFile, no_file, then_file, CountsAre, Counted, names_of}
 use Rattle.ud_tree.specs.Statuses.{tree_status}
+use Rattle.ud_tree.specs.Walks.{IsWalk}
 use Rattle.ud_tree.specs.TreeRuns.{DoesBy, DoesOne, Ends, IsRun, ran}
 
 -- One fate more is counted, if it passes the test.
@@ -63,7 +64,7 @@ counted_all {P = P} {old = old} {new = new} {counts = counts} files i is h =
     let whole : take i files ≡ files = take_all i files (omega arith) in
     subst (λ (fs : List Found). Counted P old (names_of fs) new counts) whole h
 
--- What a task does is what the arguments ask for.
+-- The task of the arguments does what they ask for.
 pub done_by : (args : Arguments) (tag : List ℕ) (t : Task) {old : List Call} {names : List (List ℕ)} {new : List Call} {counts : Counts} →
     args.task ≡ t → Counted (DoesBy t args tag) old names new counts → Counted (DoesOne args tag) old names new counts
 done_by args tag t {old = old} {names = names} {new = new} {counts = counts} is h =
@@ -81,8 +82,7 @@ ends args tag {counts = counts} faults status h few is = record {
   status_is = is ∙ ap (tree_status args.task args.plan.settings.exit_mode faults) h.counts_are.changed;
 }
 
--- The run processed all files that it found.
-pub ran_from : (args : Arguments) (tag : List ℕ) {old mid new : List Call} {names : List (List ℕ)} {status : ℕ} → mid ≡ old →
-    Ends args tag mid names new status → IsRun args tag old new status
-ran_from args tag {new = new} {names = names} {status = status} is h =
-    ran names (subst (λ (l : List Call). Ends args tag l names new status) is h)
+-- The run processed all files that the walk found.
+pub ran_from : (args : Arguments) (tag : List ℕ) {old mid new : List Call} {found files : List Found} {status : ℕ} → files ≡ found → IsWalk old mid found →
+    Ends args tag mid (names_of files) new status → IsRun args tag old new status
+ran_from args tag {old = old} {mid = mid} {files = files} is w h = ran mid files (subst (λ (fs : List Found). IsWalk old mid fs) (sym is) w) h

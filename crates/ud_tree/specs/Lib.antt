@@ -3,5 +3,7 @@ pub mod Paths
 pub mod Statuses
 pub mod Fates
 pub mod Runs
+pub mod Walks
+pub mod TreeMoments
 pub mod TreeRuns
 pub mod Shown

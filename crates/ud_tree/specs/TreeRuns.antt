@@ -12,8 +12,10 @@ use Rattle.ud_tree.specs.declared.arguments.Task.{Task}
 use Rattle.ud_tree.specs.declared.arguments.Task.TheVariants.{Replace, Diff, Names}
 use Rattle.ud_tree.specs.declared.arguments.Arguments.{Arguments}
 use Rattle.ud_tree.specs.declared.counts.Fate.{Fate}
+use Rattle.ud_tree.specs.declared.walk.Found.{Found}
 use Rattle.ud_tree.specs.Fates.{is_changed, is_faulty}
-use Rattle.ud_tree.specs.Runs.{Reads, ReplacesOne, EachFile}
+use Rattle.ud_tree.specs.Runs.{Reads, ReplacesOne, EachFile, names_of}
+use Rattle.ud_tree.specs.Walks.{WalksOnly, IsWalk}
 use Rattle.ud_tree.specs.Statuses.{tree_status}
 
 -- `DoesBy task args tag name old new fate`: the file `name` is replaced, or only read, by the task.
@@ -37,9 +39,9 @@ pub record Ends (args : Arguments) (tag : List ℕ) (old : List Call) (names : L
   pub status_is : status ≡
       tree_status args.task args.plan.settings.exit_mode faults (count_by is_changed fates)
 
--- `IsRun args tag old new status`: nothing was asked of a file, and the status is 2. Or the run
--- ends after some files.
+-- `IsRun args tag old new status`: only calls of a walk were made, and the status is 2. Or a walk
+-- found some files, and the run ends after them.
 pub data IsRun (args : Arguments) (tag : List ℕ) (old new : List Call) : ℕ → Type 0 where
-  no_run : new ≡ old → IsRun args tag old new 2
-  ran : {status : ℕ} (names : List (List ℕ)) → Ends args tag old names new status →
-      IsRun args tag old new status
+  no_run : WalksOnly old new → IsRun args tag old new 2
+  ran : {status : ℕ} (mid : List Call) (files : List Found) → IsWalk old mid files →
+      Ends args tag mid (names_of files) new status → IsRun args tag old new status

@@ -3,16 +3,21 @@
 //! Each method of `Folder` makes the call that it notes. Paths are UTF-8: the library opens no
 //! others, so a name that isn't is one that can't be read.
 
-ghost use Rattle.std.specs.Prelude.{◌≡◌, Some, None, MatchResult};
+ghost use Rattle.std.specs.Prelude.{◌≡◌, ◌∷◌, Some, None, MatchResult};
 ghost use Rattle.std.specs.Io.{WritesAtMost};
+ghost use Rattle.ud_replace.specs.Calls.{walked};
+ghost use Rattle.ud_replace.specs.CallRecords.{walk_call_of};
 
-use crate::tree::{FileId, Node, NodeKind, Tree};
+use crate::tree::Tree;
 use std::alloc::{AllocError, Global};
 use std::fs::{self, Metadata, OpenFile, OpenOptions, Permissions};
 use std::io::{self, ErrorKind, Read, Write};
 use std::os::unix::fs::{MetadataExt, OpenOptionsExt, PermissionsExt};
 use std::rt::Files;
-use ud_replace::{CreateError, FileStat, FileTime, FileVersion, Folder, FolderCall, History};
+use ud_replace::{
+    CreateError, FileId, FileStat, FileTime, FileVersion, Folder, FolderCall, FolderWalk, History,
+    Node, NodeKind,
+};
 
 /// The bits of a mode that say who may read, write and run a file.
 const ACCESS: u32 = 0o777;
@@ -56,6 +61,14 @@ impl<'r, R: Files> Disk<'r, R> {
                 None
             }
         }
+    }
+
+    /// Notes a call of a walk.
+    fn note(&mut self, walk: FolderWalk<'_>)
+        ensures { self.new.history.calls ≡
+            walked (walk_call_of walk.entry) ∷ self.old.history.calls }
+    {
+        self.history = self.history.with(&FolderCall::Walk(walk));
     }
 }
 
@@ -287,6 +300,11 @@ fn node_of(found: &Metadata) -> Node {
     Node { kind, id }
 }
 
+/// Returns what has a path, without following a link.
+fn node_at<R: Files>(files: &R, path: &str) -> io::Result<Node> {
+    Ok(node_of(&files.symlink_metadata(path)?))
+}
+
 /// Appends the names in a folder.
 fn list_folder<R: Files>(
     files: &R,
@@ -320,21 +338,34 @@ fn append_names(alloc: Global, packed: &[u8], names: &mut Vec<Vec<u8>>) -> Resul
 
 impl<R: Files> Tree for Disk<'_, R> {
     fn node(&mut self, path: &str) -> Option<Node> {
-        let found = self.files.symlink_metadata(path);
-        let found = self.kept(found)?;
-        Some(node_of(&found))
+        let found = node_at(self.files, path);
+        let answer = self.kept(found);
+        let path = path.as_bytes();
+        self.note(FolderWalk::Met { path, answer });
+        answer
     }
 
     fn leads_to_folder(&mut self, path: &str) -> bool {
-        match self.files.metadata(path) {
+        let answer = match self.files.metadata(path) {
             Ok(found) => found.is_dir(),
             Err(_) => false,
-        }
+        };
+        let path = path.as_bytes();
+        self.note(FolderWalk::Followed { path, answer });
+        answer
     }
 
     fn list(&mut self, folder: &str, names: &mut Vec<Vec<u8>>) -> bool {
         let listed = list_folder(self.files, self.alloc, folder, names);
-        self.kept(listed).is_some()
+        let answer = self.kept(listed).is_some();
+        let folder = folder.as_bytes();
+        let names = names.as_slice();
+        self.note(FolderWalk::Listed {
+            folder,
+            names,
+            answer,
+        });
+        answer
     }
 
     fn reason(&self) -> Option<io::Error> {

@@ -10,6 +10,7 @@ mod counts;
 mod disk;
 mod file_diff;
 mod job;
+mod laws;
 mod list_all;
 mod marked;
 mod names;
@@ -27,6 +28,8 @@ mod walk;
 
 pub use arguments::{ArgumentFault, Arguments, Request, Task, parse_arguments};
 pub use disk::Disk;
+pub use laws::{law_run_old_or_new, law_run_reads, law_run_renames};
 pub use report::{report_argument_fault, report_line};
 pub use run::{Streams, run_tree};
-pub use tree::{FileId, Node, NodeKind, Tree};
+pub use tree::Tree;
+pub use ud_replace::{FileId, Node, NodeKind};

@@ -1,10 +1,11 @@
 //! The run over all files of a tree.
 
-ghost use Rattle.std.specs.Prelude.{◌≡◌};
+ghost use Rattle.std.specs.Prelude.{◌≡◌, IfOk, IfSome};
 ghost use Rattle.ud_model.specs.answer.Answer.{status_by};
 ghost use Rattle.ud_tree.specs.Runs.{Counted, names_of};
 ghost use Rattle.ud_tree.specs.Statuses.{tree_status};
 ghost use Rattle.ud_tree.specs.TreeRuns.{DoesOne, Ends, IsRun};
+ghost use Rattle.ud_tree.specs.Walks.{Finds, IsWalk, WalksOnly};
 
 use crate::arguments::{Arguments, Task};
 use crate::counts::Counts;
@@ -88,26 +89,47 @@ fn find_files<T: Tree, R: Read + Drop, E: Write>(
     input: R,
     report: &mut Report<E>,
 ) -> Result<Option<Vec<Found>>, AllocError>
-    ensures { T.history tree.new ≡ T.history tree.old }
+    ensures walks { WalksOnly (T.history tree.old) (T.history tree.new) }
+    ensures files { IfOk result (λ r. IfSome r
+        (λ files. IsWalk (T.history tree.old) (T.history tree.new) files.items)) }
 {
     let mut walk = Walk::new(job.alloc, job.arguments.patterns.as_slice());
+    let all = walk_all(job, &mut walk, tree, input, report)?;
+    if !all {
+        return Ok(None);
+    }
+    let files = walk.finish()?;
+    if files.is_empty() && !job.arguments.from_input {
+        report.line(&[b"No file matches"]);
+        return Ok(None);
+    }
+    Ok(Some(files))
+}
+
+/// Walks over all paths that the arguments name. Returns false if one of them has a fault. Nothing
+/// below the paths was looked at then.
+fn walk_all<T: Tree, R: Read + Drop, E: Write>(
+    job: &Job<'_>,
+    walk: &mut Walk<'_>,
+    tree: &mut T,
+    input: R,
+    report: &mut Report<E>,
+) -> Result<bool, AllocError>
+    ensures { Finds (T.history tree.old) (T.history tree.new) walk.old.found.items
+        walk.new.found.items }
+{
     if job.arguments.from_input {
-        add_input(job.alloc, &mut walk, tree, input, report)?;
-        return Ok(Some(walk.finish()?));
+        add_input(job.alloc, walk, tree, input, report)?;
+        return Ok(true);
     }
     for path in job.arguments.paths.as_slice() {
         walk.start(tree, report, path.as_str())?;
     }
     if report.faulty() > 0 {
-        return Ok(None);
+        return Ok(false);
     }
     walk.go(tree, report)?;
-    let files = walk.finish()?;
-    if files.is_empty() {
-        report.line(&[b"No file matches"]);
-        return Ok(None);
-    }
-    Ok(Some(files))
+    Ok(true)
 }
 
 /// Adds the files whose paths are on the input, each ended by a NUL.
@@ -118,7 +140,8 @@ fn add_input<T: Tree, R: Read + Drop, E: Write>(
     input: R,
     report: &mut Report<E>,
 ) -> Result<(), AllocError>
-    ensures { T.history tree.new ≡ T.history tree.old }
+    ensures { Finds (T.history tree.old) (T.history tree.new) walk.old.found.items
+        walk.new.found.items }
 {
     let mut input = input;
     let mut text = Vec::new(alloc);

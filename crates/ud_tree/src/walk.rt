@@ -1,14 +1,17 @@
 //! The walk over a tree: the files below some paths, each once, in the order of the paths' bytes.
 
-ghost use Rattle.std.specs.Prelude.{◌≡◌};
+ghost use Rattle.std.specs.Prelude.{◌≡◌, ◌⊎◌, [], IfOk, OnOk, true};
+ghost use Rattle.std.specs.List.{All, AllPairs, Contains};
+ghost use Rattle.ud_tree.specs.Walks.{Adds, AddsNode, ArePicked, Finds, IsBefore, IsFileList};
 
 use crate::paths::{escaped, last_name};
 use crate::patterns::{chooses, is_left_out};
 use crate::report::Report;
-use crate::tree::{FileId, Node, NodeKind, Tree};
+use crate::tree::Tree;
 use std::alloc::{AllocError, Global};
 use std::collections::BTreeSet;
 use std::io::Write;
+use ud_replace::{FileId, Node, NodeKind};
 
 /// The fault of a file that can't be opened.
 const NOT_UTF8: &[u8] = b"Its name isn't UTF-8";
@@ -34,7 +37,9 @@ pub(crate) struct Walk<'w> {
 
 impl<'w> Walk<'w> {
     /// Returns a walk before its first path.
-    pub(crate) fn new(alloc: Global, patterns: &'w [String]) -> Walk<'w> {
+    pub(crate) fn new(alloc: Global, patterns: &'w [String]) -> Walk<'w>
+        ensures { result.found.items ≡ [] }
+    {
         Walk {
             alloc,
             patterns,
@@ -53,7 +58,8 @@ impl<'w> Walk<'w> {
         report: &mut Report<E>,
         path: &str,
     ) -> Result<(), AllocError>
-        ensures { T.history tree.new ≡ T.history tree.old }
+        ensures { Finds (T.history tree.old) (T.history tree.new) self.old.found.items
+            self.new.found.items }
     {
         let Some(node) = tree.node(path) else {
             report.missing(path.as_bytes(), tree.reason());
@@ -84,7 +90,8 @@ impl<'w> Walk<'w> {
         report: &mut Report<E>,
         name: &[u8],
     ) -> Result<(), AllocError>
-        ensures { T.history tree.new ≡ T.history tree.old }
+        ensures { Finds (T.history tree.old) (T.history tree.new) self.old.found.items
+            self.new.found.items }
     {
         let Ok(path) = std::str::from_utf8(name) else {
             report.fault(escaped(self.alloc, name)?.as_slice(), NOT_UTF8);
@@ -95,7 +102,7 @@ impl<'w> Walk<'w> {
                 report.missing(name, tree.reason());
                 Ok(())
             }
-            Some(node) if node.kind == NodeKind::File => self.push_file(path, node.id),
+            Some(node) if is_file(&node) => self.push_file(path, node.id),
             Some(_) => {
                 report.fault(name, b"Is no regular file");
                 Ok(())
@@ -104,7 +111,9 @@ impl<'w> Walk<'w> {
     }
 
     /// Adds a folder.
-    fn add_folder(&mut self, path: &str) -> Result<(), AllocError> {
+    fn add_folder(&mut self, path: &str) -> Result<(), AllocError>
+        ensures { self.new.found.items ≡ self.old.found.items }
+    {
         let mut folder = String::from_str(self.alloc, path)?;
         if !path.ends_with('/') {
             folder.push('/')?;
@@ -113,7 +122,9 @@ impl<'w> Walk<'w> {
     }
 
     /// Adds a file, if its name is chosen.
-    fn add_file(&mut self, path: &str, name: &[u8], id: FileId) -> Result<(), AllocError> {
+    fn add_file(&mut self, path: &str, name: &[u8], id: FileId) -> Result<(), AllocError>
+        ensures { Adds self.old.found.items path.now id self.new.found.items }
+    {
         if chooses(self.patterns, name) {
             self.push_file(path, id)
         } else {
@@ -122,7 +133,9 @@ impl<'w> Walk<'w> {
     }
 
     /// Adds a file.
-    fn push_file(&mut self, path: &str, id: FileId) -> Result<(), AllocError> {
+    fn push_file(&mut self, path: &str, id: FileId) -> Result<(), AllocError>
+        ensures { Adds self.old.found.items path.now id self.new.found.items }
+    {
         let path = String::from_str(self.alloc, path)?;
         self.found
             .push(Found { path, id })
@@ -137,7 +150,8 @@ impl<'w> Walk<'w> {
         folder: &str,
         name: &[u8],
     ) -> Result<(), AllocError>
-        ensures { T.history tree.new ≡ T.history tree.old }
+        ensures { Finds (T.history tree.old) (T.history tree.new) self.old.found.items
+            self.new.found.items }
     {
         let mut path = String::from_str(self.alloc, folder)?;
         let Ok(text) = std::str::from_utf8(name) else {
@@ -146,15 +160,18 @@ impl<'w> Walk<'w> {
             return Ok(());
         };
         path.push_str(text)?;
-        let Some(node) = tree.node(path.as_str()) else {
+        let path = path.as_str();
+        let Some(node) = tree.node(path) else {
             report.missing(path.as_bytes(), tree.reason());
             return Ok(());
         };
-        self.add_node(path.as_str(), name, node)
+        self.add_node(path, name, node)
     }
 
     /// Adds a file or a folder. Others are left out.
-    fn add_node(&mut self, path: &str, name: &[u8], node: Node) -> Result<(), AllocError> {
+    fn add_node(&mut self, path: &str, name: &[u8], node: Node) -> Result<(), AllocError>
+        ensures { AddsNode self.old.found.items path.now node self.new.found.items }
+    {
         match node.kind {
             NodeKind::File => self.add_file(path, name, node.id),
             NodeKind::Folder if !is_left_out(name) => self.add_folder(path),
@@ -169,10 +186,12 @@ impl<'w> Walk<'w> {
         report: &mut Report<E>,
         folder: &str,
     ) -> Result<(), AllocError>
-        ensures { T.history tree.new ≡ T.history tree.old }
+        ensures { Finds (T.history tree.old) (T.history tree.new) self.old.found.items
+            self.new.found.items }
     {
         let mut names = Vec::new(self.alloc);
-        if !tree.list(folder, &mut names) {
+        let listed = tree.list(folder, &mut names);
+        if !listed {
             report.failure(folder.as_bytes(), b"Cannot be read", tree.reason());
         }
         for name in names.as_slice() {
@@ -190,7 +209,8 @@ impl<'w> Walk<'w> {
         tree: &mut T,
         report: &mut Report<E>,
     ) -> Result<(), AllocError>
-        ensures { T.history tree.new ≡ T.history tree.old }
+        ensures { Finds (T.history tree.old) (T.history tree.new) self.old.found.items
+            self.new.found.items }
     {
         'folders: for _ in 0..u64::MAX {
             let Some(folder) = self.folders.pop() else {
@@ -205,16 +225,59 @@ impl<'w> Walk<'w> {
     ///
     /// # Errors
     /// Fails if memory runs out.
-    pub(crate) fn finish(self) -> Result<Vec<Found>, AllocError> {
+    pub(crate) fn finish(self) -> Result<Vec<Found>, AllocError>
+        ensures { IfOk result (λ files. IsFileList self.entry.found.items files.items) }
+    {
         let mut walk = self;
         walk.found.sort()?;
         let mut seen = BTreeSet::new(walk.alloc);
         let mut files = Vec::new(walk.alloc);
         for found in walk.found {
-            if seen.insert(found.id).map_err(AllocError::from)? {
-                files.push(found).map_err(AllocError::from)?;
-            }
+            pick(&mut files, &mut seen, found)?;
         }
         Ok(files)
+    }
+}
+
+/// Returns whether a node is a regular file.
+fn is_file(node: &Node) -> bool
+    ensures { result ≡ true → node.now.kind ≡ NodeKind.File }
+{
+    match node.kind {
+        NodeKind::File => true,
+        NodeKind::Folder | NodeKind::Link | NodeKind::Other => false,
+    }
+}
+
+/// Adds a file, if its path comes after those of all files, and none of them is the same file.
+/// `seen` has the files by their devices and numbers.
+fn pick(
+    files: &mut Vec<Found>,
+    seen: &mut BTreeSet<(u64, u64)>,
+    found: Found,
+) -> Result<(), AllocError>
+    requires { ArePicked seen.old files.old.items }
+    ensures picked { OnOk result (ArePicked seen.new files.new.items) }
+    ensures from { All (λ f. Contains files.old.items f ⊎ (f ≡ found)) files.new.items }
+{
+    if !comes_after(files.as_slice(), &found) {
+        return Ok(());
+    }
+    let id = (found.id.device, found.id.inode);
+    let is_new = seen.insert(id)?;
+    if is_new {
+        files.push(found)?;
+    }
+    Ok(())
+}
+
+/// Returns whether a file's path comes after those of all these files, which ascend.
+fn comes_after(files: &[Found], found: &Found) -> bool
+    requires { AllPairs IsBefore files.now }
+    ensures { result ≡ true → All (λ f. IsBefore f found.now) files.now }
+{
+    match files.last() {
+        None => true,
+        Some(last) => last.path < found.path,
     }
 }

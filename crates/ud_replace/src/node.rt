@@ -1,0 +1,32 @@
+//! What has a path, as a walk over folders sees it.
+
+/// Which kind of thing has a path.
+#[derive(Clone, Copy, Debug, PartialEq, Eq)]
+pub enum NodeKind {
+    /// A regular file.
+    File,
+    /// A folder.
+    Folder,
+    /// A symbolic link.
+    Link,
+    /// A device, a pipe or a socket.
+    Other,
+}
+
+/// Which file it is, whatever its name.
+#[derive(Clone, Copy, Debug, PartialEq, Eq, PartialOrd, Ord)]
+pub struct FileId {
+    /// The number of the device.
+    pub device: u64,
+    /// The number of the file on that device.
+    pub inode: u64,
+}
+
+/// A file, a folder or anything else that has a path.
+#[derive(Clone, Copy, Debug, PartialEq, Eq)]
+pub struct Node {
+    /// Its kind.
+    pub kind: NodeKind,
+    /// Which file it is.
+    pub id: FileId,
+}

@@ -1,0 +1,244 @@
+-- The calls of a whole run: what they touch, and the files after each of them.
+use Rattle.std.proofs.Common.{◌≡◌, ◌⊎◌, inl, inr, ℕ, ◌<◌, ◌+◌, List, [], ◌∷◌, ◌++◌, length, get_or, map, Bool, true, false, Option, Some, None, Result, Ok, Err, refl, sym, ap, ◌∙◌, subst, true≢false, arith, length-append}
+use Rattle.std.proofs.lemmas.List.{get_or_append_left, get_or-append_right, get_or-map, length-map}
+use Rattle.std.proofs.lemmas.List.Elements.{Contains-append_left, Contains-push}
+use Rattle.std.specs.List.{Contains, AllPairs}
+use Rattle.std.specs.Prelude.{string_bytes}
+use Rattle.std.specs.Ordering.{nat_cmp}
+use Rattle.std.specs.Cmp.Lexicographic.{slice_cmp}
+use Rattle.std.specs.declared.cmp.Ordering.{Ordering}
+use Rattle.std.specs.declared.cmp.Ordering.TheVariants.{Less, Equal}
+use Rattle.std.proofs.lemmas.Cmp.{tied_itself, nat_list_cmp_total}
+use Rattle.ud_model.specs.sections.Items.{Options}
+use Rattle.ud_replace.specs.declared.error.Update.{Update}
+use Rattle.ud_replace.specs.declared.error.ReplaceError.{ReplaceError}
+use Rattle.ud_replace.specs.Calls.{Call, was_read, walked, WalkCall}
+use Rattle.ud_replace.specs.Replacing.{Replaces}
+use Rattle.ud_replace.specs.Moments.{Files, content, AreTrue, EachCall, no_call, then_call, HasOutput, OldOrNew, touches, after, TouchesFreshOnly}
+use Rattle.ud_replace.proofs.CallLemmas.{untouched}
+use Rattle.ud_replace.proofs.MomentLemmas.{old_or_new}
+use Rattle.ud_replace.proofs.RenameLemmas.{one_rename}
+use Rattle.ud_tree.specs.declared.arguments.Arguments.{Arguments}
+use Rattle.ud_tree.specs.declared.arguments.Task.{Task}
+use Rattle.ud_tree.specs.declared.arguments.Task.TheVariants.{Replace, Diff, Names}
+use Rattle.ud_tree.specs.declared.counts.Fate.{Fate}
+use Rattle.ud_tree.specs.declared.walk.Found.{Found}
+use Rattle.ud_tree.specs.Paths.{fresh_name}
+use Rattle.ud_args.specs.Plans.{PlanState}
+use Rattle.ud_tree.specs.Runs.{ReadsOne, reads, Reads, IsPlanned, ReplacesOne, replaces, no_name, EachFile, no_file, then_file, names_of}
+use Rattle.ud_tree.specs.TreeRuns.{DoesBy, DoesOne, Ends, IsRun, no_run, ran}
+use Rattle.ud_tree.specs.Walks.{IsBefore, IsWalk}
+use Rattle.ud_tree.specs.TreeMoments.{TouchesNothing, TouchesFreshOrNone, OldOrOutput}
+
+-- A fact about each call of two parts holds of each call of both.
+each_then : {P : Call → List Call → Type 0} {old mid new : List Call} → EachCall P old mid → EachCall P mid new → EachCall P old new
+each_then h no_call = h
+each_then h (then_call k p) = then_call (each_then h k) p
+
+each_weaker : {P Q : Call → List Call → Type 0} {old new : List Call} → ((c : Call) (earlier : List Call) → P c earlier → Q c earlier) →
+    EachCall P old new → EachCall Q old new
+each_weaker w no_call = no_call
+each_weaker w (then_call {c = c} {calls = calls} h p) = then_call (each_weaker w h) (w c calls p)
+
+each_at : {P : Call → List Call → Type 0} {old calls new : List Call} → new ≡ calls → EachCall P old calls → EachCall P old new
+each_at {P = P} {old = old} e h = subst (λ (l : List Call). EachCall P old l) (sym e) h
+
+-- The calls of a walk touch no file.
+walk_touches : (calls : List WalkCall) (old : List Call) → EachCall TouchesNothing old (map walked calls ++ old)
+walk_touches [] old = no_call
+walk_touches (w ∷ calls) old = then_call (walk_touches calls old) (λ n h. true≢false (sym h))
+
+-- Reading a file touches none.
+read_touches : {name : List ℕ} {old new : List Call} → ReadsOne name old new → EachCall TouchesNothing old new
+read_touches {name = name} {old = old} (reads text answer is) =
+    let start : EachCall TouchesNothing old old = no_call in
+    each_at is (then_call start (λ n t. true≢false (sym t)))
+
+-- Reading files touches none.
+reads_touch : {old : List Call} {names : List (List ℕ)} {new : List Call} {fates : List Fate} → EachFile Reads old names new fates → EachCall TouchesNothing old new
+reads_touch no_file = no_call
+reads_touch (then_file h k) = each_then (reads_touch h) (read_touches k)
+
+reads_by : (args : Arguments) (tag : List ℕ) (t : Task) → args.task ≡ t → ¬ (t ≡ Replace) → {old : List Call} {names : List (List ℕ)} {new : List Call} {fates : List Fate} →
+    EachFile (DoesBy t args tag) old names new fates → EachCall TouchesNothing old new
+reads_by args tag Replace is other h = absurd (other refl)
+reads_by args tag Diff is other h = reads_touch h
+reads_by args tag Names is other h = reads_touch h
+
+pub run_reads : (args : Arguments) (tag : List ℕ) (old new : List Call) (status : ℕ) → ¬ (args.task ≡ Replace) → IsRun args tag old new status → EachCall TouchesNothing old new
+run_reads args tag old new _ other (no_run h) = each_at h.are (walk_touches h.calls old)
+run_reads args tag old new status other (ran mid files w h) = each_then (each_at w.are (walk_touches w.calls old)) (reads_by args tag args.task refl other h.each)
+
+-- Replacing a file touches no file but the new one, up to the rename.
+replace_touches : {o : Options} {plan : PlanState} {tag name : List ℕ} {old new : List Call} {fate : Fate} → IsPlanned plan o →
+    ReplacesOne plan false tag name old new fate → EachCall (TouchesFreshOrNone o tag) old new
+replace_touches {o = o} {tag = tag} {name = name} {old = old} {new = new} p (replaces r fresh is h) =
+    each_weaker (λ c earlier t. inr (name, old, subst (λ (f : List ℕ). TouchesFreshOnly o name f old c earlier) is t))
+    (one_rename o name fresh old new r (h o p))
+replace_touches p (no_name is) = each_at is no_call
+
+replaces_touch : {o : Options} {plan : PlanState} {tag : List ℕ} {old : List Call} {names : List (List ℕ)} {new : List Call} {fates : List Fate} → IsPlanned plan o →
+    EachFile (ReplacesOne plan false tag) old names new fates → EachCall (TouchesFreshOrNone o tag) old new
+replaces_touch p no_file = no_call
+replaces_touch p (then_file h k) = each_then (replaces_touch p h) (replace_touches p k)
+
+nothing_touched : {o : Options} {tag : List ℕ} {old new : List Call} → EachCall TouchesNothing old new → EachCall (TouchesFreshOrNone o tag) old new
+nothing_touched h = each_weaker (λ c earlier t. inl t) h
+
+replaces_by : {o : Options} (args : Arguments) (tag : List ℕ) (t : Task) → IsPlanned args.plan o → args.write_into ≡ false → {old : List Call} {names : List (List ℕ)} {new : List Call}
+    {fates : List Fate} → EachFile (DoesBy t args tag) old names new fates → EachCall (TouchesFreshOrNone o tag) old new
+replaces_by args tag Replace p into {old = old} {names = names} {new = new} {fates = fates} h =
+    replaces_touch p (subst (λ (b : Bool). EachFile (ReplacesOne args.plan b tag) old names new fates) into h)
+replaces_by args tag Diff p into h = nothing_touched (reads_touch h)
+replaces_by args tag Names p into h = nothing_touched (reads_touch h)
+
+pub run_renames : (o : Options) (args : Arguments) (tag : List ℕ) (old new : List Call) (status : ℕ) → IsPlanned args.plan o → args.write_into ≡ false →
+    IsRun args tag old new status → EachCall (TouchesFreshOrNone o tag) old new
+run_renames o args tag old new _ p into (no_run h) = nothing_touched (each_at h.are (walk_touches h.calls old))
+run_renames o args tag old new status p into (ran mid files w h) =
+    each_then (nothing_touched (each_at w.are (walk_touches w.calls old))) (replaces_by args tag args.task p into h.each)
+
+-- Calls that touch nothing leave each file as it is.
+same_after : (c : Call) (f : Files) (n : List ℕ) → ¬ (touches c n ≡ true) → after c f n ≡ f n
+same_after c f n t = untouched c f n (by_test (touches c n) refl)
+  where
+    by_test : (b : Bool) → touches c n ≡ b → touches c n ≡ false
+    by_test false e = e
+    by_test true e = absurd (t e)
+
+-- The files after some calls, of which some were replaced: each has its old bytes, or its output.
+abbrev Later : Options → List (List ℕ) → List ℕ → List ℕ → Option (List ℕ) → Type 0
+Later o names n bytes found = (found ≡ Some bytes) ⊎ (Contains names n × HasOutput o bytes found)
+
+abbrev OutputIn : Options → Files → List Call → List (List ℕ) → List Call → Type 0
+OutputIn o first old names calls = (n bytes : List ℕ) → content first old n ≡ Some bytes → Later o names n bytes (content first calls n)
+
+-- All moments so far, and the last one.
+record Moments (o : Options) (first : Files) (old : List Call) (names : List (List ℕ)) (new : List Call) : Type 0 where
+  each : EachCall (λ (c : Call) (earlier : List Call). OldOrOutput o first old (c ∷ earlier)) old new
+  last : OutputIn o first old names new
+
+forget : (o : Options) (first : Files) (old : List Call) (names : List (List ℕ)) (calls : List Call) → OutputIn o first old names calls → OldOrOutput o first old calls
+forget o first old names calls h n bytes e = either (h n bytes e)
+  where
+    either : Later o names n bytes (content first calls n) → (content first calls n ≡ Some bytes) ⊎ HasOutput o bytes (content first calls n)
+    either (inl same) = inl same
+    either (inr made) = inr made.1
+
+moments_none : (o : Options) (first : Files) (old : List Call) → Moments o first old [] old
+moments_none o first old = record { each = no_call; last = λ n bytes e. inl e }
+
+-- Calls that touch nothing.
+moments_still : {o : Options} {first : Files} {old mid : List Call} {names : List (List ℕ)} {new : List Call} → Moments o first old names mid → EachCall TouchesNothing mid new → Moments o first old names new
+moments_still m no_call = m
+moments_still {o = o} {first = first} {old = old} {names = names} m (then_call {c = c} {calls = calls} h t) =
+    let before = moments_still m h in
+    let now : OutputIn o first old names (c ∷ calls) = λ n bytes e. still n bytes (before.last n bytes e) in
+    record { each = then_call before.each (forget o first old names (c ∷ calls) now); last = now }
+  where
+    still : (n bytes : List ℕ) → Later o names n bytes (content first calls n) → Later o names n bytes (content first (c ∷ calls) n)
+    still n bytes (inl same) = inl (same_after c (content first calls) n (t n) ∙ same)
+    still n bytes (inr made) = inr (made.0, subst (λ (x : Option (List ℕ)). HasOutput o bytes x) (sym (same_after c (content first calls) n (t n))) made.1)
+
+-- The name of the next file isn't among those before it.
+abbrev IsNew : List (List ℕ) → List ℕ → Type 0
+IsNew names name = ¬ (Contains names name)
+
+-- After some files, one call more for the next file.
+moment_more : (o : Options) (first : Files) (old mid calls : List Call) (names : List (List ℕ)) (name : List ℕ) → IsNew names name →
+    OutputIn o first old names mid → OldOrNew o name first mid calls → OutputIn o first old (names ++ name ∷ []) calls
+moment_more o first old mid calls names name fresh before h n bytes e = either (before n bytes e)
+  where
+    here : n ≡ name → Contains (names ++ name ∷ []) n
+    here is = subst (λ (m : List ℕ). Contains (names ++ name ∷ []) m) (sym is) (Contains-push names name)
+
+    kept : (content first calls n ≡ Some bytes) ⊎ ((n ≡ name) × HasOutput o bytes (content first calls n)) → Later o (names ++ name ∷ []) n bytes (content first calls n)
+    kept (inl same) = inl same
+    kept (inr made) = inr (here made.0, made.1)
+
+    done : Contains names n → (out : HasOutput o bytes (content first mid n)) →
+        (content first calls n ≡ Some out.outcome.output) ⊎ ((n ≡ name) × HasOutput o out.outcome.output (content first calls n)) → Later o (names ++ name ∷ []) n bytes (content first calls n)
+    done inside out (inl same) = inr (Contains-append_left names (name ∷ []) n inside, record { outcome = out.outcome; has = out.has; no_fault = out.no_fault; is_output = same })
+    done inside out (inr made) = absurd (fresh (subst (λ (m : List ℕ). Contains names m) made.0 inside))
+
+    either : Later o names n bytes (content first mid n) → Later o (names ++ name ∷ []) n bytes (content first calls n)
+    either (inl same) = kept (h n bytes same)
+    either (inr made) = done made.0 made.1 (h n made.1.outcome.output made.1.is_output)
+
+-- After some files, all calls for the next file.
+moments_more : {o : Options} {first : Files} {old mid : List Call} {names : List (List ℕ)} (name : List ℕ) {new : List Call} → IsNew names name → Moments o first old names mid →
+    EachCall (λ (c : Call) (earlier : List Call). OldOrNew o name first mid (c ∷ earlier)) mid new → Moments o first old (names ++ name ∷ []) new
+moments_more {o = o} {first = first} {old = old} {mid = mid} {names = names} name fresh m no_call =
+    record { each = m.each; last = moment_more o first old mid mid names name fresh m.last (λ n bytes e. inl e) }
+moments_more {o = o} {first = first} {old = old} {mid = mid} {names = names} name fresh m (then_call {c = c} {calls = calls} h k) =
+    let before = moments_more name fresh m h in
+    let now : OutputIn o first old (names ++ name ∷ []) (c ∷ calls) = moment_more o first old mid (c ∷ calls) names name fresh m.last k in
+    record { each = then_call before.each (forget o first old (names ++ name ∷ []) (c ∷ calls) now); last = now }
+
+-- True answers up to the end were true before.
+true_before : {P : Call → List Call → Type 0} (first : Files) {old new : List Call} → EachCall P old new → AreTrue first new → AreTrue first old
+true_before first no_call t = t
+true_before first (then_call h p) t = true_before first h t.1
+
+-- No name is in the list twice.
+abbrev Apart : List ℕ → List ℕ → Type 0
+Apart a b = ¬ (a ≡ b)
+
+pairs_before : (names : List (List ℕ)) (name : List ℕ) → AllPairs Apart (names ++ name ∷ []) → AllPairs Apart names
+pairs_before names name h i j d below within =
+    let both : Apart (get_or (names ++ name ∷ []) i d) (get_or (names ++ name ∷ []) j d) = h i j d below (grind (arith, length-append)) in
+    let at_i : get_or (names ++ name ∷ []) i d ≡ get_or names i d = get_or_append_left names (name ∷ []) d i (omega arith) in
+    let at_j : get_or (names ++ name ∷ []) j d ≡ get_or names j d = get_or_append_left names (name ∷ []) d j within in
+    λ e. both (at_i ∙ e ∙ sym at_j)
+
+last_is_new : (names : List (List ℕ)) (name : List ℕ) → AllPairs Apart (names ++ name ∷ []) → IsNew names name
+last_is_new names name h inside =
+    let k = inside.0 in
+    let both : Apart (get_or (names ++ name ∷ []) k name) (get_or (names ++ name ∷ []) (length names) name) = h k (length names) name inside.1 (grind (arith, length-append)) in
+    let at_k : get_or (names ++ name ∷ []) k name ≡ name = get_or_append_left names (name ∷ []) name k inside.1 ∙ inside.2 in
+    let at_end : get_or (names ++ name ∷ []) (length names) name ≡ name = grind (arith, get_or-append_right names (name ∷ []) (length names) (length names) name) in
+    both (at_k ∙ sym at_end)
+
+-- All files of a run.
+moments_all : {o : Options} {plan : PlanState} {tag : List ℕ} {first : Files} {old start : List Call} {names : List (List ℕ)} {new : List Call} {fates : List Fate} → IsPlanned plan o →
+    EachFile (ReplacesOne plan false tag) start names new fates → AllPairs Apart names → AreTrue first new → Moments o first old [] start → Moments o first old names new
+moments_all p no_file apart t m = m
+moments_all {o = o} {first = first} p (then_file {names = names} {mid = mid} {next = next} {name = name} h (replaces r fresh is k)) apart t m =
+    let moments = old_or_new o first name fresh mid next r (k o p) t in
+    moments_more name (last_is_new names name apart) (moments_all p h (pairs_before names name apart) (true_before first moments t) m) moments
+moments_all {o = o} {first = first} p (then_file {names = names} {mid = mid} {next = next} {name = name} h (no_name is)) apart t m =
+    moments_more name (last_is_new names name apart) (moments_all p h (pairs_before names name apart) (subst (λ (l : List Call). AreTrue first l) is t) m) (each_at is no_call)
+
+-- Paths that ascend differ.
+not_before_itself : (f g : Found) → IsBefore f g → Apart (string_bytes f.path) (string_bytes g.path)
+not_before_itself f g h e =
+    let tied : slice_cmp nat_cmp (string_bytes f.path) (string_bytes f.path) ≡ Equal = tied_itself nat_list_cmp_total (string_bytes f.path) in
+    let less : slice_cmp nat_cmp (string_bytes f.path) (string_bytes f.path) ≡ Less =
+    ap (λ (n : List ℕ). slice_cmp nat_cmp (string_bytes f.path) n) e ∙ h in
+    absurd cc
+
+apart_names : (files : List Found) → AllPairs IsBefore files → AllPairs Apart (names_of files)
+apart_names [] h i j d below within = absurd (omega arith)
+apart_names (f ∷ files) h i j d below within =
+    let in_files : j < length (f ∷ files) = subst (λ (n : ℕ). j < n) (length-map (f ∷ files) (λ (g : Found). string_bytes g.path)) within in
+    let at_i : get_or (names_of (f ∷ files)) i d ≡ string_bytes (get_or (f ∷ files) i f).path =
+    get_or-map (λ (g : Found). string_bytes g.path) (f ∷ files) i f d (omega arith) in
+    let at_j : get_or (names_of (f ∷ files)) j d ≡ string_bytes (get_or (f ∷ files) j f).path =
+    get_or-map (λ (g : Found). string_bytes g.path) (f ∷ files) j f d in_files in
+    λ e. not_before_itself (get_or (f ∷ files) i f) (get_or (f ∷ files) j f) (h i j f below in_files) (sym at_i ∙ e ∙ at_j)
+
+moments_by : {o : Options} (args : Arguments) (tag : List ℕ) (t : Task) → IsPlanned args.plan o → args.write_into ≡ false → {first : Files} {old start : List Call} {names : List (List ℕ)} {new : List Call}
+    {fates : List Fate} → AllPairs Apart names → AreTrue first new → Moments o first old [] start → EachFile (DoesBy t args tag) start names new fates →
+    EachCall (λ (c : Call) (earlier : List Call). OldOrOutput o first old (c ∷ earlier)) old new
+moments_by args tag Replace p into {start = start} {names = names} {new = new} {fates = fates} apart t m h =
+    (moments_all p (subst (λ (b : Bool). EachFile (ReplacesOne args.plan b tag) start names new fates) into h) apart t m).each
+moments_by args tag Diff p into apart t m h = (moments_still m (reads_touch h)).each
+moments_by args tag Names p into apart t m h = (moments_still m (reads_touch h)).each
+
+pub run_old_or_new : (o : Options) (args : Arguments) (tag : List ℕ) (first : Files) (old new : List Call) (status : ℕ) → IsPlanned args.plan o → args.write_into ≡ false →
+    IsRun args tag old new status → AreTrue first new → EachCall (λ (c : Call) (earlier : List Call). OldOrOutput o first old (c ∷ earlier)) old new
+run_old_or_new o args tag first old new _ p into (no_run h) t =
+    (moments_still (moments_none o first old) (each_at h.are (walk_touches h.calls old))).each
+run_old_or_new o args tag first old new status p into (ran mid files w h) t =
+    moments_by args tag args.task p into (apart_names files w.ascend) t
+    (moments_still (moments_none o first old) (each_at w.are (walk_touches w.calls old))) h.each

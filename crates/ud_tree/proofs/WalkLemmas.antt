@@ -1,0 +1,124 @@
+-- Parts of a walk, one after another.
+use Rattle.std.proofs.Common.{◌≡◌, ◌⊎◌, inl, inr, ℕ, List, [], ◌∷◌, ◌++◌, map, Bool, true, false, cond, Option, Some, refl, sym, ap, ◌∙◌, subst, arith, append_assoc}
+use Rattle.std.proofs.lemmas.List.{map-append}
+use Rattle.std.proofs.lemmas.List.Elements.{All-weaker, All-contains, All-contains_itself, All-push, Contains-append_left, Contains-append_right, Contains-push}
+use Rattle.std.specs.List.{All, Contains}
+use Rattle.std.specs.Prelude.{string_bytes}
+use Rattle.ud_replace.specs.declared.node.Node.{Node}
+use Rattle.ud_replace.specs.declared.node.NodeKind.TheVariants.{File}
+use Rattle.ud_replace.specs.declared.node.FileId.{FileId}
+use Rattle.ud_replace.specs.Calls.{Call, walked, WalkCall, met}
+use Rattle.ud_tree.specs.declared.walk.Found.{Found}
+use Rattle.ud_tree.specs.Walks.{WasMet, Finds, Adds, adds_none, adds_one, AddsNode, no_node, file_node, WalksOnly, IsFileList, IsWalk}
+
+-- A file was there before, or was met by these calls.
+abbrev pub Origin : List WalkCall → List Found → Found → Type 0
+Origin calls before f = Contains before f ⊎ WasMet calls f
+
+met_left : (xs ys : List WalkCall) (f : Found) → WasMet xs f → WasMet (xs ++ ys) f
+met_left xs ys f h = record {
+  node = h.node;
+  seen = Contains-append_left xs ys (met (string_bytes f.path) (Some h.node)) h.seen;
+  is_file = h.is_file;
+  same_id = h.same_id;
+}
+
+met_right : (xs ys : List WalkCall) (f : Found) → WasMet ys f → WasMet (xs ++ ys) f
+met_right xs ys f h = record {
+  node = h.node;
+  seen = Contains-append_right xs ys (met (string_bytes f.path) (Some h.node)) h.seen;
+  is_file = h.is_file;
+  same_id = h.same_id;
+}
+
+-- All files were there before.
+same_origin : (calls : List WalkCall) (found : List Found) → All (Origin calls found) found
+same_origin calls found = All-weaker (Contains found) (Origin calls found) (λ f h. inl h) found (All-contains_itself found)
+
+-- Nothing was asked.
+pub finds_none : (old : List Call) (found : List Found) → Finds old old found found
+finds_none old found = record { calls = []; are = refl; each = same_origin [] found }
+
+-- One call was made, and no file was found.
+pub finds_call : (w : WalkCall) {old new : List Call} (found : List Found) → new ≡ walked w ∷ old → Finds old new found found
+finds_call w found is = record { calls = w ∷ []; are = is; each = same_origin (w ∷ []) found }
+
+-- The files that were found are the same.
+pub finds_same : {old new : List Call} {before found after : List Found} → after ≡ found → Finds old new before found → Finds old new before after
+finds_same {old = old} {new = new} {before = before} is h = subst (λ (fs : List Found). Finds old new before fs) (sym is) h
+
+later_origin : (xs ys : List WalkCall) (a b : List Found) → All (Origin xs a) b → (f : Found) → Origin ys b f → Origin (ys ++ xs) a f
+later_origin xs ys a b h f (inl inside) = first (All-contains (Origin xs a) b f h inside)
+  where
+    first : Origin xs a f → Origin (ys ++ xs) a f
+    first (inl was) = inl was
+    first (inr m) = inr (met_right ys xs f m)
+later_origin xs ys a b h f (inr m) = inr (met_left ys xs f m)
+
+-- One part after another.
+pub finds_then : {old mid new : List Call} {a b c : List Found} → Finds old mid a b → Finds mid new b c → Finds old new a c
+finds_then {old = old} {a = a} {b = b} {c = c} h k = record {
+  calls = k.calls ++ h.calls;
+  are = k.are ∙ ap (λ (l : List Call). map walked k.calls ++ l) h.are ∙ sym (append_assoc (map walked k.calls) (map walked h.calls) old)
+      ∙ ap (λ (l : List Call). l ++ old) (sym (map-append walked k.calls h.calls));
+  each = All-weaker (Origin k.calls b) (Origin (k.calls ++ h.calls) a) (later_origin h.calls k.calls a b h.each) c k.each;
+}
+
+-- The call that found a file met it.
+met_now : (node : Node) (f : Found) (path : List ℕ) → node.kind ≡ File → string_bytes f.path ≡ path → f.id ≡ node.id →
+    WasMet (met path (Some node) ∷ []) f
+met_now node f path file named same = record {
+  node = node;
+  seen = (0, omega arith, ap (λ (n : List ℕ). met n (Some node)) (sym named));
+  is_file = file;
+  same_id = sym same;
+}
+
+-- A file was found and added.
+pub finds_file : {old new : List Call} {before after : List Found} (path : List ℕ) (node : Node) → new ≡ walked (met path (Some node)) ∷ old →
+    node.kind ≡ File → Adds before path node.id after → Finds old new before after
+finds_file {before = before} path node is file (adds_none same) = finds_same same (finds_call (met path (Some node)) before is)
+finds_file {before = before} {after = after} path node is file (adds_one f named id added) = record {
+  calls = met path (Some node) ∷ [];
+  are = is;
+  each = subst (All here) (sym added) (All-push here before f
+      (same_origin (met path (Some node) ∷ []) before) (inr (met_now node f path file named id)));
+}
+  where
+    here : Found → Type 0
+    here = Origin (met path (Some node) ∷ []) before
+
+-- A node was found, and added if it is a file.
+pub finds_node : {old new : List Call} {before after : List Found} (path : List ℕ) (node : Node) → new ≡ walked (met path (Some node)) ∷ old →
+    AddsNode before path node after → Finds old new before after
+finds_node {before = before} path node is (no_node same) = finds_same same (finds_call (met path (Some node)) before is)
+finds_node path node is (file_node file added) = finds_file path node is file added
+
+-- Only calls of a walk were made.
+pub only_walks : {old new : List Call} {before found : List Found} → Finds old new before found → WalksOnly old new
+only_walks h = record { calls = h.calls; are = h.are }
+
+-- A walk from no files has met all that it found.
+pub walk_found : {old new : List Call} {before found : List Found} (files : List Found) → before ≡ [] → Finds old new before found → IsFileList found files → IsWalk old new files
+walk_found {before = before} {found = found} files none h l = record {
+  calls = h.calls;
+  are = h.are;
+  each = All-weaker (Contains found) (WasMet h.calls) met_each files l.from;
+  ascend = l.ascend;
+  once = l.once;
+}
+  where
+    only_met : (f : Found) → Origin h.calls before f → WasMet h.calls f
+    only_met f (inr m) = m
+    only_met f (inl inside) =
+        let there : Contains [] f = subst (λ (fs : List Found). Contains fs f) none inside in
+        absurd (omega (arith, there.1))
+
+    met_each : (f : Found) → Contains found f → WasMet h.calls f
+    met_each f inside = only_met f (All-contains (Origin h.calls before) found f h.each inside)
+
+-- A file was appended, or not.
+pub adds_pushed : (before after : List Found) (b : Bool) (f : Found) (path : List ℕ) (id : FileId) → string_bytes f.path ≡ path → f.id ≡ id →
+    after ≡ cond b (before ++ f ∷ []) before → Adds before path id after
+adds_pushed before after true f path id named same is = adds_one f named same is
+adds_pushed before after false f path id named same is = adds_none is

@@ -1,0 +1,28 @@
+-- TreeMoments: what the calls of a whole run do to the files.
+--
+--   TouchesNothing c earlier            a call touches no file
+--   TouchesFreshOrNone o tag c earlier  a call touches no file, but for that of a replacement
+--   OldOrOutput o first old calls       each file has its old bytes, or the output for them
+use Rattle.std.specs.Prelude.{◌≡◌, ◌⊎◌, ℕ, List, true, Some}
+use Rattle.ud_model.specs.sections.Items.{Options}
+use Rattle.ud_replace.specs.Calls.{Call}
+use Rattle.ud_replace.specs.Moments.{Files, content, HasOutput, touches, TouchesFreshOnly}
+use Rattle.ud_tree.specs.Paths.{fresh_name}
+
+-- `TouchesNothing c earlier`: the call `c` touches no file.
+abbrev pub TouchesNothing : Call → List Call → Type 0
+TouchesNothing c earlier = (n : List ℕ) → ¬ (touches c n ≡ true)
+
+-- `TouchesFreshOrNone o tag c earlier`: the call `c` touches no file. Or it is one that replaces
+-- some file: it touches the new file beside that one alone, or it is the rename.
+abbrev pub TouchesFreshOrNone : Options → List ℕ → Call → List Call → Type 0
+TouchesFreshOrNone o tag c earlier =
+    TouchesNothing c earlier
+    ⊎ ((name : List ℕ) × (start : List Call) ×
+    TouchesFreshOnly o name (fresh_name tag name) start c earlier)
+
+-- `OldOrOutput o first old calls`: each file that there was after `old` has the same bytes after
+-- `calls`, or the output for them.
+abbrev pub OldOrOutput : Options → Files → List Call → List Call → Type 0
+OldOrOutput o first old calls = (n bytes : List ℕ) → content first old n ≡ Some bytes →
+    (content first calls n ≡ Some bytes) ⊎ HasOutput o bytes (content first calls n)

@@ -1,0 +1,100 @@
+-- Walks: what a walk over folders asks for, and the files that it finds.
+--
+--   WasMet calls f               a file was met as a regular file
+--   Finds old new before found   a part of a walk, with the files found before and after
+--   Adds before path id after    a file was found, or none
+--   AddsNode before path node after   a node was found, if it is a file
+--   IsBefore f g                 the path of `f` comes before that of `g`
+--   IsOtherFile f g              `f` and `g` are not the same file
+--   IsFileList found files       the files, each once and in order
+--   key_cmp a b                  the order of devices and numbers
+--   IsMarked seen f              a set has a file's device and number
+--   ArePicked seen files         the files so far, each once and in order
+--   WalksOnly old new            only calls of a walk were made
+--   IsWalk old new files         a whole walk, and its files
+--
+-- `old` and `new` are the calls before and after, the newest first.
+use Rattle.std.specs.Prelude.{◌≡◌, ◌⊎◌, ℕ, List, ◌∷◌, [], ◌++◌, Some, map, string_bytes}
+use Rattle.std.specs.Prelude.{true}
+use Rattle.std.specs.List.{All, AllPairs, Contains}
+use Rattle.std.specs.Cmp.Lexicographic.{slice_cmp}
+use Rattle.std.specs.BTreeSet.{BTreeSet, contains}
+use Rattle.std.specs.Ordering.{nat_cmp, ordering_then}
+use Rattle.std.specs.declared.cmp.Ordering.{Ordering}
+use Rattle.std.specs.declared.cmp.Ordering.TheVariants.{Less}
+use Rattle.ud_replace.specs.declared.node.Node.{Node}
+use Rattle.ud_replace.specs.declared.node.NodeKind.TheVariants.{File}
+use Rattle.ud_replace.specs.declared.node.FileId.{FileId}
+use Rattle.ud_replace.specs.Calls.{Call, walked, WalkCall, met}
+use Rattle.ud_tree.specs.declared.walk.Found.{Found}
+
+-- `WasMet calls f`: one of these calls found a regular file at the path of `f`, with its identity.
+pub record WasMet (calls : List WalkCall) (f : Found) : Type 0 where
+  pub node : Node
+  pub seen : Contains calls (met (string_bytes f.path) (Some node))
+  pub is_file : node.kind ≡ File
+  pub same_id : node.id ≡ f.id
+
+-- `Finds old new before found`: since `old`, only calls of a walk were made. Each file of `found`
+-- is one of `before`, or was met by one of these calls.
+pub record Finds (old new : List Call) (before found : List Found) : Type 0 where
+  pub calls : List WalkCall
+  pub are : new ≡ map walked calls ++ old
+  pub each : All (λ f. Contains before f ⊎ WasMet calls f) found
+
+-- `Adds before path id after`: nothing was added, or one file with this path and identity.
+pub data Adds (before : List Found) (path : List ℕ) (id : FileId) (after : List Found) :
+    Type 0 where
+  adds_none : after ≡ before → Adds before path id after
+  adds_one : (f : Found) → string_bytes f.path ≡ path → f.id ≡ id → after ≡ before ++ f ∷ [] →
+      Adds before path id after
+
+-- `AddsNode before path node after`: nothing was added, or the node is a file, which was added.
+pub data AddsNode (before : List Found) (path : List ℕ) (node : Node) (after : List Found) :
+    Type 0 where
+  no_node : after ≡ before → AddsNode before path node after
+  file_node : node.kind ≡ File → Adds before path node.id after → AddsNode before path node after
+
+-- `IsBefore f g`: the path of `f` comes before that of `g`, byte by byte.
+abbrev pub IsBefore : Found → Found → Type 0
+IsBefore f g = slice_cmp nat_cmp (string_bytes f.path) (string_bytes g.path) ≡ Less
+
+-- `IsOtherFile f g`: `f` and `g` are not the same file.
+abbrev pub IsOtherFile : Found → Found → Type 0
+IsOtherFile f g = ¬ (f.id ≡ g.id)
+
+-- `IsFileList found files`: each of `files` was found. Their paths ascend, and no two are the same
+-- file.
+pub record IsFileList (found files : List Found) : Type 0 where
+  pub from : All (Contains found) files
+  pub ascend : AllPairs IsBefore files
+  pub once : AllPairs IsOtherFile files
+
+-- `key_cmp a b`: the order of devices and numbers.
+abbrev pub key_cmp : ℕ × ℕ → ℕ × ℕ → Ordering
+key_cmp a b = ordering_then (nat_cmp a.0 b.0) (nat_cmp a.1 b.1)
+
+-- `IsMarked seen f`: `seen` has the device and the number of `f`.
+abbrev pub IsMarked : BTreeSet (ℕ × ℕ) → Found → Type 0
+IsMarked seen f = contains key_cmp seen (f.id.device, f.id.inode) ≡ true
+
+-- `ArePicked seen files`: the paths of the files ascend, no two are the same file, and `seen` has
+-- each of them.
+pub record ArePicked (seen : BTreeSet (ℕ × ℕ)) (files : List Found) : Type 0 where
+  pub ascend : AllPairs IsBefore files
+  pub once : AllPairs IsOtherFile files
+  pub marked : All (IsMarked seen) files
+
+-- `WalksOnly old new`: since `old`, only calls of a walk were made.
+pub record WalksOnly (old new : List Call) : Type 0 where
+  pub calls : List WalkCall
+  pub are : new ≡ map walked calls ++ old
+
+-- `IsWalk old new files`: since `old`, only calls of a walk were made, and they met each of `files`
+-- as a regular file. The paths of the files ascend, and no two are the same file.
+pub record IsWalk (old new : List Call) (files : List Found) : Type 0 where
+  pub calls : List WalkCall
+  pub are : new ≡ map walked calls ++ old
+  pub each : All (WasMet calls) files
+  pub ascend : AllPairs IsBefore files
+  pub once : AllPairs IsOtherFile files
