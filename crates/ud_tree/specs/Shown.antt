@@ -51,4 +51,5 @@ pub data ShowsFile (o : Options) (name : List ℕ) (failed : Bool) (calls calls'
       RunsOver o text [] output false → out' ≡ out →
       ShowsFile o name failed calls calls' out out' Same
   changed : (text diff : List ℕ) → WasRead name text calls calls' → HasDiff o name text diff →
-      AppendsAllOrPrefix failed out out' diff → ShowsFile o name failed calls calls' out out' Changed
+      AppendsAllOrPrefix failed out out' diff →
+      ShowsFile o name failed calls calls' out out' Changed

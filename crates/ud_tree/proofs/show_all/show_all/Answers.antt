@@ -9,7 +9,7 @@ pub loop-done-preserved : goal.loop-done-preserved
 loop-done-preserved g c = (
   omega arith,
   counted_push c.args.files.now c.loop-done.done c.index-files-done.result c.as_bytes.result.now c.show_file.result c.add.new.self c.loop-done-test.true c.index-files-done.is
-      c.as_bytes.ensures.value c.loop-done.invariant.1 c.show_file.ensures c.add.ensures.changed c.add.ensures.unchanged c.add.ensures.faulty,
+      c.as_bytes.ensures.value c.loop-done.invariant.1 c.show_file.ensures.reads c.add.ensures.changed c.add.ensures.unchanged c.add.ensures.faulty,
 )
 
 pub returns : goal.returns
