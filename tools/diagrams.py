@@ -33,6 +33,10 @@ SAYS = {
     "ud_diagnostics": "message and status are the definition's",
     "unifdef": "tool gives the one answer",
     "unifdef_cli": "main opens the file",
+    "ud_replace": "a file is old, or has its output",
+    "ud_diff": "a diff turns a text into the other",
+    "ud_tree": "a run over a tree asks for no more",
+    "unifdef_tree_cli": "main opens the tree",
 }
 
 

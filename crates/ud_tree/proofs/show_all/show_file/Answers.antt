@@ -18,5 +18,5 @@ returns-then-not-differs-clause-shows g c = λ o s t f.
 pub returns-clause-shows : goal.returns-clause-shows
 returns-clause-shows g c = λ o s t f.
     shows_changed o _ _ _ _ _ _ _ _ _ _ _ _ _ _ (ap (λ v. v.items) c.new-output.ensures.inner ∙ c.new.ensures.items) c.if-not-differs.false
-    c.in-Some.ensures.text (c.in-Some.ensures.ran o s t) c.as_slice.ensures.value (c.as_slice-2.ensures.value ∙ ap (λ v. v.items) c.inner.ensures)
-    c.in-Some-diff_of.ensures c.as_slice-3.ensures.value (c.write_diff.ensures f)
+    c.in-Some.ensures.text (c.in-Some.ensures.ran o s t) c.as_slice-2.ensures.value (c.as_slice-3.ensures.value ∙ ap (λ v. v.items) c.inner-2.ensures)
+    c.in-Some-diff_of.ensures c.as_slice-4.ensures.value (c.write_diff.ensures f)
