@@ -1,5 +1,5 @@
 -- The files of a walk, each once and in the order of their paths.
-use Rattle.std.proofs.Common.{◌≡◌, ◌⊎◌, inl, inr, ℕ, ◌<◌, ◌≤◌, ◌+◌, ◌-◌, List, [], ◌∷◌, ◌++◌, length, get_or, Bool, true, false, cond, Option, Some, refl, sym, ap, ◌∙◌, subst, true≢false, arith, ⊎_elim}
+use Rattle.std.proofs.Common.{◌≡◌, ◌⊎◌, inl, inr, ℕ, ◌<◌, ◌≤◌, ◌+◌, ◌-◌, List, [], ◌∷◌, ◌++◌, length, get_or, Bool, true, false, cond, Some, refl, sym, ap, ◌∙◌, subst, true≢false, arith, ⊎_elim}
 use Rattle.std.proofs.lemmas.Bool.{cases_lt}
 use Rattle.std.proofs.lemmas.Option.{slice_get_within, slice_get-get_or}
 use Rattle.std.specs.List.{slice_get}
@@ -16,7 +16,7 @@ use Rattle.std.specs.Prelude.{string_bytes, not}
 use Rattle.std.specs.BTreeSet.{BTreeSet, contains, Updates}
 use Rattle.ud_replace.specs.declared.node.FileId.{FileId}
 use Rattle.ud_tree.specs.declared.walk.Found.{Found}
-use Rattle.ud_tree.specs.Walks.{IsBefore, IsOtherFile, IsMarked, ArePicked, key_cmp, IsFileList}
+use Rattle.ud_tree.specs.Walks.{IsBefore, IsOtherFile, IsMarked, ArePicked, key_cmp}
 
 -- A file that was added, or one of those before.
 abbrev pub OldOrThis : Found → List Found → Found → Type 0

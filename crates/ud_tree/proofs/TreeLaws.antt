@@ -1,19 +1,15 @@
 -- The calls of a whole run: what they touch, and the files after each of them.
-use Rattle.std.proofs.Common.{◌≡◌, ◌⊎◌, inl, inr, ℕ, ◌<◌, ◌+◌, List, [], ◌∷◌, ◌++◌, length, get_or, map, Bool, true, false, Option, Some, None, Result, Ok, Err, refl, sym, ap, ◌∙◌, subst, true≢false, arith, length-append}
+use Rattle.std.proofs.Common.{◌≡◌, ◌⊎◌, inl, inr, ℕ, ◌<◌, List, [], ◌∷◌, ◌++◌, length, get_or, map, Bool, true, false, Option, Some, refl, sym, ap, ◌∙◌, subst, true≢false, arith, length-append}
 use Rattle.std.proofs.lemmas.List.{get_or_append_left, get_or-append_right, get_or-map, length-map}
 use Rattle.std.proofs.lemmas.List.Elements.{Contains-append_left, Contains-push}
 use Rattle.std.specs.List.{Contains, AllPairs}
 use Rattle.std.specs.Prelude.{string_bytes}
 use Rattle.std.specs.Ordering.{nat_cmp}
 use Rattle.std.specs.Cmp.Lexicographic.{slice_cmp}
-use Rattle.std.specs.declared.cmp.Ordering.{Ordering}
 use Rattle.std.specs.declared.cmp.Ordering.TheVariants.{Less, Equal}
 use Rattle.std.proofs.lemmas.Cmp.{tied_itself, nat_list_cmp_total}
 use Rattle.ud_model.specs.sections.Items.{Options}
-use Rattle.ud_replace.specs.declared.error.Update.{Update}
-use Rattle.ud_replace.specs.declared.error.ReplaceError.{ReplaceError}
-use Rattle.ud_replace.specs.Calls.{Call, was_read, walked, WalkCall}
-use Rattle.ud_replace.specs.Replacing.{Replaces}
+use Rattle.ud_replace.specs.Calls.{Call, walked, WalkCall}
 use Rattle.ud_replace.specs.Moments.{Files, content, AreTrue, EachCall, no_call, then_call, HasOutput, OldOrNew, touches, after, TouchesFreshOnly}
 use Rattle.ud_replace.proofs.CallLemmas.{untouched}
 use Rattle.ud_replace.proofs.MomentLemmas.{old_or_new}
@@ -23,11 +19,10 @@ use Rattle.ud_tree.specs.declared.arguments.Task.{Task}
 use Rattle.ud_tree.specs.declared.arguments.Task.TheVariants.{Replace, Diff, Names}
 use Rattle.ud_tree.specs.declared.counts.Fate.{Fate}
 use Rattle.ud_tree.specs.declared.walk.Found.{Found}
-use Rattle.ud_tree.specs.Paths.{fresh_name}
 use Rattle.ud_args.specs.Plans.{PlanState}
 use Rattle.ud_tree.specs.Runs.{ReadsOne, reads, Reads, IsPlanned, ReplacesOne, replaces, no_name, EachFile, no_file, then_file, names_of}
-use Rattle.ud_tree.specs.TreeRuns.{DoesBy, DoesOne, Ends, IsRun, no_run, ran}
-use Rattle.ud_tree.specs.Walks.{IsBefore, IsWalk}
+use Rattle.ud_tree.specs.TreeRuns.{DoesBy, IsRun, no_run, ran}
+use Rattle.ud_tree.specs.Walks.{IsBefore}
 use Rattle.ud_tree.specs.TreeMoments.{TouchesNothing, TouchesFreshOrNone, OldOrOutput}
 
 -- A fact about each call of two parts holds of each call of both.

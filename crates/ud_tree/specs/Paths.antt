@@ -5,7 +5,7 @@
 --   fresh_name tag path   the name of a new file in the same folder
 --
 -- Example: beside `src/a.c` the run with the tag `7.5` makes the file `src/.unifdef-tree.7.5`.
-use Rattle.std.specs.Prelude.{ℕ, suc, List, [], ◌∷◌, ◌++◌, take, drop, Bool, ◌==◌, ◌||◌, codes}
+use Rattle.std.specs.Prelude.{ℕ, suc, List, [], ◌∷◌, ◌++◌, take, drop, ◌==◌, ◌||◌, codes}
 use Rattle.std.specs.Prelude.{if◌then◌else◌, nat_lt}
 
 -- `slash`: the byte between the names of a path.

@@ -1,4 +1,4 @@
-use Rattle.std.proofs.Common.{refl, ◌∙◌, subst}
+use Rattle.std.proofs.Common.{refl, subst}
 use Rattle.std.specs.List.{All}
 use Rattle.ud_tree.specs.declared.walk.Found.{Found}
 use Rattle.std.proofs.Common.{List}
