@@ -302,6 +302,53 @@ src/c.c:7: #if A\'
 unifdef-tree: 0 conditions still name a symbol'
 }
 
+# Tests that the diffs of -n turn each text into its output, and back: by patch, and by git apply.
+# Each text has another trap for them. What a run in place makes is tested elsewhere.
+diffs() {
+  if ! has patch; then
+    echo 'tree-test: patch is not there, so applying diffs is left out'
+    return
+  fi
+  local options
+  for options in -DA -UA '-b -DA' '-b -UA' '-c -UA' '-b -c -DA' '-l -UA' '-t -DA'; do
+    fresh_tree
+    put src/plain.c "a\\nb\\nc\\n${text}d\\n"
+    put src/whole.c '#ifdef A\nx\n#endif\n'
+    put src/open_end.c "${text%\\\\n}"
+    put src/open_line.c "x\\n${text}last"
+    put src/returns.c '#ifdef A\r\nyes\r\n#else\r\nno\r\n#endif\r\nx\r\n'
+    put src/nul.c "a\\0b\\n$text"
+    put "src/a name with spaces.c" "$text"
+    put src/elif.c '#if A\na\n#elif B\nb\n#elif C\nc\n#endif\n'
+    put src/far.c "$text$(yes line | head -n 40)\\n$text"
+    put src/minus.c '#ifdef A\n-- a/x\n++ b/x\n@@ -1 +1 @@\n#endif\n-- b\n'
+    # shellcheck disable=SC2086
+    tree -n $options src
+    cp "$work/out" "$work/diff"
+    cp -r src "$work/old"
+    # shellcheck disable=SC2086
+    tree -q -x2 $options src
+    check "diffs: $options: status" same "$status" 0
+    mv src "$work/new"
+    applies 'patch' patch -s -p0 -F0
+    applies 'git apply' git apply -p0
+    rm -rf "$work/old" "$work/new"
+  done
+}
+
+# applies NAME COMMAND..: the command must take the diff of `diffs`, and with -R turn it back.
+applies() {
+  local name=$1
+  shift
+  has "$1" || return 0
+  cp -r "$work/old" src
+  "$@" < "$work/diff" > /dev/null 2>&1
+  check "diffs: $options: $name" diff -r src "$work/new"
+  "$@" -R < "$work/diff" > /dev/null 2>&1
+  check "diffs: $options: $name -R" diff -r src "$work/old"
+  rm -rf src
+}
+
 # Tests a full disk: a small file system, or else a limit on the size of files.
 full_disk() {
   fresh_tree
@@ -505,6 +552,7 @@ in_folder() {
   refusals
   lists
   remaining
+  diffs
   full_disk
   paths_from_input
   counts
