@@ -63,6 +63,9 @@ PKGCONFIGDIR ?= $(LIBDIR)/pkgconfig
 PYTHONDIR ?= $(PREFIX)/lib/python3/dist-packages
 INSTALL ?= install
 
+# The pages that are installed. They link to one another alone.
+PAGES := $(addprefix docs/,DEFINITIONS.md PROVED.md PROMISES.md PROOFS.md crates.svg)
+
 # Rattle's command: the one on PATH, or `make RT=FILE`.
 RT ?= rt
 
@@ -163,7 +166,7 @@ install: unifdef unifdef-tree
 	$(INSTALL) -d "$(DESTDIR)$(BASHDIR)" "$(DESTDIR)$(ZSHDIR)" "$(DESTDIR)$(FISHDIR)"
 	$(INSTALL) -m 755 unifdef unifdef-tree "$(DESTDIR)$(BINDIR)"
 	$(INSTALL) -m 644 docs/unifdef.1 docs/unifdef-tree.1 "$(DESTDIR)$(MANDIR)/man1"
-	$(INSTALL) -m 644 docs/DEFINITIONS.md docs/PROVED.md LICENSE "$(DESTDIR)$(DOCDIR)"
+	$(INSTALL) -m 644 $(PAGES) LICENSE "$(DESTDIR)$(DOCDIR)"
 	$(INSTALL) -m 644 packaging/completions/unifdef.bash "$(DESTDIR)$(BASHDIR)/unifdef"
 	$(INSTALL) -m 644 packaging/completions/unifdef.bash "$(DESTDIR)$(BASHDIR)/unifdef-tree"
 	$(INSTALL) -m 644 packaging/completions/_unifdef "$(DESTDIR)$(ZSHDIR)"
@@ -173,7 +176,7 @@ install: unifdef unifdef-tree
 uninstall:
 	rm -f "$(DESTDIR)$(BINDIR)/unifdef" "$(DESTDIR)$(BINDIR)/unifdef-tree"
 	rm -f "$(DESTDIR)$(MANDIR)/man1/unifdef.1" "$(DESTDIR)$(MANDIR)/man1/unifdef-tree.1"
-	rm -f "$(DESTDIR)$(DOCDIR)/DEFINITIONS.md" "$(DESTDIR)$(DOCDIR)/PROVED.md" "$(DESTDIR)$(DOCDIR)/LICENSE"
+	rm -f $(foreach page,$(notdir $(PAGES)) LICENSE,"$(DESTDIR)$(DOCDIR)/$(page)")
 	[ ! -d "$(DESTDIR)$(DOCDIR)" ] || rmdir "$(DESTDIR)$(DOCDIR)" 2> /dev/null || true
 	rm -f "$(DESTDIR)$(BASHDIR)/unifdef" "$(DESTDIR)$(BASHDIR)/unifdef-tree" "$(DESTDIR)$(ZSHDIR)/_unifdef"
 	rm -f "$(DESTDIR)$(FISHDIR)/unifdef.fish" "$(DESTDIR)$(FISHDIR)/unifdef-tree.fish"
