@@ -319,6 +319,7 @@ diffs() {
     put src/returns.c '#ifdef A\r\nyes\r\n#else\r\nno\r\n#endif\r\nx\r\n'
     put src/nul.c "a\\0b\\n$text"
     put "src/a name with spaces.c" "$text"
+    put $'src/tab\t, "quotes", back\\slash and\nnewline.c' "$text"
     put src/elif.c '#if A\na\n#elif B\nb\n#elif C\nc\n#endif\n'
     put src/far.c "$text$(yes line | head -n 40)\\n$text"
     put src/minus.c '#ifdef A\n-- a/x\n++ b/x\n@@ -1 +1 @@\n#endif\n-- b\n'

@@ -3,12 +3,13 @@
 --   range_text before count   where so many lines begin, and their number
 --   signed_text l             a line after its sign
 --   hunk_text h               a hunk: its ranges and its lines
+--   path_text path            the name of a file, in quotes if it needs them
 --   diff_text path hunks      the names of the file, and the hunks
 --
 -- Example: the range of two lines after one other is `2,2`, that of one line after it `2`, and that
--- of no line after it `1,0`.
+-- of no line after it `1,0`. The name `a"b` is printed as `"a\042b"`, as patch and git read it.
 use Rattle.std.specs.Prelude.{ℕ, ◌+◌, ◌==◌, nat_eq, List, [], ◌∷◌, ◌++◌, length, codes, decimal}
-use Rattle.std.specs.Prelude.{if◌then◌else◌}
+use Rattle.std.specs.Prelude.{if◌then◌else◌, Bool, ◌||◌, ◌/◌, ◌%◌, nat_lt}
 use Rattle.std.specs.List.{ends_with, flat_map, list_any}
 use Rattle.ud_model.specs.text.Bytes.{newline}
 use Rattle.ud_diff.specs.declared.line.Sign.{Sign}
@@ -50,13 +51,30 @@ abbrev pub hunk_text : Hunk → List ℕ
 hunk_text h = ranges_text h.old_before (length (old_lines h.lines)) h.new_before
     (length (new_lines h.lines)) ++ flat_map signed_text h.lines
 
+-- `is_special b`: `b` is a control byte, a quote or a backslash. A name with one is quoted.
+abbrev pub is_special : ℕ → Bool
+is_special b = nat_lt b 32 || b == 34 || b == 92 || b == 127
+
+-- `escaped b`: the byte `b` in a quoted name: a special one by its three octal digits.
+unfoldable pub escaped : ℕ → List ℕ
+escaped b = if is_special b then 92 ∷ (48 + b / 64) ∷ (48 + b / 8 % 8) ∷ (48 + b % 8) ∷ []
+    else b ∷ []
+
 -- `tab_after path`: a tab, if the name of a file has a space, since else it would end there.
 abbrev pub tab_after : List ℕ → List ℕ
 tab_after path = if list_any (λ b. b == 32) path then 9 ∷ [] else []
 
+-- `quoted_text path`: the name in quotes.
+abbrev pub quoted_text : List ℕ → List ℕ
+quoted_text path = 34 ∷ (flat_map escaped path ++ 34 ∷ [])
+
+-- `path_text path`: the name of a file, in quotes if it has a special byte.
+unfoldable pub path_text : List ℕ → List ℕ
+path_text path = if list_any is_special path then quoted_text path else path ++ tab_after path
+
 -- `name_text sign path`: the line that names a file, after its sign.
 unfoldable pub name_text : List ℕ → List ℕ → List ℕ
-name_text sign path = sign ++ (path ++ (tab_after path ++ newline ∷ []))
+name_text sign path = sign ++ (path_text path ++ newline ∷ [])
 
 -- `names_text path`: the lines that name the old file and the new one.
 abbrev pub names_text : List ℕ → List ℕ

@@ -2,7 +2,10 @@
 
 ghost use Rattle.std.specs.Prelude.{◌≡◌, ◌+◌, ◌<◌, ◌^◌, ◌++◌, OnOk, decimal};
 ghost use Rattle.ud_diff.specs.DiffTexts.{range_text, ranges_text, sign_byte, ended_text};
-ghost use Rattle.ud_diff.specs.DiffTexts.{signed_text, name_text, names_text};
+ghost use Rattle.ud_diff.specs.DiffTexts.{signed_text, is_special, escaped, path_text, quoted_text};
+ghost use Rattle.ud_diff.specs.DiffTexts.{tab_after};
+ghost use Rattle.ud_diff.specs.DiffTexts.{name_text, names_text};
+ghost use Rattle.std.specs.List.{flat_map, list_any};
 ghost use Rattle.ud_diff.specs.Scripts.{signed};
 
 use crate::line::{DiffLine, Sign};
@@ -86,16 +89,88 @@ pub(crate) fn append_line(out: &mut Vec<u8>, line: &DiffLine<'_>) -> Result<(), 
     Ok(())
 }
 
-/// Appends a line that names the file. `patch` takes a name with spaces if a tab follows it.
+/// Returns whether a name with this byte is quoted.
+fn is_special(byte: u8) -> bool
+    ensures { result ≡ is_special byte }
+{
+    byte < b' ' || byte == b'"' || byte == b'\\' || byte == 127
+}
+
+/// Returns whether a name is quoted.
+fn is_quoted(path: &[u8]) -> bool
+    ensures { result ≡ list_any is_special path.now }
+{
+    path.iter().any(|byte| is_special(*byte))
+}
+
+/// Appends a byte of a quoted name.
+#[tactic(auto, unfolding(crate::specs::DiffTexts::escaped))]
+fn append_escaped(out: &mut Vec<u8>, byte: u8) -> Result<(), AllocError>
+    ensures { OnOk result (out.new.items ≡ out.old.items ++ escaped byte) }
+{
+    if is_special(byte) {
+        out.extend_from_slice(&[
+            b'\\',
+            b'0' + byte / 64,
+            b'0' + byte / 8 % 8,
+            b'0' + byte % 8,
+        ])?;
+        return Ok(());
+    }
+    out.push(byte)?;
+    Ok(())
+}
+
+/// Appends the bytes of a quoted name.
+fn append_all_escaped(out: &mut Vec<u8>, path: &[u8]) -> Result<(), AllocError>
+    ensures { OnOk result (out.new.items ≡ out.old.items ++ flat_map escaped path.now) }
+{
+    for byte in path {
+        append_escaped(out, *byte)?;
+    }
+    Ok(())
+}
+
+/// Appends a name in quotes, as C has them.
+fn append_quoted(out: &mut Vec<u8>, path: &[u8]) -> Result<(), AllocError>
+    ensures { OnOk result (out.new.items ≡ out.old.items ++ quoted_text path.now) }
+{
+    out.push(b'"')?;
+    append_all_escaped(out, path)?;
+    out.push(b'"')?;
+    Ok(())
+}
+
+/// Appends a name as it is. `patch` takes one with spaces if a tab follows it.
+fn append_plain(out: &mut Vec<u8>, path: &[u8]) -> Result<(), AllocError>
+    ensures { OnOk result (out.new.items ≡ out.old.items ++ (path.now ++ tab_after path.now)) }
+{
+    out.extend_from_slice(path)?;
+    if path.contains(&b' ') {
+        out.push(b'\t')?;
+    }
+    Ok(())
+}
+
+/// Appends the name of a file. One with a special byte is quoted.
+#[tactic(auto, unfolding(crate::specs::DiffTexts::path_text))]
+fn append_path(out: &mut Vec<u8>, path: &[u8]) -> Result<(), AllocError>
+    ensures { OnOk result (out.new.items ≡ out.old.items ++ path_text path.now) }
+{
+    if is_quoted(path) {
+        append_quoted(out, path)
+    } else {
+        append_plain(out, path)
+    }
+}
+
+/// Appends a line that names the file.
 #[tactic(auto, unfolding(crate::specs::DiffTexts::name_text))]
 fn append_name(out: &mut Vec<u8>, sign: &[u8], path: &[u8]) -> Result<(), AllocError>
     ensures { OnOk result (out.new.items ≡ out.old.items ++ name_text sign.now path.now) }
 {
     out.extend_from_slice(sign)?;
-    out.extend_from_slice(path)?;
-    if path.contains(&b' ') {
-        out.push(b'\t')?;
-    }
+    append_path(out, path)?;
     out.push(b'\n')?;
     Ok(())
 }
