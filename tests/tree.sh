@@ -454,8 +454,8 @@ each_old_or_new() {
 # entered for the Nth time.
 signal_at() {
   small_tree
-  (strace -f -o /dev/null -e trace="$2" -e inject="$2:signal=$1:when=$3" "$TREE" -DA src
-    exit "$?") > "$work/out" 2> "$work/err"
+  ("${by_default[@]}" strace -f -o /dev/null -e trace="$2" -e inject="$2:signal=$1:when=$3" \
+    "$TREE" -DA src; exit "$?") > "$work/out" 2> "$work/err"
   status=$?
 }
 
@@ -567,6 +567,10 @@ in_folder() {
   cd /
   rm -rf "$work"
 }
+
+# A shell that was started in the background ignores some signals, and so does what it starts.
+by_default=(env --default-signal)
+"${by_default[@]}" true 2> /dev/null || by_default=()
 
 can_trace() { has strace && strace -o /dev/null true 2> /dev/null; }
 
