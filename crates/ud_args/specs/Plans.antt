@@ -3,11 +3,13 @@
 --   PlanState                a plan, as callers see it
 --   IsPlanOf args plan       the arguments have no fault, and the plan is theirs
 --   PlanRepresents plan gs   the plan is that of these options and operands, without a fault
+--   ForOptionsOf plan P      `P` is true of the options that the plan represents
 --   as_operand o             an operand, as the definitions have it
 use Rattle.std.specs.Prelude.{◌≡◌, ℕ, List, Option, None}
 use Rattle.std.specs.List.{filter_map}
 use Rattle.ud_model.specs.declared.settings.Settings.{Settings}
 use Rattle.ud_model.specs.conditions.Table.{Argument}
+use Rattle.ud_model.specs.sections.Items.{Options}
 use Rattle.ud_model.specs.answer.CommandLine.{ParsedArg, Operand, first_fault, settings_in}
 use Rattle.ud_model.specs.answer.CommandLine.{argument_in, operand_in, operand_index, usage_fault}
 use Rattle.ud_model.specs.answer.CommandLine.{options_of, operand_of}
@@ -36,6 +38,11 @@ pub record PlanRepresents (plan : PlanState) (gs : List ParsedArg) : Type 0 wher
   pub said : plan.settings ≡ settings_in gs
   pub represents : TableRepresents plan.symbols (filter_map argument_in gs)
   pub index : plan.operand ≡ operand_index (operand_in gs)
+
+-- `ForOptionsOf plan P`: `P` is true of the options that the plan represents
+abbrev pub ForOptionsOf : PlanState → (Options → Type 0) → Type 0
+ForOptionsOf plan P =
+    (o : Options) → o.settings ≡ plan.settings → TableRepresents plan.symbols o.table → P o
 
 -- `as_operand o`: the code's operand, as the definitions have it
 abbrev pub as_operand : declared.Operand → Operand

@@ -8,6 +8,7 @@
 --   EachCall P old new              `P` holds of each call since `old`, and of the calls before it
 --   HasOutput o bytes found         what is found is the output for these bytes
 --   OldOrNew o name first old calls each file has its old bytes, or the output for them
+--   StaysOldOrNew o name first old new  that holds after each of these calls
 --   touches c n                     a call may change the file of a name
 --   TookOutput o name fresh old calls   the whole output for a file was taken
 --   TouchesFreshOnly ..             a call changes the fresh file alone, or it is the rename
@@ -90,6 +91,12 @@ abbrev pub OldOrNew : Options → List ℕ → Files → List Call → List Call
 OldOrNew o name first old calls = (n bytes : List ℕ) → content first old n ≡ Some bytes →
     (content first calls n ≡ Some bytes)
     ⊎ ((n ≡ name) × HasOutput o bytes (content first calls n))
+
+-- `StaysOldOrNew o name first old new`: after each call since `old`, each file has its old bytes or
+-- the output for them.
+abbrev pub StaysOldOrNew : Options → List ℕ → Files → List Call → List Call → Type 0
+StaysOldOrNew o name first old new =
+    EachCall (λ c earlier. OldOrNew o name first old (c ∷ earlier)) old new
 
 -- `touches c n`: the call `c` may change the file `n`, or what has that name.
 abbrev pub touches : Call → List ℕ → Bool

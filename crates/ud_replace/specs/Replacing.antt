@@ -5,6 +5,7 @@
 --   Puts into name fresh before text stat old new r      one of the two
 --   Judges o into name fresh text stat old new r         what follows once the file is read
 --   Replaces o into name fresh old new r                 all calls of `replace`, which returned `r`
+--   PutsAt, JudgesAt, ReplacesAt, KeepsAt                the same of a `Target`
 --   IsOutputOf o text output                             the output of the outcome of a text
 --   Keeps o into name fresh old new r output             the same calls, and the output of the text
 --
@@ -24,6 +25,7 @@ use Rattle.ud_replace.specs.declared.error.ReplaceError.TheVariants.{FolderDenie
 use Rattle.ud_replace.specs.declared.error.ReplaceError.TheVariants.{ChangedMeanwhile, Write}
 use Rattle.ud_replace.specs.declared.folder.CreateError.TheVariants.{Denied, Failed}
 use Rattle.ud_replace.specs.declared.stat.FileStat.{FileStat}
+use Rattle.ud_replace.specs.declared.replacement.Target.{Target}
 use Rattle.ud_replace.specs.Calls.{Call, was_read, asked, made, overwrote, removed}
 use Rattle.ud_replace.specs.Filling.{LooksAgain, Fills}
 
@@ -110,3 +112,28 @@ pub data Keeps (o : Options) (into : Bool) (name fresh : List ℕ) (old new : Li
   keeps : (text : List ℕ) (stat : FileStat) →
       Judges o into name fresh text stat (was_read name text (Some stat) ∷ old) new r →
       IsOutputOf o text output → Keeps o into name fresh old new r output
+
+-- `RenamesAt target before text stat old new r`: the calls of `Renames` for this target.
+abbrev pub RenamesAt : Target → List ℕ → List ℕ → FileStat → List Call → List Call →
+    Result Update ReplaceError → Type 0
+RenamesAt t before text = Renames t.write_into t.name.now t.fresh.now before text
+
+-- `PutsAt target before text stat old new r`: the calls of `Puts` for this target.
+abbrev pub PutsAt : Target → List ℕ → List ℕ → FileStat → List Call → List Call →
+    Result Update ReplaceError → Type 0
+PutsAt t before text = Puts t.write_into t.name.now t.fresh.now before text
+
+-- `JudgesAt o target text stat old new r`: the calls of `Judges` for this target.
+abbrev pub JudgesAt : Options → Target → List ℕ → FileStat → List Call → List Call →
+    Result Update ReplaceError → Type 0
+JudgesAt o t text = Judges o t.write_into t.name.now t.fresh.now text
+
+-- `ReplacesAt o target old new r`: the calls of `Replaces` for this target.
+abbrev pub ReplacesAt : Options → Target → List Call → List Call →
+    Result Update ReplaceError → Type 0
+ReplacesAt o t = Replaces o t.write_into t.name.now t.fresh.now
+
+-- `KeepsAt o target old new r output`: the calls of `Keeps` for this target.
+abbrev pub KeepsAt : Options → Target → List Call → List Call → Result Update ReplaceError →
+    List ℕ → Type 0
+KeepsAt o t = Keeps o t.write_into t.name.now t.fresh.now

@@ -6,7 +6,8 @@ ghost use Rattle.ud_replace.specs.declared.error.Update.{Update};
 ghost use Rattle.ud_replace.specs.declared.error.ReplaceError.{ReplaceError};
 ghost use Rattle.ud_replace.specs.Calls.{Call};
 ghost use Rattle.ud_replace.specs.Replacing.{Replaces};
-ghost use Rattle.ud_replace.specs.Moments.{Files, AreTrue, EachCall, OldOrNew, TouchesFreshOnly};
+ghost use Rattle.ud_replace.specs.Moments.{Files, AreTrue, EachCall, StaysOldOrNew};
+ghost use Rattle.ud_replace.specs.Moments.{TouchesFreshOnly};
 
 /// Whatever a folder answers, no call but the rename touches a file other than `fresh`. The rename
 /// comes after `fresh` took the whole output. Writing into files isn't allowed here.
@@ -20,8 +21,7 @@ pub fn law_one_rename()
 /// call. A machine that stops between two calls leaves such a state. Writing into files isn't
 /// allowed here.
 pub fn law_old_or_new()
-    ensures { (o : Options) (first : Files) (name fresh : List ℕ) (old new : List Call)
+    ensures { (o : Options) (f : Files) (name fresh : List ℕ) (old new : List Call)
         (r : Result Update ReplaceError) → Replaces o false name fresh old new r →
-        AreTrue first new →
-        EachCall (λ c earlier. OldOrNew o name first old (c ∷ earlier)) old new }
+        AreTrue f new → StaysOldOrNew o name f old new }
 {}

@@ -1,12 +1,11 @@
 //! Replacing one file by the output for it.
 
 ghost use Rattle.std.specs.Prelude.{◌≡◌, List, [], true, false, is_ok};
-ghost use Rattle.ud_model.specs.sections.Items.{Options};
-ghost use Rattle.ud_cond.specs.symbols.SymbolTable.{TableRepresents};
+ghost use Rattle.ud_args.specs.Plans.{ForOptionsOf};
 ghost use Rattle.ud_replace.specs.Calls.{Call};
 ghost use Rattle.ud_replace.specs.Filling.{LooksAgain, Fills};
-ghost use Rattle.ud_replace.specs.Replacing.{Overwrites, Renames, Puts, Judges, Replaces};
-ghost use Rattle.ud_replace.specs.Replacing.{IsOutputOf, Keeps};
+ghost use Rattle.ud_replace.specs.Replacing.{Overwrites, RenamesAt, PutsAt, JudgesAt, ReplacesAt};
+ghost use Rattle.ud_replace.specs.Replacing.{IsOutputOf, KeepsAt};
 
 use crate::append::append_all;
 use crate::error::{ReplaceError, Update};
@@ -71,10 +70,8 @@ pub fn replace<F: Folder>(
     folder: &mut F,
     target: &Target<'_>,
 ) -> Result<Update, ReplaceError>
-    ensures calls { (o : Options) → o.settings ≡ plan.now.settings →
-        TableRepresents plan.now.symbols o.table →
-        Replaces o target.now.write_into target.now.name.now target.now.fresh.now
-        (F.history folder.old) (F.history folder.new) result }
+    ensures calls { ForOptionsOf plan.now (λ o. ReplacesAt o target.now (F.history folder.old)
+        (F.history folder.new) result) }
 {
     let mut out = Watched::new(Vec::<u8>::new(alloc));
     replace_keeping(alloc, plan, folder, target, &mut out)
@@ -94,14 +91,10 @@ pub fn replace_keeping<F: Folder>(
 ) -> Result<Update, ReplaceError>
     requires empty { out.old.inner.items ≡ [] }
     requires not_failed { out.old.failed ≡ false }
-    ensures calls { (o : Options) → o.settings ≡ plan.now.settings →
-        TableRepresents plan.now.symbols o.table →
-        Replaces o target.now.write_into target.now.name.now target.now.fresh.now
-        (F.history folder.old) (F.history folder.new) result }
-    ensures output { (o : Options) → o.settings ≡ plan.now.settings →
-        TableRepresents plan.now.symbols o.table → is_ok result ≡ true →
-        Keeps o target.now.write_into target.now.name.now target.now.fresh.now
-        (F.history folder.old) (F.history folder.new) result out.new.inner.items }
+    ensures calls { ForOptionsOf plan.now (λ o. ReplacesAt o target.now (F.history folder.old)
+        (F.history folder.new) result) }
+    ensures output { ForOptionsOf plan.now (λ o. is_ok result ≡ true → KeepsAt o target.now
+        (F.history folder.old) (F.history folder.new) result out.new.inner.items) }
 {
     let mut text = Vec::new(alloc);
     match folder.read(target.name, &mut text) {
@@ -123,14 +116,10 @@ fn replace_text<F: Folder>(
 ) -> Result<Update, ReplaceError>
     requires empty { out.old.inner.items ≡ [] }
     requires not_failed { out.old.failed ≡ false }
-    ensures calls { (o : Options) → o.settings ≡ plan.now.settings →
-        TableRepresents plan.now.symbols o.table →
-        Judges o target.now.write_into target.now.name.now target.now.fresh.now
-        before.now.text.now before.now.stat
-        (F.history folder.old) (F.history folder.new) result }
-    ensures output { (o : Options) → o.settings ≡ plan.now.settings →
-        TableRepresents plan.now.symbols o.table → is_ok result ≡ true →
-        IsOutputOf o before.now.text.now out.new.inner.items }
+    ensures calls { ForOptionsOf plan.now (λ o. JudgesAt o target.now before.now.text.now
+        before.now.stat (F.history folder.old) (F.history folder.new) result) }
+    ensures output { ForOptionsOf plan.now (λ o. is_ok result ≡ true →
+        IsOutputOf o before.now.text.now out.new.inner.items) }
 {
     let mut reader = Watched::new(before.text);
     match run(plan, &mut reader, out) {
@@ -149,8 +138,7 @@ fn put<F: Folder>(
     before: &Before<'_>,
     output: &[u8],
 ) -> Result<Update, ReplaceError>
-    ensures { Puts target.now.write_into target.now.name.now target.now.fresh.now
-        before.now.text.now output.now before.now.stat
+    ensures { PutsAt target.now before.now.text.now output.now before.now.stat
         (F.history folder.old) (F.history folder.new) result }
 {
     if !folder.may_write(target.name) {
@@ -172,8 +160,7 @@ fn rename_over<F: Folder>(
     before: &Before<'_>,
     output: &[u8],
 ) -> Result<Update, ReplaceError>
-    ensures { Renames target.now.write_into target.now.name.now target.now.fresh.now
-        before.now.text.now output.now before.now.stat
+    ensures { RenamesAt target.now before.now.text.now output.now before.now.stat
         (F.history folder.old) (F.history folder.new) result }
 {
     match folder.create(target.fresh) {
