@@ -6,11 +6,11 @@ ghost use Rattle.ud_model.specs.text.Scans.{Reading};
 ghost use Rattle.ud_model.specs.sections.Tree.{Nodes, Tree, closed, lines};
 ghost use Rattle.ud_model.specs.sections.Items.{reading_of};
 ghost use Rattle.ud_model.specs.answer.CommandLine.{options_of};
-ghost use Rattle.ud_model.specs.answer.Answer.{Answer, IsAnswer, status_by, copy_answer};
+ghost use Rattle.ud_model.specs.answer.Answer.{Answer, IsAnswer, status_by, copy_answer, Succeeds};
 ghost use Rattle.ud_model.specs.output.Worlds.{World, selected};
 ghost use Rattle.ud_model.specs.output.Rereading.{IsPlain, IsTreeOf, LinesFit, line_bytes};
-ghost use Rattle.ud_model.specs.output.Rereading.{KeepsTruths};
-ghost use Rattle.ud_model.specs.output.CSelection.{IsCWorld};
+ghost use Rattle.ud_model.specs.output.Rereading.{KeepsTruths, IsPlainC, PrintsText};
+ghost use Rattle.ud_model.specs.output.CSelection.{IsCWorld, SelectsAlike};
 ghost use Rattle.ud_model.specs.output.InsertedLines.{read_as};
 ghost use Rattle.ud_model.specs.declared.kind.Mode.{Mode};
 ghost use Rattle.ud_model.specs.declared.settings.Listing.{Listing};
@@ -22,8 +22,8 @@ ghost use Rattle.ud_model.specs.declared.settings.Listing.{Listing};
 /// and that output is the output itself, without a message, and with the status of a copy
 /// (unifdef(1)).
 pub fn law_answer_again()
-    ensures { (args : List (List ℕ)) → (input : List ℕ) → (a : Answer) → IsAnswer args input a →
-        a.status ≢ 2 → IsPlain (options_of args) → LinesFit (lines_of a.output) →
+    ensures { (args : List (List ℕ)) (input : List ℕ) (a : Answer) → Succeeds args input a →
+        IsPlain (options_of args) → LinesFit (lines_of a.output) →
         IsAnswer args a.output (copy_answer args a.output) }
 {}
 
@@ -34,12 +34,8 @@ pub fn law_answer_again()
 /// this allows. The lines selected of the output are then those selected of the input, byte by byte
 /// (C11 6.10.1p4, p6). Under `-t` each line is read by itself, as text without comments.
 pub fn law_answer_reading_selects()
-    ensures { (args : List (List ℕ)) → (input : List ℕ) → (a : Answer) → IsAnswer args input a →
-        a.status ≢ 2 → IsPlain (options_of args) → (ns : Nodes Reading) → (us : Nodes Reading) →
-        IsTreeOf (options_of args) input (closed ns) →
-        IsTreeOf (options_of args) a.output (closed us) → (w : World Reading) →
-        (v : World Reading) → IsCWorld (options_of args).table w ns → KeepsTruths w ns v us →
-        map line_bytes (selected v us) ≡ map line_bytes (selected w ns) }
+    ensures { (args : List (List ℕ)) (input : List ℕ) (a : Answer) → Succeeds args input a →
+        IsPlain (options_of args) → SelectsAlike (options_of args) input a.output }
 {}
 
 /// A C compiler selects the same text of input and output, unless `-t` is given.
@@ -49,17 +45,12 @@ pub fn law_answer_reading_selects()
 /// way that this allows. Each line is read as C reads it. The lines that C selects of the output
 /// are then those that it selects of the input, byte by byte (C11 5.1.1.2, 6.10.1p4, p6).
 pub fn law_answer_selects()
-    ensures readings { (args : List (List ℕ)) → IsPlain (options_of args) →
-        (options_of args).settings.plain ≡ false → (text : List ℕ) → (t : Tree Reading) →
-        IsTreeOf (options_of args) text t →
+    ensures readings { (args : List (List ℕ)) → IsPlainC (options_of args) →
+        (text : List ℕ) (t : Tree Reading) → IsTreeOf (options_of args) text t →
         map (λ x. reading_of x) (lines t) ≡ read_as Mode.C text }
-    ensures selected { (args : List (List ℕ)) → (input : List ℕ) → (a : Answer) →
-        IsAnswer args input a → a.status ≢ 2 → IsPlain (options_of args) →
-        (options_of args).settings.plain ≡ false → (ns : Nodes Reading) → (us : Nodes Reading) →
-        IsTreeOf (options_of args) input (closed ns) →
-        IsTreeOf (options_of args) a.output (closed us) → (w : World Reading) →
-        (v : World Reading) → IsCWorld (options_of args).table w ns → KeepsTruths w ns v us →
-        map line_bytes (selected v us) ≡ map line_bytes (selected w ns) }
+    ensures selected { (args : List (List ℕ)) (input : List ℕ) (a : Answer) →
+        Succeeds args input a → IsPlainC (options_of args) →
+        SelectsAlike (options_of args) input a.output }
 {}
 
 /// The status reports whether output and input differ.
@@ -68,8 +59,7 @@ pub fn law_answer_selects()
 /// a text of which some line differs exactly if output and input are different bytes (unifdef(1)).
 /// Under `-x2` both statuses are 0.
 pub fn law_answer_status()
-    ensures { (args : List (List ℕ)) → (input : List ℕ) → (a : Answer) → IsAnswer args input a →
-        a.status ≢ 2 → (options_of args).settings.renumber ≡ false →
-        (options_of args).settings.listing ≡ Listing.Off →
-        a.status ≡ status_by (options_of args).settings.exit_mode (not (bytes_eq a.output input)) }
+    ensures { (args : List (List ℕ)) (input : List ℕ) (a : Answer) → Succeeds args input a →
+        PrintsText (options_of args) → a.status
+        ≡ status_by (options_of args).settings.exit_mode (not (bytes_eq a.output input)) }
 {}

@@ -13,18 +13,23 @@ ghost use Rattle.ud_model.specs.sections.Pruning.{marks};
 ghost use Rattle.ud_model.specs.sections.Items.{mode_by};
 ghost use Rattle.ud_model.specs.sections.Faults.{Fault};
 ghost use Rattle.ud_model.specs.answer.CommandLine.{has_flag, parsed_args, usage_fault, options_of};
-ghost use Rattle.ud_model.specs.answer.OptionArguments.{AddsSymbol};
-ghost use Rattle.ud_model.specs.answer.Answer.{Answer, IsAnswer};
-ghost use Rattle.ud_model.specs.answer.Printing.{judged_lines};
+ghost use Rattle.ud_model.specs.answer.OptionArguments.{AddsSymbol, AddsOption};
+ghost use Rattle.ud_model.specs.answer.Answer.{Answer, IsAnswer, JudgesAs, Succeeds};
+ghost use Rattle.ud_model.specs.answer.Printing.{judged_lines, Judged};
 ghost use Rattle.ud_model.specs.answer.Outcomes.{ReadsAs};
 ghost use Rattle.ud_model.specs.output.Rereading.{IsPlain, IsTreeOf, KeepsTruths, line_bytes};
+ghost use Rattle.ud_model.specs.output.Rereading.{IsPlainC};
 ghost use Rattle.ud_model.specs.output.CSelection.{IsCWorld};
 ghost use Rattle.ud_model.specs.output.ListedNames.{with_listing, IsListed, AgreeOnListed};
-ghost use Rattle.ud_model.specs.output.ListedNames.{IsNoValue};
-ghost use Rattle.ud_model.specs.output.BlankedLines.{AreBlankedLines};
+ghost use Rattle.ud_model.specs.output.ListedNames.{IsNoValue, AreAlikeArgs, ListsNames};
+ghost use Rattle.ud_model.specs.output.ListedNames.{NeverCounts};
+ghost use Rattle.ud_model.specs.output.BlankedLines.{AreBlankedLines, AreBlankedBy, Blanks};
+ghost use Rattle.ud_model.specs.output.BlankedLines.{endings_of};
 ghost use Rattle.ud_model.specs.output.SharedLines.{OnlyDecides, with_complement, ShareLines};
-ghost use Rattle.ud_model.specs.output.InsertedLines.{KeepsNumbers, Counted, read_as};
-ghost use Rattle.ud_model.specs.output.InsertedNodes.{SelectsWithInserted};
+ghost use Rattle.ud_model.specs.output.SharedLines.{AnswersWithComplement};
+ghost use Rattle.ud_model.specs.output.InsertedLines.{KeepsNumbers, Counted, read_as, CountsLines};
+ghost use Rattle.ud_model.specs.output.InsertedLines.{AnswersNumbered};
+ghost use Rattle.ud_model.specs.output.InsertedNodes.{SelectsWithInserted, StillSelects};
 ghost use Rattle.ud_model.specs.output.Worlds.{World, selected};
 ghost use Rattle.ud_model.specs.declared.settings.Listing.{Listing};
 
@@ -36,12 +41,8 @@ ghost use Rattle.ud_model.specs.declared.settings.Listing.{Listing};
 pub fn law_answer_by_list()
     ensures lists { (args : List (List ℕ)) → has_flag (codes "S") (parsed_args args) ≡ false →
         options_of (codes "-s" ∷ args) ≡ with_listing (options_of args) }
-    ensures same { (args : List (List ℕ)) → (more : List (List ℕ)) → (input : List ℕ) →
-        (l : Answer) → (a : Answer) → has_flag (codes "S") (parsed_args args) ≡ false →
-        IsAnswer (codes "-s" ∷ args) input l → l.status ≢ 2 → IsAnswer args input a →
-        a.status ≢ 2 → usage_fault more ≡ None →
-        (options_of more).settings ≡ (options_of args).settings →
-        AgreeOnListed l.output (options_of args).table (options_of more).table →
+    ensures same { (args more : List (List ℕ)) (input : List ℕ) (l a : Answer) →
+        ListsNames args input l → Succeeds args input a → AreAlikeArgs l.output args more →
         IsAnswer more input a }
 {}
 
@@ -52,13 +53,9 @@ pub fn law_answer_by_list()
 /// fault. X isn't on the list, and no symbol has the value X. Then the answer is the same
 /// (unifdef(1)).
 pub fn law_answer_with_option()
-    ensures { (before : List (List ℕ)) → (after : List (List ℕ)) → (name : List ℕ) →
-        (word : List ℕ) → (input : List ℕ) → (l : Answer) → (a : Answer) →
-        AddsSymbol before name word → has_flag (codes "S") (parsed_args (before ++ after)) ≡ false →
-        IsAnswer (codes "-s" ∷ (before ++ after)) input l → l.status ≢ 2 →
-        IsAnswer (before ++ after) input a → a.status ≢ 2 → (IsListed name l.output → ⊥) →
-        IsNoValue (options_of (before ++ after)).table name →
-        IsAnswer (before ++ word ∷ after) input a }
+    ensures { (args more : List (List ℕ)) (name input : List ℕ) (a : Answer) →
+        AddsOption name args more → NeverCounts args input name → Succeeds args input a →
+        IsAnswer more input a }
 {}
 
 /// Under `-b` line k of the output is line k of the input, its edited form, or its ending alone.
@@ -66,19 +63,12 @@ pub fn law_answer_with_option()
 /// The output has as many lines as the input, with the same endings, if the input has no fault and
 /// ends in a newline. With a fault, this is so up to the last line that was read (unifdef(1)).
 pub fn law_answer_in_place()
-    ensures as_many { (args : List (List ℕ)) → (input : List ℕ) → (a : Answer) →
-        (options_of args).settings.blank ≡ true →
-        (options_of args).settings.listing ≡ Listing.Off → partial_line input ≡ [] →
-        IsAnswer args input a → a.status ≢ 2 →
-        map (λ (k : Line). k.ending) (lines_of a.output)
-        ≡ map (λ (l : Line). l.ending) (lines_of input) }
-    ensures places { (args : List (List ℕ)) → (input : List ℕ) → (xs : List (Item Reading)) →
-        (t : Tree Reading) → (f : Option Fault) → (a : Answer) →
-        (options_of args).settings.blank ≡ true →
-        (options_of args).settings.listing ≡ Listing.Off → usage_fault args ≡ None →
-        ReadsAs (options_of args) input xs t f → IsAnswer args input a →
-        AreBlankedLines (options_of args).settings.complement (judged_lines xs (marks t))
-        (lines_of a.output) }
+    ensures as_many { (args : List (List ℕ)) (input : List ℕ) (a : Answer) →
+        Blanks (options_of args) → partial_line input ≡ [] → Succeeds args input a →
+        endings_of a.output ≡ endings_of input }
+    ensures places { (args : List (List ℕ)) (input : List ℕ) (js : List Judged) (a : Answer) →
+        Blanks (options_of args) → JudgesAs args input js → IsAnswer args input a →
+        AreBlankedBy (options_of args) js a.output }
 {}
 
 /// Each line that was read is printed by exactly one of a run and its run with `-c`.
@@ -87,17 +77,13 @@ pub fn law_answer_in_place()
 /// The run without `-c` prints a line that stays, perhaps edited. The run with `-c` prints a line
 /// that the other removes, unchanged. Both have the same message (unifdef(1)).
 pub fn law_answer_complement()
-    ensures words { (args : List (List ℕ)) →
-        options_of (codes "-c" ∷ args) ≡ with_complement (options_of args) }
-    ensures message { (args : List (List ℕ)) → (input : List ℕ) → (a : Answer) → (c : Answer) →
-        OnlyDecides (options_of args) → usage_fault args ≡ None → IsAnswer args input a →
-        IsAnswer (codes "-c" ∷ args) input c → c.message ≡ a.message }
-    ensures shared { (args : List (List ℕ)) → (input : List ℕ) → (xs : List (Item Reading)) →
-        (t : Tree Reading) → (f : Option Fault) → (a : Answer) → (c : Answer) →
-        OnlyDecides (options_of args) → usage_fault args ≡ None →
-        ReadsAs (options_of args) input xs t f → IsAnswer args input a →
-        IsAnswer (codes "-c" ∷ args) input c →
-        ShareLines (judged_lines xs (marks t)) a.output c.output }
+    ensures words { (args : List (List ℕ)) → options_of (codes "-c" ∷ args)
+        ≡ with_complement (options_of args) }
+    ensures message { (args : List (List ℕ)) (input : List ℕ) (a c : Answer) →
+        AnswersWithComplement args input a c → usage_fault args ≡ None → c.message ≡ a.message }
+    ensures shared { (args : List (List ℕ)) (input : List ℕ) (js : List Judged) (a c : Answer) →
+        AnswersWithComplement args input a c → JudgesAs args input js →
+        ShareLines js a.output c.output }
 {}
 
 /// Under `-n` and `-b` a compiler selects the same lines, and each line keeps its number.
@@ -114,29 +100,13 @@ pub fn law_answer_numbers()
         KeepsNumbers args (codes "-n" ∷ args) }
     ensures blanks { (args : List (List ℕ)) → usage_fault args ≡ None →
         KeepsNumbers args (codes "-b" ∷ args) }
-    ensures counted { (args : List (List ℕ)) → (more : List (List ℕ)) → (input : List ℕ) →
-        (xs : List (Item Reading)) → (t : Tree Reading) → (f : Option Fault) → (a : Answer) →
-        (c : Answer) → IsPlain (options_of args) → usage_fault args ≡ None →
-        KeepsNumbers args more → ReadsAs (options_of args) input xs t f →
-        IsAnswer args input a → IsAnswer more input c →
-        (k : ℕ) × Counted (judged_lines xs (marks t))
-        (read_as (mode_by (options_of args).settings.plain) a.output)
-        (read_as (mode_by (options_of args).settings.plain) c.output) k }
-    ensures reading_selects { (args : List (List ℕ)) → (more : List (List ℕ)) → (input : List ℕ) →
-        (a : Answer) → (c : Answer) → IsPlain (options_of args) → KeepsNumbers args more →
-        IsAnswer args input a → a.status ≢ 2 → IsAnswer more input c →
-        (ns : Nodes Reading) → (us : Nodes Reading) →
-        IsTreeOf (options_of args) input (closed ns) →
-        IsTreeOf (options_of args) a.output (closed us) → (w : World Reading) →
-        (v : World Reading) → IsCWorld (options_of args).table w ns → KeepsTruths w ns v us →
-        SelectsWithInserted (options_of args) c.output us v (map line_bytes (selected w ns)) }
-    ensures selects { (args : List (List ℕ)) → (more : List (List ℕ)) → (input : List ℕ) →
-        (a : Answer) → (c : Answer) → IsPlain (options_of args) →
-        (options_of args).settings.plain ≡ false → KeepsNumbers args more →
-        IsAnswer args input a → a.status ≢ 2 → IsAnswer more input c →
-        (ns : Nodes Reading) → (us : Nodes Reading) →
-        IsTreeOf (options_of args) input (closed ns) →
-        IsTreeOf (options_of args) a.output (closed us) → (w : World Reading) →
-        (v : World Reading) → IsCWorld (options_of args).table w ns → KeepsTruths w ns v us →
-        SelectsWithInserted (options_of args) c.output us v (map line_bytes (selected w ns)) }
+    ensures counted { (args more : List (List ℕ)) (input : List ℕ) (js : List Judged)
+        (a c : Answer) → AnswersNumbered args more input a c → JudgesAs args input js →
+        CountsLines (options_of args) js a.output c.output }
+    ensures reading_selects { (args more : List (List ℕ)) (input : List ℕ) (a c : Answer) →
+        AnswersNumbered args more input a c → a.status ≢ 2 →
+        StillSelects (options_of args) input a.output c.output }
+    ensures selects { (args more : List (List ℕ)) (input : List ℕ) (a c : Answer) →
+        AnswersNumbered args more input a c → a.status ≢ 2 → IsPlainC (options_of args) →
+        StillSelects (options_of args) input a.output c.output }
 {}

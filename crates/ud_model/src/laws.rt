@@ -14,7 +14,8 @@ ghost use Rattle.ud_model.specs.text.Lexemes.{Lexeme, LexemeKind, block_comment,
 ghost use Rattle.ud_model.specs.text.Lexemes.{single, Cell, IsLexeme, AreLexemes, LastIsOpen};
 ghost use Rattle.ud_model.specs.text.Lexemes.{cells_of, lexeme_at, lex, shown, kind_at_end};
 ghost use Rattle.ud_model.specs.text.Scanning.{joins, content_cells, scan_after, next_reading};
-ghost use Rattle.ud_model.specs.text.Scanning.{readings_after, readings_of};
+ghost use Rattle.ud_model.specs.text.Scanning.{readings_after, readings_of, AreCLexemes, with_next};
+ghost use Rattle.ud_model.specs.text.Scanning.{EndsLogicalLine, c_comment_after};
 ghost use Rattle.ud_model.specs.declared.kind.Mode.{Mode};
 ghost use Rattle.ud_model.specs.declared.kind.CommentAt.{CommentAt};
 ghost use Rattle.ud_model.specs.sections.Directives.{Directive, cut_keyword, directive, text};
@@ -25,17 +26,17 @@ ghost use Rattle.ud_model.specs.sections.Tree.{Item, Tree, lines};
 ghost use Rattle.ud_model.specs.sections.Pruning.{Mark, marks, marks_in};
 ghost use Rattle.ud_model.specs.aids.SoFar.{marks_so_far};
 ghost use Rattle.ud_model.specs.sections.Items.{Options, line_of};
-ghost use Rattle.ud_model.specs.answer.Printing.{Judged, judged_lines, pieces_by};
+ghost use Rattle.ud_model.specs.answer.Printing.{Judged, judged_lines, pieces_by, tree_pieces};
 ghost use Rattle.ud_model.specs.answer.Listing.{levels};
 ghost use Rattle.ud_model.specs.sections.Faults.{Fault, FaultOf, NoneHolds, cases};
 ghost use Rattle.ud_model.specs.answer.Outcomes.{Outcome, ReadsAs, ReadsSoFar, HasOutcome};
 ghost use Rattle.ud_model.specs.answer.Outcomes.{HasOutcomeSoFar};
 ghost use Rattle.ud_model.specs.answer.CommandLine.{option_letters, operands_from, parsed_from};
-ghost use Rattle.ud_model.specs.answer.CommandLine.{letters_give, given_next};
+ghost use Rattle.ud_model.specs.answer.CommandLine.{letters_give, given_next, parsed_by};
 ghost use Rattle.ud_model.specs.answer.CommandLine.{parsed_after_option};
 ghost use Rattle.ud_model.specs.aids.LettersThen.{parsed_letters};
 ghost use Rattle.ud_model.specs.answer.Answer.{Answer, IsAnswer};
-ghost use Rattle.ud_model.specs.conditions.Table.{Argument, entry_in};
+ghost use Rattle.ud_model.specs.conditions.Table.{Argument, entry_in, HaveSameEntries};
 ghost use Rattle.ud_model.specs.conditions.Symbols.{ResolvesTo, resolve};
 ghost use Rattle.ud_model.specs.conditions.Expressions.{Expression, IsWritten};
 ghost use Rattle.ud_model.specs.aids.Parsing.{expression_of};
@@ -46,6 +47,8 @@ ghost use Rattle.ud_model.specs.conditions.Names.{names_in, names_of};
 ghost use Rattle.ud_model.specs.declared.cond.Cond.{Cond};
 ghost use Rattle.ud_model.specs.declared.kind.Kind.{Kind};
 ghost use Rattle.ud_model.specs.conditions.CValues.{Number, number, IsCValue};
+ghost use Rattle.ud_model.specs.answer.OptionArguments.{IsOptionWord};
+ghost use Rattle.ud_model.specs.text.Prefixes.{IsPrefix};
 
 /// A text has lines in exactly one way.
 ///
@@ -53,13 +56,13 @@ ghost use Rattle.ud_model.specs.conditions.CValues.{Number, number, IsCValue};
 /// whole lines and the rest in exactly one way, too.
 pub fn law_lines()
     ensures exists { (text : List ℕ) → AreLines text (texts_of text) }
-    ensures only { (text : List ℕ) → (ls : List (List ℕ)) → AreLines text ls → ls ≡ texts_of text }
+    ensures only { (text : List ℕ) (ls : List (List ℕ)) → AreLines text ls → ls ≡ texts_of text }
     ensures bytes { (text : List ℕ) → map text_of (lines_of text) ≡ texts_of text }
-    ensures number { (text : List ℕ) → (prefix : List Line) → (l : Line) → (later : List Line) →
+    ensures number { (text : List ℕ) (prefix : List Line) (l : Line) (later : List Line) →
         lines_of text ≡ prefix ++ l ∷ later → l.number ≡ suc (length prefix) }
-    ensures whole { (text : List ℕ) →
-        AreSplitLines text (record { whole = whole_lines text; rest = partial_line text }) }
-    ensures only_whole { (text : List ℕ) → (ls : List (List ℕ)) → (rest : List ℕ) →
+    ensures whole { (text : List ℕ) → AreSplitLines text
+        (record { whole = whole_lines text; rest = partial_line text }) }
+    ensures only_whole { (text : List ℕ) (ls : List (List ℕ)) (rest : List ℕ) →
         AreSplitLines text (record { whole = ls; rest = rest }) →
         (ls ≡ whole_lines text) × (rest ≡ partial_line text) }
 {}
@@ -68,13 +71,13 @@ pub fn law_lines()
 /// cells are those of these lexemes.
 pub fn law_lexemes()
     ensures exists { (text : List ℕ) → (pieces : List Lexeme) × AreLexemes pieces text }
-    ensures only { (text : List ℕ) → (pieces : List Lexeme) → (others : List Lexeme) →
-        AreLexemes pieces text → AreLexemes others text → pieces ≡ others }
-    ensures cells { (text : List ℕ) → (pieces : List Lexeme) → AreLexemes pieces text →
+    ensures only { (text : List ℕ) (pieces others : List Lexeme) → AreLexemes pieces text →
+        AreLexemes others text → pieces ≡ others }
+    ensures cells { (text : List ℕ) (pieces : List Lexeme) → AreLexemes pieces text →
         cells_of pieces ≡ lex text }
-    ensures extent { (a : ℕ) → (bytes : List ℕ) → (rest : List ℕ) → (kind : LexemeKind) →
-        IsLexeme (a ∷ bytes) rest kind →
-        lexeme_at a (bytes ++ rest) ≡ record { kind = kind; more = length bytes } }
+    ensures extent { (a : ℕ) (bytes rest : List ℕ) (kind : LexemeKind) →
+        IsLexeme (a ∷ bytes) rest kind → lexeme_at a (bytes ++ rest)
+        ≡ record { kind = kind; more = length bytes } }
 {}
 
 /// The end of a text lies in a comment or a literal exactly if the last lexeme is one that is open.
@@ -82,62 +85,54 @@ pub fn law_lexemes()
 /// So lines join the next one exactly if the last of them is spliced or the last lexeme is an open
 /// block comment, and the comment at a line's end is that lexeme (C11 5.1.1.2).
 pub fn law_end_of_text()
-    ensures open { (text : List ℕ) → (pieces : List Lexeme) → AreLexemes pieces text →
-        (kind : LexemeKind) → kind ≢ single →
-        (kind_at_end text ≡ kind) ↔ LastIsOpen kind pieces }
-    ensures joins { (lines : List Line) → (pieces : List Lexeme) →
+    ensures open { (text : List ℕ) (pieces : List Lexeme) → AreLexemes pieces text →
+        (kind : LexemeKind) → kind ≢ single → (kind_at_end text ≡ kind) ↔ LastIsOpen kind pieces }
+    ensures joins { (lines : List Line) (pieces : List Lexeme) →
         AreLexemes pieces (spliced_text lines) →
-        (joins lines ≡ true) ↔
-        ((last_is_spliced lines ≡ true) ⊎ LastIsOpen block_comment pieces) }
-    ensures block { (before : List Reading) → (l : Line) → (pieces : List Lexeme) →
-        AreLexemes pieces (spliced_text (c_run_of before) ++ spliced_part l) →
-        ((scan_after before Mode.C l).comment ≡ CommentAt.InBlock) ↔
-        LastIsOpen block_comment pieces }
-    ensures line { (before : List Reading) → (l : Line) → (pieces : List Lexeme) →
-        AreLexemes pieces (spliced_text (c_run_of before) ++ spliced_part l) →
-        ((scan_after before Mode.C l).comment ≡ CommentAt.InLine) ↔
+        (joins lines ≡ true) ↔ ((last_is_spliced lines ≡ true) ⊎ LastIsOpen block_comment pieces) }
+    ensures block { (before : List Reading) (l : Line) (pieces : List Lexeme) →
+        AreCLexemes before l pieces →
+        (c_comment_after before l ≡ CommentAt.InBlock) ↔ LastIsOpen block_comment pieces }
+    ensures line { (before : List Reading) (l : Line) (pieces : List Lexeme) →
+        AreCLexemes before l pieces → (c_comment_after before l ≡ CommentAt.InLine) ↔
         ((is_spliced l ≡ true) × LastIsOpen line_comment pieces) }
 {}
 
 /// A scan depends on the logical line alone: after a line that has an ending and doesn't join the
 /// next one, lines are scanned as if no line came before them.
 pub fn law_scan_alone()
-    ensures line { (prefix : List Reading) → (group : List Reading) → (m : Mode) → (n : Mode) →
-        (last : Line) → (l : Line) → (scan_after prefix m last).joins_after ≡ false →
-        last.ending ≢ [] → scan_after ((prefix ++ next_reading prefix m last ∷ []) ++ group) n l ≡
-        scan_after group n l }
-    ensures lines { (prefix : List Reading) → (group : List Reading) → (m : Mode) → (last : Line) →
-        (ls : List (Mode × Line)) → (scan_after prefix m last).joins_after ≡ false →
-        last.ending ≢ [] → readings_after ((prefix ++ next_reading prefix m last ∷ []) ++ group) ls
-        ≡
-        (prefix ++ next_reading prefix m last ∷ []) ++ readings_after group ls }
+    ensures line { (before group : List Reading) (m : Mode) (l : Line) → EndsLogicalLine before →
+        scan_after (before ++ group) m l ≡ scan_after group m l }
+    ensures lines { (before group : List Reading) (ls : List (Mode × Line)) →
+        EndsLogicalLine before →
+        readings_after (before ++ group) ls ≡ before ++ readings_after group ls }
 {}
 
 /// Position i of a masked line is position i of the body: the masked line shows a cell for each
 /// byte of the line's content, in order, and the body begins with the content.
 pub fn law_scan_bytes()
-    ensures shows { (before : List Reading) → (l : Line) →
+    ensures shows { (before : List Reading) (l : Line) →
         (scan_after before Mode.C l).masked ≡ map shown (content_cells (c_run_of before) l) }
-    ensures bytes { (run : List Line) → (l : Line) →
+    ensures bytes { (run : List Line) (l : Line) →
         map (λ (c : Cell). c.byte) (content_cells run l) ≡ content l }
-    ensures len { (before : List Reading) → (l : Line) →
+    ensures len { (before : List Reading) (l : Line) →
         length (scan_after before Mode.C l).masked ≡ length (content l) }
-    ensures prefix { (l : Line) → (rest : List ℕ) × (l.body ≡ content l ++ rest) }
+    ensures prefix { (l : Line) → IsPrefix (content l) l.body }
 {}
 
 /// Further lines never change the scans of the lines before them.
 pub fn law_scans_stay()
-    ensures { (ls : List (Mode × Line)) → (more : List (Mode × Line)) →
-        (rest : List Reading) × (readings_of (ls ++ more) ≡ readings_of ls ++ rest) }
+    ensures { (ls more : List (Mode × Line)) →
+        IsPrefix (readings_of ls) (readings_of (ls ++ more)) }
 {}
 
 /// The content of a line is read off its masked line, which is split in one way at most: white
 /// space, `#`, white space, a word and the rest (C11 6.10).
 pub fn law_directive()
-    ensures parts { (masked : List ℕ) → (p : DirectiveParts) → (q : DirectiveParts) →
-        AreParts p masked → AreParts q masked → p ≡ q }
+    ensures parts { (masked : List ℕ) (p q : DirectiveParts) → AreParts p masked →
+        AreParts q masked → p ≡ q }
     ensures split { (scan : Scan) → (content_of scan ≡ cut_keyword) ↔ HasSplitKeyword scan }
-    ensures found { (scan : Scan) → (d : Directive) →
+    ensures found { (scan : Scan) (d : Directive) →
         (content_of scan ≡ directive d) ↔ HasDirective scan d }
     ensures none { (scan : Scan) → (content_of scan ≡ text) ↔
         ((HasSplitKeyword scan → ⊥) × ((d : Directive) → HasDirective scan d → ⊥)) }
@@ -145,39 +140,39 @@ pub fn law_directive()
 
 /// The lines of a text are nested in one way at most.
 pub fn law_one_tree()
-    ensures { (t : Tree Reading) → (u : Tree Reading) → lines t ≡ lines u → t ≡ u }
+    ensures { (t u : Tree Reading) → lines t ≡ lines u → t ≡ u }
 {}
 
 /// The verdict on a line depends only on the lines up to it: the table over a whole section agrees
 /// with the groups so far, and a longer text begins with the marks of the shorter one.
 pub fn law_marks_stay()
     ensures table { (t : Tree Reading) → marks_in true t ≡ marks_so_far true t }
-    ensures stays { (t : Tree Reading) → (u : Tree Reading) → (more : List (Item Reading)) →
-        lines u ≡ lines t ++ more → (rest : List Mark) × (marks u ≡ marks t ++ rest) }
+    ensures stays { (t u : Tree Reading) (more : List (Item Reading)) → lines u ≡ lines t ++ more →
+        IsPrefix (marks t) (marks u) }
 {}
 
 /// Each line of a text has exactly one mark and one level, so no line is left out.
 pub fn law_each_line()
     ensures marks { (t : Tree Reading) → length (marks t) ≡ length (lines t) }
-    ensures judged { (t : Tree Reading) →
-        map (λ (j : Judged). j.line) (judged_lines (lines t) (marks t)) ≡ map line_of (lines t) }
+    ensures judged { (t : Tree Reading) → map (λ (j : Judged). j.line)
+        (judged_lines (lines t) (marks t)) ≡ map line_of (lines t) }
     ensures levels { (t : Tree Reading) → length (levels t) ≡ length (lines t) }
 {}
 
 /// A line has one fault at most, and none if no case holds.
 pub fn law_one_fault()
-    ensures one { (xs : List (Item Reading)) → (x : Item Reading) → (f : Fault) → (g : Fault) →
-        FaultOf xs x f → FaultOf xs x g → f ≡ g }
-    ensures none { (xs : List (Item Reading)) → (x : Item Reading) → (f : Fault) →
+    ensures one { (xs : List (Item Reading)) (x : Item Reading) (f g : Fault) → FaultOf xs x f →
+        FaultOf xs x g → f ≡ g }
+    ensures none { (xs : List (Item Reading)) (x : Item Reading) (f : Fault) →
         NoneHolds xs x cases → FaultOf xs x f → ⊥ }
 {}
 
 /// A fault of the text so far is the fault of every longer text, whether that goes on or has ended.
 /// The output before it is the same.
 pub fn law_fault_stays()
-    ensures { (o : Options) → (given : List ℕ) → (more : List ℕ) → (r : Outcome) →
-        HasOutcomeSoFar o given r → (f : Fault) → r.fault ≡ Some f →
-        HasOutcomeSoFar o (given ++ more) r × HasOutcome o (given ++ more) r }
+    ensures { (o : Options) (given more : List ℕ) (r : Outcome) → HasOutcomeSoFar o given r →
+        (f : Fault) → r.fault ≡ Some f → HasOutcomeSoFar o (given ++ more) r ×
+        HasOutcome o (given ++ more) r }
 {}
 
 /// The reading and the output of a text so far are prefixes of those of every longer text, whether
@@ -186,58 +181,53 @@ pub fn law_fault_stays()
 /// That is true of the items; of the pieces of the lines, whatever a line's piece is by the lines
 /// before it; and of the output, in each style and if names are listed.
 pub fn law_output_grows()
-    ensures items_so_far { (o : Options) → (given : List ℕ) → (more : List ℕ) →
-        (xs : List (Item Reading)) → (ys : List (Item Reading)) → (t : Tree Reading) →
-        (u : Tree Reading) → (f : Option Fault) → (g : Option Fault) → ReadsSoFar o given xs t f →
-        ReadsSoFar o (given ++ more) ys u g → (rest : List (Item Reading)) × (ys ≡ xs ++ rest) }
-    ensures items { (o : Options) → (given : List ℕ) → (more : List ℕ) →
-        (xs : List (Item Reading)) → (ys : List (Item Reading)) → (t : Tree Reading) →
-        (u : Tree Reading) → (f : Option Fault) → (g : Option Fault) → ReadsSoFar o given xs t f →
-        ReadsAs o (given ++ more) ys u g → (rest : List (Item Reading)) × (ys ≡ xs ++ rest) }
-    ensures pieces { (piece : List Judged → Judged → List ℕ) → (t : Tree Reading) →
-        (u : Tree Reading) → (more : List (Item Reading)) → lines u ≡ lines t ++ more →
-        (rest : List (List ℕ)) × (pieces_by piece [] (judged_lines (lines u) (marks u)) ≡
-        pieces_by piece [] (judged_lines (lines t) (marks t)) ++ rest) }
-    ensures output_so_far { (o : Options) → (given : List ℕ) → (more : List ℕ) → (r : Outcome) →
-        (s : Outcome) → HasOutcomeSoFar o given r → HasOutcomeSoFar o (given ++ more) s →
-        (rest : List ℕ) × (s.output ≡ r.output ++ rest) }
-    ensures output { (o : Options) → (given : List ℕ) → (more : List ℕ) → (r : Outcome) →
-        (s : Outcome) → HasOutcomeSoFar o given r → HasOutcome o (given ++ more) s →
-        (rest : List ℕ) × (s.output ≡ r.output ++ rest) }
+    ensures items_so_far { (o : Options) (given more : List ℕ) (xs ys : List (Item Reading))
+        (t u : Tree Reading) (f g : Option Fault) → ReadsSoFar o given xs t f →
+        ReadsSoFar o (given ++ more) ys u g → IsPrefix xs ys }
+    ensures items { (o : Options) (given more : List ℕ) (xs ys : List (Item Reading))
+        (t u : Tree Reading) (f g : Option Fault) → ReadsSoFar o given xs t f →
+        ReadsAs o (given ++ more) ys u g → IsPrefix xs ys }
+    ensures pieces { (piece : List Judged → Judged → List ℕ) (t u : Tree Reading)
+        (more : List (Item Reading)) → lines u ≡ lines t ++ more →
+        IsPrefix (tree_pieces piece t) (tree_pieces piece u) }
+    ensures output_so_far { (o : Options) (given more : List ℕ) (r s : Outcome) →
+        HasOutcomeSoFar o given r → HasOutcomeSoFar o (given ++ more) s →
+        IsPrefix r.output s.output }
+    ensures output { (o : Options) (given more : List ℕ) (r s : Outcome) →
+        HasOutcomeSoFar o given r → HasOutcome o (given ++ more) s →
+        IsPrefix r.output s.output }
 {}
 
 /// A text is read in exactly one way, as items with a tree, as far as its first fault. The items
 /// are the lines of the tree. A text that goes on is read in exactly one way, too.
 pub fn law_one_reading()
-    ensures exists { (o : Options) → (input : List ℕ) →
+    ensures exists { (o : Options) (input : List ℕ) →
         (xs : List (Item Reading)) × (t : Tree Reading) × (f : Option Fault) ×
         ReadsAs o input xs t f }
-    ensures only { (o : Options) → (input : List ℕ) → (xs : List (Item Reading)) →
-        (ys : List (Item Reading)) → (t : Tree Reading) → (u : Tree Reading) → (f : Option Fault) →
-        (g : Option Fault) → ReadsAs o input xs t f → ReadsAs o input ys u g →
+    ensures only { (o : Options) (input : List ℕ) (xs ys : List (Item Reading)) (t u : Tree Reading)
+        (f g : Option Fault) → ReadsAs o input xs t f → ReadsAs o input ys u g →
         (xs ≡ ys) × (t ≡ u) × (f ≡ g) }
-    ensures lines { (o : Options) → (input : List ℕ) → (xs : List (Item Reading)) →
-        (t : Tree Reading) → (f : Option Fault) → ReadsAs o input xs t f → lines t ≡ xs }
-    ensures exists_so_far { (o : Options) → (given : List ℕ) →
+    ensures lines { (o : Options) (input : List ℕ) (xs : List (Item Reading)) (t : Tree Reading)
+        (f : Option Fault) → ReadsAs o input xs t f → lines t ≡ xs }
+    ensures exists_so_far { (o : Options) (given : List ℕ) →
         (xs : List (Item Reading)) × (t : Tree Reading) × (f : Option Fault) ×
         ReadsSoFar o given xs t f }
-    ensures only_so_far { (o : Options) → (given : List ℕ) → (xs : List (Item Reading)) →
-        (ys : List (Item Reading)) → (t : Tree Reading) → (u : Tree Reading) → (f : Option Fault) →
-        (g : Option Fault) → ReadsSoFar o given xs t f → ReadsSoFar o given ys u g →
-        (xs ≡ ys) × (t ≡ u) × (f ≡ g) }
-    ensures lines_so_far { (o : Options) → (given : List ℕ) → (xs : List (Item Reading)) →
-        (t : Tree Reading) → (f : Option Fault) → ReadsSoFar o given xs t f → lines t ≡ xs }
+    ensures only_so_far { (o : Options) (given : List ℕ) (xs ys : List (Item Reading))
+        (t u : Tree Reading) (f g : Option Fault) → ReadsSoFar o given xs t f →
+        ReadsSoFar o given ys u g → (xs ≡ ys) × (t ≡ u) × (f ≡ g) }
+    ensures lines_so_far { (o : Options) (given : List ℕ) (xs : List (Item Reading))
+        (t : Tree Reading) (f : Option Fault) → ReadsSoFar o given xs t f → lines t ≡ xs }
 {}
 
 /// A text has exactly one outcome, whether it has ended or goes on: that of the items as which it
 /// is read.
 pub fn law_one_outcome()
-    ensures exists { (o : Options) → (input : List ℕ) → (r : Outcome) × HasOutcome o input r }
-    ensures only { (o : Options) → (input : List ℕ) → (r : Outcome) → (s : Outcome) →
-        HasOutcome o input r → HasOutcome o input s → r ≡ s }
-    ensures exists_so_far { (o : Options) → (given : List ℕ) →
+    ensures exists { (o : Options) (input : List ℕ) → (r : Outcome) × HasOutcome o input r }
+    ensures only { (o : Options) (input : List ℕ) (r s : Outcome) → HasOutcome o input r →
+        HasOutcome o input s → r ≡ s }
+    ensures exists_so_far { (o : Options) (given : List ℕ) →
         (r : Outcome) × HasOutcomeSoFar o given r }
-    ensures only_so_far { (o : Options) → (given : List ℕ) → (r : Outcome) → (s : Outcome) →
+    ensures only_so_far { (o : Options) (given : List ℕ) (r s : Outcome) →
         HasOutcomeSoFar o given r → HasOutcomeSoFar o given s → r ≡ s }
 {}
 
@@ -247,47 +237,45 @@ pub fn law_one_outcome()
 /// an argument give options, of which the last may wait for the next argument. Read letter by
 /// letter, as the code reads them, they give the same.
 pub fn law_arguments()
-    ensures ended { (n : ℕ) → (args : List (List ℕ)) →
+    ensures ended { (n : ℕ) (args : List (List ℕ)) →
         parsed_from n (codes "--" ∷ args) ≡ operands_from (suc n) args }
-    ensures operand { (n : ℕ) → (w : List ℕ) → (args : List (List ℕ)) →
+    ensures operand { (n : ℕ) (w : List ℕ) (args : List (List ℕ)) →
         bytes_eq w (codes "--") ≡ false → option_letters w ≡ [] →
         parsed_from n (w ∷ args) ≡ operands_from n (w ∷ args) }
-    ensures options { (n : ℕ) → (w : List ℕ) → (args : List (List ℕ)) → (c : ℕ) → (cs : List ℕ) →
-        bytes_eq w (codes "--") ≡ false → option_letters w ≡ c ∷ cs →
-        parsed_from n (w ∷ args) ≡ (letters_give (suc n) (c ∷ cs)).given ++
-        given_next (letters_give (suc n) (c ∷ cs)).waits (suc n) args }
-    ensures letters { (n : ℕ) → (cs : List ℕ) → (args : List (List ℕ)) →
-        parsed_letters n cs (λ d. parsed_after_option d n args) (parsed_from n args) ≡
-        (letters_give n cs).given ++ given_next (letters_give n cs).waits n args }
+    ensures options { (n : ℕ) (w : List ℕ) (args : List (List ℕ)) (c : ℕ) (cs : List ℕ) →
+        IsOptionWord w c cs → parsed_from n (w ∷ args) ≡ parsed_by (suc n) (c ∷ cs) args }
+    ensures letters { (n : ℕ) (cs : List ℕ) (args : List (List ℕ)) →
+        parsed_letters n cs (λ d. parsed_after_option d n args) (parsed_from n args)
+        ≡ parsed_by n cs args }
 {}
 
 /// Arguments and an input have exactly one answer.
 pub fn law_one_answer()
-    ensures exists { (args : List (List ℕ)) → (input : List ℕ) →
+    ensures exists { (args : List (List ℕ)) (input : List ℕ) →
         (a : Answer) × IsAnswer args input a }
-    ensures only { (args : List (List ℕ)) → (input : List ℕ) → (a : Answer) → (b : Answer) →
-        IsAnswer args input a → IsAnswer args input b → a ≡ b }
+    ensures only { (args : List (List ℕ)) (input : List ℕ) (a b : Answer) → IsAnswer args input a →
+        IsAnswer args input b → a ≡ b }
 {}
 
 /// A text has one tree at most, and the computed tree is the one that it has (C11 6.5).
 pub fn law_one_expression()
-    ensures only { (text : List ℕ) → (e : Expression) → (f : Expression) → IsWritten text e →
-        IsWritten text f → e ≡ f }
-    ensures found { (text : List ℕ) → (e : Expression) → IsWritten text e →
+    ensures only { (text : List ℕ) (e f : Expression) → IsWritten text e → IsWritten text f →
+        e ≡ f }
+    ensures found { (text : List ℕ) (e : Expression) → IsWritten text e →
         expression_of text ≡ Some e }
-    ensures written { (text : List ℕ) → (e : Expression) → expression_of text ≡ Some e →
+    ensures written { (text : List ℕ) (e : Expression) → expression_of text ≡ Some e →
         IsWritten text e }
 {}
 
 /// The condition and the names of an `#if` or `#elif` are those of the tree of its text. Without a
 /// tree, the condition is unknown and there are no names.
 pub fn law_expression_cond()
-    ensures cond { (text : List ℕ) → (e : Expression) → (table : List Argument) → (rules : Rules) →
+    ensures cond { (text : List ℕ) (e : Expression) (table : List Argument) (rules : Rules) →
         IsWritten text e → expression_cond text table rules ≡ tree_cond e table rules }
-    ensures unknown { (text : List ℕ) → (table : List Argument) → (rules : Rules) →
+    ensures unknown { (text : List ℕ) (table : List Argument) (rules : Rules) →
         ((e : Expression) → IsWritten text e → ⊥) →
         expression_cond text table rules ≡ Cond.Unknown }
-    ensures names { (text : List ℕ) → (e : Expression) → IsWritten text e →
+    ensures names { (text : List ℕ) (e : Expression) → IsWritten text e →
         names_of Kind.If text ≡ names_in e }
     ensures no_names { (text : List ℕ) → ((e : Expression) → IsWritten text e → ⊥) →
         names_of Kind.If text ≡ [] }
@@ -295,19 +283,18 @@ pub fn law_expression_cond()
 
 /// Tables with the same entry for every name decide every directive alike.
 pub fn law_condition_by_entries()
-    ensures { (table : List Argument) → (other : List Argument) →
-        ((name : List ℕ) → entry_in table name ≡ entry_in other name) → (kind : Kind) →
-        (after : List ℕ) → (rules : Rules) →
+    ensures { (table other : List Argument) → HaveSameEntries table other →
+        (kind : Kind) (after : List ℕ) (rules : Rules) →
         condition_of kind after table rules ≡ condition_of kind after other rules }
 {}
 
 /// The computed text to which a symbol resolves is the one to which it resolves, from name to name;
 /// there is no other.
 pub fn law_symbol_end()
-    ensures found { (table : List Argument) → (n : List ℕ) → (v : List ℕ) → ResolvesTo table n v →
+    ensures found { (table : List Argument) (n v : List ℕ) → ResolvesTo table n v →
         resolve table n ≡ Some v }
-    ensures ends { (table : List Argument) → (n : List ℕ) → (v : List ℕ) →
-        resolve table n ≡ Some v → ResolvesTo table n v }
+    ensures ends { (table : List Argument) (n v : List ℕ) → resolve table n ≡ Some v →
+        ResolvesTo table n v }
 {}
 
 /// A known value is the C value, and a decided condition is true or false as in C.
@@ -316,10 +303,10 @@ pub fn law_symbol_end()
 /// may give the expression is this number, whatever the names are that the table leaves open (C11
 /// 6.10.1p4, 6.5).
 pub fn law_known_stays()
-    ensures value { (table : List Argument) → (strict : Bool) → (e : Expression) → (n : ℤ) →
-        (c : Number) → value_of table strict e ≡ Some n → IsCValue table e c → number c ≡ n }
-    ensures yes { (table : List Argument) → (rules : Rules) → (e : Expression) → (c : Number) →
+    ensures value { (table : List Argument) (strict : Bool) (e : Expression) (n : ℤ) (c : Number) →
+        value_of table strict e ≡ Some n → IsCValue table e c → number c ≡ n }
+    ensures yes { (table : List Argument) (rules : Rules) (e : Expression) (c : Number) →
         tree_cond e table rules ≡ Cond.Yes → IsCValue table e c → number c ≢ pos 0 }
-    ensures no { (table : List Argument) → (rules : Rules) → (e : Expression) → (c : Number) →
+    ensures no { (table : List Argument) (rules : Rules) (e : Expression) (c : Number) →
         tree_cond e table rules ≡ Cond.No → IsCValue table e c → number c ≡ pos 0 }
 {}

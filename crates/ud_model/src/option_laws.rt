@@ -4,27 +4,32 @@ ghost use Rattle.std.specs.Prelude.{◌≡◌, ◌≢◌, ◌∷◌, codes, ℕ,
 ghost use Rattle.std.specs.Prelude.{Bool, true, false, ◌||◌, ◌⊎◌, ℤ};
 ghost use Rattle.ud_model.specs.text.Lines.{Line, lines_of, partial_line};
 ghost use Rattle.ud_model.specs.text.Scans.{Reading};
-ghost use Rattle.ud_model.specs.conditions.Table.{Argument, entry_in};
+ghost use Rattle.ud_model.specs.conditions.Table.{Argument, entry_in, HaveSameEntries};
 ghost use Rattle.ud_model.specs.conditions.Expressions.{Expression};
 ghost use Rattle.ud_model.specs.conditions.Values.{value_of};
-ghost use Rattle.ud_model.specs.conditions.Conditions.{Rules, tree_cond};
+ghost use Rattle.ud_model.specs.conditions.Conditions.{Rules, tree_cond, with_strict};
+ghost use Rattle.ud_model.specs.conditions.Conditions.{without_strict};
 ghost use Rattle.ud_model.specs.sections.Tree.{Item, Nodes, Tree, closed};
 ghost use Rattle.ud_model.specs.sections.Pruning.{marks};
 ghost use Rattle.ud_model.specs.sections.Items.{Options, mode_by};
 ghost use Rattle.ud_model.specs.sections.Faults.{Fault};
 ghost use Rattle.ud_model.specs.answer.CommandLine.{has_flag, parsed_args, usage_fault, options_of};
 ghost use Rattle.ud_model.specs.answer.Answer.{Answer, IsAnswer};
-ghost use Rattle.ud_model.specs.answer.Printing.{judged_lines};
-ghost use Rattle.ud_model.specs.answer.Outcomes.{Outcome, ReadsAs, HasOutcome};
+ghost use Rattle.ud_model.specs.answer.Printing.{judged_lines, Judged};
+ghost use Rattle.ud_model.specs.answer.Outcomes.{Outcome, ReadsAs, HasOutcome, JudgedAs};
 ghost use Rattle.ud_model.specs.output.Rereading.{NoneIgnores, IsPlain, IsTreeOf};
 ghost use Rattle.ud_model.specs.output.ListedNames.{with_listing, listing_settings, IsListed};
 ghost use Rattle.ud_model.specs.output.ListedNames.{AgreeOnListed, IsNoValue, DifferAtMostAt};
-ghost use Rattle.ud_model.specs.output.ListedNames.{ExtendsTable};
-ghost use Rattle.ud_model.specs.output.BlankedLines.{AreBlankedLines};
+ghost use Rattle.ud_model.specs.output.ListedNames.{ExtendsTable, AreAlikeBy, ServesAsLister};
+ghost use Rattle.ud_model.specs.output.BlankedLines.{AreBlankedLines, AreBlankedBy, Blanks};
+ghost use Rattle.ud_model.specs.output.BlankedLines.{endings_of};
 ghost use Rattle.ud_model.specs.output.InsertedLines.{with_blank_renumber, read_as, Counted};
+ghost use Rattle.ud_model.specs.output.InsertedLines.{AddsNumbers, CountsLines};
 ghost use Rattle.ud_model.specs.output.InsertedNodes.{NodesWithInserted, LinesWithInserted};
+ghost use Rattle.ud_model.specs.output.InsertedNodes.{HasTreeWithInserted};
 ghost use Rattle.ud_model.specs.output.Worlds.{World, selected, openers};
 ghost use Rattle.ud_model.specs.output.SharedLines.{OnlyDecides, with_complement, ShareLines};
+ghost use Rattle.ud_model.specs.output.SharedLines.{RunsWithComplement};
 ghost use Rattle.ud_model.specs.declared.cond.Cond.{Cond};
 ghost use Rattle.ud_model.specs.declared.settings.Listing.{Listing};
 
@@ -35,17 +40,14 @@ ghost use Rattle.ud_model.specs.declared.settings.Listing.{Listing};
 /// entry for each of them give the text the same outcome (unifdef(1)). If neither option is `-iD`
 /// or `-iU`, a list that was made with any other symbols serves, too, and the fault is the same.
 pub fn law_list_is_complete()
-    ensures listed { (o : Options) → (p : Options) → (input : List ℕ) → (l : Outcome) →
-        (r : Outcome) → HasOutcome (with_listing o) input l → l.fault ≡ None →
-        p.settings ≡ o.settings → AgreeOnListed l.output o.table p.table → HasOutcome o input r →
-        HasOutcome p input r }
-    ensures serves { (q : Options) → (o : Options) → (p : Options) → (input : List ℕ) →
-        (l : Outcome) → (r : Outcome) → q.settings ≡ listing_settings o.settings →
-        NoneIgnores q.table → NoneIgnores o.table → HasOutcome q input l → l.fault ≡ None →
-        p.settings ≡ o.settings → AgreeOnListed l.output o.table p.table → HasOutcome o input r →
-        HasOutcome p input r }
-    ensures alike { (list : List ℕ) → (name : List ℕ) → (o : Options) → (p : Options) →
-        (IsListed name list → ⊥) → IsNoValue o.table name → DifferAtMostAt name o.table p.table →
+    ensures listed { (o p : Options) (input : List ℕ) (l r : Outcome) →
+        HasOutcome (with_listing o) input l → l.fault ≡ None → AreAlikeBy l.output o p →
+        HasOutcome o input r → HasOutcome p input r }
+    ensures serves { (q o p : Options) (input : List ℕ) (l r : Outcome) → ServesAsLister q o →
+        HasOutcome q input l → l.fault ≡ None → AreAlikeBy l.output o p →
+        HasOutcome o input r → HasOutcome p input r }
+    ensures alike { (list name : List ℕ) (o p : Options) → (IsListed name list → ⊥) →
+        IsNoValue o.table name → DifferAtMostAt name o.table p.table →
         AgreeOnListed list o.table p.table }
 {}
 
@@ -54,10 +56,8 @@ pub fn law_list_is_complete()
 /// Options with the same settings that give each name the same last entry give a text the same
 /// outcome. It doesn't matter in which order the symbols are named, or how often (unifdef(1)).
 pub fn law_last_option_counts()
-    ensures { (o : Options) → (p : Options) → (input : List ℕ) → (r : Outcome) →
-        p.settings ≡ o.settings → ((name : List ℕ) →
-        entry_in o.table name ≡ entry_in p.table name) → HasOutcome o input r →
-        HasOutcome p input r }
+    ensures { (o p : Options) (input : List ℕ) (r : Outcome) → p.settings ≡ o.settings →
+        HaveSameEntries o.table p.table → HasOutcome o input r → HasOutcome p input r }
 {}
 
 /// Under `-b` each line keeps its number and its ending, so a position in the output is a position
@@ -67,14 +67,11 @@ pub fn law_last_option_counts()
 /// As its verdict demands, it is that line, its edited form, or its ending alone; under `-c`, too
 /// (unifdef(1)). A last line without an ending leaves no line if it is removed.
 pub fn law_lines_keep_their_place()
-    ensures as_many { (o : Options) → (input : List ℕ) → (r : Outcome) → o.settings.blank ≡ true →
-        o.settings.listing ≡ Listing.Off → partial_line input ≡ [] → HasOutcome o input r →
-        r.fault ≡ None → map (λ (k : Line). k.ending) (lines_of r.output) ≡
-        map (λ (l : Line). l.ending) (lines_of input) }
-    ensures places { (o : Options) → (input : List ℕ) → (xs : List (Item Reading)) →
-        (t : Tree Reading) → (f : Option Fault) → (r : Outcome) → o.settings.blank ≡ true →
-        o.settings.listing ≡ Listing.Off → ReadsAs o input xs t f → HasOutcome o input r →
-        AreBlankedLines o.settings.complement (judged_lines xs (marks t)) (lines_of r.output) }
+    ensures as_many { (o : Options) (input : List ℕ) (r : Outcome) → Blanks o →
+        partial_line input ≡ [] → HasOutcome o input r → r.fault ≡ None →
+        endings_of r.output ≡ endings_of input }
+    ensures places { (o : Options) (input : List ℕ) (js : List Judged) (r : Outcome) → Blanks o →
+        JudgedAs o input js → HasOutcome o input r → AreBlankedBy o js r.output }
 {}
 
 /// A run and its complement print each line exactly once.
@@ -82,15 +79,10 @@ pub fn law_lines_keep_their_place()
 /// The run with `-c` has the same fault. A line that was read is printed by the run without `-c` if
 /// it stays, as it is or edited. Else it is printed by the run with `-c`, as it is (unifdef(1)).
 pub fn law_complement()
-    ensures fault { (o : Options) → (input : List ℕ) → (xs : List (Item Reading)) →
-        (t : Tree Reading) → (f : Option Fault) → (r : Outcome) → (s : Outcome) →
-        OnlyDecides o → ReadsAs o input xs t f → HasOutcome o input r →
-        HasOutcome (with_complement o) input s → s.fault ≡ r.fault }
-    ensures shared { (o : Options) → (input : List ℕ) → (xs : List (Item Reading)) →
-        (t : Tree Reading) → (f : Option Fault) → (r : Outcome) → (s : Outcome) →
-        OnlyDecides o → ReadsAs o input xs t f → HasOutcome o input r →
-        HasOutcome (with_complement o) input s →
-        ShareLines (judged_lines xs (marks t)) r.output s.output }
+    ensures fault { (o : Options) (input : List ℕ) (r s : Outcome) →
+        RunsWithComplement o input r s → s.fault ≡ r.fault }
+    ensures shared { (o : Options) (input : List ℕ) (js : List Judged) (r s : Outcome) →
+        RunsWithComplement o input r s → JudgedAs o input js → ShareLines js r.output s.output }
 {}
 
 /// Under `-n`, and under `-b`, each line can be traced to its number in the input.
@@ -100,12 +92,8 @@ pub fn law_complement()
 /// to line, and anew after each inserted `#line`, a line has its own number in the input
 /// (C11 6.10.4p3, unifdef(1)).
 pub fn law_lines_are_counted()
-    ensures { (o : Options) → IsPlain o → (b : Bool) → (n : Bool) → (b || n) ≡ true →
-        (input : List ℕ) → (xs : List (Item Reading)) → (t : Tree Reading) → (f : Option Fault) →
-        (r : Outcome) → (s : Outcome) → ReadsAs o input xs t f → HasOutcome o input r →
-        HasOutcome (with_blank_renumber b n o) input s →
-        (k : ℕ) × Counted (judged_lines xs (marks t)) (read_as (mode_by o.settings.plain) r.output)
-        (read_as (mode_by o.settings.plain) s.output) k }
+    ensures { (o : Options) (input : List ℕ) (js : List Judged) (r s : Outcome) →
+        AddsNumbers o input r s → JudgedAs o input js → CountsLines o js r.output s.output }
 {}
 
 /// Under `-K` no further condition is decided, and none in another way.
@@ -113,12 +101,11 @@ pub fn law_lines_are_counted()
 /// A value that is known under `-K` is known without it, and is the same. A condition that is
 /// decided under `-K` is decided alike without it (unifdef(1)).
 pub fn law_strict_decides_less()
-    ensures value { (table : List Argument) → (e : Expression) → (n : ℤ) →
+    ensures value { (table : List Argument) (e : Expression) (n : ℤ) →
         value_of table true e ≡ Some n → value_of table false e ≡ Some n }
-    ensures cond { (table : List Argument) → (e : Expression) → (k : Bool) →
-        tree_cond e table (record { constants = k; strict = true }) ≢ Cond.Unknown →
-        tree_cond e table (record { constants = k; strict = false }) ≡
-        tree_cond e table (record { constants = k; strict = true }) }
+    ensures cond { (table : List Argument) (e : Expression) (rules : Rules) →
+        tree_cond e table (with_strict rules) ≢ Cond.Unknown →
+        tree_cond e table (without_strict rules) ≡ tree_cond e table (with_strict rules) }
 {}
 
 /// The lines that `-n` and `-b` insert change no section.
@@ -128,13 +115,11 @@ pub fn law_strict_decides_less()
 /// opener has the same truth in both, the same lines are selected of both, but for the inserted
 /// ones (C11 6.10.1p6, unifdef(1)).
 pub fn law_inserted_lines_change_no_section()
-    ensures tree { (o : Options) → IsPlain o → (b : Bool) → (n : Bool) → (b || n) ≡ true →
-        (input : List ℕ) → (r : Outcome) → (s : Outcome) → HasOutcome o input r →
-        HasOutcome (with_blank_renumber b n o) input s → (us : Nodes Reading) →
-        IsTreeOf o r.output (closed us) →
-        (vs : Nodes Reading) × IsTreeOf o s.output (closed vs) × NodesWithInserted us vs }
-    ensures selected { (us : Nodes Reading) → (vs : Nodes Reading) → NodesWithInserted us vs →
-        (w : World Reading) → (v : World Reading) → map v (openers vs) ≡ map w (openers us) →
+    ensures tree { (o : Options) (input : List ℕ) (r s : Outcome) → AddsNumbers o input r s →
+        (us : Nodes Reading) → IsTreeOf o r.output (closed us) →
+        HasTreeWithInserted o s.output us }
+    ensures selected { (us vs : Nodes Reading) → NodesWithInserted us vs → (w v : World Reading) →
+        map v (openers vs) ≡ map w (openers us) →
         LinesWithInserted (selected w us) (selected v vs) }
 {}
 
@@ -144,10 +129,10 @@ pub fn law_inserted_lines_change_no_section()
 /// symbol's value may have a `u`, and an undefined symbol may be called. It is never decided the
 /// other way round (C11 6.10.1p4, unifdef(1)).
 pub fn law_more_never_turns()
-    ensures value { (t : List Argument) → (u : List Argument) → ExtendsTable t u → (strict : Bool) →
-        (e : Expression) → (n : ℤ) → value_of t strict e ≡ Some n →
+    ensures value { (t u : List Argument) → ExtendsTable t u →
+        (strict : Bool) (e : Expression) (n : ℤ) → value_of t strict e ≡ Some n →
         (value_of u strict e ≡ Some n) ⊎ (value_of u strict e ≡ None) }
-    ensures cond { (t : List Argument) → (u : List Argument) → ExtendsTable t u → (e : Expression) →
-        (rules : Rules) → tree_cond e t rules ≢ Cond.Unknown →
+    ensures cond { (t u : List Argument) → ExtendsTable t u → (e : Expression) (rules : Rules) →
+        tree_cond e t rules ≢ Cond.Unknown →
         (tree_cond e u rules ≡ tree_cond e t rules) ⊎ (tree_cond e u rules ≡ Cond.Unknown) }
 {}

@@ -10,8 +10,9 @@ ghost use Rattle.ud_model.specs.output.Worlds.{World, Agrees, selected, openers,
 ghost use Rattle.ud_model.specs.output.Pruned.{Edited, edited, IsPruned, ArePruned, pruned_lines};
 ghost use Rattle.ud_model.specs.output.Pruned.{IsUndecided};
 ghost use Rattle.ud_model.specs.output.Rereading.{IsPlain, IsTreeOf, IsClean, CleanRun, LinesFit};
-ghost use Rattle.ud_model.specs.output.Rereading.{line_bytes, edited_bytes, KeepsTruths};
-ghost use Rattle.ud_model.specs.output.CSelection.{IsCWorld, condition_in};
+ghost use Rattle.ud_model.specs.output.Rereading.{line_bytes, edited_bytes, KeepsTruths, IsPlainC};
+ghost use Rattle.ud_model.specs.output.Rereading.{PrintsText, selected_bytes};
+ghost use Rattle.ud_model.specs.output.CSelection.{IsCWorld, condition_in, IsCPair};
 ghost use Rattle.ud_model.specs.output.InsertedLines.{read_as};
 ghost use Rattle.ud_model.specs.declared.kind.Mode.{Mode};
 ghost use Rattle.ud_model.specs.declared.settings.Listing.{Listing};
@@ -22,25 +23,24 @@ ghost use Rattle.ud_model.specs.declared.verdict.Verdict.{Verdict};
 /// Lines aren't numbered (`-n`), no names are listed (`-s`, `-S`), and the text has no fault. Then
 /// some line differs exactly if output and input are different bytes (unifdef(1)).
 pub fn law_changed()
-    ensures { (o : Options) → o.settings.renumber ≡ false → o.settings.listing ≡ Listing.Off →
-        (input : List ℕ) → (r : Outcome) → HasOutcome o input r → r.fault ≡ None →
-        r.differs ≡ not (bytes_eq r.output input) }
+    ensures { (o : Options) → PrintsText o → (input : List ℕ) (r : Outcome) →
+        HasOutcome o input r → r.fault ≡ None → r.differs ≡ not (bytes_eq r.output input) }
 {}
 
 /// Pruning keeps the selected lines: in a world that agrees with the decided conditions, the lines
 /// selected of the pruned nodes are those selected of the nodes (C11 6.10.1p6).
 pub fn law_selected_tree()
-    ensures { (w : World Reading) → (ns : Nodes Reading) → (ps : Nodes (Edited Reading)) →
-        IsPruned ns ps → Agrees w ns →
-        selected (λ e. w e.line) ps ≡ map (edited Verdict.Keep) (selected w ns) }
+    ensures { (w : World Reading) (ns : Nodes Reading) (ps : Nodes (Edited Reading)) →
+        IsPruned ns ps → Agrees w ns → selected (λ e. w e.line) ps
+        ≡ map (edited Verdict.Keep) (selected w ns) }
 {}
 
 /// The output is well nested: the lines that the marks leave of nodes, with edited directives, have
 /// exactly one tree whose sections are all closed (unifdef(1)).
 pub fn law_printed()
     ensures exists { (ns : Nodes Reading) → (ps : Nodes (Edited Reading)) × IsPruned ns ps }
-    ensures only { (ns : Nodes Reading) → (ps : Nodes (Edited Reading)) →
-        (qs : Nodes (Edited Reading)) → IsPruned ns ps → IsPruned ns qs → ps ≡ qs }
+    ensures only { (ns : Nodes Reading) (ps qs : Nodes (Edited Reading)) → IsPruned ns ps →
+        IsPruned ns qs → ps ≡ qs }
 {}
 
 /// The pruned tree is what the table of verdicts leaves, section by section.
@@ -48,17 +48,17 @@ pub fn law_printed()
 /// A section that gives way leaves the nodes of its first kept group. Each other section keeps its
 /// kept groups in order, each with the opener that the table leaves, and one `#endif` (unifdef(1)).
 pub fn law_pruned()
-    ensures { (ns : Nodes Reading) → (ps : Nodes (Edited Reading)) →
+    ensures { (ns : Nodes Reading) (ps : Nodes (Edited Reading)) →
         IsPruned ns ps ↔ ArePruned ns ps }
 {}
 
 /// A text without a fault has a tree whose sections are all closed, and a text has one tree at most
 /// (C11 6.10).
 pub fn law_tree_of()
-    ensures exists { (o : Options) → (input : List ℕ) → (r : Outcome) → HasOutcome o input r →
+    ensures exists { (o : Options) (input : List ℕ) (r : Outcome) → HasOutcome o input r →
         r.fault ≡ None → (ns : Nodes Reading) × IsTreeOf o input (closed ns) }
-    ensures only { (o : Options) → (text : List ℕ) → (t : Tree Reading) → (u : Tree Reading) →
-        IsTreeOf o text t → IsTreeOf o text u → t ≡ u }
+    ensures only { (o : Options) (text : List ℕ) (t u : Tree Reading) → IsTreeOf o text t →
+        IsTreeOf o text u → t ≡ u }
 {}
 
 /// The output needs no further run of unifdef(1).
@@ -67,15 +67,15 @@ pub fn law_tree_of()
 /// it is printed. No opener with a condition in it is decided. Unless a line of the output is too
 /// long, a run over the output prints it unchanged, without a fault.
 pub fn law_reread()
-    ensures tree { (o : Options) → (input : List ℕ) → (r : Outcome) → IsClean o input r →
+    ensures tree { (o : Options) (input : List ℕ) (r : Outcome) → IsClean o input r →
         (ns : Nodes Reading) → IsTreeOf o input (closed ns) →
         (us : Nodes Reading) × IsTreeOf o r.output (closed us) }
-    ensures left { (k : CleanRun) → (ps : Nodes (Edited Reading)) → IsPruned k.before ps →
+    ensures left { (k : CleanRun) (ps : Nodes (Edited Reading)) → IsPruned k.before ps →
         with_lines line_bytes k.after ≡ with_lines edited_bytes ps }
     ensures undecided { (k : CleanRun) → IsUndecided k.after }
-    ensures again { (o : Options) → (input : List ℕ) → (r : Outcome) → IsClean o input r →
-        LinesFit (lines_of r.output) →
-        HasOutcome o r.output (record { output = r.output; fault = None; differs = false }) }
+    ensures again { (o : Options) (input : List ℕ) (r : Outcome) → IsClean o input r →
+        LinesFit (lines_of r.output) → HasOutcome o r.output
+        (record { output = r.output; fault = None; differs = false }) }
 {}
 
 /// A world selects the same lines of input and output.
@@ -84,11 +84,11 @@ pub fn law_reread()
 /// agrees with the decided conditions of the input, both then have the same selected lines, byte by
 /// byte (C11 6.10.1p6).
 pub fn law_selected()
-    ensures truths { (k : CleanRun) → (w : World Reading) →
+    ensures truths { (k : CleanRun) (w : World Reading) →
         (v : World Reading) × KeepsTruths w k.before v k.after }
-    ensures same { (k : CleanRun) → (w : World Reading) → (v : World Reading) → Agrees w k.before →
+    ensures same { (k : CleanRun) (w v : World Reading) → Agrees w k.before →
         KeepsTruths w k.before v k.after →
-        map line_bytes (selected v k.after) ≡ map line_bytes (selected w k.before) }
+        selected_bytes v k.after ≡ selected_bytes w k.before }
 {}
 
 /// The lines that are selected, as the tool reads them, are the same of input and output.
@@ -99,18 +99,16 @@ pub fn law_selected()
 /// the opener from which it comes. So the output may be decided as the input may. Each line is read
 /// in one mode: under `-t` in plain mode, in which comments and continuations are text.
 pub fn law_reading_selects()
-    ensures readings { (o : Options) → IsPlain o → (text : List ℕ) → (t : Tree Reading) →
-        IsTreeOf o text t →
-        map (λ x. reading_of x) (lines t) ≡ read_as (mode_by o.settings.plain) text }
-    ensures selected { (k : CleanRun) → (w : World Reading) → (v : World Reading) →
-        IsCWorld k.options.table w k.before → KeepsTruths w k.before v k.after →
-        map line_bytes (selected v k.after) ≡ map line_bytes (selected w k.before) }
-    ensures conditions { (k : CleanRun) →
-        map condition_in (openers k.after) ≡
-        map (λ e. condition_in e.line) (openers_in (pruned_lines k.before)) }
-    ensures world { (k : CleanRun) → (w : World Reading) → (v : World Reading) →
-        IsCWorld k.options.table w k.before → KeepsTruths w k.before v k.after →
-        IsCWorld k.options.table v k.after }
+    ensures readings { (o : Options) → IsPlain o → (text : List ℕ) (t : Tree Reading) →
+        IsTreeOf o text t → map (λ x. reading_of x) (lines t)
+        ≡ read_as (mode_by o.settings.plain) text }
+    ensures selected { (k : CleanRun) (w v : World Reading) →
+        IsCPair k.options w k.before v k.after →
+        selected_bytes v k.after ≡ selected_bytes w k.before }
+    ensures conditions { (k : CleanRun) → map condition_in (openers k.after)
+        ≡ map (λ e. condition_in e.line) (openers_in (pruned_lines k.before)) }
+    ensures world { (k : CleanRun) (w v : World Reading) →
+        IsCPair k.options w k.before v k.after → IsCWorld k.options.table v k.after }
 {}
 
 /// A C compiler selects the same lines of input and output, unless `-t` is given.
@@ -119,17 +117,14 @@ pub fn law_reading_selects()
 /// this is `law_reading_selects` for a compiler. Under `-t` a compiler may select other lines, for
 /// it reads comments as such (C11 5.1.1.2, 6.10.1p4, p6).
 pub fn law_c_selects()
-    ensures readings { (o : Options) → IsPlain o → o.settings.plain ≡ false → (text : List ℕ) →
-        (t : Tree Reading) → IsTreeOf o text t →
-        map (λ x. reading_of x) (lines t) ≡ read_as Mode.C text }
-    ensures selected { (k : CleanRun) → k.options.settings.plain ≡ false → (w : World Reading) →
-        (v : World Reading) → IsCWorld k.options.table w k.before →
-        KeepsTruths w k.before v k.after →
-        map line_bytes (selected v k.after) ≡ map line_bytes (selected w k.before) }
+    ensures readings { (o : Options) → IsPlainC o → (text : List ℕ) (t : Tree Reading) →
+        IsTreeOf o text t → map (λ x. reading_of x) (lines t) ≡ read_as Mode.C text }
+    ensures selected { (k : CleanRun) → k.options.settings.plain ≡ false → (w v : World Reading) →
+        IsCPair k.options w k.before v k.after →
+        selected_bytes v k.after ≡ selected_bytes w k.before }
     ensures conditions { (k : CleanRun) → k.options.settings.plain ≡ false →
-        map condition_in (openers k.after) ≡
-        map (λ e. condition_in e.line) (openers_in (pruned_lines k.before)) }
-    ensures world { (k : CleanRun) → k.options.settings.plain ≡ false → (w : World Reading) →
-        (v : World Reading) → IsCWorld k.options.table w k.before →
-        KeepsTruths w k.before v k.after → IsCWorld k.options.table v k.after }
+        map condition_in (openers k.after) ≡ map (λ e. condition_in e.line)
+        (openers_in (pruned_lines k.before)) }
+    ensures world { (k : CleanRun) → k.options.settings.plain ≡ false → (w v : World Reading) →
+        IsCPair k.options w k.before v k.after → IsCWorld k.options.table v k.after }
 {}

@@ -10,11 +10,11 @@ use Rattle.ud_model.specs.sections.Pruning.{marks}
 use Rattle.ud_model.specs.sections.Items.{Options, reading_of, line_of, item_of, read_after, next_item}
 use Rattle.ud_model.specs.sections.Faults.{Fault, AreFaultless, no_lines, one_more, NoneHolds, cases}
 use Rattle.ud_model.specs.answer.Printing.{Judged, piece_after, pieces_by, judged_lines}
-use Rattle.ud_model.specs.answer.Outcomes.{Outcome, output_by, ReadsAs, HasOutcome, ran_as}
+use Rattle.ud_model.specs.answer.Outcomes.{Outcome, output_by, ReadsAs, JudgedAs, judged_as, HasOutcome, ran_as}
 use Rattle.ud_model.specs.answer.Outcomes.ReadsAs.{stops, ends}
 use Rattle.ud_model.specs.output.Pruned.{printed}
 use Rattle.ud_model.specs.output.Rereading.{IsPlain}
-use Rattle.ud_model.specs.output.InsertedLines.{with_blank_renumber, in_mode, read_in, read_as, Counted}
+use Rattle.ud_model.specs.output.InsertedLines.{with_blank_renumber, AddsNumbers, in_mode, read_in, read_as, Counted, CountsLines}
 use Rattle.ud_model.specs.declared.limits.TheConstants.{TEXT_LINES}
 use Rattle.ud_model.specs.declared.kind.Mode.{Mode}
 use Rattle.ud_model.specs.declared.settings.Listing.{Listing}
@@ -125,3 +125,8 @@ counted_text o p b n some input {xs = xs} {t = t} {r = r} {s = s} a run other =
       subst (λ (rs : List Reading). Counted js rs (read_as m s.output) d.next) (read_lines_in o m d.ys d.again.read ∙ ap (λ (ks : List Line). read_in m ks) (sym first))
           (subst (λ (ss : List Reading). Counted js (map reading_of d.ys) ss d.next) (read_lines_in o m d.zs d.read ∙ ap (λ (ks : List Line). read_in m ks) (sym second)) d.counted),
     )
+
+-- Each line of an outcome with `-b` or `-n` is counted.
+pub counted_lines : (o : Options) (input : List ℕ) {js : List Judged} {r s : Outcome} → AddsNumbers o input r s → JudgedAs o input js →
+    CountsLines o js r.output s.output
+counted_lines o input k (judged_as reads) = counted_text o k.plain k.blank k.renumber k.some input reads k.runs k.numbered

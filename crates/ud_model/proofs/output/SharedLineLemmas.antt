@@ -11,9 +11,9 @@ use Rattle.ud_model.specs.sections.Items.{Options, mode_after, read_after, rules
 use Rattle.ud_model.specs.sections.Faults.{Fault}
 use Rattle.ud_model.specs.answer.Listing.{names_in_content, names_at}
 use Rattle.ud_model.specs.answer.Printing.{Judged, piece_alone, complemented, judged_lines}
-use Rattle.ud_model.specs.answer.Outcomes.{Outcome, outcome_of, output_by, ReadsAs, HasOutcome, ran_as}
+use Rattle.ud_model.specs.answer.Outcomes.{Outcome, outcome_of, output_by, ReadsAs, JudgedAs, judged_as, HasOutcome, ran_as}
 use Rattle.ud_model.specs.answer.Outcomes.ReadsAs.{stops, ends}
-use Rattle.ud_model.specs.output.SharedLines.{OnlyDecides, with_complement, ShareLines, no_line, stays, goes}
+use Rattle.ud_model.specs.output.SharedLines.{OnlyDecides, with_complement, RunsWithComplement, ShareLines, no_line, stays, goes}
 use Rattle.ud_model.specs.declared.settings.Settings.{Settings}
 use Rattle.ud_model.specs.declared.settings.Listing.{Listing}
 use Rattle.ud_model.specs.declared.settings.Listing.TheVariants.{Off}
@@ -97,6 +97,18 @@ shared o input {xs = xs} {t = t} {r = r} {s = s} p a run turned =
       ap (λ (z : Outcome). z.fault) (one_run turned (ran_as d)) ∙ ap (λ (z : Outcome). z.fault) (one_run (ran_as a) run),
       subst (λ (q : List ℕ). ShareLines js r.output q) (sym there) (subst (λ (q : List ℕ). ShareLines js q (concat (map (lone false true) js))) (sym here) (share_all js)),
     )
+
+-- The run with `-c` has the same fault.
+pub same_fault : (o : Options) (input : List ℕ) {r s : Outcome} → RunsWithComplement o input r s → s.fault ≡ r.fault
+same_fault o input {r} {s} k = by_reading k.runs
+  where
+    by_reading : {q : Outcome} → HasOutcome o input q → s.fault ≡ q.fault
+    by_reading (ran_as reads) = (shared o input k.decides reads (ran_as reads) k.complement).0
+
+-- The runs share the lines of the text.
+pub shared_lines : (o : Options) (input : List ℕ) {js : List Judged} {r s : Outcome} → RunsWithComplement o input r s → JudgedAs o input js →
+    ShareLines js r.output s.output
+shared_lines o input k (judged_as reads) = (shared o input k.decides reads k.runs k.complement).1
 
 -- Tables with the same entry for every name give a text the same outcome.
 pub same_names : (o p : Options) (input : List ℕ) {r : Outcome} → p.settings ≡ o.settings → ((n : List ℕ) → entry_in o.table n ≡ entry_in p.table n) → HasOutcome o input r → HasOutcome p input r

@@ -5,6 +5,7 @@
 --   AreOptions args            args give options and their option-arguments, and nothing else
 --   IsSymbolOption name w      w is `-Dname`, `-Dname=VALUE` or `-Uname`
 --   AddsSymbol before name w   w names the symbol, and is read as an option after `before`
+--   AddsOption name args more  `more` are `args`, with such an option anywhere among the options
 --
 -- Example: `-k`, `-D`, `A`, `-bUB` are options. `-k`, `-D` are not, since `-D` lacks its argument,
 -- nor are `-k`, `a.c`.
@@ -43,3 +44,8 @@ pub record AddsSymbol (before : List (List ℕ)) (name w : List ℕ) : Type 0 wh
   pub options : AreOptions before
   pub is_symbol : is_name name ≡ true
   pub option : IsSymbolOption name w
+
+-- `AddsOption name args more`: `more` are `args` with one more option, which names the symbol.
+pub data AddsOption (name : List ℕ) : List (List ℕ) → List (List ℕ) → Type 0 where
+  added : (before after : List (List ℕ)) (w : List ℕ) → AddsSymbol before name w →
+      AddsOption name (before ++ after) (before ++ w ∷ after)

@@ -6,6 +6,7 @@
 --   piece_after style before j      the piece of a judged line that follows others, in a style
 --   pieces_by piece before js       the pieces of judged lines that follow others, each by all
 --                                   lines before it
+--   tree_pieces piece t             the pieces of the lines of a tree, each by all lines before it
 --   printed_by settings xs ms       the pieces of these lines under these settings, joined in order
 --   some_differ_by settings xs ms   some line's piece isn't the line itself
 --
@@ -21,8 +22,8 @@ use Rattle.ud_model.specs.text.Lines.{Line, text_of}
 use Rattle.ud_model.specs.text.Scans.{Reading}
 use Rattle.ud_model.specs.sections.Directives.{Span, Content, cut_keyword, directive, text}
 use Rattle.ud_model.specs.sections.Directives.{content_of}
-use Rattle.ud_model.specs.sections.Tree.{Item}
-use Rattle.ud_model.specs.sections.Pruning.{Mark, is_removed}
+use Rattle.ud_model.specs.sections.Tree.{Item, Tree, lines}
+use Rattle.ud_model.specs.sections.Pruning.{Mark, is_removed, marks}
 use Rattle.ud_model.specs.sections.Items.{reading_of, line_of}
 use Rattle.ud_model.specs.declared.settings.Settings.{Settings}
 use Rattle.ud_model.specs.declared.verdict.Verdict.{Verdict}
@@ -153,6 +154,11 @@ abbrev pub judged_lines : List (Item Reading) → List Mark → List Judged
 judged_lines [] ms = []
 judged_lines (x ∷ xs) [] = []
 judged_lines (x ∷ xs) (m ∷ ms) = judged_line x m ∷ judged_lines xs ms
+
+-- `tree_pieces piece t`: the pieces of the lines of the tree `t`, if `piece` gives the piece of a
+-- line after others.
+abbrev pub tree_pieces : (List Judged → Judged → List ℕ) → Tree Reading → List (List ℕ)
+tree_pieces piece t = pieces_by piece [] (judged_lines (lines t) (marks t))
 
 -- `pieces_under settings xs ms`: the pieces of the lines `xs` with the marks `ms`.
 abbrev pub pieces_under : Settings → List (Item Reading) → List Mark → List (List ℕ)

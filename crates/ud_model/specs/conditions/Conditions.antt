@@ -40,6 +40,14 @@ pub record Rules : Type 0 where
   pub constants : Bool
   pub strict : Bool
 
+-- `with_strict rules`: the rules `rules`, with `-K`.
+abbrev pub with_strict : Rules → Rules
+with_strict rules = record rules { strict = true }
+
+-- `without_strict rules`: the rules `rules`, without `-K`.
+abbrev pub without_strict : Rules → Rules
+without_strict rules = record rules { strict = false }
+
 -- The decision of an unknown condition.
 abbrev pub undecided : Decision
 undecided = record { cond = Unknown; ignoring = false }

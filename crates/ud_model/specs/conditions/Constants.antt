@@ -9,7 +9,7 @@
 --   constant_number w   the number that its digits denote
 --
 -- Example: `0x1uL` is the number 1, of base 16, and has a `u`. `08` is no constant.
-use Rattle.std.specs.Prelude.{ℕ, ◌+◌, ◌-◌, ◌*◌, ◌==◌, nat_le, List, [], ◌∷◌, ◌++◌, map, take, drop}
+use Rattle.std.specs.Prelude.{ℕ, ◌+◌, ◌-◌, ◌*◌, nat_le, List, [], ◌∷◌, ◌++◌, map, take, drop}
 use Rattle.std.specs.Prelude.{length, Bool, true, false, not, ◌&&◌, ◌||◌, if◌then◌else◌, Option}
 use Rattle.std.specs.Prelude.{Some, None, is_some, unwrap_or, bytes_eq, codes}
 use Rattle.std.specs.List.{prefix_len, flat_map}

@@ -4,7 +4,9 @@
 --   Argument              an option-argument: it defines a name with a value, or undefines it; the
 --                         sections of an ignoring one are plain text
 --   entry_in table name   the entry of the last argument that names `name`, if one does
-use Rattle.std.specs.Prelude.{ℕ, List, [], ◌∷◌, Bool, Option, Some, None, bytes_eq, if◌then◌else◌}
+--   HaveSameEntries t u   both tables have the same entry for each name
+use Rattle.std.specs.Prelude.{◌≡◌, ℕ, List, [], ◌∷◌, Bool, Option, Some, None, bytes_eq}
+use Rattle.std.specs.Prelude.{if◌then◌else◌}
 
 -- An option's entry for a name: the name's value, or None if the name is undefined; and whether the
 -- sections that it controls are plain text.
@@ -28,3 +30,7 @@ entry_from earlier (a ∷ more) name =
 -- the name is unlisted.
 abbrev pub entry_in : List Argument → List ℕ → Option Entry
 entry_in table name = entry_from None table name
+
+-- `HaveSameEntries t u`: the tables have the same entry for each name.
+abbrev pub HaveSameEntries : List Argument → List Argument → Type 0
+HaveSameEntries t u = (name : List ℕ) → entry_in t name ≡ entry_in u name

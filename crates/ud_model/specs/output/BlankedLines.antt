@@ -1,6 +1,8 @@
 -- Lines in place: the output under `-b`, line for line.
 -- unifdef(1), `-b`, `-l`.
 --
+--   Blanks o                  removed lines are blanked, and no names are listed
+--   endings_of text           the endings of the lines of a text
 --   complemented_if c j       a judged line, under `-c` with the verdict that `-c` makes of its own
 --   blanked c j               the output under `-b` for the line: its ending if it is removed, else
 --                             the line, perhaps edited
@@ -8,12 +10,24 @@
 --                             ending
 --   AreBlankedLines c js ks   each line of the output comes from the one at its position; a removed
 --                             last line without an ending leaves no line
+--   AreBlankedBy o js text    the same of options and the lines of a text
 --
 -- Example: under `-b -UA` the output for `#ifdef A`, `x`, `#endif`, `y` is three blank lines and
 -- `y`, which is line 4 of both.
-use Rattle.std.specs.Prelude.{◌≡◌, ℕ, List, [], ◌∷◌, Bool, true, if◌then◌else◌}
-use Rattle.ud_model.specs.text.Lines.{Line, text_of}
+use Rattle.std.specs.Prelude.{◌≡◌, ℕ, List, [], ◌∷◌, map, Bool, true, if◌then◌else◌}
+use Rattle.ud_model.specs.text.Lines.{Line, text_of, lines_of}
+use Rattle.ud_model.specs.sections.Items.{Options}
 use Rattle.ud_model.specs.answer.Printing.{Judged, complemented, piece_alone}
+use Rattle.ud_model.specs.declared.settings.Listing.TheVariants.{Off}
+
+-- `Blanks o`: `o` has `-b` or `-l`, and neither `-s` nor `-S`.
+pub record Blanks (o : Options) : Type 0 where
+  pub blank : o.settings.blank ≡ true
+  pub unlisted : o.settings.listing ≡ Off
+
+-- `endings_of text`: the endings of the lines of `text`, in order.
+abbrev pub endings_of : List ℕ → List (List ℕ)
+endings_of text = map (λ (l : Line). l.ending) (lines_of text)
 
 -- `complemented_if c j`: the judged line `j`, complemented if `c`.
 abbrev pub complemented_if : Bool → Judged → Judged
@@ -36,3 +50,8 @@ pub data AreBlankedLines (c : Bool) : List Judged → List Line → Type 0 where
   one_line : (j : Judged) (k : Line) (js : List Judged) (ks : List Line) → IsBlankedLine c j k →
       AreBlankedLines c js ks → AreBlankedLines c (j ∷ js) (k ∷ ks)
   lost_line : (j : Judged) → j.line.ending ≡ [] → blanked c j ≡ [] → AreBlankedLines c (j ∷ []) []
+
+-- `AreBlankedBy o js text`: the lines of `text` are the output for the lines `js`, each at its
+-- position, under `o`.
+abbrev pub AreBlankedBy : Options → List Judged → List ℕ → Type 0
+AreBlankedBy o js text = AreBlankedLines o.settings.complement js (lines_of text)

@@ -10,6 +10,8 @@
 --   MayBe table e b                C may find the condition true, or false
 --   IsCWorld table w ns            C may give each condition that it evaluates in the world `w` the
 --                                  truth that `w` gives it
+--   IsCPair o w ns v us            `w` is such a world of `ns`, and `v` gives its truths to `us`
+--   SelectsAlike o input output    in such worlds the same lines are selected of both texts
 --
 -- A condition that goes on on the next line, or whose text is no expression, may be true or false.
 -- The lines are those that are read. Under `-t` each is read by itself, with comments and
@@ -18,7 +20,7 @@
 -- Example: of `#if A && X`, `#elif X`, `#endif` with A undefined, the first condition is false in
 -- each C world, and the second one true or false. Of `#if 1 / 0` there is no C world, since C gives
 -- its condition no value.
-use Rattle.std.specs.Prelude.{ℕ, List, Bool, true, false, Option, Some, None, option_map}
+use Rattle.std.specs.Prelude.{◌≡◌, ℕ, List, Bool, true, false, Option, Some, None, option_map}
 use Rattle.std.specs.Prelude.{if◌then◌else◌}
 use Rattle.ud_model.specs.text.Scans.{Scan, Reading}
 use Rattle.ud_model.specs.sections.Directives.{Content, cut_keyword, directive, text, content_of}
@@ -28,8 +30,10 @@ use Rattle.ud_model.specs.conditions.Expressions.{Expression, is_defined, unary}
 use Rattle.ud_model.specs.aids.Parsing.{expression_of}
 use Rattle.ud_model.specs.conditions.Conditions.{sole_name}
 use Rattle.ud_model.specs.conditions.CValues.{Number, IsZero, IsCValue}
-use Rattle.ud_model.specs.sections.Tree.{Nodes}
+use Rattle.ud_model.specs.sections.Tree.{Nodes, closed}
+use Rattle.ud_model.specs.sections.Items.{Options}
 use Rattle.ud_model.specs.output.Worlds.{World, EachReached}
+use Rattle.ud_model.specs.output.Rereading.{IsTreeOf, KeepsTruths, selected_bytes}
 use Rattle.ud_model.specs.declared.kind.Kind.{Kind}
 use Rattle.ud_model.specs.declared.kind.Test.{Test}
 use Rattle.ud_model.specs.declared.kind.Test.TheVariants.{Nonzero, Defined, Undefined, Nothing}
@@ -75,3 +79,17 @@ MayBe table (Some e) b = (c : Number) × IsCValue table e c × HasTruth b c
 -- may give it.
 abbrev pub IsCWorld : List Argument → World Reading → Nodes Reading → Type 0
 IsCWorld table w ns = EachReached w (λ o. MayBe table (condition_in o.line) (w o.line)) ns
+
+-- `IsCPair o w before v after`: C may give the conditions of `before` the truths of the world `w`,
+-- and `v` gives each opener of `after` the truth of the opener from which it comes.
+pub record IsCPair (o : Options) (w : World Reading) (before : Nodes Reading) (v : World Reading)
+    (after : Nodes Reading) : Type 0 where
+  pub c_world : IsCWorld o.table w before
+  pub truths : KeepsTruths w before v after
+
+-- `SelectsAlike o input output`: whatever truths C may give the conditions of the input, the lines
+-- selected of both texts are the same, byte by byte (6.10.1p6).
+abbrev pub SelectsAlike : Options → List ℕ → List ℕ → Type 0
+SelectsAlike o input output = (ns us : Nodes Reading) → IsTreeOf o input (closed ns) →
+    IsTreeOf o output (closed us) → (w v : World Reading) → IsCPair o w ns v us →
+    selected_bytes v us ≡ selected_bytes w ns

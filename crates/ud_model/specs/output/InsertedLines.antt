@@ -4,6 +4,9 @@
 --
 --   with_blank_renumber b n o   the same options, with `-b` and `-n` or without
 --   KeepsNumbers args more      `more` mean what `args` mean, with `-b`, `-n` or both
+--   AddsNumbers o input r s     `s` is the outcome with `-b`, `-n` or both, and `r` that without
+--   AnswersNumbered args more input a c
+--                               `c` is the answer with `-b`, `-n` or both, and `a` that without
 --   read_as mode text           the lines of a text, each read in this mode
 --   IsLone s                    the line is scanned by itself: nothing joins it to its neighbours,
 --                               and it lies in no comment
@@ -14,6 +17,8 @@
 --                               on in `ss`, and anew after each inserted `#line`, each line of
 --                               `rs` has its own number in the input. The next line would have the
 --                               number `n`.
+--   CountsLines o js text numbered
+--                               the same of two texts
 --
 -- Example: under `-n -UA` the output for `x`, `#ifdef A`, `y`, `#endif`, `z` is `x`, `#line 5`,
 -- `z`, and `z` has the number 5.
@@ -23,9 +28,12 @@ use Rattle.ud_model.specs.text.Lines.{Line, text_of, lines_of}
 use Rattle.ud_model.specs.text.Scans.{Reading, plain_scan}
 use Rattle.ud_model.specs.text.Scanning.{readings_of}
 use Rattle.ud_model.specs.sections.Pruning.{is_removed}
-use Rattle.ud_model.specs.sections.Items.{Options}
+use Rattle.ud_model.specs.sections.Items.{Options, mode_by}
 use Rattle.ud_model.specs.answer.CommandLine.{usage_fault, options_of}
 use Rattle.ud_model.specs.answer.Printing.{Judged, piece_by}
+use Rattle.ud_model.specs.answer.Outcomes.{Outcome, HasOutcome}
+use Rattle.ud_model.specs.answer.Answer.{Answer, IsAnswer}
+use Rattle.ud_model.specs.output.Rereading.{IsPlain}
 use Rattle.ud_model.specs.declared.kind.Mode.{Mode}
 
 -- `with_blank_renumber b n o`: the options `o`, with `-b` if `b` and `-n` if `n`, else without.
@@ -43,6 +51,25 @@ pub record KeepsNumbers (args more : List (List ℕ)) : Type 0 where
   pub given : (blank || renumber) ≡ true
   pub options : options_of more ≡ with_blank_renumber blank renumber (options_of args)
   pub no_fault : usage_fault more ≡ None
+
+-- `AddsNumbers o input r s`: under plain options the text has the outcome `r`, and with `-b`, `-n`
+-- or both the outcome `s`.
+pub record AddsNumbers (o : Options) (input : List ℕ) (r s : Outcome) : Type 0 where
+  pub plain : IsPlain o
+  pub blank : Bool
+  pub renumber : Bool
+  pub some : (blank || renumber) ≡ true
+  pub runs : HasOutcome o input r
+  pub numbered : HasOutcome (with_blank_renumber blank renumber o) input s
+
+-- `AnswersNumbered args more input a c`: `a` is the answer to plain arguments, and `c` that to the
+-- arguments `more`, which add `-b`, `-n` or both.
+pub record AnswersNumbered (args more : List (List ℕ)) (input : List ℕ) (a c : Answer) : Type 0
+  where
+    pub plain : IsPlain (options_of args)
+    pub keeps : KeepsNumbers args more
+    pub answer : IsAnswer args input a
+    pub numbered : IsAnswer more input c
 
 -- `in_mode m l`: the line `l` with the mode `m`.
 abbrev pub in_mode : Mode → Line → Mode × Line
@@ -97,3 +124,9 @@ pub data Counted : List Judged → List Reading → List Reading → ℕ → Typ
       (j : Judged) → (d : Reading) → IsNumberLine j.line.number d →
       (r s : Reading) → IsPrinted j r s →
       Counted (js ++ j ∷ []) (rs ++ r ∷ []) ((ss ++ d ∷ []) ++ s ∷ []) (suc j.line.number)
+
+-- `CountsLines o js text numbered`: each line of `text` is in `numbered` too, and counted there by
+-- its number in the input, which has the lines `js`. Both are read in the mode of `o`.
+abbrev pub CountsLines : Options → List Judged → List ℕ → List ℕ → Type 0
+CountsLines o js text numbered = (k : ℕ) × Counted js (read_as (mode_by o.settings.plain) text)
+    (read_as (mode_by o.settings.plain) numbered) k

@@ -7,6 +7,9 @@
 --   NodesWithInserted ns ms   `ms` are the nodes `ns`, each line with the same scan and each
 --                             condition decided alike, with text lines inserted
 --   LinesWithInserted rs ss   `ss` are the lines `rs`, each with the same scan, with lines inserted
+--   StillSelects o input output numbered
+--                             `numbered` selects the lines of `input`, as `output` does, with
+--                             lines inserted
 --
 -- Example: under `-n -UA` the section of X in `#if X`, `#ifdef A`, `#endif`, `y`, `#endif` has the
 -- text lines `#line 4` and `y`.
@@ -16,7 +19,8 @@ use Rattle.ud_model.specs.text.Scans.{Reading}
 use Rattle.ud_model.specs.sections.Tree.{Opener, Nodes, Groups, Elifs, nothing, text, section}
 use Rattle.ud_model.specs.sections.Tree.{conditional, otherwise, first, elif, closed}
 use Rattle.ud_model.specs.sections.Items.{Options}
-use Rattle.ud_model.specs.output.Rereading.{IsTreeOf, line_bytes}
+use Rattle.ud_model.specs.output.Rereading.{IsTreeOf, line_bytes, selected_bytes}
+use Rattle.ud_model.specs.output.CSelection.{IsCPair}
 use Rattle.ud_model.specs.output.Worlds.{World, selected, openers}
 use Rattle.ud_model.specs.output.InsertedLines.{IsBlankLine, IsNumberLine}
 
@@ -71,6 +75,12 @@ pub data LinesWithInserted : List Reading → List Reading → Type 0 where
   inserted_line : {d : Reading} {rs ss : List Reading} → IsInserted d → LinesWithInserted rs ss →
       LinesWithInserted rs (d ∷ ss)
 
+-- `HasTreeWithInserted o output us`: `output` has a tree of the nodes `us`, with text lines
+-- inserted.
+abbrev pub HasTreeWithInserted : Options → List ℕ → Nodes Reading → Type 0
+HasTreeWithInserted o output us =
+    (vs : Nodes Reading) × IsTreeOf o output (closed vs) × NodesWithInserted us vs
+
 -- `SelectsWithInserted o text us v ls`: `text` has a tree of the nodes `us` with lines inserted. If
 -- each of its openers has the truth that `v` gives it in `us`, C selects lines of the bytes `ls`,
 -- with lines inserted.
@@ -81,3 +91,11 @@ pub record SelectsWithInserted (o : Options) (text : List ℕ) (us : Nodes Readi
   pub inserted : NodesWithInserted us nodes
   pub selects : (x : World Reading) → map x (openers nodes) ≡ map v (openers us) →
       (rs : List Reading) × (map line_bytes rs ≡ ls) × LinesWithInserted rs (selected x nodes)
+
+-- `StillSelects o input output numbered`: whatever truths C may give the conditions of the input,
+-- the text `numbered` selects the lines of the input, with lines inserted. `output` is the text
+-- without these lines.
+abbrev pub StillSelects : Options → List ℕ → List ℕ → List ℕ → Type 0
+StillSelects o input output numbered = (ns us : Nodes Reading) → IsTreeOf o input (closed ns) →
+    IsTreeOf o output (closed us) → (w v : World Reading) → IsCPair o w ns v us →
+    SelectsWithInserted o numbered us v (selected_bytes w ns)

@@ -6,17 +6,24 @@
 --   LeadsTo table n m        `m` is the name `n`, or the value of a name to which `n` leads
 --   AgreeOnListed list t u   both tables have the same entry for each name to which a listed one
 --                            leads
+--   AreAlikeBy list o p      both options have the same settings, and tables that agree so
+--   AreAlikeArgs list as bs  the same of arguments
+--   ListsNames args input l  `-s` before the arguments lists the names of an input
 --   IsNoValue table n        no symbol has the name `n` as its value
+--   NeverCounts args input n the name isn't on that list, and no symbol has it as its value
 --   DifferAtMostAt n t u     both tables have the same entry for every other name
 --   ExtendsTable t u         `u` has the entries of `t`, and perhaps more
 --
 -- Example: of `#if A > 2` the list is `A`; under `-DA=B` A leads to A and to B.
-use Rattle.std.specs.Prelude.{◌≡◌, ◌≢◌, ℕ, List, [], ◌∷◌, ◌++◌, true, Some}
+use Rattle.std.specs.Prelude.{◌≡◌, ◌≢◌, ℕ, List, [], ◌∷◌, ◌++◌, true, false, Some, None, codes}
 use Rattle.ud_model.specs.text.Bytes.{newline, is_identifier}
 use Rattle.ud_model.specs.text.Lines.{partial_line}
 use Rattle.ud_model.specs.conditions.Table.{Argument, Entry, entry_in}
 use Rattle.ud_model.specs.conditions.Symbols.{defined_text}
 use Rattle.ud_model.specs.sections.Items.{Options}
+use Rattle.ud_model.specs.answer.CommandLine.{has_flag, parsed_args, usage_fault, options_of}
+use Rattle.ud_model.specs.answer.Answer.{Answer, Succeeds}
+use Rattle.ud_model.specs.output.Rereading.{NoneIgnores}
 use Rattle.ud_model.specs.declared.settings.Settings.{Settings}
 use Rattle.ud_model.specs.declared.settings.Listing.TheVariants.{Names}
 
@@ -45,6 +52,30 @@ abbrev pub AgreeOnListed : List ℕ → List Argument → List Argument → Type
 AgreeOnListed list t u = (n m : List ℕ) → IsListed n list → LeadsTo t n m →
     entry_in t m ≡ entry_in u m
 
+-- `AreAlikeBy list o p`: the options have the same settings, and agree on each listed name.
+pub record AreAlikeBy (list : List ℕ) (o p : Options) : Type 0 where
+  pub settings : p.settings ≡ o.settings
+  pub entries : AgreeOnListed list o.table p.table
+
+-- `AreAlikeArgs list args more`: the arguments `more` have no fault, and their options are alike by
+-- the list.
+pub record AreAlikeArgs (list : List ℕ) (args more : List (List ℕ)) : Type 0 where
+  pub no_fault : usage_fault more ≡ None
+  pub alike : AreAlikeBy list (options_of args) (options_of more)
+
+-- `ServesAsLister q o`: `q` are the settings of `o` with `-s`, and any symbols. Neither makes
+-- sections plain text.
+pub record ServesAsLister (q o : Options) : Type 0 where
+  pub settings : q.settings ≡ listing_settings o.settings
+  pub lister : NoneIgnores q.table
+  pub listed : NoneIgnores o.table
+
+-- `ListsNames args input l`: `args` have no `-S`, and `l` is the answer to them and `-s`, a list of
+-- the names of the input.
+pub record ListsNames (args : List (List ℕ)) (input : List ℕ) (l : Answer) : Type 0 where
+  pub no_depths : has_flag (codes "S") (parsed_args args) ≡ false
+  pub lists : Succeeds (codes "-s" ∷ args) input l
+
 -- `IsNoValue table name`: no symbol has the value `name`.
 abbrev pub IsNoValue : List Argument → List ℕ → Type 0
 IsNoValue table name = (n : List ℕ) → defined_text table n ≢ Some name
@@ -56,3 +87,11 @@ DifferAtMostAt name t u = (n : List ℕ) → n ≢ name → entry_in t n ≡ ent
 -- `ExtendsTable t u`: `u` has the same entry as `t` for each name that `t` lists.
 abbrev pub ExtendsTable : List Argument → List Argument → Type 0
 ExtendsTable t u = (n : List ℕ) → (e : Entry) → entry_in t n ≡ Some e → entry_in u n ≡ Some e
+
+-- `NeverCounts args input name`: `name` isn't on the list of the input's names, and no symbol of
+-- the arguments has the value `name`.
+pub record NeverCounts (args : List (List ℕ)) (input name : List ℕ) : Type 0 where
+  pub list : Answer
+  pub lists : ListsNames args input list
+  pub unlisted : IsListed name list.output → ⊥
+  pub no_value : IsNoValue (options_of args).table name

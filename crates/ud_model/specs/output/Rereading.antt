@@ -1,13 +1,16 @@
 -- Rereading: the tree of a text, and the runs whose output is read again.
 --
+--   PrintsText o          the lines of the text are printed, without line numbers
 --   IsPlain o             the options change nothing about how lines are printed, and no symbol
 --                         makes its sections plain text
+--   IsPlainC o            such options without `-t`
 --   AreRead o xs t        the items `xs` have the tree `t`, and each line was read in the mode that
 --                         the lines before it give
 --   IsTreeOf o text t     `t` is the tree of the text
 --   IsClean o input r     a run without a fault, under plain options
 --   CleanRun              such a run, with the trees of its input and its output
 --   line_bytes l          a line of the input or output, with its ending
+--   selected_bytes w ns   the lines that are selected in a world, with their endings
 --   edited_bytes e        the output for a line of the pruned tree
 --   KeepsTruths w b v a   each opener of the output `a` has in `v` the truth that the opener from
 --                         which it comes has in `w`
@@ -23,7 +26,7 @@ use Rattle.ud_model.specs.sections.Tree.{Item, Nodes, Tree, closed, nothing, lin
 use Rattle.ud_model.specs.sections.Items.{Options, line_of, next_item}
 use Rattle.ud_model.specs.answer.Printing.{piece_by, keyword_in}
 use Rattle.ud_model.specs.answer.Outcomes.{Outcome, HasOutcome}
-use Rattle.ud_model.specs.output.Worlds.{World, openers, openers_in}
+use Rattle.ud_model.specs.output.Worlds.{World, selected, openers, openers_in}
 use Rattle.ud_model.specs.output.Pruned.{Edited, pruned_lines}
 use Rattle.ud_model.specs.declared.settings.Listing.TheVariants.{Off}
 use Rattle.ud_model.specs.declared.limits.TheConstants.{LINE_BYTES}
@@ -33,6 +36,11 @@ abbrev pub NoneIgnores : List Argument → Type 0
 NoneIgnores [] = Unit {0}
 NoneIgnores (a ∷ table) = (a.entry.ignoring ≡ false) × NoneIgnores table
 
+-- `PrintsText o`: none of -s, -S and -n is given.
+pub record PrintsText (o : Options) : Type 0 where
+  pub unnumbered : o.settings.renumber ≡ false
+  pub unlisted : o.settings.listing ≡ Off
+
 -- `IsPlain o`: none of -s, -S, -b, -l, -c, -n, -iD and -iU is given.
 pub record IsPlain (o : Options) : Type 0 where
   pub unlisted : o.settings.listing ≡ Off
@@ -40,6 +48,11 @@ pub record IsPlain (o : Options) : Type 0 where
   pub uncomplemented : o.settings.complement ≡ false
   pub unnumbered : o.settings.renumber ≡ false
   pub none_ignores : NoneIgnores o.table
+
+-- `IsPlainC o`: none of -s, -S, -b, -l, -c, -n, -iD, -iU and -t is given.
+pub record IsPlainC (o : Options) : Type 0 where
+  pub plain : IsPlain o
+  pub in_c : o.settings.plain ≡ false
 
 -- `AreRead o xs t`: the items `xs` have the tree `t`, and each line was read in the mode that the
 -- lines before give.
@@ -82,6 +95,10 @@ LinesFit (l ∷ ls) = (length (text_of l) ≤ LINE_BYTES) × LinesFit ls
 -- `line_bytes l`: the bytes of a line that was read, with its ending.
 abbrev pub line_bytes : Reading → List ℕ
 line_bytes l = text_of l.line
+
+-- `selected_bytes w ns`: the bytes of the lines that are selected in the world `w`.
+abbrev pub selected_bytes : World Reading → Nodes Reading → List (List ℕ)
+selected_bytes w ns = map line_bytes (selected w ns)
 
 -- `edited_bytes e`: the output for a line of the pruned tree.
 abbrev pub edited_bytes : Edited Reading → List ℕ

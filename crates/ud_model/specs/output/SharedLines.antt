@@ -3,16 +3,23 @@
 --
 --   OnlyDecides o       none of `-s`, `-S`, `-b`, `-l`, `-c` and `-n` is given
 --   with_complement o   the same options, and `-c`
+--   RunsWithComplement o input r s
+--                       `s` is the outcome with `-c`, and `r` that without
+--   AnswersWithComplement args input a c
+--                       the same of arguments and answers
 --   ShareLines js a b   each of the judged lines is printed once: in `a`, as its verdict demands,
 --                       if it isn't removed; else in `b`, unchanged
 --
 -- Example: under `-UA` the run over `#ifdef A`, `x`, `#endif`, `y` prints `y`, and with `-c` the
 -- three lines before.
-use Rattle.std.specs.Prelude.{◌≡◌, ℕ, List, [], ◌∷◌, ◌++◌, true, false}
+use Rattle.std.specs.Prelude.{◌≡◌, ℕ, List, [], ◌∷◌, ◌++◌, true, false, codes}
 use Rattle.ud_model.specs.text.Lines.{text_of}
 use Rattle.ud_model.specs.sections.Pruning.{is_removed}
 use Rattle.ud_model.specs.sections.Items.{Options}
+use Rattle.ud_model.specs.answer.CommandLine.{options_of}
 use Rattle.ud_model.specs.answer.Printing.{Judged, piece_by}
+use Rattle.ud_model.specs.answer.Outcomes.{Outcome, HasOutcome}
+use Rattle.ud_model.specs.answer.Answer.{Answer, IsAnswer}
 use Rattle.ud_model.specs.declared.settings.Listing.TheVariants.{Off}
 
 -- `OnlyDecides o`: `o` has none of `-s`, `-S`, `-b`, `-l`, `-c` and `-n`
@@ -29,6 +36,21 @@ with_complement o = record {
   table =
       o.table;
 }
+
+-- `RunsWithComplement o input r s`: the text has the outcome `r` under options that only decide,
+-- and the outcome `s` with `-c`.
+pub record RunsWithComplement (o : Options) (input : List ℕ) (r s : Outcome) : Type 0 where
+  pub decides : OnlyDecides o
+  pub runs : HasOutcome o input r
+  pub complement : HasOutcome (with_complement o) input s
+
+-- `AnswersWithComplement args input a c`: `a` is the answer to arguments that only decide, and `c`
+-- that to `-c` and these arguments.
+pub record AnswersWithComplement (args : List (List ℕ)) (input : List ℕ) (a c : Answer) : Type 0
+  where
+    pub decides : OnlyDecides (options_of args)
+    pub answer : IsAnswer args input a
+    pub complement : IsAnswer (codes "-c" ∷ args) input c
 
 -- `ShareLines js a b`: each line of `js` is printed in `a` or in `b`, and not in both.
 pub data ShareLines : List Judged → List ℕ → List ℕ → Type 0 where

@@ -5,7 +5,7 @@ use Rattle.ud_model.proofs.output.ReadInMode.{read_in_c}
 use Rattle.ud_model.proofs.answer_laws.law_answer_selects.Goals as goal
 
 pub returns-clause-readings : goal.returns-clause-readings
-returns-clause-readings c = λ args p e text t i. read_in_c (options_of args) p e text t i
+returns-clause-readings c = λ args p text t i. read_in_c (options_of args) p.plain p.in_c text t i
 
 pub returns-clause-selected : goal.returns-clause-selected
-returns-clause-selected c = λ args input a h n p e ns us b d w v g t. answered_selects h n p ns us b d w v g t
+returns-clause-selected c = λ args input a s p ns us b d w v k. answered_selects s.answer s.no_fault p.plain ns us b d w v k.c_world k.truths

@@ -7,7 +7,7 @@ pub returns-clause-words : goal.returns-clause-words
 returns-clause-words c = λ args. complements args
 
 pub returns-clause-message : goal.returns-clause-message
-returns-clause-message c = λ args input a k p right b d. answered_message p right b d
+returns-clause-message c = λ args input a k w right. answered_message w.decides right w.answer w.complement
 
 pub returns-clause-shared : goal.returns-clause-shared
-returns-clause-shared c = λ args input xs t f a k p right reads b d. answered_shared p right reads b d
+returns-clause-shared c = λ args input js a k w j. answered_shared w.decides j.no_fault j.judged w.answer w.complement

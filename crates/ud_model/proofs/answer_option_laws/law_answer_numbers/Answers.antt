@@ -10,10 +10,10 @@ pub returns-clause-blanks : goal.returns-clause-blanks
 returns-clause-blanks c = λ args right. keeps_with_b args right
 
 pub returns-clause-counted : goal.returns-clause-counted
-returns-clause-counted c = λ args more input xs t f a k p right keeps reads b d. answered_counted p right keeps reads b d
+returns-clause-counted c = λ args more input js a k w j. answered_counted w.plain j.no_fault w.keeps j.judged w.answer w.numbered
 
 pub returns-clause-reading_selects : goal.returns-clause-reading_selects
-returns-clause-reading_selects c = λ args more input a k p keeps b n d ns us i j w v g t. answered_selects_numbered p keeps b n d ns us i j w v g t
+returns-clause-reading_selects c = λ args more input a k r n. answered_selects_numbered r n
 
 pub returns-clause-selects : goal.returns-clause-selects
-returns-clause-selects c = λ args more input a k p e keeps b n d ns us i j w v g t. answered_selects_numbered p keeps b n d ns us i j w v g t
+returns-clause-selects c = λ args more input a k r n p. answered_selects_numbered r n

@@ -9,7 +9,7 @@ pub returns-clause-operand : goal.returns-clause-operand
 returns-clause-operand c = operand_given
 
 pub returns-clause-options : goal.returns-clause-options
-returns-clause-options c = options_given
+returns-clause-options c = λ n w args d cs h. options_given n w args d cs h.no_end h.letters
 
 pub returns-clause-letters : goal.returns-clause-letters
 returns-clause-letters c = λ n cs args. letters_then n cs args

@@ -3,10 +3,10 @@ use Rattle.ud_model.proofs.output.ListComplete.{list_complete, list_serves, alik
 use Rattle.ud_model.proofs.option_laws.law_list_is_complete.Goals as goal
 
 pub returns-clause-listed : goal.returns-clause-listed
-returns-clause-listed c = λ o p input l r k e same alike run. list_complete o p input k e same alike run
+returns-clause-listed c = λ o p input l r k e a run. list_complete o p input k e a.settings a.entries run
 
 pub returns-clause-serves : goal.returns-clause-serves
-returns-clause-serves c = λ q o p input l r set calm n k e same alike run. list_serves q o p input set calm n k e same alike run
+returns-clause-serves c = λ q o p input l r s k e a run. list_serves q o p input s.settings s.lister s.listed k e a.settings a.entries run
 
 pub returns-clause-alike : goal.returns-clause-alike
 returns-clause-alike c = λ list name o p out none same. alike_but_one list name o.table p.table out none same

@@ -6,4 +6,4 @@ pub returns-clause-value : goal.returns-clause-value
 returns-clause-value c = λ table e n h. value_keeps table e n h
 
 pub returns-clause-cond : goal.returns-clause-cond
-returns-clause-cond c = λ table e k n. cond_keeps table e k n
+returns-clause-cond c = λ table e rules n. cond_keeps table e rules.constants n

@@ -7,10 +7,10 @@ pub returns-clause-readings : goal.returns-clause-readings
 returns-clause-readings c = λ o p text t i. read_in_one_mode o p text t i
 
 pub returns-clause-selected : goal.returns-clause-selected
-returns-clause-selected c = λ k w v a t. c_selected_again k w a v t
+returns-clause-selected c = λ k w v p. c_selected_again k w p.c_world v p.truths
 
 pub returns-clause-conditions : goal.returns-clause-conditions
 returns-clause-conditions c = λ k. conditions_same k
 
 pub returns-clause-world : goal.returns-clause-world
-returns-clause-world c = λ k w v a t. c_world_again k w a v t
+returns-clause-world c = λ k w v p. c_world_again k w p.c_world v p.truths
