@@ -19,7 +19,8 @@ use Rattle.ud_model.proofs.sections.Stays.{length_marks}
 use Rattle.ud_model.proofs.text.LinesLemmas.{map-numbered_from, text_of-line_at, are_whole}
 use Rattle.ud_text.specs.bulk.BulkScanning.{AreWholeLines}
 use Rattle.ud_text.proofs.lemmas.bulk.QuietLineLemmas.{ended_lines}
-use Rattle.ud_sections.specs.printing.PrinterOutputs.{judged_text, PrintsEach}
+use Rattle.ud_sections.specs.printing.PrinterOutputs.{judged_text, PrintsOne}
+use Rattle.ud_sections.proofs.lemmas.printing.PrintedRuns.{each_of}
 use Rattle.ud_engine.specs.declared.line_processor.LineProcessor.{LineProcessor}
 use Rattle.ud_engine.specs.DecidedLines.{DecidesBulk}
 use Rattle.ud_engine.specs.ProcessedLines.{text_by, differs_in, lister_of, ProcessorRepresents, PrintsBulk}
@@ -129,9 +130,9 @@ module _ {S : Type 0} (represents : S → List Judged → Type 0) (piece_of : S 
 
   -- The output for each of these lines is `own`.
   pub prints_run : (q : LineProcessor S) (ls : List Line) (verdict : Verdict) (own : Line → List ℕ) (other : Bool) (more : List ℕ) → p.lister ≡ None → q.lister ≡ p.lister →
-      q.printer ≡ p.printer → q.differs ≡ (p.differs || other) → DecidesBulk o q.decider xs t ls verdict → PrintsEach (represents p.printer) (piece_of p.printer) verdict own →
+      q.printer ≡ p.printer → q.differs ≡ (p.differs || other) → DecidesBulk o q.decider xs t ls verdict → PrintsOne (represents p.printer) (piece_of p.printer) verdict own →
       some_other (map own ls) (map (judged_text verdict) ls) ≡ other → concat (map own ls) ≡ more → PrintsBulk represents piece_of q o piece xs t ls more
-  prints_run q ls verdict own other more e same_lister same_printer differs one each others joined =
+  prints_run q ls verdict own other more e same_lister same_printer differs one line others joined =
       let off : o.settings.listing ≡ Off = is_off o.settings.listing (sym h.lister ∙ e) in
       let before : List Judged = judged_lines xs (marks t) in
       let next : List Judged = map (judged_text verdict) ls in
@@ -139,7 +140,8 @@ module _ {S : Type 0} (represents : S → List Judged → Type 0) (piece_of : S 
       ap (judged_lines (xs ++ one.items)) one.marks_are
       ∙ judged_line-append xs one.items (marks t) one.own (length_marks true t ∙ ap length (sound_lines h.has.read.sound))
       ∙ ap (λ js. before ++ js) one.decided in
-      let shown : (pieces_by (piece_of p.printer) before next ≡ map own ls) × represents p.printer (before ++ next) = each before ls (h.shown off) in
+      let shown : (pieces_by (piece_of p.printer) before next ≡ map own ls) × represents p.printer (before ++ next) =
+      each_of (represents p.printer) (piece_of p.printer) verdict own line before ls (h.shown off) in
       let pieces : pieces_by piece [] (before ++ next) ≡ pieces_by piece [] before ++ map own ls =
       pieces_by-append piece [] before next
       ∙ ap (λ ps. pieces_by piece [] before ++ ps) (sym (pieces_by-same (piece_of p.printer) piece h.stays before next) ∙ shown.0) in

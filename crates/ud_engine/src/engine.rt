@@ -9,12 +9,14 @@
 
 ghost use Rattle.std.specs.Prelude.{◌≡◌, ◌++◌, [], ◌<◌, ◌≤◌, ◌-◌, List, ℕ, length, drop, true};
 ghost use Rattle.std.specs.Prelude.{false, IfOk, IfErr, OnOk, IfSome, None, Some, Err, take};
-ghost use Rattle.std.specs.Prelude.{is_ok, is_err};
+ghost use Rattle.std.specs.Prelude.{is_ok, is_err, not, MatchOption};
+ghost use Rattle.ud_model.specs.sections.Directives.{skip_hash};
 ghost use Rattle.ud_model.specs.sections.Items.{Options};
 ghost use Rattle.ud_model.specs.answer.Printing.{Judged};
 ghost use Rattle.ud_model.specs.declared.settings.Listing.TheVariants.{Off};
 ghost use Rattle.ud_cond.specs.symbols.SymbolTable.{TableRepresents};
 ghost use Rattle.ud_io.specs.Buffering.{AppendsAllButOrPrefix};
+ghost use Rattle.ud_text.specs.bulk.BulkStates.{is_other_word};
 ghost use Rattle.ud_text.specs.lines.LinesState.{HasCapacity};
 ghost use Rattle.ud_engine.specs.Feeding.{IsOpen, WriterMatches};
 ghost use Rattle.ud_engine.specs.Finishing.{PrintsRest, without_fault};
@@ -31,9 +33,8 @@ use ud_cond::Symbols;
 use ud_faults::RunFault;
 use ud_io::Watched;
 use ud_model::TEXT_LINES;
-use ud_model::bytes::skip_white;
 use ud_sections::Show;
-use ud_text::{LineBuffer, Lines, LongLineBuffer};
+use ud_text::{LineBuffer, Lines, LongLineBuffer, is_other_word};
 
 /// A position in a chunk. The bytes from `pending_start` to `pos` are to be copied to the output.
 #[derive(Clone, Copy)]
@@ -62,19 +63,21 @@ fn cursor_at<H: LineBuffer>(lines: &Lines<H>, chunk: &[u8], at: usize) -> Cursor
     }
 }
 
-/// Returns whether a line begins as most conditionals do.
-fn begins_conditional(line: &[u8]) -> bool {
+/// Returns whether a line begins with a `#` that may belong to a directive. A try to skip text
+/// lines would mostly stop there.
+fn begins_conditional(line: &[u8]) -> bool
+    ensures { MatchOption (skip_hash line.now) (result ≡ false)
+        (λ rest. result ≡ not (is_other_word rest)) }
+{
     match line {
-        [b'#', b'i', b'f', ..] | [b'#', b'e', b'l' | b'n', ..] => true,
-        [b'#', b' ' | b'\t', rest @ ..] => {
-            matches!(skip_white(rest), [b'i', b'f', ..] | [b'e', b'l' | b'n', ..])
-        }
+        [b'#', rest @ ..] => !is_other_word(rest),
         _ => false,
     }
 }
 
 /// Returns whether to try to skip text lines. Skipping isn't tried at a conditional, where it would
 /// stop.
+#[inline(always)]
 fn may_skip_text(chunk: &[u8], cursor: Cursor) -> bool
     requires { cursor.pos ≤ length chunk.now }
     ensures untried { result ≡ true → cursor.bulk_tried ≡ false }
@@ -348,6 +351,7 @@ impl<'p, S: Show, H: LineBuffer> Engine<'p, S, H> {
     ///
     /// # Errors
     /// As `feed`, but the pending bytes before the faulty line aren't written yet.
+    #[inline(always)]
     fn advance<W: Write>(
         &mut self,
         chunk: &[u8],
@@ -416,6 +420,7 @@ impl<'p, S: Show, H: LineBuffer> Engine<'p, S, H> {
     ///
     /// # Errors
     /// As `advance`.
+    #[inline(always)]
     fn advance_line<W: Write>(
         &mut self,
         chunk: &[u8],
@@ -467,6 +472,7 @@ impl<'p, S: Show, H: LineBuffer> Engine<'p, S, H> {
     ///
     /// # Errors
     /// As `advance`.
+    #[inline(never)]
     fn push_line_part<W: Write>(
         &mut self,
         rest: &[u8],

@@ -32,7 +32,7 @@ use ud_sections::{Lister, Machine, SectionFault, Step, TextPolicy};
 use ud_text::{Line, LineBuffer, Lines, Scanner, ScannerOf};
 
 /// The most bytes of a short line's body.
-const SHORT_LINE_BYTES: usize = 4096;
+const SHORT_LINE_BYTES: usize = 1024;
 
 /// A scanner and a machine, which decide the lines of a text in order.
 #[derive(Drop)]

@@ -30,7 +30,7 @@ use ud_cond::Symbols;
 use ud_faults::RunFault;
 use ud_io::Watched;
 use ud_model::{Listing, Settings};
-use ud_sections::{BulkOutput, LineOutput, Lister, SectionFault, Show, Step};
+use ud_sections::{LineOutput, Lister, SectionFault, Show, Step};
 use ud_text::{Line, LineBuffer, Lines};
 
 /// A processor that decides the lines of a text in order, and prints the output for each, or lists
@@ -91,6 +91,7 @@ impl<S: Show> LineProcessor<S> {
     /// - `Section` if the line is faulty. Nothing is appended.
     /// - `Write` if a write fails. A prefix of the buffered bytes, `pending` and the output for the
     ///   line was written.
+    #[inline(always)]
     pub(crate) fn print<W: Write>(
         &mut self,
         line: &Line<'_>,
@@ -130,6 +131,7 @@ impl<S: Show> LineProcessor<S> {
     ///
     /// # Errors
     /// As `print`.
+    #[inline(never)]
     pub(crate) fn put_line<W: Write>(
         &mut self,
         line: &Line<'_>,
@@ -187,13 +189,13 @@ impl<S: Show> LineProcessor<S> {
                 kept: false,
             };
         }
-        match self.printer.bulk_output(policy.verdict) {
-            BulkOutput::OneByOne => none,
-            BulkOutput::Copied => SkippedText {
+        match self.printer.line_output(policy.verdict) {
+            LineOutput::Ending | LineOutput::Parts => none,
+            LineOutput::Whole => SkippedText {
                 count: self.decider.skip_text(policy, bytes, lines),
                 kept: true,
             },
-            BulkOutput::Dropped => {
+            LineOutput::Nothing => {
                 let count = self.decider.skip_text(policy, bytes, lines);
                 if count == 0 {
                     return none;

@@ -3,7 +3,7 @@
 //! The classes are those of ASCII; bytes from 128 on and NUL belong to no word. They are defined in
 //! `specs/text/Bytes.antt`, and the names of symbols in `specs/answer/SymbolArguments.antt`.
 
-ghost use Rattle.std.specs.Prelude.{◌≡◌, ◌≤◌, take, drop, length};
+ghost use Rattle.std.specs.Prelude.{◌≡◌, ◌≤◌, ◌∷◌, [], take, drop, length};
 ghost use Rattle.ud_model.specs.text.Bytes.{is_white, is_digit, is_word_byte, is_identifier};
 ghost use Rattle.ud_model.specs.text.Bytes.{are_white, are_word_bytes, skip_white, leading_word};
 ghost use Rattle.ud_model.specs.text.Bytes.{skip_word};
@@ -15,7 +15,7 @@ ghost use Rattle.ud_model.specs.answer.SymbolArguments.{is_name};
 pub fn is_white(byte: u8) -> bool
     ensures { result ≡ is_white byte }
 {
-    byte <= b' ' && matches!(byte, b' ' | b'\t' | b'\x0b' | b'\x0c' | b'\r')
+    byte == b' ' || byte < b' ' && matches!(byte, b'\t' | b'\x0b' | b'\x0c' | b'\r')
 }
 
 /// Returns whether `byte` is a digit.
@@ -93,11 +93,49 @@ pub fn skip_white(bytes: &[u8]) -> &[u8]
 }
 
 /// Returns the length of the longest prefix that has only word bytes.
+///
+/// Four bytes are read at a time, so that three instructions suffice for one.
 #[inline(always)]
 pub fn word_len(bytes: &[u8]) -> usize
     ensures bound { result ≤ length bytes.now }
     ensures word { take result bytes.now ≡ leading_word bytes.now }
     ensures rest { drop result bytes.now ≡ skip_word bytes.now }
+{
+    let mut at = 0;
+    let mut rest = bytes;
+    'fours: while let [a, b, c, d, after @ ..] = rest {
+        let count = word_len_of_four(*a, *b, *c, *d);
+        if count < 4 {
+            return at + count;
+        }
+        at += 4;
+        rest = after;
+    }
+    at + word_len_one_by_one(rest)
+}
+
+/// Returns the length of the longest prefix of four bytes that has only word bytes.
+#[inline(always)]
+fn word_len_of_four(a: u8, b: u8, c: u8, d: u8) -> usize
+    ensures { result ≡ length (leading_word (a ∷ b ∷ c ∷ d ∷ [])) }
+{
+    if !is_word_byte(a) {
+        0
+    } else if !is_word_byte(b) {
+        1
+    } else if !is_word_byte(c) {
+        2
+    } else if !is_word_byte(d) {
+        3
+    } else {
+        4
+    }
+}
+
+/// Returns the length of the longest prefix that has only word bytes, one byte at a time.
+#[inline(always)]
+fn word_len_one_by_one(bytes: &[u8]) -> usize
+    ensures { result ≡ length (leading_word bytes.now) }
 {
     bytes
         .iter()

@@ -13,6 +13,7 @@ pub mod answer_laws;
 pub mod answer_option_laws;
 pub mod bytes;
 mod cond;
+pub mod keywords;
 mod kind;
 pub mod laws;
 mod limits;

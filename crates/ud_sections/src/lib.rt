@@ -16,7 +16,7 @@ mod sections;
 pub use directives::parse_directive::directive;
 pub use directives::{Cut, Directive};
 pub use printing::{
-    Blank, BulkOutput, Complement, Delete, LineOutput, Lister, Pieces, Printer, Renumber, Show,
+    Blank, Complement, Delete, LineOutput, Lister, Pieces, Printer, Renumber, Show,
 };
 pub use sections::{Machine, Span, Step, TextPolicy};
 pub use ud_faults::SectionFault;

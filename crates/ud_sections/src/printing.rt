@@ -2,14 +2,13 @@
 //!
 //! A printer implements `show.Show`: `delete`, `blank` and `renumber`, or `complement` of one of
 //! these. `printer` has the one that the settings ask for. It returns the `pieces` of a line. By
-//! `line_output` and `bulk_output` it also reports the output for lines that needn't be passed.
+//! `line_output` it also reports the output for lines that needn't be passed.
 //!
 //! A new printer needs an implementation of `Show`, whose two ghost items say what it represents
 //! and prints, and a variant of `Printer`.
 
 mod append_bytes;
 mod blank;
-mod bulk_output;
 mod complement;
 mod delete;
 mod line_output;
@@ -20,7 +19,6 @@ mod renumber;
 mod show;
 
 pub use blank::Blank;
-pub use bulk_output::BulkOutput;
 pub use complement::Complement;
 pub use delete::Delete;
 pub use line_output::LineOutput;

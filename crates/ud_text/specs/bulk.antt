@@ -4,3 +4,4 @@ pub mod BulkStates
 pub mod BulkLexemes
 pub mod Progress
 pub mod Blocks
+pub mod PlainText

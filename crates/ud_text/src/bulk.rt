@@ -9,13 +9,13 @@
 //! A new kind of lexeme needs a function in lexeme_lengths.rt and its lemma.
 
 ghost use Rattle.std.specs.Prelude.{◌≡◌, ◌≤◌, ◌<◌, ◌+◌, Bool, [], ◌∷◌, length, take, drop, true};
-ghost use Rattle.std.specs.Prelude.{IfOk, IfErr, MatchResult};
+ghost use Rattle.std.specs.Prelude.{IfOk, IfErr};
 ghost use Rattle.ud_model.specs.text.Bytes.{slash, star, number_sign};
 ghost use Rattle.ud_text.specs.bulk.BulkStates.{BulkState, block_state, can_start};
 ghost use Rattle.ud_text.specs.bulk.Blocks.{IsBlock};
 ghost use Rattle.ud_text.specs.bulk.BulkLexemes.{NoStarPair, IsSplice};
 ghost use Rattle.ud_text.specs.bulk.Progress.{ReadTo, bulk_state_of, InOrder, ReadBy, SkippedBy};
-ghost use Rattle.ud_text.specs.bulk.Progress.{InBlock, Steps};
+ghost use Rattle.ud_text.specs.bulk.Progress.{InBlock, LeavesBlock, Steps};
 ghost use Rattle.ud_text.specs.scan.LexerViews.{lex_state_of};
 
 use crate::scan::lexer::{LexState, Lexer};
@@ -25,7 +25,7 @@ use hash_sign::{is_line_white_after, other_word_len};
 use lexeme_lengths::{lexeme_len, line_comment_len, splice_len};
 
 mod blocks;
-mod hash_sign;
+pub(crate) mod hash_sign;
 mod lexeme_lengths;
 pub(crate) mod plain;
 
@@ -119,10 +119,7 @@ fn skip_to_block_end(
     requires within { at ≤ length lines.now }
     ensures further { IfOk result (λ q. InOrder q lines.now × (at < q.at)) }
     ensures bound { IfErr result (λ stop. stop.at ≤ length lines.now) }
-    ensures read { (start : BulkState) →
-        ReadTo start lines.now line.at (bulk_state_of line.lexer) at (block_state white) →
-        MatchResult result (λ q. ReadBy start lines.now q)
-        (λ stop. SkippedBy start lines.now stop) }
+    ensures read { LeavesBlock lines.now line at white result }
 {
     let rest = &lines[at..];
     let count = find_star_pair(rest);

@@ -11,6 +11,7 @@ mod lines;
 mod scan;
 mod searching;
 
+pub use bulk::hash_sign::is_other_word;
 pub use lines::{LineBuffer, Lines, LongLineBuffer, ShortLineBuffer, Taken};
 pub use scan::{Scanner, ScannerOf, first_mark, law_same_scans};
 pub use ud_faults::TextFault;

@@ -16,7 +16,7 @@ ghost use Rattle.ud_model.specs.text.Lines.{is_ending};
 ghost use Rattle.ud_text.specs.lines.Borrowing.{CanBorrow, IsFirstLine};
 ghost use Rattle.ud_text.specs.lines.LinesState.{LinesRepresent, UpToNewline, BreaksLimit};
 ghost use Rattle.ud_text.specs.lines.LinesState.{with_fault, HasCapacity, IsComplete, IsLastLine};
-ghost use Rattle.ud_text.specs.lines.LinesState.{IsLineOf};
+ghost use Rattle.ud_text.specs.lines.LinesState.{IsLineOf, Closes};
 ghost use Rattle.ud_model.specs.text.LineViews.{as_line};
 ghost use Rattle.ud_text.specs.lines.Consuming.{CanConsume};
 
@@ -371,10 +371,7 @@ impl<H: LineBuffer> Lines<H> {
     pub fn close(&mut self) -> Result<bool, TextFault>
         requires no_whole_line { self.old.whole ≡ false }
         requires not_closed { self.old.closed ≡ false }
-        ensures value { MatchResult result
-            (λ last. (self.old.fault ≡ None) × (self.new ≡ record self.old { closed = true })
-            × (IsTrue last ↔ (0 < length self.old.held)))
-            (λ f. (self.old.fault ≡ Some f) × (self.new ≡ self.old)) }
+        ensures value { Closes self.old self.new result }
         ensures represents { (text : List ℕ) → LinesRepresent self.old text →
             LinesRepresent self.new text }
     {
@@ -455,7 +452,7 @@ fn up_to_newline(chunk: &[u8]) -> Taken
 
 /// Returns the first line of `chunk` with its ending. `None` if `chunk` has no newline, or if the
 /// line has more than `LINE_BYTES`.
-pub(crate) fn first_line(chunk: &[u8]) -> Option<&[u8]>
+fn first_line(chunk: &[u8]) -> Option<&[u8]>
     ensures some { IfSome result (λ line. IsFirstLine chunk.now line.now) }
     ensures none { IfNone result ((used : ℕ) → UpToNewline chunk.now used true →
         LINE_BYTES < used) }
@@ -469,7 +466,7 @@ pub(crate) fn first_line(chunk: &[u8]) -> Option<&[u8]>
 }
 
 /// Splits a line into its body and its ending.
-pub(crate) fn split_ending(line: &[u8]) -> (&[u8], &[u8])
+fn split_ending(line: &[u8]) -> (&[u8], &[u8])
     ensures value { (number : ℕ) →
         IsLineOf result.0.now result.1.now number (line_at number line.now) }
     ensures ended { IsTrue (is_ending result.1.now) }

@@ -12,7 +12,7 @@ ghost use Rattle.ud_model.specs.aids.Parsing.{Frame, left};
 ghost use Rattle.ud_model.specs.text.Bytes.{skip_white};
 ghost use Rattle.ud_cond.specs.expressions.DefinedOperands.{Asked};
 ghost use Rattle.ud_cond.specs.expressions.TwoSlots.{pending_in_slots, pending_in};
-ghost use Rattle.ud_cond.specs.expressions.Evaluation.{value_meaning_in};
+ghost use Rattle.ud_cond.specs.expressions.Evaluation.{value_meaning_in, reduce_in};
 
 use crate::expressions::operators::precedence;
 use crate::expressions::tokens::{NextToken, Token, next_token, starts_with_byte};
@@ -66,12 +66,11 @@ impl PendingSlot {
     #[inline(always)]
     fn apply_pending(&mut self, scope: &Scope<'_>, least: u8, value: &mut Value) -> bool
         ensures yes { IsTrue result → (s : List (Frame Value)) →
-            (spec.reduce (value_meaning_in scope.now) least value.old (pending_in self.old s) ≡
-            spec.reduce (value_meaning_in scope.now) least value.new s) ×
-            (pending_in self.new s ≡ s) }
+            (reduce_in scope.now least value.old (pending_in self.old s)
+            ≡ reduce_in scope.now least value.new s) × (pending_in self.new s ≡ s) }
         ensures no { result ≡ false → (s : List (Frame Value)) →
-            spec.reduce (value_meaning_in scope.now) least value.old (pending_in self.old s) ≡
-            (value.new, pending_in self.new s) }
+            reduce_in scope.now least value.old (pending_in self.old s)
+            ≡ (value.new, pending_in self.new s) }
     {
         let Some(operator) = self.operator else {
             return true;
@@ -262,7 +261,8 @@ fn operand<'a>(scope: &Scope<'_>, text: &'a [u8], value: &mut Value) -> Option<&
     Some(rest)
 }
 
-/// Evaluates an expression if it is a sequence of operands with few pending operators.
+/// Evaluates an expression if it is a sequence of operands with few pending operators. No operand
+/// has a `u` or is an undefined symbol with arguments, so no value that is kept is one of these.
 #[inline(always)]
 pub(crate) fn evaluate_fast(scope: &Scope<'_>, text: &[u8]) -> Option<Value>
     ensures { IfSome result (λ v. Some v ≡
@@ -280,6 +280,9 @@ pub(crate) fn evaluate_fast(scope: &Scope<'_>, text: &[u8]) -> Option<Value>
     'operands: loop {
         let mut value = NO_VALUE;
         let after = operand(scope, rest, &mut value)?;
+        if value.unsigned || value.calls_undefined {
+            return None;
+        }
         match next_token(after) {
             NextToken::AtEnd => {
                 few.reduce(scope, 0, &mut value);

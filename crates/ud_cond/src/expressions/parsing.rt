@@ -13,7 +13,7 @@ ghost use Rattle.ud_cond.specs.expressions.DefinedOperands as asking;
 ghost use Rattle.ud_cond.specs.expressions.DefinedOperands.{ReadsDefined, ReadsDefinedInParens};
 ghost use Rattle.ud_cond.specs.CondViews.{as_token};
 ghost use Rattle.ud_cond.specs.expressions.Stacks.{Suffice, weight, parse_state, operand_weight};
-ghost use Rattle.ud_cond.specs.expressions.Evaluation.{value_meaning_in};
+ghost use Rattle.ud_cond.specs.expressions.Evaluation.{value_meaning_in, step_in, reads_in};
 
 use crate::expressions::operators::{is_prefix, precedence};
 use crate::expressions::stacks::Stacks;
@@ -125,12 +125,11 @@ fn read_operand<'a, const BYTES: usize, const OPERANDS: usize>(
     rest: &'a [u8],
 ) -> Option<(Option<Value>, &'a [u8])>
     requires { weight stacks.old + 1 ≤ BYTES }
-    ensures none { IfNone result (spec.reads (value_meaning_in scope.now)
-        (spec.step (value_meaning_in scope.now) (spec.needs stacks.old) (as_token token.entry))
-        rest.now ≡ None) }
-    ensures some { IfSome result (λ r. spec.reads (value_meaning_in scope.now)
-        (spec.step (value_meaning_in scope.now) (spec.needs stacks.old) (as_token token.entry))
-        rest.now ≡ spec.reads (value_meaning_in scope.now) (parse_state r.0 stacks.new) r.1.now) }
+    ensures none { IfNone result (reads_in scope.now
+        (step_in scope.now (spec.needs stacks.old) (as_token token.entry)) rest.now ≡ None) }
+    ensures some { IfSome result (λ r. reads_in scope.now
+        (step_in scope.now (spec.needs stacks.old) (as_token token.entry)) rest.now
+        ≡ reads_in scope.now (parse_state r.0 stacks.new) r.1.now) }
     ensures fits { IfSome result (λ r.
         (weight stacks.new + operand_weight r.0 ≤ weight stacks.old + 1) ×
         (length r.1.now ≤ length rest.now)) }

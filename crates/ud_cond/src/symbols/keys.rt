@@ -14,7 +14,10 @@ pub(crate) const KEY_BYTES: usize = 8;
 pub(crate) fn key_of(name: &[u8]) -> u64
     ensures { result ≡ spec.key_of name.now }
 {
-    key_in(&name[name.len().saturating_sub(KEY_BYTES)..])
+    if name.len() < KEY_BYTES {
+        return byte_by_byte(name);
+    }
+    key_in(&name[name.len() - KEY_BYTES..])
 }
 
 /// Returns the first bytes of a text as one number, in which the first byte counts most. Missing

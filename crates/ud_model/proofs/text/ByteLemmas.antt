@@ -1,10 +1,10 @@
 -- White space and words, by std's functions for tests and positions.
-use Rattle.std.proofs.Common.{◌≡◌, ◌∙◌, ◌≤◌, nat_lt, Some, None, unwrap_or, slice_get, arith, ℕ, ◌+◌, List, [], ◌∷◌, Bool, true, false, not, cond, length, take, drop, refl, ap, if◌then◌else◌}
+use Rattle.std.proofs.Common.{◌≡◌, ◌∙◌, ◌≤◌, ◌<◌, nat_lt, Some, None, unwrap_or, slice_get, arith, ℕ, ◌+◌, List, [], ◌∷◌, Bool, true, false, not, cond, length, take, drop, refl, ap, if◌then◌else◌}
 use Rattle.std.specs.List.{list_all, position, position_or_len}
 use Rattle.std.proofs.lemmas.List.Sums.{prefix_len-le-length}
 use Rattle.std.proofs.lemmas.Bool.Decides.{nat_tests}
 use Rattle.ud_model.specs.text.Bytes.{is_white, is_word_byte, are_white, are_word_bytes, is_digit, is_identifier, leading_word, skip_word, skip_white}
-use Rattle.std.proofs.Common.{◌&&◌, one-add}
+use Rattle.std.proofs.Common.{◌&&◌, one-add, get_or, sym}
 
 -- `all` with `is_white` tests each byte for white space.
 pub list_all-white : (bytes : List ℕ) → list_all (λ b. is_white b) bytes ≡ are_white bytes
@@ -40,6 +40,45 @@ take-front_len (b ∷ bs) = take_one (is_word_byte b) (front_len bs) b bs (leadi
 pub drop-front_len : (bytes : List ℕ) → drop (front_len bytes) bytes ≡ skip_word bytes
 drop-front_len [] = refl
 drop-front_len (b ∷ bs) = drop_one (is_word_byte b) (front_len bs) b bs (skip_word bs) (drop-front_len bs)
+
+front_one : (w : Bool) (b n : ℕ) (word : List ℕ) → n ≡ length word → cond (not (not w)) (1 + n) 0 ≡ length (if w then b ∷ word else [])
+front_one true b n word h = omega (arith, h)
+front_one false b n word h = refl
+
+-- The position of the first other byte is the length of the leading word.
+pub front_len-word : (bytes : List ℕ) → front_len bytes ≡ length (leading_word bytes)
+front_len-word [] = refl
+front_len-word (b ∷ bs) = front_one (is_word_byte b) b (front_len bs) (leading_word bs) (front_len-word bs)
+
+-- So many bytes are the leading word, and the others follow it.
+pub word_and_rest : (bytes : List ℕ) (n : ℕ) → length (leading_word bytes) ≡ n → (n ≤ length bytes) × (take n bytes ≡ leading_word bytes) × (drop n bytes ≡ skip_word bytes)
+word_and_rest bytes n e =
+    let k : front_len bytes ≡ n = front_len-word bytes ∙ e in
+    let bound : front_len bytes ≤ length bytes = prefix_len-le-length (λ b. not (not (is_word_byte b))) bytes in
+    (omega (arith, k, bound), ap (λ (m : ℕ). take m bytes) (sym k) ∙ take-front_len bytes, ap (λ (m : ℕ). drop m bytes) (sym k) ∙ drop-front_len bytes)
+
+-- `Continues count word more`: `count` is the length of `word`, or it is 4 and the leading word of
+-- `more` continues `word`.
+abbrev pub Continues : ℕ → List ℕ → List ℕ → Type 0
+Continues count word more = (count < 4 → length word ≡ count) × (4 ≤ count → length word ≡ 4 + length (leading_word more))
+
+of_four : (w x y z : Bool) (a b c d count : ℕ) (more : List ℕ) →
+    count ≡ length (if w then a ∷ (if x then b ∷ (if y then c ∷ (if z then d ∷ [] else []) else []) else []) else []) →
+    Continues count (if w then a ∷ (if x then b ∷ (if y then c ∷ (if z then d ∷ leading_word more else []) else []) else []) else []) more
+of_four false x y z a b c d count more e = (λ h. omega (arith, e), λ h. absurd (omega (arith, e, h)))
+of_four true false y z a b c d count more e = (λ h. omega (arith, e), λ h. absurd (omega (arith, e, h)))
+of_four true true false z a b c d count more e = (λ h. omega (arith, e), λ h. absurd (omega (arith, e, h)))
+of_four true true true false a b c d count more e = (λ h. omega (arith, e), λ h. absurd (omega (arith, e, h)))
+of_four true true true true a b c d count more e = (λ h. absurd (omega (arith, e, h)), λ h. omega arith)
+
+-- The leading word ends among the first four bytes, or continues after them.
+pub word_of_four : (bytes : List ℕ) (count : ℕ) → 4 ≤ length bytes →
+    count ≡ length (leading_word (get_or bytes 0 0 ∷ get_or bytes 1 0 ∷ get_or bytes 2 0 ∷ get_or bytes 3 0 ∷ [])) → Continues count (leading_word bytes) (drop 4 bytes)
+word_of_four [] count h e = absurd (omega (arith, h))
+word_of_four (a ∷ []) count h e = absurd (omega (arith, h))
+word_of_four (a ∷ b ∷ []) count h e = absurd (omega (arith, h))
+word_of_four (a ∷ b ∷ c ∷ []) count h e = absurd (omega (arith, h))
+word_of_four (a ∷ b ∷ c ∷ d ∷ more) count h e = of_four (is_word_byte a) (is_word_byte b) (is_word_byte c) (is_word_byte d) a b c d count more e
 
 -- The position of the first byte that passes, or the length if none does.
 pub unwrap_or-position : (p : ℕ → Bool) (bytes : List ℕ) → unwrap_or (position p bytes) (length bytes) ≡ position_or_len p bytes

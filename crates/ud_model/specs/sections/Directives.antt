@@ -6,6 +6,7 @@
 --                     continuation cuts it
 --   role_of kind      the role of a directive of this kind in its section
 --   test_of kind      the test that makes its condition true
+--   is_no_keyword a b no keyword begins with the bytes `a` and `b`
 --
 -- Example: `  # ifdef A` is an `#ifdef` whose keyword is at 4 and has 5 bytes, and ` A` follows it.
 use Rattle.std.specs.Prelude.{ℕ, ◌-◌, ◌==◌, List, [], ◌∷◌, length, Bool, true, false, not, ◌&&◌}
@@ -13,6 +14,7 @@ use Rattle.std.specs.Prelude.{◌||◌, if◌then◌else◌, Option, Some, None,
 use Rattle.std.specs.List.{list_any, starts_with}
 use Rattle.std.specs.Prelude.{nat_eq}
 use Rattle.ud_model.specs.text.Bytes.{skip_white, leading_word, skip_word, are_word_bytes}
+use Rattle.ud_model.specs.text.Bytes.{is_word_byte}
 use Rattle.ud_model.specs.text.Scans.{Scan}
 use Rattle.ud_model.specs.declared.kind.Kind.{Kind}
 use Rattle.ud_model.specs.declared.kind.Kind.TheVariants.{If, Ifdef, Ifndef, Elif, Elifdef}
@@ -85,6 +87,19 @@ kind_among (row ∷ rows) word = if bytes_eq word row.0 then Some row.1 else kin
 -- `kind_of word`: the kind of the keyword `word`, or None if it is no keyword.
 abbrev pub kind_of : List ℕ → Option Kind
 kind_of word = kind_among keywords word
+
+-- `may_begin keyword a b`: `keyword` begins with the byte `a`, and with `a` and `b` if `b` is in a
+-- word. One of fewer than two bytes may begin with any.
+abbrev pub may_begin : List ℕ → ℕ → ℕ → Bool
+may_begin [] a b = true
+may_begin (x ∷ []) a b = true
+may_begin (x ∷ y ∷ more) a b = (a == x) && (b == y || not (is_word_byte b))
+
+-- `is_no_keyword a b`: a word begins with the byte `a`, before `b`, and no keyword begins so. No
+-- keyword begins with `x`, nor with `ix`, but one does with `if`, and with `i` before a space.
+abbrev pub is_no_keyword : ℕ → ℕ → Bool
+is_no_keyword a b =
+    is_word_byte a && not (list_any (λ (row : List ℕ × Kind). may_begin row.0 a b) keywords)
 
 -- `skip_hash text`: the rest of `text` after the `#` that it begins with, or None.
 abbrev pub skip_hash : List ℕ → Option (List ℕ)

@@ -1,12 +1,16 @@
-//! The keywords of the directives that unifdef acts on (C11 6.10.1, C23 6.10).
+//! The keyword that a text begins with (C11 6.10.1, C23 6.10).
+//!
+//! The table of keywords is that of `ud_model::keywords`. `common_keyword` is a fast test for most
+//! of them, and is proved to agree with it.
 
 ghost use Rattle.std.specs.Prelude.{◌≡◌, [], IfSome, IfNone, None};
 ghost use Rattle.ud_model.specs.text.Bytes.{leading_word, skip_word};
-ghost use Rattle.ud_model.specs.sections.Directives.{kind_of, is_prefix_of_keyword};
+ghost use Rattle.ud_model.specs.sections.Directives.{kind_of};
 ghost use Rattle.ud_sections.specs.directives.Keywords.{IsLeadingKeyword};
 
 use ud_model::Kind;
 use ud_model::bytes::{is_word_byte, word_len};
+use ud_model::keywords::kind_of;
 
 /// A keyword that a text begins with.
 #[derive(Clone, Copy)]
@@ -16,18 +20,6 @@ pub(crate) struct Keyword {
     /// Its length in bytes.
     pub(crate) len: usize,
 }
-
-/// All keywords.
-const KEYWORDS: [&[u8]; 8] = [
-    b"if",
-    b"ifdef",
-    b"ifndef",
-    b"elif",
-    b"elifdef",
-    b"elifndef",
-    b"else",
-    b"endif",
-];
 
 /// Returns the keyword that `rest` begins with, if its first word is one.
 #[inline(always)]
@@ -70,30 +62,4 @@ fn whole_keyword(kind: Kind, len: usize, after: &[u8]) -> Option<Keyword>
         Some(byte) if is_word_byte(*byte) => None,
         _ => Some(Keyword { kind, len }),
     }
-}
-
-/// Returns the kind of directive of a keyword, or `None` if the word is no keyword. Each arm
-/// compares the length first, then the bytes from the first one on. So a word is compared with no
-/// keyword of another length.
-fn kind_of(word: &[u8]) -> Option<Kind>
-    ensures { result ≡ kind_of word.now }
-{
-    match word {
-        b"if" => Some(Kind::If),
-        b"ifdef" => Some(Kind::Ifdef),
-        b"ifndef" => Some(Kind::Ifndef),
-        b"elif" => Some(Kind::Elif),
-        b"elifdef" => Some(Kind::Elifdef),
-        b"elifndef" => Some(Kind::Elifndef),
-        b"else" => Some(Kind::Else),
-        b"endif" => Some(Kind::Endif),
-        _ => None,
-    }
-}
-
-/// Returns whether a word is a prefix of a keyword, or a whole one.
-pub(crate) fn is_prefix_of_keyword(word: &[u8]) -> bool
-    ensures { result ≡ is_prefix_of_keyword word.now }
-{
-    KEYWORDS.iter().any(|keyword| keyword.starts_with(word))
 }

@@ -10,10 +10,11 @@ ghost use Rattle.ud_model.specs.text.Scans.{Scan as LineScan};
 ghost use Rattle.ud_model.specs.text.LineViews.{as_scan};
 ghost use Rattle.ud_sections.specs.directives.ParsedDirectives.{content_found, directive_or_text};
 
-use crate::directives::keywords::{is_prefix_of_keyword, leading_keyword};
+use crate::directives::keywords::leading_keyword;
 use crate::directives::{Cut, Directive};
 use crate::sections::Span;
 use ud_model::bytes::{are_word_bytes, skip_white};
+use ud_model::keywords::is_prefix_of_keyword;
 use ud_model::{CommentAt, Scan};
 
 /// Parses the directive of a scanned line, or returns `None` if it is a text line.

@@ -1,7 +1,8 @@
 //! The trait of printers.
 //!
 //! A new printer implements `Show`: its definition as `piece`, what it represents as `represents`,
-//! and `pieces`. A `line_output` of its own lets callers print lines without passing them.
+//! and `pieces`. A `line_output` of its own lets callers print lines, one or many, without passing
+//! them.
 
 ghost use Rattle.std.specs.Prelude.{◌≡◌, List, [], ◌∷◌, ◌++◌, bytes_eq, ℕ};
 ghost use Rattle.std.specs.Borrow.{sem};
@@ -10,10 +11,9 @@ ghost use Rattle.ud_model.specs.text.Lines.{text_of};
 ghost use Rattle.ud_model.specs.answer.Printing.{Judged};
 ghost use Rattle.ud_model.specs.text.LineViews.{as_line};
 ghost use Rattle.ud_sections.specs.printing.PieceParts.{concatenated, is_unchanged};
-ghost use Rattle.ud_sections.specs.printing.PrinterOutputs.{GivesBulkOutput, GivesLineOutput};
+ghost use Rattle.ud_sections.specs.printing.PrinterOutputs.{GivesLineOutput};
 ghost use Rattle.ud_sections.specs.sections.StepViews.{judged_step, HoldsKeyword};
 
-use crate::printing::bulk_output::BulkOutput;
 use crate::printing::line_output::LineOutput;
 use crate::printing::pieces::Pieces;
 use crate::sections::Step;
@@ -46,25 +46,12 @@ pub trait Show: Drop {
             piece new before j ≡ piece self.entry.now before j))) };
 
     /// Returns what to print for the next line if it has this verdict. If the result is not
-    /// `Parts`, the line needn't be passed: the printer represents it too, unchanged.
+    /// `Parts`, the line needn't be passed: the printer represents it too, unchanged. So the result
+    /// is that of each further line with this verdict, however many come.
     fn line_output(&self, verdict: Verdict) -> LineOutput
         ensures line_output { GivesLineOutput (represents self.now) (piece self.now) verdict
             result }
     {
         LineOutput::Parts
-    }
-
-    /// Returns what to print for any number of next lines if all of them are text with this
-    /// verdict. If the result is not `OneByOne`, the lines needn't be passed: the printer
-    /// represents them too, unchanged.
-    fn bulk_output(&self, verdict: Verdict) -> BulkOutput
-        ensures bulk_output { GivesBulkOutput (represents self.now) (piece self.now) verdict
-            result }
-    {
-        match self.line_output(verdict) {
-            LineOutput::Whole => BulkOutput::Copied,
-            LineOutput::Nothing => BulkOutput::Dropped,
-            LineOutput::Ending | LineOutput::Parts => BulkOutput::OneByOne,
-        }
     }
 }

@@ -1,8 +1,7 @@
 //! The classification of a line: what decides it among the sections.
 
-ghost use Rattle.std.specs.Prelude.{◌≡◌, ◌≤◌, ◌+◌, List, length, IfOk, Some};
+ghost use Rattle.std.specs.Prelude.{◌≡◌, ◌≤◌, List, length};
 ghost use Rattle.ud_model.specs.text.Scans.{is_spanning};
-ghost use Rattle.ud_model.specs.sections.Directives.{content_of, skip_white_and_hash};
 ghost use Rattle.ud_model.specs.conditions.Conditions.{decision_on};
 ghost use Rattle.ud_model.specs.sections.Items.{rules_of};
 ghost use Rattle.ud_model.specs.conditions.Table.{Argument};
@@ -11,14 +10,14 @@ ghost use Rattle.ud_cond.specs.symbols.SymbolTable.{TableRepresents};
 ghost use Rattle.ud_cond.specs.CondViews.{as_decision, as_rules};
 ghost use Rattle.ud_model.specs.text.LineViews.{as_scan};
 ghost use Rattle.ud_sections.specs.directives.ParsedDirectives.{as_directive};
-ghost use Rattle.ud_sections.specs.sections.ClassifiedLines.{directive_kind, classified};
+ghost use Rattle.ud_sections.specs.sections.ClassifiedLines.{classified_with};
+ghost use Rattle.ud_sections.specs.sections.StepViews.{as_span};
 
-use crate::directives::parse_directive::directive_after_hash;
-use crate::directives::{Cut, Directive};
+use crate::directives::Directive;
 use crate::sections::line_kind::LineKind;
 use crate::sections::step::Span;
 use ud_cond::{Answer, Rules, Symbols, condition};
-use ud_model::{Cond, Role, Scan, Settings};
+use ud_model::{Cond, Scan, Settings};
 
 /// A classified line.
 #[derive(Clone, Copy)]
@@ -33,37 +32,17 @@ pub(crate) struct ClassifiedLine {
     pub joins_before: bool,
 }
 
-/// Classifies a line, with what the symbols decide of its condition. `after` follows the `#` of
-/// the line.
-///
-/// # Errors
-/// The keyword of its directive can't be known.
+/// Classifies a line of this kind, whose directive has its keyword there.
 #[inline(always)]
-pub(crate) fn classify<'a>(
-    scan: &Scan<'a>,
-    after: &'a [u8],
-    symbols: &Symbols,
-    settings: Settings,
-) -> Result<ClassifiedLine, Cut>
-    requires fits { length scan.now.masked.now ≤ LINE_BYTES }
-    requires after_hash { skip_white_and_hash scan.now.masked.now ≡ Some after.now }
-    ensures value { (calls : List Argument) → TableRepresents symbols.now calls →
-        result ≡ classified (as_scan scan.now) calls (rules_of settings)
-        (content_of (as_scan scan.now)) }
-    ensures keyword_within { IfOk result
-        (λ classified. classified.keyword.at + classified.keyword.len ≤ length
-        scan.now.masked.now) }
+pub(crate) fn classify(scan: &Scan<'_>, keyword: Span, kind: LineKind) -> ClassifiedLine
+    ensures { result ≡ classified_with (as_scan scan.now) (as_span keyword) kind }
 {
-    let (kind, keyword) = match directive_after_hash(scan, after)? {
-        Some(found) => (line_kind_of(scan, &found, symbols, settings), found.keyword),
-        None => (LineKind::Text, Span { at: 0, len: 0 }),
-    };
-    Ok(ClassifiedLine {
+    ClassifiedLine {
         kind,
         keyword,
         spans: joins_a_neighbor(scan),
         joins_before: scan.joins_before,
-    })
+    }
 }
 
 /// Returns whether the line joins a neighbour.
@@ -76,7 +55,7 @@ fn joins_a_neighbor(scan: &Scan<'_>) -> bool
 /// Returns what the symbols decide of a line's directive. A broken directive is undecided. One that
 /// joins the next line opens no section that is plain text.
 #[inline(always)]
-fn condition_on(
+pub(crate) fn condition_on(
     scan: &Scan<'_>,
     found: &Directive<'_>,
     symbols: &Symbols,
@@ -107,36 +86,5 @@ fn rules_of(settings: Settings) -> Rules
     Rules {
         constants: settings.constants,
         strict: settings.strict,
-    }
-}
-
-/// Returns the kind of a line's directive among the sections, with what the symbols decide of it.
-/// Only a condition is evaluated.
-#[inline(always)]
-fn line_kind_of(
-    scan: &Scan<'_>,
-    found: &Directive<'_>,
-    symbols: &Symbols,
-    settings: Settings,
-) -> LineKind
-    requires { length found.now.after.now ≤ LINE_BYTES }
-    ensures { (calls : List Argument) → TableRepresents symbols.now calls →
-        result ≡ directive_kind (as_scan scan.now) (as_directive found.now) calls
-        (rules_of settings) }
-{
-    match found.kind.role() {
-        Role::IfGroup => {
-            let answer = condition_on(scan, found, symbols, settings);
-            LineKind::If {
-                cond: answer.cond,
-                ignoring: answer.ignoring,
-            }
-        }
-        Role::ElifGroup => {
-            let answer = condition_on(scan, found, symbols, settings);
-            LineKind::Elif { cond: answer.cond }
-        }
-        Role::ElseGroup => LineKind::Else,
-        Role::EndifLine => LineKind::Endif,
     }
 }

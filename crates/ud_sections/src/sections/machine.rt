@@ -7,30 +7,36 @@
 //! lines and their tree.
 
 ghost use Rattle.std.specs.Prelude.{◌≡◌, ◌≤◌, ◌<◌, ◌+◌, [], List, length, IsTrue, IfOk, IfErr};
-ghost use Rattle.std.specs.Prelude.{OnOk, OnErr, None, Some};
+ghost use Rattle.std.specs.Prelude.{OnOk, OnErr, None, Some, Ok};
 ghost use Rattle.arrayvec.specs.ArrayVec.{array_vec_len};
 ghost use Rattle.ud_model.specs.text.Scans.{Reading};
 ghost use Rattle.ud_model.specs.sections.Tree.{Item, Tree, closed, nothing, depth};
-ghost use Rattle.ud_model.specs.sections.Directives.{skip_white_and_hash};
-ghost use Rattle.ud_model.specs.sections.Items.{Options, mode_after};
+ghost use Rattle.ud_model.specs.sections.Directives.{skip_white_and_hash, directive};
+ghost use Rattle.ud_model.specs.sections.Items.{Options, mode_after, rules_of};
+ghost use Rattle.ud_model.specs.conditions.Table.{Argument};
 ghost use Rattle.ud_model.specs.declared.limits.TheConstants.{LINE_BYTES, OPEN_SECTIONS};
 ghost use Rattle.ud_model.specs.text.LineViews.{as_line, as_scan};
+ghost use Rattle.ud_cond.specs.symbols.SymbolTable.{TableRepresents};
+ghost use Rattle.ud_sections.specs.directives.ParsedDirectives.{as_directive};
+ghost use Rattle.ud_sections.specs.sections.ClassifiedLines.{classified};
 ghost use Rattle.ud_sections.specs.sections.Limits.{IsWithinLimits};
 ghost use Rattle.ud_sections.specs.sections.StepViews.{HoldsKeyword};
 ghost use Rattle.ud_sections.specs.sections.StackOps.{applied, innermost_of};
 ghost use Rattle.ud_model.specs.sections.Pruning.{is_removed};
 ghost use Rattle.ud_sections.specs.sections.Checking.{opens_section};
 
-use crate::directives::parse_directive::after_hash;
+use crate::directives::Directive;
+use crate::directives::parse_directive::{after_hash, directive_after_hash};
 use crate::sections::check::{LineContext, check_line};
-use crate::sections::classify_line::classify;
+use crate::sections::classify_line::{ClassifiedLine, classify, condition_on};
+use crate::sections::line_kind::LineKind;
 use crate::sections::open_section::{Enclosing, OpenSection, StackOp};
 use crate::sections::step::{Span, Step};
 use crate::sections::text_policy::TextPolicy;
 use arrayvec::ArrayVec;
 use ud_cond::Symbols;
 use ud_faults::SectionFault;
-use ud_model::{Line, Mode, OPEN_SECTIONS, Scan, Settings, Verdict};
+use ud_model::{Line, Mode, OPEN_SECTIONS, Role, Scan, Settings, Verdict};
 
 /// The step of a line, and the line's change of the open sections.
 #[derive(Clone, Copy)]
@@ -61,8 +67,10 @@ impl Machine {
     ghost use Rattle.ud_sections.specs.sections.MachineState.{FindsFault, StepsOverText};
     ghost use Rattle.ud_sections.specs.sections.MachineState.{HasEndFault, end_fault_of};
     ghost use Rattle.ud_sections.specs.sections.MachineState.{machine_fault, machine_with_fault};
-    ghost use Rattle.ud_sections.specs.sections.Transitions.{IsTransition, text_verdict};
-    ghost use Rattle.ud_sections.specs.sections.Transitions.{text_policy_of};
+    ghost use Rattle.ud_sections.specs.sections.Transitions.{IsDirectiveTransition, IsTransition};
+    ghost use Rattle.ud_sections.specs.sections.Transitions.{text_verdict};
+    ghost use Rattle.ud_sections.specs.sections.Transitions.{text_policy_of, transition_of};
+    ghost use Rattle.ud_sections.specs.sections.Transitions.{context_of};
     ghost use Rattle.ud_sections.specs.sections.EndFaults.{end_in};
 
     /// Creates a machine that has read no line.
@@ -256,13 +264,75 @@ impl Machine {
         ensures has_space { IfOk result (λ next. IsTrue (opens_section next.change) →
             array_vec_len self.now.open_sections < OPEN_SECTIONS) }
     {
+        let Ok(content) = directive_after_hash(scan, after) else {
+            // The number of open sections shows that they fit, as the contract says.
+            let _depth = self.open_sections.len();
+            return Err(SectionFault::Obfuscated { line: number });
+        };
+        match content {
+            Some(found) => self.directive_transition(scan, &found, number, symbols),
+            None => {
+                let nowhere = Span { at: 0, len: 0 };
+                self.check(classify(scan, nowhere, LineKind::Text), number)
+            }
+        }
+    }
+
+    /// Returns the step of a line with this directive, and its change of the open sections. Only a
+    /// condition is evaluated.
+    ///
+    /// Each role has a check of its own, so that none asks for the kind of the line again.
+    #[inline(always)]
+    fn directive_transition(
+        &self,
+        scan: &Scan<'_>,
+        found: &Directive<'_>,
+        number: u32,
+        symbols: &Symbols,
+    ) -> Result<Transition, SectionFault>
+        requires short { length found.now.after.now ≤ LINE_BYTES }
+        ensures value { IsDirectiveTransition self.now (as_scan scan.now) (as_directive found.now)
+            symbols.now number result }
+        ensures keyword { IfOk result (λ next. next.step.keyword ≡ found.now.keyword) }
+        ensures fits { array_vec_len self.now.open_sections ≤ OPEN_SECTIONS }
+        ensures has_space { IfOk result (λ next. IsTrue (opens_section next.change) →
+            array_vec_len self.now.open_sections < OPEN_SECTIONS) }
+    {
+        match found.kind.role() {
+            Role::IfGroup => {
+                let answer = condition_on(scan, found, symbols, self.settings);
+                let kind = LineKind::If {
+                    cond: answer.cond,
+                    ignoring: answer.ignoring,
+                };
+                self.check(classify(scan, found.keyword, kind), number)
+            }
+            Role::ElifGroup => {
+                let answer = condition_on(scan, found, symbols, self.settings);
+                let kind = LineKind::Elif { cond: answer.cond };
+                self.check(classify(scan, found.keyword, kind), number)
+            }
+            Role::ElseGroup => self.check(classify(scan, found.keyword, LineKind::Else), number),
+            Role::EndifLine => self.check(classify(scan, found.keyword, LineKind::Endif), number),
+        }
+    }
+
+    /// Checks a classified line, and returns its step and its change of the open sections.
+    ///
+    /// # Errors
+    /// As `check_line`.
+    #[inline(always)]
+    fn check(&self, classified: ClassifiedLine, number: u32) -> Result<Transition, SectionFault>
+        ensures value { result ≡ transition_of (context_of self.now) number (Ok classified) }
+        ensures keyword { IfOk result (λ next. next.step.keyword ≡ classified.keyword) }
+        ensures fits { array_vec_len self.now.open_sections ≤ OPEN_SECTIONS }
+        ensures has_space { IfOk result (λ next. IsTrue (opens_section next.change) →
+            array_vec_len self.now.open_sections < OPEN_SECTIONS) }
+    {
         let before = LineContext {
             enclosing: self.enclosing(),
             depth: self.open_sections.len(),
             removed: self.removed,
-        };
-        let Ok(classified) = classify(scan, after, symbols, self.settings) else {
-            return Err(SectionFault::Obfuscated { line: number });
         };
         let action = check_line(before, classified, number)?;
         let step = Step {

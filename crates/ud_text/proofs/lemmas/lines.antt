@@ -3,4 +3,5 @@ pub mod NewlineLemmas
 pub mod LinesLemmas
 pub mod BorrowLemmas
 pub mod ConsumeLemmas
+pub mod CountLemmas
 pub mod NearNewlines

@@ -6,7 +6,6 @@
 --   next_bulk_state s b            the state after one more byte
 --   bulk_state_after s bytes       the state after these bytes
 --   is_other_word bytes            the first word, after white space, is no keyword
---   is_other_hash rest             there is no `#`, or such a word follows it
 --   HasNoStop s bytes              read from `s`, no splice counts and no `#` may belong to a
 --                                  directive
 --   NoNewlineInBlock s bytes       read from `s`, no newline is in a block comment
@@ -26,9 +25,9 @@
 -- Example: `x /* c` with its newline leads from `code_state true` without a stop to
 -- `block_state false`.
 use Rattle.std.specs.Prelude.{◌≡◌, ℕ, ◌==◌, List, [], ◌∷◌, Bool, true, false, not, ◌&&◌, ◌||◌}
-use Rattle.std.specs.Prelude.{if◌then◌else◌, Option, Some, None}
+use Rattle.std.specs.Prelude.{if◌then◌else◌}
 use Rattle.ud_model.specs.text.Bytes.{newline, carriage_return, backslash, number_sign, skip_white}
-use Rattle.ud_model.specs.text.Bytes.{is_word_byte}
+use Rattle.ud_model.specs.sections.Directives.{is_no_keyword}
 use Rattle.ud_model.specs.text.Scanning.{is_block}
 use Rattle.ud_model.specs.aids.LexStates.{LexState, in_text, at_slash, in_block, at_star, in_line}
 use Rattle.ud_model.specs.aids.LexStates.{in_literal, at_backslash, next_state, stays_white}
@@ -88,35 +87,6 @@ abbrev pub bulk_state_after : BulkState → List ℕ → BulkState
 bulk_state_after s [] = s
 bulk_state_after s (b ∷ bytes) = bulk_state_after (next_bulk_state s b) bytes
 
--- `letter_i`: `i`; each keyword begins with `if`, `el` or `en`
-abbrev pub letter_i : ℕ
-letter_i = 105
-
--- `letter_f`: `f`
-abbrev pub letter_f : ℕ
-letter_f = 102
-
--- `letter_e`: `e`
-abbrev pub letter_e : ℕ
-letter_e = 101
-
--- `letter_l`: `l`
-abbrev pub letter_l : ℕ
-letter_l = 108
-
--- `letter_n`: `n`
-abbrev pub letter_n : ℕ
-letter_n = 110
-
--- `is_no_keyword a b`: a word begins with `a`, and no keyword does, or with `a` and `b`. No keyword
--- begins with `x`, nor with `ix`, but one does with `if`.
-abbrev pub is_no_keyword : ℕ → ℕ → Bool
-is_no_keyword a b =
-    is_word_byte a
-    && (if a == letter_i then is_word_byte b && not (b == letter_f)
-    else if a == letter_e then is_word_byte b && not (b == letter_l) && not (b == letter_n)
-    else true)
-
 -- `starts_with_no_keyword bytes`: a word that is no keyword comes first
 abbrev pub starts_with_no_keyword : List ℕ → Bool
 starts_with_no_keyword [] = false
@@ -126,12 +96,6 @@ starts_with_no_keyword (a ∷ b ∷ bytes) = is_no_keyword a b
 -- `is_other_word bytes`: a word that is no keyword comes first, but for white space
 abbrev pub is_other_word : List ℕ → Bool
 is_other_word bytes = starts_with_no_keyword (skip_white bytes)
-
--- `is_other_hash rest`: there is no `#`, or a word that is no keyword follows it. `rest` follows
--- the `#`, if there is one.
-abbrev pub is_other_hash : Option (List ℕ) → Bool
-is_other_hash None = true
-is_other_hash (Some rest) = is_other_word rest
 
 -- `stops_bulk s b rest`: `b`, which `rest` follows, is a newline of a splice that counts, or a `#`
 -- that may belong to a directive

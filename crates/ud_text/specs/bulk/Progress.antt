@@ -20,7 +20,8 @@
 use Rattle.std.specs.Prelude.{◌≡◌, ◌≤◌, ℕ, ◌+◌, List, ◌++◌, length, take, Bool, Result, MatchResult}
 use Rattle.ud_model.specs.aids.LexStates.{in_text}
 use Rattle.ud_text.specs.bulk.BulkStates.{BulkState, bulk_state_after, HasNoStop, NoNewlineInBlock}
-use Rattle.ud_text.specs.bulk.BulkStates.{line_state, code_state, inside_state, Skipped}
+use Rattle.ud_text.specs.bulk.BulkStates.{line_state, code_state, block_state, inside_state}
+use Rattle.ud_text.specs.bulk.BulkStates.{Skipped}
 use Rattle.ud_text.specs.bulk.BulkLexemes.{NoComment}
 use Rattle.ud_text.specs.scan.LexerViews.{lex_state_of}
 use Rattle.ud_text.specs.declared.bulk.Progress.{Progress}
@@ -80,6 +81,14 @@ abbrev pub InBlock : BulkState → List ℕ → LineStart → ℕ → Bool → T
 InBlock start bytes line at white =
     (starred : Bool) × ReadTo start bytes line.at (bulk_state_of line.lexer) at
     (inside_state starred white)
+
+-- `LeavesBlock bytes line at white result`: from `at`, which lies in a block comment, a step reads
+-- on, or stops at the beginning of a line. `white`: the logical line is white before the comment.
+abbrev pub LeavesBlock : List ℕ → LineStart → ℕ → Bool → Result Progress LineStart → Type 0
+LeavesBlock bytes line at white result =
+    (start : BulkState) →
+    ReadTo start bytes line.at (bulk_state_of line.lexer) at (block_state white) →
+    MatchResult result (λ q. ReadBy start bytes q) (λ stop. SkippedBy start bytes stop)
 
 -- `Steps bytes p result`: a step from `p` reads on, or stops at the beginning of a line
 abbrev pub Steps : List ℕ → Progress → Result Progress LineStart → Type 0

@@ -8,10 +8,12 @@
 --   HasCapacity room lines left     `left` more bytes fit after the buffered ones
 --   IsComplete lines                a line can be read
 --   IsLastLine text line            the line is the last one of the text
+--   Closes old new result           the text has ended, and `result` is whether bytes are buffered
 --
 -- Example: after "a\nb" with the first line consumed, "b" is buffered and 1 line comes before it.
 use Rattle.std.specs.Prelude.{◌≡◌, ℕ, ◌+◌, ◌<◌, ◌≤◌, List, [], ◌∷◌, ◌++◌, length, take, Bool, true}
-use Rattle.std.specs.Prelude.{false, Option, Some, if◌then◌else◌, ◌⊎◌}
+use Rattle.std.specs.Prelude.{false, Option, Some, None, if◌then◌else◌, ◌⊎◌, ◌↔◌, IsTrue, Result}
+use Rattle.std.specs.Prelude.{MatchResult}
 use Rattle.ud_model.specs.text.Lines.{NoNewline, split_lines, Line, lines_of}
 use Rattle.ud_model.specs.declared.limits.TheConstants.{LINE_BYTES}
 use Rattle.ud_faults.specs.declared.text.TextFault.{TextFault}
@@ -78,3 +80,11 @@ IsLineOf body ending number line = record { body = body; ending = ending; number
 -- `IsLastLine text line`: the line is the last one of the text
 abbrev pub IsLastLine : List ℕ → Line → Type 0
 IsLastLine text line = (earlier : List Line) × (lines_of text ≡ earlier ++ line ∷ [])
+
+-- `Closes old new result`: the text has ended, and `result` is whether bytes are buffered: those of
+-- its last line. Or `result` is the error after which the lines are fused, and nothing changes.
+abbrev pub Closes : LinesState → LinesState → Result Bool TextFault → Type 0
+Closes old new result = MatchResult result
+    (λ last. (old.fault ≡ None) × (new ≡ record old { closed = true })
+    × (IsTrue last ↔ (0 < length old.held)))
+    (λ fault. (old.fault ≡ Some fault) × (new ≡ old))

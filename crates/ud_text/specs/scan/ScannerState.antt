@@ -5,6 +5,8 @@
 --                                         each in its mode and with its scan
 --   ends_in_block readings                a block comment is unclosed at the end of the last
 --                                         reading
+--   ReadsNext mode old line new           the state `new` represents one more reading than `old`
+--   IsNextScan mode old line scan         the scan is that of the next line
 --
 -- The scanner's clauses state all of `ScannerRepresents` that a reader needs. A new scanner
 -- represents no readings. A scanner that reads a line represents one more reading, and returns the
@@ -12,11 +14,13 @@
 --
 -- Example: a scanner has read the line `x /* c` in C mode. It carries that the text ends in a block
 -- comment, and that the line joins the next one.
-use Rattle.std.specs.Prelude.{◌≡◌, ℕ, List, [], ◌∷◌, Bool, true, false}
+use Rattle.std.specs.Prelude.{◌≡◌, ℕ, List, [], ◌∷◌, ◌++◌, Bool, true, false}
 use Rattle.ud_model.specs.text.Splicing.{spliced_text, c_run_of}
 use Rattle.ud_model.specs.text.Scans.{Reading}
 use Rattle.ud_model.specs.text.Scans.{Scan as LineScan}
-use Rattle.ud_model.specs.text.Scanning.{is_block, joins}
+use Rattle.ud_model.specs.text.Scanning.{is_block, joins, scan_after, next_reading}
+use Rattle.ud_model.specs.text.Lines.{Line}
+use Rattle.ud_model.specs.declared.kind.Mode.{Mode}
 use Rattle.ud_model.specs.aids.LexStates.{LexesTo, in_text, kind_in_state}
 use Rattle.ud_model.specs.aids.LexStates.{LexState as TextPlace}
 use Rattle.ud_model.specs.sections.Faults.{is_in_block}
@@ -68,3 +72,17 @@ scan_with masked facts = record {
   spliced = facts.spliced;
   comment = facts.comment;
 }
+
+-- `ReadsNext mode old line new`: if `old` represents some readings, `new` represents them and that
+-- of the line, read in this mode
+abbrev pub ReadsNext : Mode → ScanState → Line → ScanState → Type 0
+ReadsNext mode old line new =
+    (before : List Reading) → ScannerRepresents (scanner_state_of old) before →
+    ScannerRepresents (scanner_state_of new) (before ++ next_reading before mode line ∷ [])
+
+-- `IsNextScan mode old line scan`: after readings that `old` represents, the scan is that of the
+-- line, read in this mode
+abbrev pub IsNextScan : Mode → ScanState → Line → LineScan → Type 0
+IsNextScan mode old line scan =
+    (before : List Reading) → ScannerRepresents (scanner_state_of old) before →
+    scan ≡ scan_after before mode line

@@ -6,29 +6,16 @@
 ghost use Rattle.std.specs.Prelude.{◌≡◌, ◌≤◌, ◌<◌, ◌-◌, length, take, drop, slice_index, true};
 ghost use Rattle.std.specs.Prelude.{false, IfSome};
 ghost use Rattle.ud_model.specs.text.Bytes.{is_white, are_white};
-ghost use Rattle.ud_text.specs.bulk.BulkStates.{is_no_keyword, is_other_word};
+ghost use Rattle.ud_text.specs.bulk.BulkStates.{is_other_word};
 ghost use Rattle.ud_text.specs.bulk.BulkLexemes.{IsWhiteAfter, NoSignificant};
 
 use crate::searching::is_significant;
-use ud_model::bytes::{is_white, is_word_byte, skip_white};
+use ud_model::bytes::{is_white, skip_white};
+use ud_model::keywords::is_no_keyword;
 
-/// Returns whether these bytes show that a word begins that is no keyword. The first byte is
-/// enough, unless it is `i` or `e`, with which the keywords begin.
-fn is_no_keyword(first: u8, second: u8) -> bool
-    ensures { result ≡ is_no_keyword first second }
-{
-    if !is_word_byte(first) {
-        return false;
-    }
-    match first {
-        b'i' => is_word_byte(second) && second != b'f',
-        b'e' => is_word_byte(second) && second != b'l' && second != b'n',
-        _ => true,
-    }
-}
-
-/// Returns whether the first word is no keyword, as its first two bytes show.
-pub(crate) fn is_other_word(bytes: &[u8]) -> bool
+/// Returns whether the first word, after white space, is no keyword, as its first two bytes show.
+/// So a `#` before it belongs to no directive.
+pub fn is_other_word(bytes: &[u8]) -> bool
     ensures { result ≡ is_other_word bytes.now }
 {
     match skip_white(bytes) {

@@ -2,6 +2,7 @@
 
 ghost use Rattle.std.specs.Prelude.{◌≡◌, ◌≤◌, ◌<◌, ◌+◌, ℕ, length, take, drop, true};
 ghost use Rattle.std.specs.List.{count_by};
+ghost use lib.Lanes.{Each1, sum_l};
 ghost use Rattle.ud_model.specs.text.Lines.{whole_lines};
 ghost use Rattle.ud_text.specs.lines.LinesState.{UpToNewline};
 ghost use Rattle.ud_text.specs.bulk.BulkScanning.{AreWholeLines};
@@ -11,6 +12,27 @@ use crate::searching::last_line_start;
 use std::simd::Simd;
 use std::simd::prelude::*;
 use ud_model::LINE_BYTES;
+
+/// The number of bytes of a block.
+const BLOCK_BYTES: usize = 64;
+
+/// The number of blocks that are counted at once. Each adds at most 1 to a lane, which is a byte.
+const MOST_BLOCKS: usize = 255;
+
+/// Returns `counts` with 1 more in each lane whose byte, of the block from `at` on, is a newline.
+#[inline(always)]
+fn add_newlines(counts: u8x64, bytes: &[u8], at: usize) -> u8x64
+    requires fits { at + BLOCK_BYTES ≤ length bytes.now }
+    requires low { Each1 (λ n. n < 255) counts }
+    ensures sum { sum_l result ≡
+        sum_l counts + count_by is_newline (take BLOCK_BYTES (drop at bytes.now)) }
+    ensures low { (most : ℕ) → Each1 (λ n. n ≤ most) counts →
+        Each1 (λ n. n ≤ most + 1) result }
+{
+    let block = u8x64::from_slice(&bytes[at..]);
+    let found = block.simd_eq(u8x64::splat(b'\n'));
+    counts.strict_add(found.select(u8x64::splat(1), u8x64::splat(0)))
+}
 
 /// Returns how many of the `N` bytes from `at` on are newlines.
 #[inline(always)]
@@ -59,11 +81,44 @@ fn newlines_by_lanes<const N: usize>(bytes: &[u8]) -> NewlineCount
     NewlineCount { newlines, at }
 }
 
+/// Counts the newlines of the first blocks of `BLOCK_BYTES` bytes, at most `MOST_BLOCKS` of them.
+fn newlines_in_blocks(bytes: &[u8]) -> NewlineCount
+    ensures within { result.at ≤ length bytes.now }
+    ensures counted { result.newlines ≡ count_by is_newline (take result.at bytes.now) }
+    ensures some { BLOCK_BYTES ≤ length bytes.now → BLOCK_BYTES ≤ result.at }
+{
+    let blocks = (bytes.len() / BLOCK_BYTES).min(MOST_BLOCKS);
+    let mut counts = u8x64::splat(0);
+    for block in 0..blocks {
+        counts = add_newlines(counts, bytes, block * BLOCK_BYTES);
+    }
+    NewlineCount {
+        newlines: counts.cast::<u16>().strict_reduce_sum() as usize,
+        at: blocks * BLOCK_BYTES,
+    }
+}
+
+/// Counts the newlines by blocks of `BLOCK_BYTES` bytes. The last bytes, fewer than a block, are
+/// left out.
+fn newlines_by_blocks(bytes: &[u8]) -> NewlineCount
+    ensures within { result.at ≤ length bytes.now }
+    ensures counted { result.newlines ≡ count_by is_newline (take result.at bytes.now) }
+{
+    let mut newlines = 0;
+    let mut at = 0;
+    while bytes.len() - at >= BLOCK_BYTES {
+        let counted = newlines_in_blocks(&bytes[at..]);
+        newlines += counted.newlines;
+        at += counted.at;
+    }
+    NewlineCount { newlines, at }
+}
+
 /// Returns the number of whole lines.
 pub(crate) fn count_lines(bytes: &[u8]) -> usize
     ensures { result ≡ length (whole_lines bytes.now) }
 {
-    let counted = newlines_by_lanes::<64>(bytes);
+    let counted = newlines_by_blocks(bytes);
     let rest = &bytes[counted.at..];
     let middle = newlines_by_lanes::<16>(rest);
     let more = middle.newlines + newlines_one_by_one(&rest[middle.at..]);

@@ -9,10 +9,10 @@ ghost use Rattle.std.specs.Prelude.{replicate};
 ghost use Rattle.arrayvec.specs.ArrayVec.{array_vec_len};
 ghost use Rattle.ud_model.specs.text.Lines.{NoNewline};
 ghost use Rattle.ud_model.specs.text.Scanning.{is_block};
-ghost use Rattle.ud_model.specs.aids.LexStates.{LexesTo, Masks, next_state, opens_comment};
+ghost use Rattle.ud_model.specs.aids.LexStates.{next_state, opens_comment};
 ghost use Rattle.ud_model.specs.aids.LexStates.{masked_byte, stays_white, blank_last};
 ghost use Rattle.ud_model.specs.aids.LexStates.{kind_in_state, fresh_at};
-ghost use Rattle.ud_text.specs.scan.LexerViews.{lex_state_of, shown_in};
+ghost use Rattle.ud_text.specs.scan.LexerViews.{lex_state_of, shown_in, MasksMore, MasksContent};
 
 use crate::scan::marks::first_mark;
 use arrayvec::ArrayVec;
@@ -154,9 +154,7 @@ fn blank_last<const ROOM: usize>(masked: &mut ArrayVec<u8, ROOM>)
 /// Reads one more byte, and appends it as it is shown.
 fn mask_byte<const ROOM: usize>(lexer: Lexer, byte: u8, masked: &mut ArrayVec<u8, ROOM>) -> Lexer
     requires { array_vec_len masked.old < ROOM }
-    ensures masks { (n : ℕ) → (text : List ℕ) →
-        Masks n text (lex_state_of lexer.state) lexer.white masked.old.items →
-        Masks n (text ++ byte ∷ []) (lex_state_of result.state) result.white masked.new.items }
+    ensures masks { MasksMore lexer masked.old.items (byte ∷ []) result masked.new.items }
     ensures len { array_vec_len masked.new ≡ array_vec_len masked.old + 1 }
 {
     if opens_comment(lexer.state, byte) {
@@ -197,9 +195,7 @@ fn mask_uniform<const ROOM: usize>(
 ) -> (Lexer, usize)
     requires fits { array_vec_len masked.old + length rest.now ≤ ROOM }
     requires one_line { NoNewline rest.now }
-    ensures masks { (n : ℕ) → (text : List ℕ) →
-        Masks n text (lex_state_of lexer.state) lexer.white masked.old.items →
-        Masks n (text ++ take result.1 rest.now) (lex_state_of result.0.state) result.0.white
+    ensures masks { MasksMore lexer masked.old.items (take result.1 rest.now) result.0
         masked.new.items }
     ensures bound { result.1 ≤ length rest.now }
     ensures len { array_vec_len masked.new ≡ array_vec_len masked.old + result.1 }
@@ -242,9 +238,7 @@ fn mask_content<const ROOM: usize>(
     requires fits { length content.now ≤ ROOM }
     requires one_line { NoNewline content.now }
     ensures len { length masked.new.items ≡ length content.now }
-    ensures masks { (text : List ℕ) → LexesTo text (lex_state_of lexer.state) lexer.white →
-        Masks (length text) (text ++ content.now) (lex_state_of result.state) result.white
-        masked.new.items }
+    ensures masks { MasksContent lexer content.now result masked.new.items }
 {
     let mut inside = lexer;
     let mut at = 0;
@@ -273,8 +267,7 @@ pub(crate) fn mask_or_borrow<'a, const ROOM: usize>(
     requires fits { length content.now ≤ ROOM }
     requires one_line { NoNewline content.now }
     ensures len { length (shown_in result.1 masked.new.items) ≡ length content.now }
-    ensures masks { (text : List ℕ) → LexesTo text (lex_state_of lexer.state) lexer.white →
-        Masks (length text) (text ++ content.now) (lex_state_of result.0.state) result.0.white
+    ensures masks { MasksContent lexer content.now result.0
         (shown_in result.1 masked.new.items) }
 {
     if let LexState::Text = lexer.state {

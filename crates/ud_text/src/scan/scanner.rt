@@ -22,6 +22,7 @@ ghost use Rattle.ud_text.specs.scan.LexerViews.{lex_state_of, shown_in};
 ghost use Rattle.ud_text.specs.scan.ScannerState.{ScannerState, ScannerRepresents};
 ghost use Rattle.ud_text.specs.scan.ScannerState.{scanner_state_of, initial_scanner_state};
 ghost use Rattle.ud_text.specs.scan.ScannerState.{scan_with, ends_in_block};
+ghost use Rattle.ud_text.specs.scan.ScannerState.{ReadsNext, IsNextScan};
 ghost use Rattle.ud_text.specs.scan.ScanBorrows.{ScansLine};
 ghost use Rattle.ud_text.specs.bulk.BulkScanning.{AreWholeLines, SkipsText};
 ghost use Rattle.ud_text.specs.bulk.BulkStates.{can_start, continues_line};
@@ -158,14 +159,9 @@ fn scan_code<'a, const ROOM: usize>(
     requires empty { masked.old.items ≡ [] }
     requires fits { length line.now.body.now ≤ ROOM }
     requires one_line { NoNewline line.now.body.now }
-    ensures represents { (before : List Reading) →
-        ScannerRepresents (scanner_state_of scan_state) before →
-        ScannerRepresents (scanner_state_of result.scan_state) (before ++
-        next_reading before Mode.C (as_line line.now) ∷ []) }
-    ensures value { (before : List Reading) →
-        ScannerRepresents (scanner_state_of scan_state) before →
-        scan_with (shown_in result.borrowed masked.new.items) result.flags ≡
-        scan_after before Mode.C (as_line line.now) }
+    ensures represents { ReadsNext Mode.C scan_state (as_line line.now) result.scan_state }
+    ensures value { IsNextScan Mode.C scan_state (as_line line.now)
+        (scan_with (shown_in result.borrowed masked.new.items) result.flags) }
     ensures fits { length (shown_in result.borrowed masked.new.items) ≤ length line.now.body.now }
 {
     let spliced = is_spliced(line);
@@ -207,14 +203,11 @@ fn has_no_mark(body: &[u8]) -> bool
 #[inline(always)]
 fn scan_without_marks<'a>(scan_state: ScanState, line: &Line<'a>) -> Option<ScannedLine<'a>>
     requires one_line { NoNewline line.now.body.now }
-    ensures represents { IfSome result (λ scanned. (before : List Reading) →
-        ScannerRepresents (scanner_state_of scan_state) before →
-        ScannerRepresents (scanner_state_of scanned.scan_state) (before ++
-        next_reading before Mode.C (as_line line.now) ∷ [])) }
-    ensures value { IfSome result (λ scanned. (masked : List ℕ) → (before : List Reading) →
-        ScannerRepresents (scanner_state_of scan_state) before →
-        scan_with (shown_in scanned.borrowed masked) scanned.flags ≡
-        scan_after before Mode.C (as_line line.now)) }
+    ensures represents { IfSome result (λ scanned.
+        ReadsNext Mode.C scan_state (as_line line.now) scanned.scan_state) }
+    ensures value { IfSome result (λ scanned. (masked : List ℕ) →
+        IsNextScan Mode.C scan_state (as_line line.now)
+        (scan_with (shown_in scanned.borrowed masked) scanned.flags)) }
     ensures fits { IfSome result (λ scanned. (masked : List ℕ) →
         length (shown_in scanned.borrowed masked) ≤ length line.now.body.now) }
 {
@@ -277,14 +270,9 @@ fn scan_line<'a, const ROOM: usize>(
 ) -> ScannedLine<'a>
     requires fits { length line.now.body.now ≤ ROOM }
     requires one_line { NoNewline line.now.body.now }
-    ensures represents { (before : List Reading) →
-        ScannerRepresents (scanner_state_of scan_state) before →
-        ScannerRepresents (scanner_state_of result.scan_state) (before ++
-        next_reading before mode (as_line line.now) ∷ []) }
-    ensures value { (before : List Reading) →
-        ScannerRepresents (scanner_state_of scan_state) before →
-        scan_with (shown_in result.borrowed masked.new.items) result.flags ≡
-        scan_after before mode (as_line line.now) }
+    ensures represents { ReadsNext mode scan_state (as_line line.now) result.scan_state }
+    ensures value { IsNextScan mode scan_state (as_line line.now)
+        (scan_with (shown_in result.borrowed masked.new.items) result.flags) }
     ensures fits { length (shown_in result.borrowed masked.new.items) ≤ length line.now.body.now }
 {
     match mode {
@@ -474,7 +462,7 @@ impl<const N: usize> ScannerOf<N> {
 /// States that the carried state decides the scan of the next line. If the state represents two
 /// lists of readings, each line has the same scan after both.
 pub fn law_same_scans()
-    ensures { (scan_state : ScannerState) → (before : List Reading) → (others : List Reading) →
-        (m : Mode) → (l : TextLine) → ScannerRepresents scan_state before →
-        ScannerRepresents scan_state others → scan_after before m l ≡ scan_after others m l }
+    ensures { (s : ScannerState) (before others : List Reading) (m : Mode) (l : TextLine) →
+        ScannerRepresents s before → ScannerRepresents s others →
+        scan_after before m l ≡ scan_after others m l }
 {}

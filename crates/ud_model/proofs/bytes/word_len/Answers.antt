@@ -1,19 +1,42 @@
-use Rattle.std.proofs.Common.{rules, tests, ◌≡◌, ◌∙◌, not, length, unwrap_or, ap}
-use Rattle.std.proofs.lemmas.Iterator.{YieldsList-from_slice}
-use Rattle.std.proofs.lemmas.Iterator.Search.{position_from_yields_List}
-use Rattle.ud_model.specs.text.Bytes.{is_word_byte}
-use Rattle.ud_model.proofs.text.ByteLemmas.{front_len, unwrap_or-position, take-front_len, drop-front_len}
+-- The leading word ends among four bytes, or among the last ones.
+use Rattle.std.proofs.Common.{◌≡◌, ◌∙◌, ◌+◌, ◌-◌, length, drop, ap, sym, arith, take_all}
+use Rattle.std.proofs.lemmas.List.{length-drop}
+use Rattle.ud_model.specs.text.Bytes.{leading_word}
+use Rattle.ud_model.proofs.text.ByteLemmas.{word_and_rest, word_of_four}
+use Rattle.ud_model.proofs.bytes.word_len.Goals.{Then-count-lt4, After-word_len_one_by_one}
 use Rattle.ud_model.proofs.bytes.word_len.Goals as goal
-use Rattle.ud_model.proofs.bytes.word_len.Goals.{After-unwrap_or}
 
--- The result is the length of the leading word.
-len : (c : After-unwrap_or) → c.unwrap_or.result ≡ front_len c.args.bytes.now
-len c =
-    let at = position_from_yields_List (λ b. not (is_word_byte b)) _ _ c.position.result c.position.ensures.ran (YieldsList-from_slice c.args.bytes.now cc) (λ x b q k. search (rules, tests)) in
-    c.unwrap_or.ensures ∙ ap (λ p. unwrap_or p (length c.args.bytes.now)) at ∙ unwrap_or-position (λ b. not (is_word_byte b)) c.args.bytes.now
+ended : (c : Then-count-lt4) → length (leading_word c.args.bytes.now) ≡ c.fours.at + c.word_len_of_four-count.result
+ended c =
+    let four = word_of_four c.fours.rest.now c.word_len_of_four-count.result c.in-len4-up.len_at_least c.word_len_of_four-count.ensures in
+    c.fours.invariant.0 ∙ ap (λ n. c.fours.at + n) (four.0 c.if-count-lt4.true)
+
+pub returns-then-count-lt4-clause-word : goal.returns-then-count-lt4-clause-word
+returns-then-count-lt4-clause-word c = (word_and_rest c.args.bytes.now _ (ended c)).1
+
+pub returns-then-count-lt4-clause-rest : goal.returns-then-count-lt4-clause-rest
+returns-then-count-lt4-clause-rest c = (word_and_rest c.args.bytes.now _ (ended c)).2
+
+pub fours-preserved : goal.fours-preserved
+fours-preserved c =
+    let four = word_of_four c.fours.rest.now c.word_len_of_four-count.result c.in-len4-up.len_at_least c.word_len_of_four-count.ensures in
+    let after = take_all (length c.fours.rest.now - 4) (drop 4 c.fours.rest.now) (omega (arith, length-drop 4 c.fours.rest.now)) in
+    let more = four.1 c.if-count-lt4.false in
+    rw after (omega (arith, c.fours.invariant.0, more), omega (arith, c.fours.invariant.1, length-drop 4 c.fours.rest.now, c.in-len4-up.len_at_least))
+
+total : (c : After-word_len_one_by_one) → length (leading_word c.args.bytes.now) ≡ c.fours.at + c.word_len_one_by_one.result
+total c = c.fours.invariant.0 ∙ ap (λ n. c.fours.at + n) (sym c.word_len_one_by_one.ensures)
+
+pub overflow_add-result-2 : goal.overflow_add-result-2
+overflow_add-result-2 c =
+    let within = (word_and_rest c.args.bytes.now _ (total c)).0 in
+    omega (arith, within)
+
+pub returns-clause-bound : goal.returns-clause-bound
+returns-clause-bound c = (word_and_rest c.args.bytes.now _ (total c)).0
 
 pub returns-clause-word : goal.returns-clause-word
-returns-clause-word c = rw (len c) (take-front_len c.args.bytes.now)
+returns-clause-word c = (word_and_rest c.args.bytes.now _ (total c)).1
 
 pub returns-clause-rest : goal.returns-clause-rest
-returns-clause-rest c = rw (len c) (drop-front_len c.args.bytes.now)
+returns-clause-rest c = (word_and_rest c.args.bytes.now _ (total c)).2

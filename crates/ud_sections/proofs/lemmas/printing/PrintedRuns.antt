@@ -2,16 +2,23 @@
 -- one.
 use Rattle.std.proofs.Common.{◌≡◌, ◌∙◌, ℕ, List, [], ◌∷◌, ◌++◌, Bool, true, false, if◌then◌else◌, map, refl, sym, ap, ap₂, subst, append_assoc, append-nil}
 use Rattle.ud_model.specs.text.Lines.{Line, text_of}
-use Rattle.ud_model.specs.answer.Printing.{Judged, last_removed, piece_by, piece_after, complement_verdict, complemented}
+use Rattle.ud_model.specs.answer.Printing.{Judged, last_removed, piece_by, piece_after, pieces_by, complement_verdict, complemented}
 use Rattle.ud_model.specs.sections.Pruning.{is_removed}
 use Rattle.ud_model.specs.declared.verdict.Verdict.{Verdict}
 use Rattle.ud_model.specs.declared.verdict.Verdict.TheVariants.{Keep, Remove}
 use Rattle.ud_model.proofs.answer.PrintingLemmas.{last_removed-more}
 use Rattle.ud_sections.specs.printing.Styles.{renumber_style}
-use Rattle.ud_sections.specs.printing.PrinterOutputs.{judged_text, PrintsEach, PrintsOne, GivesLineOutput}
+use Rattle.ud_sections.specs.printing.PrinterOutputs.{judged_text, PrintsOne, GivesLineOutput}
 use Rattle.ud_sections.specs.declared.printing.line_output.LineOutput.{LineOutput}
 use Rattle.ud_sections.specs.declared.printing.line_output.LineOutput.TheVariants.{Whole, Nothing, Ending, Parts}
 use Rattle.ud_sections.proofs.lemmas.printing.RenumberLemmas.{removed_piece, following_piece}
+
+-- `own l` is printed for each text line `l` with this verdict, however many come after lines that the
+-- printer got. The unchanged printer represents them too.
+abbrev pub PrintsEach : (List Judged → Type 0) → (List Judged → Judged → List ℕ) → Verdict → (Line → List ℕ) → Type 0
+PrintsEach given piece verdict own =
+    (before : List Judged) → (ls : List Line) → given before →
+    (pieces_by piece before (map (judged_text verdict) ls) ≡ map own ls) × given (before ++ map (judged_text verdict) ls)
 
 module _ (given : List Judged → Type 0) (piece : List Judged → Judged → List ℕ) (verdict : Verdict) (own : Line → List ℕ) (one : PrintsOne given piece verdict own) where
   -- what is printed for one line after any lines is printed for each of many

@@ -1,25 +1,27 @@
--- Lines without a `#`, read in plain mode.
-use Rattle.std.proofs.Common.{◌≡◌, ℕ, zero, suc, ◌-◌, ◌<◌, ◌≤◌, ◌+◌, ◌==◌, Bool, true, false, if◌then◌else◌, List, [], ◌∷◌, ◌++◌, length, take, drop, Option, Some, None, refl, sym, ◌∙◌, ap, subst, append-nil, arith}
+-- Lines in which no `#` begins a directive, read in plain mode.
+use Rattle.std.proofs.Common.{◌≡◌, ℕ, zero, suc, ◌<◌, ◌≤◌, ◌+◌, ◌==◌, Bool, true, false, not, ◌&&◌, ◌||◌, if◌then◌else◌, List, [], ◌∷◌, ◌++◌, length, take, drop, get_or, Some, None, refl, sym, ◌∙◌, ap, subst, append_assoc, ne_eqb, arith}
 use Rattle.std.specs.List.{concat}
-use Rattle.std.proofs.lemmas.List.{take-take}
+use Rattle.std.proofs.lemmas.Bool.{eqb-true}
+use Rattle.std.proofs.lemmas.List.{take-take, take-append-drop}
+use Rattle.std.proofs.Math.Seq.{take-add, drop-cons}
 use Rattle.memchr.specs.Find.{Nowhere, Passes, is_byte}
-use Rattle.ud_model.specs.text.Bytes.{is_white, skip_white}
-use Rattle.ud_model.specs.text.Lines.{Line, line_at, numbered_from, whole_lines, ending_of, IsWhole, SplitLines, split_lines}
-use Rattle.ud_model.proofs.text.LinesLemmas.{split_lines-line-prefix}
-use Rattle.std.proofs.Math.Seq.{take-add}
+use Rattle.ud_model.specs.text.Bytes.{is_white, are_white, is_word_byte, skip_white, leading_word, newline, number_sign}
+use Rattle.ud_model.specs.text.Lines.{NoNewline, IsWhole, line_at, numbered_from, whole_lines, ending_of}
+use Rattle.ud_model.proofs.text.LinesLemmas.{AreWhole, body-ending, are_whole}
 use Rattle.ud_model.specs.text.Scans.{Reading, plain_scan}
 use Rattle.ud_model.specs.text.Scanning.{next_reading, readings_after}
-use Rattle.ud_model.specs.sections.Directives.{cut_keyword, text, content_of, skip_white_and_hash, skip_hash, has_split_keyword, content_after_hash}
+use Rattle.ud_model.specs.sections.Directives.{skip_white_and_hash, skip_hash, kind_of}
 use Rattle.ud_model.specs.declared.kind.Mode.TheVariants.{Plain}
 use Rattle.ud_text.specs.scan.ScannerState.{ScannerState, ScannerRepresents, initial_scanner_state}
 use Rattle.ud_text.specs.bulk.BulkScanning.{AreWholeLines, ArePlainText, HaveNoDirective, SkipsText, lines_in_mode}
-use Rattle.ud_text.specs.bulk.BulkStates.{is_other_hash}
-use Rattle.ud_text.specs.bulk.BulkLexemes.{NoHash, LastLineStarts}
+use Rattle.ud_text.specs.bulk.BulkStates.{is_other_word, starts_with_no_keyword}
+use Rattle.ud_text.specs.bulk.BulkLexemes.{NoHash, NoSignificant, LastLineStarts, IsLineStart, at_start, after_newline, IsWhiteAfter, all_white, new_line, black}
+use Rattle.ud_text.specs.bulk.PlainText.{is_white_past, is_white_past_all, NoneBeginsDirective}
 use Rattle.ud_text.proofs.lemmas.scan.ScannerLemmas.{represents_plain}
-use Rattle.ud_text.proofs.lemmas.bulk.BulkPlainLemmas.{begins_ends}
-use Rattle.ud_text.proofs.lemmas.bulk.QuietLineLemmas.{ended_lines, texts_append}
-use Rattle.ud_text.proofs.lemmas.bulk.TextLemmas.{Unsigned, no_sign, other_sign, text_unsigned, other_first}
-use Rattle.ud_text.proofs.lemmas.lines.ConsumeLemmas.{lines_joined, ends_joined}
+use Rattle.ud_text.proofs.lemmas.bulk.BulkPlainLemmas.{begins_ends, not_special}
+use Rattle.ud_text.proofs.lemmas.bulk.QuietLemmas.{other-append, other-feed}
+use Rattle.ud_text.proofs.lemmas.bulk.QuietLineLemmas.{ended_lines, IsFeed, one, two, whole_ending, body_one_line, feed_length}
+use Rattle.ud_text.proofs.lemmas.bulk.TextLemmas.{Unsigned, no_sign, other_sign, text_unsigned, IsOther, NoWord, other_word, other_sure, word_front, word_is_plain, white_other, is_no_keyword-first}
 
 -- bytes have no `#`, if a search finds none among them
 pub no_hash_front : (s : List ℕ) (n : ℕ) → Nowhere (Passes (is_byte 35) s) 0 n → NoHash (take n s)
@@ -34,90 +36,209 @@ no_hash_front (b ∷ bs) (suc n) none = (
     by_test true e = absurd (none 0 (omega arith) (omega arith) e)
     by_test false e = e
 
--- a prefix of bytes without a `#` has none
-pub no_hash_take : (n : ℕ) (s : List ℕ) → NoHash s → NoHash (take n s)
-no_hash_take zero s h = tt
-no_hash_take (suc n) [] h = tt
-no_hash_take (suc n) (b ∷ bs) h = (h.0, no_hash_take n bs h.1)
+-- none of the bytes without a `#` begins a directive
+pub hashless_none : (white : Bool) (bytes : List ℕ) → NoHash bytes → NoneBeginsDirective white bytes
+hashless_none white [] h = tt
+hashless_none white (b ∷ bytes) h = (ap (λ (t : Bool). t && (white && not (is_other_word bytes))) h.0, hashless_none (is_white_past white b) bytes h.1)
 
-no_hash_first : (s t : List ℕ) → NoHash (s ++ t) → NoHash s
-no_hash_first [] t h = tt
-no_hash_first (b ∷ s) t h = (h.0, no_hash_first s t h.1)
+insignificant_none : (white : Bool) (bytes : List ℕ) → NoSignificant bytes → NoneBeginsDirective white bytes
+insignificant_none white [] h = tt
+insignificant_none white (b ∷ bytes) h =
+    (ap (λ (t : Bool). t && (white && not (is_other_word bytes))) (not_special b h.0).3, insignificant_none (is_white_past white b) bytes h.1)
 
-no_hash_rest : (s t : List ℕ) → NoHash (s ++ t) → NoHash t
-no_hash_rest [] t h = h
-no_hash_rest (b ∷ s) t h = no_hash_rest s t h.1
+-- whether a byte begins a directive, when more bytes follow
+begins_more : (s w o p : Bool) → (o ≡ true → p ≡ true) → (s && (w && not o)) ≡ false → (s && (w && not p)) ≡ false
+begins_more false w o p f e = refl
+begins_more true false o p f e = refl
+begins_more true true true p f e = ap not (f refl)
+begins_more true true false p f e = cc
 
--- no `#` comes first but for white space
-no_past_sign : (s : List ℕ) → NoHash s → skip_white_and_hash s ≡ None
-no_past_sign [] h = refl
-no_past_sign (b ∷ bs) h = by_white (is_white b) (no_past_sign bs h.1)
+-- two runs, none of whose bytes begins a directive, one after the other
+pub none-append : (white : Bool) (p q : List ℕ) → NoneBeginsDirective white p → NoneBeginsDirective (is_white_past_all white p) q → NoneBeginsDirective white (p ++ q)
+none-append white [] q h k = k
+none-append white (b ∷ p) q h k =
+    (begins_more (b == number_sign) white (is_other_word p) (is_other_word (p ++ q)) (other-append p q) h.0, none-append (is_white_past white b) p q h.1 k)
+
+-- a run is cut at a newline: nothing after it counts before it, and a line begins after it
+none-feed : (white : Bool) (p q : List ℕ) → NoneBeginsDirective white (p ++ newline ∷ q) → NoneBeginsDirective white (p ++ newline ∷ []) × NoneBeginsDirective true q
+none-feed white [] q h = ((refl, tt), h.1)
+none-feed white (b ∷ p) q h =
+    let more : NoneBeginsDirective (is_white_past white b) (p ++ newline ∷ []) × NoneBeginsDirective true q = none-feed (is_white_past white b) p q h.1 in
+    ((ap (λ (o : Bool). (b == number_sign) && (white && not o)) (sym (other-feed p q)) ∙ h.0, more.0), more.1)
+
+past_append : (white : Bool) (p q : List ℕ) → is_white_past_all white (p ++ q) ≡ is_white_past_all (is_white_past_all white p) q
+past_append white [] q = refl
+past_append white (b ∷ p) q = past_append (is_white_past white b) p q
+
+white_no_feed : (b : ℕ) → is_white b ≡ true → (b == newline) ≡ false
+white_no_feed b w = by_test (b == newline) refl
   where
-    by_white : (w : Bool) → skip_white_and_hash bs ≡ None → skip_hash (if w then skip_white bs else b ∷ bs) ≡ None
-    by_white true e = e
-    by_white false e = ap (λ (t : Bool). if t then Some bs else None) h.0
+    by_test : (t : Bool) → (b == newline) ≡ t → t ≡ false
+    by_test false e = refl
+    by_test true e = let h : is_white newline ≡ true = subst (λ (n : ℕ). is_white n ≡ true) (eqb-true b newline e) w in cc
 
--- a line without a `#` is text in plain mode
-plain_text : (l : Line) → NoHash l.body → content_of (plain_scan l) ≡ text
-plain_text l h =
-    ap (λ (r : Option (List ℕ)). if has_split_keyword (plain_scan l) r then cut_keyword else content_after_hash (plain_scan l) r) (no_past_sign l.body h)
+and_both : (a b : Bool) → (a && b) ≡ true → (a ≡ true) × (b ≡ true)
+and_both true true e = (refl, refl)
+and_both true false e = cc
+and_both false b e = cc
 
--- all lines without a `#` are text in plain mode
-pub hashless_text : (ls : List (List ℕ)) (n : ℕ) (before : List Reading) → NoHash (concat ls) → HaveNoDirective Plain before (numbered_from n ls)
-hashless_text [] n before h = tt
-hashless_text (l ∷ ls) n before h = (
-  plain_text (line_at n l) (no_hash_take (length l - length (ending_of l)) l (no_hash_first l (concat ls) h)),
-  hashless_text ls (suc n) (before ++ next_reading before Plain (line_at n l) ∷ []) (no_hash_rest l (concat ls) h),
-)
+-- a line that isn't white stays so over white space
+black_stays : (bytes : List ℕ) → are_white bytes ≡ true → is_white_past_all false bytes ≡ false
+black_stays [] w = refl
+black_stays (b ∷ bytes) w =
+    let parts : (is_white b ≡ true) × (are_white bytes ≡ true) = and_both (is_white b) (are_white bytes) w in
+    ap (λ (t : Bool). is_white_past_all (t || false) bytes) (white_no_feed b parts.0) ∙ black_stays bytes parts.1
+
+-- a line isn't white, as looking back shows
+looked_black : (bytes : List ℕ) (begins v : Bool) → IsWhiteAfter bytes begins v → begins ≡ true → v ≡ false → is_white_past_all true bytes ≡ false
+looked_black bytes begins _ (all_white w) e f = cc
+looked_black bytes begins _ (new_line prefix rest is w) e f = cc
+looked_black bytes begins _ (black prefix b rest is w n r) e f =
+    ap (λ (l : List ℕ). is_white_past_all true l) is ∙ past_append true prefix (b ∷ rest)
+    ∙ ap (λ (t : Bool). is_white_past_all t rest) (by_tests (b == newline) (is_white b) (is_white_past_all true prefix) n w) ∙ black_stays rest r
+  where
+    by_tests : (t u v : Bool) → t ≡ false → u ≡ false → (t || (v && u)) ≡ false
+    by_tests false false true g h = refl
+    by_tests false false false g h = refl
+    by_tests true u v g h = cc
+    by_tests false true v g h = cc
+
+first_of : (lines : List ℕ) (at n : ℕ) → at < length lines → take (1 + n) (drop at lines) ≡ get_or lines at 0 ∷ take n (drop (at + 1) lines)
+first_of lines at n h =
+    let e : 1 + n ≡ suc n = omega arith in
+    let f : suc at ≡ at + 1 = omega arith in
+    ap (λ (k : ℕ). take k (drop at lines)) e ∙ ap (take (suc n)) (drop-cons lines at 0 h)
+    ∙ ap (λ (k : ℕ). get_or lines at 0 ∷ take n (drop k lines)) f
+
+-- a byte that a word follows that is no keyword begins no directive, and nor does that word
+pub before_word_none : (white : Bool) (lines : List ℕ) (at n : ℕ) → at < length lines → NoSignificant (take n (drop (at + 1) lines)) →
+    is_other_word (take n (drop (at + 1) lines)) ≡ true → NoneBeginsDirective white (take (1 + n) (drop at lines))
+before_word_none white lines at n h none other =
+    subst (NoneBeginsDirective white) (sym (first_of lines at n h)) (
+      by_tests (get_or lines at 0 == number_sign) white (is_other_word (take n (drop (at + 1) lines))) other,
+      insignificant_none (is_white_past white (get_or lines at 0)) (take n (drop (at + 1) lines)) none,
+    )
+  where
+    by_tests : (s w o : Bool) → o ≡ true → (s && (w && not o)) ≡ false
+    by_tests false w o e = refl
+    by_tests true false o e = refl
+    by_tests true true true e = refl
+    by_tests true true false e = cc
+
+-- a byte begins no directive, if its line isn't white before it
+pub black_none : (lines : List ℕ) (at : ℕ) → at < length lines → IsWhiteAfter (take at lines) true false →
+    NoneBeginsDirective (is_white_past_all true (take at lines)) (take 1 (drop at lines))
+black_none lines at h back =
+    subst (NoneBeginsDirective (is_white_past_all true (take at lines))) (sym (first_of lines at 0 h))
+    (ap (λ (w : Bool). (get_or lines at 0 == number_sign) && (w && not (is_other_word []))) (looked_black (take at lines) true false back refl refl) ∙ by_test (get_or lines at 0 == number_sign), tt)
+  where
+    by_test : (s : Bool) → (s && false) ≡ false
+    by_test true = refl
+    by_test false = refl
+
+-- the bytes before a position, and those that follow it
+pub none_more : (lines : List ℕ) (at count : ℕ) → NoneBeginsDirective true (take at lines) → NoneBeginsDirective (is_white_past_all true (take at lines)) (take count (drop at lines)) →
+    NoneBeginsDirective true (take (at + count) lines)
+none_more lines at count h k = subst (NoneBeginsDirective true) (sym (take-add at count lines)) (none-append true (take at lines) (take count (drop at lines)) h k)
+
+word_other : (b : ℕ) (bytes tail : List ℕ) → starts_with_no_keyword (b ∷ (bytes ++ tail)) ≡ true → NoWord tail → IsOther (b ∷ bytes)
+word_other b [] [] e n = cc
+word_other b [] (c ∷ tail) e n =
+    let word : is_word_byte b ≡ true = is_no_keyword-first b c e in
+    record {
+      first = b;
+      more = [];
+      is = rw (word_is_plain b word).0 refl;
+      none = ap kind_of (word_front b [] word) ∙ other_word b c [] [] e (λ f. cc);
+      sure = other_sure b c [] [] e (word_is_plain b word).1 (λ f. cc);
+    }
+word_other b (c ∷ bytes) tail e n =
+    let word : is_word_byte b ≡ true = is_no_keyword-first b c e in
+    record {
+      first = b;
+      more = c ∷ bytes;
+      is = rw (word_is_plain b word).0 refl;
+      none = ap kind_of (word_front b (c ∷ bytes) word) ∙ other_word b c (leading_word (c ∷ bytes)) (leading_word bytes) e (λ f. word_front c bytes f);
+      sure = other_sure b c (c ∷ bytes) bytes e (word_is_plain b word).1 (λ f. refl);
+    }
+
+-- a word that is no keyword, without the tail of its line
+name_other : (bytes tail : List ℕ) → is_other_word (bytes ++ tail) ≡ true → is_other_word tail ≡ false → NoWord tail → IsOther bytes
+name_other [] tail e f n = cc
+name_other (b ∷ bytes) tail e f n = by_white (is_white b) refl (λ g. name_other bytes tail g f n)
+  where
+    by_white : (t : Bool) → is_white b ≡ t → (is_other_word (bytes ++ tail) ≡ true → IsOther bytes) → IsOther (b ∷ bytes)
+    by_white true w more = white_other b bytes w (more (sym (rw w refl) ∙ e))
+    by_white false w more = word_other b bytes tail (sym (rw w refl) ∙ e) n
+
+-- what a line shows that begins no directive, without its tail
+plain_unsigned : (bytes tail : List ℕ) → NoNewline bytes → NoneBeginsDirective true (bytes ++ tail) → is_other_word tail ≡ false → NoWord tail →
+    Unsigned (skip_white_and_hash bytes)
+plain_unsigned [] tail o h f n = no_sign
+plain_unsigned (b ∷ bytes) tail o h f n = by_white (is_white b) refl (λ k. plain_unsigned bytes tail o.1 k f n)
+  where
+    is_other : (a : Bool) → not a ≡ false → a ≡ true
+    is_other true e = refl
+    is_other false e = cc
+
+    by_sign : (t : Bool) → (b == number_sign) ≡ t → Unsigned (if t then Some bytes else None)
+    by_sign false e = no_sign
+    by_sign true e = other_sign bytes (name_other bytes tail (is_other (is_other_word (bytes ++ tail)) (ap (λ (t : Bool). t && not (is_other_word (bytes ++ tail))) (sym e) ∙ h.0)) f n)
+
+    by_white : (t : Bool) → is_white b ≡ t → (NoneBeginsDirective true (bytes ++ tail) → Unsigned (skip_white_and_hash bytes)) →
+        Unsigned (skip_hash (if t then skip_white bytes else b ∷ bytes))
+    by_white true w more =
+        more (subst (λ (t : Bool). NoneBeginsDirective t (bytes ++ tail)) (ap (λ (t : Bool). t || is_white b) (ne_eqb b newline o.0) ∙ w) h.1)
+    by_white false w more = by_sign (b == number_sign) refl
+
+feed_names : (e : List ℕ) → IsFeed e → (is_other_word e ≡ false) × NoWord e
+feed_names _ one = (refl, refl)
+feed_names _ two = (refl, refl)
+
+-- a whole line that begins no directive shows no `#` of one
+line_unsigned : (n : ℕ) (l : List ℕ) → IsWhole l → NoneBeginsDirective true l → Unsigned (skip_white_and_hash (line_at n l).body)
+line_unsigned n l whole h =
+    let f : IsFeed (ending_of l) = whole_ending l whole in
+    plain_unsigned (line_at n l).body (ending_of l) (body_one_line l (length (ending_of l)) whole (feed_length (ending_of l) f))
+    (subst (NoneBeginsDirective true) (sym (body-ending l)) h) (feed_names (ending_of l) f).0 (feed_names (ending_of l) f).1
+
+-- whole lines that begin no directive are text
+lines_text : (ls : List (List ℕ)) (n : ℕ) (before : List Reading) → AreWhole ls → NoneBeginsDirective true (concat ls) → HaveNoDirective Plain before (numbered_from n ls)
+lines_text [] n before whole h = tt
+lines_text (l ∷ ls) n before whole h =
+    let prefix : List ℕ = whole.0.0 in
+    let split : l ++ concat ls ≡ prefix ++ newline ∷ concat ls = ap (λ (x : List ℕ). x ++ concat ls) whole.0.2 ∙ append_assoc prefix (newline ∷ []) (concat ls) in
+    let parts : NoneBeginsDirective true (prefix ++ newline ∷ []) × NoneBeginsDirective true (concat ls) =
+    none-feed true prefix (concat ls) (subst (NoneBeginsDirective true) split h) in (
+      text_unsigned (plain_scan (line_at n l)) (line_unsigned n l whole.0 (subst (NoneBeginsDirective true) (sym whole.0.2) parts.0)),
+      lines_text ls (suc n) (before ++ next_reading before Plain (line_at n l) ∷ []) whole.1 parts.1,
+    )
+
+none_text : (bytes : List ℕ) → AreWholeLines bytes → NoneBeginsDirective true bytes → ArePlainText bytes
+none_text bytes ends h = record {
+  ends = ends;
+  texts = λ n before. lines_text (whole_lines bytes) n before (are_whole bytes) (subst (NoneBeginsDirective true) (ended_lines bytes ends) h);
+}
+
+-- the lines before the last one of bytes that begin no directive are text
+pub lines_before : (bytes : List ℕ) (n : ℕ) → NoneBeginsDirective true bytes → LastLineStarts bytes n → ArePlainText (take n bytes)
+lines_before bytes n h last = by_begins (take n bytes) last.begins refl
+  where
+    by_begins : (p : List ℕ) → IsLineStart p → p ≡ take n bytes → ArePlainText p
+    by_begins _ at_start e = none_text [] (begins_ends [] at_start) tt
+    by_begins _ (after_newline x) e =
+        let split : bytes ≡ x ++ newline ∷ drop n bytes =
+        sym (take-append-drop n bytes) ∙ ap (λ (l : List ℕ). l ++ drop n bytes) (sym e) ∙ append_assoc x (newline ∷ []) (drop n bytes) in
+        none_text (x ++ newline ∷ []) (begins_ends (x ++ newline ∷ []) (after_newline x)) (none-feed true x (drop n bytes) (subst (NoneBeginsDirective true) split h)).0
+
+-- the same of a prefix
+pub lines_before_of : (lines : List ℕ) (m n : ℕ) → NoneBeginsDirective true (take m lines) → LastLineStarts (take m lines) n → n ≤ m → ArePlainText (take n lines)
+lines_before_of lines m n h last k = subst ArePlainText (take-take n m lines k) (lines_before (take m lines) n h last)
 
 -- the initial state is carried over lines in plain mode
 plain_carried : (l : List ℕ) (ls : List (List ℕ)) (n : ℕ) (before : List Reading) → ScannerRepresents initial_scanner_state (readings_after before (lines_in_mode Plain n (l ∷ ls)))
 plain_carried l [] n before = represents_plain before (line_at n l)
 plain_carried l (k ∷ ls) n before = plain_carried k ls (suc n) (before ++ next_reading before Plain (line_at n l) ∷ [])
-
--- whole lines without a `#` are text
-pub plain_hashless : (bytes : List ℕ) → AreWholeLines bytes → NoHash bytes → ArePlainText bytes
-plain_hashless bytes ends none = record {
-  ends = ends;
-  texts = λ n before. hashless_text (whole_lines bytes) n before (subst NoHash (ended_lines bytes ends) none);
-}
-
--- no lines are text
-pub plain_none : ArePlainText []
-unfolding split_lines
-plain_none = record { ends = refl; texts = λ n before. tt }
-
--- text lines one after another
-pub plain_append : (p q : List ℕ) → ArePlainText p → ArePlainText q → ArePlainText (p ++ q)
-plain_append p q h k = record {
-  ends = ends_joined p q h.ends ∙ k.ends;
-  texts = λ n before.
-      subst (λ (ls : List (List ℕ)). HaveNoDirective Plain before (numbered_from n ls)) (sym (lines_joined p q h.ends))
-      (texts_append Plain n before (whole_lines p) (whole_lines q) (h.texts n before)
-      (k.texts (n + length (whole_lines p)) (readings_after before (lines_in_mode Plain n (whole_lines p)))));
-}
-
-lone : (l : List ℕ) → IsWhole l → split_lines l ≡ record { whole = l ∷ []; rest = [] }
-unfolding split_lines
-lone l w = subst (λ (x : List ℕ). split_lines x ≡ record { whole = l ∷ []; rest = [] }) (append-nil l) (split_lines-line-prefix l [] w)
-
-unsigned_by : (o : Option (List ℕ)) → is_other_hash o ≡ true → Unsigned o
-unsigned_by None e = no_sign
-unsigned_by (Some rest) e = other_sign rest (other_first rest e)
-
--- a whole line is text, if its body begins with no `#`, or with one that a word follows that is no
--- keyword
-pub plain_line : (l : List ℕ) → IsWhole l → is_other_hash (skip_white_and_hash (line_at 1 l).body) ≡ true → ArePlainText l
-plain_line l w e = record {
-  ends = ap (λ (s : SplitLines). s.rest) (lone l w);
-  texts = λ n before.
-      subst (λ (ls : List (List ℕ)). HaveNoDirective Plain before (numbered_from n ls)) (sym (ap (λ (s : SplitLines). s.whole) (lone l w)))
-      (text_unsigned (plain_scan (line_at n l)) (unsigned_by (skip_white_and_hash (line_at n l).body) e), tt);
-}
-
--- the bytes before a position are text, and so are those that follow it
-pub plain_more : (lines : List ℕ) (at count : ℕ) → ArePlainText (take at lines) → ArePlainText (take count (drop at lines)) → ArePlainText (take (at + count) lines)
-plain_more lines at count h k = subst ArePlainText (sym (take-add at count lines)) (plain_append (take at lines) (take count (drop at lines)) h k)
 
 -- text lines are skipped
 pub passes_plain : (old : ScannerState) (bytes : List ℕ) → ArePlainText bytes → 0 < length bytes → SkipsText Plain old initial_scanner_state bytes
@@ -129,14 +250,3 @@ passes_plain old bytes p some = record {
     by_lines : (ls : List (List ℕ)) → bytes ≡ concat ls → (n : ℕ) (before : List Reading) → ScannerRepresents initial_scanner_state (readings_after before (lines_in_mode Plain n ls))
     by_lines [] e n before = absurd (let z = ap length e in omega (arith, z, some))
     by_lines (l ∷ ls) e n before = plain_carried l ls n before
-
--- the lines before the last one of a prefix
-pub hashless_ends : (bytes prefix : List ℕ) (n : ℕ) → prefix ≡ take (length prefix) bytes → LastLineStarts prefix n → AreWholeLines (take n bytes)
-hashless_ends bytes prefix n e last = subst AreWholeLines (front_of bytes prefix n e last.within) (begins_ends (take n prefix) last.begins)
-  where
-    front_of : (bytes prefix : List ℕ) (n : ℕ) → prefix ≡ take (length prefix) bytes → n ≤ length prefix → take n prefix ≡ take n bytes
-    front_of bytes prefix n e k = ap (take n) e ∙ take-take n (length prefix) bytes k
-
-pub hashless_plain : (bytes prefix : List ℕ) (n : ℕ) → prefix ≡ take (length prefix) bytes → LastLineStarts prefix n → NoHash prefix → NoHash (take n bytes)
-hashless_plain bytes prefix n e last none =
-    subst NoHash (ap (take n) e ∙ take-take n (length prefix) bytes last.within) (no_hash_take n prefix none)

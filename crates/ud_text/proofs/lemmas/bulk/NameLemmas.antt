@@ -2,7 +2,8 @@
 use Rattle.std.proofs.Common.{◌≡◌, ℕ, suc, ◌+◌, ◌-◌, ◌≤◌, ◌==◌, List, [], ◌∷◌, length, take, get_or, Bool, true, false, if◌then◌else◌, refl, sym, ◌∙◌, ap, ap₂, subst, arith}
 use Rattle.std.proofs.lemmas.Bool.{eqb-true}
 use Rattle.ud_model.specs.text.Bytes.{is_white, is_word_byte, skip_white, slash, backslash, number_sign}
-use Rattle.ud_text.specs.bulk.BulkStates.{is_no_keyword, is_other_word}
+use Rattle.ud_model.specs.sections.Directives.{is_no_keyword}
+use Rattle.ud_text.specs.bulk.BulkStates.{is_other_word}
 use Rattle.ud_text.specs.bulk.BulkLexemes.{is_significant, NoSignificant}
 use Rattle.ud_text.proofs.lemmas.bulk.TextLemmas.{is_no_keyword-first}
 

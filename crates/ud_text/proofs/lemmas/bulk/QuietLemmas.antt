@@ -25,7 +25,7 @@ starts_with_no_keyword-append (a ∷ []) q e = cc
 starts_with_no_keyword-append (a ∷ b ∷ p) q e = e
 
 -- a word that is no keyword stays one with further bytes
-other-append : (p q : List ℕ) → is_other_word p ≡ true → is_other_word (p ++ q) ≡ true
+pub other-append : (p q : List ℕ) → is_other_word p ≡ true → is_other_word (p ++ q) ≡ true
 other-append [] q e = cc
 other-append (a ∷ p) q e = by_white (other-append p q) (is_white a) e
   where
@@ -50,7 +50,8 @@ pub HasNoStop-append : (s : BulkState) (p q : List ℕ) → HasNoStop s p → Ha
 HasNoStop-append s [] q h k = k
 HasNoStop-append s (b ∷ p) q h k = (stops_bulk-append s b p q h.0, HasNoStop-append (next_bulk_state s b) p q h.1 k)
 
-other-feed : (p q : List ℕ) → is_other_word (p ++ newline ∷ q) ≡ is_other_word (p ++ newline ∷ [])
+-- nothing after a newline counts for the word before it
+pub other-feed : (p q : List ℕ) → is_other_word (p ++ newline ∷ q) ≡ is_other_word (p ++ newline ∷ [])
 other-feed [] [] = refl
 other-feed [] (b ∷ q) = refl
 other-feed (a ∷ p) q = by_white (other-feed p q) (is_white a)

@@ -49,7 +49,7 @@ pub data IsFeed : List ℕ → Type 0 where
   one : IsFeed (newline ∷ [])
   two : IsFeed (carriage_return ∷ newline ∷ [])
 
-whole_ending : (l : List ℕ) → IsWhole l → IsFeed (ending_of l)
+pub whole_ending : (l : List ℕ) → IsWhole l → IsFeed (ending_of l)
 whole_ending l (prefix, none, is) =
     by_tests (ends_with nat_eq l (carriage_return ∷ newline ∷ [])) (ends_with nat_eq l (newline ∷ []))
     ((ends_is Decides-eqb l (newline ∷ []) (ends_with nat_eq l (newline ∷ [])) refl).1 prefix is)
@@ -59,11 +59,11 @@ whole_ending l (prefix, none, is) =
     by_tests false true e = one
     by_tests false false e = cc
 
-feed_length : (e : List ℕ) → IsFeed e → 1 ≤ length e
+pub feed_length : (e : List ℕ) → IsFeed e → 1 ≤ length e
 feed_length _ one = omega arith
 feed_length _ two = omega arith
 
-body_one_line : (l : List ℕ) (k : ℕ) → IsWhole l → 1 ≤ k → NoNewline (take (length l - k) l)
+pub body_one_line : (l : List ℕ) (k : ℕ) → IsWhole l → 1 ≤ k → NoNewline (take (length l - k) l)
 body_one_line l k (prefix, none, is) h =
     subst (λ (x : List ℕ). NoNewline (take (length x - k) x)) (sym is)
     (subst NoNewline (sym (take-append-le (length (prefix ++ newline ∷ []) - k) prefix (newline ∷ []) (omega (arith, length-append prefix (newline ∷ [])))))

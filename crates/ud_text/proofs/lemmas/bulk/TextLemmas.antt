@@ -1,14 +1,16 @@
 -- Text: a line that is read without a stop shows no `#` that belongs to a directive.
 use Rattle.std.proofs.Common.{◌≡◌, ℕ, ◌==◌, List, [], ◌∷◌, ◌++◌, Bool, true, false, not, ◌&&◌, ◌||◌, if◌then◌else◌, refl, sym, ◌∙◌, ap, ap₂, subst, ne_eqb, Option, Some, None, bytes_eq}
+use Rattle.std.specs.List.{list_any}
 use Rattle.std.proofs.lemmas.Bool.{eqb-true, not-true}
 use Rattle.std.proofs.Math.Bool.{and-false}
 use Rattle.ud_model.specs.text.Bytes.{is_white, is_quote, is_word_byte, are_word_bytes, skip_white, leading_word, slash, number_sign, newline, space, carriage_return, star}
 use Rattle.ud_model.specs.text.Lines.{NoNewline}
 use Rattle.ud_model.specs.text.Scans.{Scan}
 use Rattle.ud_model.specs.aids.LexStates.{LexState, in_text, at_slash, in_block, at_star, in_line, in_literal, at_backslash, next_state, opens_comment, masked_byte, blank_last}
-use Rattle.ud_model.specs.sections.Directives.{cut_keyword, text, content_of, skip_white_and_hash, skip_hash, has_split_keyword, content_after_hash, directive_at, may_split_keyword, is_continued_outside_comment, is_in_line, kind_of, is_keyword_prefix, is_prefix_of_keyword}
+use Rattle.ud_model.specs.sections.Directives.{cut_keyword, text, content_of, skip_white_and_hash, skip_hash, has_split_keyword, content_after_hash, directive_at, may_split_keyword, is_continued_outside_comment, is_in_line, kind_of, is_keyword_prefix, is_no_keyword, may_begin, keywords}
+use Rattle.ud_model.proofs.sections.Keywords.{no_keyword}
 use Rattle.ud_model.specs.declared.kind.Kind.{Kind}
-use Rattle.ud_text.specs.bulk.BulkStates.{next_bulk_state, letter_f, BulkState, letter_i, starts_with_no_keyword, letter_e, spliced_after, is_no_keyword, is_other_word, letter_l, letter_n, HasNoStop}
+use Rattle.ud_text.specs.bulk.BulkStates.{next_bulk_state, BulkState, starts_with_no_keyword, spliced_after, is_other_word, HasNoStop}
 use Rattle.ud_model.proofs.text.ScanLaws.{masked_after}
 
 -- `is_unsure word`: the word is a prefix of a keyword, or a single slash: what follows it might
@@ -179,7 +181,7 @@ shown_plain : (b : ℕ) (bytes : List ℕ) → (b == slash) ≡ false → is_quo
 shown_plain b bytes e f =
     ap (λ (w : LexState). masked_after w (b ∷ []) bytes) (next_plain b e f) ∙ front_stays b [] in_text bytes tt
 
-word_is_plain : (b : ℕ) → is_word_byte b ≡ true → (is_white b ≡ false) × ((b == slash) ≡ false) × (is_quote b ≡ false)
+pub word_is_plain : (b : ℕ) → is_word_byte b ≡ true → (is_white b ≡ false) × ((b == slash) ≡ false) × (is_quote b ≡ false)
 word_is_plain b h = by_class b (class_of b) h
   where
     by_class : (b : ℕ) → Class b → is_word_byte b ≡ true → (is_white b ≡ false) × ((b == slash) ≡ false) × (is_quote b ≡ false)
@@ -194,92 +196,29 @@ and_parts true true e = (refl, refl)
 and_parts true false e = cc
 and_parts false b e = cc
 
-no_keyword : (b : ℕ) (w : List ℕ) → (b == letter_i) ≡ false → (b == letter_e) ≡ false → kind_of (b ∷ w) ≡ None
-no_keyword b w e f = rw (e, f) refl
-
-no_keyword_i : (b : ℕ) (w : List ℕ) → (b == letter_f) ≡ false → kind_of (letter_i ∷ b ∷ w) ≡ None
-no_keyword_i b w e = rw e refl
-
-no_keyword_e : (b : ℕ) (w : List ℕ) → (b == letter_l) ≡ false → (b == letter_n) ≡ false → kind_of (letter_e ∷ b ∷ w) ≡ None
-no_keyword_e b w e f = rw (e, f) refl
-
 -- a word that begins with two such bytes is no keyword
-other_word : (b c : ℕ) (w v : List ℕ) → is_no_keyword b c ≡ true → (is_word_byte c ≡ true → w ≡ c ∷ v) → kind_of (b ∷ w) ≡ None
-other_word b c w v e f = by_i (b == letter_i) refl
-  where
-    begins_i : is_no_keyword letter_i c ≡ true → kind_of (letter_i ∷ w) ≡ None
-    begins_i g =
-        let p : (is_word_byte c ≡ true) × (not (c == letter_f) ≡ true) = and_parts (is_word_byte c) (not (c == letter_f)) g in
-        subst (λ (x : List ℕ). kind_of (letter_i ∷ x) ≡ None) (sym (f p.0)) (no_keyword_i c v (not-true (c == letter_f) p.1))
-
-    begins_e : is_no_keyword letter_e c ≡ true → kind_of (letter_e ∷ w) ≡ None
-    begins_e g =
-        let p : ((is_word_byte c && not (c == letter_l)) ≡ true) × (not (c == letter_n) ≡ true) = and_parts (is_word_byte c && not (c == letter_l)) (not (c == letter_n)) g in
-        let q : (is_word_byte c ≡ true) × (not (c == letter_l) ≡ true) = and_parts (is_word_byte c) (not (c == letter_l)) p.0 in
-        subst (λ (x : List ℕ). kind_of (letter_e ∷ x) ≡ None) (sym (f q.0)) (no_keyword_e c v (not-true (c == letter_l) q.1) (not-true (c == letter_n) p.1))
-
-    by_e : (t : Bool) → (b == letter_e) ≡ t → (b == letter_i) ≡ false → kind_of (b ∷ w) ≡ None
-    by_e true g h = subst (λ (n : ℕ). is_no_keyword n c ≡ true → kind_of (n ∷ w) ≡ None) (sym (eqb-true b letter_e g)) begins_e e
-    by_e false g h = no_keyword b w h g
-
-    by_i : (t : Bool) → (b == letter_i) ≡ t → kind_of (b ∷ w) ≡ None
-    by_i true g = subst (λ (n : ℕ). is_no_keyword n c ≡ true → kind_of (n ∷ w) ≡ None) (sym (eqb-true b letter_i g)) begins_i e
-    by_i false g = by_e (b == letter_e) refl g
-
-front_other : (b : ℕ) (w : List ℕ) → (b == letter_i) ≡ false → (b == letter_e) ≡ false → is_prefix_of_keyword (b ∷ w) ≡ false
-front_other b w e f = rw (e, f) refl
-
-front_i : (b : ℕ) (w : List ℕ) → (b == letter_f) ≡ false → is_prefix_of_keyword (letter_i ∷ b ∷ w) ≡ false
-front_i b w e = rw e refl
-
-front_e : (b : ℕ) (w : List ℕ) → (b == letter_l) ≡ false → (b == letter_n) ≡ false → is_prefix_of_keyword (letter_e ∷ b ∷ w) ≡ false
-front_e b w e f = rw (e, f) refl
-
--- a word that begins with two such bytes is no prefix of a keyword
-other_front : (b c : ℕ) (w v : List ℕ) → is_no_keyword b c ≡ true → (is_word_byte c ≡ true → w ≡ c ∷ v) → is_prefix_of_keyword (b ∷ w) ≡ false
-other_front b c w v e f = by_i (b == letter_i) refl
-  where
-    begins_i : is_no_keyword letter_i c ≡ true → is_prefix_of_keyword (letter_i ∷ w) ≡ false
-    begins_i g =
-        let p : (is_word_byte c ≡ true) × (not (c == letter_f) ≡ true) = and_parts (is_word_byte c) (not (c == letter_f)) g in
-        subst (λ (x : List ℕ). is_prefix_of_keyword (letter_i ∷ x) ≡ false) (sym (f p.0)) (front_i c v (not-true (c == letter_f) p.1))
-
-    begins_e : is_no_keyword letter_e c ≡ true → is_prefix_of_keyword (letter_e ∷ w) ≡ false
-    begins_e g =
-        let p : ((is_word_byte c && not (c == letter_l)) ≡ true) × (not (c == letter_n) ≡ true) = and_parts (is_word_byte c && not (c == letter_l)) (not (c == letter_n)) g in
-        let q : (is_word_byte c ≡ true) × (not (c == letter_l) ≡ true) = and_parts (is_word_byte c) (not (c == letter_l)) p.0 in
-        subst (λ (x : List ℕ). is_prefix_of_keyword (letter_e ∷ x) ≡ false) (sym (f q.0)) (front_e c v (not-true (c == letter_l) q.1) (not-true (c == letter_n) p.1))
-
-    by_e : (t : Bool) → (b == letter_e) ≡ t → (b == letter_i) ≡ false → is_prefix_of_keyword (b ∷ w) ≡ false
-    by_e true g h = subst (λ (n : ℕ). is_no_keyword n c ≡ true → is_prefix_of_keyword (n ∷ w) ≡ false) (sym (eqb-true b letter_e g)) begins_e e
-    by_e false g h = front_other b w h g
-
-    by_i : (t : Bool) → (b == letter_i) ≡ t → is_prefix_of_keyword (b ∷ w) ≡ false
-    by_i true g = subst (λ (n : ℕ). is_no_keyword n c ≡ true → is_prefix_of_keyword (n ∷ w) ≡ false) (sym (eqb-true b letter_i g)) begins_i e
-    by_i false g = by_e (b == letter_e) refl g
+pub other_word : (b c : ℕ) (w v : List ℕ) → is_no_keyword b c ≡ true → (is_word_byte c ≡ true → w ≡ c ∷ v) → kind_of (b ∷ w) ≡ None
+other_word b c w v e f = (no_keyword b c w v e f).0
 
 no_slash : (b : ℕ) (w : List ℕ) → (b == slash) ≡ false → bytes_eq (b ∷ w) (slash ∷ []) ≡ false
 no_slash b w e = rw e refl
 
 -- what follows a word that begins with two such bytes makes no directive
-other_sure : (b c : ℕ) (w v : List ℕ) → is_no_keyword b c ≡ true → (b == slash) ≡ false → (is_word_byte c ≡ true → w ≡ c ∷ v) → is_unsure (b ∷ w) ≡ false
+pub other_sure : (b c : ℕ) (w v : List ℕ) → is_no_keyword b c ≡ true → (b == slash) ≡ false → (is_word_byte c ≡ true → w ≡ c ∷ v) → is_unsure (b ∷ w) ≡ false
 other_sure b c w v e f g =
-    ap₂ (λ (s t : Bool). s || (are_word_bytes (b ∷ w) && t)) (no_slash b w f) (other_front b c w v e g) ∙ and-false (are_word_bytes (b ∷ w))
+    ap₂ (λ (s t : Bool). s || (are_word_bytes (b ∷ w) && t)) (no_slash b w f) (no_keyword b c w v e g).1 ∙ and-false (are_word_bytes (b ∷ w))
 
 -- `NoWord bytes`: no byte of a word comes first
 abbrev pub NoWord : List ℕ → Type 0
 NoWord [] = Unit {0}
 NoWord (b ∷ bytes) = is_word_byte b ≡ false
 
-word_front : (b : ℕ) (w : List ℕ) → is_word_byte b ≡ true → leading_word (b ∷ w) ≡ b ∷ leading_word w
+pub word_front : (b : ℕ) (w : List ℕ) → is_word_byte b ≡ true → leading_word (b ∷ w) ≡ b ∷ leading_word w
 word_front b w e = rw e refl
 
 -- the first of two such bytes is one of a word
 pub is_no_keyword-first : (b c : ℕ) → is_no_keyword b c ≡ true → is_word_byte b ≡ true
-is_no_keyword-first b c e =
-    (and_parts (is_word_byte b)
-    (if b == letter_i then is_word_byte c && not (c == letter_f)
-    else if b == letter_e then is_word_byte c && not (c == letter_l) && not (c == letter_n) else true) e).0
+is_no_keyword-first b c e = (and_parts (is_word_byte b) (not (list_any (λ (row : List ℕ × Kind). may_begin row.0 b c) keywords)) e).0
 
 -- bytes that begin with a word that is no keyword
 pub other_first : (rest : List ℕ) → is_other_word rest ≡ true → IsOther rest
@@ -294,7 +233,7 @@ other_first rest e = by_word (skip_white rest) refl e
           first = b;
           more = c ∷ more;
           is = i;
-          none = ap kind_of (word_front b (c ∷ more) word) ∙ other_word b c (leading_word (c ∷ more)) (leading_word more) f (λ g. word_front c more g);
+          none = ap kind_of (word_front b (c ∷ more) word) ∙ (no_keyword b c (leading_word (c ∷ more)) (leading_word more) f (λ g. word_front c more g)).0;
           sure = other_sure b c (c ∷ more) more f (word_is_plain b word).1 (λ g. refl);
         }
 
@@ -306,7 +245,7 @@ word_shown b [] (c ∷ tail) e n =
       first = b;
       more = [];
       is = rw (word_is_plain b word).0 refl;
-      none = ap kind_of (word_front b [] word) ∙ other_word b c [] [] e (λ f. cc);
+      none = ap kind_of (word_front b [] word) ∙ (no_keyword b c [] [] e (λ f. cc)).0;
       sure = other_sure b c [] [] e (word_is_plain b word).1 (λ f. cc);
     }
 word_shown b (c ∷ bytes) tail e n =
@@ -316,13 +255,13 @@ word_shown b (c ∷ bytes) tail e n =
       more = masked_after in_text [] (c ∷ bytes);
       is = rw (word_is_plain b word).0 refl;
       none = ap kind_of (word_front b (masked_after in_text [] (c ∷ bytes)) word)
-          ∙ other_word b c (leading_word (masked_after in_text [] (c ∷ bytes))) (leading_word (masked_after in_text [] bytes)) e
-          (λ f. ap leading_word (shown_plain c bytes (word_is_plain c f).1 (word_is_plain c f).2) ∙ word_front c (masked_after in_text [] bytes) f);
+          ∙ (no_keyword b c (leading_word (masked_after in_text [] (c ∷ bytes))) (leading_word (masked_after in_text [] bytes)) e
+          (λ f. ap leading_word (shown_plain c bytes (word_is_plain c f).1 (word_is_plain c f).2) ∙ word_front c (masked_after in_text [] bytes) f)).0;
       sure = other_sure b c (masked_after in_text [] (c ∷ bytes)) (masked_after in_text [] bytes) e (word_is_plain b word).1
           (λ f. shown_plain c bytes (word_is_plain c f).1 (word_is_plain c f).2);
     }
 
-white_other : (b : ℕ) (bytes : List ℕ) → is_white b ≡ true → IsOther bytes → IsOther (b ∷ bytes)
+pub white_other : (b : ℕ) (bytes : List ℕ) → is_white b ≡ true → IsOther bytes → IsOther (b ∷ bytes)
 white_other b bytes w i = record { first = i.first; more = i.more; is = rw w i.is; none = i.none; sure = i.sure }
 
 -- a name that is no keyword is shown unchanged

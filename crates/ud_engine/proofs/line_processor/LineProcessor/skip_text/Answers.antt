@@ -2,7 +2,7 @@ use Rattle.std.proofs.Common.{◌≡◌, rules, ap, sym, ◌∙◌, [], suc, tak
 use Rattle.std.proofs.Math.ListN.{length-take}
 use Rattle.ud_model.specs.text.Lines.{text_of, numbered_from, whole_lines}
 use Rattle.ud_sections.specs.sections.Transitions.{text_verdict}
-use Rattle.ud_sections.specs.printing.PrinterOutputs.{PrintsEach}
+use Rattle.ud_sections.specs.printing.PrinterOutputs.{PrintsOne}
 use Rattle.ud_text.specs.bulk.BulkLexemes.{at_start}
 use Rattle.ud_text.proofs.lemmas.bulk.BulkPlainLemmas.{begins_ends}
 use Rattle.ud_engine.specs.DecidedLines.{DecidesBulk}
@@ -16,25 +16,25 @@ returns-then-is_some-clause-printed g c = λ o piece xs t h.
     lists_run g.S.Show.represents g.S.Show.piece o piece xs t c.args.self.now h _ (numbered_from (suc c.args.lines.now.before) (whole_lines bytes)) (text_verdict c.args.self.now.decider.machine)
     (sym c.is_some.ensures ∙ c.if-is_some.true) refl refl refl (c.skip_text.ensures.read o xs t h.has)
 
-pub returns-in-OneByOne-clause-ends : goal.returns-in-OneByOne-clause-ends
-returns-in-OneByOne-clause-ends g c = begins_ends _ at_start
+pub returns-in-Ending-clause-ends : goal.returns-in-Ending-clause-ends
+returns-in-Ending-clause-ends g c = begins_ends _ at_start
 
-pub returns-in-OneByOne-clause-consumed : goal.returns-in-OneByOne-clause-consumed
-returns-in-OneByOne-clause-consumed g c = skips_none c.args.lines.now
+pub returns-in-Ending-clause-consumed : goal.returns-in-Ending-clause-consumed
+returns-in-Ending-clause-consumed g c = skips_none c.args.lines.now
 
-pub returns-in-OneByOne-clause-printed : goal.returns-in-OneByOne-clause-printed
-returns-in-OneByOne-clause-printed g c = λ o piece xs t h.
+pub returns-in-Ending-clause-printed : goal.returns-in-Ending-clause-printed
+returns-in-Ending-clause-printed g c = λ o piece xs t h.
     prints_none g.S.Show.represents g.S.Show.piece o piece xs t c.args.self.now h (suc c.args.lines.now.before)
 
-pub returns-in-Copied-clause-printed : goal.returns-in-Copied-clause-printed
-returns-in-Copied-clause-printed g c = λ o piece xs t h.
-    let bytes = take c.skip_text-in-Copied.result c.args.bytes.now in
+pub returns-in-Whole-clause-printed : goal.returns-in-Whole-clause-printed
+returns-in-Whole-clause-printed g c = λ o piece xs t h.
+    let bytes = take c.skip_text-in-Whole.result c.args.bytes.now in
     let verdict = text_verdict c.args.self.now.decider.machine in
     prints_run g.S.Show.represents g.S.Show.piece o piece xs t c.args.self.now h _ (numbered_from (suc c.args.lines.now.before) (whole_lines bytes)) verdict text_of false bytes
-    (search rules) refl refl (or_none c.args.self.now.differs) (c.skip_text-in-Copied.ensures.read o xs t h.has)
-    (subst (λ v. PrintsEach (g.S.Show.represents c.args.self.now.printer) (g.S.Show.piece c.args.self.now.printer) v text_of) (ap (λ p. p.verdict) c.text_policy-policy.ensures) c.in-Copied.ensures.bulk_output)
+    (search rules) refl refl (or_none c.args.self.now.differs) (c.skip_text-in-Whole.ensures.read o xs t h.has)
+    (subst (λ v. PrintsOne (g.S.Show.represents c.args.self.now.printer) (g.S.Show.piece c.args.self.now.printer) v text_of) (ap (λ p. p.verdict) c.text_policy-policy.ensures) c.in-Whole.ensures.line_output)
     (kept_same verdict (numbered_from (suc c.args.lines.now.before) (whole_lines bytes)))
-    (kept_text (suc c.args.lines.now.before) bytes c.skip_text-in-Copied.ensures.ends)
+    (kept_text (suc c.args.lines.now.before) bytes c.skip_text-in-Whole.ensures.ends)
 
 pub returns-then-count-eq0-clause-printed : goal.returns-then-count-eq0-clause-printed
 returns-then-count-eq0-clause-printed g c = λ o piece xs t h.
@@ -45,7 +45,7 @@ returns-then-count-eq0-clause-printed g c = λ o piece xs t h.
     (search rules) refl refl (or_none c.args.self.now.differs)
     (subst (λ n. DecidesBulk o c.skip_text-count.new.self xs t (numbered_from (suc c.args.lines.now.before) (whole_lines (take n c.args.bytes.now))) verdict)
     c.if-count-eq0.true (c.skip_text-count.ensures.read o xs t h.has))
-    (subst (λ v. PrintsEach (g.S.Show.represents c.args.self.now.printer) (g.S.Show.piece c.args.self.now.printer) v (λ l. [])) (ap (λ p. p.verdict) c.text_policy-policy.ensures) c.in-Dropped.ensures.bulk_output)
+    (subst (λ v. PrintsOne (g.S.Show.represents c.args.self.now.printer) (g.S.Show.piece c.args.self.now.printer) v (λ l. [])) (ap (λ p. p.verdict) c.text_policy-policy.ensures) c.in-Nothing.ensures.line_output)
     (none_other verdict (λ l. []) lines none)
     (dropped_text lines)
 
@@ -59,6 +59,6 @@ returns-else-count-eq0-clause-printed g c = λ o piece xs t h.
     let cut = length-take c.skip_text-count.result c.args.bytes.now in
     prints_run g.S.Show.represents g.S.Show.piece o piece xs t c.args.self.now h _ lines verdict (λ l. []) true []
     (search rules) refl refl (or_some c.args.self.now.differs) (c.skip_text-count.ensures.read o xs t h.has)
-    (subst (λ v. PrintsEach (g.S.Show.represents c.args.self.now.printer) (g.S.Show.piece c.args.self.now.printer) v (λ l. [])) (ap (λ p. p.verdict) c.text_policy-policy.ensures) c.in-Dropped.ensures.bulk_output)
+    (subst (λ v. PrintsOne (g.S.Show.represents c.args.self.now.printer) (g.S.Show.piece c.args.self.now.printer) v (λ l. [])) (ap (λ p. p.verdict) c.text_policy-policy.ensures) c.in-Nothing.ensures.line_output)
     (dropped_differ verdict (suc c.args.lines.now.before) bytes c.skip_text-count.ensures.ends (omega (arith, some, bound, cut)))
     (dropped_text lines)

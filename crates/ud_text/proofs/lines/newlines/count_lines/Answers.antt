@@ -5,8 +5,8 @@ use Rattle.ud_text.proofs.lines.newlines.count_lines.Goals as goal
 
 pub returns : goal.returns
 returns c =
-    let rest = take (length c.args.bytes.now - c.newlines_by_lanes-counted.result.at) (drop c.newlines_by_lanes-counted.result.at c.args.bytes.now) in
-    counted_all c.args.bytes.now c.newlines_by_lanes-counted.result.at c.newlines_by_lanes-counted.result.newlines (c.newlines_by_lanes-middle.result.newlines + c.newlines_one_by_one.result)
-    c.newlines_by_lanes-counted.ensures.counted
+    let rest = take (length c.args.bytes.now - c.newlines_by_blocks-counted.result.at) (drop c.newlines_by_blocks-counted.result.at c.args.bytes.now) in
+    counted_all c.args.bytes.now c.newlines_by_blocks-counted.result.at c.newlines_by_blocks-counted.result.newlines (c.newlines_by_lanes-middle.result.newlines + c.newlines_one_by_one.result)
+    c.newlines_by_blocks-counted.ensures.counted
     (counted_all rest c.newlines_by_lanes-middle.result.at c.newlines_by_lanes-middle.result.newlines c.newlines_one_by_one.result c.newlines_by_lanes-middle.ensures.counted c.newlines_one_by_one.ensures.value
     ∙ lines_counted rest)

@@ -1,0 +1,63 @@
+-- Counting: the newlines of many bytes, by the lanes of vectors.
+use Rattle.std.proofs.Common.{◌≡◌, ℕ, suc, ◌+◌, ◌<◌, ◌≤◌, ◌-◌, ◌^◌, ◌*◌, Bool, true, false, eqb, cond, List, [], ◌∷◌, map, length, take, drop, replicate, refl, sym, ◌∙◌, ap, ap₂, subst, arith, w8, w16}
+use Rattle.std.specs.List.{count_by}
+use Rattle.std.proofs.lemmas.List.Recursion.{is_count_by}
+use Rattle.std.proofs.lemmas.List.{take_rest}
+use Rattle.std.proofs.lemmas.Simd.{tops_compared, zip2_splat, sum-zip2, Each1-zip2, Each2-of, sum_bound, length-sel_l, length-replicate}
+use lib.Lanes.{Each1, Each2, zip2, sum_l, sel_l, top}
+use mir.Val.{Fits, bits, hbits}
+use Rattle.ud_text.specs.lines.Consuming.{is_newline}
+use Rattle.ud_text.proofs.lemmas.lines.ConsumeLemmas.{counted_more}
+
+-- `ones_of bytes`: a lane for each byte: 1 for a newline, else 0
+abbrev pub ones_of : List ℕ → List ℕ
+ones_of bytes = sel_l (map is_newline bytes) (replicate (length bytes) 1) (replicate (length bytes) 0)
+
+-- as many ones as newlines
+pub ones_sum : (bytes : List ℕ) → sum_l (ones_of bytes) ≡ count_by is_newline bytes
+ones_sum = is_count_by (λ bytes. sum_l (ones_of bytes)) is_newline refl (λ b bytes. by_test (is_newline b) (sum_l (ones_of bytes)))
+  where
+    by_test : (t : Bool) (n : ℕ) → cond t 1 0 + n ≡ cond t (1 + n) n
+    by_test true n = refl
+    by_test false n = omega arith
+
+pub ones_low : (bytes : List ℕ) → Each1 (λ n. n ≤ 1) (ones_of bytes)
+ones_low [] = tt
+ones_low (b ∷ bytes) = (by_test (is_newline b), ones_low bytes)
+  where
+    by_test : (t : Bool) → cond t 1 0 ≤ 1
+    by_test true = omega arith
+    by_test false = omega arith
+
+pub ones_length : (bytes : List ℕ) → length (ones_of bytes) ≡ length bytes
+ones_length [] = refl
+ones_length (b ∷ bytes) = ap suc (ones_length bytes)
+
+-- the lanes that a comparison with a newline selects
+pub selected : (bytes : List ℕ) (n : ℕ) → length bytes ≡ n →
+    sel_l (map (top (hbits w8)) (zip2 (λ a b. cond (eqb a b) (2 ^ bits w8 - 1) 0) bytes (replicate n 10))) (replicate n 1) (replicate n 0) ≡ ones_of bytes
+selected bytes n e =
+    ap (λ (ms : List Bool). sel_l ms (replicate n 1) (replicate n 0)) (tops_compared w8 eqb bytes (replicate n 10) ∙ zip2_splat eqb bytes n 10 e)
+    ∙ ap (λ (k : ℕ). sel_l (map is_newline bytes) (replicate k 1) (replicate k 0)) (sym e)
+
+-- the lanes grow by at most 1
+pub grown_low : (most : ℕ) (counts bytes : List ℕ) → Each1 (λ n. n ≤ most) counts → Each1 (λ n. n ≤ most + 1) (zip2 (λ a b. a + b) counts (ones_of bytes))
+grown_low most counts bytes h =
+    Each1-zip2 (λ a b. a + b) (λ n. n ≤ most + 1) counts (ones_of bytes)
+    (Each2-of (λ n. n ≤ most) (λ n. n ≤ 1) (λ a b. a + b ≤ most + 1) (λ a b x y. omega arith) counts (ones_of bytes) h (ones_low bytes))
+
+-- each lane fits a byte
+pub grown_fits : (counts bytes : List ℕ) → Each1 (λ n. n < 255) counts → Each2 (λ a b. Fits w8 (a + b)) counts (ones_of bytes)
+grown_fits counts bytes h =
+    Each2-of (λ n. n < 255) (λ n. n ≤ 1) (λ a b. Fits w8 (a + b)) (λ a b x y. record { fits = omega arith }) counts (ones_of bytes) h (ones_low bytes)
+
+-- the newlines before a position, and those of a prefix of the rest
+pub counted_rest : (bytes : List ℕ) (at n count more : ℕ) → count ≡ count_by is_newline (take at bytes) →
+    more ≡ count_by is_newline (take n (take (length bytes - at) (drop at bytes))) → count + more ≡ count_by is_newline (take (at + n) bytes)
+counted_rest bytes at n count more e f =
+    counted_more bytes at n count more e (f ∙ ap (λ (l : List ℕ). count_by is_newline (take n l)) (take_rest bytes at))
+
+-- lanes that a cast leaves as they are
+pub map_itself : (xs : List ℕ) → map (λ x. x) xs ≡ xs
+map_itself [] = refl
+map_itself (x ∷ xs) = ap (λ (l : List ℕ). x ∷ l) (map_itself xs)

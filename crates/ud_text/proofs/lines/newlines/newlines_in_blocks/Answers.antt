@@ -1,0 +1,43 @@
+-- The newlines of the blocks so far, and of the next one.
+use Rattle.std.proofs.Common.{◌≡◌, ◌+◌, ◌*◌, ◌≤◌, ◌<◌, ◌^◌, List, ℕ, length, take, drop, refl, sym, ◌∙◌, ap, subst, w16, arith}
+use Rattle.std.specs.List.{count_by}
+use Rattle.std.proofs.lemmas.List.Sums.{count_by-le-length}
+use Rattle.std.proofs.lemmas.Simd.{Each1-weaker, sum_fits, fold-sum}
+use Rattle.std.proofs.Math.ListN.{length-take}
+use lib.Lanes.{Steps, fold_l, sum_l}
+use mir.Val.{Fits}
+use Rattle.ud_text.specs.lines.Consuming.{is_newline}
+use Rattle.ud_text.proofs.lemmas.lines.ConsumeLemmas.{counted_more}
+use Rattle.ud_text.proofs.lemmas.lines.CountLemmas.{map_itself}
+use Rattle.ud_text.proofs.lines.newlines.newlines_in_blocks.Goals as goal
+
+pub loop-block-preserved : goal.loop-block-preserved
+loop-block-preserved c =
+    let at = c.loop-block.block * 64 in
+    let next : at + 64 ≡ (c.loop-block.block + 1) * 64 = omega arith in
+    record {
+      counted = c.add_newlines-counts.ensures.sum
+          ∙ counted_more c.args.bytes.now at 64 (sum_l c.loop-block.counts) (count_by is_newline (take 64 (drop at c.args.bytes.now))) c.loop-block.invariant.counted refl
+          ∙ ap (λ (n : ℕ). count_by is_newline (take n c.args.bytes.now)) next;
+      low = c.add_newlines-counts.ensures.low c.loop-block.block c.loop-block.invariant.low;
+    }
+
+pub overflow_cast-result : goal.overflow_cast-result
+overflow_cast-result c =
+    let few : c.loop-block.block ≤ 255 = omega arith in
+    Each1-weaker (λ n. n ≤ c.loop-block.block) (Fits w16) (λ n h. record { fits = omega arith }) c.loop-block.counts c.loop-block.invariant.low
+
+pub overflow_add-result : goal.overflow_add-result
+overflow_add-result c =
+    let few : c.loop-block.block ≤ 255 = omega arith in
+    let bytes = take (c.loop-block.block * 64) c.args.bytes.now in
+    let sum : 0 + sum_l c.loop-block.counts < 2 ^ 16 =
+    omega (arith, c.loop-block.invariant.counted, count_by-le-length is_newline bytes, length-take (c.loop-block.block * 64) c.args.bytes.now) in
+    subst (λ (xs : List ℕ). Steps (λ s x. Fits w16 (s + x)) (λ s x. s + x) 0 xs) (sym (map_itself c.loop-block.counts)) (sum_fits w16 0 c.loop-block.counts sum)
+
+pub returns-clause-counted : goal.returns-clause-counted
+returns-clause-counted c =
+    let all : c.loop-block.block * 64 ≡ c.min-blocks.result * 64 = omega arith in
+    let none : 0 + sum_l c.loop-block.counts ≡ sum_l c.loop-block.counts = omega arith in
+    ap (λ (xs : List ℕ). fold_l (λ s x. s + x) 0 xs) (map_itself c.loop-block.counts) ∙ fold-sum 0 c.loop-block.counts ∙ none ∙ c.loop-block.invariant.counted
+    ∙ ap (λ (n : ℕ). count_by is_newline (take n c.args.bytes.now)) all
