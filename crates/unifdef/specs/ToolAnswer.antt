@@ -1,5 +1,6 @@
 -- ToolAnswer: what a call of the tool gives, against the definitions' answers.
 --
+--   Reports call message     the message was appended to the error stream
 --   Answers call a           output, message and status are those of `a`
 --   AnswersSpec call input   they are those of the definitions' answer
 --   FailsForMemory call      memory for a symbol couldn't be allocated
@@ -17,11 +18,17 @@ use Rattle.ud_diagnostics.specs.UsageMessages.{ReportsUsage}
 use Rattle.unifdef.specs.ToolCall.{Call}
 
 module _ {R W : Type 0} where
-  -- `Answers call a`: the output and the message of `a` were appended, and the status is that of
-  -- `a`. If the error stream has failed, a prefix of the message was appended.
+  -- `Reports call message`: `message` was appended to the error stream, or a prefix of it if that
+  -- has failed.
+  abbrev pub Reports : Call R W → List ℕ → Type 0
+  Reports call message =
+      AppendsAllOrPrefix call.err_failed call.old_message call.new_message message
+
+  -- `Answers call a`: the output of `a` was appended, its message was reported, and the status is
+  -- that of `a`.
   pub record Answers (call : Call R W) (a : Answer) : Type 0 where
     pub output : Appends call.old_output call.new_output a.output
-    pub message : AppendsAllOrPrefix call.err_failed call.old_message call.new_message a.message
+    pub message : Reports call a.message
     pub answered : call.status ≡ a.status
 
   -- `AnswersSpec call input`: output, message and status are those of the answer that the

@@ -4,9 +4,8 @@
 ghost use Rattle.std.specs.Prelude.{◌≡◌, ◌⊎◌, true, false, IfSome};
 ghost use Rattle.ud_model.specs.answer.CommandLine.{display_name};
 ghost use Rattle.ud_model.specs.answer.Messages.{read_error, write_error};
-ghost use Rattle.ud_io.specs.Watched.{AppendsAllOrPrefix};
 ghost use Rattle.unifdef.specs.ToolCall.{Call};
-ghost use Rattle.unifdef.specs.ToolAnswer.{AnswersSpec};
+ghost use Rattle.unifdef.specs.ToolAnswer.{AnswersSpec, Reports};
 ghost use Rattle.unifdef.specs.ToolEnded.{CallEnds};
 
 /// A call of `tool` after which a stream has failed has status 2 and says so.
@@ -19,10 +18,8 @@ pub fn law_failed_streams<R, W>()
     ensures write_status { (call : Call R W) → CallEnds call → call.new_out.failed ≡ true →
         call.status ≡ 2 }
     ensures read_message { (call : Call R W) → CallEnds call → call.new_reader.failed ≡ true →
-        AppendsAllOrPrefix call.err_failed call.old_message call.new_message
-        (read_error (display_name call.args)) }
+        Reports call (read_error (display_name call.args)) }
     ensures write_message { (call : Call R W) → CallEnds call → call.new_out.failed ≡ true →
         call.new_reader.failed ≡ false → IfSome call.input (λ input.
-        AppendsAllOrPrefix call.err_failed call.old_message call.new_message
-        (write_error (display_name call.args)) ⊎ AnswersSpec call input) }
+        Reports call (write_error (display_name call.args)) ⊎ AnswersSpec call input) }
 {}

@@ -1,5 +1,6 @@
--- PrinterOutputs: the output for the next line, by its verdict.
+-- PrinterOutputs: the output for the next line, by its verdict, and a printer after a line.
 --
+--   GotLine given piece given' piece' j          a printer got the line `j`, and prints as before
 --   judged_text verdict l                        a text line with this verdict
 --   PrintsOne given piece verdict own            for the next line `l`, `own l` is printed
 --   GivesLineOutput given piece verdict output   `output` is the output for the next line
@@ -20,6 +21,14 @@ use Rattle.ud_sections.specs.declared.printing.line_output.LineOutput.TheVariant
 -- `judged_text verdict l`: the text line `l` with this verdict.
 abbrev pub judged_text : Verdict → Line → Judged
 judged_text verdict l = record { line = l; verdict = verdict; keyword = record { at = 0; len = 0 } }
+
+-- `GotLine given piece given' piece' j`: a printer, of which `given` and `piece` are true before
+-- and `given'` and `piece'` after, got the line `j` in between. It prints by the same definition.
+abbrev pub GotLine : (List Judged → Type 0) → (List Judged → Judged → List ℕ) →
+    (List Judged → Type 0) → (List Judged → Judged → List ℕ) → Judged → Type 0
+GotLine given piece given' piece' j =
+    ((before : List Judged) → given before → given' (before ++ j ∷ []))
+    × ((before : List Judged) (k : Judged) → piece' before k ≡ piece before k)
 
 -- `PrintsOne given piece verdict own`: whatever lines the printer got, and whatever line `l` with
 -- this verdict comes next, `own l` is printed for it. The unchanged printer represents it too.

@@ -11,7 +11,7 @@ ghost use Rattle.ud_model.specs.text.Lines.{text_of};
 ghost use Rattle.ud_model.specs.answer.Printing.{Judged};
 ghost use Rattle.ud_model.specs.text.LineViews.{as_line};
 ghost use Rattle.ud_sections.specs.printing.PieceParts.{concatenated, is_unchanged};
-ghost use Rattle.ud_sections.specs.printing.PrinterOutputs.{GivesLineOutput};
+ghost use Rattle.ud_sections.specs.printing.PrinterOutputs.{GivesLineOutput, GotLine};
 ghost use Rattle.ud_sections.specs.sections.StepViews.{judged_step, HoldsKeyword};
 
 use crate::printing::line_output::LineOutput;
@@ -40,10 +40,8 @@ pub trait Show: Drop {
         ensures is_unchanged { is_unchanged result ≡
             bytes_eq (concatenated result) (text_of (as_line line.now)) }
         ensures* represents_after { sem 𝓛 (Rests Self.row self.entry (λ new.
-            ((before : List Judged) → represents self.entry.now before →
-            represents new (before ++ judged_step line.now step ∷ []))
-            × ((before : List Judged) (j : Judged) →
-            piece new before j ≡ piece self.entry.now before j))) };
+            GotLine (represents self.entry.now) (piece self.entry.now) (represents new)
+            (piece new) (judged_step line.now step))) };
 
     /// Returns what to print for the next line if it has this verdict. If the result is not
     /// `Parts`, the line needn't be passed: the printer represents it too, unchanged. So the result
