@@ -2,3 +2,4 @@ pub mod LetterLemmas
 pub mod ParsedArgLemmas
 pub mod OptionLemmas
 pub mod PlanLemmas
+pub mod OperandLemmas

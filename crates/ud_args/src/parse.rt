@@ -74,15 +74,25 @@ pub fn input_of(args: &[String]) -> Option<usize>
 
 /// Returns the input's name in messages: the operand, or `stdin` if there is none or it is `-`.
 ///
-/// This holds for arguments without a fault. Takes no memory.
-pub fn display_name(args: &[String]) -> &[u8]
-    ensures { usage_fault (map string_bytes args.now) ≡ None →
+/// `plan` is that of the arguments. Takes no memory.
+pub fn display_name<'a>(plan: &Plan, args: &'a [String]) -> &'a [u8]
+    ensures { IsPlanOf (map string_bytes args.now) plan.now →
         result.now ≡ display_name (map string_bytes args.now) }
 {
-    match find_operand(args) {
-        Ok(Some(operand)) => operand.display_name(),
-        Ok(None) | Err(_) => b"stdin",
+    match operand_in(plan, args) {
+        Some(operand) => operand.display_name(),
+        None => b"stdin",
     }
+}
+
+/// Returns the operand of the arguments. `plan` is that of the arguments.
+fn operand_in<'a>(plan: &Plan, args: &'a [String]) -> Option<Operand<'a>>
+    ensures { IsPlanOf (map string_bytes args.now) plan.now →
+        option_map as_operand result ≡ operand_in (parsed_args (map string_bytes args.now)) }
+{
+    let index = plan.operand()?;
+    let name = args.get(index)?.as_bytes();
+    Some(Operand { index, name })
 }
 
 /// An operand of a command line.

@@ -92,7 +92,7 @@ pub fn tool<R: Read, W: Write, E: Write>(
             let ran = run(&plan, reader, out);
             let flushed = out.flush();
             let ended = final_result(ran, flushed);
-            report_result(err, display_name(args), plan.settings(), ended)
+            report_result(err, display_name(&plan, args), plan.settings(), ended)
         }
     }
 }

@@ -1,0 +1,63 @@
+-- OperandLemmas: an operand has the bytes of the argument at its index.
+use Rattle.std.proofs.Common.{◌≡◌, ◌∙◌, ◌++◌, ◌+◌, ℕ, suc, List, [], ◌∷◌, Bool, true, false, Option, Some, None, if◌then◌else◌, bytes_eq, codes, refl, sym, subst, arith}
+use Rattle.std.specs.List.{slice_get}
+use Rattle.ud_model.specs.answer.CommandLine.{ParsedArg, Operand, WordGives, operand_in, parsed_args, given_next, letters_give, option_gives, then_gives, flag, unknown, is_flag, takes_argument, operands_from, is_operand, option_letters, operand_of, operand_index}
+
+-- the letters of an argument give no operand
+past_letters : (n : ℕ) (cs : List ℕ) (gs : List ParsedArg) → operand_in ((letters_give n cs).given ++ gs) ≡ operand_in gs
+past_letters n [] gs = refl
+past_letters n (c ∷ cs) gs = go (is_flag c) (takes_argument c) (past_letters n cs gs)
+  where
+    one : (ls : List ℕ) → operand_in ((option_gives c n ls).given ++ gs) ≡ operand_in gs
+    one [] = refl
+    one (l ∷ ls) = refl
+
+    go : (f t : Bool) → operand_in ((letters_give n cs).given ++ gs) ≡ operand_in gs →
+        operand_in ((if f then then_gives (flag c) (letters_give n cs) else if t then option_gives c n cs else then_gives (unknown c) (letters_give n cs)).given ++ gs) ≡ operand_in gs
+    go true t more = more
+    go false true more = one cs
+    go false false more = more
+
+-- `IsThere args n o`: the operand has the bytes of one of the arguments, which are counted from `n`
+abbrev IsThere : List (List ℕ) → ℕ → Operand → Type 0
+IsThere args n o = (k : ℕ) × (o.index ≡ n + k) × (slice_get args k ≡ Some o.name)
+
+behind : (w : List ℕ) (ws : List (List ℕ)) (n : ℕ) (o : Operand) → IsThere ws (suc n) o → IsThere (w ∷ ws) n o
+behind w ws n o h = let e = h.1 in (suc h.0, omega (arith, e), h.2)
+
+first : (n : ℕ) (args : List (List ℕ)) (o : Operand) → operand_in (operands_from n args) ≡ Some o → IsThere args n o
+first n [] o e = cc
+first n (w ∷ ws) o e = let i : o.index ≡ n = cc in (0, omega (arith, i), cc)
+
+there : (waits : Option ℕ) (n : ℕ) (args : List (List ℕ)) (o : Operand) → operand_in (given_next waits n args) ≡ Some o → IsThere args n o
+there None n [] o e = cc
+there (Some c) n [] o e = cc
+there (Some c) n (w ∷ ws) o e = behind w ws n o (there None (suc n) ws o e)
+there None n (w ∷ ws) o e = go (bytes_eq w (codes "--")) (is_operand w) (there (letters_give (suc n) (option_letters w)).waits (suc n) ws o) e
+  where
+    letters : WordGives
+    letters = letters_give (suc n) (option_letters w)
+
+    go : (b c : Bool) → (operand_in (given_next letters.waits (suc n) ws) ≡ Some o → IsThere ws (suc n) o) →
+        operand_in (if b then operands_from (suc n) ws else if c then operands_from n (w ∷ ws) else letters.given ++ given_next letters.waits (suc n) ws) ≡ Some o → IsThere (w ∷ ws) n o
+    go true c more f = behind w ws n o (first (suc n) ws o f)
+    go false true more f = first n (w ∷ ws) o f
+    go false false more f = behind w ws n o (more (sym (past_letters (suc n) (option_letters w) (given_next letters.waits (suc n) ws)) ∙ f))
+
+-- The operand of a command line has the bytes of the argument at its index.
+pub operand_there : (args : List (List ℕ)) (o : Operand) → operand_in (parsed_args args) ≡ Some o → slice_get args o.index ≡ Some o.name
+operand_there args o e =
+    let h = there None 0 args o e in
+    let at = h.1 in
+    let same : o.index ≡ h.0 = omega (arith, at) in
+    subst (λ k. slice_get args k ≡ Some o.name) (sym same) h.2
+
+-- The operand at the index that a plan has.
+pub named : (args : List (List ℕ)) (n : ℕ) → Some n ≡ operand_of args → (o : Operand) × (operand_in (parsed_args args) ≡ Some o) × (o.index ≡ n) × (slice_get args n ≡ Some o.name)
+named args n e = go (operand_in (parsed_args args)) refl e
+  where
+    go : (x : Option Operand) → operand_in (parsed_args args) ≡ x → Some n ≡ operand_index x → (o : Operand) × (operand_in (parsed_args args) ≡ Some o) × (o.index ≡ n) × (slice_get args n ≡ Some o.name)
+    go None e i = cc
+    go (Some o) e i =
+        let same : o.index ≡ n = cc in
+        (o, e, same, subst (λ k. slice_get args k ≡ Some o.name) same (operand_there args o e))
