@@ -29,9 +29,6 @@ use Rattle.ud_model.specs.sections.Pruning.{Mark, marks}
 use Rattle.ud_model.specs.sections.Items.{Options, reading_of, mode_after, read_after, next_item}
 use Rattle.ud_model.specs.sections.Faults.{Fault, AreFaultless, FaultOf, last_number, ends_removed}
 use Rattle.ud_model.specs.sections.Faults.{ends_in_comment, end_fault}
-use Rattle.ud_model.specs.sections.Faults.{obfuscated, inappropriate_elif, inappropriate_else}
-use Rattle.ud_model.specs.sections.Faults.{inappropriate_endif, too_many_levels, eof_in_comment}
-use Rattle.ud_model.specs.sections.Faults.{premature_eof}
 use Rattle.ud_model.specs.answer.Printing.{judged_line}
 use Rattle.ud_model.specs.declared.kind.Mode.{Mode}
 use Rattle.ud_model.specs.declared.verdict.Verdict.{Verdict}

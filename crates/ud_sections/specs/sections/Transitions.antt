@@ -4,12 +4,10 @@
 --   text_verdict m             the verdict of the next line, if it is text
 --   text_policy_of m           the mode of the next line, and its verdict if it is text
 --   transition_of before n s   the transition of the classified line `s` of number `n`
---   IsDirectiveTransition m scan directive table n result
---                              the result is the transition of this directive
 --   IsTransition m scan table n result   the result is the transition of the line of this scan
 use Rattle.std.specs.Prelude.{◌≡◌, ℕ, List, length, Result, Ok, Err}
 use Rattle.ud_model.specs.text.Scans.{Scan}
-use Rattle.ud_model.specs.sections.Directives.{Directive, directive, content_of}
+use Rattle.ud_model.specs.sections.Directives.{content_of}
 use Rattle.ud_model.specs.conditions.Table.{Argument}
 use Rattle.ud_model.specs.declared.verdict.Verdict.{Verdict}
 use Rattle.ud_model.specs.sections.Items.{mode_by, rules_of}
@@ -61,15 +59,6 @@ abbrev pub transition_of : LineContext → ℕ → Result ClassifiedLine Cut →
     Result Transition SectionFault
 transition_of before n (Ok scanned) = transition_with scanned.keyword (checked_by before scanned n)
 transition_of before n (Err cut) = Err (Obfuscated n)
-
--- `IsDirectiveTransition m scan directive table n result`: for the calls that `table` represents,
--- `result` is the transition of the directive on the line of number `n` with this scan.
-abbrev pub IsDirectiveTransition : Machine → Scan → Directive → List Argument → ℕ →
-    Result Transition SectionFault → Type 0
-IsDirectiveTransition m scan d table n result =
-    (calls : List Argument) → TableRepresents table calls →
-    result ≡ transition_of (context_of m) n
-    (classified scan calls (rules_of m.settings) (directive d))
 
 -- `IsTransition m scan table n result`: for the calls that `table` represents, `result` is the
 -- transition of the line of number `n` with this scan.

@@ -10,14 +10,14 @@ ghost use Rattle.ud_cond.specs.symbols.SymbolTable.{TableRepresents};
 ghost use Rattle.ud_cond.specs.CondViews.{as_decision, as_rules};
 ghost use Rattle.ud_model.specs.text.LineViews.{as_scan};
 ghost use Rattle.ud_sections.specs.directives.ParsedDirectives.{as_directive};
-ghost use Rattle.ud_sections.specs.sections.ClassifiedLines.{classified_with};
+ghost use Rattle.ud_sections.specs.sections.ClassifiedLines.{classified_with, directive_kind};
 ghost use Rattle.ud_sections.specs.sections.StepViews.{as_span};
 
 use crate::directives::Directive;
 use crate::sections::line_kind::LineKind;
 use crate::sections::step::Span;
 use ud_cond::{Answer, Rules, Symbols, condition};
-use ud_model::{Cond, Scan, Settings};
+use ud_model::{Cond, Role, Scan, Settings};
 
 /// A classified line.
 #[derive(Clone, Copy)]
@@ -55,7 +55,7 @@ fn joins_a_neighbor(scan: &Scan<'_>) -> bool
 /// Returns what the symbols decide of a line's directive. A broken directive is undecided. One that
 /// joins the next line opens no section that is plain text.
 #[inline(always)]
-pub(crate) fn condition_on(
+fn condition_on(
     scan: &Scan<'_>,
     found: &Directive<'_>,
     symbols: &Symbols,
@@ -86,5 +86,36 @@ fn rules_of(settings: Settings) -> Rules
     Rules {
         constants: settings.constants,
         strict: settings.strict,
+    }
+}
+
+/// Returns the kind of a line's directive among the sections, with what the symbols decide of it.
+/// Only a condition is evaluated.
+#[inline(always)]
+pub(crate) fn line_kind_of(
+    scan: &Scan<'_>,
+    found: &Directive<'_>,
+    symbols: &Symbols,
+    settings: Settings,
+) -> LineKind
+    requires { length found.now.after.now ≤ LINE_BYTES }
+    ensures { (calls : List Argument) → TableRepresents symbols.now calls →
+        result ≡ directive_kind (as_scan scan.now) (as_directive found.now) calls
+        (rules_of settings) }
+{
+    match found.kind.role() {
+        Role::IfGroup => {
+            let answer = condition_on(scan, found, symbols, settings);
+            LineKind::If {
+                cond: answer.cond,
+                ignoring: answer.ignoring,
+            }
+        }
+        Role::ElifGroup => {
+            let answer = condition_on(scan, found, symbols, settings);
+            LineKind::Elif { cond: answer.cond }
+        }
+        Role::ElseGroup => LineKind::Else,
+        Role::EndifLine => LineKind::Endif,
     }
 }

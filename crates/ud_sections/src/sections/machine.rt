@@ -25,10 +25,9 @@ ghost use Rattle.ud_sections.specs.sections.StackOps.{applied, innermost_of};
 ghost use Rattle.ud_model.specs.sections.Pruning.{is_removed};
 ghost use Rattle.ud_sections.specs.sections.Checking.{opens_section};
 
-use crate::directives::Directive;
 use crate::directives::parse_directive::{after_hash, directive_after_hash};
 use crate::sections::check::{LineContext, check_line};
-use crate::sections::classify_line::{ClassifiedLine, classify, condition_on};
+use crate::sections::classify_line::{ClassifiedLine, classify, line_kind_of};
 use crate::sections::line_kind::LineKind;
 use crate::sections::open_section::{Enclosing, OpenSection, StackOp};
 use crate::sections::step::{Span, Step};
@@ -36,7 +35,7 @@ use crate::sections::text_policy::TextPolicy;
 use arrayvec::ArrayVec;
 use ud_cond::Symbols;
 use ud_faults::SectionFault;
-use ud_model::{Line, Mode, OPEN_SECTIONS, Role, Scan, Settings, Verdict};
+use ud_model::{Line, Mode, OPEN_SECTIONS, Scan, Settings, Verdict};
 
 /// The step of a line, and the line's change of the open sections.
 #[derive(Clone, Copy)]
@@ -67,7 +66,7 @@ impl Machine {
     ghost use Rattle.ud_sections.specs.sections.MachineState.{FindsFault, StepsOverText};
     ghost use Rattle.ud_sections.specs.sections.MachineState.{HasEndFault, end_fault_of};
     ghost use Rattle.ud_sections.specs.sections.MachineState.{machine_fault, machine_with_fault};
-    ghost use Rattle.ud_sections.specs.sections.Transitions.{IsDirectiveTransition, IsTransition};
+    ghost use Rattle.ud_sections.specs.sections.Transitions.{IsTransition};
     ghost use Rattle.ud_sections.specs.sections.Transitions.{text_verdict};
     ghost use Rattle.ud_sections.specs.sections.Transitions.{text_policy_of, transition_of};
     ghost use Rattle.ud_sections.specs.sections.Transitions.{context_of};
@@ -269,52 +268,14 @@ impl Machine {
             let _depth = self.open_sections.len();
             return Err(SectionFault::Obfuscated { line: number });
         };
-        match content {
-            Some(found) => self.directive_transition(scan, &found, number, symbols),
-            None => {
-                let nowhere = Span { at: 0, len: 0 };
-                self.check(classify(scan, nowhere, LineKind::Text), number)
-            }
-        }
-    }
-
-    /// Returns the step of a line with this directive, and its change of the open sections. Only a
-    /// condition is evaluated.
-    ///
-    /// Each role has a check of its own, so that none asks for the kind of the line again.
-    #[inline(always)]
-    fn directive_transition(
-        &self,
-        scan: &Scan<'_>,
-        found: &Directive<'_>,
-        number: u32,
-        symbols: &Symbols,
-    ) -> Result<Transition, SectionFault>
-        requires short { length found.now.after.now ≤ LINE_BYTES }
-        ensures value { IsDirectiveTransition self.now (as_scan scan.now) (as_directive found.now)
-            symbols.now number result }
-        ensures keyword { IfOk result (λ next. next.step.keyword ≡ found.now.keyword) }
-        ensures fits { array_vec_len self.now.open_sections ≤ OPEN_SECTIONS }
-        ensures has_space { IfOk result (λ next. IsTrue (opens_section next.change) →
-            array_vec_len self.now.open_sections < OPEN_SECTIONS) }
-    {
-        match found.kind.role() {
-            Role::IfGroup => {
-                let answer = condition_on(scan, found, symbols, self.settings);
-                let kind = LineKind::If {
-                    cond: answer.cond,
-                    ignoring: answer.ignoring,
-                };
-                self.check(classify(scan, found.keyword, kind), number)
-            }
-            Role::ElifGroup => {
-                let answer = condition_on(scan, found, symbols, self.settings);
-                let kind = LineKind::Elif { cond: answer.cond };
-                self.check(classify(scan, found.keyword, kind), number)
-            }
-            Role::ElseGroup => self.check(classify(scan, found.keyword, LineKind::Else), number),
-            Role::EndifLine => self.check(classify(scan, found.keyword, LineKind::Endif), number),
-        }
+        let (kind, keyword) = match content {
+            Some(found) => (
+                line_kind_of(scan, &found, symbols, self.settings),
+                found.keyword,
+            ),
+            None => (LineKind::Text, Span { at: 0, len: 0 }),
+        };
+        self.check(classify(scan, keyword, kind), number)
     }
 
     /// Checks a classified line, and returns its step and its change of the open sections.
