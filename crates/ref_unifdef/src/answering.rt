@@ -30,7 +30,7 @@ pub struct Answer {
 /// Fails if memory runs out.
 pub fn answer_to(alloc: Global, args: &[String], text: &[u8]) -> Result<Answer, AllocError> {
     match plan(alloc, args) {
-        Ok(plan) => run(alloc, &plan, display_name(args), text),
+        Ok(plan) => run(alloc, &plan, display_name(&plan, args), text),
         Err(usage) => Ok(Answer {
             output: Vec::new(alloc),
             message: usage_message(alloc, usage)?,

@@ -5,7 +5,7 @@ use crate::outcome::copy;
 use memchr::memrchr;
 use ref_unifdef::{Answer, answer_to};
 use std::alloc::{AllocError, Global};
-use ud_args::display_name;
+use ud_args::{display_name, plan};
 
 /// The exit status after a fault.
 const TROUBLE: u8 = 2;
@@ -85,10 +85,15 @@ fn failed(
     output: &[u8],
     error: &[u8],
 ) -> Result<Answer, AllocError> {
+    let plan = plan(alloc, args);
+    let name = match &plan {
+        Ok(plan) => display_name(plan, args),
+        Err(_) => b"stdin".as_slice(),
+    };
     let mut message = Vec::new(alloc);
     for part in [
         b"unifdef: ".as_slice(),
-        display_name(args),
+        name,
         b": ",
         error,
         b"\n",
