@@ -149,7 +149,7 @@ pub extern "C" fn unifdef_finish(
 pub extern "C" fn unifdef_close(alloc: Global, handle: &mut Handle)
     ensures { handle.new.stream ≡ None }
 {
-    *handle = Handle::closed(alloc);
+    drop(mem::replace(handle, Handle::closed(alloc)));
 }
 
 /// Returns a stream before the first byte, by the words of a block.
