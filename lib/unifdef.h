@@ -1,13 +1,14 @@
 /*
  * unifdef.h - removes preprocessor conditionals from C source, in memory
  *
- * unifdef_text does what the program unifdef(1) does, over memory in place of files. Two more calls
- * are for programs that look at directives themselves. It is proved that what each call writes and
- * returns is that of the definitions of unifdef(1). The manual page unifdef(3) has examples.
+ * unifdef_text does what the program unifdef(1) does, over memory in place of files. A stream does
+ * it for a text that comes in chunks. Two more calls are for programs that look at directives
+ * themselves. It is proved that what each call writes and returns is that of the definitions of
+ * unifdef(1). The manual page unifdef(3) has examples.
  *
- * Nothing is kept between calls, and no call frees or keeps what it is passed. So any number of
- * threads may call at once, each with buffers of its own. No call may be made in a signal handler,
- * or in the forked child of a process with threads, since malloc may not.
+ * Only a stream keeps anything between calls, and no call frees or keeps what it is passed. So any
+ * number of threads may call at once, each with buffers and streams of its own. No call may be made
+ * in a signal handler, or in the forked child of a process with threads, since malloc may not.
  *
  * A pointer may be null if its length is 0. What a call writes to may not overlap anything else
  * that it is passed.
@@ -72,12 +73,85 @@ int unifdef_text(const char *words, size_t words_len,
                  char *message, size_t message_len,
                  struct unifdef_sizes *sizes);
 
+/*
+ * A stream: unifdef(1) over a text that comes in chunks. Its memory doesn't grow with the text, if
+ * all output is taken after each chunk.
+ *
+ *     struct unifdef_stream stream = UNIFDEF_STREAM_INIT;
+ *     int status = unifdef_open(&stream, words, words_len);
+ *     for each chunk:
+ *         status = unifdef_feed(&stream, chunk, chunk_len);
+ *         while ((taken = unifdef_take(&stream, output, sizeof output, &pending)) > 0) ..
+ *     status = unifdef_finish(&stream, message, sizeof message, &size);
+ *     while ((taken = unifdef_take(&stream, output, sizeof output, &pending)) > 0) ..
+ *     unifdef_close(&stream);
+ *
+ * A stream is closed if state is null, and it has to be null before the first call. Only the calls
+ * below may change it. A copy of the struct may take its place, if the first one isn't used again.
+ * A stream may be used by one thread at a time.
+ */
+struct unifdef_stream {
+    void *state;
+};
+
+#define UNIFDEF_STREAM_INIT {0}
+
+/* The error if a stream is closed, or if its text has ended and is fed. */
+#define UNIFDEF_CLOSED (-4)
+
+/*
+ * Opens a stream. One that is open is closed before.
+ *
+ * words are those of unifdef_text. Returns 0, or UNIFDEF_BAD_WORDS or UNIFDEF_NO_MEMORY, and the
+ * stream is closed then. unifdef_text with the same words and no text has the message.
+ */
+int unifdef_open(struct unifdef_stream *stream, const char *words, size_t words_len);
+
+/*
+ * Processes the next chunk of the text. A chunk may end anywhere, even in a line. The output for all
+ * lines that end in the chunk can be taken then. The line that it begins is kept, of at most
+ * UNIFDEF_LINE_BYTES bytes.
+ *
+ * Returns 0, or one of these:
+ *
+ *   UNIFDEF_TROUBLE      the text has a fault. The output for what comes before it can be taken, and
+ *                        unifdef_finish says which fault it is
+ *   UNIFDEF_NO_MEMORY    memory for the output was refused. Only a part of the output can be taken
+ *   UNIFDEF_CLOSED       the stream is closed, or the text has ended
+ *
+ * After the first two, each later chunk has the same result, and no more output comes.
+ */
+int unifdef_feed(struct unifdef_stream *stream, const char *text, size_t text_len);
+
+/*
+ * Writes the output that comes next to output, as much as fits. It isn't ended by a zero byte. How
+ * much is left is written to pending, which may not be null. Nothing is lost: the next call goes on.
+ *
+ * Returns how many bytes were written: 0 if none are left, or if the stream is closed.
+ */
+size_t unifdef_take(struct unifdef_stream *stream, char *output, size_t output_len,
+                    size_t *pending);
+
+/*
+ * Ends the text. The rest of the output can be taken then: that for the last line, if it has no
+ * newline. The message goes to message, and its length to size, which may not be null.
+ *
+ * Returns what unifdef_text returns for all chunks together, or UNIFDEF_CLOSED. UNIFDEF_TOO_SMALL
+ * is for the message alone: the bytes that fit are written, and a second call with a longer buffer
+ * succeeds. Each further call returns the same status and message.
+ */
+int unifdef_finish(struct unifdef_stream *stream, char *message, size_t message_len,
+                   size_t *size);
+
+/* Closes a stream and frees its memory. Does nothing if it is closed. */
+void unifdef_close(struct unifdef_stream *stream);
+
 /* What unifdef_condition returns. */
 #define UNIFDEF_FALSE 0
 #define UNIFDEF_TRUE 1
 #define UNIFDEF_UNKNOWN 2
 
-/* What unifdef_condition and unifdef_names return for an error. */
+/* What unifdef_condition, unifdef_names and the calls for a stream return for an error. */
 #define UNIFDEF_BAD_WORDS (-1) /* the words have a fault, or one of them isn't UTF-8 */
 #define UNIFDEF_NO_MEMORY (-2) /* memory was refused */
 #define UNIFDEF_TOO_LONG (-3)  /* the expression is longer than UNIFDEF_LINE_BYTES */

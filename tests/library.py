@@ -1,10 +1,11 @@
 #!/usr/bin/env python3
 """Compares the library with the cases of the program, as a C program and as a Python module.
 
-    tests/library.py FILTER     lib/examples/filter.c, built; UNIFDEF_LIBRARY is the library
+    tests/library.py FILTER ..  lib/examples/filter.c, built, each for chunks of another length;
+                                UNIFDEF_LIBRARY is the library
 
-Each case that needs no stream of its own is run through both. Output, message and status must be
-those of the case. Then many threads run all cases at once.
+Each case that needs no stream of its own is run through all of these, as a whole and in chunks.
+Output, message and status must be those of the case. Then many threads run all cases at once.
 """
 
 import subprocess
@@ -20,6 +21,7 @@ import cases  # noqa: E402
 import unifdef  # noqa: E402
 
 THREADS = 8
+CHUNKS = (1, 7, 64)
 
 
 def by_filter(program: str, case: cases.Case) -> cases.Answer:
@@ -36,9 +38,22 @@ def by_module(case: cases.Case) -> cases.Answer:
     return cases.Answer(answer.output, answer.message.encode(errors="surrogateescape"), answer.status)
 
 
+def by_stream(case: cases.Case, most: int) -> cases.Answer:
+    """Returns what the Python module gives for a case in chunks of `most` bytes."""
+    text = case.input
+    try:
+        with unifdef.Stream(*case.arguments) as stream:
+            output = [stream.feed(text[at : at + most]) for at in range(0, len(text), most)]
+            answer = stream.finish()
+    except unifdef.Trouble as trouble:
+        output, answer = [], trouble.answer
+    written = b"".join([*output, answer.output])
+    return cases.Answer(written, answer.message.encode(errors="surrogateescape"), answer.status)
+
+
 def main() -> int:
     """Compares all cases. Returns the exit status."""
-    [program] = sys.argv[1:]
+    programs = sys.argv[1:]
     wrong = 0
 
     def compare(way: str, case: cases.Case, found: cases.Answer) -> None:
@@ -49,13 +64,19 @@ def main() -> int:
 
     tried = [case for case in cases.cases_in() if not case.streams]
     for case in tried:
-        compare("C", case, by_filter(program, case))
+        for program in programs:
+            compare("C", case, by_filter(program, case))
         compare("Python", case, by_module(case))
+        for most in CHUNKS:
+            compare(f"Python in chunks of {most}", case, by_stream(case, most))
     with ThreadPoolExecutor(THREADS) as pool:
         for _ in range(THREADS):
             found = list(pool.map(by_module, tried))
             for case, answer in zip(tried, found):
                 compare("threads", case, answer)
+            found = list(pool.map(lambda case: by_stream(case, 64), tried))
+            for case, answer in zip(tried, found):
+                compare("streams in threads", case, answer)
     print(f"library: {len(tried)} cases in C, in Python and in {THREADS} threads, {wrong} wrong")
     return 1 if wrong or not tried else 0
 

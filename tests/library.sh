@@ -1,7 +1,7 @@
 #!/usr/bin/env bash
 # Tries lib/libunifdef.a and lib/libunifdef.so: the examples and calls of tests/library_calls.c under
-# sanitizers, the module for Python with its examples, and all cases through both. `make lib-test`
-# runs it. Without a C compiler or Python, it says so.
+# sanitizers, the module for Python with its examples, and all cases through both, also in chunks.
+# `make lib-test` runs it. Without a C compiler or Python, it says so.
 set -eu -o pipefail
 export LC_ALL=C
 cd "$(dirname "$0")/.."
@@ -27,7 +27,11 @@ done
 "$cc" "${flags[@]}" "${checked[@]}" -Wl,--wrap=malloc,--wrap=realloc -pthread \
   -o "$work/calls" tests/library_calls.c lib/libunifdef.a
 "$work/calls"
-"$cc" "${flags[@]}" "${checked[@]}" -o "$work/filter" lib/examples/filter.c lib/libunifdef.a
+filters=()
+for chunk in 1 7 64 65536; do
+  "$cc" "${flags[@]}" "${checked[@]}" -DCHUNK=$chunk -o "$work/filter$chunk" lib/examples/filter.c lib/libunifdef.a
+  filters+=("$work/filter$chunk")
+done
 
 # Through the shared library: what pkg-config prints is what a program needs.
 "$cc" "${flags[@]}" -O2 -o "$work/shared" lib/examples/filter.c -Llib -lunifdef
@@ -43,4 +47,4 @@ awk '/^\.Bd/ { n++; next } /^\.Ed/ { n += n > 1 } n == 2' "$work/examples" > "$w
 command -v python3 > /dev/null || { echo 'library: python3 is not there, so it is left out'; exit 0; }
 export UNIFDEF_LIBRARY=$PWD/lib/libunifdef.so.1 PYTHONDONTWRITEBYTECODE=1
 (cd lib/python && python3 -m unifdef)
-tests/library.py "$work/filter"
+tests/library.py "${filters[@]}"

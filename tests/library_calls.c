@@ -9,15 +9,18 @@
 static int right, wrong;
 static __thread long allowed = -1;
 
-static int refused(void) {
+static __thread size_t largest;
+
+static int refused(size_t size) {
+    if (size > largest) largest = size;
     if (allowed > 0) allowed--;
     return allowed == 0;
 }
 
 void *__real_malloc(size_t size);
-void *__wrap_malloc(size_t size) { return refused() ? NULL : __real_malloc(size); }
+void *__wrap_malloc(size_t size) { return refused(size) ? NULL : __real_malloc(size); }
 void *__real_realloc(void *old, size_t size);
-void *__wrap_realloc(void *old, size_t size) { return refused() ? NULL : __real_realloc(old, size); }
+void *__wrap_realloc(void *old, size_t size) { return refused(size) ? NULL : __real_realloc(old, size); }
 
 static void check(const char *what, int holds) {
     if (holds) {
@@ -154,6 +157,113 @@ static void names(void) {
     allowed = -1;
 }
 
+/* Feeds a text in chunks of a length, and takes the output into a short buffer. Returns the status. */
+static int streamed(struct unifdef_stream *stream, const char *text, size_t len, size_t most, char *output,
+                    size_t *output_len) {
+    char message[80];
+    size_t size, pending, taken;
+    *output_len = 0;
+    for (size_t at = 0; at < len; at += most) {
+        int fed = unifdef_feed(stream, text + at, len - at < most ? len - at : most);
+        if (fed != 0 && fed != UNIFDEF_TROUBLE) return fed;
+    }
+    int status = unifdef_finish(stream, message, sizeof message, &size);
+    while ((taken = unifdef_take(stream, output + *output_len, 3, &pending)) != 0) *output_len += taken;
+    return status;
+}
+
+static void streams(void) {
+    struct unifdef_stream stream = UNIFDEF_STREAM_INIT;
+    char output[200], told[80];
+    size_t len, size = 7, pending = 7;
+    const char *fault = "unifdef: stdin: 3: Inappropriate #endif\n";
+    check("closed: feed", unifdef_feed(&stream, "x", 1) == UNIFDEF_CLOSED);
+    check("closed: take", unifdef_take(&stream, output, 9, &pending) == 0 && pending == 0);
+    check("closed: finish", unifdef_finish(&stream, told, 9, &size) == UNIFDEF_CLOSED && size == 7);
+    unifdef_close(&stream);
+    check("closed: close", stream.state == NULL);
+    check("open: bad words", unifdef_open(&stream, "-q", 2) == UNIFDEF_BAD_WORDS && stream.state == NULL);
+    check("open: not UTF-8", unifdef_open(&stream, "-D\xff", 3) == UNIFDEF_BAD_WORDS);
+    for (size_t most = 1; most <= sizeof TEXT; most++) {
+        check("open", unifdef_open(&stream, "-DA", 3) == 0 && stream.state != NULL);
+        int status = streamed(&stream, TEXT, sizeof TEXT - 1, most, output, &len);
+        check("a stream", status == 1 && len == 2 && memcmp(output, "x\n", 2) == 0);
+        check("ended: finish again", unifdef_finish(&stream, told, 9, &size) == 1 && size == 0);
+        check("ended: feed", unifdef_feed(&stream, "x", 1) == UNIFDEF_CLOSED);
+    }
+    check("open again", unifdef_open(&stream, NULL, 0) == 0);
+    check("feed: null", unifdef_feed(&stream, NULL, 0) == 0);
+    check("feed: a line that goes on", unifdef_feed(&stream, "abc", 3) == 0);
+    check("take: not yet", unifdef_take(&stream, output, 9, &pending) == 0 && pending == 0);
+    check("feed: its end", unifdef_feed(&stream, "d\n", 2) == 0);
+    check("take: null", unifdef_take(&stream, NULL, 0, &pending) == 0 && pending == 5);
+    check("take: too small", unifdef_take(&stream, output, 2, &pending) == 2 && pending == 3 &&
+                                 memcmp(output, "ab", 2) == 0);
+    memset(output, '?', sizeof output);
+    check("take: the rest", unifdef_take(&stream, output, 9, &pending) == 3 && pending == 0 &&
+                                memcmp(output, "cd\n?", 4) == 0);
+    check("finish: null", unifdef_finish(&stream, NULL, 0, &size) == 0 && size == 0);
+    unifdef_close(&stream);
+    check("a fault: open", unifdef_open(&stream, "-DA", 3) == 0);
+    check("a fault", unifdef_feed(&stream, "abc\nx\n#endif\ny\n", 15) == UNIFDEF_TROUBLE);
+    check("a fault: feed again", unifdef_feed(&stream, "z\n", 2) == UNIFDEF_TROUBLE);
+    memset(told, '?', sizeof told);
+    check("a fault: too small", unifdef_finish(&stream, told, 9, &size) == UNIFDEF_TOO_SMALL &&
+                                    size == strlen(fault) && memcmp(told, "unifdef: ?", 10) == 0);
+    check("a fault: the message", unifdef_finish(&stream, told, sizeof told, &size) == UNIFDEF_TROUBLE &&
+                                      size == strlen(fault) && memcmp(told, fault, size) == 0);
+    check("a fault: the output", unifdef_take(&stream, output, 9, &pending) == 6 &&
+                                     memcmp(output, "abc\nx\n", 6) == 0);
+    unifdef_close(&stream);
+}
+
+/* Each allocation for a stream is refused in turn. What was allocated before is freed. */
+static void stream_memory(void) {
+    long k = 1;
+    for (;; k++) {
+        struct unifdef_stream stream = UNIFDEF_STREAM_INIT;
+        char output[200], told[80];
+        size_t len, size;
+        allowed = k;
+        int opened = unifdef_open(&stream, "-DA\0-UB=1\0", 4);
+        int status = opened == 0 ? streamed(&stream, TEXT, sizeof TEXT - 1, 7, output, &len) : 0;
+        int all = allowed != 0;
+        allowed = -1;
+        if (all) {
+            check("stream memory: all of it", status == 1 && len == 2);
+            unifdef_close(&stream);
+            break;
+        }
+        if (opened != 0)
+            check("stream memory: open", opened == UNIFDEF_NO_MEMORY && stream.state == NULL);
+        else if (status == UNIFDEF_NO_MEMORY)
+            check("stream memory: feed", unifdef_finish(&stream, told, sizeof told, &size) == 2 &&
+                                             size == strlen(MEMORY) && memcmp(told, MEMORY, size) == 0);
+        else
+            check("stream memory: finish", status == 2);
+        unifdef_close(&stream);
+    }
+    check("stream memory: was allocated", k > 3);
+}
+
+/* A stream's memory doesn't grow with its text, if the output is taken. */
+static void stream_growth(void) {
+    struct unifdef_stream stream = UNIFDEF_STREAM_INIT;
+    static char line[4096], output[8192];
+    size_t pending, most = 0;
+    memset(line, 'x', sizeof line);
+    line[sizeof line - 1] = '\n';
+    check("growth: open", unifdef_open(&stream, "-DA", 3) == 0);
+    for (int i = 0; i < 20000; i++) {
+        if (unifdef_feed(&stream, line, sizeof line) != 0) check("growth: feed", 0);
+        size_t taken = unifdef_take(&stream, output, sizeof output, &pending);
+        if (taken != sizeof line || pending != 0) check("growth: take", 0);
+        if (largest > most) most = largest;
+    }
+    check("growth: allocations stay small", most < 300000);
+    unifdef_close(&stream);
+}
+
 static void *many(void *number) {
     char words[8], out[64];
     struct unifdef_sizes sizes;
@@ -196,6 +306,9 @@ int main(void) {
     memory();
     conditions();
     names();
+    streams();
+    stream_memory();
+    stream_growth();
     threads();
     printf("library: %d calls right, %d wrong\n", right, wrong);
     return wrong != 0;

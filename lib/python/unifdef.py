@@ -5,24 +5,31 @@
     b'x\\n'
 
 `python3 -m unifdef` runs these examples. The library is the file that the environment's UNIFDEF_LIBRARY
-names, or the installed one. The calls keep nothing, so any number of threads may call at once: the
-interpreter's lock isn't held meanwhile.
+names, or the installed one. Only a `Stream` keeps anything, so any number of threads may call at once,
+each with streams of its own: the interpreter's lock isn't held meanwhile.
 """
 
 from __future__ import annotations
 
 import ctypes
 import os
-from typing import NamedTuple, Optional, Union
+from types import TracebackType
+from typing import Iterable, Iterator, NamedTuple, Optional, Union
 
-__all__ = ["Answer", "Trouble", "condition", "names", "run", "strip", "version"]
+__all__ = ["Answer", "Stream", "Trouble", "condition", "names", "run", "strip", "strip_chunks", "version"]
 
 TROUBLE = 2
 TOO_SMALL = 3
+CLOSED = -4
+TAKEN = 65536
 
 
 class _Sizes(ctypes.Structure):
     _fields_ = [("output", ctypes.c_size_t), ("message", ctypes.c_size_t)]
+
+
+class _Stream(ctypes.Structure):
+    _fields_ = [("state", ctypes.c_void_p)]
 
 
 _library = ctypes.CDLL(os.environ.get("UNIFDEF_LIBRARY", "libunifdef.so.1"))
@@ -36,6 +43,17 @@ _library.unifdef_condition.argtypes = [*_BYTES, *_BYTES]
 _library.unifdef_condition.restype = ctypes.c_int
 _library.unifdef_names.argtypes = [*_BYTES, *_BUFFER, ctypes.POINTER(ctypes.c_size_t)]
 _library.unifdef_names.restype = ctypes.c_int
+_SIZE = ctypes.POINTER(ctypes.c_size_t)
+_library.unifdef_open.argtypes = [ctypes.POINTER(_Stream), *_BYTES]
+_library.unifdef_open.restype = ctypes.c_int
+_library.unifdef_feed.argtypes = [ctypes.POINTER(_Stream), *_BYTES]
+_library.unifdef_feed.restype = ctypes.c_int
+_library.unifdef_take.argtypes = [ctypes.POINTER(_Stream), *_BUFFER, _SIZE]
+_library.unifdef_take.restype = ctypes.c_size_t
+_library.unifdef_finish.argtypes = [ctypes.POINTER(_Stream), *_BUFFER, _SIZE]
+_library.unifdef_finish.restype = ctypes.c_int
+_library.unifdef_close.argtypes = [ctypes.POINTER(_Stream)]
+_library.unifdef_close.restype = None
 _library.unifdef_version.argtypes = []
 _library.unifdef_version.restype = ctypes.c_int
 
@@ -90,6 +108,95 @@ def strip(text: bytes, *arguments: Union[str, bytes]) -> bytes:
     if answer.status == TROUBLE:
         raise Trouble(answer)
     return answer.output
+
+
+class Stream:
+    """unifdef(1) over a text that comes in chunks. A chunk may end anywhere.
+
+    >>> with Stream("-DA") as stream:
+    ...     stream.feed(b"#ifdef A\\nx\\n#el"), stream.feed(b"se\\ny\\n#endif\\nz"), stream.finish()
+    (b'x\\n', b'', Answer(output=b'z', message='', status=1))
+
+    Memory doesn't grow with the text. A stream is for one thread at a time.
+    """
+
+    def __init__(self, *arguments: Union[str, bytes]) -> None:
+        """Begins a text. Raises `Trouble` if the arguments have a fault."""
+        self._stream = _Stream()
+        self._words = b"".join(_word(argument) + b"\0" for argument in arguments)
+        error = _library.unifdef_open(self._stream, self._words, len(self._words))
+        if error == -2:
+            raise MemoryError(_REASONS[error])
+        if error != 0:
+            raise Trouble(run(b"", *arguments))
+
+    def feed(self, chunk: bytes) -> bytes:
+        """Returns the output for the lines that end in `chunk`.
+
+        After a fault of the text that is b"", and `finish` returns the fault.
+        """
+        fed = _library.unifdef_feed(self._stream, chunk, len(chunk))
+        if fed < 0:
+            raise ValueError("the text has ended") if fed == CLOSED else MemoryError(_REASONS[fed])
+        return self._take()
+
+    def finish(self) -> Answer:
+        """Ends the text. Returns the rest of the output, and the message and the status for all."""
+        size = ctypes.c_size_t(len(self._words) + 80)
+        while True:
+            message = ctypes.create_string_buffer(max(size.value, 1))
+            status = _library.unifdef_finish(self._stream, message, len(message), size)
+            if status == CLOSED:
+                raise ValueError("the stream is closed")
+            if status != TOO_SMALL:
+                told = message.raw[: size.value].decode(errors="surrogateescape")
+                return Answer(self._take(), told, status)
+
+    def close(self) -> None:
+        """Frees the memory of the stream. What comes later raises `ValueError`."""
+        _library.unifdef_close(self._stream)
+
+    def _take(self) -> bytes:
+        pending = ctypes.c_size_t()
+        output = ctypes.create_string_buffer(TAKEN)
+        parts = []
+        while True:
+            taken = _library.unifdef_take(self._stream, output, TAKEN, pending)
+            parts.append(ctypes.string_at(output, taken))
+            if pending.value == 0:
+                return b"".join(parts)
+
+    def __enter__(self) -> Stream:
+        return self
+
+    def __exit__(
+        self,
+        kind: Optional[type[BaseException]],
+        error: Optional[BaseException],
+        trace: Optional[TracebackType],
+    ) -> None:
+        self.close()
+
+    def __del__(self) -> None:
+        if hasattr(self, "_stream"):
+            self.close()
+
+
+def strip_chunks(chunks: Iterable[bytes], *arguments: Union[str, bytes]) -> Iterator[bytes]:
+    """Yields the output for a text in chunks, as it comes. Raises `Trouble` at the end of a faulty one.
+
+    >>> b"".join(strip_chunks([b"#ifdef A\\n", b"x\\n#endif", b"\\ny\\n"], "-UA"))
+    b'y\\n'
+    """
+    with Stream(*arguments) as stream:
+        for chunk in chunks:
+            if output := stream.feed(chunk):
+                yield output
+        answer = stream.finish()
+        if answer.output:
+            yield answer.output
+        if answer.status == TROUBLE:
+            raise Trouble(answer)
 
 
 def condition(expression: bytes, *arguments: Union[str, bytes]) -> Optional[bool]:

@@ -24,6 +24,7 @@ ghost use Rattle.ud_engine.specs.Advancing.{IsCursor};
 
 use crate::line_processor::LineProcessor;
 use crate::output::Output;
+use crate::plan_source::PlanSource;
 use crate::write_failed::WriteFailed;
 use std::io::Write;
 use std::marker::Model;
@@ -88,9 +89,9 @@ fn may_skip_text(chunk: &[u8], cursor: Cursor) -> bool
 
 /// An engine: unifdef(1) over a text that comes in chunks.
 #[derive(Drop)]
-pub struct Engine<'p, S: Show, H: LineBuffer = LongLineBuffer> {
+pub struct Engine<P: PlanSource, S: Show, H: LineBuffer = LongLineBuffer> {
     /// The result of the command line.
-    plan: &'p Plan,
+    plan: P,
     /// The buffered line.
     lines: Lines<H>,
     /// The processor that decides and prints the lines.
@@ -101,13 +102,13 @@ pub struct Engine<'p, S: Show, H: LineBuffer = LongLineBuffer> {
     fault: Option<RunFault>,
 }
 
-impl<'p, S: Show, H: LineBuffer> Model for Engine<'p, S, H> {
+impl<P: PlanSource, S: Show, H: LineBuffer> Model for Engine<P, S, H> {
     ghost use Rattle.ud_engine.specs.Feeding.{EngineState, IsOpen};
 
     ghost Value = { EngineState S };
 
     ghost view = { λ e. record {
-      symbols = e.plan.now.symbols;
+      symbols = (P.plan e.plan).symbols;
       lines = e.lines;
       printer = e.printer;
       buffered = e.output;
@@ -117,13 +118,14 @@ impl<'p, S: Show, H: LineBuffer> Model for Engine<'p, S, H> {
     ghost invariant = { λ e. IsOpen e.lines };
 }
 
-impl<'p, S: Show> Engine<'p, S, LongLineBuffer> {
+impl<P: PlanSource, S: Show> Engine<P, S, LongLineBuffer> {
     ghost use Rattle.ud_engine.specs.Feeding.{Session, Begins, IsInSession};
 
     /// Returns an engine before the first byte. It prints by `show`, or lists names if the plan
     /// asks for that.
     ///
-    /// `show` has printed no line yet, unless names are listed. Takes no memory.
+    /// The engine borrows `plan` if that is a `&Plan`, and owns it if it is a `Plan`. `show` has
+    /// printed no line yet, unless names are listed. Takes no memory.
     ///
     /// # Examples
     /// ```rust
@@ -134,9 +136,9 @@ impl<'p, S: Show> Engine<'p, S, LongLineBuffer> {
     /// ```text
     /// blanked: \nx\n\n
     /// ```
-    pub fn new(plan: &'p Plan, show: S) -> Engine<'p, S, LongLineBuffer>
+    pub fn new(plan: P, show: S) -> Engine<P, S, LongLineBuffer>
         ensures represents { (s : Session) →
-            Begins S.represents S.piece show plan.now.settings plan.now.symbols s →
+            Begins S.represents S.piece show (P.plan plan).settings (P.plan plan).symbols s →
             IsInSession S.represents S.piece result s }
         ensures no_fault { result.fault ≡ None }
     {
@@ -144,7 +146,27 @@ impl<'p, S: Show> Engine<'p, S, LongLineBuffer> {
     }
 }
 
-impl<'p, S: Show, H: LineBuffer> Engine<'p, S, H> {
+impl<'p, S: Show, H: LineBuffer> Engine<&'p Plan, S, H> {
+    /// Moves the state to an engine whose buffer holds the longest line.
+    ///
+    /// Leaves in its place an engine before the first byte, which prints by `show`.
+    #[inline(never)]
+    pub(crate) fn take_as_long(&mut self, show: S) -> Engine<&'p Plan, S, LongLineBuffer>
+        ensures { result ≡ self.old }
+    {
+        let spent: Engine<&'p Plan, S, H> = Engine::with_buffer(self.plan, show);
+        let engine = mem::replace(self, spent);
+        Engine {
+            plan: engine.plan,
+            lines: engine.lines.into_long(),
+            printer: engine.printer,
+            output: engine.output,
+            fault: engine.fault,
+        }
+    }
+}
+
+impl<P: PlanSource, S: Show, H: LineBuffer> Engine<P, S, H> {
     ghost use Rattle.ud_engine.specs.Feeding.{Session, Begins, IsInSession};
     ghost use Rattle.ud_engine.specs.Feeding.{FeedsChunk, WriterMatches};
     ghost use Rattle.ud_engine.specs.Feeding.{RecordsFault};
@@ -154,16 +176,17 @@ impl<'p, S: Show, H: LineBuffer> Engine<'p, S, H> {
     ghost use Rattle.ud_model.specs.declared.limits.TheConstants.{LINE_BYTES};
 
     /// Returns an engine before the first byte, as `new` does, whose line buffer is an `H`.
-    pub(crate) fn with_buffer(plan: &'p Plan, show: S) -> Engine<'p, S, H>
+    pub(crate) fn with_buffer(plan: P, show: S) -> Engine<P, S, H>
         ensures represents { (s : Session) →
-            Begins S.represents S.piece show plan.now.settings plan.now.symbols s →
+            Begins S.represents S.piece show (P.plan plan).settings (P.plan plan).symbols s →
             IsInSession S.represents S.piece result s }
         ensures no_fault { result.fault ≡ None }
     {
+        let settings = plan.settings();
         Engine {
             plan,
             lines: Lines::with_buffer(TEXT_LINES),
-            printer: LineProcessor::new(plan.settings(), show),
+            printer: LineProcessor::new(settings, show),
             output: Output::new(),
             fault: None,
         }
@@ -239,10 +262,10 @@ impl<'p, S: Show, H: LineBuffer> Engine<'p, S, H> {
     /// ```
     pub fn finish<W: Write>(self, out: &mut Watched<W>) -> Result<bool, RunFault>
         requires { self.fault ≡ None → out.old.failed ≡ false }
-        ensures finishes { (s : Session) → IsInSession S.represents S.piece self.entry s →
+        ensures finishes { (s : Session) → IsInSession S.represents S.piece self s →
             Finishes s out.new.failed (W.contents out.old.inner) (W.contents out.new.inner) result }
-        ensures writer { self.entry.fault ≡ None → WriterMatches out.new.failed result }
-        ensures fused { IfSome self.entry.fault (λ f. (result ≡ Err f) × (out.new ≡ out.old)) }
+        ensures writer { self.fault ≡ None → WriterMatches out.new.failed result }
+        ensures fused { IfSome self.fault (λ f. (result ≡ Err f) × (out.new ≡ out.old)) }
     {
         let mut engine = self;
         engine.finish_in_place(out)
@@ -253,7 +276,7 @@ impl<'p, S: Show, H: LineBuffer> Engine<'p, S, H> {
     ///
     /// # Errors
     /// As `finish`.
-    pub(crate) fn finish_in_place<W: Write>(
+    pub fn finish_in_place<W: Write>(
         &mut self,
         out: &mut Watched<W>,
     ) -> Result<bool, RunFault>
@@ -293,24 +316,6 @@ impl<'p, S: Show, H: LineBuffer> Engine<'p, S, H> {
         ensures short { result < most → H.CAPACITY < LINE_BYTES }
     {
         self.lines.remaining_capacity(most)
-    }
-
-    /// Moves the state to an engine whose buffer holds the longest line.
-    ///
-    /// Leaves in its place an engine before the first byte, which prints by `show`.
-    #[inline(never)]
-    pub(crate) fn take_as_long(&mut self, show: S) -> Engine<'p, S, LongLineBuffer>
-        ensures { result ≡ self.old }
-    {
-        let spent: Engine<'p, S, H> = Engine::with_buffer(self.plan, show);
-        let engine = mem::replace(self, spent);
-        Engine {
-            plan: engine.plan,
-            lines: engine.lines.into_long(),
-            printer: engine.printer,
-            output: engine.output,
-            fault: engine.fault,
-        }
     }
 
     /// Processes all of a chunk: writes the output for every line that ends in it.

@@ -12,10 +12,12 @@ mod line_processor;
 mod listing;
 mod output;
 mod output_buffer;
+mod plan_source;
 mod pump;
 mod write_failed;
 
 pub use engine::Engine;
+pub use plan_source::PlanSource;
 pub use pump::run;
 pub use ud_faults::RunFault;
 pub use ud_io::{Watched, write_all};

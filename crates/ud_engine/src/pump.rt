@@ -64,7 +64,7 @@ pub fn run<R: Read, W: Write>(
         Finished R.remaining W.contents o reader.old reader.new out.old out.new result }
     ensures error_matches { ErrorMatchesStreams reader.new.failed out.new.failed result }
 {
-    let mut engine: Engine<'_, Printer, ShortLineBuffer> = Engine::with_buffer(
+    let mut engine: Engine<&Plan, Printer, ShortLineBuffer> = Engine::with_buffer(
         plan,
         Printer::of(&plan.settings()),
     );
@@ -84,7 +84,7 @@ pub fn run<R: Read, W: Write>(
 #[inline(never)]
 fn run_with_long_buffer<R: Read, W: Write>(
     plan: &Plan,
-    short: &mut Engine<'_, Printer, ShortLineBuffer>,
+    short: &mut Engine<&Plan, Printer, ShortLineBuffer>,
     reader: &mut Watched<R>,
     out: &mut Watched<W>,
 ) -> Result<bool, RunFault>
@@ -95,7 +95,7 @@ fn run_with_long_buffer<R: Read, W: Write>(
         out.old out.new result }
     ensures error_matches { ErrorMatchesStreams reader.new.failed out.new.failed result }
 {
-    let mut engine: Engine<'_, Printer, LongLineBuffer> = short.take_as_long(Printer::of(
+    let mut engine: Engine<&Plan, Printer, LongLineBuffer> = short.take_as_long(Printer::of(
         &plan.settings(),
     ));
     match pump(&mut engine, reader, out) {
@@ -112,7 +112,7 @@ fn run_with_long_buffer<R: Read, W: Write>(
 /// # Errors
 /// As `run`.
 fn pump<R: Read, W: Write, H: LineBuffer>(
-    engine: &mut Engine<'_, Printer, H>,
+    engine: &mut Engine<&Plan, Printer, H>,
     reader: &mut Watched<R>,
     out: &mut Watched<W>,
 ) -> Option<Result<bool, RunFault>>

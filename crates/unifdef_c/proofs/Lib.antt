@@ -1,2 +1,5 @@
 pub mod WordLemmas
 pub mod TextCallLemmas
+pub mod HandleBox
+pub mod HandleSteps
+pub mod StreamLemmas

@@ -4,3 +4,6 @@ pub mod TextCalls
 pub mod Parts
 pub mod Decisions
 pub mod Versions
+pub mod Streams
+pub mod Handles
+pub mod StreamCalls

@@ -8,5 +8,9 @@
 mod args;
 mod decide;
 mod hand_out;
+mod handle;
+mod raw_box;
+mod stream;
+mod stream_calls;
 mod text;
 mod version;

@@ -25,7 +25,7 @@ returns-then-skipped-clause-moves g c = λ s old.
     let h = subst (λ (e : EngineState g.row.S.Denot). EngineRepresentsBuffered g.S.Show.represents g.S.Show.piece e s.options s.pieces s.text s.printed) (sym c.self.view_is) old in
     let place = subst (λ (e : EngineState g.row.S.Denot). IsCursor g.H.LineBuffer.CAPACITY e.lines c.args.chunk.now c.args.cursor) (sym c.self.view_is) c.requires.cursor in
     let out = g.W.Write.contents c.args.out.now.inner in
-    let f : EngineState g.row.S.Denot = record { symbols = c.self.inside.plan.now.symbols; lines = c.skip_text-skipped.new.lines; printer = c.skip_text-skipped.new.self; buffered = c.self.inside.output; fault = c.self.inside.fault } in
+    let f : EngineState g.row.S.Denot = record { symbols = (g.P.PlanSource.plan c.self.inside.plan).symbols; lines = c.skip_text-skipped.new.lines; printer = c.skip_text-skipped.new.self; buffered = c.self.inside.output; fault = c.self.inside.fault } in
     subst (λ (e : EngineState g.row.S.Denot). Advances g.S.Show.represents g.S.Show.piece f s.options s.pieces s.text s.printed
     (slice_between c.args.chunk.now c.args.cursor.pos (c.args.cursor.pos + c.skip_text-skipped.result.count)) out out
     (e.buffered ++ slice_between c.args.chunk.now c.args.cursor.pending_start c.args.cursor.pos)
@@ -47,7 +47,7 @@ returns-clause-moves g c = λ s old.
     let h = subst (λ (e : EngineState g.row.S.Denot). EngineRepresentsBuffered g.S.Show.represents g.S.Show.piece e s.options s.pieces s.text s.printed) (sym c.self.view_is) old in
     let place = subst (λ (e : EngineState g.row.S.Denot). IsCursor g.H.LineBuffer.CAPACITY e.lines c.args.chunk.now c.args.cursor) (sym c.self.view_is) c.requires.cursor in
     let out = g.W.Write.contents c.args.out.now.inner in
-    let f : EngineState g.row.S.Denot = record { symbols = c.self.inside.plan.now.symbols; lines = c.skip_text-skipped.new.lines; printer = c.skip_text-skipped.new.self; buffered = c.append.new.self; fault = c.self.inside.fault } in
+    let f : EngineState g.row.S.Denot = record { symbols = (g.P.PlanSource.plan c.self.inside.plan).symbols; lines = c.skip_text-skipped.new.lines; printer = c.skip_text-skipped.new.self; buffered = c.append.new.self; fault = c.self.inside.fault } in
     let now = g.W.Write.contents c.append.new.out.inner in
     subst (λ (e : EngineState g.row.S.Denot). Advances g.S.Show.represents g.S.Show.piece f s.options s.pieces s.text s.printed
     (slice_between c.args.chunk.now c.args.cursor.pos (c.args.cursor.pos + c.skip_text-skipped.result.count)) out now

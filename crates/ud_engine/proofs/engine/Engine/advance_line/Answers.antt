@@ -12,7 +12,7 @@ pub returns-in-Err-clause-moves : goal.returns-in-Err-clause-moves
 returns-in-Err-clause-moves g c = λ s old.
     let h = subst (λ (e : EngineState g.row.S.Denot). EngineRepresentsBuffered g.S.Show.represents g.S.Show.piece e s.options s.pieces s.text s.printed) (sym c.self.view_is) old in
     let k = subst (λ (l : LinesState). EngineRepresentsBuffered g.S.Show.represents g.S.Show.piece
-    (record { symbols = c.self.inside.plan.now.symbols; lines = l; printer = c.self.inside.printer; buffered = c.self.inside.output; fault = c.self.inside.fault }) s.options s.pieces s.text s.printed)
+    (record { symbols = (g.P.PlanSource.plan c.self.inside.plan).symbols; lines = l; printer = c.self.inside.printer; buffered = c.self.inside.output; fault = c.self.inside.fault }) s.options s.pieces s.text s.printed)
     (sym c.in_default.ensures.unchanged) h in
     subst (λ (x : List ℕ). StepFails s.options s.pieces (s.text ++ x) s.printed (g.W.Write.contents c.args.out.now.inner) (g.W.Write.contents c.push_line_part.new.out.inner)
     (c.args.self.now.buffered ++ slice_between c.args.chunk.now c.args.cursor.pending_start c.args.cursor.pos) c.in-Err.fault) (slice_from c.args.chunk.now c.args.cursor.pos)
@@ -25,7 +25,7 @@ pub returns-in-Ok-clause-moves : goal.returns-in-Ok-clause-moves
 returns-in-Ok-clause-moves g c = λ s old.
     let h = subst (λ (e : EngineState g.row.S.Denot). EngineRepresentsBuffered g.S.Show.represents g.S.Show.piece e s.options s.pieces s.text s.printed) (sym c.self.view_is) old in
     let k = subst (λ (l : LinesState). EngineRepresentsBuffered g.S.Show.represents g.S.Show.piece
-    (record { symbols = c.self.inside.plan.now.symbols; lines = l; printer = c.self.inside.printer; buffered = c.self.inside.output; fault = c.self.inside.fault }) s.options s.pieces s.text s.printed)
+    (record { symbols = (g.P.PlanSource.plan c.self.inside.plan).symbols; lines = l; printer = c.self.inside.printer; buffered = c.self.inside.output; fault = c.self.inside.fault }) s.options s.pieces s.text s.printed)
     (sym c.in_default.ensures.unchanged) h in
     let there = λ (e : EngineState g.row.S.Denot) (n from at : ℕ). Advances g.S.Show.represents g.S.Show.piece e s.options s.pieces s.text s.printed (slice_between c.args.chunk.now c.args.cursor.pos n)
     (g.W.Write.contents c.args.out.now.inner) (g.W.Write.contents c.push_line_part.new.out.inner)
@@ -50,7 +50,7 @@ returns-in-Err-print-clause-moves g c = λ s old.
     (take (length c.args.chunk.now - c.args.cursor.pos) (drop c.args.cursor.pos c.args.chunk.now)) c.args.cursor.pending_start c.args.cursor.pos
     (c.args.cursor.pos + (length c.in-Some.line.body.now + length c.in-Some.line.ending.now)) (slice_from c.args.chunk.now c.args.cursor.pos)
     c.requires.cursor.from (omega arith)
-    (record { symbols = c.self.inside.plan.now.symbols; lines = c.whole_in.new.self; printer = c.print.new.self; buffered = c.print.new.output; fault = c.self.inside.fault })
+    (record { symbols = (g.P.PlanSource.plan c.self.inside.plan).symbols; lines = c.whole_in.new.self; printer = c.print.new.self; buffered = c.print.new.output; fault = c.self.inside.fault })
     (as_line c.in-Some.line) c.in-Some.ensures.borrowed c.in-Some.ensures.bytes (omega (arith, len)) c.in-Some.ensures.value c.in-Some.ensures.counted refl
     (c.in-Some.ensures.represents s.text h.took) c.in-Err-print.fault
     (c.in-Err-print.ensures.prints s.options s.pieces h.items h.tree (subst (λ x. TableRepresents x s.options.table) (sym c.symbols.ensures) h.symbols) h.has)

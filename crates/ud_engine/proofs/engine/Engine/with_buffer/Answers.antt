@@ -11,7 +11,7 @@ returns-clause-represents g c = λ s b. in_session g.S.Show.represents g.S.Show.
     items = [];
     tree = closed nothing;
     goes = record { sound = no_lines; are = none_so_far };
-    has = c.new.ensures s.options s.pieces (b.settings_are ∙ sym c.settings.ensures) b.show_is_new b.pieces_are;
+    has = c.new.ensures s.options s.pieces (b.settings_are ∙ sym c.settings-settings.ensures) b.show_is_new b.pieces_are;
     printed_is = none_printed s.options.settings.listing s.pieces;
     symbols = b.symbols_are;
     opened = open_new c.with_buffer.result c.with_buffer.ensures.value;

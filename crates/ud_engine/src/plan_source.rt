@@ -1,0 +1,48 @@
+//! What an engine has its plan from.
+
+ghost use Rattle.std.specs.Prelude.{◌≡◌};
+ghost use Rattle.ud_args.specs.Plans.{PlanState};
+
+use ud_args::Plan;
+use ud_cond::Symbols;
+use ud_model::Settings;
+
+/// A plan, or a reference to one.
+///
+/// An engine that borrows its plan has the type parameter `&Plan`, and one that owns it `Plan`.
+pub trait PlanSource: Drop {
+    /// The plan.
+    ghost plan: { Self → PlanState };
+
+    /// Returns the plan's settings.
+    fn settings(&self) -> Settings
+        ensures { result ≡ (plan self.now).settings };
+
+    /// Returns the plan's table of symbols.
+    fn symbols(&self) -> &Symbols
+        ensures { result.now ≡ (plan self.now).symbols };
+}
+
+impl PlanSource for Plan {
+    ghost plan = { λ p. p };
+
+    fn settings(&self) -> Settings {
+        Plan::settings(self)
+    }
+
+    fn symbols(&self) -> &Symbols {
+        Plan::symbols(self)
+    }
+}
+
+impl<'p> PlanSource for &'p Plan {
+    ghost plan = { λ p. p.now };
+
+    fn settings(&self) -> Settings {
+        Plan::settings(self)
+    }
+
+    fn symbols(&self) -> &Symbols {
+        Plan::symbols(self)
+    }
+}

@@ -1,0 +1,72 @@
+//! What C keeps of a stream: a pointer that owns it, or null.
+
+ghost use Rattle.std.specs.Prelude.{◌≡◌, Option, None, Some, MatchOption};
+ghost use Rattle.unifdef_c.specs.declared.stream.Stream.{Stream as Streamed};
+ghost use Rattle.unifdef_c.specs.Handles.{handle_owns, stream_coded};
+
+use crate::raw_box::RawBox;
+use crate::stream::Stream;
+use std::alloc::Global;
+use std::marker::Model;
+use std::ptr::null_mut;
+
+/// A stream, or none if it is closed. In C this is a struct with one pointer, which is null if it is
+/// closed.
+#[repr(C)]
+pub struct Handle {
+    at: *mut u8,
+    alloc: Global,
+    /// The stream, if it is open.
+    pub ghost stream: { Option Streamed } by { stream_coded },
+}
+
+impl Model for Handle {
+    ghost also_owns = { λ h. handle_owns h.alloc h.at h.stream };
+}
+
+impl Handle {
+    /// Returns a closed handle.
+    pub(crate) fn closed(alloc: Global) -> Handle
+        ensures { result.stream ≡ None }
+    {
+        Handle {
+            at: null_mut(),
+            alloc,
+        }
+    }
+
+    /// Returns the handle of a stream.
+    pub(crate) fn of(raw: RawBox<Stream, Global>) -> Handle
+        ensures { result.stream ≡ Some raw.value }
+    {
+        let RawBox { ptr, alloc } = raw;
+        Handle {
+            at: ptr as *mut u8,
+            alloc,
+        }
+    }
+
+    /// Returns the stream, if it is open.
+    pub(crate) fn into_raw(self) -> Option<RawBox<Stream, Global>>
+        ensures { MatchOption result (self.stream ≡ None) (λ p. self.stream ≡ Some p.value) }
+    {
+        let Handle { at, alloc } = self;
+        if at.is_null() {
+            None
+        } else {
+            Some(RawBox {
+                ptr: at as *mut Stream,
+                alloc,
+            })
+        }
+    }
+}
+
+impl Drop for Handle {
+    fn drop(self) {
+        match self.into_raw() {
+            None => {}
+            Some(raw) => drop(raw.into_box()),
+        }
+    }
+}

@@ -1,0 +1,174 @@
+//! A text that comes in chunks: an engine, and the output that wasn't taken yet.
+
+ghost use Rattle.std.specs.Prelude.{◌≡◌, ◌+◌, ◌^◌, ◌<◌, None, IfOk, IfErr, length, map};
+ghost use Rattle.std.specs.Prelude.{string_bytes};
+ghost use Rattle.ud_model.specs.answer.CommandLine.{UsageFault, usage_fault};
+ghost use Rattle.unifdef_c.specs.Streams.{IsNewStream, BeginsStream, FeedsStream, TakesStream};
+ghost use Rattle.unifdef_c.specs.Streams.{EndsStream, FinishesStream, pending, fed_of};
+
+use crate::hand_out::overwrite;
+use std::alloc::Global;
+use ud_args::{Plan, Usage, display_name, plan};
+use ud_engine::{Engine, RunFault, Watched};
+use ud_model::Settings;
+use ud_sections::Printer;
+
+/// What a handle owns: an engine and its output.
+#[derive(Drop)]
+pub struct Stream {
+    /// The engine, which owns its plan.
+    pub(crate) engine: Engine<Plan, Printer>,
+    /// The output since all of it was last taken.
+    pub(crate) output: Watched<Vec<u8>>,
+    /// How many bytes of the output were taken.
+    pub(crate) taken: usize,
+    /// The input's name in messages.
+    pub(crate) name: Vec<u8>,
+    /// The settings, for the exit status.
+    pub(crate) settings: Settings,
+    /// The result, once the text has ended.
+    pub(crate) ended: Option<Result<bool, RunFault>>,
+}
+
+/// Why no stream begins.
+#[derive(Clone, Copy, Debug, PartialEq, Eq)]
+pub(crate) enum BeginFault {
+    /// The words have a fault, or one of them isn't UTF-8.
+    BadWords,
+    /// Memory can't be allocated.
+    OutOfMemory,
+}
+
+/// What a chunk did.
+#[derive(Clone, Copy, Debug, PartialEq, Eq)]
+pub(crate) enum Fed {
+    /// The chunk is accepted.
+    Accepted,
+    /// The text has a fault.
+    Faulty,
+    /// Memory for the output can't be allocated.
+    OutOfMemory,
+    /// The text has ended before.
+    Ended,
+}
+
+impl Stream {
+    /// Returns a stream before the first byte.
+    ///
+    /// # Errors
+    /// `BadWords` if the arguments have a fault, `OutOfMemory` if memory is refused.
+    pub(crate) fn begin(alloc: Global, args: &[String]) -> Result<Stream, BeginFault>
+        ensures ok { IfOk result (BeginsStream (map string_bytes args.now)) }
+        ensures err { IfErr result (λ e. e ≡ BeginFault.BadWords →
+            (f : UsageFault) × (usage_fault (map string_bytes args.now) ≡ Some f)) }
+    {
+        match plan(alloc, args) {
+            Ok(plan) => Stream::with_plan(alloc, plan, display_name(args)),
+            Err(Usage::OutOfMemory) => Err(BeginFault::OutOfMemory),
+            Err(_) => Err(BeginFault::BadWords),
+        }
+    }
+
+    /// Returns a stream before the first byte, by a plan.
+    ///
+    /// # Errors
+    /// `OutOfMemory` if memory is refused.
+    fn with_plan(alloc: Global, plan: Plan, name: &[u8]) -> Result<Stream, BeginFault>
+        ensures ok { IfOk result (IsNewStream plan name.now) }
+        ensures err { IfErr result (λ e. e ≡ BeginFault.OutOfMemory) }
+    {
+        let settings = plan.settings();
+        let mut owned = Vec::new(alloc);
+        if owned.extend_from_slice(name).is_err() {
+            return Err(BeginFault::OutOfMemory);
+        }
+        Ok(Stream {
+            engine: Engine::new(plan, Printer::of(&settings)),
+            output: Watched::new(Vec::new(alloc)),
+            taken: 0,
+            name: owned,
+            settings,
+            ended: None,
+        })
+    }
+
+    /// Processes the next chunk. The output for every line that ends in it is appended.
+    pub(crate) fn feed(&mut self, chunk: &[u8]) -> Fed
+        ensures { FeedsStream self.old self.new chunk.now result }
+    {
+        if self.ended.is_some() {
+            return Fed::Ended;
+        }
+        if self.output.failed() {
+            return Fed::OutOfMemory;
+        }
+        fed_of(self.engine.feed(chunk, &mut self.output))
+    }
+
+    /// Ends the text: appends the output for its last line, if that has no newline. Returns the
+    /// result, and returns it again if the text has ended before.
+    pub(crate) fn end(&mut self) -> Result<bool, RunFault>
+        ensures { EndsStream self.old self.new result }
+    {
+        if let Some(ended) = self.ended {
+            return ended;
+        }
+        self.finish()
+    }
+
+    /// Ends the text, which hasn't ended before.
+    fn finish(&mut self) -> Result<bool, RunFault>
+        requires { self.old.ended ≡ None }
+        ensures { FinishesStream self.old self.new result }
+    {
+        if self.output.failed() {
+            self.ended = Some(Err(RunFault::Write));
+            return Err(RunFault::Write);
+        }
+        let ended = self.engine.finish_in_place(&mut self.output);
+        self.ended = Some(ended);
+        ended
+    }
+
+    /// Returns the output that wasn't taken yet.
+    pub(crate) fn pending(&self) -> &[u8]
+        ensures value { result.now ≡ pending self.now }
+        ensures bound { self.now.taken + length result.now < 2 ^ 64 }
+    {
+        let all = self.output.inner().as_slice();
+        if self.taken <= all.len() {
+            &all[self.taken..]
+        } else {
+            &[]
+        }
+    }
+
+    /// Writes what fits of the pending output to `buffer`, and returns how many bytes that were.
+    /// They aren't pending any more.
+    pub(crate) fn take(&mut self, alloc: Global, buffer: &mut [u8]) -> usize
+        ensures { TakesStream self.old self.new buffer.old buffer.new result }
+    {
+        let pending = self.pending();
+        let count = pending.len().min(buffer.len());
+        let all = count == pending.len();
+        overwrite(buffer, pending);
+        if all && !self.output.failed() {
+            self.output = Watched::new(Vec::new(alloc));
+            self.taken = 0;
+        } else {
+            self.taken += count;
+        }
+        count
+    }
+}
+
+/// Returns what a chunk did, if the engine returned this.
+fn fed_of(returned: Result<(), RunFault>) -> Fed
+    ensures { result ≡ fed_of returned }
+{
+    match returned {
+        Ok(()) => Fed::Accepted,
+        Err(RunFault::Write) => Fed::OutOfMemory,
+        Err(RunFault::Text(_) | RunFault::Section(_) | RunFault::Read) => Fed::Faulty,
+    }
+}

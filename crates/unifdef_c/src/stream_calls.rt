@@ -1,0 +1,222 @@
+//! The whole tool over a text that comes in chunks.
+
+ghost use Rattle.std.specs.Prelude.{◌≡◌, None, Some, IfOk, IfErr, map, string_bytes};
+ghost use Rattle.ud_model.specs.answer.CommandLine.{UsageFault, usage_fault};
+ghost use Rattle.unifdef_c.specs.Streams.{BeginsStream};
+ghost use Rattle.unifdef_c.specs.StreamCalls.{OpensHandle, FeedsHandle, TakesHandle, EndsHandle};
+ghost use Rattle.unifdef_c.specs.StreamCalls.{TellsEnd, Tells, OpensStream, HasBadWords};
+
+use crate::args::{ArgsFault, parse_words};
+use crate::hand_out::{TOO_SMALL, overwrite};
+use crate::handle::Handle;
+use crate::raw_box::RawBox;
+use crate::stream::{BeginFault, Fed, Stream};
+use std::alloc::Global;
+use std::mem;
+use ud_diagnostics::report_result;
+use ud_engine::RunFault;
+use ud_io::Watched;
+use ud_model::Settings;
+use unifdef::EXIT_TROUBLE;
+
+/// Opens a stream: unifdef(1) over a text that comes in chunks. If `handle` is open, closes it
+/// before.
+///
+/// `words` has the arguments, as for `unifdef_text`. Returns 0.
+///
+/// # Errors
+/// -1 if the words have a fault or one of them isn't UTF-8, and -2 if memory is refused. `handle` is
+/// closed then.
+#[unsafe(no_mangle)]
+pub extern "C" fn unifdef_open(alloc: Global, handle: &mut Handle, words: &[u8]) -> i32
+    ensures { OpensHandle words.now handle.new.stream result }
+{
+    match open(alloc, words) {
+        Ok(owner) => {
+            *handle = Handle::of(RawBox::of(owner));
+            0
+        }
+        Err(fault) => {
+            *handle = Handle::closed(alloc);
+            match fault {
+                BeginFault::BadWords => -1,
+                BeginFault::OutOfMemory => -2,
+            }
+        }
+    }
+}
+
+/// Processes the next chunk of a text. The output for every line that ends in it can then be taken.
+///
+/// Returns 0.
+///
+/// # Errors
+/// - 2 if the text has a fault. The output for what comes before it can be taken.
+/// - -2 if memory for the output is refused. A part of the output can be taken.
+/// - -4 if the stream is closed, or the text has ended.
+///
+/// After 2 or -2, later calls return the same.
+#[unsafe(no_mangle)]
+pub extern "C" fn unifdef_feed(alloc: Global, handle: &mut Handle, text: &[u8]) -> i32
+    ensures { FeedsHandle text.now handle.old.stream handle.new.stream result }
+{
+    let held = mem::replace(handle, Handle::closed(alloc));
+    match held.into_raw() {
+        None => -4,
+        Some(raw) => {
+            let mut owner = raw.into_box();
+            let fed = owner.feed(text);
+            *handle = Handle::of(RawBox::of(owner));
+            match fed {
+                Fed::Accepted => 0,
+                Fed::Faulty => 2,
+                Fed::OutOfMemory => -2,
+                Fed::Ended => -4,
+            }
+        }
+    }
+}
+
+/// Writes as much of the output as fits to `output`, and how much is left to `pending`.
+///
+/// Returns how many bytes were written: 0 if nothing is left, or if the stream is closed.
+#[unsafe(no_mangle)]
+pub extern "C" fn unifdef_take(
+    alloc: Global,
+    handle: &mut Handle,
+    output: &mut [u8],
+    pending: &mut usize,
+) -> usize
+    ensures { TakesHandle output.old output.new pending.new result handle.old.stream
+        handle.new.stream }
+{
+    let held = mem::replace(handle, Handle::closed(alloc));
+    match held.into_raw() {
+        None => {
+            *pending = 0;
+            0
+        }
+        Some(raw) => {
+            let mut owner = raw.into_box();
+            let count = owner.take(alloc, output);
+            *pending = owner.pending().len();
+            *handle = Handle::of(RawBox::of(owner));
+            count
+        }
+    }
+}
+
+/// Ends the text. The rest of the output can then be taken.
+///
+/// What fits of the message is written to `message`, and its whole length to `size`. Returns the
+/// exit status, or 3 if the message doesn't fit. A later call returns the same status and message.
+///
+/// # Errors
+/// The status is 2, with the program's message, if the text has a fault or memory was refused. It is
+/// -4 if the stream is closed. Nothing is written then.
+#[unsafe(no_mangle)]
+pub extern "C" fn unifdef_finish(
+    alloc: Global,
+    handle: &mut Handle,
+    message: &mut [u8],
+    size: &mut usize,
+) -> i32
+    ensures { EndsHandle message.old message.new size.old size.new handle.old.stream
+        handle.new.stream result }
+{
+    let held = mem::replace(handle, Handle::closed(alloc));
+    match held.into_raw() {
+        None => -4,
+        Some(raw) => {
+            let mut owner = raw.into_box();
+            let ended = owner.end();
+            let status = tell_end(
+                alloc,
+                owner.name.as_slice(),
+                owner.settings,
+                ended,
+                message,
+                size,
+            );
+            *handle = Handle::of(RawBox::of(owner));
+            status as i32
+        }
+    }
+}
+
+/// Closes a stream, and frees its memory. Does nothing if it is closed.
+#[unsafe(no_mangle)]
+pub extern "C" fn unifdef_close(alloc: Global, handle: &mut Handle)
+    ensures { handle.new.stream ≡ None }
+{
+    drop(mem::replace(handle, Handle::closed(alloc)));
+}
+
+/// Returns a stream before the first byte, by the words of a block.
+///
+/// # Errors
+/// `BadWords` if the words have a fault or one of them isn't UTF-8, `OutOfMemory` if memory is
+/// refused.
+fn open(alloc: Global, words: &[u8]) -> Result<Box<Stream>, BeginFault>
+    ensures ok { IfOk result (λ owner. OpensStream words.now owner.value) }
+    ensures err { IfErr result (λ e. e ≡ BeginFault.BadWords → HasBadWords words.now) }
+{
+    match parse_words(alloc, words) {
+        Ok(args) => open_by_args(alloc, args.as_slice()),
+        Err(ArgsFault::NotUtf8) => Err(BeginFault::BadWords),
+        Err(ArgsFault::OutOfMemory) => Err(BeginFault::OutOfMemory),
+    }
+}
+
+/// Returns a stream before the first byte, by arguments.
+///
+/// # Errors
+/// As `Stream::begin`.
+fn open_by_args(alloc: Global, args: &[String]) -> Result<Box<Stream>, BeginFault>
+    ensures ok { IfOk result (λ owner. BeginsStream (map string_bytes args.now) owner.value) }
+    ensures err { IfErr result (λ e. e ≡ BeginFault.BadWords →
+        (f : UsageFault) × (usage_fault (map string_bytes args.now) ≡ Some f)) }
+{
+    match Stream::begin(alloc, args) {
+        Err(fault) => Err(fault),
+        Ok(stream) => match Box::new(alloc, stream) {
+            Ok(owner) => Ok(owner),
+            Err(_) => Err(BeginFault::OutOfMemory),
+        },
+    }
+}
+
+/// Hands out the message of how a text has ended. Returns the exit status, or 3 if the message
+/// doesn't fit.
+fn tell_end(
+    alloc: Global,
+    name: &[u8],
+    settings: Settings,
+    ended: Result<bool, RunFault>,
+    message: &mut [u8],
+    size: &mut usize,
+) -> u8
+    ensures { TellsEnd name.now settings ended message.old message.new size.new result }
+{
+    let mut err = Watched::new(Vec::<u8>::new(alloc));
+    let status = report_result(&mut err, name, settings, ended);
+    // A write to a `Vec` fails if memory is refused.
+    if err.failed() || matches!(ended, Err(RunFault::Write)) {
+        return tell(b"unifdef: Out of memory\n", EXIT_TROUBLE, message, size);
+    }
+    tell(err.inner().as_slice(), status, message, size)
+}
+
+/// Writes what fits of `bytes` to `message`, and their length to `size`. Returns `status`, or 3 if
+/// they don't fit.
+fn tell(bytes: &[u8], status: u8, message: &mut [u8], size: &mut usize) -> u8
+    ensures { Tells bytes.now status message.old message.new size.new result }
+{
+    *size = bytes.len();
+    overwrite(message, bytes);
+    if bytes.len() <= message.len() {
+        status
+    } else {
+        TOO_SMALL
+    }
+}
