@@ -43,11 +43,10 @@ fn without_code(text: &str) -> &str {
     }
 }
 
-/// The messages of a run.
+/// The messages of a run so far, which were written to an error stream.
 #[derive(Drop)]
-pub(crate) struct Report<E> {
+pub(crate) struct Report {
     alloc: Global,
-    err: Watched<E>,
     /// True if the error stream is a terminal.
     is_terminal: bool,
     /// True if the terminal shows the number of files.
@@ -60,17 +59,15 @@ pub(crate) struct Report<E> {
     has_lost: bool,
 }
 
-impl<E: Write> Report<E> {
-    /// Returns a report without messages. If `list_remaining`, it lists the conditions that still
-    /// name a symbol.
-    pub(crate) fn new(alloc: Global, err: E, is_terminal: bool, list_remaining: bool) -> Report<E> {
+impl Report {
+    /// Returns a report without messages.
+    pub(crate) fn new(job: &Job<'_>) -> Report {
         Report {
-            alloc,
-            err: Watched::new(err),
-            is_terminal,
+            alloc: job.alloc,
+            is_terminal: job.is_terminal,
             is_shown: false,
             faulty: 0,
-            remaining: Remaining::new(alloc, list_remaining),
+            remaining: Remaining::new(job.alloc, job.arguments.list_remaining),
             has_lost: false,
         }
     }
@@ -105,76 +102,96 @@ impl<E: Write> Report<E> {
     }
 
     /// Removes the number of files from the terminal.
-    fn clear(&mut self) {
+    fn clear<E: Write>(&mut self, err: &mut Watched<E>) {
         if self.is_shown {
             self.is_shown = false;
-            write_parts(&mut self.err, &[b"\r\x1b[K"]);
+            write_parts(err, &[b"\r\x1b[K"]);
         }
     }
 
     /// Shows on a terminal how many of the files are done.
-    pub(crate) fn progress(&mut self, done: usize, all: usize) {
+    pub(crate) fn progress<E: Write>(&mut self, err: &mut Watched<E>, done: usize, all: usize) {
         if self.is_terminal && done % STEP == 0 {
             let (mut first, mut second) = (Buffer::new(), Buffer::new());
             let done = first.format(done).as_bytes();
             let all = second.format(all).as_bytes();
             self.is_shown = true;
-            write_parts(
-                &mut self.err,
-                &[b"\runifdef-tree: ", done, b" of ", all, b" files "],
-            );
+            write_parts(err, &[b"\runifdef-tree: ", done, b" of ", all, b" files "]);
         }
     }
 
     /// Writes a message that is no fault.
-    pub(crate) fn line(&mut self, parts: &[&[u8]]) {
-        self.clear();
-        report_line(&mut self.err, parts);
+    pub(crate) fn line<E: Write>(&mut self, err: &mut Watched<E>, parts: &[&[u8]]) {
+        self.clear(err);
+        report_line(err, parts);
     }
 
     /// Writes a fault of a path.
-    pub(crate) fn fault(&mut self, path: &[u8], text: &[u8]) {
+    pub(crate) fn fault<E: Write>(&mut self, err: &mut Watched<E>, path: &[u8], text: &[u8]) {
         self.faulty = self.faulty.saturating_add(1);
-        self.line(&[path, b": ", text]);
+        self.line(err, &[path, b": ", text]);
     }
 
     /// Writes a fault of a name in a folder, whose path ends in a slash.
-    pub(crate) fn fault_in(&mut self, folder: &[u8], name: &[u8], text: &[u8]) {
+    pub(crate) fn fault_in<E: Write>(
+        &mut self,
+        err: &mut Watched<E>,
+        folder: &[u8],
+        name: &[u8],
+        text: &[u8],
+    ) {
         self.faulty = self.faulty.saturating_add(1);
-        self.line(&[folder, name, b": ", text]);
+        self.line(err, &[folder, name, b": ", text]);
     }
 
     /// Writes a fault of a path, and why a call failed.
-    pub(crate) fn failure(&mut self, path: &[u8], text: &[u8], reason: Option<io::Error>) {
+    pub(crate) fn failure<E: Write>(
+        &mut self,
+        err: &mut Watched<E>,
+        path: &[u8],
+        text: &[u8],
+        reason: Option<io::Error>,
+    ) {
         match reason {
-            None => self.fault(path, text),
+            None => self.fault(err, path, text),
             Some(error) => match format!(in self.alloc; "{error}") {
-                Err(_) => self.fault(path, text),
+                Err(_) => self.fault(err, path, text),
                 Ok(reason) => {
                     self.faulty = self.faulty.saturating_add(1);
                     let reason = without_code(reason.as_str()).as_bytes();
-                    self.line(&[path, b": ", text, b": ", reason]);
+                    self.line(err, &[path, b": ", text, b": ", reason]);
                 }
             },
         }
     }
 
     /// Writes that there is nothing at a path, or why that isn't known.
-    pub(crate) fn missing(&mut self, path: &[u8], reason: Option<io::Error>) {
+    pub(crate) fn missing<E: Write>(
+        &mut self,
+        err: &mut Watched<E>,
+        path: &[u8],
+        reason: Option<io::Error>,
+    ) {
         match reason {
             Some(error) if error.kind() != ErrorKind::NotFound => {
-                self.failure(path, b"Cannot be found", Some(error));
+                self.failure(err, path, b"Cannot be found", Some(error));
             }
-            _ => self.fault(path, b"No such file or folder"),
+            _ => self.fault(err, path, b"No such file or folder"),
         }
     }
 
     /// Writes the fault of a file's text, as unifdef does.
-    pub(crate) fn text_fault(&mut self, path: &[u8], settings: Settings, fault: RunFault) {
+    pub(crate) fn text_fault<E: Write>(
+        &mut self,
+        err: &mut Watched<E>,
+        path: &[u8],
+        settings: Settings,
+        fault: RunFault,
+    ) {
         self.faulty = self.faulty.saturating_add(1);
-        self.clear();
-        if !self.err.failed() {
-            report_result(&mut self.err, path, settings, Err(fault));
+        self.clear(err);
+        if !err.failed() {
+            report_result(err, path, settings, Err(fault));
         }
     }
 }

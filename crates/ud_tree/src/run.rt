@@ -26,21 +26,10 @@ use ud_model::ExitMode;
 /// The status of a fault, of any kind.
 const EXIT_TROUBLE: u8 = 2;
 
-/// The streams of a run.
-#[derive(Drop)]
-pub struct Streams<R, W, E> {
-    /// Paths are read from here if the arguments ask for that.
-    pub input: R,
-    /// Diffs and names are written here.
-    pub out: W,
-    /// Messages are written here.
-    pub err: E,
-    /// True if `err` is a terminal.
-    pub is_terminal: bool,
-}
-
-/// Runs over the files that the arguments name, and returns the exit status. `tag` differs from run
-/// to run. The files that are made beside others end in it.
+/// Runs over the files that the arguments name, and returns the exit status.
+///
+/// Paths are read from `input` if the arguments ask for that. Diffs and names are written to `out`,
+/// and messages to `err`.
 ///
 /// # Errors
 /// The status is 2, and there is a message for each fault, in each of these cases:
@@ -49,35 +38,24 @@ pub struct Streams<R, W, E> {
 /// - The paths name no file. If paths come from the input, that is no fault.
 /// - A folder can't be read, or a file can't be replaced. The other files are.
 /// - The output can't be written.
-pub fn run_tree<T: Tree, R: Read + Drop, W: Write + Drop, E: Write + Drop>(
-    alloc: Global,
-    arguments: &Arguments,
+pub fn run_tree<T: Tree, R: Read + Drop, W: Write, E: Write>(
+    job: &Job<'_>,
     tree: &mut T,
-    streams: Streams<R, W, E>,
-    tag: &[u8],
+    input: R,
+    out: &mut Watched<W>,
+    err: &mut Watched<E>,
 ) -> u8
-    ensures { IsRun arguments.now tag.now (T.history tree.old) (T.history tree.new) result }
+    ensures { IsRun job.now.arguments.now job.now.tag.now (T.history tree.old)
+        (T.history tree.new) result }
 {
-    let Streams {
-        input,
-        out,
-        err,
-        is_terminal,
-    } = streams;
-    let job = Job {
-        alloc,
-        arguments,
-        tag,
-    };
-    let mut out = Watched::new(out);
-    let mut report = Report::new(alloc, err, is_terminal, arguments.list_remaining);
-    match find_files(&job, tree, input, &mut report) {
+    let mut report = Report::new(job);
+    match find_files(job, tree, input, &mut report, err) {
         Err(_) => {
-            report.fault(b"", b"Out of memory");
+            report.fault(err, b"", b"Out of memory");
             EXIT_TROUBLE
         }
         Ok(None) => EXIT_TROUBLE,
-        Ok(Some(files)) => process_all(&job, tree, files.as_slice(), &mut out, &mut report),
+        Ok(Some(files)) => process_all(job, tree, files.as_slice(), out, &mut report, err),
     }
 }
 
@@ -87,20 +65,21 @@ fn find_files<T: Tree, R: Read + Drop, E: Write>(
     job: &Job<'_>,
     tree: &mut T,
     input: R,
-    report: &mut Report<E>,
+    report: &mut Report,
+    err: &mut Watched<E>,
 ) -> Result<Option<Vec<Found>>, AllocError>
     ensures walks { WalksOnly (T.history tree.old) (T.history tree.new) }
     ensures files { IfOk result (λ r. IfSome r
         (λ files. IsWalk (T.history tree.old) (T.history tree.new) files.items)) }
 {
     let mut walk = Walk::new(job.alloc, job.arguments.patterns.as_slice());
-    let all = walk_all(job, &mut walk, tree, input, report)?;
+    let all = walk_all(job, &mut walk, tree, input, report, err)?;
     if !all {
         return Ok(None);
     }
     let files = walk.finish()?;
     if files.is_empty() && !job.arguments.from_input {
-        report.line(&[b"No file matches"]);
+        report.line(err, &[b"No file matches"]);
         return Ok(None);
     }
     Ok(Some(files))
@@ -113,22 +92,23 @@ fn walk_all<T: Tree, R: Read + Drop, E: Write>(
     walk: &mut Walk<'_>,
     tree: &mut T,
     input: R,
-    report: &mut Report<E>,
+    report: &mut Report,
+    err: &mut Watched<E>,
 ) -> Result<bool, AllocError>
     ensures { Finds (T.history tree.old) (T.history tree.new) walk.old.found.items
         walk.new.found.items }
 {
     if job.arguments.from_input {
-        add_input(job.alloc, walk, tree, input, report)?;
+        add_input(job.alloc, walk, tree, input, report, err)?;
         return Ok(true);
     }
     for path in job.arguments.paths.as_slice() {
-        walk.start(tree, report, path.as_str())?;
+        walk.start(tree, report, err, path.as_str())?;
     }
     if report.faulty() > 0 {
         return Ok(false);
     }
-    walk.go(tree, report)?;
+    walk.go(tree, report, err)?;
     Ok(true)
 }
 
@@ -138,7 +118,8 @@ fn add_input<T: Tree, R: Read + Drop, E: Write>(
     walk: &mut Walk<'_>,
     tree: &mut T,
     input: R,
-    report: &mut Report<E>,
+    report: &mut Report,
+    err: &mut Watched<E>,
 ) -> Result<(), AllocError>
     ensures { Finds (T.history tree.old) (T.history tree.new) walk.old.found.items
         walk.new.found.items }
@@ -146,11 +127,11 @@ fn add_input<T: Tree, R: Read + Drop, E: Write>(
     let mut input = input;
     let mut text = Vec::new(alloc);
     if input.read_to_end(&mut text).is_err() {
-        report.fault(b"stdin", b"Cannot be read");
+        report.fault(err, b"stdin", b"Cannot be read");
     }
     let paths = split_paths(alloc, text.as_slice())?;
     for name in paths.as_slice() {
-        walk.add(tree, report, name.as_slice())?;
+        walk.add(tree, report, err, name.as_slice())?;
     }
     Ok(())
 }
@@ -174,23 +155,31 @@ fn process_all<T: Tree, W: Write, E: Write>(
     tree: &mut T,
     files: &[Found],
     out: &mut Watched<W>,
-    report: &mut Report<E>,
+    report: &mut Report,
+    err: &mut Watched<E>,
 ) -> u8
     ensures { Ends job.now.arguments.now job.now.tag.now (T.history tree.old) (names_of files.now)
         (T.history tree.new) result }
 {
     let walk_faults = report.faulty();
     let mut names = Names::new(job.alloc);
-    let counts = process_files(job, tree, files, out, &mut names, report);
-    let list_faults = write_lists(job, out, report, &names);
-    let out_faults = finish_output(out, report);
+    let counts = process_files(job, tree, files, out, &mut names, report, err);
+    let list_faults = write_lists(job, out, report, err, &names);
+    let out_faults = finish_output(out, report, err);
     let faults = walk_faults
         .saturating_add(list_faults)
         .saturating_add(out_faults)
         .saturating_add(counts.faulty);
     if !job.arguments.quiet {
-        report_counts(job.arguments.task, report, names.hidden(), counts, faults);
-        report_remaining(job.arguments, report);
+        report_counts(
+            job.arguments.task,
+            report,
+            err,
+            names.hidden(),
+            counts,
+            faults,
+        );
+        report_remaining(job.arguments, report, err);
     }
     status(job.arguments, faults, counts.changed)
 }
@@ -202,15 +191,16 @@ fn process_files<T: Tree, W: Write, E: Write>(
     files: &[Found],
     out: &mut Watched<W>,
     names: &mut Names,
-    report: &mut Report<E>,
+    report: &mut Report,
+    err: &mut Watched<E>,
 ) -> Counts
     ensures { Counted (DoesOne job.now.arguments.now job.now.tag.now) (T.history tree.old)
         (names_of files.now) (T.history tree.new) result }
 {
     match job.arguments.task {
-        Task::Replace => replace_all(job, tree, files, report),
-        Task::Diff => show_all(job, tree, files, out, report),
-        Task::Names => list_all(job, tree, files, names, report),
+        Task::Replace => replace_all(job, tree, files, report, err),
+        Task::Diff => show_all(job, tree, files, out, report, err),
+        Task::Names => list_all(job, tree, files, names, report, err),
     }
 }
 
@@ -219,7 +209,8 @@ fn process_files<T: Tree, W: Write, E: Write>(
 fn write_lists<W: Write, E: Write>(
     job: &Job<'_>,
     out: &mut Watched<W>,
-    report: &mut Report<E>,
+    report: &mut Report,
+    err: &mut Watched<E>,
     names: &Names,
 ) -> usize {
     let mut list = Vec::new(job.alloc);
@@ -227,7 +218,7 @@ fn write_lists<W: Write, E: Write>(
     write_parts(out, &[list.as_slice()]);
     report.write_remaining(out);
     if listed.is_err() || report.has_lost() {
-        report.fault(b"stdout", b"Out of memory");
+        report.fault(err, b"stdout", b"Out of memory");
         1
     } else {
         0
@@ -235,9 +226,13 @@ fn write_lists<W: Write, E: Write>(
 }
 
 /// Flushes the output. Returns the number of its faults, 0 or 1, which were reported.
-fn finish_output<W: Write, E: Write>(out: &mut Watched<W>, report: &mut Report<E>) -> usize {
+fn finish_output<W: Write, E: Write>(
+    out: &mut Watched<W>,
+    report: &mut Report,
+    err: &mut Watched<E>,
+) -> usize {
     if out.failed() || !out.flush() {
-        report.fault(b"stdout", b"Cannot be written");
+        report.fault(err, b"stdout", b"Cannot be written");
         1
     } else {
         0
@@ -247,7 +242,8 @@ fn finish_output<W: Write, E: Write>(out: &mut Watched<W>, report: &mut Report<E
 /// Writes the counts.
 fn report_counts<E: Write>(
     task: Task,
-    report: &mut Report<E>,
+    report: &mut Report,
+    err: &mut Watched<E>,
     hidden: usize,
     counts: Counts,
     faults: usize,
@@ -260,36 +256,45 @@ fn report_counts<E: Write>(
     let hidden = fourth.format(hidden).as_bytes();
     match task {
         Task::Replace => {
-            report.line(&[
+            report.line(
+                err,
+                &[
+                    changed,
+                    b" changed, ",
+                    unchanged,
+                    b" unchanged, ",
+                    faulty,
+                    b" faulty",
+                ],
+            );
+        }
+        Task::Diff => report.line(
+            err,
+            &[
                 changed,
-                b" changed, ",
+                b" would change, ",
                 unchanged,
                 b" unchanged, ",
                 faulty,
                 b" faulty",
-            ]);
-        }
-        Task::Diff => report.line(&[
-            changed,
-            b" would change, ",
-            unchanged,
-            b" unchanged, ",
-            faulty,
-            b" faulty",
-        ]),
-        Task::Names => report.line(&[
-            unchanged,
-            b" files listed, ",
-            faulty,
-            b" faulty; ",
-            hidden,
-            b" conditions could not be listed",
-        ]),
+            ],
+        ),
+        Task::Names => report.line(
+            err,
+            &[
+                unchanged,
+                b" files listed, ",
+                faulty,
+                b" faulty; ",
+                hidden,
+                b" conditions could not be listed",
+            ],
+        ),
     }
 }
 
 /// Writes how many conditions still name a symbol, if they were listed or if there are some.
-fn report_remaining<E: Write>(arguments: &Arguments, report: &mut Report<E>) {
+fn report_remaining<E: Write>(arguments: &Arguments, report: &mut Report, err: &mut Watched<E>) {
     let count = report.remaining();
     if count == 0 && !arguments.list_remaining {
         return;
@@ -297,9 +302,9 @@ fn report_remaining<E: Write>(arguments: &Arguments, report: &mut Report<E>) {
     let mut digits = Buffer::new();
     let number = digits.format(count).as_bytes();
     if arguments.list_remaining {
-        report.line(&[number, remaining_text(count)]);
+        report.line(err, &[number, remaining_text(count)]);
     } else {
-        report.line(&[number, remaining_text(count), b"; -r lists them"]);
+        report.line(err, &[number, remaining_text(count), b"; -r lists them"]);
     }
 }
 

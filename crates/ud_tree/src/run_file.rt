@@ -26,7 +26,8 @@ pub(crate) fn run_file<T: Tree, E: Write>(
     tree: &mut T,
     name: &[u8],
     output: &mut Watched<Vec<u8>>,
-    report: &mut Report<E>,
+    report: &mut Report,
+    err: &mut Watched<E>,
 ) -> Option<(Vec<u8>, bool)>
     requires not_failed { output.old.failed ≡ false }
     ensures reads { ReadsOne name.now (T.history tree.old) (T.history tree.new) }
@@ -38,17 +39,17 @@ pub(crate) fn run_file<T: Tree, E: Write>(
 {
     let mut text = Vec::new(job.alloc);
     if tree.read(name, &mut text).is_none() {
-        report.failure(name, b"Cannot be read", tree.reason());
+        report.failure(err, name, b"Cannot be read", tree.reason());
         return None;
     }
     match run_text(&job.arguments.plan, text.as_slice(), output) {
         Ok(differs) => Some((text, differs)),
         Err(RunFault::Read | RunFault::Write) => {
-            report.fault(name, b"Out of memory");
+            report.fault(err, name, b"Out of memory");
             None
         }
         Err(fault) => {
-            report.text_fault(name, job.arguments.plan.settings(), fault);
+            report.text_fault(err, name, job.arguments.plan.settings(), fault);
             None
         }
     }

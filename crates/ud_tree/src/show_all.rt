@@ -26,14 +26,15 @@ pub(crate) fn show_all<T: Tree, W: Write, E: Write>(
     tree: &mut T,
     files: &[Found],
     out: &mut Watched<W>,
-    report: &mut Report<E>,
+    report: &mut Report,
+    err: &mut Watched<E>,
 ) -> Counts
     ensures { Counted Reads (T.history tree.old) (names_of files.now) (T.history tree.new) result }
 {
     let mut counts = Counts::new();
     for (done, file) in files.iter().enumerate() {
-        report.progress(done, files.len());
-        counts.add(show_file(job, tree, file.path.as_bytes(), out, report));
+        report.progress(err, done, files.len());
+        counts.add(show_file(job, tree, file.path.as_bytes(), out, report, err));
     }
     counts
 }
@@ -44,7 +45,8 @@ fn show_file<T: Tree, W: Write, E: Write>(
     tree: &mut T,
     name: &[u8],
     out: &mut Watched<W>,
-    report: &mut Report<E>,
+    report: &mut Report,
+    err: &mut Watched<E>,
 ) -> Fate
     ensures reads { ReadsOne name.now (T.history tree.old) (T.history tree.new) }
     ensures shows { (o : Options) → o.settings ≡ job.now.arguments.now.plan.settings →
@@ -53,7 +55,7 @@ fn show_file<T: Tree, W: Write, E: Write>(
         (W.contents out.old.inner) (W.contents out.new.inner) result }
 {
     let mut output = Watched::new(Vec::<u8>::new(job.alloc));
-    let Some((text, differs)) = run_file(job, tree, name, &mut output, report) else {
+    let Some((text, differs)) = run_file(job, tree, name, &mut output, report, err) else {
         return Fate::Faulty;
     };
     report.search(job, name, output.inner().as_slice());
@@ -61,7 +63,7 @@ fn show_file<T: Tree, W: Write, E: Write>(
         return Fate::Same;
     }
     let Some(diff) = diff_of(job, name, text.as_slice(), output.inner().as_slice()) else {
-        report.fault(name, b"Out of memory");
+        report.fault(err, name, b"Out of memory");
         return Fate::Faulty;
     };
     write_diff(out, diff.as_slice());

@@ -9,4 +9,4 @@ pub returns-in-Ok-None : goal.returns-in-Ok-None
 returns-in-Ok-None g c = no_run c.find_files.ensures.walks
 
 pub returns : goal.returns
-returns g c = ran_from c.args.arguments.now c.args.tag.now c.as_slice.ensures.value (rw c.in-Ok-Some.field-0-is at c.in-Ok-Some.ensures.files) c.process_all.ensures
+returns g c = ran_from c.args.job.now.arguments.now c.args.job.now.tag.now c.as_slice.ensures.value (rw c.in-Ok-Some.field-0-is at c.in-Ok-Some.ensures.files) c.process_all.ensures
