@@ -1,6 +1,7 @@
 //! Listing the names of all files.
 
-ghost use Rattle.ud_tree.specs.Runs.{ReadsOne, Reads, Counted, names_of};
+ghost use Rattle.std.specs.Prelude.{[]};
+ghost use Rattle.ud_tree.specs.Runs.{ReadsOne, Reads, Unshown, Counted, names_of};
 
 use crate::counts::{Counts, Fate};
 use crate::job::Job;
@@ -23,7 +24,8 @@ pub(crate) fn list_all<T: Tree, E: Write>(
     report: &mut Report,
     err: &mut Watched<E>,
 ) -> Counts
-    ensures { Counted Reads (T.history tree.old) (names_of files.now) (T.history tree.new) result }
+    ensures { Counted (Unshown Reads) (T.history tree.old) (names_of files.now)
+        (T.history tree.new) result [] }
 {
     let mut counts = Counts::new();
     for (done, file) in files.iter().enumerate() {

@@ -1,7 +1,7 @@
 //! Replacing all files of a run.
 
 ghost use Rattle.std.specs.Prelude.{◌≡◌, [], false};
-ghost use Rattle.ud_tree.specs.Runs.{ReplacesOne, Counted, fate_of, names_of};
+ghost use Rattle.ud_tree.specs.Runs.{ReplacesOne, Unshown, Counted, fate_of, names_of};
 
 use crate::counts::{Counts, Fate};
 use crate::job::Job;
@@ -24,9 +24,9 @@ pub(crate) fn replace_all<T: Tree, E: Write>(
     report: &mut Report,
     err: &mut Watched<E>,
 ) -> Counts
-    ensures { Counted
-        (ReplacesOne job.now.arguments.now.plan job.now.arguments.now.write_into job.now.tag.now)
-        (T.history tree.old) (names_of files.now) (T.history tree.new) result }
+    ensures { Counted (Unshown (ReplacesOne job.now.arguments.now.plan
+        job.now.arguments.now.write_into job.now.tag.now))
+        (T.history tree.old) (names_of files.now) (T.history tree.new) result [] }
 {
     let mut counts = Counts::new();
     for (done, file) in files.iter().enumerate() {

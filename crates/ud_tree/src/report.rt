@@ -4,35 +4,34 @@
 //! `Report` is a fault, and faults are counted. On a terminal, a line with the number of files is
 //! shown during the run, and removed before each message.
 
+ghost use Rattle.std.specs.Prelude.{◌≡◌, [], false, if◌then◌else◌};
+ghost use Rattle.std.specs.List.{flat_map};
+ghost use Rattle.ud_tree.specs.Streams.{Sends, stream_of};
+ghost use Rattle.ud_tree.specs.Summaries.{Says, line_of};
+
 use crate::arguments::ArgumentFault;
 use crate::job::Job;
 use crate::remaining::Remaining;
+use crate::send::{send, send_parts};
 use itoa::Buffer;
 use std::alloc::Global;
 use std::io::{self, ErrorKind, Write};
 use ud_diagnostics::report_result;
 use ud_faults::RunFault;
-use ud_io::{Watched, write_all};
+use ud_io::Watched;
 use ud_model::Settings;
 
 /// The number of files after which the line on the terminal is shown again.
 const STEP: usize = 64;
 
-/// Writes parts in order, until a write fails.
-pub(crate) fn write_parts<E: Write>(err: &mut Watched<E>, parts: &[&[u8]]) {
-    for part in parts {
-        if err.failed() {
-            return;
-        }
-        write_all(err, part);
-    }
-}
-
 /// Writes a message that is no fault: the program's name, the parts, and a newline.
-pub fn report_line<E: Write>(err: &mut Watched<E>, parts: &[&[u8]]) {
-    write_parts(err, &[b"unifdef-tree: "]);
-    write_parts(err, parts);
-    write_parts(err, &[b"\n"]);
+pub fn report_line<E: Write>(err: &mut Watched<E>, parts: &[&[u8]])
+    ensures { Sends (stream_of E.contents err.old) (stream_of E.contents err.new)
+        (line_of (flat_map (λ p. p.now) parts.now)) }
+{
+    send(err, b"unifdef-tree: ");
+    send_parts(err, parts);
+    send(err, b"\n");
 }
 
 /// Returns the text of an error of the system without its number.
@@ -78,13 +77,21 @@ impl Report {
     }
 
     /// Returns the number of conditions that still name a symbol.
-    pub(crate) fn remaining(&self) -> usize {
+    pub(crate) fn remaining(&self) -> usize
+        ensures { result ≡ self.now.remaining.count }
+    {
         self.remaining.count()
     }
 
-    /// Writes the list of conditions that still name a symbol.
-    pub(crate) fn write_remaining<W: Write>(&self, out: &mut Watched<W>) {
-        write_parts(out, &[self.remaining.list()]);
+    /// Writes the list of conditions that still name a symbol, if it is wanted.
+    pub(crate) fn write_remaining<W: Write>(&self, job: &Job<'_>, out: &mut Watched<W>)
+        ensures { Sends (stream_of W.contents out.old) (stream_of W.contents out.new)
+            (if job.now.arguments.now.list_remaining then self.now.remaining.list.items else []) }
+    {
+        if !job.arguments.list_remaining {
+            return;
+        }
+        send(out, self.remaining.list());
     }
 
     /// Returns whether memory ran out for some of the conditions that still name a symbol.
@@ -102,11 +109,15 @@ impl Report {
     }
 
     /// Removes the number of files from the terminal.
-    fn clear<E: Write>(&mut self, err: &mut Watched<E>) {
-        if self.is_shown {
-            self.is_shown = false;
-            write_parts(err, &[b"\r\x1b[K"]);
+    fn clear<E: Write>(&mut self, err: &mut Watched<E>)
+        ensures hidden { self.new.is_shown ≡ false }
+        ensures unshown { self.old.is_shown ≡ false → err.new ≡ err.old }
+    {
+        if !self.is_shown {
+            return;
         }
+        self.is_shown = false;
+        send(err, b"\r\x1b[K");
     }
 
     /// Shows on a terminal how many of the files are done.
@@ -116,12 +127,15 @@ impl Report {
             let done = first.format(done).as_bytes();
             let all = second.format(all).as_bytes();
             self.is_shown = true;
-            write_parts(err, &[b"\runifdef-tree: ", done, b" of ", all, b" files "]);
+            send_parts(err, &[b"\runifdef-tree: ", done, b" of ", all, b" files "]);
         }
     }
 
     /// Writes a message that is no fault.
-    pub(crate) fn line<E: Write>(&mut self, err: &mut Watched<E>, parts: &[&[u8]]) {
+    pub(crate) fn line<E: Write>(&mut self, err: &mut Watched<E>, parts: &[&[u8]])
+        ensures { Says self.old self.new (stream_of E.contents err.old)
+            (stream_of E.contents err.new) (line_of (flat_map (λ p. p.now) parts.now)) }
+    {
         self.clear(err);
         report_line(err, parts);
     }
@@ -205,7 +219,7 @@ pub fn report_argument_fault<E: Write>(err: &mut Watched<E>, fault: &ArgumentFau
     match fault {
         ArgumentFault::UnknownOption(letter) => {
             report_letter(err, b"Unknown option -", *letter, b"");
-            write_parts(err, &[USAGE]);
+            send_parts(err, &[USAGE]);
         }
         ArgumentFault::MissingArgument(letter) => {
             report_letter(err, b"Option -", *letter, b" needs an argument");
@@ -225,7 +239,7 @@ pub fn report_argument_fault<E: Write>(err: &mut Watched<E>, fault: &ArgumentFau
             report_line(err, &[b"Option after a path: ", word.as_bytes()]);
         }
         ArgumentFault::PathsAndInput => report_line(err, &[b"-0 takes no paths"]),
-        ArgumentFault::NoPath => write_parts(err, &[USAGE]),
+        ArgumentFault::NoPath => send_parts(err, &[USAGE]),
         ArgumentFault::OutOfMemory => report_line(err, &[b"Out of memory"]),
     }
 }

@@ -1,11 +1,14 @@
 //! The run over all files of a tree.
 
-ghost use Rattle.std.specs.Prelude.{◌≡◌, IfOk, IfSome};
+ghost use Rattle.std.specs.Prelude.{◌≡◌, [], false, IfOk, IfSome};
 ghost use Rattle.ud_model.specs.answer.Answer.{status_by};
-ghost use Rattle.ud_tree.specs.Runs.{Counted, names_of};
+ghost use Rattle.ud_tree.specs.Runs.{names_of};
 ghost use Rattle.ud_tree.specs.Statuses.{tree_status};
-ghost use Rattle.ud_tree.specs.TreeRuns.{DoesOne, Ends, IsRun};
+ghost use Rattle.ud_tree.specs.Streams.{Sends, stream_of};
+ghost use Rattle.ud_tree.specs.Summaries.{Says, TellsEnd, remaining_line, remaining_text, summary};
+ghost use Rattle.ud_tree.specs.TreeRuns.{DoesOne, EndsWriting, RunsTree};
 ghost use Rattle.ud_tree.specs.Walks.{Finds, IsWalk, WalksOnly};
+ghost use Rattle.ud_tree.specs.Writing.{WritesAll, WritesList, moment};
 
 use crate::arguments::{Arguments, Task};
 use crate::counts::Counts;
@@ -13,7 +16,8 @@ use crate::job::Job;
 use crate::list_all::list_all;
 use crate::names::Names;
 use crate::replace_all::replace_all;
-use crate::report::{Report, write_parts};
+use crate::report::Report;
+use crate::send::{flush, send};
 use crate::show_all::show_all;
 use crate::tree::Tree;
 use crate::walk::{Found, Walk};
@@ -45,8 +49,9 @@ pub fn run_tree<T: Tree, R: Read + Drop, W: Write, E: Write>(
     out: &mut Watched<W>,
     err: &mut Watched<E>,
 ) -> u8
-    ensures { IsRun job.now.arguments.now job.now.tag.now (T.history tree.old)
-        (T.history tree.new) result }
+    ensures { RunsTree job.now.arguments.now job.now.tag.now
+        (moment T.history W.contents tree.old out.old)
+        (moment T.history W.contents tree.new out.new) (stream_of E.contents err.new) result }
 {
     let mut report = Report::new(job);
     match find_files(job, tree, input, &mut report, err) {
@@ -158,8 +163,9 @@ fn process_all<T: Tree, W: Write, E: Write>(
     report: &mut Report,
     err: &mut Watched<E>,
 ) -> u8
-    ensures { Ends job.now.arguments.now job.now.tag.now (T.history tree.old) (names_of files.now)
-        (T.history tree.new) result }
+    ensures { EndsWriting job.now.arguments.now job.now.tag.now
+        (moment T.history W.contents tree.old out.old) (names_of files.now)
+        (moment T.history W.contents tree.new out.new) (stream_of E.contents err.new) result }
 {
     let walk_faults = report.faulty();
     let mut names = Names::new(job.alloc);
@@ -170,17 +176,7 @@ fn process_all<T: Tree, W: Write, E: Write>(
         .saturating_add(list_faults)
         .saturating_add(out_faults)
         .saturating_add(counts.faulty);
-    if !job.arguments.quiet {
-        report_counts(
-            job.arguments.task,
-            report,
-            err,
-            names.hidden(),
-            counts,
-            faults,
-        );
-        report_remaining(job.arguments, report, err);
-    }
+    report_end(job, report, err, names.hidden(), counts, faults);
     status(job.arguments, faults, counts.changed)
 }
 
@@ -194,8 +190,9 @@ fn process_files<T: Tree, W: Write, E: Write>(
     report: &mut Report,
     err: &mut Watched<E>,
 ) -> Counts
-    ensures { Counted (DoesOne job.now.arguments.now job.now.tag.now) (T.history tree.old)
-        (names_of files.now) (T.history tree.new) result }
+    ensures { WritesAll (DoesOne job.now.arguments.now job.now.tag.now)
+        (moment T.history W.contents tree.old out.old) (names_of files.now)
+        (moment T.history W.contents tree.new out.new) result }
 {
     match job.arguments.task {
         Task::Replace => replace_all(job, tree, files, report, err),
@@ -212,16 +209,28 @@ fn write_lists<W: Write, E: Write>(
     report: &mut Report,
     err: &mut Watched<E>,
     names: &Names,
-) -> usize {
+) -> usize
+    ensures { WritesList job.now.arguments.now (stream_of W.contents out.old)
+        (stream_of W.contents out.new) }
+{
     let mut list = Vec::new(job.alloc);
-    let listed = names.append_to(&mut list);
-    write_parts(out, &[list.as_slice()]);
-    report.write_remaining(out);
-    if listed.is_err() || report.has_lost() {
-        report.fault(err, b"stdout", b"Out of memory");
-        1
-    } else {
-        0
+    let listed = append_names(job, names, &mut list);
+    send(out, list.as_slice());
+    report.write_remaining(job, out);
+    if listed && !report.has_lost() {
+        return 0;
+    }
+    report.fault(err, b"stdout", b"Out of memory");
+    1
+}
+
+/// Appends the names that were counted, if they are to be listed. Returns false if memory ran out.
+fn append_names(job: &Job<'_>, names: &Names, list: &mut Vec<u8>) -> bool
+    ensures { ¬ (job.now.arguments.now.task ≡ Task.Names) → list.new.items ≡ list.old.items }
+{
+    match job.arguments.task {
+        Task::Names => names.append_to(list).is_ok(),
+        Task::Replace | Task::Diff => true,
     }
 }
 
@@ -230,13 +239,33 @@ fn finish_output<W: Write, E: Write>(
     out: &mut Watched<W>,
     report: &mut Report,
     err: &mut Watched<E>,
-) -> usize {
-    if out.failed() || !out.flush() {
-        report.fault(err, b"stdout", b"Cannot be written");
-        1
-    } else {
-        0
+) -> usize
+    ensures { Sends (stream_of W.contents out.old) (stream_of W.contents out.new) [] }
+{
+    if flush(out) {
+        return 0;
     }
+    report.fault(err, b"stdout", b"Cannot be written");
+    1
+}
+
+/// Writes the last lines, unless the run is quiet: the counts, and how many conditions still name a
+/// symbol.
+fn report_end<E: Write>(
+    job: &Job<'_>,
+    report: &mut Report,
+    err: &mut Watched<E>,
+    hidden: usize,
+    counts: Counts,
+    faults: usize,
+)
+    ensures { TellsEnd job.now.arguments.now counts faults hidden (stream_of E.contents err.new) }
+{
+    if job.arguments.quiet {
+        return;
+    }
+    report_counts(job.arguments.task, report, err, hidden, counts, faults);
+    report_remaining(job.arguments, report, err);
 }
 
 /// Writes the counts.
@@ -247,13 +276,17 @@ fn report_counts<E: Write>(
     hidden: usize,
     counts: Counts,
     faults: usize,
-) {
+)
+    ensures { Says report.old report.new (stream_of E.contents err.old)
+        (stream_of E.contents err.new)
+        (summary task counts.changed counts.unchanged faults hidden) }
+{
     let (mut first, mut second) = (Buffer::new(), Buffer::new());
     let (mut third, mut fourth) = (Buffer::new(), Buffer::new());
     let changed = first.format(counts.changed).as_bytes();
     let unchanged = second.format(counts.unchanged).as_bytes();
     let faulty = third.format(faults).as_bytes();
-    let hidden = fourth.format(hidden).as_bytes();
+    let unlisted = fourth.format(hidden).as_bytes();
     match task {
         Task::Replace => {
             report.line(
@@ -286,7 +319,7 @@ fn report_counts<E: Write>(
                 b" files listed, ",
                 faulty,
                 b" faulty; ",
-                hidden,
+                unlisted,
                 b" conditions could not be listed",
             ],
         ),
@@ -294,25 +327,32 @@ fn report_counts<E: Write>(
 }
 
 /// Writes how many conditions still name a symbol, if they were listed or if there are some.
-fn report_remaining<E: Write>(arguments: &Arguments, report: &mut Report, err: &mut Watched<E>) {
+fn report_remaining<E: Write>(arguments: &Arguments, report: &mut Report, err: &mut Watched<E>)
+    ensures { report.old.is_shown ≡ false → Sends (stream_of E.contents err.old)
+        (stream_of E.contents err.new)
+        (remaining_line arguments.now.list_remaining report.old.remaining.count) }
+{
     let count = report.remaining();
-    if count == 0 && !arguments.list_remaining {
-        return;
-    }
     let mut digits = Buffer::new();
     let number = digits.format(count).as_bytes();
     if arguments.list_remaining {
         report.line(err, &[number, remaining_text(count)]);
-    } else {
-        report.line(err, &[number, remaining_text(count), b"; -r lists them"]);
+        return;
     }
+    if count == 0 {
+        return;
+    }
+    report.line(err, &[number, remaining_text(count), b"; -r lists them"]);
 }
 
 /// Returns what follows the number of conditions that still name a symbol.
-fn remaining_text(count: usize) -> &'static [u8] {
-    match count {
-        1 => b" condition still names a symbol",
-        _ => b" conditions still name a symbol",
+fn remaining_text(count: usize) -> &'static [u8]
+    ensures { result.now ≡ remaining_text count }
+{
+    if count == 1 {
+        b" condition still names a symbol"
+    } else {
+        b" conditions still name a symbol"
     }
 }
 
