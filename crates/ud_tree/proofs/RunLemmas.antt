@@ -26,7 +26,7 @@ pub count_push : (p : Fate → Bool) (results : List FileResult) (r : FileResult
     count_by (λ s. p s.fate) (results ++ r ∷ []) ≡ count_by (λ s. p s.fate) results + cond (p r.fate) 1 0
 count_push p results r = sum_by_push (λ (s : FileResult). cond (p s.fate) 1 0) results r
 
--- What is shown of one file more follows.
+-- The bytes that are shown of one file more follow.
 shown_push : (results : List FileResult) (r : FileResult) → shown_of (results ++ r ∷ []) ≡ shown_of results ++ r.shown
 shown_push results r =
     flat_map-append (λ (s : FileResult). s.shown) results (r ∷ []) ∙ ap (λ x. shown_of results ++ x) (append-nil r.shown)

@@ -17,7 +17,7 @@ sends_none s = record { appended = λ e. none s.failed s.contents; fused = λ e.
     none true a = ([], [], refl, Appends-nil a)
     none false a = Appends-nil a
 
--- The same bytes were written.
+-- Equal bytes were written.
 pub sends_same : {a b : Stream} {x y : List ℕ} → x ≡ y → Sends a b x → Sends a b y
 sends_same {a = a} {b = b} e h = subst (λ (z : List ℕ). Sends a b z) e h
 

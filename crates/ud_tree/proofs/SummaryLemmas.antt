@@ -12,7 +12,7 @@ use Rattle.ud_tree.proofs.StreamLemmas.{sends_none, sends_then, sends_same}
 pub line_sent : {a b c d : Stream} {text : List ℕ} → Sends a b (codes "unifdef-tree: ") → Sends b c text → Sends c d (codes "\n") → Sends a d (line_of text)
 line_sent {text = text} h k l = sends_then (sends_then h k) l
 
--- The same line was said.
+-- An equal line was written.
 pub says_same : {old new : Report} {err err' : Stream} {x y : List ℕ} → x ≡ y → Says old new err err' x → Says old new err err' y
 says_same {old = old} {new = new} {err = err} {err' = err'} e h = subst (λ (z : List ℕ). Says old new err err' z) e h
 
@@ -43,7 +43,7 @@ listed_joined changed unchanged faults hidden u f h p q r =
     ∙ ap (λ x. line_of (decimal unchanged ++ (codes " files listed, " ++ (decimal faults ++ (codes " faulty; " ++ (x ++ (codes " conditions could not be listed" ++ []))))))) r
     ∙ simp (append_assoc, append-nil)
 
--- One line was said after another.
+-- One line was written after another.
 pub says_then : {a b : Report} {s t u : Stream} {x y : List ℕ} → Says a b s t x → (b.is_shown ≡ false → Sends t u y) → EndsWith u (x ++ y)
 says_then h k = (h.cleared, sends_then h.sent (k h.hidden))
 

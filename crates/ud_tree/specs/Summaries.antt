@@ -2,7 +2,7 @@
 --
 --   line_of text              a line of the program with this text
 --   summary task changed unchanged faults hidden   how many files there were of each kind
---   remaining_line listed count   how many conditions still name a symbol, if that is told
+--   remaining_line listed count   how many conditions still name a symbol
 --   last_lines args changed unchanged faults hidden remaining   both lines, unless the run is quiet
 --   TellsEnd args counts faults hidden err   they were written last
 --   EndsWith s bytes          the last bytes that were written to `s`
@@ -64,8 +64,8 @@ pub record TellsEnd (args : Arguments) (counts : Counts) (faults hidden : ℕ) (
   pub told : EndsWith err
       (last_lines args counts.changed counts.unchanged faults hidden remaining)
 
--- `Says old new err err' bytes`: `bytes` were written. If a terminal showed the number of files, that
--- was removed before.
+-- `Says old new err err' bytes`: `bytes` were written. If a terminal showed the number of files,
+-- that was removed before.
 pub record Says (old new : Report) (err err' : Stream) (bytes : List ℕ) : Type 0 where
   pub hidden : new.is_shown ≡ false
   pub cleared : Stream

@@ -3,7 +3,7 @@
 --   TouchesNothing c earlier            a call touches no file
 --   TouchesFreshOrNone o tag c earlier  a call touches no file, but for that of a replacement
 --   OldOrOutput o first old calls       each file has its old bytes, or the output for them
---   LeavesOldOrOutput o first old c earlier   so it is after the call `c`
+--   LeavesOldOrOutput o first old c earlier   each file has them after the call `c`
 use Rattle.std.specs.Prelude.{◌≡◌, ◌⊎◌, ℕ, List, ◌∷◌, true, Some}
 use Rattle.ud_model.specs.sections.Items.{Options}
 use Rattle.ud_replace.specs.Calls.{Call}

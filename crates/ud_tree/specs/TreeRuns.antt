@@ -2,8 +2,8 @@
 --
 --   DoesBy task args tag name old new result   what a task does with a file
 --   DoesOne args tag name old new result       what the arguments ask for is done with a file
---   Ends args tag old names new shown last status   it is done with all files, and this is the status
---   EndsWriting args tag before names after err status   so it is, and all of that was written
+--   Ends args tag old names new shown last status   all files are processed, with this status
+--   EndsWriting args tag before names after err status   all of that was written, too
 --   IsRun args tag old new shown last status   a whole run
 --   Run, IsRunOf run                           its arguments, calls, output and status
 --   RunsTree args tag before after err status  a whole run, and all of that was written
@@ -68,8 +68,8 @@ pub record EndsWriting (args : Arguments) (tag : List ℕ) (before : Moment)
   pub sent : Sends before.out after.out shown
   pub told : EndsWith err last
 
--- `IsRun args tag old new shown last status`: only calls of a walk were made, nothing is shown, and the
--- status is 2. Or a walk found some files, and the run ends after them.
+-- `IsRun args tag old new shown last status`: only calls of a walk were made, nothing is shown, and
+-- the status is 2. Or a walk found some files, and the run ends after them.
 pub data IsRun (args : Arguments) (tag : List ℕ) (old new : List Call) :
     List ℕ → List ℕ → ℕ → Type 0 where
   no_run : WalksOnly old new → IsRun args tag old new [] [] 2

@@ -44,8 +44,8 @@ pub record WritesAll (P : List ℕ → List Call → List Call → FileResult �
   pub counted : Counted P before.calls names after.calls counts shown
   pub sent : Sends before.out after.out shown
 
--- `WritesList args out out'`: a list was written: nothing, unless names or the conditions that still
--- name a symbol are to be listed.
+-- `WritesList args out out'`: a list was written: nothing, unless names or the conditions that
+-- still name a symbol are to be listed.
 pub record WritesList (args : Arguments) (out out' : Stream) : Type 0 where
   pub listed : List ℕ
   pub is_wanted : ¬ (args.task ≡ Names) → args.list_remaining ≡ false → listed ≡ []

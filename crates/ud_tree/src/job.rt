@@ -9,7 +9,7 @@ use ud_model::Mode;
 pub struct Job<'a> {
     /// The allocator of all that the run keeps.
     pub alloc: Global,
-    /// What the run is asked for.
+    /// The arguments of the run.
     pub arguments: &'a Arguments,
     /// The end of the names of the files that are made. It differs from run to run.
     pub tag: &'a [u8],

@@ -16,9 +16,9 @@ pub fn law_run_reads()
         EachCall TouchesNothing run.old run.new }
 {}
 
-/// What a run writes that shows what would change: the diffs of the files that would change, in
-/// the order of the files, and then the conditions that still name a symbol, if they are to be
-/// listed. Each diff turns the bytes that were read into the whole output for them, and back.
+/// A run that shows what would change writes the diffs of the files that would change, in the order
+/// of the files. Each diff turns the bytes that were read into the whole output for them, and back.
+/// Then come the conditions that still name a symbol, if they are to be listed.
 pub fn law_run_shows()
     ensures { (o : Options) (run : Run) → IsRunOf run → IsPlanned run.args.plan o →
         run.args.task ≡ Diff → ShowsDiffs o run }
