@@ -1,4 +1,6 @@
 pub mod PathLemmas
+pub mod StreamLemmas
+pub mod SummaryLemmas
 pub mod WalkLemmas
 pub mod TreeLaws
 pub mod RunLemmas

@@ -1,12 +1,11 @@
 -- Shown: lemmas on a run over a text that was read.
-use Rattle.std.proofs.Common.{◌≡◌, ℕ, List, [], ◌∙◌, Bool, true, false, Option, Some, Result, Ok, Err, refl, sym, subst}
+use Rattle.std.proofs.Common.{◌≡◌, ℕ, List, [], ◌∙◌, Bool, true, false, Some, Result, Ok, Err, sym, subst}
 use Rattle.std.specs.Prelude.{IfOk}
 use Rattle.ud_model.specs.sections.Items.{Options}
 use Rattle.ud_faults.specs.declared.run.RunFault.{RunFault}
 use Rattle.ud_engine.specs.Finishing.{RunAnswers}
 use Rattle.ud_engine.specs.Runs.{ErrorMatchesStreams}
 use Rattle.ud_diff.specs.Patching.{IsDiff}
-use Rattle.ud_io.specs.Watched.{AppendsAllOrPrefix}
 use Rattle.ud_replace.specs.Calls.{Call}
 use Rattle.ud_tree.specs.declared.counts.Fate.TheVariants.{Changed, Same}
 use Rattle.ud_tree.specs.Shown.{WasRead, RunsOver, HasDiff, ShowsFile, same, changed}
@@ -32,20 +31,18 @@ has_diff o name text output seen diff d h e p is = record {
   is_diff = subst (λ (x : List ℕ). IsDiff name text x diff) (p ∙ h.appended) is;
 }
 
--- A file whose output doesn't differ is shown by nothing.
-pub shows_same : (o : Options) (name text old output : List ℕ) (differs failed : Bool) (calls calls' : List Call) (out : Option (List ℕ)) →
-    old ≡ [] → differs ≡ false → WasRead name text calls calls' → RunsOver o text old output differs → ShowsFile o name failed calls calls' out out Same
-shows_same o name text old output differs failed calls calls' out e is was ran =
+-- Nothing is shown of a file whose output doesn't differ.
+pub shows_same : (o : Options) (name text old output : List ℕ) (differs : Bool) (calls calls' : List Call) →
+    old ≡ [] → differs ≡ false → WasRead name text calls calls' → RunsOver o text old output differs → ShowsFile o name calls calls' Same []
+shows_same o name text old output differs calls calls' e is was ran =
     same text output was
-    (subst (λ (x : List ℕ). RunsOver o text x output false) e (subst (λ (b : Bool). RunsOver o text old output b) is ran)) refl
+    (subst (λ (x : List ℕ). RunsOver o text x output false) e (subst (λ (b : Bool). RunsOver o text old output b) is ran))
 
 -- A file whose output differs is shown by its diff.
-pub shows_changed : (o : Options) (name text read old output seen diff written : List ℕ) (differs failed : Bool) (calls calls' : List Call)
-    (out out' : Option (List ℕ)) → old ≡ [] → differs ≡ true → WasRead name text calls calls' → RunsOver o text old output differs →
-    read ≡ text → seen ≡ output → IsDiff name read seen diff → written ≡ diff → AppendsAllOrPrefix failed out out' written →
-    ShowsFile o name failed calls calls' out out' Changed
-shows_changed o name text read old output seen diff written differs failed calls calls' out out' e is was ran r q diffs w writes =
+pub shows_changed : (o : Options) (name text read old output seen diff : List ℕ) (differs : Bool) (calls calls' : List Call) →
+    old ≡ [] → differs ≡ true → WasRead name text calls calls' → RunsOver o text old output differs →
+    read ≡ text → seen ≡ output → IsDiff name read seen diff → ShowsFile o name calls calls' Changed diff
+shows_changed o name text read old output seen diff differs calls calls' e is was ran r q diffs =
     changed text diff was
     (has_diff o name text output seen diff differs (subst (λ (x : List ℕ). RunsOver o text x output differs) e ran) is q
     (subst (λ (x : List ℕ). IsDiff name x seen diff) r diffs))
-    (subst (AppendsAllOrPrefix failed out out') w writes)

@@ -1,4 +1,4 @@
--- The calls of a whole run: what they touch, and the files after each of them.
+-- The calls of a whole run: what they touch, the files after each of them, and the diffs.
 use Rattle.std.proofs.Common.{◌≡◌, ◌⊎◌, inl, inr, ℕ, ◌<◌, List, [], ◌∷◌, ◌++◌, length, get_or, map, Bool, true, false, Option, Some, refl, sym, ap, ◌∙◌, subst, true≢false, arith, length-append}
 use Rattle.std.proofs.lemmas.List.{get_or_append_left, get_or-append_right, get_or-map, length-map}
 use Rattle.std.proofs.lemmas.List.Elements.{Contains-append_left, Contains-push}
@@ -20,8 +20,10 @@ use Rattle.ud_tree.specs.declared.arguments.Task.TheVariants.{Replace, Diff, Nam
 use Rattle.ud_tree.specs.declared.counts.Fate.{Fate}
 use Rattle.ud_tree.specs.declared.walk.Found.{Found}
 use Rattle.ud_args.specs.Plans.{PlanState}
-use Rattle.ud_tree.specs.Runs.{ReadsOne, reads, Reads, IsPlanned, ReplacesOne, replaces, no_name, EachFile, no_file, then_file, names_of}
-use Rattle.ud_tree.specs.TreeRuns.{DoesBy, IsRun, no_run, ran}
+use Rattle.ud_tree.specs.Runs.{ReadsOne, reads, Reads, FileResult, Unshown, IsPlanned, ReplacesOne, replaces, no_name, EachFile, no_file, then_file, names_of}
+use Rattle.ud_tree.specs.Shown.{ShowsOne}
+use Rattle.ud_tree.specs.TreeRuns.{DoesBy, IsRun, no_run, ran, Run}
+use Rattle.ud_tree.specs.TreeDiffs.{ShowsAs, ShowsDiffs, no_diff, diffs}
 use Rattle.ud_tree.specs.Walks.{IsBefore}
 use Rattle.ud_tree.specs.TreeMoments.{TouchesNothing, TouchesFreshOrNone, OldOrOutput}
 
@@ -50,19 +52,26 @@ read_touches {name = name} {old = old} (reads text answer is) =
     each_at is (then_call start (λ n t. true≢false (sym t)))
 
 -- Reading files touches none.
-reads_touch : {old : List Call} {names : List (List ℕ)} {new : List Call} {fates : List Fate} → EachFile Reads old names new fates → EachCall TouchesNothing old new
-reads_touch no_file = no_call
-reads_touch (then_file h k) = each_then (reads_touch h) (read_touches k)
+reads_touch : {P : List ℕ → List Call → List Call → FileResult → Type 0} → ((name : List ℕ) (old new : List Call) (result : FileResult) → P name old new result → ReadsOne name old new) →
+    {old : List Call} {names : List (List ℕ)} {new : List Call} {results : List FileResult} → EachFile P old names new results → EachCall TouchesNothing old new
+reads_touch w no_file = no_call
+reads_touch w (then_file {mid = mid} {next = next} {name = name} {result = result} h k) = each_then (reads_touch w h) (read_touches (w name mid next result k))
 
-reads_by : (args : Arguments) (tag : List ℕ) (t : Task) → args.task ≡ t → ¬ (t ≡ Replace) → {old : List Call} {names : List (List ℕ)} {new : List Call} {fates : List Fate} →
-    EachFile (DoesBy t args tag) old names new fates → EachCall TouchesNothing old new
+shows_touch : {plan : PlanState} {old : List Call} {names : List (List ℕ)} {new : List Call} {results : List FileResult} → EachFile (ShowsOne plan) old names new results → EachCall TouchesNothing old new
+shows_touch h = reads_touch (λ name old new result k. k.reads) h
+
+lists_touch : {old : List Call} {names : List (List ℕ)} {new : List Call} {results : List FileResult} → EachFile (Unshown Reads) old names new results → EachCall TouchesNothing old new
+lists_touch h = reads_touch (λ name old new result k. k.does) h
+
+reads_by : (args : Arguments) (tag : List ℕ) (t : Task) → args.task ≡ t → ¬ (t ≡ Replace) → {old : List Call} {names : List (List ℕ)} {new : List Call} {results : List FileResult} →
+    EachFile (DoesBy t args tag) old names new results → EachCall TouchesNothing old new
 reads_by args tag Replace is other h = absurd (other refl)
-reads_by args tag Diff is other h = reads_touch h
-reads_by args tag Names is other h = reads_touch h
+reads_by args tag Diff is other h = shows_touch h
+reads_by args tag Names is other h = lists_touch h
 
-pub run_reads : (args : Arguments) (tag : List ℕ) (old new : List Call) (status : ℕ) → ¬ (args.task ≡ Replace) → IsRun args tag old new status → EachCall TouchesNothing old new
-run_reads args tag old new _ other (no_run h) = each_at h.are (walk_touches h.calls old)
-run_reads args tag old new status other (ran mid files w h) = each_then (each_at w.are (walk_touches w.calls old)) (reads_by args tag args.task refl other h.each)
+pub run_reads : (args : Arguments) (tag : List ℕ) (old new : List Call) (shown last : List ℕ) (status : ℕ) → ¬ (args.task ≡ Replace) → IsRun args tag old new shown last status → EachCall TouchesNothing old new
+run_reads args tag old new _ _ _ other (no_run h) = each_at h.are (walk_touches h.calls old)
+run_reads args tag old new shown last status other (ran mid files w h) = each_then (each_at w.are (walk_touches w.calls old)) (reads_by args tag args.task refl other h.each)
 
 -- Replacing a file touches no file but the new one, up to the rename.
 replace_touches : {o : Options} {plan : PlanState} {tag name : List ℕ} {old new : List Call} {fate : Fate} → IsPlanned plan o →
@@ -72,25 +81,25 @@ replace_touches {o = o} {tag = tag} {name = name} {old = old} {new = new} p (rep
     (one_rename o name fresh old new r (h o p))
 replace_touches p (no_name is) = each_at is no_call
 
-replaces_touch : {o : Options} {plan : PlanState} {tag : List ℕ} {old : List Call} {names : List (List ℕ)} {new : List Call} {fates : List Fate} → IsPlanned plan o →
-    EachFile (ReplacesOne plan false tag) old names new fates → EachCall (TouchesFreshOrNone o tag) old new
+replaces_touch : {o : Options} {plan : PlanState} {tag : List ℕ} {old : List Call} {names : List (List ℕ)} {new : List Call} {results : List FileResult} → IsPlanned plan o →
+    EachFile (Unshown (ReplacesOne plan false tag)) old names new results → EachCall (TouchesFreshOrNone o tag) old new
 replaces_touch p no_file = no_call
-replaces_touch p (then_file h k) = each_then (replaces_touch p h) (replace_touches p k)
+replaces_touch p (then_file h k) = each_then (replaces_touch p h) (replace_touches p k.does)
 
 nothing_touched : {o : Options} {tag : List ℕ} {old new : List Call} → EachCall TouchesNothing old new → EachCall (TouchesFreshOrNone o tag) old new
 nothing_touched h = each_weaker (λ c earlier t. inl t) h
 
 replaces_by : {o : Options} (args : Arguments) (tag : List ℕ) (t : Task) → IsPlanned args.plan o → args.write_into ≡ false → {old : List Call} {names : List (List ℕ)} {new : List Call}
-    {fates : List Fate} → EachFile (DoesBy t args tag) old names new fates → EachCall (TouchesFreshOrNone o tag) old new
-replaces_by args tag Replace p into {old = old} {names = names} {new = new} {fates = fates} h =
-    replaces_touch p (subst (λ (b : Bool). EachFile (ReplacesOne args.plan b tag) old names new fates) into h)
-replaces_by args tag Diff p into h = nothing_touched (reads_touch h)
-replaces_by args tag Names p into h = nothing_touched (reads_touch h)
+    {results : List FileResult} → EachFile (DoesBy t args tag) old names new results → EachCall (TouchesFreshOrNone o tag) old new
+replaces_by args tag Replace p into {old = old} {names = names} {new = new} {results = results} h =
+    replaces_touch p (subst (λ (b : Bool). EachFile (Unshown (ReplacesOne args.plan b tag)) old names new results) into h)
+replaces_by args tag Diff p into h = nothing_touched (shows_touch h)
+replaces_by args tag Names p into h = nothing_touched (lists_touch h)
 
-pub run_renames : (o : Options) (args : Arguments) (tag : List ℕ) (old new : List Call) (status : ℕ) → IsPlanned args.plan o → args.write_into ≡ false →
-    IsRun args tag old new status → EachCall (TouchesFreshOrNone o tag) old new
-run_renames o args tag old new _ p into (no_run h) = nothing_touched (each_at h.are (walk_touches h.calls old))
-run_renames o args tag old new status p into (ran mid files w h) =
+pub run_renames : (o : Options) (args : Arguments) (tag : List ℕ) (old new : List Call) (shown last : List ℕ) (status : ℕ) → IsPlanned args.plan o → args.write_into ≡ false →
+    IsRun args tag old new shown last status → EachCall (TouchesFreshOrNone o tag) old new
+run_renames o args tag old new _ _ _ p into (no_run h) = nothing_touched (each_at h.are (walk_touches h.calls old))
+run_renames o args tag old new shown last status p into (ran mid files w h) =
     each_then (nothing_touched (each_at w.are (walk_touches w.calls old))) (replaces_by args tag args.task p into h.each)
 
 -- Calls that touch nothing leave each file as it is.
@@ -194,15 +203,21 @@ last_is_new names name h inside =
     let at_end : get_or (names ++ name ∷ []) (length names) name ≡ name = grind (arith, get_or-append_right names (name ∷ []) (length names) (length names) name) in
     both (at_k ∙ sym at_end)
 
--- All files of a run.
-moments_all : {o : Options} {plan : PlanState} {tag : List ℕ} {first : Files} {old start : List Call} {names : List (List ℕ)} {new : List Call} {fates : List Fate} → IsPlanned plan o →
-    EachFile (ReplacesOne plan false tag) start names new fates → AllPairs Apart names → AreTrue first new → Moments o first old [] start → Moments o first old names new
-moments_all p no_file apart t m = m
-moments_all {o = o} {first = first} p (then_file {names = names} {mid = mid} {next = next} {name = name} h (replaces r fresh is k)) apart t m =
+-- One file more of a run.
+moments_one : {o : Options} {plan : PlanState} {tag : List ℕ} {first : Files} {old : List Call} {names : List (List ℕ)} {mid next : List Call} {name : List ℕ} {fate : Fate} → IsPlanned plan o →
+    IsNew names name → ReplacesOne plan false tag name mid next fate → AreTrue first next → (AreTrue first mid → Moments o first old names mid) → Moments o first old (names ++ name ∷ []) next
+moments_one {o = o} {first = first} {mid = mid} {next = next} {name = name} p fresh_name (replaces r fresh is k) t m =
     let moments = old_or_new o first name fresh mid next r (k o p) t in
-    moments_more name (last_is_new names name apart) (moments_all p h (pairs_before names name apart) (true_before first moments t) m) moments
-moments_all {o = o} {first = first} p (then_file {names = names} {mid = mid} {next = next} {name = name} h (no_name is)) apart t m =
-    moments_more name (last_is_new names name apart) (moments_all p h (pairs_before names name apart) (subst (λ (l : List Call). AreTrue first l) is t) m) (each_at is no_call)
+    moments_more name fresh_name (m (true_before first moments t)) moments
+moments_one {first = first} {name = name} p fresh_name (no_name is) t m =
+    moments_more name fresh_name (m (subst (λ (l : List Call). AreTrue first l) is t)) (each_at is no_call)
+
+-- All files of a run.
+moments_all : {o : Options} {plan : PlanState} {tag : List ℕ} {first : Files} {old start : List Call} {names : List (List ℕ)} {new : List Call} {results : List FileResult} → IsPlanned plan o →
+    EachFile (Unshown (ReplacesOne plan false tag)) start names new results → AllPairs Apart names → AreTrue first new → Moments o first old [] start → Moments o first old names new
+moments_all p no_file apart t m = m
+moments_all p (then_file {names = names} {name = name} h k) apart t m =
+    moments_one p (last_is_new names name apart) k.does t (λ u. moments_all p h (pairs_before names name apart) u m)
 
 -- Paths that ascend differ.
 not_before_itself : (f g : Found) → IsBefore f g → Apart (string_bytes f.path) (string_bytes g.path)
@@ -223,17 +238,32 @@ apart_names (f ∷ files) h i j d below within =
     λ e. not_before_itself (get_or (f ∷ files) i f) (get_or (f ∷ files) j f) (h i j f below in_files) (sym at_i ∙ e ∙ at_j)
 
 moments_by : {o : Options} (args : Arguments) (tag : List ℕ) (t : Task) → IsPlanned args.plan o → args.write_into ≡ false → {first : Files} {old start : List Call} {names : List (List ℕ)} {new : List Call}
-    {fates : List Fate} → AllPairs Apart names → AreTrue first new → Moments o first old [] start → EachFile (DoesBy t args tag) start names new fates →
+    {results : List FileResult} → AllPairs Apart names → AreTrue first new → Moments o first old [] start → EachFile (DoesBy t args tag) start names new results →
     EachCall (λ (c : Call) (earlier : List Call). OldOrOutput o first old (c ∷ earlier)) old new
-moments_by args tag Replace p into {start = start} {names = names} {new = new} {fates = fates} apart t m h =
-    (moments_all p (subst (λ (b : Bool). EachFile (ReplacesOne args.plan b tag) start names new fates) into h) apart t m).each
-moments_by args tag Diff p into apart t m h = (moments_still m (reads_touch h)).each
-moments_by args tag Names p into apart t m h = (moments_still m (reads_touch h)).each
+moments_by args tag Replace p into {start = start} {names = names} {new = new} {results = results} apart t m h =
+    (moments_all p (subst (λ (b : Bool). EachFile (Unshown (ReplacesOne args.plan b tag)) start names new results) into h) apart t m).each
+moments_by args tag Diff p into apart t m h = (moments_still m (shows_touch h)).each
+moments_by args tag Names p into apart t m h = (moments_still m (lists_touch h)).each
 
-pub run_old_or_new : (o : Options) (args : Arguments) (tag : List ℕ) (first : Files) (old new : List Call) (status : ℕ) → IsPlanned args.plan o → args.write_into ≡ false →
-    IsRun args tag old new status → AreTrue first new → EachCall (λ (c : Call) (earlier : List Call). OldOrOutput o first old (c ∷ earlier)) old new
-run_old_or_new o args tag first old new _ p into (no_run h) t =
+pub run_old_or_new : (o : Options) (args : Arguments) (tag : List ℕ) (first : Files) (old new : List Call) (shown last : List ℕ) (status : ℕ) → IsPlanned args.plan o → args.write_into ≡ false →
+    IsRun args tag old new shown last status → AreTrue first new → EachCall (λ (c : Call) (earlier : List Call). OldOrOutput o first old (c ∷ earlier)) old new
+run_old_or_new o args tag first old new _ _ _ p into (no_run h) t =
     (moments_still (moments_none o first old) (each_at h.are (walk_touches h.calls old))).each
-run_old_or_new o args tag first old new status p into (ran mid files w h) t =
+run_old_or_new o args tag first old new shown last status p into (ran mid files w h) t =
     moments_by args tag args.task p into (apart_names files w.ascend) t
     (moments_still (moments_none o first old) (each_at w.are (walk_touches w.calls old))) h.each
+
+-- The diffs of the files of a run, for one choice of options.
+each_shows : {o : Options} {plan : PlanState} {old : List Call} {names : List (List ℕ)} {new : List Call} {results : List FileResult} → IsPlanned plan o →
+    EachFile (ShowsOne plan) old names new results → EachFile (ShowsAs o) old names new results
+each_shows p no_file = no_file
+each_shows {o = o} p (then_file h k) = then_file (each_shows p h) (k.shows o p)
+
+-- A run that only shows what would change shows the diffs.
+pub run_shows : (o : Options) (run : Run) → IsPlanned run.args.plan o → run.args.task ≡ Diff → (shown last : List ℕ) (status : ℕ) → run.shown ≡ shown →
+    IsRun run.args run.tag run.old run.new shown last status → ShowsDiffs o run
+run_shows o run p diff _ _ _ e (no_run h) = no_diff h e
+run_shows o run p diff shown last status e (ran mid files w h) =
+    diffs mid files h.results h.listed w
+    (each_shows p (subst (λ (t : Task). EachFile (DoesBy t run.args run.tag) mid (names_of files) run.new h.results) diff h.each))
+    (e ∙ h.shown_is) (h.is_wanted (λ names. absurd cc))

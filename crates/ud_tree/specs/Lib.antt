@@ -6,4 +6,8 @@ pub mod Runs
 pub mod Walks
 pub mod TreeMoments
 pub mod TreeRuns
+pub mod TreeDiffs
+pub mod Summaries
 pub mod Shown
+pub mod Streams
+pub mod Writing

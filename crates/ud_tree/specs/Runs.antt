@@ -5,14 +5,18 @@
 --   fate_of r               what became of a file, by the result of replacing it
 --   IsPlanned plan o        `o` has the settings and the symbols of a plan
 --   ReplacesOne plan into tag name old new fate   a file was replaced, or its name took no memory
---   EachFile P old names new fates   `P` holds of each file in turn, and nothing else was asked
---   CountsAre counts fates  these are the numbers of each fate
---   Counted P old names new counts   each file in turn, with the numbers of each fate
+--   FileResult              what became of a file, and what is written of it
+--   Unshown P name old new result   `P` holds of a file, of which nothing is written to the output
+--   EachFile P old names new results   `P` holds of each file in turn, and nothing else was asked
+--   CountsAre counts results   these are the numbers of each fate
+--   shown_of results        what is written of the files to the output
+--   Counted P old names new counts shown   each file in turn, with the numbers of each fate
 --   names_of files          the paths of the files that the walk found
 --
 -- `old` and `new` are the calls before and after, the newest first.
 use Rattle.std.specs.Prelude.{◌≡◌, ℕ, List, [], ◌∷◌, ◌++◌, Bool, Option, Result, Ok, Err, map}
 use Rattle.std.specs.Prelude.{count_by, string_bytes}
+use Rattle.std.specs.List.{flat_map}
 use Rattle.ud_model.specs.sections.Items.{Options}
 use Rattle.ud_cond.specs.symbols.SymbolTable.{TableRepresents}
 use Rattle.ud_args.specs.Plans.{PlanState}
@@ -60,28 +64,45 @@ pub data ReplacesOne (plan : PlanState) (into : Bool) (tag name : List ℕ) (old
       ReplacesOne plan into tag name old new (fate_of r)
   no_name : new ≡ old → ReplacesOne plan into tag name old new Faulty
 
--- `EachFile P old names new fates`: `P name mid next fate` holds of each file in turn, where `mid`
--- and `next` are the calls before and after it. Nothing else was asked.
-pub data EachFile (P : List ℕ → List Call → List Call → Fate → Type 0) (old : List Call) :
-    List (List ℕ) → List Call → List Fate → Type 0 where
+-- `FileResult`: what became of a file, and the bytes that are written of it to the output.
+pub record FileResult : Type 0 where
+  pub fate : Fate
+  pub shown : List ℕ
+
+-- `Unshown P name old new result`: `P` holds of the file and its fate, and nothing is written of it
+-- to the output.
+pub record Unshown (P : List ℕ → List Call → List Call → Fate → Type 0) (name : List ℕ)
+    (old new : List Call) (result : FileResult) : Type 0 where
+  pub does : P name old new result.fate
+  pub nothing : result.shown ≡ []
+
+-- `EachFile P old names new results`: `P name mid next result` holds of each file in turn, where
+-- `mid` and `next` are the calls before and after it. Nothing else was asked.
+pub data EachFile (P : List ℕ → List Call → List Call → FileResult → Type 0) (old : List Call) :
+    List (List ℕ) → List Call → List FileResult → Type 0 where
   no_file : EachFile P old [] old []
-  then_file : {names : List (List ℕ)} {mid next : List Call} {fates : List Fate} {name : List ℕ}
-      {fate : Fate} → EachFile P old names mid fates → P name mid next fate →
-      EachFile P old (names ++ name ∷ []) next (fates ++ fate ∷ [])
+  then_file : {names : List (List ℕ)} {mid next : List Call} {results : List FileResult}
+      {name : List ℕ} {result : FileResult} → EachFile P old names mid results →
+      P name mid next result → EachFile P old (names ++ name ∷ []) next (results ++ result ∷ [])
 
--- `CountsAre counts fates`: `counts` has the number of each fate.
-pub record CountsAre (counts : Counts) (fates : List Fate) : Type 0 where
-  pub changed : counts.changed ≡ count_by is_changed fates
-  pub unchanged : counts.unchanged ≡ count_by is_same fates
-  pub faulty : counts.faulty ≡ count_by is_faulty fates
+-- `CountsAre counts results`: `counts` has the number of each fate.
+pub record CountsAre (counts : Counts) (results : List FileResult) : Type 0 where
+  pub changed : counts.changed ≡ count_by (λ r. is_changed r.fate) results
+  pub unchanged : counts.unchanged ≡ count_by (λ r. is_same r.fate) results
+  pub faulty : counts.faulty ≡ count_by (λ r. is_faulty r.fate) results
 
--- `Counted P old names new counts`: `P` holds of each file in turn, and `counts` has the numbers
--- of their fates.
-pub record Counted (P : List ℕ → List Call → List Call → Fate → Type 0) (old : List Call)
-    (names : List (List ℕ)) (new : List Call) (counts : Counts) : Type 0 where
-  pub fates : List Fate
-  pub each : EachFile P old names new fates
-  pub counts_are : CountsAre counts fates
+-- `shown_of results`: what is written of the files to the output, in order.
+abbrev pub shown_of : List FileResult → List ℕ
+shown_of results = flat_map (λ r. r.shown) results
+
+-- `Counted P old names new counts shown`: `P` holds of each file in turn, `counts` has the numbers
+-- of their fates, and `shown` is what is written of them to the output.
+pub record Counted (P : List ℕ → List Call → List Call → FileResult → Type 0) (old : List Call)
+    (names : List (List ℕ)) (new : List Call) (counts : Counts) (shown : List ℕ) : Type 0 where
+  pub results : List FileResult
+  pub each : EachFile P old names new results
+  pub counts_are : CountsAre counts results
+  pub shown_is : shown ≡ shown_of results
 
 -- `names_of files`: the paths of the files, in order.
 abbrev pub names_of : List Found → List (List ℕ)

@@ -3,19 +3,20 @@
 --   WasRead name text old new        a file was read, and `text` are its bytes
 --   RunsOver o text old new differs  the output for a text was appended to `old`
 --   HasDiff o name text diff         the diff of a text and its output
---   ShowsFile o name failed calls calls' out out' fate   a file was read, and its diff was written
+--   ShowsFile o name calls calls' fate shown   a file was read, and its diff is shown
+--   ShowsOne plan name calls calls' result   the same for all options of a plan
 --
--- `calls` and `calls'` are the calls before and after, the newest first. `out` and `out'` are what
--- a writer contains before and after.
+-- `calls` and `calls'` are the calls before and after, the newest first.
 use Rattle.std.specs.Prelude.{◌≡◌, ℕ, List, [], ◌∷◌, ◌++◌, Bool, true, false, Option, None}
 use Rattle.ud_model.specs.sections.Items.{Options}
 use Rattle.ud_model.specs.answer.Outcomes.{Outcome, HasOutcome}
-use Rattle.ud_io.specs.Watched.{AppendsAllOrPrefix}
+use Rattle.ud_args.specs.Plans.{PlanState}
 use Rattle.ud_diff.specs.Patching.{IsDiff}
 use Rattle.ud_replace.specs.declared.stat.FileStat.{FileStat}
 use Rattle.ud_replace.specs.Calls.{Call, was_read}
 use Rattle.ud_tree.specs.declared.counts.Fate.{Fate}
 use Rattle.ud_tree.specs.declared.counts.Fate.TheVariants.{Changed, Same, Faulty}
+use Rattle.ud_tree.specs.Runs.{FileResult, IsPlanned, ReadsOne}
 
 -- `WasRead name text old new`: the file `name` was read, and nothing else was asked. Its bytes are
 -- `text`.
@@ -41,15 +42,20 @@ pub record HasDiff (o : Options) (name text diff : List ℕ) : Type 0 where
   pub differs : outcome.differs ≡ true
   pub is_diff : IsDiff name text outcome.output diff
 
--- `ShowsFile o name failed calls calls' out out' fate`: the file `name` was read. If its output
--- differs, its diff was appended, or a prefix of it if `failed`. Else nothing was. Nothing was
--- appended either if it has a fault.
-pub data ShowsFile (o : Options) (name : List ℕ) (failed : Bool) (calls calls' : List Call)
-    (out out' : Option (List ℕ)) : Fate → Type 0 where
-  faulty : out' ≡ out → ShowsFile o name failed calls calls' out out' Faulty
+-- `ShowsFile o name calls calls' fate shown`: the file `name` was read. If its output differs, its
+-- diff is shown. Else nothing is. Nothing is shown either if the file has a fault.
+pub data ShowsFile (o : Options) (name : List ℕ) (calls calls' : List Call) :
+    Fate → List ℕ → Type 0 where
+  faulty : ShowsFile o name calls calls' Faulty []
   same : (text output : List ℕ) → WasRead name text calls calls' →
-      RunsOver o text [] output false → out' ≡ out →
-      ShowsFile o name failed calls calls' out out' Same
+      RunsOver o text [] output false → ShowsFile o name calls calls' Same []
   changed : (text diff : List ℕ) → WasRead name text calls calls' → HasDiff o name text diff →
-      AppendsAllOrPrefix failed out out' diff →
-      ShowsFile o name failed calls calls' out out' Changed
+      ShowsFile o name calls calls' Changed diff
+
+-- `ShowsOne plan name calls calls' result`: the file `name` was read once. Its fate, and what is
+-- shown of it, are those of the text that was read, for the options of the plan.
+pub record ShowsOne (plan : PlanState) (name : List ℕ) (calls calls' : List Call)
+    (result : FileResult) : Type 0 where
+  pub reads : ReadsOne name calls calls'
+  pub shows : (o : Options) → IsPlanned plan o →
+      ShowsFile o name calls calls' result.fate result.shown

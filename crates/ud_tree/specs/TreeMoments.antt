@@ -3,7 +3,8 @@
 --   TouchesNothing c earlier            a call touches no file
 --   TouchesFreshOrNone o tag c earlier  a call touches no file, but for that of a replacement
 --   OldOrOutput o first old calls       each file has its old bytes, or the output for them
-use Rattle.std.specs.Prelude.{◌≡◌, ◌⊎◌, ℕ, List, true, Some}
+--   LeavesOldOrOutput o first old c earlier   each file has them after the call `c`
+use Rattle.std.specs.Prelude.{◌≡◌, ◌⊎◌, ℕ, List, ◌∷◌, true, Some}
 use Rattle.ud_model.specs.sections.Items.{Options}
 use Rattle.ud_replace.specs.Calls.{Call}
 use Rattle.ud_replace.specs.Moments.{Files, content, HasOutput, touches, TouchesFreshOnly}
@@ -26,3 +27,8 @@ TouchesFreshOrNone o tag c earlier =
 abbrev pub OldOrOutput : Options → Files → List Call → List Call → Type 0
 OldOrOutput o first old calls = (n bytes : List ℕ) → content first old n ≡ Some bytes →
     (content first calls n ≡ Some bytes) ⊎ HasOutput o bytes (content first calls n)
+
+-- `LeavesOldOrOutput o first old c earlier`: after the call `c`, each file that there was after
+-- `old` has its old bytes, or the output for them.
+abbrev pub LeavesOldOrOutput : Options → Files → List Call → Call → List Call → Type 0
+LeavesOldOrOutput o first old c earlier = OldOrOutput o first old (c ∷ earlier)

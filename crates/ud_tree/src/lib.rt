@@ -22,14 +22,16 @@ mod replace_all;
 mod report;
 mod run;
 mod run_file;
+mod send;
 mod show_all;
 mod tree;
 mod walk;
 
 pub use arguments::{ArgumentFault, Arguments, Request, Task, parse_arguments};
 pub use disk::Disk;
-pub use laws::{law_run_old_or_new, law_run_reads, law_run_renames};
+pub use job::Job;
+pub use laws::{law_run_old_or_new, law_run_reads, law_run_renames, law_run_shows};
 pub use report::{report_argument_fault, report_line};
-pub use run::{Streams, run_tree};
+pub use run::run_tree;
 pub use tree::Tree;
 pub use ud_replace::{FileId, Node, NodeKind};

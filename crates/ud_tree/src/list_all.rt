@@ -1,6 +1,7 @@
 //! Listing the names of all files.
 
-ghost use Rattle.ud_tree.specs.Runs.{ReadsOne, Reads, Counted, names_of};
+ghost use Rattle.std.specs.Prelude.{[]};
+ghost use Rattle.ud_tree.specs.Runs.{ReadsOne, Reads, Unshown, Counted, names_of};
 
 use crate::counts::{Counts, Fate};
 use crate::job::Job;
@@ -20,14 +21,16 @@ pub(crate) fn list_all<T: Tree, E: Write>(
     tree: &mut T,
     files: &[Found],
     names: &mut Names,
-    report: &mut Report<E>,
+    report: &mut Report,
+    err: &mut Watched<E>,
 ) -> Counts
-    ensures { Counted Reads (T.history tree.old) (names_of files.now) (T.history tree.new) result }
+    ensures { Counted (Unshown Reads) (T.history tree.old) (names_of files.now)
+        (T.history tree.new) result [] }
 {
     let mut counts = Counts::new();
     for (done, file) in files.iter().enumerate() {
-        report.progress(done, files.len());
-        counts.add(list_file(job, tree, file.path.as_bytes(), names, report));
+        report.progress(err, done, files.len());
+        counts.add(list_file(job, tree, file.path.as_bytes(), names, report, err));
     }
     counts
 }
@@ -39,18 +42,19 @@ fn list_file<T: Tree, E: Write>(
     tree: &mut T,
     name: &[u8],
     names: &mut Names,
-    report: &mut Report<E>,
+    report: &mut Report,
+    err: &mut Watched<E>,
 ) -> Fate
     ensures { ReadsOne name.now (T.history tree.old) (T.history tree.new) }
 {
     let mut listed = Watched::new(Vec::<u8>::new(job.alloc));
-    let ran = run_file(job, tree, name, &mut listed, report);
+    let ran = run_file(job, tree, name, &mut listed, report, err);
     let added = names.add(listed.inner().as_slice());
     let Some((text, _)) = ran else {
         return Fate::Faulty;
     };
     if added.is_err() || names.add_hidden(text.as_slice(), job.mode()).is_err() {
-        report.fault(name, b"Out of memory");
+        report.fault(err, name, b"Out of memory");
         return Fate::Faulty;
     }
     Fate::Same

@@ -55,12 +55,16 @@ impl Remaining {
     }
 
     /// Returns the number of conditions.
-    pub(crate) fn count(&self) -> usize {
+    pub(crate) fn count(&self) -> usize
+        ensures { result ≡ self.now.count }
+    {
         self.count
     }
 
     /// Returns the list.
-    pub(crate) fn list(&self) -> &[u8] {
+    pub(crate) fn list(&self) -> &[u8]
+        ensures { result.now ≡ self.now.list.items }
+    {
         self.list.as_slice()
     }
 

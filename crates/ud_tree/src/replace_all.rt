@@ -1,7 +1,7 @@
 //! Replacing all files of a run.
 
 ghost use Rattle.std.specs.Prelude.{◌≡◌, [], false};
-ghost use Rattle.ud_tree.specs.Runs.{ReplacesOne, Counted, fate_of, names_of};
+ghost use Rattle.ud_tree.specs.Runs.{ReplacesOne, Unshown, Counted, fate_of, names_of};
 
 use crate::counts::{Counts, Fate};
 use crate::job::Job;
@@ -21,16 +21,17 @@ pub(crate) fn replace_all<T: Tree, E: Write>(
     job: &Job<'_>,
     tree: &mut T,
     files: &[Found],
-    report: &mut Report<E>,
+    report: &mut Report,
+    err: &mut Watched<E>,
 ) -> Counts
-    ensures { Counted
-        (ReplacesOne job.now.arguments.now.plan job.now.arguments.now.write_into job.now.tag.now)
-        (T.history tree.old) (names_of files.now) (T.history tree.new) result }
+    ensures { Counted (Unshown (ReplacesOne job.now.arguments.now.plan
+        job.now.arguments.now.write_into job.now.tag.now))
+        (T.history tree.old) (names_of files.now) (T.history tree.new) result [] }
 {
     let mut counts = Counts::new();
     for (done, file) in files.iter().enumerate() {
-        report.progress(done, files.len());
-        let result = replace_file(job, tree, file.path.as_bytes(), report);
+        report.progress(err, done, files.len());
+        let result = replace_file(job, tree, file.path.as_bytes(), report, err);
         counts.add(fate_of(result));
     }
     counts
@@ -52,7 +53,8 @@ fn replace_file<T: Tree, E: Write>(
     job: &Job<'_>,
     tree: &mut T,
     name: &[u8],
-    report: &mut Report<E>,
+    report: &mut Report,
+    err: &mut Watched<E>,
 ) -> Result<Update, ReplaceError>
     ensures { ReplacesOne job.now.arguments.now.plan job.now.arguments.now.write_into
         job.now.tag.now name.now (T.history tree.old) (T.history tree.new) (fate_of result) }
@@ -61,7 +63,10 @@ fn replace_file<T: Tree, E: Write>(
     let update = replace_named(job, tree, name, &mut output);
     match update {
         Ok(_) => report.search(job, name, output.inner().as_slice()),
-        Err(error) => report_error(tree, name, job.arguments.plan.settings(), error, report),
+        Err(error) => {
+            let settings = job.arguments.plan.settings();
+            report_error(tree, name, settings, error, report, err);
+        }
     }
     update
 }
@@ -98,23 +103,29 @@ fn report_error<T: Tree, E: Write>(
     path: &[u8],
     settings: Settings,
     error: ReplaceError,
-    report: &mut Report<E>,
+    report: &mut Report,
+    err: &mut Watched<E>,
 ) {
     match error {
-        ReplaceError::Text(fault) => report.text_fault(path, settings, fault),
-        ReplaceError::Read => report.failure(path, b"Cannot be read", tree.reason()),
-        ReplaceError::OutOfMemory => report.fault(path, b"Out of memory"),
+        ReplaceError::Text(fault) => report.text_fault(err, path, settings, fault),
+        ReplaceError::Read => report.failure(err, path, b"Cannot be read", tree.reason()),
+        ReplaceError::OutOfMemory => report.fault(err, path, b"Out of memory"),
         ReplaceError::ReadOnly | ReplaceError::Write => {
-            report.failure(path, b"Cannot be written", tree.reason());
+            report.failure(err, path, b"Cannot be written", tree.reason());
         }
-        ReplaceError::SeveralLinks => report.fault(path, b"Has several links; -w writes into it"),
+        ReplaceError::SeveralLinks => report.fault(
+            err,
+            path,
+            b"Has several links; -w writes into it",
+        ),
         ReplaceError::FolderDenied => {
             report.fault(
+                err,
                 path,
                 b"Its folder can't be written; -w writes into the file",
             );
         }
-        ReplaceError::ChangedMeanwhile => report.fault(path, b"Changed meanwhile"),
-        ReplaceError::HalfWritten => report.failure(path, b"Half written", tree.reason()),
+        ReplaceError::ChangedMeanwhile => report.fault(err, path, b"Changed meanwhile"),
+        ReplaceError::HalfWritten => report.failure(err, path, b"Half written", tree.reason()),
     }
 }

@@ -4,35 +4,34 @@
 //! `Report` is a fault, and faults are counted. On a terminal, a line with the number of files is
 //! shown during the run, and removed before each message.
 
+ghost use Rattle.std.specs.Prelude.{◌≡◌, [], false, if◌then◌else◌};
+ghost use Rattle.std.specs.List.{flat_map};
+ghost use Rattle.ud_tree.specs.Streams.{Sends, stream_of};
+ghost use Rattle.ud_tree.specs.Summaries.{Says, line_of};
+
 use crate::arguments::ArgumentFault;
 use crate::job::Job;
 use crate::remaining::Remaining;
+use crate::send::{send, send_parts};
 use itoa::Buffer;
 use std::alloc::Global;
 use std::io::{self, ErrorKind, Write};
 use ud_diagnostics::report_result;
 use ud_faults::RunFault;
-use ud_io::{Watched, write_all};
+use ud_io::Watched;
 use ud_model::Settings;
 
 /// The number of files after which the line on the terminal is shown again.
 const STEP: usize = 64;
 
-/// Writes parts in order, until a write fails.
-pub(crate) fn write_parts<E: Write>(err: &mut Watched<E>, parts: &[&[u8]]) {
-    for part in parts {
-        if err.failed() {
-            return;
-        }
-        write_all(err, part);
-    }
-}
-
 /// Writes a message that is no fault: the program's name, the parts, and a newline.
-pub fn report_line<E: Write>(err: &mut Watched<E>, parts: &[&[u8]]) {
-    write_parts(err, &[b"unifdef-tree: "]);
-    write_parts(err, parts);
-    write_parts(err, &[b"\n"]);
+pub fn report_line<E: Write>(err: &mut Watched<E>, parts: &[&[u8]])
+    ensures { Sends (stream_of E.contents err.old) (stream_of E.contents err.new)
+        (line_of (flat_map (λ p. p.now) parts.now)) }
+{
+    send(err, b"unifdef-tree: ");
+    send_parts(err, parts);
+    send(err, b"\n");
 }
 
 /// Returns the text of an error of the system without its number.
@@ -43,11 +42,10 @@ fn without_code(text: &str) -> &str {
     }
 }
 
-/// The messages of a run.
+/// The messages of a run so far, which were written to an error stream.
 #[derive(Drop)]
-pub(crate) struct Report<E> {
+pub(crate) struct Report {
     alloc: Global,
-    err: Watched<E>,
     /// True if the error stream is a terminal.
     is_terminal: bool,
     /// True if the terminal shows the number of files.
@@ -60,17 +58,15 @@ pub(crate) struct Report<E> {
     has_lost: bool,
 }
 
-impl<E: Write> Report<E> {
-    /// Returns a report without messages. If `list_remaining`, it lists the conditions that still
-    /// name a symbol.
-    pub(crate) fn new(alloc: Global, err: E, is_terminal: bool, list_remaining: bool) -> Report<E> {
+impl Report {
+    /// Returns a report without messages.
+    pub(crate) fn new(job: &Job<'_>) -> Report {
         Report {
-            alloc,
-            err: Watched::new(err),
-            is_terminal,
+            alloc: job.alloc,
+            is_terminal: job.is_terminal,
             is_shown: false,
             faulty: 0,
-            remaining: Remaining::new(alloc, list_remaining),
+            remaining: Remaining::new(job.alloc, job.arguments.list_remaining),
             has_lost: false,
         }
     }
@@ -81,13 +77,21 @@ impl<E: Write> Report<E> {
     }
 
     /// Returns the number of conditions that still name a symbol.
-    pub(crate) fn remaining(&self) -> usize {
+    pub(crate) fn remaining(&self) -> usize
+        ensures { result ≡ self.now.remaining.count }
+    {
         self.remaining.count()
     }
 
-    /// Writes the list of conditions that still name a symbol.
-    pub(crate) fn write_remaining<W: Write>(&self, out: &mut Watched<W>) {
-        write_parts(out, &[self.remaining.list()]);
+    /// Writes the list of conditions that still name a symbol, if it is wanted.
+    pub(crate) fn write_remaining<W: Write>(&self, job: &Job<'_>, out: &mut Watched<W>)
+        ensures { Sends (stream_of W.contents out.old) (stream_of W.contents out.new)
+            (if job.now.arguments.now.list_remaining then self.now.remaining.list.items else []) }
+    {
+        if !job.arguments.list_remaining {
+            return;
+        }
+        send(out, self.remaining.list());
     }
 
     /// Returns whether memory ran out for some of the conditions that still name a symbol.
@@ -105,76 +109,103 @@ impl<E: Write> Report<E> {
     }
 
     /// Removes the number of files from the terminal.
-    fn clear(&mut self) {
-        if self.is_shown {
-            self.is_shown = false;
-            write_parts(&mut self.err, &[b"\r\x1b[K"]);
+    fn clear<E: Write>(&mut self, err: &mut Watched<E>)
+        ensures hidden { self.new.is_shown ≡ false }
+        ensures unshown { self.old.is_shown ≡ false → err.new ≡ err.old }
+    {
+        if !self.is_shown {
+            return;
         }
+        self.is_shown = false;
+        send(err, b"\r\x1b[K");
     }
 
     /// Shows on a terminal how many of the files are done.
-    pub(crate) fn progress(&mut self, done: usize, all: usize) {
+    pub(crate) fn progress<E: Write>(&mut self, err: &mut Watched<E>, done: usize, all: usize) {
         if self.is_terminal && done % STEP == 0 {
             let (mut first, mut second) = (Buffer::new(), Buffer::new());
             let done = first.format(done).as_bytes();
             let all = second.format(all).as_bytes();
             self.is_shown = true;
-            write_parts(
-                &mut self.err,
-                &[b"\runifdef-tree: ", done, b" of ", all, b" files "],
-            );
+            send_parts(err, &[b"\runifdef-tree: ", done, b" of ", all, b" files "]);
         }
     }
 
     /// Writes a message that is no fault.
-    pub(crate) fn line(&mut self, parts: &[&[u8]]) {
-        self.clear();
-        report_line(&mut self.err, parts);
+    pub(crate) fn line<E: Write>(&mut self, err: &mut Watched<E>, parts: &[&[u8]])
+        ensures { Says self.old self.new (stream_of E.contents err.old)
+            (stream_of E.contents err.new) (line_of (flat_map (λ p. p.now) parts.now)) }
+    {
+        self.clear(err);
+        report_line(err, parts);
     }
 
     /// Writes a fault of a path.
-    pub(crate) fn fault(&mut self, path: &[u8], text: &[u8]) {
+    pub(crate) fn fault<E: Write>(&mut self, err: &mut Watched<E>, path: &[u8], text: &[u8]) {
         self.faulty = self.faulty.saturating_add(1);
-        self.line(&[path, b": ", text]);
+        self.line(err, &[path, b": ", text]);
     }
 
     /// Writes a fault of a name in a folder, whose path ends in a slash.
-    pub(crate) fn fault_in(&mut self, folder: &[u8], name: &[u8], text: &[u8]) {
+    pub(crate) fn fault_in<E: Write>(
+        &mut self,
+        err: &mut Watched<E>,
+        folder: &[u8],
+        name: &[u8],
+        text: &[u8],
+    ) {
         self.faulty = self.faulty.saturating_add(1);
-        self.line(&[folder, name, b": ", text]);
+        self.line(err, &[folder, name, b": ", text]);
     }
 
     /// Writes a fault of a path, and why a call failed.
-    pub(crate) fn failure(&mut self, path: &[u8], text: &[u8], reason: Option<io::Error>) {
+    pub(crate) fn failure<E: Write>(
+        &mut self,
+        err: &mut Watched<E>,
+        path: &[u8],
+        text: &[u8],
+        reason: Option<io::Error>,
+    ) {
         match reason {
-            None => self.fault(path, text),
+            None => self.fault(err, path, text),
             Some(error) => match format!(in self.alloc; "{error}") {
-                Err(_) => self.fault(path, text),
+                Err(_) => self.fault(err, path, text),
                 Ok(reason) => {
                     self.faulty = self.faulty.saturating_add(1);
                     let reason = without_code(reason.as_str()).as_bytes();
-                    self.line(&[path, b": ", text, b": ", reason]);
+                    self.line(err, &[path, b": ", text, b": ", reason]);
                 }
             },
         }
     }
 
     /// Writes that there is nothing at a path, or why that isn't known.
-    pub(crate) fn missing(&mut self, path: &[u8], reason: Option<io::Error>) {
+    pub(crate) fn missing<E: Write>(
+        &mut self,
+        err: &mut Watched<E>,
+        path: &[u8],
+        reason: Option<io::Error>,
+    ) {
         match reason {
             Some(error) if error.kind() != ErrorKind::NotFound => {
-                self.failure(path, b"Cannot be found", Some(error));
+                self.failure(err, path, b"Cannot be found", Some(error));
             }
-            _ => self.fault(path, b"No such file or folder"),
+            _ => self.fault(err, path, b"No such file or folder"),
         }
     }
 
     /// Writes the fault of a file's text, as unifdef does.
-    pub(crate) fn text_fault(&mut self, path: &[u8], settings: Settings, fault: RunFault) {
+    pub(crate) fn text_fault<E: Write>(
+        &mut self,
+        err: &mut Watched<E>,
+        path: &[u8],
+        settings: Settings,
+        fault: RunFault,
+    ) {
         self.faulty = self.faulty.saturating_add(1);
-        self.clear();
-        if !self.err.failed() {
-            report_result(&mut self.err, path, settings, Err(fault));
+        self.clear(err);
+        if !err.failed() {
+            report_result(err, path, settings, Err(fault));
         }
     }
 }
@@ -188,7 +219,7 @@ pub fn report_argument_fault<E: Write>(err: &mut Watched<E>, fault: &ArgumentFau
     match fault {
         ArgumentFault::UnknownOption(letter) => {
             report_letter(err, b"Unknown option -", *letter, b"");
-            write_parts(err, &[USAGE]);
+            send_parts(err, &[USAGE]);
         }
         ArgumentFault::MissingArgument(letter) => {
             report_letter(err, b"Option -", *letter, b" needs an argument");
@@ -208,7 +239,7 @@ pub fn report_argument_fault<E: Write>(err: &mut Watched<E>, fault: &ArgumentFau
             report_line(err, &[b"Option after a path: ", word.as_bytes()]);
         }
         ArgumentFault::PathsAndInput => report_line(err, &[b"-0 takes no paths"]),
-        ArgumentFault::NoPath => write_parts(err, &[USAGE]),
+        ArgumentFault::NoPath => send_parts(err, &[USAGE]),
         ArgumentFault::OutOfMemory => report_line(err, &[b"Out of memory"]),
     }
 }

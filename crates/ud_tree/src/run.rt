@@ -1,11 +1,14 @@
 //! The run over all files of a tree.
 
-ghost use Rattle.std.specs.Prelude.{◌≡◌, IfOk, IfSome};
+ghost use Rattle.std.specs.Prelude.{◌≡◌, [], false, IfOk, IfSome};
 ghost use Rattle.ud_model.specs.answer.Answer.{status_by};
-ghost use Rattle.ud_tree.specs.Runs.{Counted, names_of};
+ghost use Rattle.ud_tree.specs.Runs.{names_of};
 ghost use Rattle.ud_tree.specs.Statuses.{tree_status};
-ghost use Rattle.ud_tree.specs.TreeRuns.{DoesOne, Ends, IsRun};
+ghost use Rattle.ud_tree.specs.Streams.{Sends, stream_of};
+ghost use Rattle.ud_tree.specs.Summaries.{Says, TellsEnd, remaining_line, remaining_text, summary};
+ghost use Rattle.ud_tree.specs.TreeRuns.{DoesOne, EndsWriting, RunsTree};
 ghost use Rattle.ud_tree.specs.Walks.{Finds, IsWalk, WalksOnly};
+ghost use Rattle.ud_tree.specs.Writing.{WritesAll, WritesList, moment};
 
 use crate::arguments::{Arguments, Task};
 use crate::counts::Counts;
@@ -13,7 +16,8 @@ use crate::job::Job;
 use crate::list_all::list_all;
 use crate::names::Names;
 use crate::replace_all::replace_all;
-use crate::report::{Report, write_parts};
+use crate::report::Report;
+use crate::send::{flush, send};
 use crate::show_all::show_all;
 use crate::tree::Tree;
 use crate::walk::{Found, Walk};
@@ -26,21 +30,10 @@ use ud_model::ExitMode;
 /// The status of a fault, of any kind.
 const EXIT_TROUBLE: u8 = 2;
 
-/// The streams of a run.
-#[derive(Drop)]
-pub struct Streams<R, W, E> {
-    /// Paths are read from here if the arguments ask for that.
-    pub input: R,
-    /// Diffs and names are written here.
-    pub out: W,
-    /// Messages are written here.
-    pub err: E,
-    /// True if `err` is a terminal.
-    pub is_terminal: bool,
-}
-
-/// Runs over the files that the arguments name, and returns the exit status. `tag` differs from run
-/// to run. The files that are made beside others end in it.
+/// Runs over the files that the arguments name, and returns the exit status.
+///
+/// Paths are read from `input` if the arguments ask for that. Diffs and names are written to `out`,
+/// and messages to `err`.
 ///
 /// # Errors
 /// The status is 2, and there is a message for each fault, in each of these cases:
@@ -49,35 +42,25 @@ pub struct Streams<R, W, E> {
 /// - The paths name no file. If paths come from the input, that is no fault.
 /// - A folder can't be read, or a file can't be replaced. The other files are.
 /// - The output can't be written.
-pub fn run_tree<T: Tree, R: Read + Drop, W: Write + Drop, E: Write + Drop>(
-    alloc: Global,
-    arguments: &Arguments,
+pub fn run_tree<T: Tree, R: Read + Drop, W: Write, E: Write>(
+    job: &Job<'_>,
     tree: &mut T,
-    streams: Streams<R, W, E>,
-    tag: &[u8],
+    input: R,
+    out: &mut Watched<W>,
+    err: &mut Watched<E>,
 ) -> u8
-    ensures { IsRun arguments.now tag.now (T.history tree.old) (T.history tree.new) result }
+    ensures { RunsTree job.now.arguments.now job.now.tag.now
+        (moment T.history W.contents tree.old out.old)
+        (moment T.history W.contents tree.new out.new) (stream_of E.contents err.new) result }
 {
-    let Streams {
-        input,
-        out,
-        err,
-        is_terminal,
-    } = streams;
-    let job = Job {
-        alloc,
-        arguments,
-        tag,
-    };
-    let mut out = Watched::new(out);
-    let mut report = Report::new(alloc, err, is_terminal, arguments.list_remaining);
-    match find_files(&job, tree, input, &mut report) {
+    let mut report = Report::new(job);
+    match find_files(job, tree, input, &mut report, err) {
         Err(_) => {
-            report.fault(b"", b"Out of memory");
+            report.fault(err, b"", b"Out of memory");
             EXIT_TROUBLE
         }
         Ok(None) => EXIT_TROUBLE,
-        Ok(Some(files)) => process_all(&job, tree, files.as_slice(), &mut out, &mut report),
+        Ok(Some(files)) => process_all(job, tree, files.as_slice(), out, &mut report, err),
     }
 }
 
@@ -87,20 +70,21 @@ fn find_files<T: Tree, R: Read + Drop, E: Write>(
     job: &Job<'_>,
     tree: &mut T,
     input: R,
-    report: &mut Report<E>,
+    report: &mut Report,
+    err: &mut Watched<E>,
 ) -> Result<Option<Vec<Found>>, AllocError>
     ensures walks { WalksOnly (T.history tree.old) (T.history tree.new) }
     ensures files { IfOk result (λ r. IfSome r
         (λ files. IsWalk (T.history tree.old) (T.history tree.new) files.items)) }
 {
     let mut walk = Walk::new(job.alloc, job.arguments.patterns.as_slice());
-    let all = walk_all(job, &mut walk, tree, input, report)?;
+    let all = walk_all(job, &mut walk, tree, input, report, err)?;
     if !all {
         return Ok(None);
     }
     let files = walk.finish()?;
     if files.is_empty() && !job.arguments.from_input {
-        report.line(&[b"No file matches"]);
+        report.line(err, &[b"No file matches"]);
         return Ok(None);
     }
     Ok(Some(files))
@@ -113,22 +97,23 @@ fn walk_all<T: Tree, R: Read + Drop, E: Write>(
     walk: &mut Walk<'_>,
     tree: &mut T,
     input: R,
-    report: &mut Report<E>,
+    report: &mut Report,
+    err: &mut Watched<E>,
 ) -> Result<bool, AllocError>
     ensures { Finds (T.history tree.old) (T.history tree.new) walk.old.found.items
         walk.new.found.items }
 {
     if job.arguments.from_input {
-        add_input(job.alloc, walk, tree, input, report)?;
+        add_input(job.alloc, walk, tree, input, report, err)?;
         return Ok(true);
     }
     for path in job.arguments.paths.as_slice() {
-        walk.start(tree, report, path.as_str())?;
+        walk.start(tree, report, err, path.as_str())?;
     }
     if report.faulty() > 0 {
         return Ok(false);
     }
-    walk.go(tree, report)?;
+    walk.go(tree, report, err)?;
     Ok(true)
 }
 
@@ -138,7 +123,8 @@ fn add_input<T: Tree, R: Read + Drop, E: Write>(
     walk: &mut Walk<'_>,
     tree: &mut T,
     input: R,
-    report: &mut Report<E>,
+    report: &mut Report,
+    err: &mut Watched<E>,
 ) -> Result<(), AllocError>
     ensures { Finds (T.history tree.old) (T.history tree.new) walk.old.found.items
         walk.new.found.items }
@@ -146,11 +132,11 @@ fn add_input<T: Tree, R: Read + Drop, E: Write>(
     let mut input = input;
     let mut text = Vec::new(alloc);
     if input.read_to_end(&mut text).is_err() {
-        report.fault(b"stdin", b"Cannot be read");
+        report.fault(err, b"stdin", b"Cannot be read");
     }
     let paths = split_paths(alloc, text.as_slice())?;
     for name in paths.as_slice() {
-        walk.add(tree, report, name.as_slice())?;
+        walk.add(tree, report, err, name.as_slice())?;
     }
     Ok(())
 }
@@ -174,24 +160,23 @@ fn process_all<T: Tree, W: Write, E: Write>(
     tree: &mut T,
     files: &[Found],
     out: &mut Watched<W>,
-    report: &mut Report<E>,
+    report: &mut Report,
+    err: &mut Watched<E>,
 ) -> u8
-    ensures { Ends job.now.arguments.now job.now.tag.now (T.history tree.old) (names_of files.now)
-        (T.history tree.new) result }
+    ensures { EndsWriting job.now.arguments.now job.now.tag.now
+        (moment T.history W.contents tree.old out.old) (names_of files.now)
+        (moment T.history W.contents tree.new out.new) (stream_of E.contents err.new) result }
 {
     let walk_faults = report.faulty();
     let mut names = Names::new(job.alloc);
-    let counts = process_files(job, tree, files, out, &mut names, report);
-    let list_faults = write_lists(job, out, report, &names);
-    let out_faults = finish_output(out, report);
+    let counts = process_files(job, tree, files, out, &mut names, report, err);
+    let list_faults = write_lists(job, out, report, err, &names);
+    let out_faults = finish_output(out, report, err);
     let faults = walk_faults
         .saturating_add(list_faults)
         .saturating_add(out_faults)
         .saturating_add(counts.faulty);
-    if !job.arguments.quiet {
-        report_counts(job.arguments.task, report, names.hidden(), counts, faults);
-        report_remaining(job.arguments, report);
-    }
+    report_end(job, report, err, names.hidden(), counts, faults);
     status(job.arguments, faults, counts.changed)
 }
 
@@ -202,15 +187,17 @@ fn process_files<T: Tree, W: Write, E: Write>(
     files: &[Found],
     out: &mut Watched<W>,
     names: &mut Names,
-    report: &mut Report<E>,
+    report: &mut Report,
+    err: &mut Watched<E>,
 ) -> Counts
-    ensures { Counted (DoesOne job.now.arguments.now job.now.tag.now) (T.history tree.old)
-        (names_of files.now) (T.history tree.new) result }
+    ensures { WritesAll (DoesOne job.now.arguments.now job.now.tag.now)
+        (moment T.history W.contents tree.old out.old) (names_of files.now)
+        (moment T.history W.contents tree.new out.new) result }
 {
     match job.arguments.task {
-        Task::Replace => replace_all(job, tree, files, report),
-        Task::Diff => show_all(job, tree, files, out, report),
-        Task::Names => list_all(job, tree, files, names, report),
+        Task::Replace => replace_all(job, tree, files, report, err),
+        Task::Diff => show_all(job, tree, files, out, report, err),
+        Task::Names => list_all(job, tree, files, names, report, err),
     }
 }
 
@@ -219,95 +206,153 @@ fn process_files<T: Tree, W: Write, E: Write>(
 fn write_lists<W: Write, E: Write>(
     job: &Job<'_>,
     out: &mut Watched<W>,
-    report: &mut Report<E>,
+    report: &mut Report,
+    err: &mut Watched<E>,
     names: &Names,
-) -> usize {
+) -> usize
+    ensures { WritesList job.now.arguments.now (stream_of W.contents out.old)
+        (stream_of W.contents out.new) }
+{
     let mut list = Vec::new(job.alloc);
-    let listed = names.append_to(&mut list);
-    write_parts(out, &[list.as_slice()]);
-    report.write_remaining(out);
-    if listed.is_err() || report.has_lost() {
-        report.fault(b"stdout", b"Out of memory");
-        1
-    } else {
-        0
+    let listed = append_names(job, names, &mut list);
+    send(out, list.as_slice());
+    report.write_remaining(job, out);
+    if listed && !report.has_lost() {
+        return 0;
+    }
+    report.fault(err, b"stdout", b"Out of memory");
+    1
+}
+
+/// Appends the names that were counted, if they are to be listed. Returns false if memory ran out.
+fn append_names(job: &Job<'_>, names: &Names, list: &mut Vec<u8>) -> bool
+    ensures { ¬ (job.now.arguments.now.task ≡ Task.Names) → list.new.items ≡ list.old.items }
+{
+    match job.arguments.task {
+        Task::Names => names.append_to(list).is_ok(),
+        Task::Replace | Task::Diff => true,
     }
 }
 
 /// Flushes the output. Returns the number of its faults, 0 or 1, which were reported.
-fn finish_output<W: Write, E: Write>(out: &mut Watched<W>, report: &mut Report<E>) -> usize {
-    if out.failed() || !out.flush() {
-        report.fault(b"stdout", b"Cannot be written");
-        1
-    } else {
-        0
+fn finish_output<W: Write, E: Write>(
+    out: &mut Watched<W>,
+    report: &mut Report,
+    err: &mut Watched<E>,
+) -> usize
+    ensures { Sends (stream_of W.contents out.old) (stream_of W.contents out.new) [] }
+{
+    if flush(out) {
+        return 0;
     }
+    report.fault(err, b"stdout", b"Cannot be written");
+    1
+}
+
+/// Writes the last lines, unless the run is quiet: the counts, and how many conditions still name a
+/// symbol.
+fn report_end<E: Write>(
+    job: &Job<'_>,
+    report: &mut Report,
+    err: &mut Watched<E>,
+    hidden: usize,
+    counts: Counts,
+    faults: usize,
+)
+    ensures { TellsEnd job.now.arguments.now counts faults hidden (stream_of E.contents err.new) }
+{
+    if job.arguments.quiet {
+        return;
+    }
+    report_counts(job.arguments.task, report, err, hidden, counts, faults);
+    report_remaining(job.arguments, report, err);
 }
 
 /// Writes the counts.
 fn report_counts<E: Write>(
     task: Task,
-    report: &mut Report<E>,
+    report: &mut Report,
+    err: &mut Watched<E>,
     hidden: usize,
     counts: Counts,
     faults: usize,
-) {
+)
+    ensures { Says report.old report.new (stream_of E.contents err.old)
+        (stream_of E.contents err.new)
+        (summary task counts.changed counts.unchanged faults hidden) }
+{
     let (mut first, mut second) = (Buffer::new(), Buffer::new());
     let (mut third, mut fourth) = (Buffer::new(), Buffer::new());
     let changed = first.format(counts.changed).as_bytes();
     let unchanged = second.format(counts.unchanged).as_bytes();
     let faulty = third.format(faults).as_bytes();
-    let hidden = fourth.format(hidden).as_bytes();
+    let unlisted = fourth.format(hidden).as_bytes();
     match task {
         Task::Replace => {
-            report.line(&[
+            report.line(
+                err,
+                &[
+                    changed,
+                    b" changed, ",
+                    unchanged,
+                    b" unchanged, ",
+                    faulty,
+                    b" faulty",
+                ],
+            );
+        }
+        Task::Diff => report.line(
+            err,
+            &[
                 changed,
-                b" changed, ",
+                b" would change, ",
                 unchanged,
                 b" unchanged, ",
                 faulty,
                 b" faulty",
-            ]);
-        }
-        Task::Diff => report.line(&[
-            changed,
-            b" would change, ",
-            unchanged,
-            b" unchanged, ",
-            faulty,
-            b" faulty",
-        ]),
-        Task::Names => report.line(&[
-            unchanged,
-            b" files listed, ",
-            faulty,
-            b" faulty; ",
-            hidden,
-            b" conditions could not be listed",
-        ]),
+            ],
+        ),
+        Task::Names => report.line(
+            err,
+            &[
+                unchanged,
+                b" files listed, ",
+                faulty,
+                b" faulty; ",
+                unlisted,
+                b" conditions could not be listed",
+            ],
+        ),
     }
 }
 
 /// Writes how many conditions still name a symbol, if they were listed or if there are some.
-fn report_remaining<E: Write>(arguments: &Arguments, report: &mut Report<E>) {
+fn report_remaining<E: Write>(arguments: &Arguments, report: &mut Report, err: &mut Watched<E>)
+    ensures { report.old.is_shown ≡ false → Sends (stream_of E.contents err.old)
+        (stream_of E.contents err.new)
+        (remaining_line arguments.now.list_remaining report.old.remaining.count) }
+{
     let count = report.remaining();
-    if count == 0 && !arguments.list_remaining {
-        return;
-    }
     let mut digits = Buffer::new();
     let number = digits.format(count).as_bytes();
     if arguments.list_remaining {
-        report.line(&[number, remaining_text(count)]);
-    } else {
-        report.line(&[number, remaining_text(count), b"; -r lists them"]);
+        report.line(err, &[number, remaining_text(count)]);
+        return;
     }
+    if count == 0 {
+        return;
+    }
+    report.line(err, &[number, remaining_text(count), b"; -r lists them"]);
 }
 
 /// Returns what follows the number of conditions that still name a symbol.
-fn remaining_text(count: usize) -> &'static [u8] {
-    match count {
-        1 => b" condition still names a symbol",
-        _ => b" conditions still name a symbol",
+fn remaining_text(count: usize) -> &'static [u8]
+    ensures { result.now ≡ remaining_text count }
+{
+    if count == 1 {
+        b" condition still names a symbol"
+    } else {
+        b" conditions still name a symbol"
     }
 }
 

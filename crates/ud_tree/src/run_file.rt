@@ -2,8 +2,7 @@
 
 ghost use Rattle.std.specs.Prelude.{◌≡◌, false, IfOk, IfSome};
 ghost use Rattle.ud_model.specs.sections.Items.{Options};
-ghost use Rattle.ud_cond.specs.symbols.SymbolTable.{TableRepresents};
-ghost use Rattle.ud_tree.specs.Runs.{ReadsOne};
+ghost use Rattle.ud_tree.specs.Runs.{IsPlanned, ReadsOne};
 ghost use Rattle.ud_tree.specs.Shown.{WasRead, RunsOver};
 
 use crate::job::Job;
@@ -26,29 +25,29 @@ pub(crate) fn run_file<T: Tree, E: Write>(
     tree: &mut T,
     name: &[u8],
     output: &mut Watched<Vec<u8>>,
-    report: &mut Report<E>,
+    report: &mut Report,
+    err: &mut Watched<E>,
 ) -> Option<(Vec<u8>, bool)>
     requires not_failed { output.old.failed ≡ false }
     ensures reads { ReadsOne name.now (T.history tree.old) (T.history tree.new) }
     ensures text { IfSome result (λ ran.
         WasRead name.now ran.0.items (T.history tree.old) (T.history tree.new)) }
-    ensures ran { (o : Options) → o.settings ≡ job.now.arguments.now.plan.settings →
-        TableRepresents job.now.arguments.now.plan.symbols o.table → IfSome result (λ ran.
+    ensures ran { (o : Options) → IsPlanned job.now.arguments.now.plan o → IfSome result (λ ran.
         RunsOver o ran.0.items output.old.inner.items output.new.inner.items ran.1) }
 {
     let mut text = Vec::new(job.alloc);
     if tree.read(name, &mut text).is_none() {
-        report.failure(name, b"Cannot be read", tree.reason());
+        report.failure(err, name, b"Cannot be read", tree.reason());
         return None;
     }
     match run_text(&job.arguments.plan, text.as_slice(), output) {
         Ok(differs) => Some((text, differs)),
         Err(RunFault::Read | RunFault::Write) => {
-            report.fault(name, b"Out of memory");
+            report.fault(err, name, b"Out of memory");
             None
         }
         Err(fault) => {
-            report.text_fault(name, job.arguments.plan.settings(), fault);
+            report.text_fault(err, name, job.arguments.plan.settings(), fault);
             None
         }
     }
@@ -57,8 +56,7 @@ pub(crate) fn run_file<T: Tree, E: Write>(
 /// Runs over a text. Appends the output, and returns whether it differs.
 fn run_text(plan: &Plan, text: &[u8], output: &mut Watched<Vec<u8>>) -> Result<bool, RunFault>
     requires { output.old.failed ≡ false }
-    ensures { (o : Options) → o.settings ≡ plan.now.settings →
-        TableRepresents plan.now.symbols o.table → IfOk result (λ differs.
+    ensures { (o : Options) → IsPlanned plan.now o → IfOk result (λ differs.
         RunsOver o text.now output.old.inner.items output.new.inner.items differs) }
 {
     let mut reader = Watched::new(text);

@@ -11,6 +11,7 @@ use crate::tree::Tree;
 use std::alloc::{AllocError, Global};
 use std::collections::BTreeSet;
 use std::io::Write;
+use ud_io::Watched;
 use ud_replace::{FileId, Node, NodeKind};
 
 /// The fault of a file that can't be opened.
@@ -55,26 +56,27 @@ impl<'w> Walk<'w> {
     pub(crate) fn start<T: Tree, E: Write>(
         &mut self,
         tree: &mut T,
-        report: &mut Report<E>,
+        report: &mut Report,
+        err: &mut Watched<E>,
         path: &str,
     ) -> Result<(), AllocError>
         ensures { Finds (T.history tree.old) (T.history tree.new) self.old.found.items
             self.new.found.items }
     {
         let Some(node) = tree.node(path) else {
-            report.missing(path.as_bytes(), tree.reason());
+            report.missing(err, path.as_bytes(), tree.reason());
             return Ok(());
         };
         match node.kind {
             NodeKind::Folder => self.add_folder(path),
             NodeKind::Link if tree.leads_to_folder(path) => self.add_folder(path),
             NodeKind::Link => {
-                report.fault(path.as_bytes(), b"Is a symbolic link");
+                report.fault(err, path.as_bytes(), b"Is a symbolic link");
                 Ok(())
             }
             NodeKind::File => self.add_file(path, last_name(path.as_bytes()), node.id),
             NodeKind::Other => {
-                report.fault(path.as_bytes(), b"Is no regular file");
+                report.fault(err, path.as_bytes(), b"Is no regular file");
                 Ok(())
             }
         }
@@ -87,24 +89,25 @@ impl<'w> Walk<'w> {
     pub(crate) fn add<T: Tree, E: Write>(
         &mut self,
         tree: &mut T,
-        report: &mut Report<E>,
+        report: &mut Report,
+        err: &mut Watched<E>,
         name: &[u8],
     ) -> Result<(), AllocError>
         ensures { Finds (T.history tree.old) (T.history tree.new) self.old.found.items
             self.new.found.items }
     {
         let Ok(path) = std::str::from_utf8(name) else {
-            report.fault(escaped(self.alloc, name)?.as_slice(), NOT_UTF8);
+            report.fault(err, escaped(self.alloc, name)?.as_slice(), NOT_UTF8);
             return Ok(());
         };
         match tree.node(path) {
             None => {
-                report.missing(name, tree.reason());
+                report.missing(err, name, tree.reason());
                 Ok(())
             }
             Some(node) if is_file(&node) => self.push_file(path, node.id),
             Some(_) => {
-                report.fault(name, b"Is no regular file");
+                report.fault(err, name, b"Is no regular file");
                 Ok(())
             }
         }
@@ -146,7 +149,8 @@ impl<'w> Walk<'w> {
     fn visit<T: Tree, E: Write>(
         &mut self,
         tree: &mut T,
-        report: &mut Report<E>,
+        report: &mut Report,
+        err: &mut Watched<E>,
         folder: &str,
         name: &[u8],
     ) -> Result<(), AllocError>
@@ -156,13 +160,13 @@ impl<'w> Walk<'w> {
         let mut path = String::from_str(self.alloc, folder)?;
         let Ok(text) = std::str::from_utf8(name) else {
             let name = escaped(self.alloc, name)?;
-            report.fault_in(path.as_bytes(), name.as_slice(), NOT_UTF8);
+            report.fault_in(err, path.as_bytes(), name.as_slice(), NOT_UTF8);
             return Ok(());
         };
         path.push_str(text)?;
         let path = path.as_str();
         let Some(node) = tree.node(path) else {
-            report.missing(path.as_bytes(), tree.reason());
+            report.missing(err, path.as_bytes(), tree.reason());
             return Ok(());
         };
         self.add_node(path, name, node)
@@ -183,7 +187,8 @@ impl<'w> Walk<'w> {
     fn enter<T: Tree, E: Write>(
         &mut self,
         tree: &mut T,
-        report: &mut Report<E>,
+        report: &mut Report,
+        err: &mut Watched<E>,
         folder: &str,
     ) -> Result<(), AllocError>
         ensures { Finds (T.history tree.old) (T.history tree.new) self.old.found.items
@@ -192,10 +197,10 @@ impl<'w> Walk<'w> {
         let mut names = Vec::new(self.alloc);
         let listed = tree.list(folder, &mut names);
         if !listed {
-            report.failure(folder.as_bytes(), b"Cannot be read", tree.reason());
+            report.failure(err, folder.as_bytes(), b"Cannot be read", tree.reason());
         }
         for name in names.as_slice() {
-            self.visit(tree, report, folder, name.as_slice())?;
+            self.visit(tree, report, err, folder, name.as_slice())?;
         }
         Ok(())
     }
@@ -207,7 +212,8 @@ impl<'w> Walk<'w> {
     pub(crate) fn go<T: Tree, E: Write>(
         &mut self,
         tree: &mut T,
-        report: &mut Report<E>,
+        report: &mut Report,
+        err: &mut Watched<E>,
     ) -> Result<(), AllocError>
         ensures { Finds (T.history tree.old) (T.history tree.new) self.old.found.items
             self.new.found.items }
@@ -216,7 +222,7 @@ impl<'w> Walk<'w> {
             let Some(folder) = self.folders.pop() else {
                 break;
             };
-            self.enter(tree, report, folder.as_str())?;
+            self.enter(tree, report, err, folder.as_str())?;
         }
         Ok(())
     }

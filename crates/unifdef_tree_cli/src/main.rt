@@ -11,8 +11,7 @@ use std::time::{SystemTime, UNIX_EPOCH};
 use std::{env, io};
 use ud_io::Watched;
 use ud_tree::{
-    Arguments, Disk, Request, Streams, parse_arguments, report_argument_fault, report_line,
-    run_tree,
+    Arguments, Disk, Job, Request, parse_arguments, report_argument_fault, report_line, run_tree,
 };
 
 /// The version that `-V` prints.
@@ -48,16 +47,17 @@ fn run(rt: &HostRuntime, arguments: &Arguments) -> ExitCode {
         report_line(&mut err, &[b"Out of memory"]);
         return ExitCode::from(EXIT_TROUBLE);
     };
-    let mut disk = Disk::new(rt, rt.alloc());
-    let err = rt.stderr();
-    let is_terminal = err.is_terminal();
-    let streams = Streams {
-        input: rt.stdin(),
-        out: rt.stdout(),
-        err,
-        is_terminal,
+    let stderr = rt.stderr();
+    let job = Job {
+        alloc: rt.alloc(),
+        arguments,
+        tag: tag.as_bytes(),
+        is_terminal: stderr.is_terminal(),
     };
-    ExitCode::from(run_tree(rt.alloc(), arguments, &mut disk, streams, tag.as_bytes()))
+    let mut disk = Disk::new(rt, rt.alloc());
+    let mut out = Watched::new(rt.stdout());
+    let mut err = Watched::new(stderr);
+    ExitCode::from(run_tree(&job, &mut disk, rt.stdin(), &mut out, &mut err))
 }
 
 /// Returns a text that differs from run to run: the number of the process, and the time.

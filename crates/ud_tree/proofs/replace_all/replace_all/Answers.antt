@@ -1,5 +1,5 @@
 use Rattle.std.proofs.Common.{arith}
-use Rattle.ud_tree.proofs.RunLemmas.{counted_none, counted_push, counted_all}
+use Rattle.ud_tree.proofs.RunLemmas.{counted_none, unshown_push, counted_all}
 use Rattle.ud_tree.proofs.replace_all.replace_all.Goals as goal
 
 pub loop-done-init : goal.loop-done-init
@@ -8,7 +8,7 @@ loop-done-init g c = (omega arith, counted_none c.new-counts.result c.new-counts
 pub loop-done-preserved : goal.loop-done-preserved
 loop-done-preserved g c = (
   omega arith,
-  counted_push c.args.files.now c.loop-done.done c.index-files-done.result c.as_bytes.result.now c.fate_of.result c.add.new.self c.loop-done-test.true c.index-files-done.is
+  unshown_push c.args.files.now c.loop-done.done c.index-files-done.result c.as_bytes.result.now c.fate_of.result c.add.new.self c.loop-done-test.true c.index-files-done.is
       c.as_bytes.ensures.value c.loop-done.invariant.1
       (rw c.fate_of.ensures c.replace_file-result.ensures) c.add.ensures.changed c.add.ensures.unchanged c.add.ensures.faulty,
 )

@@ -1,12 +1,14 @@
-use Rattle.ud_tree.specs.TreeRuns.{no_run}
-use Rattle.ud_tree.proofs.RunLemmas.{ran_from}
+use Rattle.std.proofs.Common.{refl}
+use Rattle.ud_tree.proofs.RunLemmas.{no_files, ran_from}
 use Rattle.ud_tree.proofs.run.run_tree.Goals as goal
 
 pub returns-in-Err : goal.returns-in-Err
-returns-in-Err g c = no_run c.find_files.ensures.walks
+returns-in-Err g c = no_files c.args.job.now.arguments.now c.args.job.now.tag.now _ c.find_files.ensures.walks refl
 
 pub returns-in-Ok-None : goal.returns-in-Ok-None
-returns-in-Ok-None g c = no_run c.find_files.ensures.walks
+returns-in-Ok-None g c = no_files c.args.job.now.arguments.now c.args.job.now.tag.now _ c.find_files.ensures.walks refl
 
 pub returns : goal.returns
-returns g c = ran_from c.args.arguments.now c.args.tag.now c.as_slice.ensures.value (rw c.in-Ok-Some.field-0-is at c.in-Ok-Some.ensures.files) c.process_all.ensures
+returns g c =
+    ran_from c.args.job.now.arguments.now c.args.job.now.tag.now c.as_slice.ensures.value (rw c.in-Ok-Some.field-0-is at c.in-Ok-Some.ensures.files) refl
+    c.process_all.ensures

@@ -1,0 +1,103 @@
+-- Lines from their parts.
+use Rattle.std.proofs.Common.{◌≡◌, ℕ, List, [], ◌++◌, Bool, true, false, cond, refl, sym, ap, ◌∙◌, subst, append_assoc, append-nil, codes, decimal, ◌==◌, ◌&&◌, eqb-true}
+use Rattle.ud_tree.specs.declared.report.Report.{Report}
+use Rattle.ud_tree.specs.declared.arguments.Arguments.{Arguments}
+use Rattle.ud_tree.specs.declared.counts.Counts.{Counts}
+use Rattle.ud_tree.specs.declared.arguments.Task.TheVariants.{Replace, Diff, Names}
+use Rattle.ud_tree.specs.Streams.{Stream, Sends}
+use Rattle.ud_tree.specs.Summaries.{line_of, summary, remaining_text, remaining_line, EndsWith, TellsEnd, Says}
+use Rattle.ud_tree.proofs.StreamLemmas.{sends_none, sends_then, sends_same}
+
+-- A line was written in three parts.
+pub line_sent : {a b c d : Stream} {text : List ℕ} → Sends a b (codes "unifdef-tree: ") → Sends b c text → Sends c d (codes "\n") → Sends a d (line_of text)
+line_sent {text = text} h k l = sends_then (sends_then h k) l
+
+-- An equal line was written.
+pub says_same : {old new : Report} {err err' : Stream} {x y : List ℕ} → x ≡ y → Says old new err err' x → Says old new err err' y
+says_same {old = old} {new = new} {err = err} {err' = err'} e h = subst (λ (z : List ℕ). Says old new err err' z) e h
+
+-- The summary of a run that replaces files, from its six parts.
+pub replaced_joined : (changed unchanged faults hidden : ℕ) (c u f : List ℕ) → c ≡ decimal changed → u ≡ decimal unchanged → f ≡ decimal faults →
+    line_of (c ++ (codes " changed, " ++ (u ++ (codes " unchanged, " ++ (f ++ (codes " faulty" ++ [])))))) ≡ summary Replace changed unchanged faults hidden
+replaced_joined changed unchanged faults hidden c u f p q r =
+    ap (λ x. line_of (x ++ (codes " changed, " ++ (u ++ (codes " unchanged, " ++ (f ++ (codes " faulty" ++ []))))))) p
+    ∙ ap (λ x. line_of (decimal changed ++ (codes " changed, " ++ (x ++ (codes " unchanged, " ++ (f ++ (codes " faulty" ++ []))))))) q
+    ∙ ap (λ x. line_of (decimal changed ++ (codes " changed, " ++ (decimal unchanged ++ (codes " unchanged, " ++ (x ++ (codes " faulty" ++ []))))))) r
+    ∙ simp (append_assoc, append-nil)
+
+-- The summary of a run that shows diffs.
+pub shown_joined : (changed unchanged faults hidden : ℕ) (c u f : List ℕ) → c ≡ decimal changed → u ≡ decimal unchanged → f ≡ decimal faults →
+    line_of (c ++ (codes " would change, " ++ (u ++ (codes " unchanged, " ++ (f ++ (codes " faulty" ++ [])))))) ≡ summary Diff changed unchanged faults hidden
+shown_joined changed unchanged faults hidden c u f p q r =
+    ap (λ x. line_of (x ++ (codes " would change, " ++ (u ++ (codes " unchanged, " ++ (f ++ (codes " faulty" ++ []))))))) p
+    ∙ ap (λ x. line_of (decimal changed ++ (codes " would change, " ++ (x ++ (codes " unchanged, " ++ (f ++ (codes " faulty" ++ []))))))) q
+    ∙ ap (λ x. line_of (decimal changed ++ (codes " would change, " ++ (decimal unchanged ++ (codes " unchanged, " ++ (x ++ (codes " faulty" ++ []))))))) r
+    ∙ simp (append_assoc, append-nil)
+
+-- The summary of a run that lists names.
+pub listed_joined : (changed unchanged faults hidden : ℕ) (u f h : List ℕ) → u ≡ decimal unchanged → f ≡ decimal faults → h ≡ decimal hidden →
+    line_of (u ++ (codes " files listed, " ++ (f ++ (codes " faulty; " ++ (h ++ (codes " conditions could not be listed" ++ [])))))) ≡ summary Names changed unchanged faults hidden
+listed_joined changed unchanged faults hidden u f h p q r =
+    ap (λ x. line_of (x ++ (codes " files listed, " ++ (f ++ (codes " faulty; " ++ (h ++ (codes " conditions could not be listed" ++ []))))))) p
+    ∙ ap (λ x. line_of (decimal unchanged ++ (codes " files listed, " ++ (x ++ (codes " faulty; " ++ (h ++ (codes " conditions could not be listed" ++ []))))))) q
+    ∙ ap (λ x. line_of (decimal unchanged ++ (codes " files listed, " ++ (decimal faults ++ (codes " faulty; " ++ (x ++ (codes " conditions could not be listed" ++ []))))))) r
+    ∙ simp (append_assoc, append-nil)
+
+-- One line was written after another.
+pub says_then : {a b : Report} {s t u : Stream} {x y : List ℕ} → Says a b s t x → (b.is_shown ≡ false → Sends t u y) → EndsWith u (x ++ y)
+says_then h k = (h.cleared, sends_then h.sent (k h.hidden))
+
+and_false : (b : Bool) → (b && false) ≡ false
+and_false true = refl
+and_false false = refl
+
+-- No condition names a symbol, and they aren't listed.
+pub remaining_none : (listed : Bool) (count : ℕ) → count ≡ 0 → listed ≡ false → remaining_line listed count ≡ []
+remaining_none listed count p q =
+    subst (λ (b : Bool). remaining_line b count ≡ []) (sym q) (subst (λ (n : ℕ). remaining_line false n ≡ []) (sym p) refl)
+
+-- The line of conditions that are listed.
+pub remaining_listed : (listed : Bool) (count : ℕ) (number text : List ℕ) → listed ≡ true → number ≡ decimal count → text ≡ remaining_text count →
+    line_of (number ++ (text ++ [])) ≡ remaining_line listed count
+remaining_listed listed count number text on p q =
+    subst (λ (b : Bool). line_of (number ++ (text ++ [])) ≡ remaining_line b count) (sym on)
+    (ap (λ x. line_of (x ++ (text ++ []))) p
+    ∙ ap (λ x. line_of (decimal count ++ (x ++ []))) q
+    ∙ ap line_of (sym (append_assoc (decimal count) (remaining_text count) []))
+    ∙ sym (ap (λ (b : Bool). cond b [] (line_of (decimal count ++ remaining_text count ++ []))) (and_false (count == 0))))
+
+-- The line of conditions that aren't listed, of which there are some.
+pub remaining_told : (listed : Bool) (count : ℕ) (number text : List ℕ) → listed ≡ false → ¬ (count ≡ 0) → number ≡ decimal count → text ≡ remaining_text count →
+    line_of (number ++ (text ++ (codes "; -r lists them" ++ []))) ≡ remaining_line listed count
+remaining_told listed count number text off some p q =
+    subst (λ (b : Bool). line_of (number ++ (text ++ (codes "; -r lists them" ++ []))) ≡ remaining_line b count) (sym off)
+    (ap (λ x. line_of (x ++ (text ++ (codes "; -r lists them" ++ [])))) p
+    ∙ ap (λ x. line_of (decimal count ++ (x ++ (codes "; -r lists them" ++ [])))) q
+    ∙ ap line_of (sym (append_assoc (decimal count) (remaining_text count) (codes "; -r lists them")))
+    ∙ by_test (count == 0) refl)
+  where
+    line : List ℕ
+    line = line_of (decimal count ++ remaining_text count ++ codes "; -r lists them")
+
+    by_test : (b : Bool) → (count == 0) ≡ b → line ≡ cond ((count == 0) && true) [] line
+    by_test true is = absurd (some (eqb-true count 0 is))
+    by_test false is = sym (ap (λ (b : Bool). cond (b && true) [] line) is)
+
+-- A quiet run ends with nothing.
+pub ends_quiet : (args : Arguments) (counts : Counts) (faults hidden : ℕ) (err : Stream) → args.quiet ≡ true → TellsEnd args counts faults hidden err
+ends_quiet args counts faults hidden err quiet = record {
+  remaining = 0;
+  told = (err, sends_same (sym (ap (λ (b : Bool). cond b [] (summary args.task counts.changed counts.unchanged faults hidden ++ remaining_line args.list_remaining 0)) quiet)) (sends_none err));
+}
+
+-- Other runs end with the two lines.
+pub ends_told : (args : Arguments) (counts : Counts) (faults hidden remaining : ℕ) {err : Stream} → args.quiet ≡ false →
+    EndsWith err (summary args.task counts.changed counts.unchanged faults hidden ++ remaining_line args.list_remaining remaining) → TellsEnd args counts faults hidden err
+ends_told args counts faults hidden remaining loud (mid, h) = record {
+  remaining = remaining;
+  told = (mid, sends_same (sym (ap (λ (b : Bool). cond b [] (summary args.task counts.changed counts.unchanged faults hidden ++ remaining_line args.list_remaining remaining)) loud)) h);
+}
+
+-- If no number of files was shown, only the line was written.
+pub said_unshown : {old new : Report} {err err' : Stream} {bytes : List ℕ} → Says old new err err' bytes → old.is_shown ≡ false → Sends err err' bytes
+said_unshown {err' = err'} {bytes = bytes} h hidden = subst (λ (s : Stream). Sends s err' bytes) (h.unshown hidden) h.sent

@@ -1,0 +1,73 @@
+-- Summaries: the lines that end a run.
+--
+--   line_of text              a line of the program with this text
+--   summary task changed unchanged faults hidden   how many files there were of each kind
+--   remaining_line listed count   how many conditions still name a symbol
+--   last_lines args changed unchanged faults hidden remaining   both lines, unless the run is quiet
+--   TellsEnd args counts faults hidden err   they were written last
+--   EndsWith s bytes          the last bytes that were written to `s`
+--   Says old new err err' bytes   `bytes` were written, after the number of files was removed
+use Rattle.std.specs.Prelude.{◌≡◌, ℕ, List, [], ◌++◌, Bool, false, not, ◌&&◌, ◌==◌}
+use Rattle.std.specs.Prelude.{if◌then◌else◌, codes, decimal}
+use Rattle.ud_tree.specs.declared.arguments.Task.{Task}
+use Rattle.ud_tree.specs.declared.arguments.Task.TheVariants.{Replace, Diff, Names}
+use Rattle.ud_tree.specs.declared.arguments.Arguments.{Arguments}
+use Rattle.ud_tree.specs.declared.counts.Counts.{Counts}
+use Rattle.ud_tree.specs.declared.report.Report.{Report}
+use Rattle.ud_tree.specs.Streams.{Stream, Sends}
+
+-- `line_of text`: the program's name, `text` and a newline.
+abbrev pub line_of : List ℕ → List ℕ
+line_of text = codes "unifdef-tree: " ++ text ++ codes "\n"
+
+-- `summary task changed unchanged faults hidden`: the line with the numbers of files that changed,
+-- or would, of those that didn't, and of faults. If names are listed: of files without a fault, of
+-- faults, and of conditions that couldn't be listed.
+abbrev pub summary : Task → ℕ → ℕ → ℕ → ℕ → List ℕ
+summary Replace changed unchanged faults hidden = line_of (decimal changed ++
+    codes " changed, " ++ decimal unchanged ++ codes " unchanged, " ++ decimal faults ++
+    codes " faulty")
+summary Diff changed unchanged faults hidden = line_of (decimal changed ++
+    codes " would change, " ++ decimal unchanged ++ codes " unchanged, " ++ decimal faults ++
+    codes " faulty")
+summary Names changed unchanged faults hidden = line_of (decimal unchanged ++
+    codes " files listed, " ++ decimal faults ++ codes " faulty; " ++ decimal hidden ++
+    codes " conditions could not be listed")
+
+-- `remaining_text count`: what follows the number of conditions.
+abbrev pub remaining_text : ℕ → List ℕ
+remaining_text count = if count == 1 then codes " condition still names a symbol"
+    else codes " conditions still name a symbol"
+
+-- `remaining_line listed count`: the line with the number of conditions that still name a symbol,
+-- which is left out if there is none and they aren't `listed`.
+abbrev pub remaining_line : Bool → ℕ → List ℕ
+remaining_line listed count = if count == 0 && not listed then [] else line_of (decimal count ++
+    remaining_text count ++ (if listed then [] else codes "; -r lists them"))
+
+-- `EndsWith s bytes`: the last bytes that were written to `s` are `bytes`, up to its first failure.
+abbrev pub EndsWith : Stream → List ℕ → Type 0
+EndsWith s bytes = (mid : Stream) × Sends mid s bytes
+
+-- `last_lines args changed unchanged faults hidden remaining`: the summary, and the line with the
+-- number of conditions that still name a symbol; nothing if the run is quiet.
+abbrev pub last_lines : Arguments → ℕ → ℕ → ℕ → ℕ → ℕ → List ℕ
+last_lines args changed unchanged faults hidden remaining = if args.quiet then []
+    else summary args.task changed unchanged faults hidden ++
+    remaining_line args.list_remaining remaining
+
+-- `TellsEnd args counts faults hidden err`: the last lines were written to `err`, with these
+-- numbers and some number of conditions that still name a symbol.
+pub record TellsEnd (args : Arguments) (counts : Counts) (faults hidden : ℕ) (err : Stream) :
+    Type 0 where
+  pub remaining : ℕ
+  pub told : EndsWith err
+      (last_lines args counts.changed counts.unchanged faults hidden remaining)
+
+-- `Says old new err err' bytes`: `bytes` were written. If a terminal showed the number of files,
+-- that was removed before.
+pub record Says (old new : Report) (err err' : Stream) (bytes : List ℕ) : Type 0 where
+  pub hidden : new.is_shown ≡ false
+  pub cleared : Stream
+  pub unshown : old.is_shown ≡ false → cleared ≡ err
+  pub sent : Sends cleared err' bytes
