@@ -87,9 +87,9 @@ fn may_skip_text(chunk: &[u8], cursor: Cursor) -> bool
     !cursor.bulk_tried && cursor.pos < cursor.whole_end && !begins_conditional(&chunk[cursor.pos..])
 }
 
-/// An engine: unifdef(1) over a text that comes in chunks.
+/// An engine: unifdef(1) over a text that comes in chunks. It has its plan from a `P`.
 #[derive(Drop)]
-pub struct Engine<P: PlanSource, S: Show, H: LineBuffer = LongLineBuffer> {
+pub struct EngineOf<P: PlanSource, S: Show, H: LineBuffer = LongLineBuffer> {
     /// The result of the command line.
     plan: P,
     /// The buffered line.
@@ -102,7 +102,10 @@ pub struct Engine<P: PlanSource, S: Show, H: LineBuffer = LongLineBuffer> {
     fault: Option<RunFault>,
 }
 
-impl<P: PlanSource, S: Show, H: LineBuffer> Model for Engine<P, S, H> {
+/// An engine that borrows its plan.
+pub type Engine<'p, S, H = LongLineBuffer> = EngineOf<&'p Plan, S, H>;
+
+impl<P: PlanSource, S: Show, H: LineBuffer> Model for EngineOf<P, S, H> {
     ghost use Rattle.ud_engine.specs.Feeding.{EngineState, IsOpen};
 
     ghost Value = { EngineState S };
@@ -118,7 +121,7 @@ impl<P: PlanSource, S: Show, H: LineBuffer> Model for Engine<P, S, H> {
     ghost invariant = { λ e. IsOpen e.lines };
 }
 
-impl<P: PlanSource, S: Show> Engine<P, S, LongLineBuffer> {
+impl<P: PlanSource, S: Show> EngineOf<P, S, LongLineBuffer> {
     ghost use Rattle.ud_engine.specs.Feeding.{Session, Begins, IsInSession};
 
     /// Returns an engine before the first byte. It prints by `show`, or lists names if the plan
@@ -136,27 +139,27 @@ impl<P: PlanSource, S: Show> Engine<P, S, LongLineBuffer> {
     /// ```text
     /// blanked: \nx\n\n
     /// ```
-    pub fn new(plan: P, show: S) -> Engine<P, S, LongLineBuffer>
+    pub fn new(plan: P, show: S) -> EngineOf<P, S, LongLineBuffer>
         ensures represents { (s : Session) →
             Begins S.represents S.piece show (P.plan plan).settings (P.plan plan).symbols s →
             IsInSession S.represents S.piece result s }
         ensures no_fault { result.fault ≡ None }
     {
-        Engine::with_buffer(plan, show)
+        EngineOf::with_buffer(plan, show)
     }
 }
 
-impl<'p, S: Show, H: LineBuffer> Engine<&'p Plan, S, H> {
+impl<'p, S: Show, H: LineBuffer> EngineOf<&'p Plan, S, H> {
     /// Moves the state to an engine whose buffer holds the longest line.
     ///
     /// Leaves in its place an engine before the first byte, which prints by `show`.
     #[inline(never)]
-    pub(crate) fn take_as_long(&mut self, show: S) -> Engine<&'p Plan, S, LongLineBuffer>
+    pub(crate) fn take_as_long(&mut self, show: S) -> EngineOf<&'p Plan, S, LongLineBuffer>
         ensures { result ≡ self.old }
     {
-        let spent: Engine<&'p Plan, S, H> = Engine::with_buffer(self.plan, show);
+        let spent: EngineOf<&'p Plan, S, H> = EngineOf::with_buffer(self.plan, show);
         let engine = mem::replace(self, spent);
-        Engine {
+        EngineOf {
             plan: engine.plan,
             lines: engine.lines.into_long(),
             printer: engine.printer,
@@ -166,7 +169,7 @@ impl<'p, S: Show, H: LineBuffer> Engine<&'p Plan, S, H> {
     }
 }
 
-impl<P: PlanSource, S: Show, H: LineBuffer> Engine<P, S, H> {
+impl<P: PlanSource, S: Show, H: LineBuffer> EngineOf<P, S, H> {
     ghost use Rattle.ud_engine.specs.Feeding.{Session, Begins, IsInSession};
     ghost use Rattle.ud_engine.specs.Feeding.{FeedsChunk, WriterMatches};
     ghost use Rattle.ud_engine.specs.Feeding.{RecordsFault};
@@ -176,14 +179,14 @@ impl<P: PlanSource, S: Show, H: LineBuffer> Engine<P, S, H> {
     ghost use Rattle.ud_model.specs.declared.limits.TheConstants.{LINE_BYTES};
 
     /// Returns an engine before the first byte, as `new` does, whose line buffer is an `H`.
-    pub(crate) fn with_buffer(plan: P, show: S) -> Engine<P, S, H>
+    pub(crate) fn with_buffer(plan: P, show: S) -> EngineOf<P, S, H>
         ensures represents { (s : Session) →
             Begins S.represents S.piece show (P.plan plan).settings (P.plan plan).symbols s →
             IsInSession S.represents S.piece result s }
         ensures no_fault { result.fault ≡ None }
     {
         let settings = plan.settings();
-        Engine {
+        EngineOf {
             plan,
             lines: Lines::with_buffer(TEXT_LINES),
             printer: LineProcessor::new(settings, show),

@@ -16,7 +16,7 @@ mod plan_source;
 mod pump;
 mod write_failed;
 
-pub use engine::Engine;
+pub use engine::{Engine, EngineOf};
 pub use plan_source::PlanSource;
 pub use pump::run;
 pub use ud_faults::RunFault;

@@ -11,7 +11,7 @@ ghost use Rattle.ud_engine.specs.Runs.{RepresentsSomeText, Finished, FinishesRun
 ghost use Rattle.ud_engine.specs.Runs.{ErrorMatchesStreams};
 ghost use Rattle.ud_model.specs.declared.limits.TheConstants.{LINE_BYTES};
 
-use crate::engine::Engine;
+use crate::engine::{Engine, EngineOf};
 use std::io::{Read, Write};
 use ud_args::Plan;
 use ud_faults::RunFault;
@@ -64,7 +64,7 @@ pub fn run<R: Read, W: Write>(
         Finished R.remaining W.contents o reader.old reader.new out.old out.new result }
     ensures error_matches { ErrorMatchesStreams reader.new.failed out.new.failed result }
 {
-    let mut engine: Engine<&Plan, Printer, ShortLineBuffer> = Engine::with_buffer(
+    let mut engine: Engine<'_, Printer, ShortLineBuffer> = EngineOf::with_buffer(
         plan,
         Printer::of(&plan.settings()),
     );
@@ -84,7 +84,7 @@ pub fn run<R: Read, W: Write>(
 #[inline(never)]
 fn run_with_long_buffer<R: Read, W: Write>(
     plan: &Plan,
-    short: &mut Engine<&Plan, Printer, ShortLineBuffer>,
+    short: &mut Engine<'_, Printer, ShortLineBuffer>,
     reader: &mut Watched<R>,
     out: &mut Watched<W>,
 ) -> Result<bool, RunFault>
@@ -95,7 +95,7 @@ fn run_with_long_buffer<R: Read, W: Write>(
         out.old out.new result }
     ensures error_matches { ErrorMatchesStreams reader.new.failed out.new.failed result }
 {
-    let mut engine: Engine<&Plan, Printer, LongLineBuffer> = short.take_as_long(Printer::of(
+    let mut engine: Engine<'_, Printer, LongLineBuffer> = short.take_as_long(Printer::of(
         &plan.settings(),
     ));
     match pump(&mut engine, reader, out) {
@@ -112,7 +112,7 @@ fn run_with_long_buffer<R: Read, W: Write>(
 /// # Errors
 /// As `run`.
 fn pump<R: Read, W: Write, H: LineBuffer>(
-    engine: &mut Engine<&Plan, Printer, H>,
+    engine: &mut Engine<'_, Printer, H>,
     reader: &mut Watched<R>,
     out: &mut Watched<W>,
 ) -> Option<Result<bool, RunFault>>

@@ -9,7 +9,7 @@ ghost use Rattle.unifdef_c.specs.Streams.{EndsStream, FinishesStream, pending, f
 use crate::hand_out::overwrite;
 use std::alloc::Global;
 use ud_args::{Plan, Usage, display_name, plan};
-use ud_engine::{Engine, RunFault, Watched};
+use ud_engine::{EngineOf, RunFault, Watched};
 use ud_model::Settings;
 use ud_sections::Printer;
 
@@ -17,7 +17,7 @@ use ud_sections::Printer;
 #[derive(Drop)]
 pub struct Stream {
     /// The engine, which owns its plan.
-    pub(crate) engine: Engine<Plan, Printer>,
+    pub(crate) engine: EngineOf<Plan, Printer>,
     /// The output since all of it was last taken.
     pub(crate) output: Watched<Vec<u8>>,
     /// How many bytes of the output were taken.
@@ -63,7 +63,10 @@ impl Stream {
             (f : UsageFault) × (usage_fault (map string_bytes args.now) ≡ Some f)) }
     {
         match plan(alloc, args) {
-            Ok(plan) => Stream::with_plan(alloc, plan, display_name(args)),
+            Ok(plan) => {
+                let name = display_name(&plan, args);
+                Stream::with_plan(alloc, plan, name)
+            }
             Err(Usage::OutOfMemory) => Err(BeginFault::OutOfMemory),
             Err(_) => Err(BeginFault::BadWords),
         }
@@ -83,7 +86,7 @@ impl Stream {
             return Err(BeginFault::OutOfMemory);
         }
         Ok(Stream {
-            engine: Engine::new(plan, Printer::of(&settings)),
+            engine: EngineOf::new(plan, Printer::of(&settings)),
             output: Watched::new(Vec::new(alloc)),
             taken: 0,
             name: owned,

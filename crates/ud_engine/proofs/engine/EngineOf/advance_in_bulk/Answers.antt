@@ -5,7 +5,7 @@ use Rattle.ud_faults.specs.declared.run.RunFault.TheVariants.{Write}
 use Rattle.ud_engine.proofs.ErrLemmas.{match_err}
 use Rattle.ud_engine.proofs.StepLemmas.{run_refused_by}
 use Rattle.ud_engine.proofs.CursorLemmas.{next_after, passed_kept, passed_dropped}
-use Rattle.ud_engine.proofs.engine.Engine.advance_in_bulk.Goals as goal
+use Rattle.ud_engine.proofs.engine.EngineOf.advance_in_bulk.Goals as goal
 
 pub returns-then-skipped-clause-next : goal.returns-then-skipped-clause-next
 returns-then-skipped-clause-next g c =

@@ -6,7 +6,7 @@ use Rattle.ud_engine.specs.Advancing.{Advances, StepFails, IsCursor, slice_betwe
 use Rattle.ud_engine.specs.Feeding.{EngineState, EngineRepresentsBuffered}
 use Rattle.ud_engine.proofs.StepLemmas.{slice_from, lent_put, lent_kept, lent_refused, held_taken}
 use Rattle.ud_engine.proofs.CursorLemmas.{next_after_line}
-use Rattle.ud_engine.proofs.engine.Engine.advance_line.Goals as goal
+use Rattle.ud_engine.proofs.engine.EngineOf.advance_line.Goals as goal
 
 pub returns-in-Err-clause-moves : goal.returns-in-Err-clause-moves
 returns-in-Err-clause-moves g c = λ s old.

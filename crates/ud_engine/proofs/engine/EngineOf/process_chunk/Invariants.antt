@@ -1,7 +1,7 @@
 use Rattle.std.proofs.Common.{◌≡◌, ◌++◌, [], take, false}
 use Rattle.ud_engine.specs.Advancing.{Advances, IsCursor, slice_between, measure}
 use Rattle.ud_engine.specs.Feeding.{Session, IsInSession}
-use Rattle.ud_engine.proofs.engine.Engine.process_chunk.Given as goal
+use Rattle.ud_engine.proofs.engine.EngineOf.process_chunk.Given as goal
 
 abbrev pub invariant-loop-cursor : goal.invariant-loop-cursor
 invariant-loop-cursor g l = record {

@@ -1,6 +1,6 @@
 use Rattle.std.proofs.Common.{ap}
 use Rattle.ud_engine.specs.Feeding.{EngineState}
-use Rattle.ud_engine.proofs.engine.Engine.flush_pending.Goals as goal
+use Rattle.ud_engine.proofs.engine.EngineOf.flush_pending.Goals as goal
 
 pub returns-clause-rest : goal.returns-clause-rest
 returns-clause-rest g c = (

@@ -10,7 +10,7 @@ use Rattle.ud_faults.specs.declared.run.RunFault.TheVariants.{Write}
 use Rattle.ud_engine.proofs.ErrLemmas.{match_err}
 use Rattle.ud_engine.proofs.LinePartLemmas.{limit_stops}
 use Rattle.ud_engine.proofs.StepLemmas.{held_whole, is_within, still_open, open_step, line_step, line_refused, run_refused_by}
-use Rattle.ud_engine.proofs.engine.Engine.push_line_part.Goals as goal
+use Rattle.ud_engine.proofs.engine.EngineOf.push_line_part.Goals as goal
 
 pub returns-in-Err-clause-takes : goal.returns-in-Err-clause-takes
 returns-in-Err-clause-takes g c = λ s old.

@@ -2,7 +2,7 @@ use Rattle.std.proofs.Common.{rules, sym, subst}
 use Rattle.ud_faults.specs.Faults.{fault_of}
 use Rattle.ud_engine.specs.Feeding.{EngineState, IsInSession}
 use Rattle.ud_engine.proofs.EndLemmas.{rests, ends_at, ends_well}
-use Rattle.ud_engine.proofs.engine.Engine.finish_in_place.Goals as goal
+use Rattle.ud_engine.proofs.engine.EngineOf.finish_in_place.Goals as goal
 
 pub returns-in-Err-clause-finishes : goal.returns-in-Err-clause-finishes
 returns-in-Err-clause-finishes g c = λ s old.

@@ -4,7 +4,7 @@ use Rattle.ud_engine.specs.Feeding.{EngineState, longer}
 use Rattle.ud_faults.specs.declared.run.RunFault.TheVariants.{Write}
 use Rattle.ud_engine.proofs.ErrLemmas.{feeds_err}
 use Rattle.ud_engine.proofs.FeedLemmas.{feed_begins, feed_goes_on, feed_fails, feed_ends, feed_falls_short}
-use Rattle.ud_engine.proofs.engine.Engine.process_chunk.Goals as goal
+use Rattle.ud_engine.proofs.engine.EngineOf.process_chunk.Goals as goal
 
 pub loop-cursor-init : goal.loop-cursor-init
 loop-cursor-init g c = record {
