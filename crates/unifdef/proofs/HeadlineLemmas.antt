@@ -25,11 +25,11 @@ use Rattle.ud_diagnostics.specs.RunMessages.{final_result, result_message, resul
 use Rattle.unifdef.proofs.RefusalLemmas.{TellsFault, tells-IsUsageOf}
 
 -- the message and the status of the end of a run are those of its outcome
-record TellsOutcome (name : List ℕ) (s : Settings) (ended : Result Bool RunFault) (r : Outcome) : Type 0 where
-  message : result_message name ended ≡ message_or_none name r.fault
-  status : result_status s ended ≡ status_of s r.differs r.fault
+pub record TellsOutcome (name : List ℕ) (s : Settings) (ended : Result Bool RunFault) (r : Outcome) : Type 0 where
+  pub message : result_message name ended ≡ message_or_none name r.fault
+  pub status : result_status s ended ≡ status_of s r.differs r.fault
 
-tells_outcome : (name : List ℕ) (s : Settings) (ended : Result Bool RunFault) (r : Outcome) → ResultIs ended r → TellsOutcome name s ended r
+pub tells_outcome : (name : List ℕ) (s : Settings) (ended : Result Bool RunFault) (r : Outcome) → ResultIs ended r → TellsOutcome name s ended r
 tells_outcome name s (Ok differs) r h = record {
   message = sym (ap (message_or_none name) h.0);
   status = ap (status_under s.listing s.exit_mode) h.1 ∙ sym (ap (status_of s r.differs) h.0);

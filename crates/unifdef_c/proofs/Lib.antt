@@ -3,3 +3,4 @@ pub mod TextCallLemmas
 pub mod HandleBox
 pub mod HandleSteps
 pub mod StreamLemmas
+pub mod CourseLemmas

@@ -34,6 +34,7 @@ begins args plan name s p named n = record {
   right = p.right;
   fed = n.fed (options_of args) (sym p.said) p.represents;
   none_pending = rw (n.untaken, n.empty) refl;
+  untaken = n.untaken;
   works = n.works;
   named = n.named ∙ named p.right;
   set = n.set ∙ p.said;

@@ -7,3 +7,4 @@ pub mod Versions
 pub mod Streams
 pub mod Handles
 pub mod StreamCalls
+pub mod StreamCourses

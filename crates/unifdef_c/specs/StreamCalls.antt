@@ -73,8 +73,8 @@ pub record Tells (bytes : List ℕ) (status : ℕ) (message message' : List ℕ)
     pub returned : n ≡ if nat_le (length bytes) (length message) then status else 3
 
 -- `TellsEnd name settings r message message' size' n`: the message and the status of the result `r`
--- of a text that is named `name` were handed out. Or memory was refused, and that was told. After
--- the error `Write` it was.
+-- of a text that is named `name` were handed out. Or memory was refused, as it was before the error
+-- `Write`, and those of refused memory were.
 pub data TellsEnd (name : List ℕ) (settings : Settings) (r : Result Bool RunFault)
     (message message' : List ℕ) (size' n : ℕ) : Type 0 where
   by_result : ¬ (r ≡ Err Write) →

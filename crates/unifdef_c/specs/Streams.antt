@@ -7,7 +7,7 @@
 --   TakesStream s t ..         a part of the output was taken
 --   FinishesStream s t r       the text has ended
 --   EndsStream s t r           the same, if it hadn't ended before
-use Rattle.std.specs.Prelude.{◌≡◌, ◌⊎◌, ℕ, List, [], length, take, drop, Bool, true, false}
+use Rattle.std.specs.Prelude.{◌≡◌, ◌⊎◌, ◌≤◌, ℕ, List, [], length, take, drop, Bool, true, false}
 use Rattle.std.specs.Prelude.{None, Some, Result, Ok, Err, IfSome}
 use Rattle.ud_model.specs.sections.Items.{Options}
 use Rattle.ud_model.specs.answer.CommandLine.{usage_fault, options_of, display_name}
@@ -64,6 +64,7 @@ pub record BeginsStream (args : List (List ℕ)) (s : Stream) : Type 0 where
   pub right : usage_fault args ≡ None
   pub fed : InSession s (session (options_of args) [] [])
   pub none_pending : pending s ≡ []
+  pub untaken : s.taken ≡ 0
   pub works : s.output.failed ≡ false
   pub named : s.name.items ≡ display_name args
   pub set : s.settings ≡ (options_of args).settings
@@ -105,6 +106,7 @@ pub record TakesStream (s t : Stream) (buffer buffer' : List ℕ) (count : ℕ) 
   pub written : buffer' ≡ overwritten buffer (pending s)
   pub counted : count ≡ length (take (length buffer) (pending s))
   pub left : pending t ≡ drop count (pending s)
+  pub within : s.taken ≤ length (output_of s) → t.taken ≤ length (output_of t)
   pub failed : t.output.failed ≡ s.output.failed
   pub rest : t ≡ record s { output = t.output; taken = t.taken }
 
@@ -120,9 +122,9 @@ pub record FinishesEngine (s t : Stream) (r : Result Bool RunFault) : Type 0 whe
 -- `FinishesStream s t r`: `FinishesEngine`. Or memory had been refused, and all output stays as it
 -- was.
 pub data FinishesStream (s t : Stream) : Result Bool RunFault → Type 0 where
-  by_engine : (r : Result Bool RunFault) → s.output.failed ≡ false → FinishesEngine s t r →
+  by_end : (r : Result Bool RunFault) → s.output.failed ≡ false → FinishesEngine s t r →
       FinishesStream s t r
-  has_failed : s.output.failed ≡ true → t ≡ record s { ended = Some (Err Write) } →
+  after_failure : s.output.failed ≡ true → t ≡ record s { ended = Some (Err Write) } →
       FinishesStream s t (Err Write)
 
 -- `EndsStream s t r`: `FinishesStream`. Or the text had ended with `r`, and the stream is

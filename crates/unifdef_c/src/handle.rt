@@ -10,8 +10,7 @@ use std::alloc::Global;
 use std::marker::Model;
 use std::ptr::null_mut;
 
-/// A stream, or none if it is closed. In C this is a struct with one pointer, which is null if it is
-/// closed.
+/// A stream, or none if it is closed. In C this is a struct with one pointer, which is null then.
 #[repr(C)]
 pub struct Handle {
     at: *mut u8,

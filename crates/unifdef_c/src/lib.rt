@@ -1,14 +1,15 @@
 //! unifdef(1) for C, and for whatever calls C.
 //!
 //! Each exported function is declared and described in lib/unifdef.h. It takes numbers and slices,
-//! a slice as a pointer and a length, and writes only to what it is passed. Nothing is kept between
-//! calls.
+//! a slice as a pointer and a length, and writes only to what it is passed. Only a `Handle` keeps
+//! anything between calls: a `Stream`, for a text that comes in chunks.
 #![tactic(auto)]
 
 mod args;
 mod decide;
 mod hand_out;
 mod handle;
+mod laws;
 mod raw_box;
 mod stream;
 mod stream_calls;

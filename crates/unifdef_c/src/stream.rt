@@ -13,14 +13,14 @@ use ud_engine::{EngineOf, RunFault, Watched};
 use ud_model::Settings;
 use ud_sections::Printer;
 
-/// What a handle owns: an engine and its output.
+/// An engine and its output, as a handle owns them.
 #[derive(Drop)]
 pub struct Stream {
     /// The engine, which owns its plan.
     pub(crate) engine: EngineOf<Plan, Printer>,
     /// The output since all of it was last taken.
     pub(crate) output: Watched<Vec<u8>>,
-    /// How many bytes of the output were taken.
+    /// The number of bytes of the output that were taken.
     pub(crate) taken: usize,
     /// The input's name in messages.
     pub(crate) name: Vec<u8>,
@@ -30,7 +30,7 @@ pub struct Stream {
     pub(crate) ended: Option<Result<bool, RunFault>>,
 }
 
-/// Why no stream begins.
+/// The reason that no stream begins.
 #[derive(Clone, Copy, Debug, PartialEq, Eq)]
 pub(crate) enum BeginFault {
     /// The words have a fault, or one of them isn't UTF-8.
@@ -39,7 +39,7 @@ pub(crate) enum BeginFault {
     OutOfMemory,
 }
 
-/// What a chunk did.
+/// The effect of a chunk.
 #[derive(Clone, Copy, Debug, PartialEq, Eq)]
 pub(crate) enum Fed {
     /// The chunk is accepted.

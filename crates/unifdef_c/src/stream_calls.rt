@@ -25,8 +25,8 @@ use unifdef::EXIT_TROUBLE;
 /// `words` has the arguments, as for `unifdef_text`. Returns 0.
 ///
 /// # Errors
-/// -1 if the words have a fault or one of them isn't UTF-8, and -2 if memory is refused. `handle` is
-/// closed then.
+/// -1 if the words have a fault or one of them isn't UTF-8, and -2 if memory is refused. `handle`
+/// is closed then.
 #[unsafe(no_mangle)]
 pub extern "C" fn unifdef_open(alloc: Global, handle: &mut Handle, words: &[u8]) -> i32
     ensures { OpensHandle words.now handle.new.stream result }
@@ -112,8 +112,8 @@ pub extern "C" fn unifdef_take(
 /// exit status, or 3 if the message doesn't fit. A later call returns the same status and message.
 ///
 /// # Errors
-/// The status is 2, with the program's message, if the text has a fault or memory was refused. It is
-/// -4 if the stream is closed. Nothing is written then.
+/// The status is 2, with the program's message, if the text has a fault or memory was refused. It
+/// is -4 if the stream is closed. Nothing is written then.
 #[unsafe(no_mangle)]
 pub extern "C" fn unifdef_finish(
     alloc: Global,
