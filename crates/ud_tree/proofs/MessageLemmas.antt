@@ -1,16 +1,15 @@
 -- Messages that are written one after another.
-use Rattle.std.proofs.Common.{◌≡◌, ℕ, ◌+◌, List, [], ◌∷◌, ◌++◌, length, Bool, true, false, cond, refl, sym, ap, ◌∙◌, subst, true≢false, append_assoc, append-nil, codes, arith, length-append}
+use Rattle.std.proofs.Common.{◌≡◌, ℕ, ◌+◌, List, [], ◌∷◌, ◌++◌, length, Bool, true, false, cond, refl, sym, ap, ◌∙◌, subst, true≢false, append_assoc, append-nil, codes, length-append}
 use Rattle.std.specs.List.{All, flat_map}
 use Rattle.std.proofs.lemmas.Grind.{flat_map-append}
 use Rattle.std.proofs.lemmas.List.Elements.{All-nil, All-push, All-append}
 use Rattle.ud_faults.specs.declared.run.RunFault.{RunFault}
 use Rattle.ud_diagnostics.specs.RunMessages.{fault_message}
-use Rattle.ud_io.specs.Watched.{AppendsAllOrPrefix}
 use Rattle.ud_tree.specs.declared.report.Report.{Report}
 use Rattle.ud_tree.specs.Streams.{Stream, Sends}
 use Rattle.ud_tree.specs.Summaries.{line_of}
-use Rattle.ud_tree.specs.Messages.{fault_line, IsFaultOf, of_file, of_text, IsTold, IsPlain, Tells, TellsFault, TellsIf}
-use Rattle.ud_tree.proofs.StreamLemmas.{sends_none, sends_then, sends_same}
+use Rattle.ud_tree.specs.Messages.{IsFaultOf, of_file, of_text, IsTold, Tells, TellsFault, TellsIf}
+use Rattle.ud_tree.proofs.StreamLemmas.{sends_none, sends_then}
 
 -- The report changed in nothing that the error stream shows, and nothing was written.
 pub tells_kept : {a b : Report} (s : Stream) → b.is_terminal ≡ a.is_terminal → b.is_shown ≡ a.is_shown → Tells a b s s []
@@ -57,7 +56,7 @@ reason_told name text reason h = record {
 pub text_told : {a b : Report} {s t : Stream} (name : List ℕ) (f : RunFault) → Tells a b s t (fault_message name f) → TellsFault name a b s t
 text_told name f h = record { message = fault_message name f; is_of = of_text f refl; tells = h }
 
--- What is told of a file, and that it was written.
+-- The message of a file, if it is faulty, was written.
 pub record ToldOf (name : List ℕ) (faulty : Bool) (old new : Report) (err err' : Stream) : Type 0 where
   pub told : List ℕ
   pub is_told : IsTold name faulty told
@@ -67,7 +66,7 @@ pub told_if : {a b : Report} {s t : Stream} (name : List ℕ) (faulty : Bool) �
 told_if name true h = record { told = h.message; is_told = h.is_of; tells = h.tells }
 told_if name false h = record { told = []; is_told = refl; tells = h }
 
--- As many messages as faults, 0 or 1, were written.
+-- This number of messages was written.
 pub record ToldEach (name : List ℕ) (count : ℕ) (old new : Report) (err err' : Stream) : Type 0 where
   pub messages : List (List ℕ)
   pub each : All (IsFaultOf name) messages

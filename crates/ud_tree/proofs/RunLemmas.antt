@@ -31,12 +31,12 @@ pub count_push : (p : Fate → Bool) (results : List FileResult) (r : FileResult
     count_by (λ s. p s.fate) (results ++ r ∷ []) ≡ count_by (λ s. p s.fate) results + cond (p r.fate) 1 0
 count_push p results r = sum_by_push (λ (s : FileResult). cond (p s.fate) 1 0) results r
 
--- The bytes that are shown of one file more follow.
+-- The diff of one file more follows.
 shown_push : (results : List FileResult) (r : FileResult) → shown_of (results ++ r ∷ []) ≡ shown_of results ++ r.shown
 shown_push results r =
     flat_map-append (λ (s : FileResult). s.shown) results (r ∷ []) ∙ ap (λ x. shown_of results ++ x) (append-nil r.shown)
 
--- The bytes that are told of one file more follow.
+-- The message of one file more follows.
 told_push : (results : List FileResult) (r : FileResult) → told_of (results ++ r ∷ []) ≡ told_of results ++ r.told
 told_push results r =
     flat_map-append (λ (s : FileResult). s.told) results (r ∷ []) ∙ ap (λ x. told_of results ++ x) (append-nil r.told)

@@ -26,7 +26,8 @@ pub data IsFaultOf (name message : List ℕ) : Type 0 where
   of_file : (text : List ℕ) → message ≡ fault_line name text → IsFaultOf name message
   of_text : (f : RunFault) → message ≡ fault_message name f → IsFaultOf name message
 
--- `IsTold name faulty told`: `told` is the message of a fault of `name` if `faulty`, and else empty.
+-- `IsTold name faulty told`: `told` is the message of a fault of `name` if `faulty`, and else
+-- empty.
 abbrev pub IsTold : List ℕ → Bool → List ℕ → Type 0
 IsTold name true told = IsFaultOf name told
 IsTold name false told = told ≡ []

@@ -81,8 +81,8 @@ pub record Unshown (P : List ℕ → List Call → List Call → Fate → Type 0
   pub nothing : result.shown ≡ []
 
 -- `EachFile P old names new results`: `P name mid next result` holds of each file in turn, where
--- `mid` and `next` are the calls before and after it. Nothing else was asked. The message of its
--- fault is told of a faulty file, and nothing of others.
+-- `mid` and `next` are the calls before and after it. Nothing else was asked. What goes to the
+-- error stream is the message of the fault of a faulty file, and nothing of others.
 pub data EachFile (P : List ℕ → List Call → List Call → FileResult → Type 0) (old : List Call) :
     List (List ℕ) → List Call → List FileResult → Type 0 where
   no_file : EachFile P old [] old []

@@ -56,9 +56,9 @@ last_lines args changed unchanged faults hidden remaining = if args.quiet then [
     else summary args.task changed unchanged faults hidden ++
     remaining_line args.list_remaining remaining
 
--- `TellsEnd args counts faults hidden old err err'`: the last lines were written, with these numbers
--- and some number of conditions that still name a symbol. Nothing else was, unless a terminal
--- showed the number of files.
+-- `TellsEnd args counts faults hidden old err err'`: the last lines were written, with these
+-- numbers and some number of conditions that still name a symbol. Nothing else was, unless a
+-- terminal showed the number of files.
 pub record TellsEnd (args : Arguments) (counts : Counts) (faults hidden : ℕ) (old : Report)
     (err err' : Stream) : Type 0 where
   pub remaining : ℕ

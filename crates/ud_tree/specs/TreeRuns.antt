@@ -85,7 +85,7 @@ abbrev pub ListsAll : Job → List Found → Moment → Report → Moment → Re
 ListsAll = DoesAll Names
 
 -- `EndsWriting job before files after status`: all files are processed, what is shown was
--- written, and the last lines were. If the error stream is no terminal, so was all that is told.
+-- written, and the last lines were. If the error stream is no terminal, all of `told` was written.
 pub record EndsWriting (job : Job) (before : Moment) (files : List Found) (after : Moment)
     (status : ℕ) : Type 0 where
   pub shown : List ℕ
@@ -97,8 +97,8 @@ pub record EndsWriting (job : Job) (before : Moment) (files : List Found) (after
   pub ended : EndsWith after.err last
   pub tells : job.is_terminal ≡ false → Sends before.err after.err told
 
--- `IsRun args tag old new shown told last status`: only calls of a walk were made, nothing is shown, and
--- the status is 2. Or a walk found some files, and the run ends after them.
+-- `IsRun args tag old new shown told last status`: only calls of a walk were made, nothing is
+-- shown, and the status is 2. Or a walk found some files, and the run ends after them.
 pub data IsRun (args : Arguments) (tag : List ℕ) (old new : List Call) :
     List ℕ → List ℕ → List ℕ → ℕ → Type 0 where
   no_run : WalksOnly old new → IsRun args tag old new [] [] [] 2
@@ -125,7 +125,7 @@ IsRunOf run = IsRun run.args run.tag run.old run.new run.shown run.told run.last
     run.status
 
 -- `RunsTree job before after status`: a whole run. What is shown was written to the output, and the
--- last lines were to the error stream. If that is no terminal, all that is told was written last.
+-- last lines were to the error stream. If that is no terminal, it ends with all of `told`.
 pub record RunsTree (job : Job) (before after : Moment) (status : ℕ) : Type 0 where
   pub shown : List ℕ
   pub told : List ℕ

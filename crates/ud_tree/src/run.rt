@@ -154,8 +154,8 @@ fn split_paths(alloc: Global, text: &[u8]) -> Result<Vec<Vec<u8>>, AllocError> {
     Ok(paths)
 }
 
-/// Processes all files in order, and writes the counts. Returns the exit status. `walk_faults` is the
-/// number of faults that were reported before.
+/// Processes all files in order, and writes the counts. Returns the exit status. `walk_faults` is
+/// the number of faults that were reported before.
 fn process_all<T: Tree, W: Write, E: Write>(
     job: &Job<'_>,
     tree: &mut T,
