@@ -1,5 +1,6 @@
 -- One file more of a run.
-use Rattle.std.proofs.Common.{◌≡◌, ℕ, ◌+◌, ◌<◌, ◌≤◌, List, [], ◌∷◌, ◌++◌, length, get_or, take, Bool, cond, refl, sym, ap, ◌∙◌, subst, append-nil, arith}
+use Rattle.std.proofs.Common.{◌≡◌, ℕ, ◌+◌, ◌<◌, ◌≤◌, List, [], ◌∷◌, ◌++◌, length, get_or, take, cond, refl, flat_map, sym, ap, ◌∙◌, subst, append-nil, codes, Bool, true, false, min, ◌-◌, ◌^◌, arith}
+use mir.Val.{bool_byte}
 use Rattle.std.proofs.lemmas.List.{take_more, take_all, map-append}
 use Rattle.std.proofs.lemmas.List.Sums.{sum_by_push}
 use Rattle.std.proofs.lemmas.Grind.{flat_map-append}
@@ -12,13 +13,17 @@ use Rattle.ud_tree.specs.declared.arguments.Arguments.{Arguments}
 use Rattle.ud_tree.specs.declared.arguments.Task.{Task}
 use Rattle.ud_tree.specs.declared.arguments.Task.TheVariants.{Names}
 use Rattle.ud_tree.specs.Fates.{is_changed, is_same, is_faulty}
-use Rattle.ud_tree.specs.Runs.{FileResult, Unshown, EachFile, no_file, then_file, shown_of, Counted, names_of}
+use Rattle.ud_tree.specs.Runs.{FileResult, Unshown, EachFile, no_file, then_file, shown_of, told_of, Counted, names_of}
 use Rattle.ud_tree.specs.Statuses.{tree_status}
 use Rattle.ud_tree.specs.Streams.{Stream, Sends}
+use Rattle.ud_tree.specs.declared.job.Job.{Job}
+use Rattle.ud_tree.specs.declared.report.Report.{Report}
+use Rattle.ud_tree.specs.Messages.{IsTold, IsPlain, Tells, TellsIf}
 use Rattle.ud_tree.specs.Summaries.{last_lines, TellsEnd}
+use Rattle.ud_tree.proofs.MessageLemmas.{tells_kept, tells_then, told_if, ToldEach, told_both}
 use Rattle.ud_tree.specs.Walks.{IsWalk, WalksOnly}
 use Rattle.ud_tree.specs.Writing.{Moment, WritesOne, WritesAll, WritesList}
-use Rattle.ud_tree.specs.TreeRuns.{DoesBy, DoesOne, EndsWriting, no_run, ran, RunsTree}
+use Rattle.ud_tree.specs.TreeRuns.{DoesOne, DoesAll, EndsWriting, no_run, ran, RunsTree}
 use Rattle.ud_tree.proofs.StreamLemmas.{sends_none, sends_then, sends_same}
 
 -- One file more is counted, if its fate passes the test.
@@ -26,16 +31,21 @@ pub count_push : (p : Fate → Bool) (results : List FileResult) (r : FileResult
     count_by (λ s. p s.fate) (results ++ r ∷ []) ≡ count_by (λ s. p s.fate) results + cond (p r.fate) 1 0
 count_push p results r = sum_by_push (λ (s : FileResult). cond (p s.fate) 1 0) results r
 
--- The bytes that are shown of one file more follow.
+-- The diff of one file more follows.
 shown_push : (results : List FileResult) (r : FileResult) → shown_of (results ++ r ∷ []) ≡ shown_of results ++ r.shown
 shown_push results r =
     flat_map-append (λ (s : FileResult). s.shown) results (r ∷ []) ∙ ap (λ x. shown_of results ++ x) (append-nil r.shown)
 
+-- The message of one file more follows.
+told_push : (results : List FileResult) (r : FileResult) → told_of (results ++ r ∷ []) ≡ told_of results ++ r.told
+told_push results r =
+    flat_map-append (λ (s : FileResult). s.told) results (r ∷ []) ∙ ap (λ x. told_of results ++ x) (append-nil r.told)
+
 -- No file has been processed yet.
-pub counted_none : {P : List ℕ → List Call → List Call → FileResult → Type 0} {old : List Call} (counts : Counts) →
-    counts.changed ≡ 0 → counts.unchanged ≡ 0 → counts.faulty ≡ 0 → Counted P old [] old counts []
+counted_none : {P : List ℕ → List Call → List Call → FileResult → Type 0} {old : List Call} (counts : Counts) →
+    counts.changed ≡ 0 → counts.unchanged ≡ 0 → counts.faulty ≡ 0 → Counted P old [] old counts [] []
 counted_none counts a b c =
-    record { results = []; each = no_file; counts_are = record { changed = a; unchanged = b; faulty = c }; shown_is = refl }
+    record { results = []; each = no_file; counts_are = record { changed = a; unchanged = b; faulty = c }; shown_is = refl; told_is = refl }
 
 -- The path of a file more follows those of the files before.
 pub names_push : (files : List Found) (i : ℕ) (f : Found) → i < length files → f ≡ get_or files i f →
@@ -46,17 +56,17 @@ names_push files i f within is =
     ∙ ap (λ (g : Found). names_of (take i files) ++ string_bytes g.path ∷ []) (sym is)
 
 -- One file more is processed and counted.
-pub counted_push : {P : List ℕ → List Call → List Call → FileResult → Type 0} {old mid new : List Call} {before : Counts} {shown : List ℕ}
+counted_push : {P : List ℕ → List Call → List Call → FileResult → Type 0} {old mid new : List Call} {before : Counts} {shown told : List ℕ}
     (files : List Found) (i : ℕ) (f : Found) (name : List ℕ) (r : FileResult) (after : Counts) → i < length files → f ≡ get_or files i f →
-    name ≡ string_bytes f.path → Counted P old (names_of (take i files)) mid before shown → P name mid new r →
+    name ≡ string_bytes f.path → Counted P old (names_of (take i files)) mid before shown told → P name mid new r → IsTold name (is_faulty r.fate) r.told →
     after.changed ≡ before.changed + cond (is_changed r.fate) 1 0 →
     after.unchanged ≡ before.unchanged + cond (is_same r.fate) 1 0 →
     after.faulty ≡ before.faulty + cond (is_faulty r.fate) 1 0 →
-    Counted P old (names_of (take (i + 1) files)) new after (shown ++ r.shown)
-counted_push {P = P} {old = old} {mid = mid} {new = new} {before = before} {shown = shown} files i f name r after within is named h p a b c =
+    Counted P old (names_of (take (i + 1) files)) new after (shown ++ r.shown) (told ++ r.told)
+counted_push {P = P} {old = old} {mid = mid} {new = new} {before = before} {shown = shown} files i f name r after within is named h p t a b c =
     let named_names : names_of (take i files) ++ name ∷ [] ≡ names_of (take (i + 1) files) =
     ap (λ (n : List ℕ). names_of (take i files) ++ n ∷ []) named ∙ sym (names_push files i f within is) in
-    let e : EachFile P old (names_of (take i files) ++ name ∷ []) new (h.results ++ r ∷ []) = then_file h.each p in
+    let e : EachFile P old (names_of (take i files) ++ name ∷ []) new (h.results ++ r ∷ []) = then_file h.each p t in
     let k = h.counts_are in
     record {
       results = h.results ++ r ∷ [];
@@ -67,60 +77,65 @@ counted_push {P = P} {old = old} {mid = mid} {new = new} {before = before} {show
         faulty = c ∙ ap (λ (n : ℕ). n + cond (is_faulty r.fate) 1 0) k.faulty ∙ sym (count_push is_faulty h.results r);
       };
       shown_is = ap (λ (x : List ℕ). x ++ r.shown) h.shown_is ∙ sym (shown_push h.results r);
+      told_is = ap (λ (x : List ℕ). x ++ r.told) h.told_is ∙ sym (told_push h.results r);
     }
 
--- One file more, of which nothing is shown, is processed and counted.
-pub unshown_push : {P : List ℕ → List Call → List Call → Fate → Type 0} {old mid new : List Call} {before : Counts}
-    (files : List Found) (i : ℕ) (f : Found) (name : List ℕ) (fate : Fate) (after : Counts) → i < length files → f ≡ get_or files i f →
-    name ≡ string_bytes f.path → Counted (Unshown P) old (names_of (take i files)) mid before [] → P name mid new fate →
-    after.changed ≡ before.changed + cond (is_changed fate) 1 0 →
-    after.unchanged ≡ before.unchanged + cond (is_same fate) 1 0 →
-    after.faulty ≡ before.faulty + cond (is_faulty fate) 1 0 →
-    Counted (Unshown P) old (names_of (take (i + 1) files)) new after []
-unshown_push files i f name fate after within is named h p a b c =
-    counted_push files i f name (record { fate = fate; shown = [] }) after within is named h (record { does = p; nothing = refl }) a b c
-
 -- All files are processed and counted.
-pub counted_all : {P : List ℕ → List Call → List Call → FileResult → Type 0} {old new : List Call} {counts : Counts} {shown : List ℕ} (files : List Found) (i : ℕ) →
-    i ≡ length files → Counted P old (names_of (take i files)) new counts shown → Counted P old (names_of files) new counts shown
-counted_all {P = P} {old = old} {new = new} {counts = counts} {shown = shown} files i is h =
+counted_all : {P : List ℕ → List Call → List Call → FileResult → Type 0} {old new : List Call} {counts : Counts} {shown told : List ℕ} (files : List Found) (i : ℕ) →
+    i ≡ length files → Counted P old (names_of (take i files)) new counts shown told → Counted P old (names_of files) new counts shown told
+counted_all {P = P} {old = old} {new = new} {counts = counts} {shown = shown} {told = told} files i is h =
     let whole : take i files ≡ files = take_all i files (omega arith) in
-    subst (λ (fs : List Found). Counted P old (names_of fs) new counts shown) whole h
+    subst (λ (fs : List Found). Counted P old (names_of fs) new counts shown told) whole h
 
 -- No file has been processed, and nothing was written.
-pub writes_none : {P : List ℕ → List Call → List Call → FileResult → Type 0} {m : Moment} (counts : Counts) →
-    counts.changed ≡ 0 → counts.unchanged ≡ 0 → counts.faulty ≡ 0 → WritesAll P m [] m counts
-writes_none {m = m} counts a b c = record { shown = []; counted = counted_none counts a b c; sent = sends_none m.out }
+pub writes_none : {P : List ℕ → List Call → List Call → FileResult → Type 0} {m : Moment} {r : Report} (counts : Counts) →
+    counts.changed ≡ 0 → counts.unchanged ≡ 0 → counts.faulty ≡ 0 → WritesAll P m [] r m r counts
+writes_none {m = m} counts a b c =
+    record { shown = []; told = []; counted = counted_none counts a b c; sent = sends_none m.out; tells = tells_kept m.err refl refl }
 
--- One file more is processed, and what is shown of it was written.
-pub writes_push : {P : List ℕ → List Call → List Call → FileResult → Type 0} {old mid new : Moment} {before : Counts}
+-- One file more is processed, and what is shown and told of it was written, after the number of
+-- files was shown.
+pub writes_push : {P : List ℕ → List Call → List Call → FileResult → Type 0} {old mid next new : Moment} {r mid_report next_report after_report : Report} {before : Counts}
     (files : List Found) (i : ℕ) (f : Found) (name : List ℕ) (fate : Fate) (after : Counts) → i < length files → f ≡ get_or files i f →
-    name ≡ string_bytes f.path → WritesAll P old (names_of (take i files)) mid before → WritesOne P name mid new fate →
+    name ≡ string_bytes f.path → WritesAll P old (names_of (take i files)) r mid mid_report before →
+    Tells mid_report next_report mid.err next.err [] → next.calls ≡ mid.calls → next.out ≡ mid.out →
+    WritesOne P name next new fate → TellsIf name (is_faulty fate) next_report after_report next.err new.err →
     after.changed ≡ before.changed + cond (is_changed fate) 1 0 →
     after.unchanged ≡ before.unchanged + cond (is_same fate) 1 0 →
     after.faulty ≡ before.faulty + cond (is_faulty fate) 1 0 →
-    WritesAll P old (names_of (take (i + 1) files)) new after
-writes_push files i f name fate after within is named h p a b c = record {
-  shown = h.shown ++ p.shown;
-  counted = counted_push files i f name (record { fate = fate; shown = p.shown }) after within is named h.counted p.does a b c;
-  sent = sends_then h.sent p.sent;
+    WritesAll P old (names_of (take (i + 1) files)) r new after_report after
+writes_push {P = P} {old = old} {mid = mid} {next = next} {new = new} files i f name fate after within is named h progress calls out p t a b c =
+    let told = told_if name (is_faulty fate) t in
+    let does : P name mid.calls new.calls (record { fate = fate; shown = p.shown; told = told.told }) =
+    subst (λ (l : List Call). P name l new.calls (record { fate = fate; shown = p.shown; told = told.told })) calls (p.does told.told) in
+    record {
+      shown = h.shown ++ p.shown;
+      told = h.told ++ told.told;
+      counted = counted_push files i f name (record { fate = fate; shown = p.shown; told = told.told }) after within is named h.counted does told.is_told a b c;
+      sent = sends_then h.sent (subst (λ (s : Stream). Sends s new.out p.shown) out p.sent);
+      tells = tells_then h.tells (tells_then progress told.tells);
+    }
+
+-- All files are processed, and what is shown and told of them was written.
+pub writes_all : {P : List ℕ → List Call → List Call → FileResult → Type 0} {old new : Moment} {r s : Report} {counts : Counts} (files : List Found) (i : ℕ) →
+    i ≡ length files → WritesAll P old (names_of (take i files)) r new s counts → WritesAll P old (names_of files) r new s counts
+writes_all files i is h =
+    record { shown = h.shown; told = h.told; counted = counted_all files i is h.counted; sent = h.sent; tells = h.tells }
+
+-- A file was processed of which nothing is shown.
+pub writes_unshown : {P : List ℕ → List Call → List Call → Fate → Type 0} {before after : Moment} {name : List ℕ} (fate : Fate) →
+    after.out ≡ before.out → P name before.calls after.calls fate → WritesOne (Unshown P) name before after fate
+writes_unshown {before = before} fate same h = record {
+  shown = [];
+  does = λ told. record { does = h; nothing = refl };
+  sent = subst (λ (s : Stream). Sends before.out s []) (sym same) (sends_none before.out);
 }
 
--- All files are processed, and what is shown of them was written.
-pub writes_all : {P : List ℕ → List Call → List Call → FileResult → Type 0} {old new : Moment} {counts : Counts} (files : List Found) (i : ℕ) →
-    i ≡ length files → WritesAll P old (names_of (take i files)) new counts → WritesAll P old (names_of files) new counts
-writes_all files i is h = record { shown = h.shown; counted = counted_all files i is h.counted; sent = h.sent }
-
--- Nothing is shown of the files.
-pub writes_unshown : {P : List ℕ → List Call → List Call → FileResult → Type 0} {old new : Moment} {names : List (List ℕ)} {counts : Counts} →
-    new.out ≡ old.out → Counted P old.calls names new.calls counts [] → WritesAll P old names new counts
-writes_unshown {old = old} same h = record { shown = []; counted = h; sent = subst (λ (s : Stream). Sends old.out s []) (sym same) (sends_none old.out) }
-
 -- The task of the arguments does what they ask for.
-pub done_by : (args : Arguments) (tag : List ℕ) (t : Task) {old : Moment} {names : List (List ℕ)} {new : Moment} {counts : Counts} →
-    args.task ≡ t → WritesAll (DoesBy t args tag) old names new counts → WritesAll (DoesOne args tag) old names new counts
-done_by args tag t {old = old} {names = names} {new = new} {counts = counts} is h =
-    subst (λ (u : Task). WritesAll (DoesBy u args tag) old names new counts) (sym is) h
+pub done_by : (t : Task) (job : Job) (files : List Found) {old new : Moment} {r s : Report} {counts : Counts} →
+    job.arguments.now.task ≡ t → DoesAll t job files old r new s counts → DoesAll job.arguments.now.task job files old r new s counts
+done_by t job files {old = old} {new = new} {r = r} {s = s} {counts = counts} is h =
+    subst (λ (u : Task). DoesAll u job files old r new s counts) (sym is) h
 
 -- A list was written, if it is wanted.
 pub writes_list : (args : Arguments) {a b c : Stream} (names rest : List ℕ) → (¬ (args.task ≡ Names) → names ≡ []) → Sends a b names →
@@ -132,17 +147,25 @@ writes_list args names rest none h k = record {
 }
 
 -- The run ends with the status of its counts.
-pub ends : (args : Arguments) (tag : List ℕ) {old mid new : Moment} {listed : Stream} {names : List (List ℕ)} {counts : Counts} {err : Stream} (faults hidden status : ℕ) →
-    WritesAll (DoesOne args tag) old names mid counts → WritesList args mid.out listed → Sends listed new.out [] → new.calls ≡ mid.calls → counts.faulty ≤ faults →
-    TellsEnd args counts faults hidden err →
-    status ≡ tree_status args.task args.plan.settings.exit_mode faults counts.changed → EndsWriting args tag old names new err status
-ends args tag {old = old} {names = names} {counts = counts} faults hidden status w l f same few t is =
+pub ends : (job : Job) (files : List Found) {old mid new : Moment} {listed listed_err : Stream} {r mid_report list_report end_report : Report} {counts : Counts} (in_walk m n faults hidden status : ℕ) →
+    DoesAll job.arguments.now.task job files old r mid mid_report counts → WritesList job.arguments.now mid.out listed →
+    ToldEach (codes "stdout") m mid_report list_report mid.err listed_err → Sends listed new.out [] →
+    (end : Stream) → ToldEach (codes "stdout") n list_report end_report listed_err end → TellsEnd job.arguments.now counts faults hidden end_report end new.err →
+    new.calls ≡ mid.calls → counts.faulty ≤ faults → (in_walk + (m + n) + counts.faulty < 2 ^ 64 → faults ≡ in_walk + (m + n) + counts.faulty) →
+    status ≡ tree_status job.arguments.now.task job.arguments.now.plan.settings.exit_mode faults counts.changed → (job.is_terminal ≡ false → IsPlain r) → EndsWriting job old files new status
+ends job files {old = old} {new = new} {counts = counts} in_walk m n faults hidden status w l t f end u e same few all is plain =
     let h = w.counted in
+    let args = job.arguments.now in
+    let both = told_both (codes "stdout") t u in
+    let of_output = flat_map (λ x. x) both.messages in
+    let last = last_lines args counts.changed counts.unchanged faults hidden e.remaining in
     record {
       shown = w.shown ++ l.listed;
+      told = (w.told ++ of_output) ++ last;
+      last = last;
       ends = record {
         results = h.results;
-        each = subst (λ (calls : List Call). EachFile (DoesOne args tag) old.calls names calls h.results) (sym same) h.each;
+        each = subst (λ (calls : List Call). EachFile (DoesOne args job.tag.now) old.calls (names_of files) calls h.results) (sym same) h.each;
         listed = l.listed;
         is_wanted = l.is_wanted;
         shown_is = ap (λ (x : List ℕ). x ++ l.listed) h.shown_is;
@@ -150,26 +173,56 @@ ends args tag {old = old} {names = names} {counts = counts} faults hidden status
         reported = rw (← h.counts_are.faulty) few;
         status_is = is ∙ ap (tree_status args.task args.plan.settings.exit_mode faults) h.counts_are.changed;
         hidden = hidden;
-        remaining = t.remaining;
-        last_is = ap (λ (n : ℕ). last_lines args n counts.unchanged faults hidden t.remaining) h.counts_are.changed
-            ∙ ap (λ (n : ℕ). last_lines args (count_by (λ r. is_changed r.fate) h.results) n faults hidden t.remaining) h.counts_are.unchanged;
+        remaining = e.remaining;
+        last_is = ap (λ (x : ℕ). last_lines args x counts.unchanged faults hidden e.remaining) h.counts_are.changed
+            ∙ ap (λ (x : ℕ). last_lines args (count_by (λ r. is_changed r.fate) h.results) x faults hidden e.remaining) h.counts_are.unchanged;
+        of_output = both.messages;
+        each_of_output = both.each;
+        told_is = ap (λ (x : List ℕ). (x ++ of_output) ++ last) h.told_is;
+        in_walk = in_walk;
+        faults_are = rw (both.number, ← h.counts_are.faulty) all;
       };
-      last = last_lines args counts.changed counts.unchanged faults hidden t.remaining;
-      told = t.told;
       sent = sends_same (append-nil (w.shown ++ l.listed)) (sends_then (sends_then w.sent l.sent) f);
+      ended = e.told;
+      tells = λ p. let told = tells_then w.tells both.tells in let is_plain = plain p in sends_then (told.sent is_plain) (e.alone (told.plain is_plain).unshown);
     }
 
 -- The run made only calls of a walk.
-pub no_files : (args : Arguments) (tag : List ℕ) {old new : Moment} (err : Stream) → WalksOnly old.calls new.calls → new.out ≡ old.out → RunsTree args tag old new err 2
-no_files args tag {old = old} err h same = record { shown = []; last = []; told = (err, sends_none err); is_run = no_run h; sent = subst (λ (s : Stream). Sends old.out s []) (sym same) (sends_none old.out) }
+pub no_files : (job : Job) {old new : Moment} → WalksOnly old.calls new.calls → new.out ≡ old.out → RunsTree job old new 2
+no_files job {old = old} {new = new} h same = record {
+  shown = [];
+  told = [];
+  last = [];
+  is_run = no_run h;
+  sent = subst (λ (s : Stream). Sends old.out s []) (sym same) (sends_none old.out);
+  ended = (new.err, sends_none new.err);
+  tells = λ p. (new.err, sends_none new.err);
+}
 
 -- The run processed all files that the walk found.
-pub ran_from : (args : Arguments) (tag : List ℕ) {old mid new : Moment} {err : Stream} {found files : List Found} {status : ℕ} → files ≡ found → IsWalk old.calls mid.calls found → mid.out ≡ old.out →
-    EndsWriting args tag mid (names_of files) new err status → RunsTree args tag old new err status
-ran_from args tag {old = old} {mid = mid} {new = new} {files = files} is w same h = record {
+pub ran_from : (job : Job) {old mid new : Moment} {found files : List Found} {status : ℕ} → files ≡ found → IsWalk old.calls mid.calls found → mid.out ≡ old.out →
+    EndsWriting job mid files new status → RunsTree job old new status
+ran_from job {old = old} {mid = mid} {new = new} {files = files} is w same h = record {
   shown = h.shown;
-  last = h.last;
   told = h.told;
+  last = h.last;
   is_run = ran mid.calls files (subst (λ (fs : List Found). IsWalk old.calls mid.calls fs) (sym is) w) h.ends;
   sent = subst (λ (s : Stream). Sends s new.out h.shown) same h.sent;
+  ended = h.ended;
+  tells = λ p. (mid.err, h.tells p);
 }
+
+byte_is : (b : Bool) (n : ℕ) → n ≡ bool_byte b → n ≡ cond b 1 0
+byte_is true n e = e
+byte_is false n e = e
+
+faults_sum : (x y walk files b d faults : ℕ) → b ≡ min (walk + x) (2 ^ 64 - 1) → d ≡ min (b + y) (2 ^ 64 - 1) →
+    faults ≡ min (d + files) (2 ^ 64 - 1) → walk + (x + y) + files < 2 ^ 64 → faults ≡ walk + (x + y) + files
+faults_sum x y walk files b d faults f h i small = omega arith
+
+-- Faults that are added up, of which two are 0 or 1.
+pub faults_added : (p q : Bool) (walk files a b c d faults : ℕ) → a ≡ bool_byte p → b ≡ min (walk + a) (2 ^ 64 - 1) → c ≡ bool_byte q → d ≡ min (b + c) (2 ^ 64 - 1) →
+    faults ≡ min (d + files) (2 ^ 64 - 1) → walk + (cond p 1 0 + cond q 1 0) + files < 2 ^ 64 → faults ≡ walk + (cond p 1 0 + cond q 1 0) + files
+faults_added p q walk files a b c d faults e f g h =
+    faults_sum (cond p 1 0) (cond q 1 0) walk files b d faults
+    (f ∙ ap (λ (n : ℕ). min (walk + n) (2 ^ 64 - 1)) (byte_is p a e)) (h ∙ ap (λ (n : ℕ). min (b + n) (2 ^ 64 - 1)) (byte_is q c g))

@@ -5,7 +5,7 @@ use Rattle.ud_tree.specs.declared.arguments.Arguments.{Arguments}
 use Rattle.ud_tree.specs.declared.counts.Counts.{Counts}
 use Rattle.ud_tree.specs.declared.arguments.Task.TheVariants.{Replace, Diff, Names}
 use Rattle.ud_tree.specs.Streams.{Stream, Sends}
-use Rattle.ud_tree.specs.Summaries.{line_of, summary, remaining_text, remaining_line, EndsWith, TellsEnd, Says}
+use Rattle.ud_tree.specs.Summaries.{line_of, summary, remaining_text, remaining_line, last_lines, TellsEnd, Says}
 use Rattle.ud_tree.proofs.StreamLemmas.{sends_none, sends_then, sends_same}
 
 -- A line was written in three parts.
@@ -43,10 +43,6 @@ listed_joined changed unchanged faults hidden u f h p q r =
     ∙ ap (λ x. line_of (decimal unchanged ++ (codes " files listed, " ++ (decimal faults ++ (codes " faulty; " ++ (x ++ (codes " conditions could not be listed" ++ []))))))) r
     ∙ simp (append_assoc, append-nil)
 
--- One line was written after another.
-pub says_then : {a b : Report} {s t u : Stream} {x y : List ℕ} → Says a b s t x → (b.is_shown ≡ false → Sends t u y) → EndsWith u (x ++ y)
-says_then h k = (h.cleared, sends_then h.sent (k h.hidden))
-
 and_false : (b : Bool) → (b && false) ≡ false
 and_false true = refl
 and_false false = refl
@@ -83,21 +79,27 @@ remaining_told listed count number text off some p q =
     by_test true is = absurd (some (eqb-true count 0 is))
     by_test false is = sym (ap (λ (b : Bool). cond (b && true) [] line) is)
 
--- A quiet run ends with nothing.
-pub ends_quiet : (args : Arguments) (counts : Counts) (faults hidden : ℕ) (err : Stream) → args.quiet ≡ true → TellsEnd args counts faults hidden err
-ends_quiet args counts faults hidden err quiet = record {
-  remaining = 0;
-  told = (err, sends_same (sym (ap (λ (b : Bool). cond b [] (summary args.task counts.changed counts.unchanged faults hidden ++ remaining_line args.list_remaining 0)) quiet)) (sends_none err));
-}
-
--- Other runs end with the two lines.
-pub ends_told : (args : Arguments) (counts : Counts) (faults hidden remaining : ℕ) {err : Stream} → args.quiet ≡ false →
-    EndsWith err (summary args.task counts.changed counts.unchanged faults hidden ++ remaining_line args.list_remaining remaining) → TellsEnd args counts faults hidden err
-ends_told args counts faults hidden remaining loud (mid, h) = record {
-  remaining = remaining;
-  told = (mid, sends_same (sym (ap (λ (b : Bool). cond b [] (summary args.task counts.changed counts.unchanged faults hidden ++ remaining_line args.list_remaining remaining)) loud)) h);
-}
-
 -- If no number of files was shown, only the line was written.
 pub said_unshown : {old new : Report} {err err' : Stream} {bytes : List ℕ} → Says old new err err' bytes → old.is_shown ≡ false → Sends err err' bytes
 said_unshown {err' = err'} {bytes = bytes} h hidden = subst (λ (s : Stream). Sends s err' bytes) (h.unshown hidden) h.sent
+
+-- A quiet run ends with nothing.
+pub ends_quiet : (args : Arguments) (counts : Counts) (faults hidden : ℕ) (old : Report) (err : Stream) → args.quiet ≡ true → TellsEnd args counts faults hidden old err err
+ends_quiet args counts faults hidden old err quiet =
+    let none : Sends err err (last_lines args counts.changed counts.unchanged faults hidden 0) =
+    sends_same (sym (ap (λ (b : Bool). cond b [] (summary args.task counts.changed counts.unchanged faults hidden ++ remaining_line args.list_remaining 0)) quiet)) (sends_none err) in
+    record { remaining = 0; told = (err, none); alone = λ e. none }
+
+-- Other runs end with the two lines.
+pub ends_told : (args : Arguments) (counts : Counts) (faults hidden remaining : ℕ) {old new : Report} {err mid err' : Stream} → args.quiet ≡ false →
+    Says old new err mid (summary args.task counts.changed counts.unchanged faults hidden) → (new.is_shown ≡ false → Sends mid err' (remaining_line args.list_remaining remaining)) →
+    TellsEnd args counts faults hidden old err err'
+ends_told args counts faults hidden remaining {err = err} {err' = err'} loud h k =
+    let last = sends_then h.sent (k h.hidden) in
+    let is : summary args.task counts.changed counts.unchanged faults hidden ++ remaining_line args.list_remaining remaining ≡ last_lines args counts.changed counts.unchanged faults hidden remaining =
+    sym (ap (λ (b : Bool). cond b [] (summary args.task counts.changed counts.unchanged faults hidden ++ remaining_line args.list_remaining remaining)) loud) in
+    record {
+      remaining = remaining;
+      told = (h.cleared, sends_same is last);
+      alone = λ e. sends_same is (sends_then (said_unshown h e) (k h.hidden));
+    }

@@ -55,7 +55,7 @@ read_touches {name = name} {old = old} (reads text answer is) =
 reads_touch : {P : List ℕ → List Call → List Call → FileResult → Type 0} → ((name : List ℕ) (old new : List Call) (result : FileResult) → P name old new result → ReadsOne name old new) →
     {old : List Call} {names : List (List ℕ)} {new : List Call} {results : List FileResult} → EachFile P old names new results → EachCall TouchesNothing old new
 reads_touch w no_file = no_call
-reads_touch w (then_file {mid = mid} {next = next} {name = name} {result = result} h k) = each_then (reads_touch w h) (read_touches (w name mid next result k))
+reads_touch w (then_file {mid = mid} {next = next} {name = name} {result = result} h k t) = each_then (reads_touch w h) (read_touches (w name mid next result k))
 
 shows_touch : {plan : PlanState} {old : List Call} {names : List (List ℕ)} {new : List Call} {results : List FileResult} → EachFile (ShowsOne plan) old names new results → EachCall TouchesNothing old new
 shows_touch h = reads_touch (λ name old new result k. k.reads) h
@@ -69,9 +69,9 @@ reads_by args tag Replace is other h = absurd (other refl)
 reads_by args tag Diff is other h = shows_touch h
 reads_by args tag Names is other h = lists_touch h
 
-pub run_reads : (args : Arguments) (tag : List ℕ) (old new : List Call) (shown last : List ℕ) (status : ℕ) → ¬ (args.task ≡ Replace) → IsRun args tag old new shown last status → EachCall TouchesNothing old new
-run_reads args tag old new _ _ _ other (no_run h) = each_at h.are (walk_touches h.calls old)
-run_reads args tag old new shown last status other (ran mid files w h) = each_then (each_at w.are (walk_touches w.calls old)) (reads_by args tag args.task refl other h.each)
+pub run_reads : (args : Arguments) (tag : List ℕ) (old new : List Call) (shown told last : List ℕ) (status : ℕ) → ¬ (args.task ≡ Replace) → IsRun args tag old new shown told last status → EachCall TouchesNothing old new
+run_reads args tag old new _ _ _ _ other (no_run h) = each_at h.are (walk_touches h.calls old)
+run_reads args tag old new shown told last status other (ran mid files w h) = each_then (each_at w.are (walk_touches w.calls old)) (reads_by args tag args.task refl other h.each)
 
 -- Replacing a file touches no file but the new one, up to the rename.
 replace_touches : {o : Options} {plan : PlanState} {tag name : List ℕ} {old new : List Call} {fate : Fate} → IsPlanned plan o →
@@ -84,7 +84,7 @@ replace_touches p (no_name is) = each_at is no_call
 replaces_touch : {o : Options} {plan : PlanState} {tag : List ℕ} {old : List Call} {names : List (List ℕ)} {new : List Call} {results : List FileResult} → IsPlanned plan o →
     EachFile (Unshown (ReplacesOne plan false tag)) old names new results → EachCall (TouchesFreshOrNone o tag) old new
 replaces_touch p no_file = no_call
-replaces_touch p (then_file h k) = each_then (replaces_touch p h) (replace_touches p k.does)
+replaces_touch p (then_file h k t) = each_then (replaces_touch p h) (replace_touches p k.does)
 
 nothing_touched : {o : Options} {tag : List ℕ} {old new : List Call} → EachCall TouchesNothing old new → EachCall (TouchesFreshOrNone o tag) old new
 nothing_touched h = each_weaker (λ c earlier t. inl t) h
@@ -96,10 +96,10 @@ replaces_by args tag Replace p into {old = old} {names = names} {new = new} {res
 replaces_by args tag Diff p into h = nothing_touched (shows_touch h)
 replaces_by args tag Names p into h = nothing_touched (lists_touch h)
 
-pub run_renames : (o : Options) (args : Arguments) (tag : List ℕ) (old new : List Call) (shown last : List ℕ) (status : ℕ) → IsPlanned args.plan o → args.write_into ≡ false →
-    IsRun args tag old new shown last status → EachCall (TouchesFreshOrNone o tag) old new
-run_renames o args tag old new _ _ _ p into (no_run h) = nothing_touched (each_at h.are (walk_touches h.calls old))
-run_renames o args tag old new shown last status p into (ran mid files w h) =
+pub run_renames : (o : Options) (args : Arguments) (tag : List ℕ) (old new : List Call) (shown told last : List ℕ) (status : ℕ) → IsPlanned args.plan o → args.write_into ≡ false →
+    IsRun args tag old new shown told last status → EachCall (TouchesFreshOrNone o tag) old new
+run_renames o args tag old new _ _ _ _ p into (no_run h) = nothing_touched (each_at h.are (walk_touches h.calls old))
+run_renames o args tag old new shown told last status p into (ran mid files w h) =
     each_then (nothing_touched (each_at w.are (walk_touches w.calls old))) (replaces_by args tag args.task p into h.each)
 
 -- Calls that touch nothing leave each file as it is.
@@ -216,7 +216,7 @@ moments_one {first = first} {name = name} p fresh_name (no_name is) t m =
 moments_all : {o : Options} {plan : PlanState} {tag : List ℕ} {first : Files} {old start : List Call} {names : List (List ℕ)} {new : List Call} {results : List FileResult} → IsPlanned plan o →
     EachFile (Unshown (ReplacesOne plan false tag)) start names new results → AllPairs Apart names → AreTrue first new → Moments o first old [] start → Moments o first old names new
 moments_all p no_file apart t m = m
-moments_all p (then_file {names = names} {name = name} h k) apart t m =
+moments_all p (then_file {names = names} {name = name} h k told) apart t m =
     moments_one p (last_is_new names name apart) k.does t (λ u. moments_all p h (pairs_before names name apart) u m)
 
 -- Paths that ascend differ.
@@ -245,11 +245,11 @@ moments_by args tag Replace p into {start = start} {names = names} {new = new} {
 moments_by args tag Diff p into apart t m h = (moments_still m (shows_touch h)).each
 moments_by args tag Names p into apart t m h = (moments_still m (lists_touch h)).each
 
-pub run_old_or_new : (o : Options) (args : Arguments) (tag : List ℕ) (first : Files) (old new : List Call) (shown last : List ℕ) (status : ℕ) → IsPlanned args.plan o → args.write_into ≡ false →
-    IsRun args tag old new shown last status → AreTrue first new → EachCall (λ (c : Call) (earlier : List Call). OldOrOutput o first old (c ∷ earlier)) old new
-run_old_or_new o args tag first old new _ _ _ p into (no_run h) t =
+pub run_old_or_new : (o : Options) (args : Arguments) (tag : List ℕ) (first : Files) (old new : List Call) (shown told last : List ℕ) (status : ℕ) → IsPlanned args.plan o → args.write_into ≡ false →
+    IsRun args tag old new shown told last status → AreTrue first new → EachCall (λ (c : Call) (earlier : List Call). OldOrOutput o first old (c ∷ earlier)) old new
+run_old_or_new o args tag first old new _ _ _ _ p into (no_run h) t =
     (moments_still (moments_none o first old) (each_at h.are (walk_touches h.calls old))).each
-run_old_or_new o args tag first old new shown last status p into (ran mid files w h) t =
+run_old_or_new o args tag first old new shown told last status p into (ran mid files w h) t =
     moments_by args tag args.task p into (apart_names files w.ascend) t
     (moments_still (moments_none o first old) (each_at w.are (walk_touches w.calls old))) h.each
 
@@ -257,13 +257,13 @@ run_old_or_new o args tag first old new shown last status p into (ran mid files 
 each_shows : {o : Options} {plan : PlanState} {old : List Call} {names : List (List ℕ)} {new : List Call} {results : List FileResult} → IsPlanned plan o →
     EachFile (ShowsOne plan) old names new results → EachFile (ShowsAs o) old names new results
 each_shows p no_file = no_file
-each_shows {o = o} p (then_file h k) = then_file (each_shows p h) (k.shows o p)
+each_shows {o = o} p (then_file h k t) = then_file (each_shows p h) (k.shows o p) t
 
 -- A run that only shows what would change shows the diffs.
-pub run_shows : (o : Options) (run : Run) → IsPlanned run.args.plan o → run.args.task ≡ Diff → (shown last : List ℕ) (status : ℕ) → run.shown ≡ shown →
-    IsRun run.args run.tag run.old run.new shown last status → ShowsDiffs o run
-run_shows o run p diff _ _ _ e (no_run h) = no_diff h e
-run_shows o run p diff shown last status e (ran mid files w h) =
+pub run_shows : (o : Options) (run : Run) → IsPlanned run.args.plan o → run.args.task ≡ Diff → (shown told last : List ℕ) (status : ℕ) → run.shown ≡ shown →
+    IsRun run.args run.tag run.old run.new shown told last status → ShowsDiffs o run
+run_shows o run p diff _ _ _ _ e (no_run h) = no_diff h e
+run_shows o run p diff shown told last status e (ran mid files w h) =
     diffs mid files h.results h.listed w
     (each_shows p (subst (λ (t : Task). EachFile (DoesBy t run.args run.tag) mid (names_of files) run.new h.results) diff h.each))
     (e ∙ h.shown_is) (h.is_wanted (λ names. absurd cc))

@@ -8,6 +8,7 @@ pub mod TreeMoments
 pub mod TreeRuns
 pub mod TreeDiffs
 pub mod Summaries
+pub mod Messages
 pub mod Shown
 pub mod Streams
 pub mod Writing

@@ -10,7 +10,8 @@
 --   EachFile P old names new results   `P` holds of each file in turn, and nothing else was asked
 --   CountsAre counts results   these are the numbers of each fate
 --   shown_of results        what is written of the files to the output
---   Counted P old names new counts shown   each file in turn, with the numbers of each fate
+--   told_of results         what is written of the files to the error stream
+--   Counted P old names new counts shown told   each file in turn, with the numbers of each fate
 --   names_of files          the paths of the files that the walk found
 --
 -- `old` and `new` are the calls before and after, the newest first.
@@ -31,6 +32,7 @@ use Rattle.ud_tree.specs.declared.counts.Fate.TheVariants.{Changed, Same, Faulty
 use Rattle.ud_tree.specs.declared.counts.Counts.{Counts}
 use Rattle.ud_tree.specs.declared.walk.Found.{Found}
 use Rattle.ud_tree.specs.Fates.{is_changed, is_same, is_faulty}
+use Rattle.ud_tree.specs.Messages.{IsTold}
 use Rattle.ud_tree.specs.Paths.{fresh_name}
 
 -- `ReadsOne name old new`: the file `name` was read, and nothing else was asked.
@@ -64,10 +66,12 @@ pub data ReplacesOne (plan : PlanState) (into : Bool) (tag name : List ℕ) (old
       ReplacesOne plan into tag name old new (fate_of r)
   no_name : new ≡ old → ReplacesOne plan into tag name old new Faulty
 
--- `FileResult`: what became of a file, and the bytes that are written of it to the output.
+-- `FileResult`: what became of a file, and the bytes that are written of it to the output and to
+-- the error stream.
 pub record FileResult : Type 0 where
   pub fate : Fate
   pub shown : List ℕ
+  pub told : List ℕ
 
 -- `Unshown P name old new result`: `P` holds of the file and its fate, and nothing is written of it
 -- to the output.
@@ -77,13 +81,15 @@ pub record Unshown (P : List ℕ → List Call → List Call → Fate → Type 0
   pub nothing : result.shown ≡ []
 
 -- `EachFile P old names new results`: `P name mid next result` holds of each file in turn, where
--- `mid` and `next` are the calls before and after it. Nothing else was asked.
+-- `mid` and `next` are the calls before and after it. Nothing else was asked. What goes to the
+-- error stream is the message of the fault of a faulty file, and nothing of others.
 pub data EachFile (P : List ℕ → List Call → List Call → FileResult → Type 0) (old : List Call) :
     List (List ℕ) → List Call → List FileResult → Type 0 where
   no_file : EachFile P old [] old []
   then_file : {names : List (List ℕ)} {mid next : List Call} {results : List FileResult}
       {name : List ℕ} {result : FileResult} → EachFile P old names mid results →
-      P name mid next result → EachFile P old (names ++ name ∷ []) next (results ++ result ∷ [])
+      P name mid next result → IsTold name (is_faulty result.fate) result.told →
+      EachFile P old (names ++ name ∷ []) next (results ++ result ∷ [])
 
 -- `CountsAre counts results`: `counts` has the number of each fate.
 pub record CountsAre (counts : Counts) (results : List FileResult) : Type 0 where
@@ -95,14 +101,20 @@ pub record CountsAre (counts : Counts) (results : List FileResult) : Type 0 wher
 abbrev pub shown_of : List FileResult → List ℕ
 shown_of results = flat_map (λ r. r.shown) results
 
--- `Counted P old names new counts shown`: `P` holds of each file in turn, `counts` has the numbers
--- of their fates, and `shown` is what is written of them to the output.
+-- `told_of results`: what is written of the files to the error stream, in order.
+abbrev pub told_of : List FileResult → List ℕ
+told_of results = flat_map (λ r. r.told) results
+
+-- `Counted P old names new counts shown told`: `P` holds of each file in turn, and `counts` has the
+-- numbers of their fates. `shown` and `told` are written of them.
 pub record Counted (P : List ℕ → List Call → List Call → FileResult → Type 0) (old : List Call)
-    (names : List (List ℕ)) (new : List Call) (counts : Counts) (shown : List ℕ) : Type 0 where
+    (names : List (List ℕ)) (new : List Call) (counts : Counts) (shown told : List ℕ) :
+    Type 0 where
   pub results : List FileResult
   pub each : EachFile P old names new results
   pub counts_are : CountsAre counts results
   pub shown_is : shown ≡ shown_of results
+  pub told_is : told ≡ told_of results
 
 -- `names_of files`: the paths of the files, in order.
 abbrev pub names_of : List Found → List (List ℕ)

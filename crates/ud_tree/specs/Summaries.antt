@@ -4,7 +4,7 @@
 --   summary task changed unchanged faults hidden   how many files there were of each kind
 --   remaining_line listed count   how many conditions still name a symbol
 --   last_lines args changed unchanged faults hidden remaining   both lines, unless the run is quiet
---   TellsEnd args counts faults hidden err   they were written last
+--   TellsEnd args counts faults hidden old err err'   they were written last
 --   EndsWith s bytes          the last bytes that were written to `s`
 --   Says old new err err' bytes   `bytes` were written, after the number of files was removed
 use Rattle.std.specs.Prelude.{◌≡◌, ℕ, List, [], ◌++◌, Bool, false, not, ◌&&◌, ◌==◌}
@@ -56,12 +56,15 @@ last_lines args changed unchanged faults hidden remaining = if args.quiet then [
     else summary args.task changed unchanged faults hidden ++
     remaining_line args.list_remaining remaining
 
--- `TellsEnd args counts faults hidden err`: the last lines were written to `err`, with these
--- numbers and some number of conditions that still name a symbol.
-pub record TellsEnd (args : Arguments) (counts : Counts) (faults hidden : ℕ) (err : Stream) :
-    Type 0 where
+-- `TellsEnd args counts faults hidden old err err'`: the last lines were written, with these
+-- numbers and some number of conditions that still name a symbol. Nothing else was, unless a
+-- terminal showed the number of files.
+pub record TellsEnd (args : Arguments) (counts : Counts) (faults hidden : ℕ) (old : Report)
+    (err err' : Stream) : Type 0 where
   pub remaining : ℕ
-  pub told : EndsWith err
+  pub told : EndsWith err'
+      (last_lines args counts.changed counts.unchanged faults hidden remaining)
+  pub alone : old.is_shown ≡ false → Sends err err'
       (last_lines args counts.changed counts.unchanged faults hidden remaining)
 
 -- `Says old new err err' bytes`: `bytes` were written. If a terminal showed the number of files,

@@ -2,27 +2,35 @@
 --
 --   DoesBy task args tag name old new result   what a task does with a file
 --   DoesOne args tag name old new result       what the arguments ask for is done with a file
---   Ends args tag old names new shown last status   all files are processed, with this status
---   EndsWriting args tag before names after err status   all of that was written, too
---   IsRun args tag old new shown last status   a whole run
+--   Ends args tag old names new shown told last status   all files are processed, with this status
+--   DoesAll task job files before report after report' counts   a task is done with all files
+--   ListsAll                                   the same for the listing of names
+--   EndsWriting job before files after status  all files are processed, and all was written
+--   IsRun args tag old new shown told last status   a whole run
 --   Run, IsRunOf run                           its arguments, calls, output and status
---   RunsTree args tag before after err status  a whole run, and all of that was written
+--   RunsTree job before after status           a whole run, and all of that was written
 --
 -- `old` and `new` are the calls before and after, the newest first. `shown` is what is to be
--- written to the output, and `last` what is to be written last to the error stream.
-use Rattle.std.specs.Prelude.{◌≡◌, ℕ, ◌≤◌, List, [], ◌++◌, count_by, false}
+-- written to the output, `told` to the error stream after the walk, and `last` last.
+use Rattle.std.specs.Prelude.{◌≡◌, ℕ, ◌+◌, ◌≤◌, ◌<◌, ◌^◌, List, [], ◌++◌, length, count_by}
+use Rattle.std.specs.Prelude.{false, codes}
+use Rattle.std.specs.List.{All, flat_map}
 use Rattle.ud_replace.specs.Calls.{Call}
 use Rattle.ud_tree.specs.declared.arguments.Task.{Task}
 use Rattle.ud_tree.specs.declared.arguments.Task.TheVariants.{Replace, Diff, Names}
 use Rattle.ud_tree.specs.declared.arguments.Arguments.{Arguments}
+use Rattle.ud_tree.specs.declared.counts.Counts.{Counts}
+use Rattle.ud_tree.specs.declared.job.Job.{Job}
+use Rattle.ud_tree.specs.declared.report.Report.{Report}
 use Rattle.ud_tree.specs.declared.walk.Found.{Found}
 use Rattle.ud_tree.specs.Fates.{is_changed, is_same, is_faulty}
 use Rattle.ud_tree.specs.Runs.{FileResult, Unshown, Reads, ReplacesOne, EachFile, shown_of}
-use Rattle.ud_tree.specs.Runs.{names_of}
+use Rattle.ud_tree.specs.Runs.{told_of, names_of}
 use Rattle.ud_tree.specs.Shown.{ShowsOne}
-use Rattle.ud_tree.specs.Streams.{Stream, Sends}
+use Rattle.ud_tree.specs.Messages.{IsFaultOf}
+use Rattle.ud_tree.specs.Streams.{Sends}
 use Rattle.ud_tree.specs.Summaries.{last_lines, EndsWith}
-use Rattle.ud_tree.specs.Writing.{Moment}
+use Rattle.ud_tree.specs.Writing.{Moment, WritesAll}
 use Rattle.ud_tree.specs.Walks.{WalksOnly, IsWalk}
 use Rattle.ud_tree.specs.Statuses.{tree_status}
 
@@ -38,12 +46,20 @@ DoesBy Names args tag = Unshown Reads
 abbrev pub DoesOne : Arguments → List ℕ → List ℕ → List Call → List Call → FileResult → Type 0
 DoesOne args tag = DoesBy args.task args tag
 
--- `Ends args tag old names new shown last status`: it is done with each file in turn. What is shown
--- of them comes first, and then a list, if one is wanted. The status is that of some number of
--- faults, at least one for each faulty file, and of the number of changed files. The last lines
--- have the same numbers.
+-- `DoesAll task job files before report after report' counts`: the task is done with each file in
+-- turn, and what is shown and told of them was written.
+abbrev pub DoesAll : Task → Job → List Found → Moment → Report → Moment → Report → Counts → Type 0
+DoesAll task job files before report after report' counts =
+    WritesAll (DoesBy task job.arguments.now job.tag.now) before (names_of files) report after
+    report' counts
+
+-- `Ends args tag old names new shown told last status`: it is done with each file in turn. What is
+-- shown of them comes first, and then a list, if one is wanted. The status is that of some number
+-- of faults, at least one for each faulty file, and of the number of changed files. The last lines
+-- have the same numbers. The messages of the faulty files come first, then those about the output,
+-- and then the last lines. There is one message for each fault, but for those of the walk.
 pub record Ends (args : Arguments) (tag : List ℕ) (old : List Call) (names : List (List ℕ))
-    (new : List Call) (shown last : List ℕ) (status : ℕ) : Type 0 where
+    (new : List Call) (shown told last : List ℕ) (status : ℕ) : Type 0 where
   pub results : List FileResult
   pub each : EachFile (DoesOne args tag) old names new results
   pub listed : List ℕ
@@ -57,47 +73,64 @@ pub record Ends (args : Arguments) (tag : List ℕ) (old : List Call) (names : L
   pub remaining : ℕ
   pub last_is : last ≡ last_lines args (count_by (λ r. is_changed r.fate) results)
       (count_by (λ r. is_same r.fate) results) faults hidden remaining
+  pub of_output : List (List ℕ)
+  pub each_of_output : All (IsFaultOf (codes "stdout")) of_output
+  pub told_is : told ≡ told_of results ++ flat_map (λ m. m) of_output ++ last
+  pub in_walk : ℕ
+  pub faults_are : in_walk + length of_output + count_by (λ r. is_faulty r.fate) results < 2 ^ 64 →
+      faults ≡ in_walk + length of_output + count_by (λ r. is_faulty r.fate) results
 
--- `EndsWriting args tag before names after err status`: it is done with each file in turn, what is
--- shown was written, and the last lines were.
-pub record EndsWriting (args : Arguments) (tag : List ℕ) (before : Moment)
-    (names : List (List ℕ)) (after : Moment) (err : Stream) (status : ℕ) : Type 0 where
+-- `ListsAll job files before report after report' counts`: the names of each file were listed.
+abbrev pub ListsAll : Job → List Found → Moment → Report → Moment → Report → Counts → Type 0
+ListsAll = DoesAll Names
+
+-- `EndsWriting job before files after status`: all files are processed, what is shown was
+-- written, and the last lines were. If the error stream is no terminal, all of `told` was written.
+pub record EndsWriting (job : Job) (before : Moment) (files : List Found) (after : Moment)
+    (status : ℕ) : Type 0 where
   pub shown : List ℕ
+  pub told : List ℕ
   pub last : List ℕ
-  pub ends : Ends args tag before.calls names after.calls shown last status
+  pub ends : Ends job.arguments.now job.tag.now before.calls (names_of files) after.calls shown
+      told last status
   pub sent : Sends before.out after.out shown
-  pub told : EndsWith err last
+  pub ended : EndsWith after.err last
+  pub tells : job.is_terminal ≡ false → Sends before.err after.err told
 
--- `IsRun args tag old new shown last status`: only calls of a walk were made, nothing is shown, and
--- the status is 2. Or a walk found some files, and the run ends after them.
+-- `IsRun args tag old new shown told last status`: only calls of a walk were made, nothing is
+-- shown, and the status is 2. Or a walk found some files, and the run ends after them.
 pub data IsRun (args : Arguments) (tag : List ℕ) (old new : List Call) :
-    List ℕ → List ℕ → ℕ → Type 0 where
-  no_run : WalksOnly old new → IsRun args tag old new [] [] 2
-  ran : {shown last : List ℕ} {status : ℕ} (mid : List Call) (files : List Found) →
-      IsWalk old mid files → Ends args tag mid (names_of files) new shown last status →
-      IsRun args tag old new shown last status
+    List ℕ → List ℕ → List ℕ → ℕ → Type 0 where
+  no_run : WalksOnly old new → IsRun args tag old new [] [] [] 2
+  ran : {shown told last : List ℕ} {status : ℕ} (mid : List Call) (files : List Found) →
+      IsWalk old mid files → Ends args tag mid (names_of files) new shown told last status →
+      IsRun args tag old new shown told last status
 
 -- `Run`: the arguments of a run, the end of the names of its new files, the calls before and after
--- it, what is to be written to the output and last to the error stream, and the status.
+-- it, what is to be written to the output, to the error stream after the walk, and last, and the
+-- status.
 pub record Run : Type 0 where
   pub args : Arguments
   pub tag : List ℕ
   pub old : List Call
   pub new : List Call
   pub shown : List ℕ
+  pub told : List ℕ
   pub last : List ℕ
   pub status : ℕ
 
 -- `IsRunOf run`: `run` is a whole run.
 abbrev pub IsRunOf : Run → Type 0
-IsRunOf run = IsRun run.args run.tag run.old run.new run.shown run.last run.status
+IsRunOf run = IsRun run.args run.tag run.old run.new run.shown run.told run.last
+    run.status
 
--- `RunsTree args tag before after err status`: a whole run. What is shown was written to the
--- output, and the last lines were to the error stream `err`.
-pub record RunsTree (args : Arguments) (tag : List ℕ) (before after : Moment) (err : Stream)
-    (status : ℕ) : Type 0 where
+-- `RunsTree job before after status`: a whole run. What is shown was written to the output, and the
+-- last lines were to the error stream. If that is no terminal, it ends with all of `told`.
+pub record RunsTree (job : Job) (before after : Moment) (status : ℕ) : Type 0 where
   pub shown : List ℕ
+  pub told : List ℕ
   pub last : List ℕ
-  pub is_run : IsRun args tag before.calls after.calls shown last status
+  pub is_run : IsRun job.arguments.now job.tag.now before.calls after.calls shown told last status
   pub sent : Sends before.out after.out shown
-  pub told : EndsWith err last
+  pub ended : EndsWith after.err last
+  pub tells : job.is_terminal ≡ false → EndsWith after.err told

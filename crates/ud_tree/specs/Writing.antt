@@ -1,9 +1,10 @@
 -- Writing: what is written of the files of a run to the output.
 --
---   Moment                                the calls so far, and the output
---   moment history contents tree out      those of a tree and a writer
+--   Moment                                the calls so far, the output and the error stream
+--   moment history contents reported tree out err   those of a tree and two writers
+--   moment_at out history reported tree err   those of a tree and one writer, with this output
 --   WritesOne P name before after fate    a file was processed, and what is shown of it was written
---   WritesAll P before names after counts   so was each file in turn
+--   WritesAll P before names report after report' counts   each file in turn was processed
 --   WritesList args out out'              what is listed after the files was written
 use Rattle.std.specs.Prelude.{◌≡◌, ℕ, List, [], Option, false}
 use Rattle.ud_io.specs.Watched.{WatchedState}
@@ -12,20 +13,34 @@ use Rattle.ud_tree.specs.declared.arguments.Arguments.{Arguments}
 use Rattle.ud_tree.specs.declared.arguments.Task.TheVariants.{Names}
 use Rattle.ud_tree.specs.declared.counts.Counts.{Counts}
 use Rattle.ud_tree.specs.declared.counts.Fate.{Fate}
+use Rattle.ud_tree.specs.declared.report.Report.{Report}
+use Rattle.ud_tree.specs.Messages.{Tells}
 use Rattle.ud_tree.specs.Runs.{FileResult, Counted}
 use Rattle.ud_tree.specs.Streams.{Stream, stream_of, Sends}
 
--- `Moment`: the calls so far, the newest first, and the output.
+-- `Moment`: the calls so far, the newest first, the output and the error stream.
 pub record Moment : Type 0 where
   pub calls : List Call
   pub out : Stream
+  pub err : Stream
 
--- `moment history contents tree out`: the calls that a tree was asked, and the output.
-abbrev pub moment : {T W : Type 0} → (T → List Call) → (W → Option (List ℕ)) → T →
-    WatchedState W → Moment
-moment history contents tree out = record {
+-- `moment history contents reported tree out err`: the calls that a tree was asked, the output and
+-- the error stream.
+abbrev pub moment : {T W E : Type 0} → (T → List Call) → (W → Option (List ℕ)) →
+    (E → Option (List ℕ)) → T → WatchedState W → WatchedState E → Moment
+moment history contents reported tree out err = record {
   calls = history tree;
   out = stream_of contents out;
+  err = stream_of reported err;
+}
+
+-- `moment_at out history reported tree err`: the same, with an output that isn't written to.
+abbrev pub moment_at : {T E : Type 0} → Stream → (T → List Call) → (E → Option (List ℕ)) → T →
+    WatchedState E → Moment
+moment_at out history reported tree err = record {
+  calls = history tree;
+  out = out;
+  err = stream_of reported err;
 }
 
 -- `WritesOne P name before after fate`: `P` holds of a file with this fate, and what is shown of
@@ -33,16 +48,20 @@ moment history contents tree out = record {
 pub record WritesOne (P : List ℕ → List Call → List Call → FileResult → Type 0)
     (name : List ℕ) (before after : Moment) (fate : Fate) : Type 0 where
   pub shown : List ℕ
-  pub does : P name before.calls after.calls (record { fate = fate; shown = shown })
+  pub does : (told : List ℕ) →
+      P name before.calls after.calls (record { fate = fate; shown = shown; told = told })
   pub sent : Sends before.out after.out shown
 
--- `WritesAll P before names after counts`: `P` holds of each file in turn, `counts` has the numbers
--- of their fates, and what is shown of them was written in this order.
+-- `WritesAll P before names report after report' counts`: `P` holds of each file in turn, `counts`
+-- has the numbers of their fates, and what is shown and told of them was written in this order.
 pub record WritesAll (P : List ℕ → List Call → List Call → FileResult → Type 0)
-    (before : Moment) (names : List (List ℕ)) (after : Moment) (counts : Counts) : Type 0 where
+    (before : Moment) (names : List (List ℕ)) (report : Report) (after : Moment)
+    (report' : Report) (counts : Counts) : Type 0 where
   pub shown : List ℕ
-  pub counted : Counted P before.calls names after.calls counts shown
+  pub told : List ℕ
+  pub counted : Counted P before.calls names after.calls counts shown told
   pub sent : Sends before.out after.out shown
+  pub tells : Tells report report' before.err after.err told
 
 -- `WritesList args out out'`: a list was written: nothing, unless names or the conditions that
 -- still name a symbol are to be listed.

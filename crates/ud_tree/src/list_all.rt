@@ -1,7 +1,11 @@
 //! Listing the names of all files.
 
-ghost use Rattle.std.specs.Prelude.{[]};
-ghost use Rattle.ud_tree.specs.Runs.{ReadsOne, Reads, Unshown, Counted, names_of};
+ghost use Rattle.ud_tree.specs.Fates.{is_faulty};
+ghost use Rattle.ud_tree.specs.Messages.{TellsIf};
+ghost use Rattle.ud_tree.specs.Runs.{ReadsOne};
+ghost use Rattle.ud_tree.specs.Streams.{Stream, stream_of};
+ghost use Rattle.ud_tree.specs.TreeRuns.{ListsAll};
+ghost use Rattle.ud_tree.specs.Writing.{moment_at};
 
 use crate::counts::{Counts, Fate};
 use crate::job::Job;
@@ -24,8 +28,9 @@ pub(crate) fn list_all<T: Tree, E: Write>(
     report: &mut Report,
     err: &mut Watched<E>,
 ) -> Counts
-    ensures { Counted (Unshown Reads) (T.history tree.old) (names_of files.now)
-        (T.history tree.new) result [] }
+    ensures { (out : Stream) → ListsAll job.now files.now
+        (moment_at out T.history E.contents tree.old err.old) report.old
+        (moment_at out T.history E.contents tree.new err.new) report.new result }
 {
     let mut counts = Counts::new();
     for (done, file) in files.iter().enumerate() {
@@ -45,7 +50,9 @@ fn list_file<T: Tree, E: Write>(
     report: &mut Report,
     err: &mut Watched<E>,
 ) -> Fate
-    ensures { ReadsOne name.now (T.history tree.old) (T.history tree.new) }
+    ensures reads { ReadsOne name.now (T.history tree.old) (T.history tree.new) }
+    ensures told { TellsIf name.now (is_faulty result) report.old report.new
+        (stream_of E.contents err.old) (stream_of E.contents err.new) }
 {
     let mut listed = Watched::new(Vec::<u8>::new(job.alloc));
     let ran = run_file(job, tree, name, &mut listed, report, err);

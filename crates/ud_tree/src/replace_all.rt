@@ -1,7 +1,13 @@
 //! Replacing all files of a run.
 
 ghost use Rattle.std.specs.Prelude.{◌≡◌, [], false};
-ghost use Rattle.ud_tree.specs.Runs.{ReplacesOne, Unshown, Counted, fate_of, names_of};
+ghost use Rattle.ud_tree.specs.declared.arguments.Task.TheVariants.{Replace};
+ghost use Rattle.ud_tree.specs.Fates.{is_faulty};
+ghost use Rattle.ud_tree.specs.Messages.{TellsFault, TellsIf};
+ghost use Rattle.ud_tree.specs.Runs.{ReplacesOne, fate_of};
+ghost use Rattle.ud_tree.specs.Streams.{Stream, stream_of};
+ghost use Rattle.ud_tree.specs.TreeRuns.{DoesAll};
+ghost use Rattle.ud_tree.specs.Writing.{moment_at};
 
 use crate::counts::{Counts, Fate};
 use crate::job::Job;
@@ -24,9 +30,9 @@ pub(crate) fn replace_all<T: Tree, E: Write>(
     report: &mut Report,
     err: &mut Watched<E>,
 ) -> Counts
-    ensures { Counted (Unshown (ReplacesOne job.now.arguments.now.plan
-        job.now.arguments.now.write_into job.now.tag.now))
-        (T.history tree.old) (names_of files.now) (T.history tree.new) result [] }
+    ensures { (out : Stream) → DoesAll Replace job.now files.now
+        (moment_at out T.history E.contents tree.old err.old) report.old
+        (moment_at out T.history E.contents tree.new err.new) report.new result }
 {
     let mut counts = Counts::new();
     for (done, file) in files.iter().enumerate() {
@@ -56,8 +62,10 @@ fn replace_file<T: Tree, E: Write>(
     report: &mut Report,
     err: &mut Watched<E>,
 ) -> Result<Update, ReplaceError>
-    ensures { ReplacesOne job.now.arguments.now.plan job.now.arguments.now.write_into
+    ensures replaces { ReplacesOne job.now.arguments.now.plan job.now.arguments.now.write_into
         job.now.tag.now name.now (T.history tree.old) (T.history tree.new) (fate_of result) }
+    ensures told { TellsIf name.now (is_faulty (fate_of result)) report.old report.new
+        (stream_of E.contents err.old) (stream_of E.contents err.new) }
 {
     let mut output = Watched::new(Vec::<u8>::new(job.alloc));
     let update = replace_named(job, tree, name, &mut output);
@@ -105,7 +113,10 @@ fn report_error<T: Tree, E: Write>(
     error: ReplaceError,
     report: &mut Report,
     err: &mut Watched<E>,
-) {
+)
+    ensures { TellsFault path.now report.old report.new (stream_of E.contents err.old)
+        (stream_of E.contents err.new) }
+{
     match error {
         ReplaceError::Text(fault) => report.text_fault(err, path, settings, fault),
         ReplaceError::Read => report.failure(err, path, b"Cannot be read", tree.reason()),

@@ -6,6 +6,7 @@
 
 ghost use Rattle.std.specs.Prelude.{◌≡◌, [], false, if◌then◌else◌};
 ghost use Rattle.std.specs.List.{flat_map};
+ghost use Rattle.ud_tree.specs.Messages.{IsPlain, Tells, TellsFault};
 ghost use Rattle.ud_tree.specs.Streams.{Sends, stream_of};
 ghost use Rattle.ud_tree.specs.Summaries.{Says, line_of};
 
@@ -60,7 +61,9 @@ pub(crate) struct Report {
 
 impl Report {
     /// Returns a report without messages.
-    pub(crate) fn new(job: &Job<'_>) -> Report {
+    pub(crate) fn new(job: &Job<'_>) -> Report
+        ensures { job.now.is_terminal ≡ false → IsPlain result }
+    {
         Report {
             alloc: job.alloc,
             is_terminal: job.is_terminal,
@@ -100,7 +103,10 @@ impl Report {
     }
 
     /// Adds the conditions of a file's output that still name a symbol, if they are wanted.
-    pub(crate) fn search(&mut self, job: &Job<'_>, name: &[u8], output: &[u8]) {
+    pub(crate) fn search(&mut self, job: &Job<'_>, name: &[u8], output: &[u8])
+        ensures terminal { self.new.is_terminal ≡ self.old.is_terminal }
+        ensures shown { self.new.is_shown ≡ self.old.is_shown }
+    {
         if job.arguments.search_remaining() {
             let symbols = job.arguments.plan.symbols();
             let added = self.remaining.add(name, output, job.mode(), symbols);
@@ -110,6 +116,7 @@ impl Report {
 
     /// Removes the number of files from the terminal.
     fn clear<E: Write>(&mut self, err: &mut Watched<E>)
+        ensures terminal { self.new.is_terminal ≡ self.old.is_terminal }
         ensures hidden { self.new.is_shown ≡ false }
         ensures unshown { self.old.is_shown ≡ false → err.new ≡ err.old }
     {
@@ -121,8 +128,14 @@ impl Report {
     }
 
     /// Shows on a terminal how many of the files are done.
-    pub(crate) fn progress<E: Write>(&mut self, err: &mut Watched<E>, done: usize, all: usize) {
-        if self.is_terminal && done % STEP == 0 {
+    pub(crate) fn progress<E: Write>(&mut self, err: &mut Watched<E>, done: usize, all: usize)
+        ensures { Tells self.old self.new (stream_of E.contents err.old)
+            (stream_of E.contents err.new) [] }
+    {
+        if !self.is_terminal {
+            return;
+        }
+        if done % STEP == 0 {
             let (mut first, mut second) = (Buffer::new(), Buffer::new());
             let done = first.format(done).as_bytes();
             let all = second.format(all).as_bytes();
@@ -133,7 +146,9 @@ impl Report {
 
     /// Writes a message that is no fault.
     pub(crate) fn line<E: Write>(&mut self, err: &mut Watched<E>, parts: &[&[u8]])
-        ensures { Says self.old self.new (stream_of E.contents err.old)
+        ensures says { Says self.old self.new (stream_of E.contents err.old)
+            (stream_of E.contents err.new) (line_of (flat_map (λ p. p.now) parts.now)) }
+        ensures tells { Tells self.old self.new (stream_of E.contents err.old)
             (stream_of E.contents err.new) (line_of (flat_map (λ p. p.now) parts.now)) }
     {
         self.clear(err);
@@ -141,7 +156,10 @@ impl Report {
     }
 
     /// Writes a fault of a path.
-    pub(crate) fn fault<E: Write>(&mut self, err: &mut Watched<E>, path: &[u8], text: &[u8]) {
+    pub(crate) fn fault<E: Write>(&mut self, err: &mut Watched<E>, path: &[u8], text: &[u8])
+        ensures { TellsFault path.now self.old self.new (stream_of E.contents err.old)
+            (stream_of E.contents err.new) }
+    {
         self.faulty = self.faulty.saturating_add(1);
         self.line(err, &[path, b": ", text]);
     }
@@ -165,7 +183,10 @@ impl Report {
         path: &[u8],
         text: &[u8],
         reason: Option<io::Error>,
-    ) {
+    )
+        ensures { TellsFault path.now self.old self.new (stream_of E.contents err.old)
+            (stream_of E.contents err.new) }
+    {
         match reason {
             None => self.fault(err, path, text),
             Some(error) => match format!(in self.alloc; "{error}") {
@@ -201,12 +222,16 @@ impl Report {
         path: &[u8],
         settings: Settings,
         fault: RunFault,
-    ) {
+    )
+        ensures { TellsFault path.now self.old self.new (stream_of E.contents err.old)
+            (stream_of E.contents err.new) }
+    {
         self.faulty = self.faulty.saturating_add(1);
         self.clear(err);
-        if !err.failed() {
-            report_result(err, path, settings, Err(fault));
+        if err.failed() {
+            return;
         }
+        report_result(err, path, settings, Err(fault));
     }
 }
 

@@ -1,14 +1,14 @@
 //! The run over all files of a tree.
 
-ghost use Rattle.std.specs.Prelude.{◌≡◌, [], false, IfOk, IfSome};
+ghost use Rattle.std.specs.Prelude.{◌≡◌, [], false, codes, IfOk, IfSome};
 ghost use Rattle.ud_model.specs.answer.Answer.{status_by};
-ghost use Rattle.ud_tree.specs.Runs.{names_of};
+ghost use Rattle.ud_tree.specs.Messages.{TellsIf};
 ghost use Rattle.ud_tree.specs.Statuses.{tree_status};
 ghost use Rattle.ud_tree.specs.Streams.{Sends, stream_of};
 ghost use Rattle.ud_tree.specs.Summaries.{Says, TellsEnd, remaining_line, remaining_text, summary};
-ghost use Rattle.ud_tree.specs.TreeRuns.{DoesOne, EndsWriting, RunsTree};
+ghost use Rattle.ud_tree.specs.TreeRuns.{DoesAll, EndsWriting, RunsTree};
 ghost use Rattle.ud_tree.specs.Walks.{Finds, IsWalk, WalksOnly};
-ghost use Rattle.ud_tree.specs.Writing.{WritesAll, WritesList, moment};
+ghost use Rattle.ud_tree.specs.Writing.{WritesList, moment};
 
 use crate::arguments::{Arguments, Task};
 use crate::counts::Counts;
@@ -49,9 +49,9 @@ pub fn run_tree<T: Tree, R: Read + Drop, W: Write, E: Write>(
     out: &mut Watched<W>,
     err: &mut Watched<E>,
 ) -> u8
-    ensures { RunsTree job.now.arguments.now job.now.tag.now
-        (moment T.history W.contents tree.old out.old)
-        (moment T.history W.contents tree.new out.new) (stream_of E.contents err.new) result }
+    ensures { RunsTree job.now
+        (moment T.history W.contents E.contents tree.old out.old err.old)
+        (moment T.history W.contents E.contents tree.new out.new err.new) result }
 {
     let mut report = Report::new(job);
     match find_files(job, tree, input, &mut report, err) {
@@ -60,7 +60,7 @@ pub fn run_tree<T: Tree, R: Read + Drop, W: Write, E: Write>(
             EXIT_TROUBLE
         }
         Ok(None) => EXIT_TROUBLE,
-        Ok(Some(files)) => process_all(job, tree, files.as_slice(), out, &mut report, err),
+        Ok(Some(files)) => process_all(job, tree, files.as_slice(), report.faulty(), out, err),
     }
 }
 
@@ -154,29 +154,30 @@ fn split_paths(alloc: Global, text: &[u8]) -> Result<Vec<Vec<u8>>, AllocError> {
     Ok(paths)
 }
 
-/// Processes all files in order, and writes the counts. Returns the exit status.
+/// Processes all files in order, and writes the counts. Returns the exit status. `walk_faults` is
+/// the number of faults that were reported before.
 fn process_all<T: Tree, W: Write, E: Write>(
     job: &Job<'_>,
     tree: &mut T,
     files: &[Found],
+    walk_faults: usize,
     out: &mut Watched<W>,
-    report: &mut Report,
     err: &mut Watched<E>,
 ) -> u8
-    ensures { EndsWriting job.now.arguments.now job.now.tag.now
-        (moment T.history W.contents tree.old out.old) (names_of files.now)
-        (moment T.history W.contents tree.new out.new) (stream_of E.contents err.new) result }
+    ensures { EndsWriting job.now
+        (moment T.history W.contents E.contents tree.old out.old err.old) files.now
+        (moment T.history W.contents E.contents tree.new out.new err.new) result }
 {
-    let walk_faults = report.faulty();
+    let mut report = Report::new(job);
     let mut names = Names::new(job.alloc);
-    let counts = process_files(job, tree, files, out, &mut names, report, err);
-    let list_faults = write_lists(job, out, report, err, &names);
-    let out_faults = finish_output(out, report, err);
+    let counts = process_files(job, tree, files, out, &mut names, &mut report, err);
+    let list_fault = write_lists(job, out, &mut report, err, &names);
+    let out_fault = finish_output(out, &mut report, err);
     let faults = walk_faults
-        .saturating_add(list_faults)
-        .saturating_add(out_faults)
+        .saturating_add(usize::from(list_fault))
+        .saturating_add(usize::from(out_fault))
         .saturating_add(counts.faulty);
-    report_end(job, report, err, names.hidden(), counts, faults);
+    report_end(job, &mut report, err, names.hidden(), counts, faults);
     status(job.arguments, faults, counts.changed)
 }
 
@@ -190,9 +191,9 @@ fn process_files<T: Tree, W: Write, E: Write>(
     report: &mut Report,
     err: &mut Watched<E>,
 ) -> Counts
-    ensures { WritesAll (DoesOne job.now.arguments.now job.now.tag.now)
-        (moment T.history W.contents tree.old out.old) (names_of files.now)
-        (moment T.history W.contents tree.new out.new) result }
+    ensures { DoesAll job.now.arguments.now.task job.now files.now
+        (moment T.history W.contents E.contents tree.old out.old err.old) report.old
+        (moment T.history W.contents E.contents tree.new out.new err.new) report.new result }
 {
     match job.arguments.task {
         Task::Replace => replace_all(job, tree, files, report, err),
@@ -201,27 +202,29 @@ fn process_files<T: Tree, W: Write, E: Write>(
     }
 }
 
-/// Writes the names that were counted, and the conditions that still name a symbol. Returns the
-/// number of faults, 0 or 1, which were reported.
+/// Writes the names that were counted, and the conditions that still name a symbol. Returns true
+/// after a fault, which was reported.
 fn write_lists<W: Write, E: Write>(
     job: &Job<'_>,
     out: &mut Watched<W>,
     report: &mut Report,
     err: &mut Watched<E>,
     names: &Names,
-) -> usize
-    ensures { WritesList job.now.arguments.now (stream_of W.contents out.old)
+) -> bool
+    ensures writes { WritesList job.now.arguments.now (stream_of W.contents out.old)
         (stream_of W.contents out.new) }
+    ensures told { TellsIf (codes "stdout") result report.old report.new
+        (stream_of E.contents err.old) (stream_of E.contents err.new) }
 {
     let mut list = Vec::new(job.alloc);
     let listed = append_names(job, names, &mut list);
     send(out, list.as_slice());
     report.write_remaining(job, out);
     if listed && !report.has_lost() {
-        return 0;
+        return false;
     }
     report.fault(err, b"stdout", b"Out of memory");
-    1
+    true
 }
 
 /// Appends the names that were counted, if they are to be listed. Returns false if memory ran out.
@@ -234,19 +237,22 @@ fn append_names(job: &Job<'_>, names: &Names, list: &mut Vec<u8>) -> bool
     }
 }
 
-/// Flushes the output. Returns the number of its faults, 0 or 1, which were reported.
+/// Flushes the output. Returns true after a fault, which was reported.
 fn finish_output<W: Write, E: Write>(
     out: &mut Watched<W>,
     report: &mut Report,
     err: &mut Watched<E>,
-) -> usize
-    ensures { Sends (stream_of W.contents out.old) (stream_of W.contents out.new) [] }
+) -> bool
+    ensures sent { Sends (stream_of W.contents out.old) (stream_of W.contents out.new) [] }
+    ensures failed { result ≡ out.new.failed }
+    ensures told { TellsIf (codes "stdout") result report.old report.new
+        (stream_of E.contents err.old) (stream_of E.contents err.new) }
 {
     if flush(out) {
-        return 0;
+        return false;
     }
     report.fault(err, b"stdout", b"Cannot be written");
-    1
+    true
 }
 
 /// Writes the last lines, unless the run is quiet: the counts, and how many conditions still name a
@@ -259,7 +265,8 @@ fn report_end<E: Write>(
     counts: Counts,
     faults: usize,
 )
-    ensures { TellsEnd job.now.arguments.now counts faults hidden (stream_of E.contents err.new) }
+    ensures { TellsEnd job.now.arguments.now counts faults hidden report.old
+        (stream_of E.contents err.old) (stream_of E.contents err.new) }
 {
     if job.arguments.quiet {
         return;

@@ -1,9 +1,11 @@
 //! Reading a file, and running over its text.
 
-ghost use Rattle.std.specs.Prelude.{◌≡◌, false, IfOk, IfSome};
+ghost use Rattle.std.specs.Prelude.{◌≡◌, false, IfOk, IfSome, is_none};
 ghost use Rattle.ud_model.specs.sections.Items.{Options};
+ghost use Rattle.ud_tree.specs.Messages.{TellsIf};
 ghost use Rattle.ud_tree.specs.Runs.{IsPlanned, ReadsOne};
 ghost use Rattle.ud_tree.specs.Shown.{WasRead, RunsOver};
+ghost use Rattle.ud_tree.specs.Streams.{stream_of};
 
 use crate::job::Job;
 use crate::report::Report;
@@ -32,6 +34,8 @@ pub(crate) fn run_file<T: Tree, E: Write>(
     ensures reads { ReadsOne name.now (T.history tree.old) (T.history tree.new) }
     ensures text { IfSome result (λ ran.
         WasRead name.now ran.0.items (T.history tree.old) (T.history tree.new)) }
+    ensures told { TellsIf name.now (is_none result) report.old report.new
+        (stream_of E.contents err.old) (stream_of E.contents err.new) }
     ensures ran { (o : Options) → IsPlanned job.now.arguments.now.plan o → IfSome result (λ ran.
         RunsOver o ran.0.items output.old.inner.items output.new.inner.items ran.1) }
 {

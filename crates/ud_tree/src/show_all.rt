@@ -1,8 +1,12 @@
 //! Showing what would change of all files.
 
-ghost use Rattle.ud_tree.specs.Runs.{names_of};
+ghost use Rattle.ud_tree.specs.declared.arguments.Task.TheVariants.{Diff};
+ghost use Rattle.ud_tree.specs.Fates.{is_faulty};
+ghost use Rattle.ud_tree.specs.Messages.{TellsIf};
 ghost use Rattle.ud_tree.specs.Shown.{ShowsOne};
-ghost use Rattle.ud_tree.specs.Writing.{WritesOne, WritesAll, moment};
+ghost use Rattle.ud_tree.specs.Streams.{stream_of};
+ghost use Rattle.ud_tree.specs.TreeRuns.{DoesAll};
+ghost use Rattle.ud_tree.specs.Writing.{WritesOne, moment};
 
 use crate::counts::{Counts, Fate};
 use crate::file_diff::diff_of;
@@ -27,9 +31,9 @@ pub(crate) fn show_all<T: Tree, W: Write, E: Write>(
     report: &mut Report,
     err: &mut Watched<E>,
 ) -> Counts
-    ensures { WritesAll (ShowsOne job.now.arguments.now.plan)
-        (moment T.history W.contents tree.old out.old) (names_of files.now)
-        (moment T.history W.contents tree.new out.new) result }
+    ensures { DoesAll Diff job.now files.now
+        (moment T.history W.contents E.contents tree.old out.old err.old) report.old
+        (moment T.history W.contents E.contents tree.new out.new err.new) report.new result }
 {
     let mut counts = Counts::new();
     for (done, file) in files.iter().enumerate() {
@@ -48,9 +52,11 @@ fn show_file<T: Tree, W: Write, E: Write>(
     report: &mut Report,
     err: &mut Watched<E>,
 ) -> Fate
-    ensures { WritesOne (ShowsOne job.now.arguments.now.plan) name.now
-        (moment T.history W.contents tree.old out.old)
-        (moment T.history W.contents tree.new out.new) result }
+    ensures writes { WritesOne (ShowsOne job.now.arguments.now.plan) name.now
+        (moment T.history W.contents E.contents tree.old out.old err.old)
+        (moment T.history W.contents E.contents tree.new out.new err.new) result }
+    ensures told { TellsIf name.now (is_faulty result) report.old report.new
+        (stream_of E.contents err.old) (stream_of E.contents err.new) }
 {
     let mut output = Watched::new(Vec::<u8>::new(job.alloc));
     let Some((text, differs)) = run_file(job, tree, name, &mut output, report, err) else {

@@ -1,8 +1,13 @@
-use Rattle.std.proofs.Common.{◌≡◌, ◌+◌, [], take}
-use Rattle.ud_tree.specs.Runs.{ReplacesOne, Unshown, Counted, names_of}
+use Rattle.std.proofs.Common.{◌≡◌, ◌+◌, take}
+use Rattle.ud_tree.specs.declared.arguments.Task.TheVariants.{Replace}
+use Rattle.ud_tree.specs.Streams.{Stream}
+use Rattle.ud_tree.specs.TreeRuns.{DoesAll}
+use Rattle.ud_tree.specs.Writing.{moment_at}
 use Rattle.ud_tree.proofs.replace_all.replace_all.Given as goal
 
 abbrev pub invariant-loop-done : goal.invariant-loop-done
-invariant-loop-done g l =
-    (l.counts.changed + l.counts.unchanged + l.counts.faulty ≡ l.done)
-    × Counted (Unshown (ReplacesOne l.job.arguments.now.plan l.job.arguments.now.write_into l.job.tag.now)) (g.T.Folder.history l.fn.tree) (names_of (take l.done l.files)) (g.T.Folder.history l.tree) l.counts []
+invariant-loop-done g l = record {
+  counted : l.counts.changed + l.counts.unchanged + l.counts.faulty ≡ l.done;
+  written : (out : Stream) → DoesAll Replace l.job (take l.done l.files) (moment_at out g.T.Folder.history g.E.Write.contents l.fn.tree l.fn.err) l.fn.report
+      (moment_at out g.T.Folder.history g.E.Write.contents l.tree l.err) l.report l.counts;
+}

@@ -1,12 +1,11 @@
 use Rattle.ud_tree.specs.Streams.{stream_of}
-use Rattle.ud_tree.proofs.SummaryLemmas.{says_then, ends_quiet, ends_told}
+use Rattle.ud_tree.proofs.SummaryLemmas.{ends_quiet, ends_told}
 use Rattle.ud_tree.proofs.run.report_end.Goals as goal
 
 pub returns-then-job : goal.returns-then-job
 returns-then-job g c =
-    ends_quiet c.args.job.now.arguments.now c.args.counts c.args.faults c.args.hidden (stream_of g.E.Write.contents c.args.err.now) c.if-job.true
+    ends_quiet c.args.job.now.arguments.now c.args.counts c.args.faults c.args.hidden c.args.report.now (stream_of g.E.Write.contents c.args.err.now) c.if-job.true
 
 pub returns : goal.returns
 returns g c =
-    ends_told c.args.job.now.arguments.now c.args.counts c.args.faults c.args.hidden _ c.if-job.false
-    (says_then c.report_counts.ensures c.report_remaining.ensures)
+    ends_told c.args.job.now.arguments.now c.args.counts c.args.faults c.args.hidden _ c.if-job.false c.report_counts.ensures c.report_remaining.ensures

@@ -11,7 +11,7 @@ returns-then-arguments g c = λ hidden.
     sends_same
     (remaining_listed c.args.arguments.now.list_remaining c.args.report.now.remaining.count _ _ c.if-arguments.true
     (c.as_bytes-number.ensures.value ∙ c.format.ensures.text ∙ ap decimal c.remaining-count.ensures) (c.remaining_text.ensures ∙ ap remaining_text c.remaining-count.ensures))
-    (said_unshown c.line.ensures hidden)
+    (said_unshown c.line.ensures.says hidden)
 
 pub returns-then-count-eq0 : goal.returns-then-count-eq0
 returns-then-count-eq0 g c = λ hidden.
@@ -23,4 +23,4 @@ returns g c = λ hidden.
     sends_same
     (remaining_told c.args.arguments.now.list_remaining c.args.report.now.remaining.count _ _ c.if-arguments.false (λ e. c.if-count-eq0.false (c.remaining-count.ensures ∙ e))
     (c.as_bytes-number.ensures.value ∙ c.format.ensures.text ∙ ap decimal c.remaining-count.ensures) (c.remaining_text-2.ensures ∙ ap remaining_text c.remaining-count.ensures))
-    (said_unshown c.line-2.ensures hidden)
+    (said_unshown c.line-2.ensures.says hidden)

@@ -1,14 +1,19 @@
-use Rattle.std.proofs.Common.{◌∙◌}
+use Rattle.std.proofs.Common.{refl, ◌∙◌}
 use Rattle.ud_tree.proofs.RunLemmas.{writes_list}
+use Rattle.ud_tree.specs.Streams.{stream_of}
+use Rattle.ud_tree.proofs.MessageLemmas.{tells_kept}
 use Rattle.ud_tree.proofs.StreamLemmas.{sends_same}
 use Rattle.ud_tree.proofs.run.write_lists.Goals as goal
 
-pub returns-then-not-has_lost : goal.returns-then-not-has_lost
-returns-then-not-has_lost g c =
+pub returns-then-not-has_lost-clause-writes : goal.returns-then-not-has_lost-clause-writes
+returns-then-not-has_lost-clause-writes g c =
     writes_list c.args.job.now.arguments.now _ _ (λ other. c.append_names-listed.ensures other ∙ c.new-list.ensures.items)
     (sends_same c.as_slice.ensures.value c.send.ensures) c.write_remaining.ensures
 
-pub returns : goal.returns
-returns g c =
+pub returns-clause-writes : goal.returns-clause-writes
+returns-clause-writes g c =
     writes_list c.args.job.now.arguments.now _ _ (λ other. c.append_names-listed.ensures other ∙ c.new-list.ensures.items)
     (sends_same c.as_slice.ensures.value c.send.ensures) c.write_remaining.ensures
+
+pub returns-then-not-has_lost-clause-told : goal.returns-then-not-has_lost-clause-told
+returns-then-not-has_lost-clause-told g c = tells_kept (stream_of g.E.Write.contents c.args.err.now) refl refl

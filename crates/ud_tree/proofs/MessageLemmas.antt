@@ -1,0 +1,92 @@
+-- Messages that are written one after another.
+use Rattle.std.proofs.Common.{◌≡◌, ℕ, ◌+◌, List, [], ◌∷◌, ◌++◌, length, Bool, true, false, cond, refl, sym, ap, ◌∙◌, subst, true≢false, append_assoc, append-nil, codes, length-append}
+use Rattle.std.specs.List.{All, flat_map}
+use Rattle.std.proofs.lemmas.Grind.{flat_map-append}
+use Rattle.std.proofs.lemmas.List.Elements.{All-nil, All-push, All-append}
+use Rattle.ud_faults.specs.declared.run.RunFault.{RunFault}
+use Rattle.ud_diagnostics.specs.RunMessages.{fault_message}
+use Rattle.ud_tree.specs.declared.report.Report.{Report}
+use Rattle.ud_tree.specs.Streams.{Stream, Sends}
+use Rattle.ud_tree.specs.Summaries.{line_of}
+use Rattle.ud_tree.specs.Messages.{IsFaultOf, of_file, of_text, IsTold, Tells, TellsFault, TellsIf}
+use Rattle.ud_tree.proofs.StreamLemmas.{sends_none, sends_then}
+
+-- The report changed in nothing that the error stream shows, and nothing was written.
+pub tells_kept : {a b : Report} (s : Stream) → b.is_terminal ≡ a.is_terminal → b.is_shown ≡ a.is_shown → Tells a b s s []
+tells_kept s t h = record { plain = λ p. record { no_terminal = t ∙ p.no_terminal; unshown = h ∙ p.unshown }; sent = λ p. sends_none s }
+
+-- Nothing is known of what a terminal shows.
+pub tells_terminal : {a b : Report} {s t : Stream} (x : List ℕ) → a.is_terminal ≡ true → Tells a b s t x
+tells_terminal x is = record { plain = λ p. absurd (true≢false (sym is ∙ p.no_terminal)); sent = λ p. absurd (true≢false (sym is ∙ p.no_terminal)) }
+
+-- Bytes were written after others.
+pub tells_then : {a b c : Report} {s t u : Stream} {x y : List ℕ} → Tells a b s t x → Tells b c t u y → Tells a c s u (x ++ y)
+tells_then h k = record { plain = λ p. k.plain (h.plain p); sent = λ p. sends_then (h.sent p) (k.sent (h.plain p)) }
+
+-- A message was written after nothing.
+pub fault_then : {a b c : Report} {s t u : Stream} (name : List ℕ) → Tells a b s t [] → TellsFault name b c t u → TellsFault name a c s u
+fault_then name h k = record { message = k.message; is_of = k.is_of; tells = tells_then h k.tells }
+
+-- Bytes were written once the number of files was removed.
+pub cleared_tells : {a b : Report} {s t u : Stream} {x : List ℕ} → b.is_terminal ≡ a.is_terminal → b.is_shown ≡ false → (a.is_shown ≡ false → t ≡ s) → Sends t u x → Tells a b s u x
+cleared_tells {u = u} {x = x} same hidden unshown h = record {
+  plain = λ p. record { no_terminal = same ∙ p.no_terminal; unshown = hidden };
+  sent = λ p. subst (λ (z : Stream). Sends z u x) (unshown p.unshown) h;
+}
+
+-- The line of a fault, from its parts.
+pub fault_told : {a b : Report} {s t : Stream} (name text : List ℕ) → Tells a b s t (line_of (name ++ (codes ": " ++ (text ++ [])))) → TellsFault name a b s t
+fault_told name text h = record { message = line_of (name ++ (codes ": " ++ (text ++ []))); is_of = of_file text (ap line_of joined); tells = h }
+  where
+    joined : name ++ (codes ": " ++ (text ++ [])) ≡ (name ++ codes ": ") ++ text
+    joined = simp (append_assoc, append-nil)
+
+-- The line of a fault with a reason, from its parts.
+pub reason_told : {a b : Report} {s t : Stream} (name text reason : List ℕ) → Tells a b s t (line_of (name ++ (codes ": " ++ (text ++ (codes ": " ++ (reason ++ [])))))) → TellsFault name a b s t
+reason_told name text reason h = record {
+  message = line_of (name ++ (codes ": " ++ (text ++ (codes ": " ++ (reason ++ [])))));
+  is_of = of_file (text ++ (codes ": " ++ reason)) (ap line_of joined);
+  tells = h;
+}
+  where
+    joined : name ++ (codes ": " ++ (text ++ (codes ": " ++ (reason ++ [])))) ≡ (name ++ codes ": ") ++ (text ++ (codes ": " ++ reason))
+    joined = simp (append_assoc, append-nil)
+
+-- The message of a fault of a text.
+pub text_told : {a b : Report} {s t : Stream} (name : List ℕ) (f : RunFault) → Tells a b s t (fault_message name f) → TellsFault name a b s t
+text_told name f h = record { message = fault_message name f; is_of = of_text f refl; tells = h }
+
+-- The message of a file, if it is faulty, was written.
+pub record ToldOf (name : List ℕ) (faulty : Bool) (old new : Report) (err err' : Stream) : Type 0 where
+  pub told : List ℕ
+  pub is_told : IsTold name faulty told
+  pub tells : Tells old new err err' told
+
+pub told_if : {a b : Report} {s t : Stream} (name : List ℕ) (faulty : Bool) → TellsIf name faulty a b s t → ToldOf name faulty a b s t
+told_if name true h = record { told = h.message; is_told = h.is_of; tells = h.tells }
+told_if name false h = record { told = []; is_told = refl; tells = h }
+
+-- This number of messages was written.
+pub record ToldEach (name : List ℕ) (count : ℕ) (old new : Report) (err err' : Stream) : Type 0 where
+  pub messages : List (List ℕ)
+  pub each : All (IsFaultOf name) messages
+  pub number : length messages ≡ count
+  pub tells : Tells old new err err' (flat_map (λ m. m) messages)
+
+pub told_each : {a b : Report} {s t : Stream} (name : List ℕ) (faulty : Bool) → TellsIf name faulty a b s t → ToldEach name (cond faulty 1 0) a b s t
+told_each {a = a} {b = b} {s = s} {t = t} name true h = record {
+  messages = h.message ∷ [];
+  each = All-push (IsFaultOf name) [] h.message (All-nil (IsFaultOf name)) h.is_of;
+  number = refl;
+  tells = subst (λ (x : List ℕ). Tells a b s t x) (sym (append-nil h.message)) h.tells;
+}
+told_each name false h = record { messages = []; each = All-nil (IsFaultOf name); number = refl; tells = h }
+
+-- Messages were written after others.
+pub told_both : {a b c : Report} {s t u : Stream} {m n : ℕ} (name : List ℕ) → ToldEach name m a b s t → ToldEach name n b c t u → ToldEach name (m + n) a c s u
+told_both {a = a} {c = c} {s = s} {u = u} {m = m} name h k = record {
+  messages = h.messages ++ k.messages;
+  each = All-append (IsFaultOf name) h.messages k.messages h.each k.each;
+  number = length-append h.messages k.messages ∙ ap (λ x. x + length k.messages) h.number ∙ ap (λ x. m + x) k.number;
+  tells = subst (λ (x : List ℕ). Tells a c s u x) (sym (flat_map-append (λ (m : List ℕ). m) h.messages k.messages)) (tells_then h.tells k.tells);
+}
