@@ -4,7 +4,7 @@
 --   DoesOne args tag name old new result       what the arguments ask for is done with a file
 --   Ends args tag old names new shown told last status   all files are processed, with this status
 --   DoesAll task job files before report after report' counts   a task is done with all files
---   ListsAll                                   the same for the listing of names
+--   ListsAll, DoesJob                          the same for the names, and for what a job asks
 --   EndsWriting job before files after status  all files are processed, and all was written
 --   IsRun args tag old new shown told last status   a whole run
 --   Run, IsRunOf run                           its arguments, calls, output and status
@@ -83,6 +83,10 @@ pub record Ends (args : Arguments) (tag : List ℕ) (old : List Call) (names : L
 -- `ListsAll job files before report after report' counts`: the names of each file were listed.
 abbrev pub ListsAll : Job → List Found → Moment → Report → Moment → Report → Counts → Type 0
 ListsAll = DoesAll Names
+
+-- `DoesJob job files before report after report' counts`: the task of the job was done.
+abbrev pub DoesJob : Job → List Found → Moment → Report → Moment → Report → Counts → Type 0
+DoesJob job = DoesAll job.arguments.now.task job
 
 -- `EndsWriting job before files after status`: all files are processed, what is shown was
 -- written, and the last lines were. If the error stream is no terminal, all of `told` was written.

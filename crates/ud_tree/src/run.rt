@@ -6,7 +6,7 @@ ghost use Rattle.ud_tree.specs.Messages.{TellsIf};
 ghost use Rattle.ud_tree.specs.Statuses.{tree_status};
 ghost use Rattle.ud_tree.specs.Streams.{Sends, stream_of};
 ghost use Rattle.ud_tree.specs.Summaries.{Says, TellsEnd, remaining_line, remaining_text, summary};
-ghost use Rattle.ud_tree.specs.TreeRuns.{DoesAll, EndsWriting, RunsTree};
+ghost use Rattle.ud_tree.specs.TreeRuns.{DoesJob, EndsWriting, RunsTree};
 ghost use Rattle.ud_tree.specs.Walks.{Finds, IsWalk, WalksOnly};
 ghost use Rattle.ud_tree.specs.Writing.{WritesList, moment};
 
@@ -191,7 +191,7 @@ fn process_files<T: Tree, W: Write, E: Write>(
     report: &mut Report,
     err: &mut Watched<E>,
 ) -> Counts
-    ensures { DoesAll job.now.arguments.now.task job.now files.now
+    ensures { DoesJob job.now files.now
         (moment T.history W.contents E.contents tree.old out.old err.old) report.old
         (moment T.history W.contents E.contents tree.new out.new err.new) report.new result }
 {
