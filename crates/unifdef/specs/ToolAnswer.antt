@@ -3,6 +3,7 @@
 --   Reports call message     the message was appended to the error stream
 --   Answers call a           output, message and status are those of `a`
 --   AnswersSpec call input   they are those of the definitions' answer
+--   ReportsOrAnswers call message   the message was reported, or that answer was given
 --   FailsForMemory call      memory for a symbol couldn't be allocated
 --   RefusesArgs call fault   the arguments' fault was reported, and nothing else was done
 --   RefusesFaultyArgs call   the same, if the arguments have a fault
@@ -35,6 +36,11 @@ module _ {R W : Type 0} where
   -- definitions give to the arguments and `input`.
   abbrev pub AnswersSpec : Call R W → List ℕ → Type 0
   AnswersSpec call input = (a : Answer) × IsAnswer call.args input a × Answers call a
+
+  -- `ReportsOrAnswers call message`: `message` was reported, or the definitions' answer was given.
+  abbrev pub ReportsOrAnswers : Call R W → List ℕ → Type 0
+  ReportsOrAnswers call message =
+      IfSome call.input (λ input. Reports call message ⊎ AnswersSpec call input)
 
   -- `FailsForMemory call`: memory for a symbol of the arguments couldn't be allocated, and that was
   -- reported. Nothing was read, and nothing was done with the output.

@@ -1,11 +1,11 @@
 //! Laws: functions without a body whose contracts are theorems. They say what follows from the
 //! contract of `tool`.
 
-ghost use Rattle.std.specs.Prelude.{◌≡◌, ◌⊎◌, true, false, IfSome};
+ghost use Rattle.std.specs.Prelude.{◌≡◌, true, false};
 ghost use Rattle.ud_model.specs.answer.CommandLine.{display_name};
 ghost use Rattle.ud_model.specs.answer.Messages.{read_error, write_error};
 ghost use Rattle.unifdef.specs.ToolCall.{Call};
-ghost use Rattle.unifdef.specs.ToolAnswer.{AnswersSpec, Reports};
+ghost use Rattle.unifdef.specs.ToolAnswer.{Reports, ReportsOrAnswers};
 ghost use Rattle.unifdef.specs.ToolEnded.{CallEnds};
 
 /// A call of `tool` after which a stream has failed has status 2 and says so.
@@ -20,6 +20,6 @@ pub fn law_failed_streams<R, W>()
     ensures read_message { (call : Call R W) → CallEnds call → call.new_reader.failed ≡ true →
         Reports call (read_error (display_name call.args)) }
     ensures write_message { (call : Call R W) → CallEnds call → call.new_out.failed ≡ true →
-        call.new_reader.failed ≡ false → IfSome call.input (λ input.
-        Reports call (write_error (display_name call.args)) ⊎ AnswersSpec call input) }
+        call.new_reader.failed ≡ false →
+        ReportsOrAnswers call (write_error (display_name call.args)) }
 {}
