@@ -88,7 +88,7 @@ int unifdef_text(const char *words, size_t words_len,
  *
  * A stream is closed if state is null, and it has to be null before the first call. Only the calls
  * below may change it. A copy of the struct may take its place, if the first one isn't used again.
- * A stream may be used by one thread at a time.
+ * A stream may be used by one thread at a time, and may go from one to another.
  */
 struct unifdef_stream {
     void *state;

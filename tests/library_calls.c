@@ -264,6 +264,26 @@ static void stream_growth(void) {
     unifdef_close(&stream);
 }
 
+static void *feeder(void *stream) {
+    return unifdef_feed(stream, TEXT, sizeof TEXT - 1) == 0 ? stream : NULL;
+}
+
+/* A stream is opened by one thread, fed by another, and ended by the first. */
+static void stream_moves(void) {
+    struct unifdef_stream stream = UNIFDEF_STREAM_INIT;
+    pthread_t other;
+    void *held;
+    char output[9];
+    size_t size, pending;
+    check("moves: open", unifdef_open(&stream, "-DA", 3) == 0);
+    if (pthread_create(&other, NULL, feeder, &stream) != 0) exit(1);
+    pthread_join(other, &held);
+    check("moves: feed", held != NULL);
+    check("moves: finish", unifdef_finish(&stream, NULL, 0, &size) == 1);
+    check("moves: take", unifdef_take(&stream, output, 9, &pending) == 2 && memcmp(output, "x\n", 2) == 0);
+    unifdef_close(&stream);
+}
+
 static void *many(void *number) {
     char words[8], out[64];
     struct unifdef_sizes sizes;
@@ -309,6 +329,7 @@ int main(void) {
     streams();
     stream_memory();
     stream_growth();
+    stream_moves();
     threads();
     printf("library: %d calls right, %d wrong\n", right, wrong);
     return wrong != 0;

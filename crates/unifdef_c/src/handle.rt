@@ -69,3 +69,6 @@ impl Drop for Handle {
         }
     }
 }
+
+// Its stream and its memory may be used and freed by any thread.
+unsafe impl Send for Handle {}
