@@ -28,7 +28,7 @@ pub fn law_stream_answers()
     ensures answers { (args : List (List ℕ)) (text given : List ℕ) (s t : Stream)
         (r : Result Bool RunFault) → GoesOn args text given s → EndsStream s t r →
         ¬ (r ≡ Err Write) → IsAnswerOf args text given t r }
-    ensures stopped { (args : List (List ℕ)) (text given later : List ℕ) (s t : Stream)
+    ensures stopped { (args : List (List ℕ)) (text given end : List ℕ) (s t : Stream)
         (f : RunFault) (r : Result Bool RunFault) → HasStopped args text given s f →
-        EndsStream s t r → IsAnswerOf args (text ++ later) given t r }
+        EndsStream s t r → IsAnswerOf args (text ++ end) given t r }
 {}
