@@ -91,13 +91,7 @@ fn failed(
         Err(_) => b"stdin".as_slice(),
     };
     let mut message = Vec::new(alloc);
-    for part in [
-        b"unifdef: ".as_slice(),
-        name,
-        b": ",
-        error,
-        b"\n",
-    ] {
+    for part in [b"unifdef: ".as_slice(), name, b": ", error, b"\n"] {
         message.extend_from_slice(part)?;
     }
     Ok(Answer {

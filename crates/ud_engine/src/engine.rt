@@ -279,10 +279,7 @@ impl<P: PlanSource, S: Show, H: LineBuffer> EngineOf<P, S, H> {
     ///
     /// # Errors
     /// As `finish`.
-    pub fn finish_in_place<W: Write>(
-        &mut self,
-        out: &mut Watched<W>,
-    ) -> Result<bool, RunFault>
+    pub fn finish_in_place<W: Write>(&mut self, out: &mut Watched<W>) -> Result<bool, RunFault>
         requires { self.old.fault ≡ None → out.old.failed ≡ false }
         ensures finishes { (s : Session) → IsInSession S.represents S.piece self.old s →
             Finishes s out.new.failed (W.contents out.old.inner) (W.contents out.new.inner) result }

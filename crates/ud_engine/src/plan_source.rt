@@ -39,10 +39,10 @@ impl<'p> PlanSource for &'p Plan {
     ghost plan = { λ p. p.now };
 
     fn settings(&self) -> Settings {
-        Plan::settings(self)
+        Plan::settings(*self)
     }
 
     fn symbols(&self) -> &Symbols {
-        Plan::symbols(self)
+        Plan::symbols(*self)
     }
 }
