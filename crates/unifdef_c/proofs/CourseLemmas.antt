@@ -113,21 +113,63 @@ module _ (args : List (List ℕ)) (text given chunk : List ℕ) (s t : Stream) w
   stops _ g (has_ended r some same) k = cc
 
 -- what is taken moves from what is pending
-pub takes : (args : List (List ℕ)) (text given buffer buffer' : List ℕ) (n : ℕ) (s t : Stream) → GoesOn args text given s → TakesStream s t buffer buffer' n →
-    GoesOn args text (given ++ take n (pending s)) t
-takes args text given buffer buffer' n s t g w = record {
-  of = record {
-    right = g.of.right;
-    named = ap (λ x. x.name.items) w.rest ∙ g.of.named;
-    set = ap (λ x. x.settings) w.rest ∙ g.of.set;
-    goes_on = ap (λ x. x.ended) w.rest ∙ g.of.goes_on;
-    works = w.failed ∙ g.of.works;
-    within = w.within g.of.within;
-  };
-  fed = subst (λ (x : List ℕ). InSession t (session (options_of args) text x))
-      (sym (append_assoc given (take n (pending s)) (pending t) ∙ ap (λ x. given ++ x) (ap (λ x. take n (pending s) ++ x) w.left ∙ take-append-drop n (pending s))))
-      (subst (λ e. IsInSession printer_represents printer_piece e (session (options_of args) text (given ++ pending s))) (sym (ap (λ x. x.engine) w.rest)) g.fed);
-}
+moved : (given buffer buffer' : List ℕ) (n : ℕ) (s t : Stream) → TakesStream s t buffer buffer' n →
+    given ++ pending s ≡ (given ++ take n (pending s)) ++ pending t
+moved given buffer buffer' n s t w =
+    sym (append_assoc given (take n (pending s)) (pending t)
+    ∙ ap (λ x. given ++ x)
+    (ap (λ x. take n (pending s) ++ x) w.left ∙ take-append-drop n (pending s)))
+
+module _ (args : List (List ℕ)) (text given buffer buffer' : List ℕ) (n : ℕ) (s t : Stream)
+    (w : TakesStream s t buffer buffer' n) where
+  -- the stream is of the same arguments
+  still_of : IsOf args s → IsOf args t
+  still_of o = record {
+    right = o.right;
+    named = ap (λ x. x.name.items) w.rest ∙ o.named;
+    set = ap (λ x. x.settings) w.rest ∙ o.set;
+    goes_on = ap (λ x. x.ended) w.rest ∙ o.goes_on;
+    works = w.failed ∙ o.works;
+    within = w.within o.within;
+  }
+
+  pub takes : GoesOn args text given s → GoesOn args text (given ++ take n (pending s)) t
+  takes g = record {
+    of = still_of g.of;
+    fed = subst (λ (x : List ℕ). InSession t (session (options_of args) text x))
+        (moved given buffer buffer' n s t w)
+        (subst (λ e. IsInSession printer_represents printer_piece e
+        (session (options_of args) text (given ++ pending s)))
+        (sym (ap (λ x. x.engine) w.rest)) g.fed);
+  }
+
+  pub stopped_takes : (f : RunFault) → HasStopped args text given s f →
+      HasStopped args text (given ++ take n (pending s)) t f
+  stopped_takes f h = record {
+    of = still_of h.of;
+    recorded = ap (λ x. x.engine.fault) w.rest ∙ h.recorded;
+    answers = λ later. subst (λ (x : List ℕ). RunAnswers (options_of args) (text ++ later) (Some [])
+        (Some x) (Err f)) (moved given buffer buffer' n s t w) (h.answers later);
+  }
+
+  pub ended_takes : (r : Result Bool RunFault) → IsAnswerOf args text given s r →
+      IsAnswerOf args text (given ++ take n (pending s)) t r
+  ended_takes r a =
+      subst (λ (x : List ℕ). IsAnswer args text (record {
+        output = x;
+        message = result_message t.name.items r;
+        status = result_status t.settings r;
+      })) (moved given buffer buffer' n s t w)
+      (subst (λ (x : List ℕ). IsAnswer args text (record {
+        output = given ++ pending s;
+        message = result_message x r;
+        status = result_status t.settings r;
+      })) (sym (ap (λ x. x.name.items) w.rest))
+      (subst (λ (x : Settings). IsAnswer args text (record {
+        output = given ++ pending s;
+        message = result_message s.name.items r;
+        status = result_status x r;
+      })) (sym (ap (λ x. x.settings) w.rest)) a))
 
 -- the outcome of a run is the answer
 is_answer : (args : List (List ℕ)) (input out : List ℕ) (r : Result Bool RunFault) → usage_fault args ≡ None → RunAnswers (options_of args) input (Some []) (Some out) r →
@@ -226,3 +268,17 @@ module _ (args : List (List ℕ)) (text given : List ℕ) (s t : Stream) where
   pub stopped : (later : List ℕ) (f : RunFault) (r : Result Bool RunFault) → HasStopped args text given s f → EndsStream s t r → IsAnswerOf args (text ++ later) given t r
   stopped later f r h (inl w) = stopped_by later f r h w.1
   stopped later f r h (inr w) = absurd (none-some r (sym h.of.goes_on ∙ w.0))
+
+  -- a chunk after a fault changes nothing
+  pub stopped_feeds : (chunk : List ℕ) (fed : Fed) (f : RunFault) → HasStopped args text given s f →
+      FeedsStream s t chunk fed → HasStopped args text given t f
+  stopped_feeds chunk _ f h (by_engine r none works e) =
+      let w = at_fault (λ g. (r ≡ Err g) × (t.engine ≡ s.engine) × (t.output ≡ s.output))
+      s.engine.fault f h.recorded e.fused in
+      let same : t ≡ s =
+      e.rest ∙ ap₂ (λ x y. record s { engine = x; output = y }) w.1 w.2 in
+      subst (λ (x : Stream). HasStopped args text given x f) (sym same) h
+  stopped_feeds chunk _ f h (has_failed none fails same) =
+      subst (λ (x : Stream). HasStopped args text given x f) (sym same) h
+  stopped_feeds chunk _ f h (has_ended r some same) =
+      subst (λ (x : Stream). HasStopped args text given x f) (sym same) h

@@ -3,15 +3,16 @@
 --   IsOf args s                   the stream belongs to these arguments, and its text goes on
 --   GoesOn args text given s      it was fed `text`, without a fault, and `given` was taken
 --   HasStopped args text given s f   it was fed `text`, which has the fault `f`
+--   TakesOn given s more t        a part of what was pending was taken
 --   IsAnswerOf args text given t r   what was taken and is pending is the answer's output
 use Rattle.std.specs.Prelude.{◌≡◌, ◌≤◌, ℕ, List, [], ◌++◌, length, Bool, false, None, Some, Result}
-use Rattle.std.specs.Prelude.{Err}
+use Rattle.std.specs.Prelude.{Err, take}
 use Rattle.ud_model.specs.answer.CommandLine.{usage_fault, options_of, display_name}
 use Rattle.ud_model.specs.answer.Answer.{IsAnswer}
 use Rattle.ud_faults.specs.declared.run.RunFault.{RunFault}
 use Rattle.ud_engine.specs.Finishing.{RunAnswers}
 use Rattle.ud_diagnostics.specs.RunMessages.{result_message, result_status}
-use Rattle.unifdef_c.specs.Streams.{InSession, session, pending, output_of}
+use Rattle.unifdef_c.specs.Streams.{InSession, TakesStream, session, pending, output_of}
 use Rattle.unifdef_c.specs.declared.stream.Stream.{Stream}
 
 -- `IsOf args s`: `s` is a stream of these arguments, which have no fault. Its text hasn't ended,
@@ -38,6 +39,15 @@ pub record HasStopped (args : List (List ℕ)) (text given : List ℕ) (s : Stre
   pub recorded : s.engine.fault ≡ Some f
   pub answers : (later : List ℕ) → RunAnswers (options_of args) (text ++ later) (Some [])
       (Some (given ++ pending s)) (Err f)
+
+-- `TakesOn given s more t`: a part of the pending output of `s` was taken, which is `t` then.
+-- `given` was taken before, and `more` with this part.
+pub record TakesOn (given : List ℕ) (s : Stream) (more : List ℕ) (t : Stream) : Type 0 where
+  pub buffer : List ℕ
+  pub buffer' : List ℕ
+  pub count : ℕ
+  pub takes : TakesStream s t buffer buffer' count
+  pub more_is : more ≡ given ++ take count (pending s)
 
 -- `IsAnswerOf args text given t r`: what was taken and is pending, with the message and the status
 -- of the result `r`, is the one answer of the definitions to these arguments and this text.

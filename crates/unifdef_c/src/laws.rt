@@ -1,12 +1,11 @@
 //! Laws: functions without a body whose contracts are theorems. They say what follows from the
 //! contracts of the calls for a stream.
 
-ghost use Rattle.std.specs.Prelude.{◌≡◌, ◌++◌, [], ℕ, List, Bool, Result, Err, take};
+ghost use Rattle.std.specs.Prelude.{◌≡◌, ◌++◌, [], ℕ, List, Bool, Result, Err};
 ghost use Rattle.ud_faults.specs.declared.run.RunFault.{RunFault};
 ghost use Rattle.ud_faults.specs.declared.run.RunFault.TheVariants.{Write};
-ghost use Rattle.unifdef_c.specs.Streams.{BeginsStream, FeedsStream, TakesStream, EndsStream};
-ghost use Rattle.unifdef_c.specs.Streams.{pending};
-ghost use Rattle.unifdef_c.specs.StreamCourses.{GoesOn, HasStopped, IsAnswerOf};
+ghost use Rattle.unifdef_c.specs.Streams.{BeginsStream, FeedsStream, EndsStream};
+ghost use Rattle.unifdef_c.specs.StreamCourses.{GoesOn, HasStopped, IsAnswerOf, TakesOn};
 ghost use Rattle.unifdef_c.specs.declared.stream.Stream.{Stream};
 ghost use Rattle.unifdef_c.specs.declared.stream.Fed.{Fed};
 ghost use Rattle.unifdef_c.specs.declared.stream.Fed.TheVariants as is;
@@ -22,13 +21,23 @@ pub fn law_stream_answers()
     ensures stops { (args : List (List ℕ)) (text given chunk : List ℕ) (s t : Stream) →
         GoesOn args text given s → FeedsStream s t chunk is.Faulty →
         (f : RunFault) × HasStopped args (text ++ chunk) given t f }
-    ensures takes { (args : List (List ℕ)) (text given old new : List ℕ) (n : ℕ) (s t : Stream) →
-        GoesOn args text given s → TakesStream s t old new n →
-        GoesOn args text (given ++ take n (pending s)) t }
+    ensures takes { (args : List (List ℕ)) (text given more : List ℕ) (s t : Stream) →
+        GoesOn args text given s → TakesOn given s more t → GoesOn args text more t }
     ensures answers { (args : List (List ℕ)) (text given : List ℕ) (s t : Stream)
         (r : Result Bool RunFault) → GoesOn args text given s → EndsStream s t r →
         ¬ (r ≡ Err Write) → IsAnswerOf args text given t r }
+    // After a fault, more may be fed and taken before the end.
+    ensures stopped_feeds { (args : List (List ℕ)) (text given chunk : List ℕ) (s t : Stream)
+        (f : RunFault) (fed : Fed) → HasStopped args text given s f → FeedsStream s t chunk fed →
+        HasStopped args text given t f }
+    ensures stopped_takes { (args : List (List ℕ)) (text given more : List ℕ) (s t : Stream)
+        (f : RunFault) → HasStopped args text given s f → TakesOn given s more t →
+        HasStopped args text more t f }
     ensures stopped { (args : List (List ℕ)) (text given end : List ℕ) (s t : Stream)
         (f : RunFault) (r : Result Bool RunFault) → HasStopped args text given s f →
         EndsStream s t r → IsAnswerOf args (text ++ end) given t r }
+    // After the end, the rest of the output is taken.
+    ensures ended_takes { (args : List (List ℕ)) (text given more : List ℕ) (s t : Stream)
+        (r : Result Bool RunFault) → IsAnswerOf args text given s r → TakesOn given s more t →
+        IsAnswerOf args text more t r }
 {}
