@@ -108,14 +108,14 @@ struct unifdef_stream {
 int unifdef_open(struct unifdef_stream *stream, const char *words, size_t words_len);
 
 /*
- * Processes the next chunk of the text. A chunk may end anywhere, even in a line. The output for all
- * lines that end in the chunk can be taken then. The line that it begins is kept, of at most
+ * Processes the next chunk of the text. A chunk may end anywhere, even in a line. The output for
+ * all lines that end in the chunk can be taken then. The line that it begins is kept, of at most
  * UNIFDEF_LINE_BYTES bytes.
  *
  * Returns 0, or one of these:
  *
- *   UNIFDEF_TROUBLE      the text has a fault. The output for what comes before it can be taken, and
- *                        unifdef_finish says which fault it is
+ *   UNIFDEF_TROUBLE      the text has a fault. The output for what comes before it can be taken,
+ *                        and unifdef_finish says which fault it is
  *   UNIFDEF_NO_MEMORY    memory for the output was refused. Only a part of the output can be taken
  *   UNIFDEF_CLOSED       the stream is closed, or the text has ended
  *
@@ -125,7 +125,8 @@ int unifdef_feed(struct unifdef_stream *stream, const char *text, size_t text_le
 
 /*
  * Writes the output that comes next to output, as much as fits. It isn't ended by a zero byte. How
- * much is left is written to pending, which may not be null. Nothing is lost: the next call goes on.
+ * much is left is written to pending, which may not be null. Nothing is lost: the next call goes
+ * on.
  *
  * Returns how many bytes were written: 0 if none are left, or if the stream is closed.
  */

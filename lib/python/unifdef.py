@@ -4,9 +4,9 @@
     >>> unifdef.run(b"#ifdef A\\nx\\n#else\\ny\\n#endif\\n", "-DA").output
     b'x\\n'
 
-`python3 -m unifdef` runs these examples. The library is the file that the environment's UNIFDEF_LIBRARY
-names, or the installed one. Only a `Stream` keeps anything, so any number of threads may call at once,
-each with streams of its own: the interpreter's lock isn't held meanwhile.
+`python3 -m unifdef` runs these examples. The library is the file that the environment's
+UNIFDEF_LIBRARY names, or the installed one. Only a `Stream` keeps anything, so any number of
+threads may call at once, each with streams of its own: the interpreter's lock isn't held meanwhile.
 """
 
 from __future__ import annotations
@@ -16,7 +16,9 @@ import os
 from types import TracebackType
 from typing import Iterable, Iterator, NamedTuple, Optional, Union
 
-__all__ = ["Answer", "Stream", "Trouble", "condition", "names", "run", "strip", "strip_chunks", "version"]
+__all__ = [
+    "Answer", "Stream", "Trouble", "condition", "names", "run", "strip", "strip_chunks", "version",
+]
 
 TROUBLE = 2
 TOO_SMALL = 3
@@ -183,7 +185,9 @@ class Stream:
 
 
 def strip_chunks(chunks: Iterable[bytes], *arguments: Union[str, bytes]) -> Iterator[bytes]:
-    """Yields the output for a text in chunks, as it comes. Raises `Trouble` at the end of a faulty one.
+    """Yields the output for a text in chunks, as it comes.
+
+    Raises `Trouble` at the end of a text with a fault.
 
     >>> b"".join(strip_chunks([b"#ifdef A\\n", b"x\\n#endif", b"\\ny\\n"], "-UA"))
     b'y\\n'
