@@ -43,8 +43,10 @@ SECONDS = {
 }
 OTHER = 60
 
-# The memory in bytes that must be free before a crate starts beside another one.
+# The memory in bytes that must be free before a crate starts beside another one, and before a check
+# is split among all processors.
 FREE = 6_000_000_000
+FREE_FOR_ALL = 10_000_000_000
 
 
 def libraries():
@@ -133,13 +135,14 @@ class Room:
 class Run:
     """The check of one crate, from its start to its end."""
 
-    def __init__(self, crate, below):
+    def __init__(self, crate, below, jobs):
         self.crate, self.begin = crate, time.monotonic()
         self.log = tempfile.TemporaryFile()
         self.room = Room(crate, below)
         folder = self.room.folder
         # `rt run` proves and builds before it runs. The words of the stored run give status 0.
-        verb = ["run", "--", *words_of(folder)] if os.path.exists(f"{folder}/src/main.rt") else ["lib"]
+        is_program = os.path.exists(f"{folder}/src/main.rt")
+        verb = ["run", *jobs, "--", *words_of(folder)] if is_program else ["lib", *jobs]
         self.process = subprocess.Popen(
             [RT, *verb],
             cwd=folder,
@@ -179,8 +182,9 @@ class Build:
         for it in reversed(self.left):
             above = [self.chain[up] for up in self.chain if it in self.used[up]]
             self.chain[it] = SECONDS.get(it, OTHER) + max(above, default=0)
-        # A check alone keeps two processors busy for most of its time.
-        self.most = max(len(os.sched_getaffinity(0)) // 2, 1)
+        # A check keeps two processors busy for most of its time.
+        self.processors = len(os.sched_getaffinity(0))
+        self.most = max(self.processors // 2, 1)
         self.begin = time.monotonic()
         self.is_terminal = sys.stderr.isatty()
 
@@ -195,8 +199,17 @@ class Build:
             if self.running and (len(self.running) >= self.most or free_memory() < FREE):
                 return
             self.left.remove(crate)
-            self.running.append(Run(crate, at_or_below(crate, self.used)[:-1]))
+            jobs = self.jobs_of(crate)
+            self.running.append(Run(crate, at_or_below(crate, self.used)[:-1], jobs))
             self.say(f"{crate} is being proved")
+
+    def jobs_of(self, crate):
+        """Returns the words that give a check all processors, if all that is left waits for it.
+        Without them Rattle's command takes two."""
+        waits = all(crate in at_or_below(it, self.used) for it in self.left)
+        if not waits or self.processors <= 2 or free_memory() < FREE_FOR_ALL:
+            return []
+        return ["--jobs", str(self.processors)]
 
     def estimate(self):
         """Returns in how many seconds all is done, roughly."""
