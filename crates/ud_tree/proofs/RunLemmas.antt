@@ -1,5 +1,5 @@
 -- One file more of a run.
-use Rattle.std.proofs.Common.{◌≡◌, ℕ, ◌+◌, ◌<◌, ◌≤◌, List, [], ◌∷◌, ◌++◌, length, get_or, take, cond, refl, flat_map, sym, ap, ◌∙◌, subst, append-nil, codes, Bool, true, false, Result, min, ◌-◌, ◌^◌, arith}
+use Rattle.std.proofs.Common.{◌≡◌, ℕ, ◌+◌, ◌<◌, ◌≤◌, List, [], ◌∷◌, ◌++◌, length, get_or, take, cond, refl, flat_map, sym, ap, ◌∙◌, subst, append-nil, Bool, true, false, Result, min, ◌-◌, ◌^◌, arith}
 use mir.Val.{bool_byte}
 use Rattle.std.proofs.lemmas.List.{take_more, take_all, map-append}
 use Rattle.std.proofs.lemmas.List.Sums.{sum_by_push}
@@ -20,9 +20,9 @@ use Rattle.ud_tree.specs.Statuses.{tree_status}
 use Rattle.ud_tree.specs.Streams.{Stream, Sends}
 use Rattle.ud_tree.specs.declared.job.Job.{Job}
 use Rattle.ud_tree.specs.declared.report.Report.{Report}
-use Rattle.ud_tree.specs.Messages.{IsTold, IsPlain, Tells, TellsResult}
+use Rattle.ud_tree.specs.Messages.{IsTold, IsPlain, Tells, TellsResult, TellsIf, list_fault, write_fault, output_faults}
 use Rattle.ud_tree.specs.Summaries.{last_lines, TellsEnd}
-use Rattle.ud_tree.proofs.MessageLemmas.{tells_kept, tells_then, ToldEach, told_both}
+use Rattle.ud_tree.proofs.MessageLemmas.{tells_kept, tells_then, tells_same, output_told, output_count}
 use Rattle.ud_tree.specs.Walks.{IsWalk, WalksOnly}
 use Rattle.ud_tree.specs.Writing.{Moment, WritesOne, WritesAll, WritesList}
 use Rattle.ud_tree.specs.TreeRuns.{DoesBy, DoesOne, DoesJob, EndsWriting, no_run, ran, RunsTree}
@@ -144,17 +144,17 @@ writes_list args names rest none h k = record {
 }
 
 -- The run ends with the status of its counts.
-pub ends : (job : Job) (files : List Found) {old mid new : Moment} {listed listed_err : Stream} {r mid_report list_report end_report : Report} {counts : Counts} (in_walk m n faults hidden status : ℕ) →
+pub ends : (job : Job) (files : List Found) {old mid new : Moment} {listed listed_err : Stream} {r mid_report list_report end_report : Report} {counts : Counts} (lost unwritten : Bool) (in_walk faults hidden status : ℕ) →
     DoesJob job files old r mid mid_report counts → WritesList job.arguments.now mid.out listed →
-    ToldEach (codes "stdout") m mid_report list_report mid.err listed_err → Sends listed new.out [] →
-    (end : Stream) → ToldEach (codes "stdout") n list_report end_report listed_err end → TellsEnd job.arguments.now counts faults hidden end_report end new.err →
-    new.calls ≡ mid.calls → counts.faulty ≤ faults → (in_walk + (m + n) + counts.faulty < 2 ^ 64 → faults ≡ in_walk + (m + n) + counts.faulty) →
+    TellsIf list_fault lost mid_report list_report mid.err listed_err → Sends listed new.out [] →
+    (end : Stream) → TellsIf write_fault unwritten list_report end_report listed_err end → TellsEnd job.arguments.now counts faults hidden end_report end new.err →
+    new.calls ≡ mid.calls → counts.faulty ≤ faults → (in_walk + (cond lost 1 0 + cond unwritten 1 0) + counts.faulty < 2 ^ 64 → faults ≡ in_walk + (cond lost 1 0 + cond unwritten 1 0) + counts.faulty) →
     status ≡ tree_status job.arguments.now.task job.arguments.now.plan.settings.exit_mode faults counts.changed → (job.is_terminal ≡ false → IsPlain r) → EndsWriting job old files new status
-ends job files {old = old} {new = new} {counts = counts} in_walk m n faults hidden status w l t f end u e same few all is plain =
+ends job files {old = old} {new = new} {counts = counts} lost unwritten in_walk faults hidden status w l t f end u e same few all is plain =
     let h = w.counted in
     let args = job.arguments.now in
-    let both = told_both (codes "stdout") t u in
-    let of_output = flat_map (λ x. x) both.messages in
+    let of_output = flat_map (λ x. x) (output_faults lost unwritten) in
+    let both = tells_same (sym (output_told lost unwritten)) (tells_then t u) in
     let last = last_lines args counts.changed counts.unchanged faults hidden e.remaining in
     record {
       shown = w.shown ++ l.listed;
@@ -173,15 +173,17 @@ ends job files {old = old} {new = new} {counts = counts} in_walk m n faults hidd
         remaining = e.remaining;
         last_is = ap (λ (x : ℕ). last_lines args x counts.unchanged faults hidden e.remaining) h.counts_are.changed
             ∙ ap (λ (x : ℕ). last_lines args (changed_in h.results) x faults hidden e.remaining) h.counts_are.unchanged;
-        of_output = both.messages;
-        each_of_output = both.each;
+        of_output = output_faults lost unwritten;
+        is_lost = lost;
+        is_unwritten = unwritten;
+        of_output_is = refl;
         told_is = ap (λ (x : List ℕ). (x ++ of_output) ++ last) h.told_is;
         in_walk = in_walk;
-        faults_are = rw (both.number, ← h.counts_are.faulty) all;
+        faults_are = rw (output_count lost unwritten, ← h.counts_are.faulty) all;
       };
       sent = sends_same (append-nil (w.shown ++ l.listed)) (sends_then (sends_then w.sent l.sent) f);
       ended = e.told;
-      tells = λ p. let told = tells_then w.tells both.tells in let is_plain = plain p in sends_then (told.sent is_plain) (e.alone (told.plain is_plain).unshown);
+      tells = λ p. let told = tells_then w.tells both in let is_plain = plain p in sends_then (told.sent is_plain) (e.alone (told.plain is_plain).unshown);
     }
 
 -- The run made only calls of a walk.

@@ -4,17 +4,18 @@
 --   IsFailureOf name text message    that line, or the same with a reason
 --   IsMessageOf name e message       the message of the error of a file
 --   IsTold name update told          that message if the file has an error, and else nothing
---   IsFaultOf name message           the message of a fault of a path
+--   list_fault, write_fault          the lines with the faults of the output
+--   output_faults is_lost is_unwritten   those of them that a run has
 --   IsPlain r                        the error stream is no terminal
 --   Tells old new err err' bytes     `bytes` were written to such a stream
 --   TellsFailure name text old new err err'   the message of a failed call was
 --   TellsError name e old new err err'   the message of the error of a file was
---   TellsResult name update old new err err'   so it was, or nothing
---   TellsFault name old new err err'   the message of a fault of a path was
---   TellsIf name faulty old new err err'   so it was, or nothing
+--   TellsResult name update old new err err'   that was written, or nothing
+--   TellsIf message faulty old new err err'   a message was written, or nothing
 --
 -- `old` and `new` are the report before and after, `err` and `err'` the error stream.
-use Rattle.std.specs.Prelude.{◌≡◌, ℕ, List, [], ◌++◌, Bool, true, false, Result, Ok, Err, codes}
+use Rattle.std.specs.Prelude.{◌≡◌, ℕ, List, [], ◌∷◌, ◌++◌, Bool, false, Result, Ok, Err, codes}
+use Rattle.std.specs.Prelude.{if◌then◌else◌}
 use Rattle.ud_diagnostics.specs.RunMessages.{fault_message}
 use Rattle.ud_replace.specs.declared.error.Update.{Update}
 use Rattle.ud_replace.specs.declared.error.ReplaceError.{ReplaceError}
@@ -58,9 +59,19 @@ abbrev pub IsTold : List ℕ → Result Update ReplaceError → List ℕ → Typ
 IsTold name (Ok u) told = told ≡ []
 IsTold name (Err e) told = IsMessageOf name e told
 
--- `IsFaultOf name message`: `message` is a line with the path `name` and some text.
-pub data IsFaultOf (name message : List ℕ) : Type 0 where
-  of_file : (text : List ℕ) → message ≡ fault_line name text → IsFaultOf name message
+-- `list_fault`: the line if memory for a list couldn't be allocated.
+abbrev pub list_fault : List ℕ
+list_fault = fault_line (codes "stdout") (codes "Out of memory")
+
+-- `write_fault`: the line if the output couldn't be written.
+abbrev pub write_fault : List ℕ
+write_fault = fault_line (codes "stdout") (codes "Cannot be written")
+
+-- `output_faults is_lost is_unwritten`: the lines with the faults of the output, by whether memory
+-- for a list couldn't be allocated, and whether the output couldn't be written.
+abbrev pub output_faults : Bool → Bool → List (List ℕ)
+output_faults is_lost is_unwritten = (if is_lost then list_fault ∷ [] else []) ++
+    (if is_unwritten then write_fault ∷ [] else [])
 
 -- `IsPlain r`: the error stream is no terminal, and so shows no number of files.
 pub record IsPlain (r : Report) : Type 0 where
@@ -95,14 +106,7 @@ pub record TellsResult (name : List ℕ) (update : Result Update ReplaceError) (
   pub is_told : IsTold name update told
   pub tells : Tells old new err err' told
 
--- `TellsFault name old new err err'`: the message of a fault of the path `name` was written.
-pub record TellsFault (name : List ℕ) (old new : Report) (err err' : Stream) : Type 0 where
-  pub message : List ℕ
-  pub is_of : IsFaultOf name message
-  pub tells : Tells old new err err' message
-
--- `TellsIf name faulty old new err err'`: the message of a fault of `name` was written if `faulty`,
--- and else nothing.
+-- `TellsIf message faulty old new err err'`: `message` was written if `faulty`, and else nothing.
 abbrev pub TellsIf : List ℕ → Bool → Report → Report → Stream → Stream → Type 0
-TellsIf name true old new err err' = TellsFault name old new err err'
-TellsIf name false old new err err' = Tells old new err err' []
+TellsIf message faulty old new err err' =
+    Tells old new err err' (if faulty then message else [])

@@ -12,8 +12,8 @@
 -- `old` and `new` are the calls before and after, the newest first. `shown` is what is to be
 -- written to the output, `told` to the error stream after the walk, and `last` last.
 use Rattle.std.specs.Prelude.{◌≡◌, ℕ, ◌+◌, ◌≤◌, ◌<◌, ◌^◌, List, [], ◌++◌, length}
-use Rattle.std.specs.Prelude.{false, codes}
-use Rattle.std.specs.List.{All, flat_map}
+use Rattle.std.specs.Prelude.{Bool, false}
+use Rattle.std.specs.List.{flat_map}
 use Rattle.ud_replace.specs.Calls.{Call}
 use Rattle.ud_tree.specs.declared.arguments.Task.{Task}
 use Rattle.ud_tree.specs.declared.arguments.Task.TheVariants.{Replace, Diff, Names}
@@ -25,7 +25,7 @@ use Rattle.ud_tree.specs.declared.walk.Found.{Found}
 use Rattle.ud_tree.specs.Runs.{FileResult, Unshown, ReplacesOne, EachFile, shown_of, told_of}
 use Rattle.ud_tree.specs.Runs.{changed_in, same_in, faulty_in, names_of}
 use Rattle.ud_tree.specs.Shown.{ShowsOne, ListsOne}
-use Rattle.ud_tree.specs.Messages.{IsFaultOf}
+use Rattle.ud_tree.specs.Messages.{output_faults}
 use Rattle.ud_tree.specs.Streams.{Sends}
 use Rattle.ud_tree.specs.Summaries.{last_lines, EndsWith}
 use Rattle.ud_tree.specs.Writing.{Moment, WritesAll}
@@ -72,7 +72,9 @@ pub record Ends (args : Arguments) (tag : List ℕ) (old : List Call) (names : L
   pub last_is : last ≡ last_lines args (changed_in results) (same_in results) faults hidden
       remaining
   pub of_output : List (List ℕ)
-  pub each_of_output : All (IsFaultOf (codes "stdout")) of_output
+  pub is_lost : Bool
+  pub is_unwritten : Bool
+  pub of_output_is : of_output ≡ output_faults is_lost is_unwritten
   pub told_is : told ≡ told_of results ++ flat_map (λ m. m) of_output ++ last
   pub in_walk : ℕ
   pub faults_are : in_walk + length of_output + faulty_in results < 2 ^ 64 →

@@ -7,7 +7,7 @@
 ghost use Rattle.std.specs.Prelude.{◌≡◌, [], false, if◌then◌else◌};
 ghost use Rattle.std.specs.List.{flat_map};
 ghost use Rattle.ud_diagnostics.specs.RunMessages.{fault_message};
-ghost use Rattle.ud_tree.specs.Messages.{IsPlain, Tells, TellsFailure, TellsFault, fault_line};
+ghost use Rattle.ud_tree.specs.Messages.{IsPlain, Tells, TellsFailure, fault_line};
 ghost use Rattle.ud_tree.specs.Streams.{Sends, stream_of};
 ghost use Rattle.ud_tree.specs.Summaries.{Says, line_of};
 
@@ -160,8 +160,6 @@ impl Report {
     pub(crate) fn fault<E: Write>(&mut self, err: &mut Watched<E>, path: &[u8], text: &[u8])
         ensures says { Tells self.old self.new (stream_of E.contents err.old)
             (stream_of E.contents err.new) (fault_line path.now text.now) }
-        ensures told { TellsFault path.now self.old self.new (stream_of E.contents err.old)
-            (stream_of E.contents err.new) }
     {
         self.faulty = self.faulty.saturating_add(1);
         self.line(err, &[path, b": ", text]);
