@@ -1,14 +1,12 @@
 -- Messages that are written one after another.
-use Rattle.std.proofs.Common.{◌≡◌, ℕ, ◌+◌, List, [], ◌∷◌, ◌++◌, length, Bool, true, false, cond, refl, sym, ap, ◌∙◌, subst, true≢false, append_assoc, append-nil, codes, length-append}
-use Rattle.std.specs.List.{All, flat_map}
-use Rattle.std.proofs.lemmas.Grind.{flat_map-append}
-use Rattle.std.proofs.lemmas.List.Elements.{All-nil, All-push, All-append}
-use Rattle.ud_faults.specs.declared.run.RunFault.{RunFault}
-use Rattle.ud_diagnostics.specs.RunMessages.{fault_message}
+use Rattle.std.proofs.Common.{◌≡◌, ◌⊎◌, inl, inr, ℕ, ◌+◌, List, [], ◌++◌, length, Bool, true, false, cond, refl, sym, ap, ◌∙◌, subst, true≢false, append_assoc, append-nil, codes}
+use Rattle.std.specs.List.{flat_map}
+use Rattle.ud_replace.specs.declared.error.ReplaceError.{ReplaceError}
+use Rattle.ud_replace.specs.declared.error.ReplaceError.TheVariants.{ReadOnly, Write}
 use Rattle.ud_tree.specs.declared.report.Report.{Report}
 use Rattle.ud_tree.specs.Streams.{Stream, Sends}
 use Rattle.ud_tree.specs.Summaries.{line_of}
-use Rattle.ud_tree.specs.Messages.{IsFaultOf, of_file, of_text, IsTold, Tells, TellsFault, TellsIf}
+use Rattle.ud_tree.specs.Messages.{fault_line, IsFailureOf, no_reason, with_reason, IsMessageOf, list_fault, write_fault, output_faults, Tells, TellsFailure, TellsError}
 use Rattle.ud_tree.proofs.StreamLemmas.{sends_none, sends_then}
 
 -- The report changed in nothing that the error stream shows, and nothing was written.
@@ -23,10 +21,6 @@ tells_terminal x is = record { plain = λ p. absurd (true≢false (sym is ∙ p.
 pub tells_then : {a b c : Report} {s t u : Stream} {x y : List ℕ} → Tells a b s t x → Tells b c t u y → Tells a c s u (x ++ y)
 tells_then h k = record { plain = λ p. k.plain (h.plain p); sent = λ p. sends_then (h.sent p) (k.sent (h.plain p)) }
 
--- A message was written after nothing.
-pub fault_then : {a b c : Report} {s t u : Stream} (name : List ℕ) → Tells a b s t [] → TellsFault name b c t u → TellsFault name a c s u
-fault_then name h k = record { message = k.message; is_of = k.is_of; tells = tells_then h k.tells }
-
 -- Bytes were written once the number of files was removed.
 pub cleared_tells : {a b : Report} {s t u : Stream} {x : List ℕ} → b.is_terminal ≡ a.is_terminal → b.is_shown ≡ false → (a.is_shown ≡ false → t ≡ s) → Sends t u x → Tells a b s u x
 cleared_tells {u = u} {x = x} same hidden unshown h = record {
@@ -34,59 +28,63 @@ cleared_tells {u = u} {x = x} same hidden unshown h = record {
   sent = λ p. subst (λ (z : Stream). Sends z u x) (unshown p.unshown) h;
 }
 
+-- The message of a failed call was written after nothing.
+pub failure_then : {a b c : Report} {s t u : Stream} (name text : List ℕ) → Tells a b s t [] → TellsFailure name text b c t u → TellsFailure name text a c s u
+failure_then name text h k = record { message = k.message; is_of = k.is_of; tells = tells_then h k.tells }
+
+-- Equal bytes were written.
+pub tells_same : {a b : Report} {s t : Stream} {x y : List ℕ} → x ≡ y → Tells a b s t x → Tells a b s t y
+tells_same {a = a} {b = b} {s = s} {t = t} e h = subst (λ (z : List ℕ). Tells a b s t z) e h
+
 -- The line of a fault, from its parts.
-pub fault_told : {a b : Report} {s t : Stream} (name text : List ℕ) → Tells a b s t (line_of (name ++ (codes ": " ++ (text ++ [])))) → TellsFault name a b s t
-fault_told name text h = record { message = line_of (name ++ (codes ": " ++ (text ++ []))); is_of = of_file text (ap line_of joined); tells = h }
+pub fault_said : {a b : Report} {s t : Stream} (name text : List ℕ) → Tells a b s t (line_of (name ++ (codes ": " ++ (text ++ [])))) → Tells a b s t (fault_line name text)
+fault_said name text h = tells_same (ap line_of joined) h
   where
     joined : name ++ (codes ": " ++ (text ++ [])) ≡ (name ++ codes ": ") ++ text
     joined = simp (append_assoc, append-nil)
 
--- The line of a fault with a reason, from its parts.
-pub reason_told : {a b : Report} {s t : Stream} (name text reason : List ℕ) → Tells a b s t (line_of (name ++ (codes ": " ++ (text ++ (codes ": " ++ (reason ++ [])))))) → TellsFault name a b s t
+-- The line of a failed call without a reason was written.
+pub failure_told : {a b : Report} {s t : Stream} (name text : List ℕ) → Tells a b s t (fault_line name text) → TellsFailure name text a b s t
+failure_told name text h = record { message = fault_line name text; is_of = no_reason refl; tells = h }
+
+-- The line of a failed call with a reason, from its parts.
+pub reason_told : {a b : Report} {s t : Stream} (name text reason : List ℕ) → Tells a b s t (line_of (name ++ (codes ": " ++ (text ++ (codes ": " ++ (reason ++ [])))))) →
+    TellsFailure name text a b s t
 reason_told name text reason h = record {
   message = line_of (name ++ (codes ": " ++ (text ++ (codes ": " ++ (reason ++ [])))));
-  is_of = of_file (text ++ (codes ": " ++ reason)) (ap line_of joined);
+  is_of = with_reason reason (ap line_of joined);
   tells = h;
 }
   where
-    joined : name ++ (codes ": " ++ (text ++ (codes ": " ++ (reason ++ [])))) ≡ (name ++ codes ": ") ++ (text ++ (codes ": " ++ reason))
+    joined : name ++ (codes ": " ++ (text ++ (codes ": " ++ (reason ++ [])))) ≡ (name ++ codes ": ") ++ ((text ++ codes ": ") ++ reason)
     joined = simp (append_assoc, append-nil)
 
--- The message of a fault of a text.
-pub text_told : {a b : Report} {s t : Stream} (name : List ℕ) (f : RunFault) → Tells a b s t (fault_message name f) → TellsFault name a b s t
-text_told name f h = record { message = fault_message name f; is_of = of_text f refl; tells = h }
+-- The message of an error of this kind was written.
+pub error_is : {a b : Report} {s t : Stream} {e : ReplaceError} {message : List ℕ} (name : List ℕ) (kind : ReplaceError) → e ≡ kind → IsMessageOf name kind message →
+    Tells a b s t message → TellsError name e a b s t
+error_is {a = a} {b = b} {s = s} {t = t} {message = message} name kind is of h =
+    subst (λ (k : ReplaceError). TellsError name k a b s t) (sym is) (record { message = message; is_of = of; tells = h })
 
--- The message of a file, if it is faulty, was written.
-pub record ToldOf (name : List ℕ) (faulty : Bool) (old new : Report) (err err' : Stream) : Type 0 where
-  pub told : List ℕ
-  pub is_told : IsTold name faulty told
-  pub tells : Tells old new err err' told
+-- The message of a failed call was written, which is an error of this kind.
+pub failure_is : {a b : Report} {s t : Stream} {e : ReplaceError} {text : List ℕ} (name : List ℕ) (kind : ReplaceError) → e ≡ kind →
+    ((m : List ℕ) → IsFailureOf name text m → IsMessageOf name kind m) → TellsFailure name text a b s t → TellsError name e a b s t
+failure_is name kind is of h = error_is name kind is (of h.message h.is_of) h.tells
 
-pub told_if : {a b : Report} {s t : Stream} (name : List ℕ) (faulty : Bool) → TellsIf name faulty a b s t → ToldOf name faulty a b s t
-told_if name true h = record { told = h.message; is_told = h.is_of; tells = h.tells }
-told_if name false h = record { told = []; is_told = refl; tells = h }
+-- The message of a failed write was written, of either kind.
+pub unwritten_is : {a b : Report} {s t : Stream} {e : ReplaceError} (name : List ℕ) → (e ≡ ReadOnly) ⊎ (e ≡ Write) → TellsFailure name (codes "Cannot be written") a b s t → TellsError name e a b s t
+unwritten_is name (inl is) h = failure_is name ReadOnly is (λ m h. h) h
+unwritten_is name (inr is) h = failure_is name Write is (λ m h. h) h
 
--- This number of messages was written.
-pub record ToldEach (name : List ℕ) (count : ℕ) (old new : Report) (err err' : Stream) : Type 0 where
-  pub messages : List (List ℕ)
-  pub each : All (IsFaultOf name) messages
-  pub number : length messages ≡ count
-  pub tells : Tells old new err err' (flat_map (λ m. m) messages)
+-- The messages of the output's faults, one after another.
+pub output_told : (p q : Bool) → flat_map (λ m. m) (output_faults p q) ≡ cond p list_fault [] ++ cond q write_fault []
+output_told true true = ap (λ (x : List ℕ). list_fault ++ x) (append-nil write_fault)
+output_told true false = refl
+output_told false true = append-nil write_fault
+output_told false false = refl
 
-pub told_each : {a b : Report} {s t : Stream} (name : List ℕ) (faulty : Bool) → TellsIf name faulty a b s t → ToldEach name (cond faulty 1 0) a b s t
-told_each {a = a} {b = b} {s = s} {t = t} name true h = record {
-  messages = h.message ∷ [];
-  each = All-push (IsFaultOf name) [] h.message (All-nil (IsFaultOf name)) h.is_of;
-  number = refl;
-  tells = subst (λ (x : List ℕ). Tells a b s t x) (sym (append-nil h.message)) h.tells;
-}
-told_each name false h = record { messages = []; each = All-nil (IsFaultOf name); number = refl; tells = h }
-
--- Messages were written after others.
-pub told_both : {a b c : Report} {s t u : Stream} {m n : ℕ} (name : List ℕ) → ToldEach name m a b s t → ToldEach name n b c t u → ToldEach name (m + n) a c s u
-told_both {a = a} {c = c} {s = s} {u = u} {m = m} name h k = record {
-  messages = h.messages ++ k.messages;
-  each = All-append (IsFaultOf name) h.messages k.messages h.each k.each;
-  number = length-append h.messages k.messages ∙ ap (λ x. x + length k.messages) h.number ∙ ap (λ x. m + x) k.number;
-  tells = subst (λ (x : List ℕ). Tells a c s u x) (sym (flat_map-append (λ (m : List ℕ). m) h.messages k.messages)) (tells_then h.tells k.tells);
-}
+-- The number of these messages.
+pub output_count : (p q : Bool) → length (output_faults p q) ≡ cond p 1 0 + cond q 1 0
+output_count true true = refl
+output_count true false = refl
+output_count false true = refl
+output_count false false = refl

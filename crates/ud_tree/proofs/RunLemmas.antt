@@ -1,10 +1,12 @@
 -- One file more of a run.
-use Rattle.std.proofs.Common.{◌≡◌, ℕ, ◌+◌, ◌<◌, ◌≤◌, List, [], ◌∷◌, ◌++◌, length, get_or, take, cond, refl, flat_map, sym, ap, ◌∙◌, subst, append-nil, codes, Bool, true, false, min, ◌-◌, ◌^◌, arith}
+use Rattle.std.proofs.Common.{◌≡◌, ℕ, ◌+◌, ◌<◌, ◌≤◌, List, [], ◌∷◌, ◌++◌, length, get_or, take, cond, refl, flat_map, sym, ap, ◌∙◌, subst, append-nil, Bool, true, false, Result, min, ◌-◌, ◌^◌, arith}
 use mir.Val.{bool_byte}
 use Rattle.std.proofs.lemmas.List.{take_more, take_all, map-append}
 use Rattle.std.proofs.lemmas.List.Sums.{sum_by_push}
 use Rattle.std.proofs.lemmas.Grind.{flat_map-append}
 use Rattle.std.specs.Prelude.{count_by, string_bytes}
+use Rattle.ud_replace.specs.declared.error.Update.{Update}
+use Rattle.ud_replace.specs.declared.error.ReplaceError.{ReplaceError}
 use Rattle.ud_replace.specs.Calls.{Call}
 use Rattle.ud_tree.specs.declared.counts.Fate.{Fate}
 use Rattle.ud_tree.specs.declared.counts.Counts.{Counts}
@@ -13,23 +15,23 @@ use Rattle.ud_tree.specs.declared.arguments.Arguments.{Arguments}
 use Rattle.ud_tree.specs.declared.arguments.Task.{Task}
 use Rattle.ud_tree.specs.declared.arguments.Task.TheVariants.{Names}
 use Rattle.ud_tree.specs.Fates.{is_changed, is_same, is_faulty}
-use Rattle.ud_tree.specs.Runs.{FileResult, Unshown, EachFile, no_file, then_file, shown_of, told_of, Counted, names_of}
+use Rattle.ud_tree.specs.Runs.{fate_of, FileResult, Unshown, EachFile, no_file, then_file, changed_in, shown_of, told_of, Counted, names_of}
 use Rattle.ud_tree.specs.Statuses.{tree_status}
 use Rattle.ud_tree.specs.Streams.{Stream, Sends}
 use Rattle.ud_tree.specs.declared.job.Job.{Job}
 use Rattle.ud_tree.specs.declared.report.Report.{Report}
-use Rattle.ud_tree.specs.Messages.{IsTold, IsPlain, Tells, TellsIf}
+use Rattle.ud_tree.specs.Messages.{IsTold, IsPlain, Tells, TellsResult, TellsIf, list_fault, write_fault, output_faults}
 use Rattle.ud_tree.specs.Summaries.{last_lines, TellsEnd}
-use Rattle.ud_tree.proofs.MessageLemmas.{tells_kept, tells_then, told_if, ToldEach, told_both}
+use Rattle.ud_tree.proofs.MessageLemmas.{tells_kept, tells_then, tells_same, output_told, output_count}
 use Rattle.ud_tree.specs.Walks.{IsWalk, WalksOnly}
 use Rattle.ud_tree.specs.Writing.{Moment, WritesOne, WritesAll, WritesList}
-use Rattle.ud_tree.specs.TreeRuns.{DoesOne, DoesAll, EndsWriting, no_run, ran, RunsTree}
+use Rattle.ud_tree.specs.TreeRuns.{DoesBy, DoesOne, DoesJob, EndsWriting, no_run, ran, RunsTree}
 use Rattle.ud_tree.proofs.StreamLemmas.{sends_none, sends_then, sends_same}
 
 -- One file more is counted, if its fate passes the test.
 pub count_push : (p : Fate → Bool) (results : List FileResult) (r : FileResult) →
-    count_by (λ s. p s.fate) (results ++ r ∷ []) ≡ count_by (λ s. p s.fate) results + cond (p r.fate) 1 0
-count_push p results r = sum_by_push (λ (s : FileResult). cond (p s.fate) 1 0) results r
+    count_by (λ s. p (fate_of s.update)) (results ++ r ∷ []) ≡ count_by (λ s. p (fate_of s.update)) results + cond (p (fate_of r.update)) 1 0
+count_push p results r = sum_by_push (λ (s : FileResult). cond (p (fate_of s.update)) 1 0) results r
 
 -- The diff of one file more follows.
 shown_push : (results : List FileResult) (r : FileResult) → shown_of (results ++ r ∷ []) ≡ shown_of results ++ r.shown
@@ -58,10 +60,10 @@ names_push files i f within is =
 -- One file more is processed and counted.
 counted_push : {P : List ℕ → List Call → List Call → FileResult → Type 0} {old mid new : List Call} {before : Counts} {shown told : List ℕ}
     (files : List Found) (i : ℕ) (f : Found) (name : List ℕ) (r : FileResult) (after : Counts) → i < length files → f ≡ get_or files i f →
-    name ≡ string_bytes f.path → Counted P old (names_of (take i files)) mid before shown told → P name mid new r → IsTold name (is_faulty r.fate) r.told →
-    after.changed ≡ before.changed + cond (is_changed r.fate) 1 0 →
-    after.unchanged ≡ before.unchanged + cond (is_same r.fate) 1 0 →
-    after.faulty ≡ before.faulty + cond (is_faulty r.fate) 1 0 →
+    name ≡ string_bytes f.path → Counted P old (names_of (take i files)) mid before shown told → P name mid new r → IsTold name r.update r.told →
+    after.changed ≡ before.changed + cond (is_changed (fate_of r.update)) 1 0 →
+    after.unchanged ≡ before.unchanged + cond (is_same (fate_of r.update)) 1 0 →
+    after.faulty ≡ before.faulty + cond (is_faulty (fate_of r.update)) 1 0 →
     Counted P old (names_of (take (i + 1) files)) new after (shown ++ r.shown) (told ++ r.told)
 counted_push {P = P} {old = old} {mid = mid} {new = new} {before = before} {shown = shown} files i f name r after within is named h p t a b c =
     let named_names : names_of (take i files) ++ name ∷ [] ≡ names_of (take (i + 1) files) =
@@ -72,9 +74,9 @@ counted_push {P = P} {old = old} {mid = mid} {new = new} {before = before} {show
       results = h.results ++ r ∷ [];
       each = subst (λ (ns : List (List ℕ)). EachFile P old ns new (h.results ++ r ∷ [])) named_names e;
       counts_are = record {
-        changed = a ∙ ap (λ (n : ℕ). n + cond (is_changed r.fate) 1 0) k.changed ∙ sym (count_push is_changed h.results r);
-        unchanged = b ∙ ap (λ (n : ℕ). n + cond (is_same r.fate) 1 0) k.unchanged ∙ sym (count_push is_same h.results r);
-        faulty = c ∙ ap (λ (n : ℕ). n + cond (is_faulty r.fate) 1 0) k.faulty ∙ sym (count_push is_faulty h.results r);
+        changed = a ∙ ap (λ (n : ℕ). n + cond (is_changed (fate_of r.update)) 1 0) k.changed ∙ sym (count_push is_changed h.results r);
+        unchanged = b ∙ ap (λ (n : ℕ). n + cond (is_same (fate_of r.update)) 1 0) k.unchanged ∙ sym (count_push is_same h.results r);
+        faulty = c ∙ ap (λ (n : ℕ). n + cond (is_faulty (fate_of r.update)) 1 0) k.faulty ∙ sym (count_push is_faulty h.results r);
       };
       shown_is = ap (λ (x : List ℕ). x ++ r.shown) h.shown_is ∙ sym (shown_push h.results r);
       told_is = ap (λ (x : List ℕ). x ++ r.told) h.told_is ∙ sym (told_push h.results r);
@@ -95,25 +97,24 @@ writes_none {m = m} counts a b c =
 
 -- One file more is processed, and what is shown and told of it was written, after the number of
 -- files was shown.
-pub writes_push : {P : List ℕ → List Call → List Call → FileResult → Type 0} {old mid next new : Moment} {r mid_report next_report after_report : Report} {before : Counts}
-    (files : List Found) (i : ℕ) (f : Found) (name : List ℕ) (fate : Fate) (after : Counts) → i < length files → f ≡ get_or files i f →
+pub writes_push : {P : List ℕ → List Call → List Call → FileResult → Type 0} {old mid new : Moment} {next : Stream} {r mid_report next_report file_report after_report : Report} {before : Counts}
+    (files : List Found) (i : ℕ) (f : Found) (name : List ℕ) (update : Result Update ReplaceError) (fate : Fate) (after : Counts) → i < length files → f ≡ get_or files i f →
     name ≡ string_bytes f.path → WritesAll P old (names_of (take i files)) r mid mid_report before →
-    Tells mid_report next_report mid.err next.err [] → next.calls ≡ mid.calls → next.out ≡ mid.out →
-    WritesOne P name next new fate → TellsIf name (is_faulty fate) next_report after_report next.err new.err →
+    Tells mid_report next_report mid.err next [] → file_report.is_terminal ≡ next_report.is_terminal → file_report.is_shown ≡ next_report.is_shown →
+    WritesOne P name mid.calls new.calls mid.out new.out update → TellsResult name update file_report after_report next new.err → fate ≡ fate_of update →
     after.changed ≡ before.changed + cond (is_changed fate) 1 0 →
     after.unchanged ≡ before.unchanged + cond (is_same fate) 1 0 →
     after.faulty ≡ before.faulty + cond (is_faulty fate) 1 0 →
     WritesAll P old (names_of (take (i + 1) files)) r new after_report after
-writes_push {P = P} {old = old} {mid = mid} {next = next} {new = new} files i f name fate after within is named h progress calls out p t a b c =
-    let told = told_if name (is_faulty fate) t in
-    let does : P name mid.calls new.calls (record { fate = fate; shown = p.shown; told = told.told }) =
-    subst (λ (l : List Call). P name l new.calls (record { fate = fate; shown = p.shown; told = told.told })) calls (p.does told.told) in
+writes_push {next = next} files i f name update fate after within is named h progress terminal shown p t e a b c =
+    let quiet = tells_then progress (tells_kept next terminal shown) in
     record {
       shown = h.shown ++ p.shown;
-      told = h.told ++ told.told;
-      counted = counted_push files i f name (record { fate = fate; shown = p.shown; told = told.told }) after within is named h.counted does told.is_told a b c;
-      sent = sends_then h.sent (subst (λ (s : Stream). Sends s new.out p.shown) out p.sent);
-      tells = tells_then h.tells (tells_then progress told.tells);
+      told = h.told ++ t.told;
+      counted = counted_push files i f name (record { update = update; shown = p.shown; told = t.told }) after within is named h.counted (p.does t.told) t.is_told
+          (rw e at a) (rw e at b) (rw e at c);
+      sent = sends_then h.sent p.sent;
+      tells = tells_then h.tells (tells_then quiet t.tells);
     }
 
 -- All files are processed, and what is shown and told of them was written.
@@ -123,19 +124,15 @@ writes_all files i is h =
     record { shown = h.shown; told = h.told; counted = counted_all files i is h.counted; sent = h.sent; tells = h.tells }
 
 -- A file was processed of which nothing is shown.
-pub writes_unshown : {P : List ℕ → List Call → List Call → Fate → Type 0} {before after : Moment} {name : List ℕ} (fate : Fate) →
-    after.out ≡ before.out → P name before.calls after.calls fate → WritesOne (Unshown P) name before after fate
-writes_unshown {before = before} fate same h = record {
-  shown = [];
-  does = λ told. record { does = h; nothing = refl };
-  sent = subst (λ (s : Stream). Sends before.out s []) (sym same) (sends_none before.out);
-}
+pub writes_unshown : {P : List ℕ → List Call → List Call → Result Update ReplaceError → Type 0} {name : List ℕ} {calls calls' : List Call} {update : Result Update ReplaceError} (out : Stream) →
+    P name calls calls' update → WritesOne (Unshown P) name calls calls' out out update
+writes_unshown out h = record { shown = []; does = λ told. record { does = h; nothing = refl }; sent = sends_none out }
 
 -- The task of the arguments does what they ask for.
-pub done_by : (t : Task) (job : Job) (files : List Found) {old new : Moment} {r s : Report} {counts : Counts} →
-    job.arguments.now.task ≡ t → DoesAll t job files old r new s counts → DoesAll job.arguments.now.task job files old r new s counts
-done_by t job files {old = old} {new = new} {r = r} {s = s} {counts = counts} is h =
-    subst (λ (u : Task). DoesAll u job files old r new s counts) (sym is) h
+pub done_by : (t : Task) (args : Arguments) (tag : List ℕ) {name : List ℕ} {calls calls' : List Call} {out out' : Stream} {update : Result Update ReplaceError} →
+    args.task ≡ t → WritesOne (DoesBy t args tag) name calls calls' out out' update → WritesOne (DoesOne args tag) name calls calls' out out' update
+done_by t args tag {name = name} {calls = calls} {calls' = calls'} {out = out} {out' = out'} {update = update} is h =
+    subst (λ (u : Task). WritesOne (DoesBy u args tag) name calls calls' out out' update) (sym is) h
 
 -- A list was written, if it is wanted.
 pub writes_list : (args : Arguments) {a b c : Stream} (names rest : List ℕ) → (¬ (args.task ≡ Names) → names ≡ []) → Sends a b names →
@@ -147,17 +144,17 @@ writes_list args names rest none h k = record {
 }
 
 -- The run ends with the status of its counts.
-pub ends : (job : Job) (files : List Found) {old mid new : Moment} {listed listed_err : Stream} {r mid_report list_report end_report : Report} {counts : Counts} (in_walk m n faults hidden status : ℕ) →
-    DoesAll job.arguments.now.task job files old r mid mid_report counts → WritesList job.arguments.now mid.out listed →
-    ToldEach (codes "stdout") m mid_report list_report mid.err listed_err → Sends listed new.out [] →
-    (end : Stream) → ToldEach (codes "stdout") n list_report end_report listed_err end → TellsEnd job.arguments.now counts faults hidden end_report end new.err →
-    new.calls ≡ mid.calls → counts.faulty ≤ faults → (in_walk + (m + n) + counts.faulty < 2 ^ 64 → faults ≡ in_walk + (m + n) + counts.faulty) →
+pub ends : (job : Job) (files : List Found) {old mid new : Moment} {listed listed_err : Stream} {r mid_report list_report end_report : Report} {counts : Counts} (lost unwritten : Bool) (in_walk faults hidden status : ℕ) →
+    DoesJob job files old r mid mid_report counts → WritesList job.arguments.now mid.out listed →
+    TellsIf list_fault lost mid_report list_report mid.err listed_err → Sends listed new.out [] →
+    (end : Stream) → TellsIf write_fault unwritten list_report end_report listed_err end → TellsEnd job.arguments.now counts faults hidden end_report end new.err →
+    new.calls ≡ mid.calls → counts.faulty ≤ faults → (in_walk + (cond lost 1 0 + cond unwritten 1 0) + counts.faulty < 2 ^ 64 → faults ≡ in_walk + (cond lost 1 0 + cond unwritten 1 0) + counts.faulty) →
     status ≡ tree_status job.arguments.now.task job.arguments.now.plan.settings.exit_mode faults counts.changed → (job.is_terminal ≡ false → IsPlain r) → EndsWriting job old files new status
-ends job files {old = old} {new = new} {counts = counts} in_walk m n faults hidden status w l t f end u e same few all is plain =
+ends job files {old = old} {new = new} {counts = counts} lost unwritten in_walk faults hidden status w l t f end u e same few all is plain =
     let h = w.counted in
     let args = job.arguments.now in
-    let both = told_both (codes "stdout") t u in
-    let of_output = flat_map (λ x. x) both.messages in
+    let of_output = flat_map (λ x. x) (output_faults lost unwritten) in
+    let both = tells_same (sym (output_told lost unwritten)) (tells_then t u) in
     let last = last_lines args counts.changed counts.unchanged faults hidden e.remaining in
     record {
       shown = w.shown ++ l.listed;
@@ -175,16 +172,18 @@ ends job files {old = old} {new = new} {counts = counts} in_walk m n faults hidd
         hidden = hidden;
         remaining = e.remaining;
         last_is = ap (λ (x : ℕ). last_lines args x counts.unchanged faults hidden e.remaining) h.counts_are.changed
-            ∙ ap (λ (x : ℕ). last_lines args (count_by (λ r. is_changed r.fate) h.results) x faults hidden e.remaining) h.counts_are.unchanged;
-        of_output = both.messages;
-        each_of_output = both.each;
+            ∙ ap (λ (x : ℕ). last_lines args (changed_in h.results) x faults hidden e.remaining) h.counts_are.unchanged;
+        of_output = output_faults lost unwritten;
+        is_lost = lost;
+        is_unwritten = unwritten;
+        of_output_is = refl;
         told_is = ap (λ (x : List ℕ). (x ++ of_output) ++ last) h.told_is;
         in_walk = in_walk;
-        faults_are = rw (both.number, ← h.counts_are.faulty) all;
+        faults_are = rw (output_count lost unwritten, ← h.counts_are.faulty) all;
       };
       sent = sends_same (append-nil (w.shown ++ l.listed)) (sends_then (sends_then w.sent l.sent) f);
       ended = e.told;
-      tells = λ p. let told = tells_then w.tells both.tells in let is_plain = plain p in sends_then (told.sent is_plain) (e.alone (told.plain is_plain).unshown);
+      tells = λ p. let told = tells_then w.tells both in let is_plain = plain p in sends_then (told.sent is_plain) (e.alone (told.plain is_plain).unshown);
     }
 
 -- The run made only calls of a walk.

@@ -1,5 +1,5 @@
 -- The calls of a whole run: what they touch, the files after each of them, and the diffs.
-use Rattle.std.proofs.Common.{◌≡◌, ◌⊎◌, inl, inr, ℕ, ◌<◌, List, [], ◌∷◌, ◌++◌, length, get_or, map, Bool, true, false, Option, Some, refl, sym, ap, ◌∙◌, subst, true≢false, arith, length-append}
+use Rattle.std.proofs.Common.{◌≡◌, ◌⊎◌, inl, inr, ℕ, ◌<◌, List, [], ◌∷◌, ◌++◌, length, get_or, map, Bool, true, false, Option, Some, Result, refl, sym, ap, ◌∙◌, subst, true≢false, arith, length-append}
 use Rattle.std.proofs.lemmas.List.{get_or_append_left, get_or-append_right, get_or-map, length-map}
 use Rattle.std.proofs.lemmas.List.Elements.{Contains-append_left, Contains-push}
 use Rattle.std.specs.List.{Contains, AllPairs}
@@ -9,6 +9,8 @@ use Rattle.std.specs.Cmp.Lexicographic.{slice_cmp}
 use Rattle.std.specs.declared.cmp.Ordering.TheVariants.{Less, Equal}
 use Rattle.std.proofs.lemmas.Cmp.{tied_itself, nat_list_cmp_total}
 use Rattle.ud_model.specs.sections.Items.{Options}
+use Rattle.ud_replace.specs.declared.error.Update.{Update}
+use Rattle.ud_replace.specs.declared.error.ReplaceError.{ReplaceError}
 use Rattle.ud_replace.specs.Calls.{Call, walked, WalkCall}
 use Rattle.ud_replace.specs.Moments.{Files, content, AreTrue, EachCall, no_call, then_call, HasOutput, OldOrNew, touches, after, TouchesFreshOnly}
 use Rattle.ud_replace.proofs.CallLemmas.{untouched}
@@ -17,11 +19,10 @@ use Rattle.ud_replace.proofs.RenameLemmas.{one_rename}
 use Rattle.ud_tree.specs.declared.arguments.Arguments.{Arguments}
 use Rattle.ud_tree.specs.declared.arguments.Task.{Task}
 use Rattle.ud_tree.specs.declared.arguments.Task.TheVariants.{Replace, Diff, Names}
-use Rattle.ud_tree.specs.declared.counts.Fate.{Fate}
 use Rattle.ud_tree.specs.declared.walk.Found.{Found}
 use Rattle.ud_args.specs.Plans.{PlanState}
-use Rattle.ud_tree.specs.Runs.{ReadsOne, reads, Reads, FileResult, Unshown, IsPlanned, ReplacesOne, replaces, no_name, EachFile, no_file, then_file, names_of}
-use Rattle.ud_tree.specs.Shown.{ShowsOne}
+use Rattle.ud_tree.specs.Runs.{ReadsOne, reads, FileResult, Unshown, IsPlanned, ReplacesOne, replaces, no_name, EachFile, no_file, then_file, names_of}
+use Rattle.ud_tree.specs.Shown.{ShowsOne, ListsOne}
 use Rattle.ud_tree.specs.TreeRuns.{DoesBy, IsRun, no_run, ran, Run}
 use Rattle.ud_tree.specs.TreeDiffs.{ShowsAs, ShowsDiffs, no_diff, diffs}
 use Rattle.ud_tree.specs.Walks.{IsBefore}
@@ -60,8 +61,8 @@ reads_touch w (then_file {mid = mid} {next = next} {name = name} {result = resul
 shows_touch : {plan : PlanState} {old : List Call} {names : List (List ℕ)} {new : List Call} {results : List FileResult} → EachFile (ShowsOne plan) old names new results → EachCall TouchesNothing old new
 shows_touch h = reads_touch (λ name old new result k. k.reads) h
 
-lists_touch : {old : List Call} {names : List (List ℕ)} {new : List Call} {results : List FileResult} → EachFile (Unshown Reads) old names new results → EachCall TouchesNothing old new
-lists_touch h = reads_touch (λ name old new result k. k.does) h
+lists_touch : {plan : PlanState} {old : List Call} {names : List (List ℕ)} {new : List Call} {results : List FileResult} → EachFile (Unshown (ListsOne plan)) old names new results → EachCall TouchesNothing old new
+lists_touch h = reads_touch (λ name old new result k. k.does.reads) h
 
 reads_by : (args : Arguments) (tag : List ℕ) (t : Task) → args.task ≡ t → ¬ (t ≡ Replace) → {old : List Call} {names : List (List ℕ)} {new : List Call} {results : List FileResult} →
     EachFile (DoesBy t args tag) old names new results → EachCall TouchesNothing old new
@@ -74,8 +75,8 @@ run_reads args tag old new _ _ _ _ other (no_run h) = each_at h.are (walk_touche
 run_reads args tag old new shown told last status other (ran mid files w h) = each_then (each_at w.are (walk_touches w.calls old)) (reads_by args tag args.task refl other h.each)
 
 -- Replacing a file touches no file but the new one, up to the rename.
-replace_touches : {o : Options} {plan : PlanState} {tag name : List ℕ} {old new : List Call} {fate : Fate} → IsPlanned plan o →
-    ReplacesOne plan false tag name old new fate → EachCall (TouchesFreshOrNone o tag) old new
+replace_touches : {o : Options} {plan : PlanState} {tag name : List ℕ} {old new : List Call} {update : Result Update ReplaceError} → IsPlanned plan o →
+    ReplacesOne plan false tag name old new update → EachCall (TouchesFreshOrNone o tag) old new
 replace_touches {o = o} {tag = tag} {name = name} {old = old} {new = new} p (replaces r fresh is h) =
     each_weaker (λ c earlier t. inr (name, old, subst (λ (f : List ℕ). TouchesFreshOnly o name f old c earlier) is t))
     (one_rename o name fresh old new r (h o p))
@@ -204,8 +205,8 @@ last_is_new names name h inside =
     both (at_k ∙ sym at_end)
 
 -- One file more of a run.
-moments_one : {o : Options} {plan : PlanState} {tag : List ℕ} {first : Files} {old : List Call} {names : List (List ℕ)} {mid next : List Call} {name : List ℕ} {fate : Fate} → IsPlanned plan o →
-    IsNew names name → ReplacesOne plan false tag name mid next fate → AreTrue first next → (AreTrue first mid → Moments o first old names mid) → Moments o first old (names ++ name ∷ []) next
+moments_one : {o : Options} {plan : PlanState} {tag : List ℕ} {first : Files} {old : List Call} {names : List (List ℕ)} {mid next : List Call} {name : List ℕ} {update : Result Update ReplaceError} → IsPlanned plan o →
+    IsNew names name → ReplacesOne plan false tag name mid next update → AreTrue first next → (AreTrue first mid → Moments o first old names mid) → Moments o first old (names ++ name ∷ []) next
 moments_one {o = o} {first = first} {mid = mid} {next = next} {name = name} p fresh_name (replaces r fresh is k) t m =
     let moments = old_or_new o first name fresh mid next r (k o p) t in
     moments_more name fresh_name (m (true_before first moments t)) moments

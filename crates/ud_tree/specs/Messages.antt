@@ -1,17 +1,28 @@
 -- Messages: what is written of faults to the error stream.
 --
 --   fault_line name text             the line with the fault `text` of a path
---   IsFaultOf name message           the message of a fault of a path
---   IsTold name faulty told          that message if the file is faulty, and else nothing
+--   IsFailureOf name text message    that line, or the same with a reason
+--   IsMessageOf name e message       the message of the error of a file
+--   IsTold name update told          that message if the file has an error, and else nothing
+--   list_fault, write_fault          the lines with the faults of the output
+--   output_faults is_lost is_unwritten   those of them that a run has
 --   IsPlain r                        the error stream is no terminal
 --   Tells old new err err' bytes     `bytes` were written to such a stream
---   TellsFault name old new err err'   the message of a fault of a path was
---   TellsIf name faulty old new err err'   so it was, or nothing
+--   TellsFailure name text old new err err'   the message of a failed call was
+--   TellsError name e old new err err'   the message of the error of a file was
+--   TellsResult name update old new err err'   that was written, or nothing
+--   TellsIf message faulty old new err err'   a message was written, or nothing
 --
 -- `old` and `new` are the report before and after, `err` and `err'` the error stream.
-use Rattle.std.specs.Prelude.{◌≡◌, ℕ, List, [], ◌++◌, Bool, true, false, codes}
-use Rattle.ud_faults.specs.declared.run.RunFault.{RunFault}
+use Rattle.std.specs.Prelude.{◌≡◌, ℕ, List, [], ◌∷◌, ◌++◌, Bool, false, Result, Ok, Err, codes}
+use Rattle.std.specs.Prelude.{if◌then◌else◌}
 use Rattle.ud_diagnostics.specs.RunMessages.{fault_message}
+use Rattle.ud_replace.specs.declared.error.Update.{Update}
+use Rattle.ud_replace.specs.declared.error.ReplaceError.{ReplaceError}
+use Rattle.ud_replace.specs.declared.error.ReplaceError.TheVariants.{Text, Read, OutOfMemory}
+use Rattle.ud_replace.specs.declared.error.ReplaceError.TheVariants.{ReadOnly, SeveralLinks}
+use Rattle.ud_replace.specs.declared.error.ReplaceError.TheVariants.{FolderDenied, HalfWritten}
+use Rattle.ud_replace.specs.declared.error.ReplaceError.TheVariants.{ChangedMeanwhile, Write}
 use Rattle.ud_tree.specs.declared.report.Report.{Report}
 use Rattle.ud_tree.specs.Streams.{Stream, Sends}
 use Rattle.ud_tree.specs.Summaries.{line_of}
@@ -20,17 +31,47 @@ use Rattle.ud_tree.specs.Summaries.{line_of}
 abbrev pub fault_line : List ℕ → List ℕ → List ℕ
 fault_line name text = line_of (name ++ codes ": " ++ text)
 
--- `IsFaultOf name message`: `message` is a line with the path `name` and some text, or the message
--- that unifdef has for a fault of a text of this name.
-pub data IsFaultOf (name message : List ℕ) : Type 0 where
-  of_file : (text : List ℕ) → message ≡ fault_line name text → IsFaultOf name message
-  of_text : (f : RunFault) → message ≡ fault_message name f → IsFaultOf name message
+-- `IsFailureOf name text message`: `message` is the line with the fault `text` of the path `name`.
+-- The system's reason may follow `text`.
+pub data IsFailureOf (name text message : List ℕ) : Type 0 where
+  no_reason : message ≡ fault_line name text → IsFailureOf name text message
+  with_reason : (reason : List ℕ) → message ≡ fault_line name (text ++ codes ": " ++ reason) →
+      IsFailureOf name text message
 
--- `IsTold name faulty told`: `told` is the message of a fault of `name` if `faulty`, and else
--- empty.
-abbrev pub IsTold : List ℕ → Bool → List ℕ → Type 0
-IsTold name true told = IsFaultOf name told
-IsTold name false told = told ≡ []
+-- `IsMessageOf name e message`: `message` is that of the error `e` of the file `name`. A fault of
+-- its text has the message of unifdef.
+abbrev pub IsMessageOf : List ℕ → ReplaceError → List ℕ → Type 0
+IsMessageOf name (Text f) message = message ≡ fault_message name f
+IsMessageOf name Read message = IsFailureOf name (codes "Cannot be read") message
+IsMessageOf name OutOfMemory message = message ≡ fault_line name (codes "Out of memory")
+IsMessageOf name ReadOnly message = IsFailureOf name (codes "Cannot be written") message
+IsMessageOf name SeveralLinks message =
+    message ≡ fault_line name (codes "Has several links; -w writes into it")
+IsMessageOf name FolderDenied message =
+    message ≡ fault_line name (codes "Its folder can't be written; -w writes into the file")
+IsMessageOf name ChangedMeanwhile message = message ≡ fault_line name (codes "Changed meanwhile")
+IsMessageOf name Write message = IsFailureOf name (codes "Cannot be written") message
+IsMessageOf name HalfWritten message = IsFailureOf name (codes "Half written") message
+
+-- `IsTold name update told`: `told` is the message of the error of the file `name`, and empty if it
+-- has none.
+abbrev pub IsTold : List ℕ → Result Update ReplaceError → List ℕ → Type 0
+IsTold name (Ok u) told = told ≡ []
+IsTold name (Err e) told = IsMessageOf name e told
+
+-- `list_fault`: the line if memory for a list couldn't be allocated.
+abbrev pub list_fault : List ℕ
+list_fault = fault_line (codes "stdout") (codes "Out of memory")
+
+-- `write_fault`: the line if the output couldn't be written.
+abbrev pub write_fault : List ℕ
+write_fault = fault_line (codes "stdout") (codes "Cannot be written")
+
+-- `output_faults is_lost is_unwritten`: the lines with the faults of the output, by whether memory
+-- for a list couldn't be allocated, and whether the output couldn't be written.
+abbrev pub output_faults : Bool → Bool → List (List ℕ)
+output_faults is_lost is_unwritten = (if is_lost then list_fault ∷ [] else []) ++
+    (if is_unwritten then write_fault ∷ [] else [])
 
 -- `IsPlain r`: the error stream is no terminal, and so shows no number of files.
 pub record IsPlain (r : Report) : Type 0 where
@@ -42,14 +83,30 @@ pub record Tells (old new : Report) (err err' : Stream) (bytes : List ℕ) : Typ
   pub plain : IsPlain old → IsPlain new
   pub sent : IsPlain old → Sends err err' bytes
 
--- `TellsFault name old new err err'`: the message of a fault of the path `name` was written.
-pub record TellsFault (name : List ℕ) (old new : Report) (err err' : Stream) : Type 0 where
+-- `TellsFailure name text old new err err'`: the message of a failed call for the path `name` was
+-- written.
+pub record TellsFailure (name text : List ℕ) (old new : Report) (err err' : Stream) : Type 0 where
   pub message : List ℕ
-  pub is_of : IsFaultOf name message
+  pub is_of : IsFailureOf name text message
   pub tells : Tells old new err err' message
 
--- `TellsIf name faulty old new err err'`: the message of a fault of `name` was written if `faulty`,
--- and else nothing.
+-- `TellsError name e old new err err'`: the message of the error `e` of the file `name` was
+-- written.
+pub record TellsError (name : List ℕ) (e : ReplaceError) (old new : Report) (err err' : Stream) :
+    Type 0 where
+  pub message : List ℕ
+  pub is_of : IsMessageOf name e message
+  pub tells : Tells old new err err' message
+
+-- `TellsResult name update old new err err'`: the message of the error of the file `name` was
+-- written, and nothing if it has none.
+pub record TellsResult (name : List ℕ) (update : Result Update ReplaceError) (old new : Report)
+    (err err' : Stream) : Type 0 where
+  pub told : List ℕ
+  pub is_told : IsTold name update told
+  pub tells : Tells old new err err' told
+
+-- `TellsIf message faulty old new err err'`: `message` was written if `faulty`, and else nothing.
 abbrev pub TellsIf : List ℕ → Bool → Report → Report → Stream → Stream → Type 0
-TellsIf name true old new err err' = TellsFault name old new err err'
-TellsIf name false old new err err' = Tells old new err err' []
+TellsIf message faulty old new err err' =
+    Tells old new err err' (if faulty then message else [])

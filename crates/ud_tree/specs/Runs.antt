@@ -1,14 +1,14 @@
 -- Runs: what is asked for the files of a run, and what becomes of them.
 --
 --   ReadsOne name old new   a file was read, and nothing else was asked
---   Reads name old new fate   the same, whatever became of the file
 --   fate_of r               what became of a file, by the result of replacing it
 --   IsPlanned plan o        `o` has the settings and the symbols of a plan
---   ReplacesOne plan into tag name old new fate   a file was replaced, or its name took no memory
---   FileResult              what became of a file, and what is written of it
+--   ReplacesOne plan into tag name old new update   a file was replaced, or its name took no memory
+--   FileResult              the result of a file, and what is written of it
 --   Unshown P name old new result   `P` holds of a file, of which nothing is written to the output
 --   EachFile P old names new results   `P` holds of each file in turn, and nothing else was asked
---   CountsAre counts results   these are the numbers of each fate
+--   changed_in results, same_in results, faulty_in results   the numbers of each fate
+--   CountsAre counts results   these are the counts
 --   shown_of results        what is written of the files to the output
 --   told_of results         what is written of the files to the error stream
 --   Counted P old names new counts shown told   each file in turn, with the numbers of each fate
@@ -24,6 +24,7 @@ use Rattle.ud_args.specs.Plans.{PlanState}
 use Rattle.ud_replace.specs.declared.error.Update.{Update}
 use Rattle.ud_replace.specs.declared.error.Update.TheVariants.{Unchanged, Replaced, WrittenInto}
 use Rattle.ud_replace.specs.declared.error.ReplaceError.{ReplaceError}
+use Rattle.ud_replace.specs.declared.error.ReplaceError.TheVariants.{OutOfMemory}
 use Rattle.ud_replace.specs.declared.stat.FileStat.{FileStat}
 use Rattle.ud_replace.specs.Calls.{Call, was_read}
 use Rattle.ud_replace.specs.Replacing.{Replaces}
@@ -40,10 +41,6 @@ pub data ReadsOne (name : List ℕ) (old new : List Call) : Type 0 where
   reads : (text : List ℕ) (answer : Option FileStat) → new ≡ was_read name text answer ∷ old →
       ReadsOne name old new
 
--- `Reads name old new fate`: the file `name` was read, and nothing else was asked, whatever `fate`.
-abbrev pub Reads : List ℕ → List Call → List Call → Fate → Type 0
-Reads name old new fate = ReadsOne name old new
-
 -- `fate_of r`: what became of a file.
 abbrev pub fate_of : Result Update ReplaceError → Fate
 fate_of (Ok Unchanged) = Same
@@ -56,46 +53,58 @@ pub record IsPlanned (plan : PlanState) (o : Options) : Type 0 where
   pub settings : o.settings ≡ plan.settings
   pub table : TableRepresents plan.symbols o.table
 
--- `ReplacesOne plan into tag name old new fate`: the calls are those that replace the file `name`,
--- by the help of one whose name ends in `tag`. The result has this fate. Or memory for that name
--- couldn't be allocated. Then nothing was asked, and the file counts as faulty.
+-- `ReplacesOne plan into tag name old new update`: the calls are those that replace the file
+-- `name`, by the help of one whose name ends in `tag`, and `update` is their result. Or memory for
+-- that name couldn't be allocated, and nothing was asked.
 pub data ReplacesOne (plan : PlanState) (into : Bool) (tag name : List ℕ) (old new : List Call) :
-    Fate → Type 0 where
+    Result Update ReplaceError → Type 0 where
   replaces : (r : Result Update ReplaceError) (fresh : List ℕ) → fresh ≡ fresh_name tag name →
       ((o : Options) → IsPlanned plan o → Replaces o into name fresh old new r) →
-      ReplacesOne plan into tag name old new (fate_of r)
-  no_name : new ≡ old → ReplacesOne plan into tag name old new Faulty
+      ReplacesOne plan into tag name old new r
+  no_name : new ≡ old → ReplacesOne plan into tag name old new (Err OutOfMemory)
 
--- `FileResult`: what became of a file, and the bytes that are written of it to the output and to
--- the error stream.
+-- `FileResult`: the result of a file, and the bytes that are written of it to the output and to the
+-- error stream.
 pub record FileResult : Type 0 where
-  pub fate : Fate
+  pub update : Result Update ReplaceError
   pub shown : List ℕ
   pub told : List ℕ
 
--- `Unshown P name old new result`: `P` holds of the file and its fate, and nothing is written of it
--- to the output.
-pub record Unshown (P : List ℕ → List Call → List Call → Fate → Type 0) (name : List ℕ)
-    (old new : List Call) (result : FileResult) : Type 0 where
-  pub does : P name old new result.fate
+-- `Unshown P name old new result`: `P` holds of the file and its result, and nothing is written of
+-- it to the output.
+pub record Unshown (P : List ℕ → List Call → List Call → Result Update ReplaceError → Type 0)
+    (name : List ℕ) (old new : List Call) (result : FileResult) : Type 0 where
+  pub does : P name old new result.update
   pub nothing : result.shown ≡ []
 
 -- `EachFile P old names new results`: `P name mid next result` holds of each file in turn, where
 -- `mid` and `next` are the calls before and after it. Nothing else was asked. What goes to the
--- error stream is the message of the fault of a faulty file, and nothing of others.
+-- error stream is the message of the error of a file, and nothing of files without one.
 pub data EachFile (P : List ℕ → List Call → List Call → FileResult → Type 0) (old : List Call) :
     List (List ℕ) → List Call → List FileResult → Type 0 where
   no_file : EachFile P old [] old []
   then_file : {names : List (List ℕ)} {mid next : List Call} {results : List FileResult}
       {name : List ℕ} {result : FileResult} → EachFile P old names mid results →
-      P name mid next result → IsTold name (is_faulty result.fate) result.told →
+      P name mid next result → IsTold name result.update result.told →
       EachFile P old (names ++ name ∷ []) next (results ++ result ∷ [])
+
+-- `changed_in results`: the number of files that were changed, or would be.
+abbrev pub changed_in : List FileResult → ℕ
+changed_in results = count_by (λ r. is_changed (fate_of r.update)) results
+
+-- `same_in results`: the number of files whose output is their text.
+abbrev pub same_in : List FileResult → ℕ
+same_in results = count_by (λ r. is_same (fate_of r.update)) results
+
+-- `faulty_in results`: the number of files that have a fault.
+abbrev pub faulty_in : List FileResult → ℕ
+faulty_in results = count_by (λ r. is_faulty (fate_of r.update)) results
 
 -- `CountsAre counts results`: `counts` has the number of each fate.
 pub record CountsAre (counts : Counts) (results : List FileResult) : Type 0 where
-  pub changed : counts.changed ≡ count_by (λ r. is_changed r.fate) results
-  pub unchanged : counts.unchanged ≡ count_by (λ r. is_same r.fate) results
-  pub faulty : counts.faulty ≡ count_by (λ r. is_faulty r.fate) results
+  pub changed : counts.changed ≡ changed_in results
+  pub unchanged : counts.unchanged ≡ same_in results
+  pub faulty : counts.faulty ≡ faulty_in results
 
 -- `shown_of results`: what is written of the files to the output, in order.
 abbrev pub shown_of : List FileResult → List ℕ

@@ -14,7 +14,7 @@ use Rattle.ud_tree.specs.Walks.{WalksOnly, IsWalk}
 -- `ShowsAs o name old new result`: the file `name` was read, and what is shown of it is its diff if
 -- its output differs.
 abbrev pub ShowsAs : Options → List ℕ → List Call → List Call → FileResult → Type 0
-ShowsAs o name old new result = ShowsFile o name old new result.fate result.shown
+ShowsAs o name old new result = ShowsFile o name old new result.update result.shown
 
 -- `ShowsDiffs o run`: no file was read, and nothing is shown. Or a walk found some files, each was
 -- read once, and their diffs are shown in the same order. A list follows, if one is wanted.

@@ -3,8 +3,7 @@
 --   DoesBy task args tag name old new result   what a task does with a file
 --   DoesOne args tag name old new result       what the arguments ask for is done with a file
 --   Ends args tag old names new shown told last status   all files are processed, with this status
---   DoesAll task job files before report after report' counts   a task is done with all files
---   ListsAll, DoesJob                          the same for the names, and for what a job asks
+--   DoesJob job files before report after report' counts   the same for all files
 --   EndsWriting job before files after status  all files are processed, and all was written
 --   IsRun args tag old new shown told last status   a whole run
 --   Run, IsRunOf run                           its arguments, calls, output and status
@@ -12,9 +11,9 @@
 --
 -- `old` and `new` are the calls before and after, the newest first. `shown` is what is to be
 -- written to the output, `told` to the error stream after the walk, and `last` last.
-use Rattle.std.specs.Prelude.{◌≡◌, ℕ, ◌+◌, ◌≤◌, ◌<◌, ◌^◌, List, [], ◌++◌, length, count_by}
-use Rattle.std.specs.Prelude.{false, codes}
-use Rattle.std.specs.List.{All, flat_map}
+use Rattle.std.specs.Prelude.{◌≡◌, ℕ, ◌+◌, ◌≤◌, ◌<◌, ◌^◌, List, [], ◌++◌, length}
+use Rattle.std.specs.Prelude.{Bool, false}
+use Rattle.std.specs.List.{flat_map}
 use Rattle.ud_replace.specs.Calls.{Call}
 use Rattle.ud_tree.specs.declared.arguments.Task.{Task}
 use Rattle.ud_tree.specs.declared.arguments.Task.TheVariants.{Replace, Diff, Names}
@@ -23,35 +22,34 @@ use Rattle.ud_tree.specs.declared.counts.Counts.{Counts}
 use Rattle.ud_tree.specs.declared.job.Job.{Job}
 use Rattle.ud_tree.specs.declared.report.Report.{Report}
 use Rattle.ud_tree.specs.declared.walk.Found.{Found}
-use Rattle.ud_tree.specs.Fates.{is_changed, is_same, is_faulty}
-use Rattle.ud_tree.specs.Runs.{FileResult, Unshown, Reads, ReplacesOne, EachFile, shown_of}
-use Rattle.ud_tree.specs.Runs.{told_of, names_of}
-use Rattle.ud_tree.specs.Shown.{ShowsOne}
-use Rattle.ud_tree.specs.Messages.{IsFaultOf}
+use Rattle.ud_tree.specs.Runs.{FileResult, Unshown, ReplacesOne, EachFile, shown_of, told_of}
+use Rattle.ud_tree.specs.Runs.{changed_in, same_in, faulty_in, names_of}
+use Rattle.ud_tree.specs.Shown.{ShowsOne, ListsOne}
+use Rattle.ud_tree.specs.Messages.{output_faults}
 use Rattle.ud_tree.specs.Streams.{Sends}
 use Rattle.ud_tree.specs.Summaries.{last_lines, EndsWith}
 use Rattle.ud_tree.specs.Writing.{Moment, WritesAll}
 use Rattle.ud_tree.specs.Walks.{WalksOnly, IsWalk}
 use Rattle.ud_tree.specs.Statuses.{tree_status}
 
--- `DoesBy task args tag name old new result`: the file `name` is replaced, shown or only read, by
--- the task.
+-- `DoesBy task args tag name old new result`: the file `name` is replaced, shown or listed, by the
+-- task.
 abbrev pub DoesBy : Task → Arguments → List ℕ → List ℕ → List Call → List Call → FileResult →
     Type 0
 DoesBy Replace args tag = Unshown (ReplacesOne args.plan args.write_into tag)
 DoesBy Diff args tag = ShowsOne args.plan
-DoesBy Names args tag = Unshown Reads
+DoesBy Names args tag = Unshown (ListsOne args.plan)
 
 -- `DoesOne args tag name old new result`: what the arguments ask for is done with the file `name`.
 abbrev pub DoesOne : Arguments → List ℕ → List ℕ → List Call → List Call → FileResult → Type 0
 DoesOne args tag = DoesBy args.task args tag
 
--- `DoesAll task job files before report after report' counts`: the task is done with each file in
--- turn, and what is shown and told of them was written.
-abbrev pub DoesAll : Task → Job → List Found → Moment → Report → Moment → Report → Counts → Type 0
-DoesAll task job files before report after report' counts =
-    WritesAll (DoesBy task job.arguments.now job.tag.now) before (names_of files) report after
-    report' counts
+-- `DoesJob job files before report after report' counts`: what the arguments ask for is done with
+-- each file in turn, and what is shown and told of them was written.
+abbrev pub DoesJob : Job → List Found → Moment → Report → Moment → Report → Counts → Type 0
+DoesJob job files before report after report' counts =
+    WritesAll (DoesOne job.arguments.now job.tag.now) before (names_of files) report after report'
+    counts
 
 -- `Ends args tag old names new shown told last status`: it is done with each file in turn. What is
 -- shown of them comes first, and then a list, if one is wanted. The status is that of some number
@@ -66,27 +64,21 @@ pub record Ends (args : Arguments) (tag : List ℕ) (old : List Call) (names : L
   pub is_wanted : ¬ (args.task ≡ Names) → args.list_remaining ≡ false → listed ≡ []
   pub shown_is : shown ≡ shown_of results ++ listed
   pub faults : ℕ
-  pub reported : count_by (λ r. is_faulty r.fate) results ≤ faults
+  pub reported : faulty_in results ≤ faults
   pub status_is : status ≡ tree_status args.task args.plan.settings.exit_mode faults
-      (count_by (λ r. is_changed r.fate) results)
+      (changed_in results)
   pub hidden : ℕ
   pub remaining : ℕ
-  pub last_is : last ≡ last_lines args (count_by (λ r. is_changed r.fate) results)
-      (count_by (λ r. is_same r.fate) results) faults hidden remaining
+  pub last_is : last ≡ last_lines args (changed_in results) (same_in results) faults hidden
+      remaining
   pub of_output : List (List ℕ)
-  pub each_of_output : All (IsFaultOf (codes "stdout")) of_output
+  pub is_lost : Bool
+  pub is_unwritten : Bool
+  pub of_output_is : of_output ≡ output_faults is_lost is_unwritten
   pub told_is : told ≡ told_of results ++ flat_map (λ m. m) of_output ++ last
   pub in_walk : ℕ
-  pub faults_are : in_walk + length of_output + count_by (λ r. is_faulty r.fate) results < 2 ^ 64 →
-      faults ≡ in_walk + length of_output + count_by (λ r. is_faulty r.fate) results
-
--- `ListsAll job files before report after report' counts`: the names of each file were listed.
-abbrev pub ListsAll : Job → List Found → Moment → Report → Moment → Report → Counts → Type 0
-ListsAll = DoesAll Names
-
--- `DoesJob job files before report after report' counts`: the task of the job was done.
-abbrev pub DoesJob : Job → List Found → Moment → Report → Moment → Report → Counts → Type 0
-DoesJob job = DoesAll job.arguments.now.task job
+  pub faults_are : in_walk + length of_output + faulty_in results < 2 ^ 64 →
+      faults ≡ in_walk + length of_output + faulty_in results
 
 -- `EndsWriting job before files after status`: all files are processed, what is shown was
 -- written, and the last lines were. If the error stream is no terminal, all of `told` was written.

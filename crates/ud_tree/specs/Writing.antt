@@ -2,17 +2,17 @@
 --
 --   Moment                                the calls so far, the output and the error stream
 --   moment history contents reported tree out err   those of a tree and two writers
---   moment_at out history reported tree err   those of a tree and one writer, with this output
---   WritesOne P name before after fate    a file was processed, and what is shown of it was written
+--   WritesOne P name calls calls' out out' update   a file was processed, and its output written
 --   WritesAll P before names report after report' counts   each file in turn was processed
 --   WritesList args out out'              what is listed after the files was written
-use Rattle.std.specs.Prelude.{◌≡◌, ℕ, List, [], Option, false}
+use Rattle.std.specs.Prelude.{◌≡◌, ℕ, List, [], Option, Result, false}
 use Rattle.ud_io.specs.Watched.{WatchedState}
+use Rattle.ud_replace.specs.declared.error.Update.{Update}
+use Rattle.ud_replace.specs.declared.error.ReplaceError.{ReplaceError}
 use Rattle.ud_replace.specs.Calls.{Call}
 use Rattle.ud_tree.specs.declared.arguments.Arguments.{Arguments}
 use Rattle.ud_tree.specs.declared.arguments.Task.TheVariants.{Names}
 use Rattle.ud_tree.specs.declared.counts.Counts.{Counts}
-use Rattle.ud_tree.specs.declared.counts.Fate.{Fate}
 use Rattle.ud_tree.specs.declared.report.Report.{Report}
 use Rattle.ud_tree.specs.Messages.{Tells}
 use Rattle.ud_tree.specs.Runs.{FileResult, Counted}
@@ -34,23 +34,15 @@ moment history contents reported tree out err = record {
   err = stream_of reported err;
 }
 
--- `moment_at out history reported tree err`: the same, with an output that isn't written to.
-abbrev pub moment_at : {T E : Type 0} → Stream → (T → List Call) → (E → Option (List ℕ)) → T →
-    WatchedState E → Moment
-moment_at out history reported tree err = record {
-  calls = history tree;
-  out = out;
-  err = stream_of reported err;
-}
-
--- `WritesOne P name before after fate`: `P` holds of a file with this fate, and what is shown of
--- it was written.
-pub record WritesOne (P : List ℕ → List Call → List Call → FileResult → Type 0)
-    (name : List ℕ) (before after : Moment) (fate : Fate) : Type 0 where
+-- `WritesOne P name calls calls' out out' update`: `P` holds of a file with this result, and what
+-- is shown of it was written. `calls` and `calls'` are the calls before and after it.
+pub record WritesOne (P : List ℕ → List Call → List Call → FileResult → Type 0) (name : List ℕ)
+    (calls calls' : List Call) (out out' : Stream) (update : Result Update ReplaceError) :
+    Type 0 where
   pub shown : List ℕ
   pub does : (told : List ℕ) →
-      P name before.calls after.calls (record { fate = fate; shown = shown; told = told })
-  pub sent : Sends before.out after.out shown
+      P name calls calls' (record { update = update; shown = shown; told = told })
+  pub sent : Sends out out' shown
 
 -- `WritesAll P before names report after report' counts`: `P` holds of each file in turn, `counts`
 -- has the numbers of their fates, and what is shown and told of them was written in this order.

@@ -6,7 +6,8 @@
 
 ghost use Rattle.std.specs.Prelude.{◌≡◌, [], false, if◌then◌else◌};
 ghost use Rattle.std.specs.List.{flat_map};
-ghost use Rattle.ud_tree.specs.Messages.{IsPlain, Tells, TellsFault};
+ghost use Rattle.ud_diagnostics.specs.RunMessages.{fault_message};
+ghost use Rattle.ud_tree.specs.Messages.{IsPlain, Tells, TellsFailure, fault_line};
 ghost use Rattle.ud_tree.specs.Streams.{Sends, stream_of};
 ghost use Rattle.ud_tree.specs.Summaries.{Says, line_of};
 
@@ -157,8 +158,8 @@ impl Report {
 
     /// Writes a fault of a path.
     pub(crate) fn fault<E: Write>(&mut self, err: &mut Watched<E>, path: &[u8], text: &[u8])
-        ensures { TellsFault path.now self.old self.new (stream_of E.contents err.old)
-            (stream_of E.contents err.new) }
+        ensures says { Tells self.old self.new (stream_of E.contents err.old)
+            (stream_of E.contents err.new) (fault_line path.now text.now) }
     {
         self.faulty = self.faulty.saturating_add(1);
         self.line(err, &[path, b": ", text]);
@@ -184,7 +185,7 @@ impl Report {
         text: &[u8],
         reason: Option<io::Error>,
     )
-        ensures { TellsFault path.now self.old self.new (stream_of E.contents err.old)
+        ensures { TellsFailure path.now text.now self.old self.new (stream_of E.contents err.old)
             (stream_of E.contents err.new) }
     {
         match reason {
@@ -223,8 +224,8 @@ impl Report {
         settings: Settings,
         fault: RunFault,
     )
-        ensures { TellsFault path.now self.old self.new (stream_of E.contents err.old)
-            (stream_of E.contents err.new) }
+        ensures { Tells self.old self.new (stream_of E.contents err.old)
+            (stream_of E.contents err.new) (fault_message path.now fault) }
     {
         self.faulty = self.faulty.saturating_add(1);
         self.clear(err);

@@ -1,24 +1,22 @@
 //! The run over all files of a tree.
 
-ghost use Rattle.std.specs.Prelude.{◌≡◌, [], false, codes, IfOk, IfSome};
+ghost use Rattle.std.specs.Prelude.{◌≡◌, [], false, IfOk, IfSome};
 ghost use Rattle.ud_model.specs.answer.Answer.{status_by};
-ghost use Rattle.ud_tree.specs.Messages.{TellsIf};
+ghost use Rattle.ud_tree.specs.Messages.{TellsIf, list_fault, write_fault};
 ghost use Rattle.ud_tree.specs.Statuses.{tree_status};
 ghost use Rattle.ud_tree.specs.Streams.{Sends, stream_of};
 ghost use Rattle.ud_tree.specs.Summaries.{Says, TellsEnd, remaining_line, remaining_text, summary};
-ghost use Rattle.ud_tree.specs.TreeRuns.{DoesJob, EndsWriting, RunsTree};
+ghost use Rattle.ud_tree.specs.TreeRuns.{EndsWriting, RunsTree};
 ghost use Rattle.ud_tree.specs.Walks.{Finds, IsWalk, WalksOnly};
 ghost use Rattle.ud_tree.specs.Writing.{WritesList, moment};
 
 use crate::arguments::{Arguments, Task};
 use crate::counts::Counts;
 use crate::job::Job;
-use crate::list_all::list_all;
 use crate::names::Names;
-use crate::replace_all::replace_all;
+use crate::process_files::process_files;
 use crate::report::Report;
 use crate::send::{flush, send};
-use crate::show_all::show_all;
 use crate::tree::Tree;
 use crate::walk::{Found, Walk};
 use itoa::Buffer;
@@ -181,27 +179,6 @@ fn process_all<T: Tree, W: Write, E: Write>(
     status(job.arguments, faults, counts.changed)
 }
 
-/// Does with each file what the arguments ask for. Returns what became of the files.
-fn process_files<T: Tree, W: Write, E: Write>(
-    job: &Job<'_>,
-    tree: &mut T,
-    files: &[Found],
-    out: &mut Watched<W>,
-    names: &mut Names,
-    report: &mut Report,
-    err: &mut Watched<E>,
-) -> Counts
-    ensures { DoesJob job.now files.now
-        (moment T.history W.contents E.contents tree.old out.old err.old) report.old
-        (moment T.history W.contents E.contents tree.new out.new err.new) report.new result }
-{
-    match job.arguments.task {
-        Task::Replace => replace_all(job, tree, files, report, err),
-        Task::Diff => show_all(job, tree, files, out, report, err),
-        Task::Names => list_all(job, tree, files, names, report, err),
-    }
-}
-
 /// Writes the names that were counted, and the conditions that still name a symbol. Returns true
 /// after a fault, which was reported.
 fn write_lists<W: Write, E: Write>(
@@ -213,7 +190,7 @@ fn write_lists<W: Write, E: Write>(
 ) -> bool
     ensures writes { WritesList job.now.arguments.now (stream_of W.contents out.old)
         (stream_of W.contents out.new) }
-    ensures told { TellsIf (codes "stdout") result report.old report.new
+    ensures told { TellsIf list_fault result report.old report.new
         (stream_of E.contents err.old) (stream_of E.contents err.new) }
 {
     let mut list = Vec::new(job.alloc);
@@ -245,7 +222,7 @@ fn finish_output<W: Write, E: Write>(
 ) -> bool
     ensures sent { Sends (stream_of W.contents out.old) (stream_of W.contents out.new) [] }
     ensures failed { result ≡ out.new.failed }
-    ensures told { TellsIf (codes "stdout") result report.old report.new
+    ensures told { TellsIf write_fault result report.old report.new
         (stream_of E.contents err.old) (stream_of E.contents err.new) }
 {
     if flush(out) {

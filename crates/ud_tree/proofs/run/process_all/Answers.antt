@@ -1,16 +1,15 @@
-use Rattle.std.proofs.Common.{refl, codes, cond, arith}
+use Rattle.std.proofs.Common.{refl, arith}
 use Rattle.ud_tree.specs.Streams.{stream_of}
-use Rattle.ud_tree.proofs.MessageLemmas.{told_each}
 use Rattle.ud_tree.proofs.RunLemmas.{ends, faults_added}
 use Rattle.ud_tree.proofs.run.process_all.Goals as goal
 
 pub returns : goal.returns
 returns g c =
-    ends c.args.job.now c.args.files.now c.args.walk_faults (cond c.write_lists-list_fault.result 1 0) (cond c.finish_output-out_fault.result 1 0) c.saturating_add-faults.result _ c.status.result
+    ends c.args.job.now c.args.files.now c.write_lists-list_fault.result c.finish_output-out_fault.result c.args.walk_faults c.saturating_add-faults.result _ c.status.result
     c.process_files-counts.ensures c.write_lists-list_fault.ensures.writes
-    (told_each (codes "stdout") c.write_lists-list_fault.result c.write_lists-list_fault.ensures.told) c.finish_output-out_fault.ensures.sent
+    c.write_lists-list_fault.ensures.told c.finish_output-out_fault.ensures.sent
     (stream_of g.E.Write.contents c.finish_output-out_fault.new.err)
-    (told_each (codes "stdout") c.finish_output-out_fault.result c.finish_output-out_fault.ensures.told) c.report_end.ensures refl
+    c.finish_output-out_fault.ensures.told c.report_end.ensures refl
     (omega (arith, c.saturating_add-faults.ensures, c.process_files-counts.type_inv))
     (faults_added c.write_lists-list_fault.result c.finish_output-out_fault.result c.args.walk_faults c.process_files-counts.result.faulty _ _ _ _ _
     c.from.ensures c.saturating_add.ensures c.from-2.ensures c.saturating_add-2.ensures c.saturating_add-faults.ensures)

@@ -1,6 +1,6 @@
 use Rattle.std.proofs.Common.{refl, ◌∙◌}
 use Rattle.ud_tree.specs.Runs.{replaces, no_name}
-use Rattle.ud_tree.proofs.replace_all.replace_named.Goals as goal
+use Rattle.ud_tree.proofs.replace_file.replace_named.Goals as goal
 
 pub returns-in-Err : goal.returns-in-Err
 returns-in-Err g c = no_name refl

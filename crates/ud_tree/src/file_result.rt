@@ -1,0 +1,78 @@
+//! What became of a file, and its message.
+
+ghost use Rattle.std.specs.Prelude.{◌≡◌};
+ghost use Rattle.ud_tree.specs.Messages.{TellsError, TellsResult};
+ghost use Rattle.ud_tree.specs.Runs.{fate_of};
+ghost use Rattle.ud_tree.specs.Streams.{stream_of};
+
+use crate::counts::Fate;
+use crate::job::Job;
+use crate::report::Report;
+use crate::tree::Tree;
+use std::io::Write;
+use ud_io::Watched;
+use ud_replace::{ReplaceError, Update};
+
+/// Returns what became of a file.
+pub(crate) fn fate_of(update: Result<Update, ReplaceError>) -> Fate
+    ensures { result ≡ fate_of update }
+{
+    match update {
+        Ok(Update::Unchanged) => Fate::Same,
+        Ok(Update::Replaced | Update::WrittenInto) => Fate::Changed,
+        Err(_) => Fate::Faulty,
+    }
+}
+
+impl Report {
+    /// Writes the fault of a file, if it has one.
+    pub(crate) fn file_result<T: Tree, E: Write>(
+        &mut self,
+        err: &mut Watched<E>,
+        job: &Job<'_>,
+        tree: &T,
+        path: &[u8],
+        update: Result<Update, ReplaceError>,
+    )
+        ensures { TellsResult path.now update self.old self.new (stream_of E.contents err.old)
+            (stream_of E.contents err.new) }
+    {
+        if let Err(error) = update {
+            self.file_error(err, job, tree, path, error);
+        }
+    }
+
+    /// Writes why a file wasn't replaced, or couldn't be.
+    fn file_error<T: Tree, E: Write>(
+        &mut self,
+        err: &mut Watched<E>,
+        job: &Job<'_>,
+        tree: &T,
+        path: &[u8],
+        error: ReplaceError,
+    )
+        ensures { TellsError path.now error self.old self.new (stream_of E.contents err.old)
+            (stream_of E.contents err.new) }
+    {
+        match error {
+            ReplaceError::Text(fault) => {
+                self.text_fault(err, path, job.arguments.plan.settings(), fault);
+            }
+            ReplaceError::Read => self.failure(err, path, b"Cannot be read", tree.reason()),
+            ReplaceError::OutOfMemory => self.fault(err, path, b"Out of memory"),
+            ReplaceError::ReadOnly | ReplaceError::Write => {
+                self.failure(err, path, b"Cannot be written", tree.reason());
+            }
+            ReplaceError::SeveralLinks => {
+                self.fault(err, path, b"Has several links; -w writes into it");
+            }
+            ReplaceError::FolderDenied => self.fault(
+                err,
+                path,
+                b"Its folder can't be written; -w writes into the file",
+            ),
+            ReplaceError::ChangedMeanwhile => self.fault(err, path, b"Changed meanwhile"),
+            ReplaceError::HalfWritten => self.failure(err, path, b"Half written", tree.reason()),
+        }
+    }
+}

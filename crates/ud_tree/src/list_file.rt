@@ -1,0 +1,38 @@
+//! Listing the names of one file.
+
+ghost use Rattle.ud_tree.specs.Shown.{ListsOne};
+
+use crate::job::Job;
+use crate::names::Names;
+use crate::run_file::run_file;
+use crate::tree::Tree;
+use ud_engine::Watched;
+use ud_replace::{ReplaceError, Update};
+
+/// Adds the names of a file to `names`. If its text has a fault, the names up to the fault count.
+///
+/// Nothing is asked but that the file is read once.
+///
+/// # Errors
+/// As `run_file`. `OutOfMemory` also if memory for the names can't be allocated.
+pub(crate) fn list_file<T: Tree>(
+    job: &Job<'_>,
+    tree: &mut T,
+    name: &[u8],
+    names: &mut Names,
+) -> Result<Update, ReplaceError>
+    ensures { ListsOne job.now.arguments.now.plan name.now (T.history tree.old)
+        (T.history tree.new) result }
+{
+    let mut listed = Watched::new(Vec::<u8>::new(job.alloc));
+    let ran = run_file(job, tree, name, &mut listed);
+    let added = names.add(listed.inner().as_slice());
+    let (text, _) = match ran {
+        Ok(ran) => ran,
+        Err(error) => return Err(error),
+    };
+    if added.is_err() || names.add_hidden(text.as_slice(), job.mode()).is_err() {
+        return Err(ReplaceError::OutOfMemory);
+    }
+    Ok(Update::Unchanged)
+}

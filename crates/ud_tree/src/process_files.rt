@@ -1,0 +1,72 @@
+//! Processing all files of a run.
+
+ghost use Rattle.std.specs.Prelude.{◌≡◌};
+ghost use Rattle.ud_tree.specs.Streams.{stream_of};
+ghost use Rattle.ud_tree.specs.TreeRuns.{DoesJob, DoesOne};
+ghost use Rattle.ud_tree.specs.Writing.{WritesOne, moment};
+
+use crate::arguments::Task;
+use crate::counts::Counts;
+use crate::file_result::fate_of;
+use crate::job::Job;
+use crate::list_file::list_file;
+use crate::names::Names;
+use crate::replace_file::replace_file;
+use crate::report::Report;
+use crate::show_file::show_file;
+use crate::tree::Tree;
+use crate::walk::Found;
+use std::io::Write;
+use ud_engine::Watched;
+use ud_replace::{ReplaceError, Update};
+
+/// Does with each file in turn what the arguments ask for, and reports its fault. Returns what
+/// became of the files.
+pub(crate) fn process_files<T: Tree, W: Write, E: Write>(
+    job: &Job<'_>,
+    tree: &mut T,
+    files: &[Found],
+    out: &mut Watched<W>,
+    names: &mut Names,
+    report: &mut Report,
+    err: &mut Watched<E>,
+) -> Counts
+    ensures { DoesJob job.now files.now
+        (moment T.history W.contents E.contents tree.old out.old err.old) report.old
+        (moment T.history W.contents E.contents tree.new out.new err.new) report.new result }
+{
+    let mut counts = Counts::new();
+    for (done, file) in files.iter().enumerate() {
+        report.progress(err, done, files.len());
+        let name = file.path.as_bytes();
+        let update = process_file(job, tree, name, out, names, report);
+        report.file_result(err, job, tree, name, update);
+        counts.add(fate_of(update));
+    }
+    counts
+}
+
+/// Does with a file what the arguments ask for.
+///
+/// # Errors
+/// As `replace_file`, `show_file` or `list_file`.
+fn process_file<T: Tree, W: Write>(
+    job: &Job<'_>,
+    tree: &mut T,
+    name: &[u8],
+    out: &mut Watched<W>,
+    names: &mut Names,
+    report: &mut Report,
+) -> Result<Update, ReplaceError>
+    ensures writes { WritesOne (DoesOne job.now.arguments.now job.now.tag.now) name.now
+        (T.history tree.old) (T.history tree.new) (stream_of W.contents out.old)
+        (stream_of W.contents out.new) result }
+    ensures terminal { report.new.is_terminal ≡ report.old.is_terminal }
+    ensures shown { report.new.is_shown ≡ report.old.is_shown }
+{
+    match job.arguments.task {
+        Task::Replace => replace_file(job, tree, name, report),
+        Task::Diff => show_file(job, tree, name, out, report),
+        Task::Names => list_file(job, tree, name, names),
+    }
+}
