@@ -4,11 +4,13 @@
 //! `Report` is a fault, and faults are counted. On a terminal, a line with the number of files is
 //! shown during the run, and removed before each message.
 
-ghost use Rattle.std.specs.Prelude.{◌≡◌, [], false, if◌then◌else◌};
+ghost use Rattle.std.specs.Prelude.{◌≡◌, [], ◌++◌, false, if◌then◌else◌, None};
 ghost use Rattle.std.specs.List.{flat_map};
-ghost use Rattle.ud_tree.specs.Messages.{IsPlain, Tells, TellsFault};
+ghost use Rattle.ud_replace.specs.Calls.{met};
+ghost use Rattle.ud_tree.specs.Messages.{IsPlain, Tells, TellsFault, fault_line};
 ghost use Rattle.ud_tree.specs.Streams.{Sends, stream_of};
 ghost use Rattle.ud_tree.specs.Summaries.{Says, line_of};
+ghost use Rattle.ud_tree.specs.WalkMessages.{ReportsFailure, ReportsOne, ReportsRefusal};
 
 use crate::arguments::ArgumentFault;
 use crate::job::Job;
@@ -62,7 +64,8 @@ pub(crate) struct Report {
 impl Report {
     /// Returns a report without messages.
     pub(crate) fn new(job: &Job<'_>) -> Report
-        ensures { job.now.is_terminal ≡ false → IsPlain result }
+        ensures plain { job.now.is_terminal ≡ false → IsPlain result }
+        ensures faultless { result.faulty ≡ 0 }
     {
         Report {
             alloc: job.alloc,
@@ -75,7 +78,9 @@ impl Report {
     }
 
     /// Returns the number of faults.
-    pub(crate) fn faulty(&self) -> usize {
+    pub(crate) fn faulty(&self) -> usize
+        ensures { result ≡ self.now.faulty }
+    {
         self.faulty
     }
 
@@ -119,6 +124,7 @@ impl Report {
         ensures terminal { self.new.is_terminal ≡ self.old.is_terminal }
         ensures hidden { self.new.is_shown ≡ false }
         ensures unshown { self.old.is_shown ≡ false → err.new ≡ err.old }
+        ensures faults { self.new.faulty ≡ self.old.faulty }
     {
         if !self.is_shown {
             return;
@@ -150,6 +156,7 @@ impl Report {
             (stream_of E.contents err.new) (line_of (flat_map (λ p. p.now) parts.now)) }
         ensures tells { Tells self.old self.new (stream_of E.contents err.old)
             (stream_of E.contents err.new) (line_of (flat_map (λ p. p.now) parts.now)) }
+        ensures faults { self.new.faulty ≡ self.old.faulty }
     {
         self.clear(err);
         report_line(err, parts);
@@ -157,8 +164,10 @@ impl Report {
 
     /// Writes a fault of a path.
     pub(crate) fn fault<E: Write>(&mut self, err: &mut Watched<E>, path: &[u8], text: &[u8])
-        ensures { TellsFault path.now self.old self.new (stream_of E.contents err.old)
+        ensures told { TellsFault path.now self.old self.new (stream_of E.contents err.old)
             (stream_of E.contents err.new) }
+        ensures reports { ReportsOne (fault_line path.now text.now) self.old self.new
+            (stream_of E.contents err.old) (stream_of E.contents err.new) }
     {
         self.faulty = self.faulty.saturating_add(1);
         self.line(err, &[path, b": ", text]);
@@ -171,7 +180,10 @@ impl Report {
         folder: &[u8],
         name: &[u8],
         text: &[u8],
-    ) {
+    )
+        ensures { ReportsOne (fault_line (folder.now ++ name.now) text.now) self.old self.new
+            (stream_of E.contents err.old) (stream_of E.contents err.new) }
+    {
         self.faulty = self.faulty.saturating_add(1);
         self.line(err, &[folder, name, b": ", text]);
     }
@@ -184,8 +196,10 @@ impl Report {
         text: &[u8],
         reason: Option<io::Error>,
     )
-        ensures { TellsFault path.now self.old self.new (stream_of E.contents err.old)
+        ensures told { TellsFault path.now self.old self.new (stream_of E.contents err.old)
             (stream_of E.contents err.new) }
+        ensures reports { ReportsFailure path.now text.now self.old self.new
+            (stream_of E.contents err.old) (stream_of E.contents err.new) }
     {
         match reason {
             None => self.fault(err, path, text),
@@ -206,7 +220,10 @@ impl Report {
         err: &mut Watched<E>,
         path: &[u8],
         reason: Option<io::Error>,
-    ) {
+    )
+        ensures { ReportsRefusal (met path.now None) self.old self.new
+            (stream_of E.contents err.old) (stream_of E.contents err.new) }
+    {
         match reason {
             Some(error) if error.kind() != ErrorKind::NotFound => {
                 self.failure(err, path, b"Cannot be found", Some(error));

@@ -5,4 +5,4 @@ pub returns-in_default-clause-told : goal.returns-in_default-clause-told
 returns-in_default-clause-told g c = c.in_default.ensures.told
 
 pub returns-then-is_err-clause-told : goal.returns-then-is_err-clause-told
-returns-then-is_err-clause-told g c = fault_then c.args.name.now c.in-Some.ensures.told c.fault.ensures
+returns-then-is_err-clause-told g c = fault_then c.args.name.now c.in-Some.ensures.told c.fault.ensures.told

@@ -14,4 +14,4 @@ returns g c =
     (omega (arith, c.saturating_add-faults.ensures, c.process_files-counts.type_inv))
     (faults_added c.write_lists-list_fault.result c.finish_output-out_fault.result c.args.walk_faults c.process_files-counts.result.faulty _ _ _ _ _
     c.from.ensures c.saturating_add.ensures c.from-2.ensures c.saturating_add-2.ensures c.saturating_add-faults.ensures)
-    c.status.ensures c.new-report.ensures
+    c.status.ensures c.new-report.ensures.plain

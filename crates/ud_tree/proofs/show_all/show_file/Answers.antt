@@ -49,7 +49,7 @@ returns-in_default-clause-told g c = c.in_default.ensures.told
 
 pub returns-in_default-diff_of-clause-told : goal.returns-in_default-diff_of-clause-told
 returns-in_default-diff_of-clause-told g c =
-    fault_then c.args.name.now (tells_then c.in-Some.ensures.told (tells_kept (stream_of g.E.Write.contents c.run_file.new.err) c.search.ensures.terminal c.search.ensures.shown)) c.fault.ensures
+    fault_then c.args.name.now (tells_then c.in-Some.ensures.told (tells_kept (stream_of g.E.Write.contents c.run_file.new.err) c.search.ensures.terminal c.search.ensures.shown)) c.fault.ensures.told
 
 pub returns-then-not-differs-clause-told : goal.returns-then-not-differs-clause-told
 returns-then-not-differs-clause-told g c =
