@@ -3,6 +3,7 @@ pub mod StreamLemmas
 pub mod SummaryLemmas
 pub mod MessageLemmas
 pub mod WalkLemmas
+pub mod WalkTellLemmas
 pub mod TreeLaws
 pub mod RunLemmas
 mod ShownLemmas

@@ -1,12 +1,11 @@
 -- Messages that are written one after another.
-use Rattle.std.proofs.Common.{◌≡◌, ◌⊎◌, inl, inr, ℕ, ◌+◌, List, [], ◌++◌, length, Bool, true, false, cond, refl, sym, ap, ◌∙◌, subst, true≢false, append_assoc, append-nil, codes}
+use Rattle.std.proofs.Common.{◌≡◌, ◌⊎◌, inl, inr, ℕ, ◌+◌, List, [], ◌++◌, length, Bool, true, false, cond, refl, sym, ap, ◌∙◌, subst, true≢false, append-nil, codes}
 use Rattle.std.specs.List.{flat_map}
 use Rattle.ud_replace.specs.declared.error.ReplaceError.{ReplaceError}
 use Rattle.ud_replace.specs.declared.error.ReplaceError.TheVariants.{ReadOnly, Write}
 use Rattle.ud_tree.specs.declared.report.Report.{Report}
 use Rattle.ud_tree.specs.Streams.{Stream, Sends}
-use Rattle.ud_tree.specs.Summaries.{line_of}
-use Rattle.ud_tree.specs.Messages.{fault_line, IsFailureOf, no_reason, with_reason, IsMessageOf, list_fault, write_fault, output_faults, Tells, TellsFailure, TellsError}
+use Rattle.ud_tree.specs.Messages.{IsFailureOf, IsMessageOf, list_fault, write_fault, output_faults, Tells, ReportsFailure, TellsError}
 use Rattle.ud_tree.proofs.StreamLemmas.{sends_none, sends_then}
 
 -- The report changed in nothing that the error stream shows, and nothing was written.
@@ -28,36 +27,9 @@ cleared_tells {u = u} {x = x} same hidden unshown h = record {
   sent = λ p. subst (λ (z : Stream). Sends z u x) (unshown p.unshown) h;
 }
 
--- The message of a failed call was written after nothing.
-pub failure_then : {a b c : Report} {s t u : Stream} (name text : List ℕ) → Tells a b s t [] → TellsFailure name text b c t u → TellsFailure name text a c s u
-failure_then name text h k = record { message = k.message; is_of = k.is_of; tells = tells_then h k.tells }
-
 -- Equal bytes were written.
 pub tells_same : {a b : Report} {s t : Stream} {x y : List ℕ} → x ≡ y → Tells a b s t x → Tells a b s t y
 tells_same {a = a} {b = b} {s = s} {t = t} e h = subst (λ (z : List ℕ). Tells a b s t z) e h
-
--- The line of a fault, from its parts.
-pub fault_said : {a b : Report} {s t : Stream} (name text : List ℕ) → Tells a b s t (line_of (name ++ (codes ": " ++ (text ++ [])))) → Tells a b s t (fault_line name text)
-fault_said name text h = tells_same (ap line_of joined) h
-  where
-    joined : name ++ (codes ": " ++ (text ++ [])) ≡ (name ++ codes ": ") ++ text
-    joined = simp (append_assoc, append-nil)
-
--- The line of a failed call without a reason was written.
-pub failure_told : {a b : Report} {s t : Stream} (name text : List ℕ) → Tells a b s t (fault_line name text) → TellsFailure name text a b s t
-failure_told name text h = record { message = fault_line name text; is_of = no_reason refl; tells = h }
-
--- The line of a failed call with a reason, from its parts.
-pub reason_told : {a b : Report} {s t : Stream} (name text reason : List ℕ) → Tells a b s t (line_of (name ++ (codes ": " ++ (text ++ (codes ": " ++ (reason ++ [])))))) →
-    TellsFailure name text a b s t
-reason_told name text reason h = record {
-  message = line_of (name ++ (codes ": " ++ (text ++ (codes ": " ++ (reason ++ [])))));
-  is_of = with_reason reason (ap line_of joined);
-  tells = h;
-}
-  where
-    joined : name ++ (codes ": " ++ (text ++ (codes ": " ++ (reason ++ [])))) ≡ (name ++ codes ": ") ++ ((text ++ codes ": ") ++ reason)
-    joined = simp (append_assoc, append-nil)
 
 -- The message of an error of this kind was written.
 pub error_is : {a b : Report} {s t : Stream} {e : ReplaceError} {message : List ℕ} (name : List ℕ) (kind : ReplaceError) → e ≡ kind → IsMessageOf name kind message →
@@ -67,11 +39,11 @@ error_is {a = a} {b = b} {s = s} {t = t} {message = message} name kind is of h =
 
 -- The message of a failed call was written, which is an error of this kind.
 pub failure_is : {a b : Report} {s t : Stream} {e : ReplaceError} {text : List ℕ} (name : List ℕ) (kind : ReplaceError) → e ≡ kind →
-    ((m : List ℕ) → IsFailureOf name text m → IsMessageOf name kind m) → TellsFailure name text a b s t → TellsError name e a b s t
-failure_is name kind is of h = error_is name kind is (of h.message h.is_of) h.tells
+    ((m : List ℕ) → IsFailureOf name text m → IsMessageOf name kind m) → ReportsFailure name text a b s t → TellsError name e a b s t
+failure_is name kind is of h = error_is name kind is (of h.message h.is_of) h.reports.tells
 
 -- The message of a failed write was written, of either kind.
-pub unwritten_is : {a b : Report} {s t : Stream} {e : ReplaceError} (name : List ℕ) → (e ≡ ReadOnly) ⊎ (e ≡ Write) → TellsFailure name (codes "Cannot be written") a b s t → TellsError name e a b s t
+pub unwritten_is : {a b : Report} {s t : Stream} {e : ReplaceError} (name : List ℕ) → (e ≡ ReadOnly) ⊎ (e ≡ Write) → ReportsFailure name (codes "Cannot be written") a b s t → TellsError name e a b s t
 unwritten_is name (inl is) h = failure_is name ReadOnly is (λ m h. h) h
 unwritten_is name (inr is) h = failure_is name Write is (λ m h. h) h
 

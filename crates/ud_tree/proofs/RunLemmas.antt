@@ -15,7 +15,7 @@ use Rattle.ud_tree.specs.declared.arguments.Arguments.{Arguments}
 use Rattle.ud_tree.specs.declared.arguments.Task.{Task}
 use Rattle.ud_tree.specs.declared.arguments.Task.TheVariants.{Names}
 use Rattle.ud_tree.specs.Fates.{is_changed, is_same, is_faulty}
-use Rattle.ud_tree.specs.Runs.{fate_of, FileResult, Unshown, EachFile, no_file, then_file, changed_in, shown_of, told_of, Counted, names_of}
+use Rattle.ud_tree.specs.Runs.{fate_of, FileResult, Unshown, EachFile, no_file, then_file, changed_in, faulty_in, shown_of, told_of, Counted, names_of}
 use Rattle.ud_tree.specs.Statuses.{tree_status}
 use Rattle.ud_tree.specs.Streams.{Stream, Sends}
 use Rattle.ud_tree.specs.declared.job.Job.{Job}
@@ -23,9 +23,10 @@ use Rattle.ud_tree.specs.declared.report.Report.{Report}
 use Rattle.ud_tree.specs.Messages.{IsTold, IsPlain, Tells, TellsResult, TellsIf, list_fault, write_fault, output_faults}
 use Rattle.ud_tree.specs.Summaries.{last_lines, TellsEnd}
 use Rattle.ud_tree.proofs.MessageLemmas.{tells_kept, tells_then, tells_same, output_told, output_count}
-use Rattle.ud_tree.specs.Walks.{IsWalk, WalksOnly}
+use Rattle.ud_tree.specs.Walks.{IsWalk}
+use Rattle.ud_tree.specs.WalkMessages.{StopsWalk, FindsFiles}
 use Rattle.ud_tree.specs.Writing.{Moment, WritesOne, WritesAll, WritesList}
-use Rattle.ud_tree.specs.TreeRuns.{DoesBy, DoesOne, DoesJob, EndsWriting, no_run, ran, RunsTree}
+use Rattle.ud_tree.specs.TreeRuns.{DoesBy, DoesOne, DoesJob, Ends, EndsWriting, no_run, ran, RunsTree}
 use Rattle.ud_tree.proofs.StreamLemmas.{sends_none, sends_then, sends_same}
 
 -- One file more is counted, if its fate passes the test.
@@ -146,11 +147,11 @@ writes_list args names rest none h k = record {
 -- The run ends with the status of its counts.
 pub ends : (job : Job) (files : List Found) {old mid new : Moment} {listed listed_err : Stream} {r mid_report list_report end_report : Report} {counts : Counts} (lost unwritten : Bool) (in_walk faults hidden status : ℕ) →
     DoesJob job files old r mid mid_report counts → WritesList job.arguments.now mid.out listed →
-    TellsIf list_fault lost mid_report list_report mid.err listed_err → Sends listed new.out [] →
+    TellsIf list_fault lost mid_report list_report mid.err listed_err → Sends listed new.out [] → unwritten ≡ new.out.failed →
     (end : Stream) → TellsIf write_fault unwritten list_report end_report listed_err end → TellsEnd job.arguments.now counts faults hidden end_report end new.err →
     new.calls ≡ mid.calls → counts.faulty ≤ faults → (in_walk + (cond lost 1 0 + cond unwritten 1 0) + counts.faulty < 2 ^ 64 → faults ≡ in_walk + (cond lost 1 0 + cond unwritten 1 0) + counts.faulty) →
-    status ≡ tree_status job.arguments.now.task job.arguments.now.plan.settings.exit_mode faults counts.changed → (job.is_terminal ≡ false → IsPlain r) → EndsWriting job old files new status
-ends job files {old = old} {new = new} {counts = counts} lost unwritten in_walk faults hidden status w l t f end u e same few all is plain =
+    status ≡ tree_status job.arguments.now.task job.arguments.now.plan.settings.exit_mode faults counts.changed → (job.is_terminal ≡ false → IsPlain r) → EndsWriting job in_walk old files new status
+ends job files {old = old} {new = new} {counts = counts} lost unwritten in_walk faults hidden status w l t f failed end u e same few all is plain =
     let h = w.counted in
     let args = job.arguments.now in
     let of_output = flat_map (λ x. x) (output_faults lost unwritten) in
@@ -175,10 +176,8 @@ ends job files {old = old} {new = new} {counts = counts} lost unwritten in_walk 
             ∙ ap (λ (x : ℕ). last_lines args (changed_in h.results) x faults hidden e.remaining) h.counts_are.unchanged;
         of_output = output_faults lost unwritten;
         is_lost = lost;
-        is_unwritten = unwritten;
-        of_output_is = refl;
+        of_output_is = ap (output_faults lost) failed;
         told_is = ap (λ (x : List ℕ). (x ++ of_output) ++ last) h.told_is;
-        in_walk = in_walk;
         faults_are = rw (output_count lost unwritten, ← h.counts_are.faulty) all;
       };
       sent = sends_same (append-nil (w.shown ++ l.listed)) (sends_then (sends_then w.sent l.sent) f);
@@ -186,30 +185,69 @@ ends job files {old = old} {new = new} {counts = counts} lost unwritten in_walk 
       tells = λ p. let told = tells_then w.tells both in let is_plain = plain p in sends_then (told.sent is_plain) (e.alone (told.plain is_plain).unshown);
     }
 
--- The run made only calls of a walk.
-pub no_files : (job : Job) {old new : Moment} → WalksOnly old.calls new.calls → new.out ≡ old.out → RunsTree job old new 2
-no_files job {old = old} {new = new} h same = record {
+-- The run made only calls of a walk, and a message says why.
+pub no_files : (job : Job) {old new : Moment} {r r' : Report} → (job.is_terminal ≡ false → IsPlain r) →
+    StopsWalk job.arguments.now.from_input old.calls new.calls r r' old.err new.err → new.out ≡ old.out → RunsTree job old new 2
+no_files job {old = old} {new = new} plain h same = record {
+  messages = h.messages;
   shown = [];
-  told = [];
+  told = h.told;
   last = [];
-  is_run = no_run h;
+  is_run = no_run h.walk h.stops;
   sent = subst (λ (s : Stream). Sends old.out s []) (sym same) (sends_none old.out);
   ended = (new.err, sends_none new.err);
-  tells = λ p. (new.err, sends_none new.err);
+  tells = λ p. h.tells.sent (plain p);
 }
 
+-- The faults of the walk have another number, which is the same unless it is too large.
+ends_counted : {args : Arguments} {tag : List ℕ} {failed : Bool} {old new : List Call} {names : List (List ℕ)} {shown told last : List ℕ} {status : ℕ} (n m : ℕ) → (m < 2 ^ 64 → n ≡ m) →
+    Ends args tag n failed old names new shown told last status → Ends args tag m failed old names new shown told last status
+ends_counted n m same h = record {
+  results = h.results;
+  each = h.each;
+  listed = h.listed;
+  is_wanted = h.is_wanted;
+  shown_is = h.shown_is;
+  faults = h.faults;
+  reported = h.reported;
+  status_is = h.status_is;
+  hidden = h.hidden;
+  remaining = h.remaining;
+  last_is = h.last_is;
+  of_output = h.of_output;
+  is_lost = h.is_lost;
+  of_output_is = h.of_output_is;
+  told_is = h.told_is;
+  faults_are = faults_counted n m (length h.of_output) (faulty_in h.results) h.faults same h.faults_are;
+}
+  where
+    faults_counted : (n m o f faults : ℕ) → (m < 2 ^ 64 → n ≡ m) → (n + o + f < 2 ^ 64 → faults ≡ n + o + f) → m + o + f < 2 ^ 64 → faults ≡ m + o + f
+    faults_counted n m o f faults same h small =
+        let is : n ≡ m = same (omega arith) in
+        let sum : faults ≡ n + o + f = h (omega arith) in
+        omega arith
+
 -- The run processed all files that the walk found.
-pub ran_from : (job : Job) {old mid new : Moment} {found files : List Found} {status : ℕ} → files ≡ found → IsWalk old.calls mid.calls found → mid.out ≡ old.out →
-    EndsWriting job mid files new status → RunsTree job old new status
-ran_from job {old = old} {mid = mid} {new = new} {files = files} is w same h = record {
+pub ran_from : (job : Job) {old mid new : Moment} {r r' : Report} {found files : List Found} {status : ℕ} (in_walk : ℕ) → files ≡ found → (job.is_terminal ≡ false → IsPlain r) → r.faulty ≡ 0 →
+    in_walk ≡ r'.faulty → FindsFiles job.arguments.now.from_input old.calls mid.calls found r r' old.err mid.err → mid.out ≡ old.out →
+    EndsWriting job in_walk mid files new status → RunsTree job old new status
+ran_from job {old = old} {mid = mid} {new = new} {r = r} {r' = r'} {files = files} in_walk is plain none number w same h = record {
+  messages = w.reports.messages;
   shown = h.shown;
   told = h.told;
   last = h.last;
-  is_run = ran mid.calls files (subst (λ (fs : List Found). IsWalk old.calls mid.calls fs) (sym is) w) h.ends;
+  is_run = ran mid.calls files (subst (λ (fs : List Found). IsWalk old.calls mid.calls fs) (sym is) w.is_walk) w.reports.walk
+      (subst (λ (fs : List Found). job.arguments.now.from_input ≡ false → 0 < length fs) (sym is) w.some)
+      (ends_counted in_walk (length w.reports.messages) (walk_counted r.faulty r'.faulty in_walk (length w.reports.messages) none number w.reports.counted) h.ends);
   sent = subst (λ (s : Stream). Sends s new.out h.shown) same h.sent;
   ended = h.ended;
-  tells = λ p. (mid.err, h.tells p);
+  tells = λ p. sends_then (w.reports.tells.sent (plain p)) (h.tells p);
 }
+  where
+    walk_counted : (a b in_walk n : ℕ) → a ≡ 0 → in_walk ≡ b → (a + n < 2 ^ 64 → b ≡ a + n) → n < 2 ^ 64 → in_walk ≡ n
+    walk_counted a b in_walk n none number h small =
+        let is : b ≡ a + n = h (omega arith) in
+        omega arith
 
 byte_is : (b : Bool) (n : ℕ) → n ≡ bool_byte b → n ≡ cond b 1 0
 byte_is true n e = e

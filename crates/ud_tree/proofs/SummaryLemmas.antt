@@ -3,9 +3,9 @@ use Rattle.std.proofs.Common.{◌≡◌, ℕ, List, [], ◌++◌, Bool, true, fa
 use Rattle.ud_tree.specs.declared.report.Report.{Report}
 use Rattle.ud_tree.specs.declared.arguments.Arguments.{Arguments}
 use Rattle.ud_tree.specs.declared.counts.Counts.{Counts}
-use Rattle.ud_tree.specs.declared.arguments.Task.TheVariants.{Replace, Diff, Names}
+use Rattle.ud_tree.specs.declared.arguments.Task.TheVariants.{Names}
 use Rattle.ud_tree.specs.Streams.{Stream, Sends}
-use Rattle.ud_tree.specs.Summaries.{line_of, summary, remaining_text, remaining_line, last_lines, TellsEnd, Says}
+use Rattle.ud_tree.specs.Summaries.{line_of, changes_line, summary, remaining_text, remaining_line, last_lines, TellsEnd, Says}
 use Rattle.ud_tree.proofs.StreamLemmas.{sends_none, sends_then, sends_same}
 
 -- A line was written in three parts.
@@ -16,22 +16,13 @@ line_sent {text = text} h k l = sends_then (sends_then h k) l
 pub says_same : {old new : Report} {err err' : Stream} {x y : List ℕ} → x ≡ y → Says old new err err' x → Says old new err err' y
 says_same {old = old} {new = new} {err = err} {err' = err'} e h = subst (λ (z : List ℕ). Says old new err err' z) e h
 
--- The summary of a run that replaces files, from its six parts.
-pub replaced_joined : (changed unchanged faults hidden : ℕ) (c u f : List ℕ) → c ≡ decimal changed → u ≡ decimal unchanged → f ≡ decimal faults →
-    line_of (c ++ (codes " changed, " ++ (u ++ (codes " unchanged, " ++ (f ++ (codes " faulty" ++ [])))))) ≡ summary Replace changed unchanged faults hidden
-replaced_joined changed unchanged faults hidden c u f p q r =
-    ap (λ x. line_of (x ++ (codes " changed, " ++ (u ++ (codes " unchanged, " ++ (f ++ (codes " faulty" ++ []))))))) p
-    ∙ ap (λ x. line_of (decimal changed ++ (codes " changed, " ++ (x ++ (codes " unchanged, " ++ (f ++ (codes " faulty" ++ []))))))) q
-    ∙ ap (λ x. line_of (decimal changed ++ (codes " changed, " ++ (decimal unchanged ++ (codes " unchanged, " ++ (x ++ (codes " faulty" ++ []))))))) r
-    ∙ simp (append_assoc, append-nil)
-
--- The summary of a run that shows diffs.
-pub shown_joined : (changed unchanged faults hidden : ℕ) (c u f : List ℕ) → c ≡ decimal changed → u ≡ decimal unchanged → f ≡ decimal faults →
-    line_of (c ++ (codes " would change, " ++ (u ++ (codes " unchanged, " ++ (f ++ (codes " faulty" ++ [])))))) ≡ summary Diff changed unchanged faults hidden
-shown_joined changed unchanged faults hidden c u f p q r =
-    ap (λ x. line_of (x ++ (codes " would change, " ++ (u ++ (codes " unchanged, " ++ (f ++ (codes " faulty" ++ []))))))) p
-    ∙ ap (λ x. line_of (decimal changed ++ (codes " would change, " ++ (x ++ (codes " unchanged, " ++ (f ++ (codes " faulty" ++ []))))))) q
-    ∙ ap (λ x. line_of (decimal changed ++ (codes " would change, " ++ (decimal unchanged ++ (codes " unchanged, " ++ (x ++ (codes " faulty" ++ []))))))) r
+-- The numbers of files that changed, or would, from the six parts of their line.
+pub changes_joined : (changed unchanged faults : ℕ) (word c u f : List ℕ) → c ≡ decimal changed → u ≡ decimal unchanged → f ≡ decimal faults →
+    line_of (c ++ (word ++ (u ++ (codes " unchanged, " ++ (f ++ (codes " faulty" ++ [])))))) ≡ changes_line word changed unchanged faults
+changes_joined changed unchanged faults word c u f p q r =
+    ap (λ x. line_of (x ++ (word ++ (u ++ (codes " unchanged, " ++ (f ++ (codes " faulty" ++ []))))))) p
+    ∙ ap (λ x. line_of (decimal changed ++ (word ++ (x ++ (codes " unchanged, " ++ (f ++ (codes " faulty" ++ []))))))) q
+    ∙ ap (λ x. line_of (decimal changed ++ (word ++ (decimal unchanged ++ (codes " unchanged, " ++ (x ++ (codes " faulty" ++ []))))))) r
     ∙ simp (append_assoc, append-nil)
 
 -- The summary of a run that lists names.

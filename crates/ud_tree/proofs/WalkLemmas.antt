@@ -9,7 +9,7 @@ use Rattle.ud_replace.specs.declared.node.NodeKind.TheVariants.{File}
 use Rattle.ud_replace.specs.declared.node.FileId.{FileId}
 use Rattle.ud_replace.specs.Calls.{Call, walked, WalkCall, met}
 use Rattle.ud_tree.specs.declared.walk.Found.{Found}
-use Rattle.ud_tree.specs.Walks.{WasMet, Finds, Adds, adds_none, adds_one, AddsNode, no_node, file_node, WalksOnly, IsFileList, IsWalk}
+use Rattle.ud_tree.specs.Walks.{WasMet, Finds, Adds, adds_none, adds_one, AddsNode, no_node, file_node, IsFileList, IsWalk}
 
 -- A file was there before, or was met by these calls.
 abbrev pub Origin : List WalkCall → List Found → Found → Type 0
@@ -93,10 +93,6 @@ pub finds_node : {old new : List Call} {before after : List Found} (path : List 
     AddsNode before path node after → Finds old new before after
 finds_node {before = before} path node is (no_node same) = finds_same same (finds_call (met path (Some node)) before is)
 finds_node path node is (file_node file added) = finds_file path node is file added
-
--- Only calls of a walk were made.
-pub only_walks : {old new : List Call} {before found : List Found} → Finds old new before found → WalksOnly old new
-only_walks h = record { calls = h.calls; are = h.are }
 
 -- A walk from no files has met all that it found.
 pub walk_found : {old new : List Call} {before found : List Found} (files : List Found) → before ≡ [] → Finds old new before found → IsFileList found files → IsWalk old new files

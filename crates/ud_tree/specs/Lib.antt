@@ -10,5 +10,6 @@ pub mod TreeDiffs
 pub mod Summaries
 pub mod Messages
 pub mod Shown
+pub mod WalkMessages
 pub mod Streams
 pub mod Writing

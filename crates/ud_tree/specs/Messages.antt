@@ -8,14 +8,15 @@
 --   output_faults is_lost is_unwritten   those of them that a run has
 --   IsPlain r                        the error stream is no terminal
 --   Tells old new err err' bytes     `bytes` were written to such a stream
---   TellsFailure name text old new err err'   the message of a failed call was
+--   ReportsOne message old new err err'   a message was written, and is counted
+--   ReportsFailure name text old new err err'   so was the message of a failed call
 --   TellsError name e old new err err'   the message of the error of a file was
 --   TellsResult name update old new err err'   that was written, or nothing
 --   TellsIf message faulty old new err err'   a message was written, or nothing
 --
 -- `old` and `new` are the report before and after, `err` and `err'` the error stream.
-use Rattle.std.specs.Prelude.{◌≡◌, ℕ, List, [], ◌∷◌, ◌++◌, Bool, false, Result, Ok, Err, codes}
-use Rattle.std.specs.Prelude.{if◌then◌else◌}
+use Rattle.std.specs.Prelude.{◌≡◌, ℕ, ◌+◌, ◌<◌, ◌^◌, List, [], ◌∷◌, ◌++◌, Bool, false, Result}
+use Rattle.std.specs.Prelude.{Ok, Err, codes, if◌then◌else◌}
 use Rattle.ud_diagnostics.specs.RunMessages.{fault_message}
 use Rattle.ud_replace.specs.declared.error.Update.{Update}
 use Rattle.ud_replace.specs.declared.error.ReplaceError.{ReplaceError}
@@ -83,12 +84,18 @@ pub record Tells (old new : Report) (err err' : Stream) (bytes : List ℕ) : Typ
   pub plain : IsPlain old → IsPlain new
   pub sent : IsPlain old → Sends err err' bytes
 
--- `TellsFailure name text old new err err'`: the message of a failed call for the path `name` was
--- written.
-pub record TellsFailure (name text : List ℕ) (old new : Report) (err err' : Stream) : Type 0 where
+-- `ReportsOne message old new err err'`: `message` was written, and is counted as a fault.
+pub record ReportsOne (message : List ℕ) (old new : Report) (err err' : Stream) : Type 0 where
+  pub tells : Tells old new err err' message
+  pub counted : old.faulty + 1 < 2 ^ 64 → new.faulty ≡ old.faulty + 1
+
+-- `ReportsFailure name text old new err err'`: the message of a failed call for the path `name` was
+-- written and counted.
+pub record ReportsFailure (name text : List ℕ) (old new : Report) (err err' : Stream) :
+    Type 0 where
   pub message : List ℕ
   pub is_of : IsFailureOf name text message
-  pub tells : Tells old new err err' message
+  pub reports : ReportsOne message old new err err'
 
 -- `TellsError name e old new err err'`: the message of the error `e` of the file `name` was
 -- written.

@@ -1,6 +1,7 @@
 -- Summaries: the lines that end a run.
 --
 --   line_of text              a line of the program with this text
+--   changes_line word changed unchanged faults   how many files changed, or would
 --   summary task changed unchanged faults hidden   how many files there were of each kind
 --   remaining_line listed count   how many conditions still name a symbol
 --   last_lines args changed unchanged faults hidden remaining   both lines, unless the run is quiet
@@ -20,16 +21,20 @@ use Rattle.ud_tree.specs.Streams.{Stream, Sends}
 abbrev pub line_of : List ℕ → List ℕ
 line_of text = codes "unifdef-tree: " ++ text ++ codes "\n"
 
+-- `changes_line word changed unchanged faults`: the line with the numbers of files that changed, or
+-- would, as `word` says, of those that didn't, and of faults.
+abbrev pub changes_line : List ℕ → ℕ → ℕ → ℕ → List ℕ
+changes_line word changed unchanged faults = line_of (decimal changed ++ word ++
+    decimal unchanged ++ codes " unchanged, " ++ decimal faults ++ codes " faulty")
+
 -- `summary task changed unchanged faults hidden`: the line with the numbers of files that changed,
 -- or would, of those that didn't, and of faults. If names are listed: of files without a fault, of
 -- faults, and of conditions that couldn't be listed.
 abbrev pub summary : Task → ℕ → ℕ → ℕ → ℕ → List ℕ
-summary Replace changed unchanged faults hidden = line_of (decimal changed ++
-    codes " changed, " ++ decimal unchanged ++ codes " unchanged, " ++ decimal faults ++
-    codes " faulty")
-summary Diff changed unchanged faults hidden = line_of (decimal changed ++
-    codes " would change, " ++ decimal unchanged ++ codes " unchanged, " ++ decimal faults ++
-    codes " faulty")
+summary Replace changed unchanged faults hidden =
+    changes_line (codes " changed, ") changed unchanged faults
+summary Diff changed unchanged faults hidden =
+    changes_line (codes " would change, ") changed unchanged faults
 summary Names changed unchanged faults hidden = line_of (decimal unchanged ++
     codes " files listed, " ++ decimal faults ++ codes " faulty; " ++ decimal hidden ++
     codes " conditions could not be listed")

@@ -2,15 +2,17 @@
 --
 --   DoesBy task args tag name old new result   what a task does with a file
 --   DoesOne args tag name old new result       what the arguments ask for is done with a file
---   Ends args tag old names new shown told last status   all files are processed, with this status
+--   Ends args tag in_walk failed old names new shown told last status   all files are processed
 --   DoesJob job files before report after report' counts   the same for all files
---   EndsWriting job before files after status  all files are processed, and all was written
---   IsRun args tag old new shown told last status   a whole run
+--   EndsWriting job in_walk before files after status   the same, and all was written
+--   IsRun args tag old new messages failed shown told last status   a whole run
 --   Run, IsRunOf run                           its arguments, calls, output and status
 --   RunsTree job before after status           a whole run, and all of that was written
 --
--- `old` and `new` are the calls before and after, the newest first. `shown` is what is to be
--- written to the output, `told` to the error stream after the walk, and `last` last.
+-- `old` and `new` are the calls before and after, the newest first. `messages` are those of the
+-- walk, and `in_walk` is their number. `shown` is what is to be written to the output, and `failed`
+-- says whether the output has failed. `told` is to be written to the error stream after the walk,
+-- and `last` last.
 use Rattle.std.specs.Prelude.{◌≡◌, ℕ, ◌+◌, ◌≤◌, ◌<◌, ◌^◌, List, [], ◌++◌, length}
 use Rattle.std.specs.Prelude.{Bool, false}
 use Rattle.std.specs.List.{flat_map}
@@ -29,7 +31,8 @@ use Rattle.ud_tree.specs.Messages.{output_faults}
 use Rattle.ud_tree.specs.Streams.{Sends}
 use Rattle.ud_tree.specs.Summaries.{last_lines, EndsWith}
 use Rattle.ud_tree.specs.Writing.{Moment, WritesAll}
-use Rattle.ud_tree.specs.Walks.{WalksOnly, IsWalk}
+use Rattle.ud_tree.specs.Walks.{IsWalk}
+use Rattle.ud_tree.specs.WalkMessages.{WalkTells, joined, Stops}
 use Rattle.ud_tree.specs.Statuses.{tree_status}
 
 -- `DoesBy task args tag name old new result`: the file `name` is replaced, shown or listed, by the
@@ -51,13 +54,15 @@ DoesJob job files before report after report' counts =
     WritesAll (DoesOne job.arguments.now job.tag.now) before (names_of files) report after report'
     counts
 
--- `Ends args tag old names new shown told last status`: it is done with each file in turn. What is
--- shown of them comes first, and then a list, if one is wanted. The status is that of some number
--- of faults, at least one for each faulty file, and of the number of changed files. The last lines
--- have the same numbers. The messages of the faulty files come first, then those about the output,
--- and then the last lines. There is one message for each fault, but for those of the walk.
-pub record Ends (args : Arguments) (tag : List ℕ) (old : List Call) (names : List (List ℕ))
-    (new : List Call) (shown told last : List ℕ) (status : ℕ) : Type 0 where
+-- `Ends args tag in_walk failed old names new shown told last status`: it is done with each file in
+-- turn. What is shown of them comes first, and then a list, if one is wanted. The status is that of
+-- some number of faults, at least one for each faulty file, and of the number of changed files. The
+-- last lines have the same numbers. The messages of the faulty files come first, then those about
+-- the output, which has one if it has failed, and then the last lines. There is one fault for each
+-- message, and for each of the walk.
+pub record Ends (args : Arguments) (tag : List ℕ) (in_walk : ℕ) (failed : Bool)
+    (old : List Call) (names : List (List ℕ)) (new : List Call) (shown told last : List ℕ)
+    (status : ℕ) : Type 0 where
   pub results : List FileResult
   pub each : EachFile (DoesOne args tag) old names new results
   pub listed : List ℕ
@@ -73,43 +78,48 @@ pub record Ends (args : Arguments) (tag : List ℕ) (old : List Call) (names : L
       remaining
   pub of_output : List (List ℕ)
   pub is_lost : Bool
-  pub is_unwritten : Bool
-  pub of_output_is : of_output ≡ output_faults is_lost is_unwritten
+  pub of_output_is : of_output ≡ output_faults is_lost failed
   pub told_is : told ≡ told_of results ++ flat_map (λ m. m) of_output ++ last
-  pub in_walk : ℕ
   pub faults_are : in_walk + length of_output + faulty_in results < 2 ^ 64 →
       faults ≡ in_walk + length of_output + faulty_in results
 
--- `EndsWriting job before files after status`: all files are processed, what is shown was
+-- `EndsWriting job in_walk before files after status`: all files are processed, what is shown was
 -- written, and the last lines were. If the error stream is no terminal, all of `told` was written.
-pub record EndsWriting (job : Job) (before : Moment) (files : List Found) (after : Moment)
-    (status : ℕ) : Type 0 where
+pub record EndsWriting (job : Job) (in_walk : ℕ) (before : Moment) (files : List Found)
+    (after : Moment) (status : ℕ) : Type 0 where
   pub shown : List ℕ
   pub told : List ℕ
   pub last : List ℕ
-  pub ends : Ends job.arguments.now job.tag.now before.calls (names_of files) after.calls shown
-      told last status
+  pub ends : Ends job.arguments.now job.tag.now in_walk after.out.failed before.calls
+      (names_of files) after.calls shown told last status
   pub sent : Sends before.out after.out shown
   pub ended : EndsWith after.err last
   pub tells : job.is_terminal ≡ false → Sends before.err after.err told
 
--- `IsRun args tag old new shown told last status`: only calls of a walk were made, nothing is
--- shown, and the status is 2. Or a walk found some files, and the run ends after them.
-pub data IsRun (args : Arguments) (tag : List ℕ) (old new : List Call) :
-    List ℕ → List ℕ → List ℕ → ℕ → Type 0 where
-  no_run : WalksOnly old new → IsRun args tag old new [] [] [] 2
+-- `IsRun args tag old new messages failed shown told last status`: only calls of a walk were made,
+-- which have these messages. There is a reason why no file follows, nothing is shown, and the
+-- status is 2. Or the walk found some files, at least one if paths are those of the command line,
+-- and the run ends after them.
+pub data IsRun (args : Arguments) (tag : List ℕ) (old new : List Call)
+    (messages : List (List ℕ)) (failed : Bool) : List ℕ → List ℕ → List ℕ → ℕ → Type 0 where
+  no_run : {told : List ℕ} → WalkTells old new messages → Stops args.from_input messages told →
+      IsRun args tag old new messages failed [] told [] 2
   ran : {shown told last : List ℕ} {status : ℕ} (mid : List Call) (files : List Found) →
-      IsWalk old mid files → Ends args tag mid (names_of files) new shown told last status →
-      IsRun args tag old new shown told last status
+      IsWalk old mid files → WalkTells old mid messages →
+      (args.from_input ≡ false → 0 < length files) →
+      Ends args tag (length messages) failed mid (names_of files) new shown told last status →
+      IsRun args tag old new messages failed shown told last status
 
 -- `Run`: the arguments of a run, the end of the names of its new files, the calls before and after
--- it, what is to be written to the output, to the error stream after the walk, and last, and the
--- status.
+-- it, the messages of the walk, whether the output has failed, what is to be written to it, to the
+-- error stream after the walk, and last, and the status.
 pub record Run : Type 0 where
   pub args : Arguments
   pub tag : List ℕ
   pub old : List Call
   pub new : List Call
+  pub messages : List (List ℕ)
+  pub failed : Bool
   pub shown : List ℕ
   pub told : List ℕ
   pub last : List ℕ
@@ -117,16 +127,19 @@ pub record Run : Type 0 where
 
 -- `IsRunOf run`: `run` is a whole run.
 abbrev pub IsRunOf : Run → Type 0
-IsRunOf run = IsRun run.args run.tag run.old run.new run.shown run.told run.last
-    run.status
+IsRunOf run = IsRun run.args run.tag run.old run.new run.messages run.failed run.shown run.told
+    run.last run.status
 
 -- `RunsTree job before after status`: a whole run. What is shown was written to the output, and the
--- last lines were to the error stream. If that is no terminal, it ends with all of `told`.
+-- last lines were to the error stream. If that is no terminal, the messages of the walk and all of
+-- `told` were written, and nothing else.
 pub record RunsTree (job : Job) (before after : Moment) (status : ℕ) : Type 0 where
+  pub messages : List (List ℕ)
   pub shown : List ℕ
   pub told : List ℕ
   pub last : List ℕ
-  pub is_run : IsRun job.arguments.now job.tag.now before.calls after.calls shown told last status
+  pub is_run : IsRun job.arguments.now job.tag.now before.calls after.calls messages
+      after.out.failed shown told last status
   pub sent : Sends before.out after.out shown
   pub ended : EndsWith after.err last
-  pub tells : job.is_terminal ≡ false → EndsWith after.err told
+  pub tells : job.is_terminal ≡ false → Sends before.err after.err (joined messages ++ told)

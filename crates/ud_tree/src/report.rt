@@ -4,12 +4,14 @@
 //! `Report` is a fault, and faults are counted. On a terminal, a line with the number of files is
 //! shown during the run, and removed before each message.
 
-ghost use Rattle.std.specs.Prelude.{◌≡◌, [], false, if◌then◌else◌};
+ghost use Rattle.std.specs.Prelude.{◌≡◌, ◌+◌, ◌<◌, ◌^◌, [], ◌++◌, false, if◌then◌else◌, None};
 ghost use Rattle.std.specs.List.{flat_map};
 ghost use Rattle.ud_diagnostics.specs.RunMessages.{fault_message};
-ghost use Rattle.ud_tree.specs.Messages.{IsPlain, Tells, TellsFailure, fault_line};
+ghost use Rattle.ud_replace.specs.Calls.{met};
+ghost use Rattle.ud_tree.specs.Messages.{IsPlain, Tells, ReportsFailure, ReportsOne, fault_line};
 ghost use Rattle.ud_tree.specs.Streams.{Sends, stream_of};
 ghost use Rattle.ud_tree.specs.Summaries.{Says, line_of};
+ghost use Rattle.ud_tree.specs.WalkMessages.{ReportsRefusal};
 
 use crate::arguments::ArgumentFault;
 use crate::job::Job;
@@ -63,7 +65,8 @@ pub(crate) struct Report {
 impl Report {
     /// Returns a report without messages.
     pub(crate) fn new(job: &Job<'_>) -> Report
-        ensures { job.now.is_terminal ≡ false → IsPlain result }
+        ensures plain { job.now.is_terminal ≡ false → IsPlain result }
+        ensures faultless { result.faulty ≡ 0 }
     {
         Report {
             alloc: job.alloc,
@@ -76,7 +79,9 @@ impl Report {
     }
 
     /// Returns the number of faults.
-    pub(crate) fn faulty(&self) -> usize {
+    pub(crate) fn faulty(&self) -> usize
+        ensures { result ≡ self.now.faulty }
+    {
         self.faulty
     }
 
@@ -120,6 +125,7 @@ impl Report {
         ensures terminal { self.new.is_terminal ≡ self.old.is_terminal }
         ensures hidden { self.new.is_shown ≡ false }
         ensures unshown { self.old.is_shown ≡ false → err.new ≡ err.old }
+        ensures faults { self.new.faulty ≡ self.old.faulty }
     {
         if !self.is_shown {
             return;
@@ -151,6 +157,7 @@ impl Report {
             (stream_of E.contents err.new) (line_of (flat_map (λ p. p.now) parts.now)) }
         ensures tells { Tells self.old self.new (stream_of E.contents err.old)
             (stream_of E.contents err.new) (line_of (flat_map (λ p. p.now) parts.now)) }
+        ensures faults { self.new.faulty ≡ self.old.faulty }
     {
         self.clear(err);
         report_line(err, parts);
@@ -160,6 +167,8 @@ impl Report {
     pub(crate) fn fault<E: Write>(&mut self, err: &mut Watched<E>, path: &[u8], text: &[u8])
         ensures says { Tells self.old self.new (stream_of E.contents err.old)
             (stream_of E.contents err.new) (fault_line path.now text.now) }
+        ensures counted { self.old.faulty + 1 < 2 ^ 64 →
+            self.new.faulty ≡ self.old.faulty + 1 }
     {
         self.faulty = self.faulty.saturating_add(1);
         self.line(err, &[path, b": ", text]);
@@ -172,7 +181,10 @@ impl Report {
         folder: &[u8],
         name: &[u8],
         text: &[u8],
-    ) {
+    )
+        ensures { ReportsOne (fault_line (folder.now ++ name.now) text.now) self.old self.new
+            (stream_of E.contents err.old) (stream_of E.contents err.new) }
+    {
         self.faulty = self.faulty.saturating_add(1);
         self.line(err, &[folder, name, b": ", text]);
     }
@@ -185,8 +197,8 @@ impl Report {
         text: &[u8],
         reason: Option<io::Error>,
     )
-        ensures { TellsFailure path.now text.now self.old self.new (stream_of E.contents err.old)
-            (stream_of E.contents err.new) }
+        ensures { ReportsFailure path.now text.now self.old self.new
+            (stream_of E.contents err.old) (stream_of E.contents err.new) }
     {
         match reason {
             None => self.fault(err, path, text),
@@ -207,7 +219,10 @@ impl Report {
         err: &mut Watched<E>,
         path: &[u8],
         reason: Option<io::Error>,
-    ) {
+    )
+        ensures { ReportsRefusal (met path.now None) self.old self.new
+            (stream_of E.contents err.old) (stream_of E.contents err.new) }
+    {
         match reason {
             Some(error) if error.kind() != ErrorKind::NotFound => {
                 self.failure(err, path, b"Cannot be found", Some(error));

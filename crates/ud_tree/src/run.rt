@@ -1,13 +1,16 @@
 //! The run over all files of a tree.
 
-ghost use Rattle.std.specs.Prelude.{◌≡◌, [], false, IfOk, IfSome};
+ghost use Rattle.std.specs.Prelude.{◌≡◌, ◌<◌, [], List, false, IfOk, IfSome, IfNone, OnErr};
+ghost use Rattle.ud_replace.specs.Calls.{Call};
 ghost use Rattle.ud_model.specs.answer.Answer.{status_by};
 ghost use Rattle.ud_tree.specs.Messages.{TellsIf, list_fault, write_fault};
 ghost use Rattle.ud_tree.specs.Statuses.{tree_status};
 ghost use Rattle.ud_tree.specs.Streams.{Sends, stream_of};
-ghost use Rattle.ud_tree.specs.Summaries.{Says, TellsEnd, remaining_line, remaining_text, summary};
+ghost use Rattle.ud_tree.specs.Summaries.{Says, TellsEnd, changes_line, summary};
+ghost use Rattle.ud_tree.specs.Summaries.{remaining_line, remaining_text};
 ghost use Rattle.ud_tree.specs.TreeRuns.{EndsWriting, RunsTree};
-ghost use Rattle.ud_tree.specs.Walks.{Finds, IsWalk, WalksOnly};
+ghost use Rattle.ud_tree.specs.WalkMessages.{FindsFiles, ReportsWalk, StopsWalk};
+ghost use Rattle.ud_tree.specs.Walks.{Finds};
 ghost use Rattle.ud_tree.specs.Writing.{WritesList, moment};
 
 use crate::arguments::{Arguments, Task};
@@ -31,11 +34,13 @@ const EXIT_TROUBLE: u8 = 2;
 /// Runs over the files that the arguments name, and returns the exit status.
 ///
 /// Paths are read from `input` if the arguments ask for that. Diffs and names are written to `out`,
-/// and messages to `err`.
+/// and messages to `err`. Those of the walk come first: one for each of its calls that failed, and
+/// one for each path that can't be taken. Those of the files follow.
 ///
 /// # Errors
 /// The status is 2, and there is a message for each fault, in each of these cases:
 ///
+/// - Memory runs out before the first file. No file was changed.
 /// - A path doesn't exist, or is a link to a file, a pipe or a device. No file was changed.
 /// - The paths name no file. If paths come from the input, that is no fault.
 /// - A folder can't be read, or a file can't be replaced. The other files are.
@@ -71,9 +76,16 @@ fn find_files<T: Tree, R: Read + Drop, E: Write>(
     report: &mut Report,
     err: &mut Watched<E>,
 ) -> Result<Option<Vec<Found>>, AllocError>
-    ensures walks { WalksOnly (T.history tree.old) (T.history tree.new) }
-    ensures files { IfOk result (λ r. IfSome r
-        (λ files. IsWalk (T.history tree.old) (T.history tree.new) files.items)) }
+    ensures files { IfOk result (λ r. IfSome r (λ files.
+        FindsFiles job.now.arguments.now.from_input (T.history tree.old) (T.history tree.new)
+        files.items report.old report.new (stream_of E.contents err.old)
+        (stream_of E.contents err.new))) }
+    ensures stops { report.old.faulty ≡ 0 → IfOk result (λ r. IfNone r
+        (StopsWalk job.now.arguments.now.from_input (T.history tree.old) (T.history tree.new)
+        report.old report.new (stream_of E.contents err.old)
+        (stream_of E.contents err.new))) }
+    ensures no_memory { OnErr result (ReportsWalk (T.history tree.old) (T.history tree.new)
+        report.old report.new (stream_of E.contents err.old) (stream_of E.contents err.new)) }
 {
     let mut walk = Walk::new(job.alloc, job.arguments.patterns.as_slice());
     let all = walk_all(job, &mut walk, tree, input, report, err)?;
@@ -98,8 +110,12 @@ fn walk_all<T: Tree, R: Read + Drop, E: Write>(
     report: &mut Report,
     err: &mut Watched<E>,
 ) -> Result<bool, AllocError>
-    ensures { Finds (T.history tree.old) (T.history tree.new) walk.old.found.items
+    ensures finds { Finds (T.history tree.old) (T.history tree.new) walk.old.found.items
         walk.new.found.items }
+    ensures told { ReportsWalk (T.history tree.old) (T.history tree.new) report.old report.new
+        (stream_of E.contents err.old) (stream_of E.contents err.new) }
+    ensures bad_path { IfOk result (λ all. all ≡ false →
+        (job.now.arguments.now.from_input ≡ false) × (0 < report.new.faulty)) }
 {
     if job.arguments.from_input {
         add_input(job.alloc, walk, tree, input, report, err)?;
@@ -124,19 +140,37 @@ fn add_input<T: Tree, R: Read + Drop, E: Write>(
     report: &mut Report,
     err: &mut Watched<E>,
 ) -> Result<(), AllocError>
-    ensures { Finds (T.history tree.old) (T.history tree.new) walk.old.found.items
+    ensures finds { Finds (T.history tree.old) (T.history tree.new) walk.old.found.items
         walk.new.found.items }
+    ensures told { ReportsWalk (T.history tree.old) (T.history tree.new) report.old report.new
+        (stream_of E.contents err.old) (stream_of E.contents err.new) }
 {
-    let mut input = input;
-    let mut text = Vec::new(alloc);
-    if input.read_to_end(&mut text).is_err() {
-        report.fault(err, b"stdin", b"Cannot be read");
-    }
+    let text = read_input(alloc, input, report, err);
     let paths = split_paths(alloc, text.as_slice())?;
     for name in paths.as_slice() {
         walk.add(tree, report, err, name.as_slice())?;
     }
     Ok(())
+}
+
+/// Returns the bytes of the input. After a fault, which was reported, they may be some of them.
+fn read_input<R: Read + Drop, E: Write>(
+    alloc: Global,
+    input: R,
+    report: &mut Report,
+    err: &mut Watched<E>,
+) -> Vec<u8>
+    ensures { (calls : List Call) → ReportsWalk calls calls report.old report.new
+        (stream_of E.contents err.old) (stream_of E.contents err.new) }
+{
+    let mut input = input;
+    let mut text = Vec::new(alloc);
+    let read = input.read_to_end(&mut text);
+    if read.is_ok() {
+        return text;
+    }
+    report.fault(err, b"stdin", b"Cannot be read");
+    text
 }
 
 /// Returns the paths of a text, each of which ends in a NUL.
@@ -162,7 +196,7 @@ fn process_all<T: Tree, W: Write, E: Write>(
     out: &mut Watched<W>,
     err: &mut Watched<E>,
 ) -> u8
-    ensures { EndsWriting job.now
+    ensures { EndsWriting job.now walk_faults
         (moment T.history W.contents E.contents tree.old out.old err.old) files.now
         (moment T.history W.contents E.contents tree.new out.new err.new) result }
 {
@@ -265,49 +299,69 @@ fn report_counts<E: Write>(
         (stream_of E.contents err.new)
         (summary task counts.changed counts.unchanged faults hidden) }
 {
-    let (mut first, mut second) = (Buffer::new(), Buffer::new());
-    let (mut third, mut fourth) = (Buffer::new(), Buffer::new());
+    match task {
+        Task::Replace => report_changes(report, err, b" changed, ", counts, faults),
+        Task::Diff => report_changes(report, err, b" would change, ", counts, faults),
+        Task::Names => report_listed(report, err, hidden, counts, faults),
+    }
+}
+
+/// Writes how many files changed, or would, by the word that says which of the two.
+fn report_changes<E: Write>(
+    report: &mut Report,
+    err: &mut Watched<E>,
+    word: &[u8],
+    counts: Counts,
+    faults: usize,
+)
+    ensures { Says report.old report.new (stream_of E.contents err.old)
+        (stream_of E.contents err.new)
+        (changes_line word.now counts.changed counts.unchanged faults) }
+{
+    let (mut first, mut second, mut third) = (Buffer::new(), Buffer::new(), Buffer::new());
     let changed = first.format(counts.changed).as_bytes();
     let unchanged = second.format(counts.unchanged).as_bytes();
     let faulty = third.format(faults).as_bytes();
-    let unlisted = fourth.format(hidden).as_bytes();
-    match task {
-        Task::Replace => {
-            report.line(
-                err,
-                &[
-                    changed,
-                    b" changed, ",
-                    unchanged,
-                    b" unchanged, ",
-                    faulty,
-                    b" faulty",
-                ],
-            );
-        }
-        Task::Diff => report.line(
-            err,
-            &[
-                changed,
-                b" would change, ",
-                unchanged,
-                b" unchanged, ",
-                faulty,
-                b" faulty",
-            ],
-        ),
-        Task::Names => report.line(
-            err,
-            &[
-                unchanged,
-                b" files listed, ",
-                faulty,
-                b" faulty; ",
-                unlisted,
-                b" conditions could not be listed",
-            ],
-        ),
-    }
+    report.line(
+        err,
+        &[
+            changed,
+            word,
+            unchanged,
+            b" unchanged, ",
+            faulty,
+            b" faulty",
+        ],
+    );
+}
+
+/// Writes how many files were listed, and how many conditions couldn't be.
+fn report_listed<E: Write>(
+    report: &mut Report,
+    err: &mut Watched<E>,
+    hidden: usize,
+    counts: Counts,
+    faults: usize,
+)
+    ensures { Says report.old report.new (stream_of E.contents err.old)
+        (stream_of E.contents err.new)
+        (summary Task.Names counts.changed counts.unchanged faults hidden) }
+{
+    let (mut first, mut second, mut third) = (Buffer::new(), Buffer::new(), Buffer::new());
+    let listed = first.format(counts.unchanged).as_bytes();
+    let faulty = second.format(faults).as_bytes();
+    let unlisted = third.format(hidden).as_bytes();
+    report.line(
+        err,
+        &[
+            listed,
+            b" files listed, ",
+            faulty,
+            b" faulty; ",
+            unlisted,
+            b" conditions could not be listed",
+        ],
+    );
 }
 
 /// Writes how many conditions still name a symbol, if they were listed or if there are some.

@@ -2,6 +2,8 @@
 
 ghost use Rattle.std.specs.Prelude.{◌≡◌, ◌⊎◌, [], IfOk, OnOk, true};
 ghost use Rattle.std.specs.List.{All, AllPairs, Contains};
+ghost use Rattle.ud_tree.specs.Streams.{stream_of};
+ghost use Rattle.ud_tree.specs.WalkMessages.{ReportsWalk};
 ghost use Rattle.ud_tree.specs.Walks.{Adds, AddsNode, ArePicked, Finds, IsBefore, IsFileList};
 
 use crate::paths::{escaped, last_name};
@@ -60,8 +62,10 @@ impl<'w> Walk<'w> {
         err: &mut Watched<E>,
         path: &str,
     ) -> Result<(), AllocError>
-        ensures { Finds (T.history tree.old) (T.history tree.new) self.old.found.items
+        ensures finds { Finds (T.history tree.old) (T.history tree.new) self.old.found.items
             self.new.found.items }
+        ensures told { ReportsWalk (T.history tree.old) (T.history tree.new) report.old report.new
+            (stream_of E.contents err.old) (stream_of E.contents err.new) }
     {
         let Some(node) = tree.node(path) else {
             report.missing(err, path.as_bytes(), tree.reason());
@@ -93,8 +97,10 @@ impl<'w> Walk<'w> {
         err: &mut Watched<E>,
         name: &[u8],
     ) -> Result<(), AllocError>
-        ensures { Finds (T.history tree.old) (T.history tree.new) self.old.found.items
+        ensures finds { Finds (T.history tree.old) (T.history tree.new) self.old.found.items
             self.new.found.items }
+        ensures told { ReportsWalk (T.history tree.old) (T.history tree.new) report.old report.new
+            (stream_of E.contents err.old) (stream_of E.contents err.new) }
     {
         let Ok(path) = std::str::from_utf8(name) else {
             report.fault(err, escaped(self.alloc, name)?.as_slice(), NOT_UTF8);
@@ -154,8 +160,10 @@ impl<'w> Walk<'w> {
         folder: &str,
         name: &[u8],
     ) -> Result<(), AllocError>
-        ensures { Finds (T.history tree.old) (T.history tree.new) self.old.found.items
+        ensures finds { Finds (T.history tree.old) (T.history tree.new) self.old.found.items
             self.new.found.items }
+        ensures told { ReportsWalk (T.history tree.old) (T.history tree.new) report.old report.new
+            (stream_of E.contents err.old) (stream_of E.contents err.new) }
     {
         let mut path = String::from_str(self.alloc, folder)?;
         let Ok(text) = std::str::from_utf8(name) else {
@@ -191,18 +199,38 @@ impl<'w> Walk<'w> {
         err: &mut Watched<E>,
         folder: &str,
     ) -> Result<(), AllocError>
-        ensures { Finds (T.history tree.old) (T.history tree.new) self.old.found.items
+        ensures finds { Finds (T.history tree.old) (T.history tree.new) self.old.found.items
             self.new.found.items }
+        ensures told { ReportsWalk (T.history tree.old) (T.history tree.new) report.old report.new
+            (stream_of E.contents err.old) (stream_of E.contents err.new) }
     {
-        let mut names = Vec::new(self.alloc);
-        let listed = tree.list(folder, &mut names);
-        if !listed {
-            report.failure(err, folder.as_bytes(), b"Cannot be read", tree.reason());
-        }
+        let names = self.list_folder(tree, report, err, folder);
         for name in names.as_slice() {
             self.visit(tree, report, err, folder, name.as_slice())?;
         }
         Ok(())
+    }
+
+    /// Returns the names in a folder. After a fault, which was reported, they may be some of them.
+    fn list_folder<T: Tree, E: Write>(
+        &self,
+        tree: &mut T,
+        report: &mut Report,
+        err: &mut Watched<E>,
+        folder: &str,
+    ) -> Vec<Vec<u8>>
+        ensures finds { Finds (T.history tree.old) (T.history tree.new) self.now.found.items
+            self.now.found.items }
+        ensures told { ReportsWalk (T.history tree.old) (T.history tree.new) report.old report.new
+            (stream_of E.contents err.old) (stream_of E.contents err.new) }
+    {
+        let mut names = Vec::new(self.alloc);
+        let listed = tree.list(folder, &mut names);
+        if listed {
+            return names;
+        }
+        report.failure(err, folder.as_bytes(), b"Cannot be read", tree.reason());
+        names
     }
 
     /// Lists all folders, and those in them.
@@ -215,8 +243,10 @@ impl<'w> Walk<'w> {
         report: &mut Report,
         err: &mut Watched<E>,
     ) -> Result<(), AllocError>
-        ensures { Finds (T.history tree.old) (T.history tree.new) self.old.found.items
+        ensures finds { Finds (T.history tree.old) (T.history tree.new) self.old.found.items
             self.new.found.items }
+        ensures told { ReportsWalk (T.history tree.old) (T.history tree.new) report.old report.new
+            (stream_of E.contents err.old) (stream_of E.contents err.new) }
     {
         'folders: for _ in 0..u64::MAX {
             let Some(folder) = self.folders.pop() else {

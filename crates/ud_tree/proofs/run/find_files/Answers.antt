@@ -1,17 +1,21 @@
-use Rattle.ud_tree.proofs.WalkLemmas.{only_walks, walk_found}
+use Rattle.std.proofs.Common.{refl, sym}
+use Rattle.ud_tree.proofs.WalkLemmas.{walk_found}
+use Rattle.ud_tree.proofs.WalkTellLemmas.{stops_bad, stops_unmatched, some_files, some_unless}
+use Rattle.ud_tree.proofs.run.find_files.Goals.{else-is_empty-via-then-is_empty+else-not-job, else-is_empty-via-else-is_empty}
 use Rattle.ud_tree.proofs.run.find_files.Goals as goal
 
-pub returns-in_err-all-clause-walks : goal.returns-in_err-all-clause-walks
-returns-in_err-all-clause-walks g c = only_walks c.walk_all.ensures
+pub returns-then-not-all-clause-stops : goal.returns-then-not-all-clause-stops
+returns-then-not-all-clause-stops g c = λ none. stops_bad none (c.in_ok-all.ensures.bad_path c.if-not-all.true) c.walk_all.ensures.told
 
-pub returns-then-not-all-clause-walks : goal.returns-then-not-all-clause-walks
-returns-then-not-all-clause-walks g c = only_walks c.walk_all.ensures
-
-pub returns-in_err-files-clause-walks : goal.returns-in_err-files-clause-walks
-returns-in_err-files-clause-walks g c = only_walks c.walk_all.ensures
-
-pub returns-clause-walks : goal.returns-clause-walks
-returns-clause-walks g c = only_walks c.walk_all.ensures
+pub returns-then-not-job-clause-stops : goal.returns-then-not-job-clause-stops
+returns-then-not-job-clause-stops g c = λ none. stops_unmatched c.if-not-job.true refl c.walk_all.ensures.told c.line.ensures.tells
 
 pub returns-clause-files : goal.returns-clause-files
-returns-clause-files g c = walk_found c.in_ok-files.files.items c.new-walk.ensures c.walk_all.ensures c.in_ok-files.ensures
+returns-clause-files g c = record {
+  is_walk = walk_found c.in_ok-files.files.items c.new-walk.ensures c.walk_all.ensures.finds c.in_ok-files.ensures;
+  some = elim c.else-is_empty.branch [
+    | else-is_empty-via-then-is_empty+else-not-job w ↦ some_unless _ _ w.if-not-job.false
+    | else-is_empty-via-else-is_empty w ↦ some_files _ _ _ _ (sym c.in_ok-files.files.ok.0) c.is_empty.ensures w.if-is_empty.false
+  ];
+  reports = c.walk_all.ensures.told;
+}

@@ -1,14 +1,16 @@
 use Rattle.std.proofs.Common.{refl}
 use Rattle.ud_tree.proofs.RunLemmas.{no_files, ran_from}
+use Rattle.ud_tree.proofs.WalkTellLemmas.{stops_full, reported}
 use Rattle.ud_tree.proofs.run.run_tree.Goals as goal
 
 pub returns-in-Err : goal.returns-in-Err
-returns-in-Err g c = no_files c.args.job.now c.find_files.ensures.walks refl
+returns-in-Err g c = no_files c.args.job.now c.new-report.ensures.plain (stops_full c.in-Err.ensures.no_memory (reported c.fault.ensures.says c.fault.ensures.counted)) refl
 
 pub returns-in-Ok-None : goal.returns-in-Ok-None
-returns-in-Ok-None g c = no_files c.args.job.now c.find_files.ensures.walks refl
+returns-in-Ok-None g c = no_files c.args.job.now c.new-report.ensures.plain (rw c.in-Ok-None.field-0-is at c.in-Ok-None.ensures.stops c.new-report.ensures.faultless) refl
 
 pub returns : goal.returns
 returns g c =
-    ran_from c.args.job.now c.as_slice.ensures.value (rw c.in-Ok-Some.field-0-is at c.in-Ok-Some.ensures.files) refl
+    ran_from c.args.job.now _ c.as_slice.ensures.value c.new-report.ensures.plain c.new-report.ensures.faultless c.faulty.ensures
+    (rw c.in-Ok-Some.field-0-is at c.in-Ok-Some.ensures.files) refl
     c.process_all.ensures

@@ -1,14 +1,13 @@
 use Rattle.std.proofs.Common.{refl}
-use Rattle.ud_tree.specs.Streams.{stream_of}
-use Rattle.ud_tree.proofs.MessageLemmas.{failure_told, failure_then, reason_told, tells_kept}
+use Rattle.ud_tree.proofs.WalkTellLemmas.{failure_alone, failure_reported, reported}
 use Rattle.ud_tree.proofs.report.Report.failure.Goals as goal
 
 pub returns-in-None : goal.returns-in-None
-returns-in-None g c = failure_told c.args.path.now c.args.text.now c.fault.ensures.says
+returns-in-None g c = failure_alone c.args.path.now c.args.text.now (reported c.fault.ensures.says c.fault.ensures.counted)
 
 pub returns-in-Err : goal.returns-in-Err
-returns-in-Err g c = failure_told c.args.path.now c.args.text.now c.fault-in-Err.ensures.says
+returns-in-Err g c = failure_alone c.args.path.now c.args.text.now (reported c.fault-in-Err.ensures.says c.fault-in-Err.ensures.counted)
 
 pub returns-in-Ok : goal.returns-in-Ok
 returns-in-Ok g c =
-    failure_then c.args.path.now c.args.text.now (tells_kept (stream_of g.E.Write.contents c.args.err.now) refl refl) (reason_told c.args.path.now c.args.text.now _ c.line.ensures.tells)
+    failure_reported c.args.path.now c.args.text.now _ refl refl c.saturating_add-self.ensures c.line.ensures.faults c.line.ensures.tells

@@ -1,9 +1,9 @@
-use Rattle.ud_tree.proofs.MessageLemmas.{fault_said, tells_kept, tells_then}
 use Rattle.std.proofs.Common.{refl}
-use Rattle.ud_tree.specs.Streams.{stream_of}
+use Rattle.ud_tree.proofs.WalkTellLemmas.{fault_reported, one_more}
 use Rattle.ud_tree.proofs.report.Report.fault.Goals as goal
 
-pub returns : goal.returns
-returns g c = record {
-  says = tells_then (tells_kept (stream_of g.E.Write.contents c.args.err.now) refl refl) (fault_said c.args.path.now c.args.text.now c.line.ensures.tells);
-}
+pub returns-clause-says : goal.returns-clause-says
+returns-clause-says g c = (fault_reported c.args.path.now c.args.text.now refl refl c.saturating_add-self.ensures c.line.ensures.faults c.line.ensures.tells).tells
+
+pub returns-clause-counted : goal.returns-clause-counted
+returns-clause-counted g c = one_more _ _ _ c.saturating_add-self.ensures c.line.ensures.faults

@@ -1,11 +1,19 @@
+use Rattle.ud_tree.specs.Streams.{stream_of}
 use Rattle.ud_tree.proofs.WalkLemmas.{finds_none, finds_then}
+use Rattle.ud_tree.proofs.WalkTellLemmas.{walk_none, walk_then}
 use Rattle.ud_tree.proofs.walk.Walk.go.Goals as goal
 
 pub folders-init : goal.folders-init
-folders-init g c = finds_none (g.T.Folder.history c.args.tree.now) c.args.self.now.found.items
+folders-init g c = (
+  finds_none (g.T.Folder.history c.args.tree.now) c.args.self.now.found.items,
+  walk_none (g.T.Folder.history c.args.tree.now) c.args.report.now (stream_of g.E.Write.contents c.args.err.now),
+)
 
 pub folders-preserved : goal.folders-preserved
-folders-preserved g c = finds_then c.folders.invariant c.enter.ensures
+folders-preserved g c = (finds_then c.folders.invariant.0 c.enter.ensures.finds, walk_then c.folders.invariant.1 c.enter.ensures.told)
 
-pub returns-in_err-enter : goal.returns-in_err-enter
-returns-in_err-enter g c = finds_then c.folders.invariant c.enter.ensures
+pub returns-in_err-enter-clause-finds : goal.returns-in_err-enter-clause-finds
+returns-in_err-enter-clause-finds g c = finds_then c.folders.invariant.0 c.enter.ensures.finds
+
+pub returns-in_err-enter-clause-told : goal.returns-in_err-enter-clause-told
+returns-in_err-enter-clause-told g c = walk_then c.folders.invariant.1 c.enter.ensures.told

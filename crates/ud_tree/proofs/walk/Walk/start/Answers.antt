@@ -1,20 +1,50 @@
+use Rattle.std.proofs.Common.{refl}
 use Rattle.ud_tree.proofs.WalkLemmas.{finds_call, finds_file, finds_same, finds_then}
+use Rattle.ud_tree.specs.Streams.{stream_of}
+use Rattle.ud_tree.specs.WalkMessages.{is_link, is_other}
+use Rattle.ud_tree.proofs.WalkTellLemmas.{walk_met, walk_followed, walk_missing, walk_remark, walk_then, reported}
 use Rattle.ud_tree.proofs.walk.Walk.start.Goals as goal
 
-pub returns-in_default : goal.returns-in_default
-returns-in_default g c = finds_call _ c.args.self.now.found.items c.node.ensures
+pub returns-in_default-clause-finds : goal.returns-in_default-clause-finds
+returns-in_default-clause-finds g c = finds_call _ c.args.self.now.found.items c.node.ensures
 
-pub returns-in-Folder : goal.returns-in-Folder
-returns-in-Folder g c = finds_same c.add_folder.ensures (finds_call _ c.args.self.now.found.items c.node.ensures)
+pub returns-in-Folder-clause-finds : goal.returns-in-Folder-clause-finds
+returns-in-Folder-clause-finds g c = finds_same c.add_folder.ensures (finds_call _ c.args.self.now.found.items c.node.ensures)
 
-pub returns-in-Link : goal.returns-in-Link
-returns-in-Link g c = finds_same c.add_folder-in-Link.ensures (finds_then (finds_call _ c.args.self.now.found.items c.node.ensures) (finds_call _ c.args.self.now.found.items c.leads_to_folder.ensures))
+pub returns-in-Link-clause-finds : goal.returns-in-Link-clause-finds
+returns-in-Link-clause-finds g c = finds_same c.add_folder-in-Link.ensures (finds_then (finds_call _ c.args.self.now.found.items c.node.ensures) (finds_call _ c.args.self.now.found.items c.leads_to_folder.ensures))
 
-pub returns-in-Link-2 : goal.returns-in-Link-2
-returns-in-Link-2 g c = finds_then (finds_call _ c.args.self.now.found.items c.node.ensures) (finds_call _ c.args.self.now.found.items c.leads_to_folder.ensures)
+pub returns-in-Link-2-clause-finds : goal.returns-in-Link-2-clause-finds
+returns-in-Link-2-clause-finds g c = finds_then (finds_call _ c.args.self.now.found.items c.node.ensures) (finds_call _ c.args.self.now.found.items c.leads_to_folder.ensures)
 
-pub returns-in-File : goal.returns-in-File
-returns-in-File g c = finds_file _ c.in-Some.node c.in-Some.ensures c.in-File.is c.add_file.ensures
+pub returns-in-File-clause-finds : goal.returns-in-File-clause-finds
+returns-in-File-clause-finds g c = finds_file _ c.in-Some.node c.in-Some.ensures c.in-File.is c.add_file.ensures
 
-pub returns-in-Other : goal.returns-in-Other
-returns-in-Other g c = finds_call _ c.args.self.now.found.items c.node.ensures
+pub returns-in-Other-clause-finds : goal.returns-in-Other-clause-finds
+returns-in-Other-clause-finds g c = finds_call _ c.args.self.now.found.items c.node.ensures
+
+pub returns-in_default-clause-told : goal.returns-in_default-clause-told
+returns-in_default-clause-told g c = walk_missing c.args.path.now _ c.as_bytes.ensures.value c.in_default.ensures c.missing.ensures
+
+pub returns-in-Folder-clause-told : goal.returns-in-Folder-clause-told
+returns-in-Folder-clause-told g c = walk_met _ c.in-Some.node c.args.report.now (stream_of g.E.Write.contents c.args.err.now) c.in-Some.ensures
+
+pub returns-in-Link-clause-told : goal.returns-in-Link-clause-told
+returns-in-Link-clause-told g c =
+    walk_then (walk_met _ c.in-Some.node c.args.report.now (stream_of g.E.Write.contents c.args.err.now) c.in-Some.ensures)
+    (walk_followed _ _ c.args.report.now (stream_of g.E.Write.contents c.args.err.now) c.leads_to_folder.ensures)
+
+pub returns-in-Link-2-clause-told : goal.returns-in-Link-2-clause-told
+returns-in-Link-2-clause-told g c =
+    walk_then
+    (walk_then (walk_met _ c.in-Some.node c.args.report.now (stream_of g.E.Write.contents c.args.err.now) c.in-Some.ensures)
+    (walk_followed _ _ c.args.report.now (stream_of g.E.Write.contents c.args.err.now) c.leads_to_folder.ensures))
+    (walk_remark _ _ (is_link _ refl) (reported c.fault.ensures.says c.fault.ensures.counted))
+
+pub returns-in-File-clause-told : goal.returns-in-File-clause-told
+returns-in-File-clause-told g c = walk_met _ c.in-Some.node c.args.report.now (stream_of g.E.Write.contents c.args.err.now) c.in-Some.ensures
+
+pub returns-in-Other-clause-told : goal.returns-in-Other-clause-told
+returns-in-Other-clause-told g c =
+    walk_then (walk_met _ c.in-Some.node c.args.report.now (stream_of g.E.Write.contents c.args.err.now) c.in-Some.ensures)
+    (walk_remark _ _ (is_other _ refl) (reported c.fault-in-Other.ensures.says c.fault-in-Other.ensures.counted))

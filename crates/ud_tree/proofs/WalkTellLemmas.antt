@@ -1,0 +1,218 @@
+-- The messages of parts of a walk, one after another.
+use Rattle.std.proofs.Common.{◌≡◌, ◌⊎◌, inl, inr, ⊎_elim, ◌==◌, true≢false, ℕ, ◌+◌, ◌<◌, ◌≤◌, ◌-◌, ◌^◌, min, List, [], ◌∷◌, ◌++◌, length, map, Bool, true, false, None, Some, refl, sym, ap, ◌∙◌, subst, arith, append_assoc, append-nil, codes, length-append}
+use Rattle.std.proofs.lemmas.Bool.{cases_lt}
+use Rattle.std.proofs.lemmas.List.{map-append}
+use Rattle.std.proofs.lemmas.Grind.{flat_map-append}
+use Rattle.ud_replace.specs.declared.node.Node.{Node}
+use Rattle.ud_replace.specs.Calls.{Call, walked, WalkCall, met, followed, listed}
+use Rattle.ud_tree.specs.declared.report.Report.{Report}
+use Rattle.ud_tree.specs.Messages.{fault_line, IsFailureOf, no_reason, with_reason, Tells, ReportsOne, ReportsFailure}
+use Rattle.ud_tree.specs.Streams.{Stream}
+use Rattle.ud_tree.specs.Summaries.{line_of}
+use Rattle.ud_tree.specs.WalkMessages.{is_refused, is_missing, is_unknown, is_unread, IsRemark, AreTold, none_told, then_answered, then_refused, then_remark, joined, ReportsRefusal, ReportsWalk, no_memory, bad_path, no_match, StopsWalk}
+use Rattle.ud_tree.proofs.MessageLemmas.{tells_kept, tells_then}
+
+-- One fault more is counted, unless the number is too large.
+pub one_more : (a b c : ℕ) → b ≡ min (a + 1) (2 ^ 64 - 1) → c ≡ b → a + 1 < 2 ^ 64 → c ≡ a + 1
+one_more a b c is same small = omega arith
+
+-- A line was written once one fault more was counted.
+line_reported : {a b c : Report} {s t : Stream} {x : List ℕ} (name text : List ℕ) → x ≡ name ++ codes ": " ++ text → b.is_terminal ≡ a.is_terminal → b.is_shown ≡ a.is_shown →
+    b.faulty ≡ min (a.faulty + 1) (2 ^ 64 - 1) → c.faulty ≡ b.faulty → Tells b c s t (line_of x) → ReportsOne (fault_line name text) a c s t
+line_reported {a = a} {b = b} {c = c} {s = s} {t = t} name text is same hidden more faults h = record {
+  tells = subst (λ (y : List ℕ). Tells a c s t (line_of y)) is (tells_then (tells_kept s same hidden) h);
+  counted = one_more a.faulty b.faulty c.faulty more faults;
+}
+
+-- A message was written, and is counted.
+pub reported : {a b : Report} {s t : Stream} {message : List ℕ} → Tells a b s t message → (a.faulty + 1 < 2 ^ 64 → b.faulty ≡ a.faulty + 1) → ReportsOne message a b s t
+reported h more = record { tells = h; counted = more }
+
+-- The line of a fault was written, from its parts.
+pub fault_reported : {a b c : Report} {s t : Stream} (name text : List ℕ) → b.is_terminal ≡ a.is_terminal → b.is_shown ≡ a.is_shown → b.faulty ≡ min (a.faulty + 1) (2 ^ 64 - 1) →
+    c.faulty ≡ b.faulty → Tells b c s t (line_of (name ++ (codes ": " ++ (text ++ [])))) → ReportsOne (fault_line name text) a c s t
+fault_reported name text same hidden more faults h = line_reported name text joins same hidden more faults h
+  where
+    joins : name ++ (codes ": " ++ (text ++ [])) ≡ (name ++ codes ": ") ++ text
+    joins = simp (append_assoc, append-nil)
+
+-- The line of a fault of a name in a folder was written, from its parts.
+pub fault_in_reported : {a b c : Report} {s t : Stream} (folder name text : List ℕ) → b.is_terminal ≡ a.is_terminal → b.is_shown ≡ a.is_shown →
+    b.faulty ≡ min (a.faulty + 1) (2 ^ 64 - 1) → c.faulty ≡ b.faulty → Tells b c s t (line_of (folder ++ (name ++ (codes ": " ++ (text ++ []))))) →
+    ReportsOne (fault_line (folder ++ name) text) a c s t
+fault_in_reported folder name text same hidden more faults h = line_reported (folder ++ name) text joins same hidden more faults h
+  where
+    joins : folder ++ (name ++ (codes ": " ++ (text ++ []))) ≡ ((folder ++ name) ++ codes ": ") ++ text
+    joins = simp (append_assoc, append-nil)
+
+-- The line of a fault with a reason was written, from its parts.
+pub failure_reported : {a b c : Report} {s t : Stream} (name text why : List ℕ) → b.is_terminal ≡ a.is_terminal → b.is_shown ≡ a.is_shown → b.faulty ≡ min (a.faulty + 1) (2 ^ 64 - 1) →
+    c.faulty ≡ b.faulty → Tells b c s t (line_of (name ++ (codes ": " ++ (text ++ (codes ": " ++ (why ++ [])))))) → ReportsFailure name text a c s t
+failure_reported name text why same hidden more faults h = record {
+  message = fault_line name (text ++ codes ": " ++ why);
+  is_of = with_reason why refl;
+  reports = line_reported name (text ++ codes ": " ++ why) joins same hidden more faults h;
+}
+  where
+    joins : name ++ (codes ": " ++ (text ++ (codes ": " ++ (why ++ [])))) ≡ (name ++ codes ": ") ++ ((text ++ codes ": ") ++ why)
+    joins = simp (append_assoc, append-nil)
+
+-- The line of a fault without a reason was written.
+pub failure_alone : {r r' : Report} {s s' : Stream} (name text : List ℕ) → ReportsOne (fault_line name text) r r' s s' → ReportsFailure name text r r' s s'
+failure_alone name text h = record { message = fault_line name text; is_of = no_reason refl; reports = h }
+
+-- Nothing has a path, and a line says so.
+pub refused_missing : {r r' : Report} {s s' : Stream} (path : List ℕ) → ReportsOne (fault_line path (codes "No such file or folder")) r r' s s' → ReportsRefusal (met path None) r r' s s'
+refused_missing path h = record { message = fault_line path (codes "No such file or folder"); is_of = is_missing path refl refl; reports = h }
+
+-- It isn't known what has a path, and a line says so.
+pub refused_unknown : {r r' : Report} {s s' : Stream} (path : List ℕ) → ReportsFailure path (codes "Cannot be found") r r' s s' → ReportsRefusal (met path None) r r' s s'
+refused_unknown path h = record { message = h.message; is_of = is_unknown path refl h.is_of; reports = h.reports }
+
+-- Nothing was asked or written.
+pub walk_none : (calls : List Call) (r : Report) (s : Stream) → ReportsWalk calls calls r r s s
+walk_none calls r s = record {
+  messages = [];
+  walk = record { calls = []; are = refl; told = none_told };
+  tells = tells_kept s refl refl;
+  counted = λ small. omega arith;
+}
+
+-- A call didn't fail, and nothing was written.
+pub walk_call : (w : WalkCall) {calls calls' : List Call} (r : Report) (s : Stream) → is_refused w ≡ false → calls' ≡ walked w ∷ calls → ReportsWalk calls calls' r r s s
+walk_call w r s fine is = record {
+  messages = [];
+  walk = record { calls = w ∷ []; are = is; told = then_answered w none_told fine };
+  tells = tells_kept s refl refl;
+  counted = λ small. omega arith;
+}
+
+-- A call failed, and its message was written.
+pub walk_refused : (w : WalkCall) {calls calls' : List Call} {r r' : Report} {s s' : Stream} → calls' ≡ walked w ∷ calls → ReportsRefusal w r r' s s' → ReportsWalk calls calls' r r' s s'
+walk_refused w {r = r} {r' = r'} {s = s} {s' = s'} is h = record {
+  messages = h.message ∷ [];
+  walk = record { calls = w ∷ []; are = is; told = then_refused w h.message none_told h.is_of };
+  tells = subst (λ (x : List ℕ). Tells r r' s s' x) (sym (append-nil h.message)) h.reports.tells;
+  counted = h.reports.counted;
+}
+
+-- A message was written that is no failed call's.
+pub walk_remark : (message : List ℕ) (calls : List Call) {r r' : Report} {s s' : Stream} → IsRemark message → ReportsOne message r r' s s' → ReportsWalk calls calls r r' s s'
+walk_remark message calls {r = r} {r' = r'} {s = s} {s' = s'} is h = record {
+  messages = message ∷ [];
+  walk = record { calls = []; are = refl; told = then_remark message none_told is };
+  tells = subst (λ (x : List ℕ). Tells r r' s s' x) (sym (append-nil message)) h.tells;
+  counted = h.counted;
+}
+
+-- A folder couldn't be listed, and a line says so.
+pub walk_unread : (folder name : List ℕ) (names : List (List ℕ)) {calls calls' : List Call} {r r' : Report} {s s' : Stream} → name ≡ folder →
+    calls' ≡ walked (listed folder names false) ∷ calls → ReportsFailure name (codes "Cannot be read") r r' s s' → ReportsWalk calls calls' r r' s s'
+walk_unread folder name names same is h =
+    walk_refused (listed folder names false) is
+    (record {
+      message = h.message;
+      is_of = is_unread folder names refl (subst (λ (n : List ℕ). IsFailureOf n (codes "Cannot be read") h.message) same h.is_of);
+      reports = h.reports;
+    })
+
+-- The messages of some calls, and those of later ones.
+told_both : {xs ys : List WalkCall} {ms ns : List (List ℕ)} → AreTold xs ms → AreTold ys ns → AreTold (ys ++ xs) (ms ++ ns)
+told_both {xs = xs} {ms = ms} h none_told = subst (λ (l : List (List ℕ)). AreTold xs l) (sym (append-nil ms)) h
+told_both h (then_answered w k fine) = then_answered w (told_both h k) fine
+told_both {xs = xs} {ms = ms} h (then_refused {calls = calls} {messages = messages} w message k is) =
+    subst (λ (l : List (List ℕ)). AreTold (w ∷ calls ++ xs) l) (append_assoc ms messages (message ∷ [])) (then_refused w message (told_both h k) is)
+told_both {xs = xs} {ms = ms} h (then_remark {calls = calls} {messages = messages} message k is) =
+    subst (λ (l : List (List ℕ)). AreTold (calls ++ xs) l) (append_assoc ms messages (message ∷ [])) (then_remark message (told_both h k) is)
+
+-- Faults are counted after others.
+counted_both : (a b c m n : ℕ) → (a + m < 2 ^ 64 → b ≡ a + m) → (b + n < 2 ^ 64 → c ≡ b + n) → a + (m + n) < 2 ^ 64 → c ≡ a + (m + n)
+counted_both a b c m n h k small =
+    let first : b ≡ a + m = h (omega arith) in
+    let second : c ≡ b + n = k (omega arith) in
+    omega arith
+
+-- One part of a walk after another.
+pub walk_then : {calls mid calls' : List Call} {a b c : Report} {s t u : Stream} → ReportsWalk calls mid a b s t → ReportsWalk mid calls' b c t u → ReportsWalk calls calls' a c s u
+walk_then {calls = calls} {a = a} {b = b} {c = c} {s = s} {u = u} h k = record {
+  messages = h.messages ++ k.messages;
+  walk = record {
+    calls = k.walk.calls ++ h.walk.calls;
+    are = k.walk.are ∙ ap (λ (l : List Call). map walked k.walk.calls ++ l) h.walk.are ∙ sym (append_assoc (map walked k.walk.calls) (map walked h.walk.calls) calls)
+        ∙ ap (λ (l : List Call). l ++ calls) (sym (map-append walked k.walk.calls h.walk.calls));
+    told = told_both h.walk.told k.walk.told;
+  };
+  tells = subst (λ (x : List ℕ). Tells a c s u x) (sym (flat_map-append (λ (m : List ℕ). m) h.messages k.messages)) (tells_then h.tells k.tells);
+  counted = λ small. by_length small;
+}
+  where
+    by_length : a.faulty + length (h.messages ++ k.messages) < 2 ^ 64 → c.faulty ≡ a.faulty + length (h.messages ++ k.messages)
+    by_length small =
+        let both : length (h.messages ++ k.messages) ≡ length h.messages + length k.messages = length-append h.messages k.messages in
+        let small_sum : a.faulty + (length h.messages + length k.messages) < 2 ^ 64 = subst (λ (n : ℕ). a.faulty + n < 2 ^ 64) both small in
+        counted_both a.faulty b.faulty c.faulty (length h.messages) (length k.messages) h.counted k.counted small_sum ∙ ap (λ (n : ℕ). a.faulty + n) (sym both)
+
+-- Faults that were counted have messages.
+some_told : (a b n : ℕ) → a ≡ 0 → (a + n < 2 ^ 64 → b ≡ a + n) → 0 < b → 0 < n
+some_told a b n none h some = ⊎_elim (λ lt. lt) at_zero (cases_lt 0 n)
+  where
+    at_zero : n ≤ 0 → 0 < n
+    at_zero le =
+        let is : b ≡ a + n = h (omega arith) in
+        omega arith
+
+-- A path of the command line has a fault, so nothing follows.
+pub stops_bad : {from_input : Bool} {calls calls' : List Call} {r r' : Report} {s s' : Stream} → r.faulty ≡ 0 → (from_input ≡ false) × (0 < r'.faulty) → ReportsWalk calls calls' r r' s s' →
+    StopsWalk from_input calls calls' r r' s s'
+stops_bad {r = r} {r' = r'} {s = s} {s' = s'} none bad h = record {
+  messages = h.messages;
+  told = [];
+  walk = h.walk;
+  stops = bad_path bad.0 (some_told r.faulty r'.faulty (length h.messages) none h.counted bad.1) refl;
+  tells = subst (λ (x : List ℕ). Tells r r' s s' x) (sym (append-nil (joined h.messages))) h.tells;
+}
+
+-- No file matches, and a line says so.
+pub stops_unmatched : {from_input : Bool} {calls calls' : List Call} {a b c : Report} {s t u : Stream} {line : List ℕ} → from_input ≡ false → line ≡ line_of (codes "No file matches") →
+    ReportsWalk calls calls' a b s t → Tells b c t u line → StopsWalk from_input calls calls' a c s u
+stops_unmatched {line = line} args is h k = record { messages = h.messages; told = line; walk = h.walk; stops = no_match args is; tells = tells_then h.tells k }
+
+-- Memory ran out, and a line says so.
+pub stops_full : {from_input : Bool} {calls calls' : List Call} {a b c : Report} {s t u : Stream} → ReportsWalk calls calls' a b s t →
+    ReportsOne (fault_line [] (codes "Out of memory")) b c t u → StopsWalk from_input calls calls' a c s u
+stops_full h k = record { messages = h.messages; told = fault_line [] (codes "Out of memory"); walk = h.walk; stops = no_memory refl; tells = tells_then h.tells k.tells }
+
+-- Something has a path, and nothing was written.
+pub walk_met : (path : List ℕ) (node : Node) {calls calls' : List Call} (r : Report) (s : Stream) → calls' ≡ walked (met path (Some node)) ∷ calls → ReportsWalk calls calls' r r s s
+walk_met path node r s is = walk_call (met path (Some node)) r s refl is
+
+-- A link was followed, and nothing was written.
+pub walk_followed : (path : List ℕ) (answer : Bool) {calls calls' : List Call} (r : Report) (s : Stream) → calls' ≡ walked (followed path answer) ∷ calls → ReportsWalk calls calls' r r s s
+walk_followed path answer r s is = walk_call (followed path answer) r s refl is
+
+-- All names of a folder were listed, and nothing was written.
+pub walk_listed : (folder : List ℕ) (names : List (List ℕ)) {calls calls' : List Call} (r : Report) (s : Stream) → calls' ≡ walked (listed folder names true) ∷ calls →
+    ReportsWalk calls calls' r r s s
+walk_listed folder names r s is = walk_call (listed folder names true) r s refl is
+
+-- Nothing has a path, or that isn't known, and a line says so.
+pub walk_missing : (path name : List ℕ) {calls calls' : List Call} {r r' : Report} {s s' : Stream} → name ≡ path → calls' ≡ walked (met path None) ∷ calls → ReportsRefusal (met name None) r r' s s' →
+    ReportsWalk calls calls' r r' s s'
+walk_missing path name {r = r} {r' = r'} {s = s} {s' = s'} same is h = walk_refused (met path None) is (subst (λ (n : List ℕ). ReportsRefusal (met n None) r r' s s') same h)
+
+-- A list that isn't empty has some files.
+pub some_files : (from_input b : Bool) (n len : ℕ) → n ≡ len → b ≡ (len == 0) → b ≡ false → from_input ≡ false → 0 < n
+some_files from_input b n len counts is test args = by_zero (cases_lt 0 n)
+  where
+    zero : n ≤ 0 → (len == 0) ≡ true
+    zero le =
+        let none : len ≡ 0 = omega (arith, counts) in
+        ap (λ (m : ℕ). m == 0) none
+
+    by_zero : (0 < n) ⊎ (n ≤ 0) → 0 < n
+    by_zero (inl some) = some
+    by_zero (inr le) = absurd (true≢false (sym (zero le) ∙ sym is ∙ test))
+
+-- Nothing is claimed of paths of the input.
+pub some_unless : (from_input : Bool) (n : ℕ) → from_input ≡ true → from_input ≡ false → 0 < n
+some_unless from_input n input args = absurd (true≢false (sym input ∙ args))

@@ -1,0 +1,16 @@
+use Rattle.ud_tree.specs.Streams.{stream_of}
+use Rattle.ud_tree.proofs.WalkLemmas.{finds_call}
+use Rattle.ud_tree.proofs.WalkTellLemmas.{walk_listed, walk_unread}
+use Rattle.ud_tree.proofs.walk.Walk.list_folder.Goals as goal
+
+pub returns-then-listed-clause-finds : goal.returns-then-listed-clause-finds
+returns-then-listed-clause-finds g c = finds_call _ c.args.self.now.found.items c.list-listed.ensures.noted
+
+pub returns-clause-finds : goal.returns-clause-finds
+returns-clause-finds g c = finds_call _ c.args.self.now.found.items c.list-listed.ensures.noted
+
+pub returns-then-listed-clause-told : goal.returns-then-listed-clause-told
+returns-then-listed-clause-told g c = walk_listed _ _ c.args.report.now (stream_of g.E.Write.contents c.args.err.now) c.if-listed.ensures.noted
+
+pub returns-clause-told : goal.returns-clause-told
+returns-clause-told g c = walk_unread _ _ _ c.as_bytes.ensures.value c.if-listed.ensures.noted c.failure.ensures

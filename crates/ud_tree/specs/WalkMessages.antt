@@ -1,0 +1,123 @@
+-- WalkMessages: what a walk writes to the error stream.
+--
+--   is_refused w                 a call of a walk failed
+--   IsRefusal w message          the message of a call that failed
+--   IsRemark message             the message of something else that can't be taken
+--   AreTold calls messages       each call that failed has its message
+--   WalkTells old new messages   only calls of a walk were made, and these are their messages
+--   joined messages              all messages, one after another
+--   ReportsRefusal w old new err err'   the message of a call that failed was written and counted
+--   ReportsWalk calls calls' old new err err'   so were all messages of a part of a walk
+--   Stops from_input messages told   why no file follows a walk, and what is written of that
+--   StopsWalk from_input calls calls' old new err err'   a walk that no file follows
+--   FindsFiles from_input calls calls' files old new err err'   a walk that found files
+--
+-- `old` and `new` are the report before and after, or the calls, the newest first. `err` and `err'`
+-- are the error stream.
+use Rattle.std.specs.Prelude.{◌≡◌, ℕ, ◌+◌, ◌<◌, ◌^◌, List, [], ◌∷◌, ◌++◌, length, map, Bool, true}
+use Rattle.std.specs.Prelude.{false, not, Some, None, codes}
+use Rattle.std.specs.List.{flat_map}
+use Rattle.ud_replace.specs.Calls.{Call, walked, WalkCall, met, followed, listed}
+use Rattle.ud_tree.specs.declared.report.Report.{Report}
+use Rattle.ud_tree.specs.declared.walk.Found.{Found}
+use Rattle.ud_tree.specs.Messages.{fault_line, IsFailureOf, Tells, ReportsOne}
+use Rattle.ud_tree.specs.Streams.{Stream}
+use Rattle.ud_tree.specs.Summaries.{line_of}
+use Rattle.ud_tree.specs.Walks.{IsWalk}
+
+-- `is_refused w`: nothing has the path that was asked for, or a call failed.
+abbrev pub is_refused : WalkCall → Bool
+is_refused (met path None) = true
+is_refused (met path (Some node)) = false
+is_refused (followed path answer) = false
+is_refused (listed folder names answer) = not answer
+
+-- `IsRefusal w message`: `w` failed, and `message` is a line with the path that it has, and what
+-- it couldn't do.
+pub data IsRefusal (w : WalkCall) (message : List ℕ) : Type 0 where
+  is_missing : (path : List ℕ) → w ≡ met path None →
+      message ≡ fault_line path (codes "No such file or folder") → IsRefusal w message
+  is_unknown : (path : List ℕ) → w ≡ met path None →
+      IsFailureOf path (codes "Cannot be found") message → IsRefusal w message
+  is_unread : (folder : List ℕ) (names : List (List ℕ)) → w ≡ listed folder names false →
+      IsFailureOf folder (codes "Cannot be read") message → IsRefusal w message
+
+-- `IsRemark message`: no call failed, and `message` is a line with a path that can't be taken, and
+-- why. Or it says that the paths on the input couldn't be read.
+pub data IsRemark (message : List ℕ) : Type 0 where
+  is_link : (path : List ℕ) → message ≡ fault_line path (codes "Is a symbolic link") →
+      IsRemark message
+  is_other : (path : List ℕ) → message ≡ fault_line path (codes "Is no regular file") →
+      IsRemark message
+  is_no_text : (path : List ℕ) → message ≡ fault_line path (codes "Its name isn't UTF-8") →
+      IsRemark message
+  no_input : message ≡ fault_line (codes "stdin") (codes "Cannot be read") → IsRemark message
+
+-- `AreTold calls messages`: `messages` are those of a walk with these calls, the newest first. Each
+-- call that failed has its message, in order, and no other call has one. Remarks come between.
+pub data AreTold : List WalkCall → List (List ℕ) → Type 0 where
+  none_told : AreTold [] []
+  then_answered : {calls : List WalkCall} {messages : List (List ℕ)} (w : WalkCall) →
+      AreTold calls messages → is_refused w ≡ false → AreTold (w ∷ calls) messages
+  then_refused : {calls : List WalkCall} {messages : List (List ℕ)} (w : WalkCall)
+      (message : List ℕ) → AreTold calls messages → IsRefusal w message →
+      AreTold (w ∷ calls) (messages ++ message ∷ [])
+  then_remark : {calls : List WalkCall} {messages : List (List ℕ)} (message : List ℕ) →
+      AreTold calls messages → IsRemark message → AreTold calls (messages ++ message ∷ [])
+
+-- `WalkTells old new messages`: since `old`, only calls of a walk were made, and `messages` are
+-- those of this part of the walk.
+pub record WalkTells (old new : List Call) (messages : List (List ℕ)) : Type 0 where
+  pub calls : List WalkCall
+  pub are : new ≡ map walked calls ++ old
+  pub told : AreTold calls messages
+
+-- `joined messages`: all messages, one after another.
+abbrev pub joined : List (List ℕ) → List ℕ
+joined messages = flat_map (λ m. m) messages
+
+-- `ReportsRefusal w old new err err'`: the message of the call `w`, which failed, was written and
+-- counted.
+pub record ReportsRefusal (w : WalkCall) (old new : Report) (err err' : Stream) : Type 0 where
+  pub message : List ℕ
+  pub is_of : IsRefusal w message
+  pub reports : ReportsOne message old new err err'
+
+-- `ReportsWalk calls calls' old new err err'`: since `calls`, only calls of a walk were made, and
+-- their messages were written and counted.
+pub record ReportsWalk (calls calls' : List Call) (old new : Report) (err err' : Stream) :
+    Type 0 where
+  pub messages : List (List ℕ)
+  pub walk : WalkTells calls calls' messages
+  pub tells : Tells old new err err' (joined messages)
+  pub counted : old.faulty + length messages < 2 ^ 64 →
+      new.faulty ≡ old.faulty + length messages
+
+-- `Stops from_input messages told`: no file follows a walk with these messages. Memory ran out, and
+-- a line says so. Or the paths are those of the command line, and one has a fault, of which the
+-- messages tell. Or no file below them matches, and a line says so.
+pub data Stops (from_input : Bool) (messages : List (List ℕ)) (told : List ℕ) : Type 0 where
+  no_memory : told ≡ fault_line [] (codes "Out of memory") → Stops from_input messages told
+  bad_path : from_input ≡ false → 0 < length messages → told ≡ [] →
+      Stops from_input messages told
+  no_match : from_input ≡ false → told ≡ line_of (codes "No file matches") →
+      Stops from_input messages told
+
+-- `StopsWalk from_input calls calls' old new err err'`: since `calls`, only calls of a walk were
+-- made. Their messages were written, and why no file follows.
+pub record StopsWalk (from_input : Bool) (calls calls' : List Call) (old new : Report)
+    (err err' : Stream) : Type 0 where
+  pub messages : List (List ℕ)
+  pub told : List ℕ
+  pub walk : WalkTells calls calls' messages
+  pub stops : Stops from_input messages told
+  pub tells : Tells old new err err' (joined messages ++ told)
+
+-- `FindsFiles from_input calls calls' files old new err err'`: since `calls`, a whole walk found
+-- `files`, at least one if the paths are those of the command line. Its messages were written and
+-- counted.
+pub record FindsFiles (from_input : Bool) (calls calls' : List Call) (files : List Found)
+    (old new : Report) (err err' : Stream) : Type 0 where
+  pub is_walk : IsWalk calls calls' files
+  pub some : from_input ≡ false → 0 < length files
+  pub reports : ReportsWalk calls calls' old new err err'
