@@ -25,7 +25,7 @@ use Rattle.ud_tree.specs.declared.walk.Found.{Found}
 use Rattle.ud_tree.specs.Runs.{FileResult, Unshown, ReplacesOne, EachFile, shown_of, told_of}
 use Rattle.ud_tree.specs.Runs.{changed_in, same_in, faulty_in, names_of}
 use Rattle.ud_tree.specs.Shown.{ShowsOne, ListsOne}
-use Rattle.ud_tree.specs.Messages.{output_faults}
+use Rattle.ud_tree.specs.Messages.{output_messages}
 use Rattle.ud_tree.specs.Streams.{Sends}
 use Rattle.ud_tree.specs.Summaries.{last_lines, EndsWith}
 use Rattle.ud_tree.specs.Writing.{Moment, WritesAll}
@@ -74,7 +74,7 @@ pub record Ends (args : Arguments) (tag : List ℕ) (old : List Call) (names : L
   pub of_output : List (List ℕ)
   pub is_lost : Bool
   pub is_unwritten : Bool
-  pub of_output_is : of_output ≡ output_faults is_lost is_unwritten
+  pub of_output_is : of_output ≡ output_messages is_lost is_unwritten
   pub told_is : told ≡ told_of results ++ flat_map (λ m. m) of_output ++ last
   pub in_walk : ℕ
   pub faults_are : in_walk + length of_output + faulty_in results < 2 ^ 64 →
