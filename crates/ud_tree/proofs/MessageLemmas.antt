@@ -5,7 +5,7 @@ use Rattle.ud_replace.specs.declared.error.ReplaceError.{ReplaceError}
 use Rattle.ud_replace.specs.declared.error.ReplaceError.TheVariants.{ReadOnly, Write}
 use Rattle.ud_tree.specs.declared.report.Report.{Report}
 use Rattle.ud_tree.specs.Streams.{Stream, Sends}
-use Rattle.ud_tree.specs.Messages.{IsFailureOf, IsMessageOf, list_fault, write_fault, output_faults, Tells, ReportsFailure, TellsError}
+use Rattle.ud_tree.specs.Messages.{IsFailureOf, IsMessageOf, list_message, write_message, output_messages, Tells, ReportsFailure, TellsError}
 use Rattle.ud_tree.proofs.StreamLemmas.{sends_none, sends_then}
 
 -- The report changed in nothing that the error stream shows, and nothing was written.
@@ -48,14 +48,14 @@ unwritten_is name (inl is) h = failure_is name ReadOnly is (λ m h. h) h
 unwritten_is name (inr is) h = failure_is name Write is (λ m h. h) h
 
 -- The messages of the output's faults, one after another.
-pub output_told : (p q : Bool) → flat_map (λ m. m) (output_faults p q) ≡ cond p list_fault [] ++ cond q write_fault []
-output_told true true = ap (λ (x : List ℕ). list_fault ++ x) (append-nil write_fault)
+pub output_told : (p q : Bool) → flat_map (λ m. m) (output_messages p q) ≡ cond p list_message [] ++ cond q write_message []
+output_told true true = ap (λ (x : List ℕ). list_message ++ x) (append-nil write_message)
 output_told true false = refl
-output_told false true = append-nil write_fault
+output_told false true = append-nil write_message
 output_told false false = refl
 
 -- The number of these messages.
-pub output_count : (p q : Bool) → length (output_faults p q) ≡ cond p 1 0 + cond q 1 0
+pub output_count : (p q : Bool) → length (output_messages p q) ≡ cond p 1 0 + cond q 1 0
 output_count true true = refl
 output_count true false = refl
 output_count false true = refl

@@ -20,7 +20,7 @@ use Rattle.ud_tree.specs.Statuses.{tree_status}
 use Rattle.ud_tree.specs.Streams.{Stream, Sends}
 use Rattle.ud_tree.specs.declared.job.Job.{Job}
 use Rattle.ud_tree.specs.declared.report.Report.{Report}
-use Rattle.ud_tree.specs.Messages.{IsTold, IsPlain, Tells, TellsResult, TellsIf, list_fault, write_fault, output_faults}
+use Rattle.ud_tree.specs.Messages.{IsTold, IsPlain, Tells, TellsResult, TellsIf, list_message, write_message, output_messages}
 use Rattle.ud_tree.specs.Summaries.{last_lines, TellsEnd}
 use Rattle.ud_tree.proofs.MessageLemmas.{tells_kept, tells_then, tells_same, output_told, output_count}
 use Rattle.ud_tree.specs.Walks.{IsWalk}
@@ -147,14 +147,14 @@ writes_list args names rest none h k = record {
 -- The run ends with the status of its counts.
 pub ends : (job : Job) (files : List Found) {old mid new : Moment} {listed listed_err : Stream} {r mid_report list_report end_report : Report} {counts : Counts} (lost unwritten : Bool) (in_walk faults hidden status : ℕ) →
     DoesJob job files old r mid mid_report counts → WritesList job.arguments.now mid.out listed →
-    TellsIf list_fault lost mid_report list_report mid.err listed_err → Sends listed new.out [] → unwritten ≡ new.out.failed →
-    (end : Stream) → TellsIf write_fault unwritten list_report end_report listed_err end → TellsEnd job.arguments.now counts faults hidden end_report end new.err →
+    TellsIf list_message lost mid_report list_report mid.err listed_err → Sends listed new.out [] → unwritten ≡ new.out.failed →
+    (end : Stream) → TellsIf write_message unwritten list_report end_report listed_err end → TellsEnd job.arguments.now counts faults hidden end_report end new.err →
     new.calls ≡ mid.calls → counts.faulty ≤ faults → (in_walk + (cond lost 1 0 + cond unwritten 1 0) + counts.faulty < 2 ^ 64 → faults ≡ in_walk + (cond lost 1 0 + cond unwritten 1 0) + counts.faulty) →
     status ≡ tree_status job.arguments.now.task job.arguments.now.plan.settings.exit_mode faults counts.changed → (job.is_terminal ≡ false → IsPlain r) → EndsWriting job in_walk old files new status
 ends job files {old = old} {new = new} {counts = counts} lost unwritten in_walk faults hidden status w l t f failed end u e same few all is plain =
     let h = w.counted in
     let args = job.arguments.now in
-    let of_output = flat_map (λ x. x) (output_faults lost unwritten) in
+    let of_output = flat_map (λ x. x) (output_messages lost unwritten) in
     let both = tells_same (sym (output_told lost unwritten)) (tells_then t u) in
     let last = last_lines args counts.changed counts.unchanged faults hidden e.remaining in
     record {
@@ -174,9 +174,9 @@ ends job files {old = old} {new = new} {counts = counts} lost unwritten in_walk 
         remaining = e.remaining;
         last_is = ap (λ (x : ℕ). last_lines args x counts.unchanged faults hidden e.remaining) h.counts_are.changed
             ∙ ap (λ (x : ℕ). last_lines args (changed_in h.results) x faults hidden e.remaining) h.counts_are.unchanged;
-        of_output = output_faults lost unwritten;
+        of_output = output_messages lost unwritten;
         is_lost = lost;
-        of_output_is = ap (output_faults lost) failed;
+        of_output_is = ap (output_messages lost) failed;
         told_is = ap (λ (x : List ℕ). (x ++ of_output) ++ last) h.told_is;
         faults_are = rw (output_count lost unwritten, ← h.counts_are.faulty) all;
       };

@@ -4,14 +4,14 @@
 --   IsFailureOf name text message    that line, or the same with a reason
 --   IsMessageOf name e message       the message of the error of a file
 --   IsTold name update told          that message if the file has an error, and else nothing
---   list_fault, write_fault          the lines with the faults of the output
---   output_faults is_lost is_unwritten   those of them that a run has
+--   list_message, write_message      the messages of the faults of the output
+--   output_messages is_lost is_unwritten   those of them that a run has
 --   IsPlain r                        the error stream is no terminal
 --   Tells old new err err' bytes     `bytes` were written to such a stream
 --   ReportsOne message old new err err'   a message was written, and is counted
 --   ReportsFailure name text old new err err'   so was the message of a failed call
---   TellsError name e old new err err'   the message of the error of a file was
---   TellsResult name update old new err err'   that was written, or nothing
+--   TellsError name e old new err err'   the message of the error of a file was written
+--   TellsResult name update old new err err'   the same, or nothing if the file has no error
 --   TellsIf message faulty old new err err'   a message was written, or nothing
 --
 -- `old` and `new` are the report before and after, `err` and `err'` the error stream.
@@ -60,19 +60,19 @@ abbrev pub IsTold : List ℕ → Result Update ReplaceError → List ℕ → Typ
 IsTold name (Ok u) told = told ≡ []
 IsTold name (Err e) told = IsMessageOf name e told
 
--- `list_fault`: the line if memory for a list couldn't be allocated.
-abbrev pub list_fault : List ℕ
-list_fault = fault_line (codes "stdout") (codes "Out of memory")
+-- `list_message`: the message if memory for a list couldn't be allocated.
+abbrev pub list_message : List ℕ
+list_message = fault_line (codes "stdout") (codes "Out of memory")
 
--- `write_fault`: the line if the output couldn't be written.
-abbrev pub write_fault : List ℕ
-write_fault = fault_line (codes "stdout") (codes "Cannot be written")
+-- `write_message`: the message if the output couldn't be written.
+abbrev pub write_message : List ℕ
+write_message = fault_line (codes "stdout") (codes "Cannot be written")
 
--- `output_faults is_lost is_unwritten`: the lines with the faults of the output, by whether memory
--- for a list couldn't be allocated, and whether the output couldn't be written.
-abbrev pub output_faults : Bool → Bool → List (List ℕ)
-output_faults is_lost is_unwritten = (if is_lost then list_fault ∷ [] else []) ++
-    (if is_unwritten then write_fault ∷ [] else [])
+-- `output_messages is_lost is_unwritten`: the messages of the faults of the output, by whether
+-- memory for a list couldn't be allocated, and whether the output couldn't be written.
+abbrev pub output_messages : Bool → Bool → List (List ℕ)
+output_messages is_lost is_unwritten = (if is_lost then list_message ∷ [] else []) ++
+    (if is_unwritten then write_message ∷ [] else [])
 
 -- `IsPlain r`: the error stream is no terminal, and so shows no number of files.
 pub record IsPlain (r : Report) : Type 0 where

@@ -27,7 +27,7 @@ use Rattle.ud_tree.specs.declared.walk.Found.{Found}
 use Rattle.ud_tree.specs.Runs.{FileResult, Unshown, ReplacesOne, EachFile, shown_of, told_of}
 use Rattle.ud_tree.specs.Runs.{changed_in, same_in, faulty_in, names_of}
 use Rattle.ud_tree.specs.Shown.{ShowsOne, ListsOne}
-use Rattle.ud_tree.specs.Messages.{output_faults}
+use Rattle.ud_tree.specs.Messages.{output_messages}
 use Rattle.ud_tree.specs.Streams.{Sends}
 use Rattle.ud_tree.specs.Summaries.{last_lines, EndsWith}
 use Rattle.ud_tree.specs.Writing.{Moment, WritesAll}
@@ -78,7 +78,7 @@ pub record Ends (args : Arguments) (tag : List ℕ) (in_walk : ℕ) (failed : Bo
       remaining
   pub of_output : List (List ℕ)
   pub is_lost : Bool
-  pub of_output_is : of_output ≡ output_faults is_lost failed
+  pub of_output_is : of_output ≡ output_messages is_lost failed
   pub told_is : told ≡ told_of results ++ flat_map (λ m. m) of_output ++ last
   pub faults_are : in_walk + length of_output + faulty_in results < 2 ^ 64 →
       faults ≡ in_walk + length of_output + faulty_in results

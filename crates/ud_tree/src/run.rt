@@ -3,7 +3,7 @@
 ghost use Rattle.std.specs.Prelude.{◌≡◌, ◌<◌, [], List, false, IfOk, IfSome, IfNone, OnErr};
 ghost use Rattle.ud_replace.specs.Calls.{Call};
 ghost use Rattle.ud_model.specs.answer.Answer.{status_by};
-ghost use Rattle.ud_tree.specs.Messages.{TellsIf, list_fault, write_fault};
+ghost use Rattle.ud_tree.specs.Messages.{TellsIf, list_message, write_message};
 ghost use Rattle.ud_tree.specs.Statuses.{tree_status};
 ghost use Rattle.ud_tree.specs.Streams.{Sends, stream_of};
 ghost use Rattle.ud_tree.specs.Summaries.{Says, TellsEnd, changes_line, summary};
@@ -224,7 +224,7 @@ fn write_lists<W: Write, E: Write>(
 ) -> bool
     ensures writes { WritesList job.now.arguments.now (stream_of W.contents out.old)
         (stream_of W.contents out.new) }
-    ensures told { TellsIf list_fault result report.old report.new
+    ensures told { TellsIf list_message result report.old report.new
         (stream_of E.contents err.old) (stream_of E.contents err.new) }
 {
     let mut list = Vec::new(job.alloc);
@@ -256,7 +256,7 @@ fn finish_output<W: Write, E: Write>(
 ) -> bool
     ensures sent { Sends (stream_of W.contents out.old) (stream_of W.contents out.new) [] }
     ensures failed { result ≡ out.new.failed }
-    ensures told { TellsIf write_fault result report.old report.new
+    ensures told { TellsIf write_message result report.old report.new
         (stream_of E.contents err.old) (stream_of E.contents err.new) }
 {
     if flush(out) {
