@@ -172,12 +172,12 @@ impl<'w> Walk<'w> {
             return Ok(());
         };
         path.push_str(text)?;
-        let path = path.as_str();
-        let Some(node) = tree.node(path) else {
-            report.missing(err, path.as_bytes(), tree.reason());
+        let whole = path.as_str();
+        let Some(node) = tree.node(whole) else {
+            report.missing(err, whole.as_bytes(), tree.reason());
             return Ok(());
         };
-        self.add_node(path, name, node)
+        self.add_node(whole, name, node)
     }
 
     /// Adds a file or a folder. Others are left out.
