@@ -1,6 +1,6 @@
 //! The walk over a tree: the files below some paths, each once, in the order of the paths' bytes.
 
-ghost use Rattle.std.specs.Prelude.{◌≡◌, ◌⊎◌, [], IfOk, OnOk, true};
+ghost use Rattle.std.specs.Prelude.{◌≡◌, ◌⊎◌, [], IfOk, OnOk, true, false};
 ghost use Rattle.std.specs.List.{All, AllPairs, Contains};
 ghost use Rattle.ud_tree.specs.Streams.{stream_of};
 ghost use Rattle.ud_tree.specs.WalkMessages.{ReportsWalk};
@@ -277,7 +277,8 @@ impl<'w> Walk<'w> {
 
 /// Returns whether a node is a regular file.
 fn is_file(node: &Node) -> bool
-    ensures { result ≡ true → node.now.kind ≡ NodeKind.File }
+    ensures file { result ≡ true → node.now.kind ≡ NodeKind.File }
+    ensures other { result ≡ false → ¬ (node.now.kind ≡ NodeKind.File) }
 {
     match node.kind {
         NodeKind::File => true,
