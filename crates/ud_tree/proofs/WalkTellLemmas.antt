@@ -3,13 +3,16 @@ use Rattle.std.proofs.Common.{◌≡◌, ◌⊎◌, inl, inr, ⊎_elim, ◌==◌
 use Rattle.std.proofs.lemmas.Bool.{cases_lt}
 use Rattle.std.proofs.lemmas.List.{map-append}
 use Rattle.std.proofs.lemmas.Grind.{flat_map-append}
+use Rattle.std.proofs.lemmas.List.Elements.{Contains-append_left}
+use Rattle.ud_replace.specs.declared.node.NodeKind.{NodeKind}
+use Rattle.ud_replace.specs.declared.node.NodeKind.TheVariants.{File, Link, Other}
 use Rattle.ud_replace.specs.declared.node.Node.{Node}
 use Rattle.ud_replace.specs.Calls.{Call, walked, WalkCall, met, followed, listed}
 use Rattle.ud_tree.specs.declared.report.Report.{Report}
 use Rattle.ud_tree.specs.Messages.{fault_line, IsFailureOf, no_reason, with_reason, Tells, ReportsOne, ReportsFailure}
 use Rattle.ud_tree.specs.Streams.{Stream}
 use Rattle.ud_tree.specs.Summaries.{line_of}
-use Rattle.ud_tree.specs.WalkMessages.{is_refused, is_missing, is_unknown, is_unread, IsRemark, AreTold, none_told, then_answered, then_refused, then_remark, joined, ReportsRefusal, ReportsWalk, no_memory, bad_path, no_match, StopsWalk}
+use Rattle.ud_tree.specs.WalkMessages.{is_refused, is_missing, is_unknown, is_unread, IsRemark, is_link, is_other, is_no_text, no_input, AreTold, none_told, then_answered, then_refused, then_remark, joined, ReportsRefusal, ReportsWalk, no_memory, bad_path, no_match, StopsWalk}
 use Rattle.ud_tree.proofs.MessageLemmas.{tells_kept, tells_then}
 
 -- One fault more is counted, unless the number is too large.
@@ -96,14 +99,54 @@ walk_refused w {r = r} {r' = r'} {s = s} {s' = s'} is h = record {
   counted = h.reports.counted;
 }
 
--- A message was written that is no failed call's.
-pub walk_remark : (message : List ℕ) (calls : List Call) {r r' : Report} {s s' : Stream} → IsRemark message → ReportsOne message r r' s s' → ReportsWalk calls calls r r' s s'
+-- A remark was written, of no call.
+pub walk_remark : (message : List ℕ) (calls : List Call) {r r' : Report} {s s' : Stream} → IsRemark [] message → ReportsOne message r r' s s' → ReportsWalk calls calls r r' s s'
 walk_remark message calls {r = r} {r' = r'} {s = s} {s' = s'} is h = record {
   messages = message ∷ [];
   walk = record { calls = []; are = refl; told = then_remark message none_told is };
   tells = subst (λ (x : List ℕ). Tells r r' s s' x) (sym (append-nil message)) h.tells;
   counted = h.counted;
 }
+
+-- Something was met that is no regular file, and a line says so.
+pub walk_other : (path name : List ℕ) (node : Node) {calls calls' : List Call} {r r' : Report} {s s' : Stream} → name ≡ path → calls' ≡ walked (met path (Some node)) ∷ calls →
+    ¬ (node.kind ≡ File) → ReportsOne (fault_line name (codes "Is no regular file")) r r' s s' → ReportsWalk calls calls' r r' s s'
+walk_other path name node {r = r} {r' = r'} {s = s} {s' = s'} same is other h = record {
+  messages = message ∷ [];
+  walk = record { calls = met path (Some node) ∷ []; are = is; told = then_remark message (then_answered (met path (Some node)) none_told refl) remark };
+  tells = subst (λ (x : List ℕ). Tells r r' s s' x) (sym (append-nil message)) h.tells;
+  counted = h.counted;
+}
+  where
+    message : List ℕ
+    message = fault_line name (codes "Is no regular file")
+
+    remark : IsRemark (met path (Some node) ∷ []) message
+    remark = is_other path node (0, omega arith, refl) other (ap (λ (n : List ℕ). fault_line n (codes "Is no regular file")) same)
+
+-- A link was met that doesn't lead to a folder, and a line says so.
+pub walk_link : (path name : List ℕ) (node : Node) {calls mid calls' : List Call} {r r' : Report} {s s' : Stream} → name ≡ path → mid ≡ walked (met path (Some node)) ∷ calls →
+    calls' ≡ walked (followed path false) ∷ mid → node.kind ≡ Link → ReportsOne (fault_line name (codes "Is a symbolic link")) r r' s s' → ReportsWalk calls calls' r r' s s'
+walk_link path name node {r = r} {r' = r'} {s = s} {s' = s'} same is then_is link h = record {
+  messages = message ∷ [];
+  walk = record {
+    calls = followed path false ∷ met path (Some node) ∷ [];
+    are = then_is ∙ ap (λ (l : List Call). walked (followed path false) ∷ l) is;
+    told = then_remark message (then_answered (followed path false) (then_answered (met path (Some node)) none_told refl) refl) remark;
+  };
+  tells = subst (λ (x : List ℕ). Tells r r' s s' x) (sym (append-nil message)) h.tells;
+  counted = h.counted;
+}
+  where
+    message : List ℕ
+    message = fault_line name (codes "Is a symbolic link")
+
+    remark : IsRemark (followed path false ∷ met path (Some node) ∷ []) message
+    remark = is_link path node (1, omega arith, refl) link (0, omega arith, refl) (ap (λ (n : List ℕ). fault_line n (codes "Is a symbolic link")) same)
+
+-- A node of another kind is no regular file.
+pub other_kind : (kind : NodeKind) → kind ≡ Other → ¬ (kind ≡ File)
+other_kind kind is e = absurd cc
 
 -- A folder couldn't be listed, and a line says so.
 pub walk_unread : (folder name : List ℕ) (names : List (List ℕ)) {calls calls' : List Call} {r r' : Report} {s s' : Stream} → name ≡ folder →
@@ -116,6 +159,14 @@ walk_unread folder name names same is h =
       reports = h.reports;
     })
 
+-- A remark of some calls stays one after earlier calls.
+remark_after : {message : List ℕ} (xs ys : List WalkCall) → IsRemark ys message → IsRemark (ys ++ xs) message
+remark_after xs ys (is_link path node seen link led is) =
+    is_link path node (Contains-append_left ys xs (met path (Some node)) seen) link (Contains-append_left ys xs (followed path false) led) is
+remark_after xs ys (is_other path node seen other is) = is_other path node (Contains-append_left ys xs (met path (Some node)) seen) other is
+remark_after xs ys (is_no_text path is) = is_no_text path is
+remark_after xs ys (no_input is) = no_input is
+
 -- The messages of some calls, and those of later ones.
 told_both : {xs ys : List WalkCall} {ms ns : List (List ℕ)} → AreTold xs ms → AreTold ys ns → AreTold (ys ++ xs) (ms ++ ns)
 told_both {xs = xs} {ms = ms} h none_told = subst (λ (l : List (List ℕ)). AreTold xs l) (sym (append-nil ms)) h
@@ -123,7 +174,7 @@ told_both h (then_answered w k fine) = then_answered w (told_both h k) fine
 told_both {xs = xs} {ms = ms} h (then_refused {calls = calls} {messages = messages} w message k is) =
     subst (λ (l : List (List ℕ)). AreTold (w ∷ calls ++ xs) l) (append_assoc ms messages (message ∷ [])) (then_refused w message (told_both h k) is)
 told_both {xs = xs} {ms = ms} h (then_remark {calls = calls} {messages = messages} message k is) =
-    subst (λ (l : List (List ℕ)). AreTold (calls ++ xs) l) (append_assoc ms messages (message ∷ [])) (then_remark message (told_both h k) is)
+    subst (λ (l : List (List ℕ)). AreTold (calls ++ xs) l) (append_assoc ms messages (message ∷ [])) (then_remark message (told_both h k) (remark_after xs calls is))
 
 -- Faults are counted after others.
 counted_both : (a b c m n : ℕ) → (a + m < 2 ^ 64 → b ≡ a + m) → (b + n < 2 ^ 64 → c ≡ b + n) → a + (m + n) < 2 ^ 64 → c ≡ a + (m + n)

@@ -2,7 +2,7 @@
 --
 --   is_refused w                 a call of a walk failed
 --   IsRefusal w message          the message of a call that failed
---   IsRemark message             the message of something else that can't be taken
+--   IsRemark calls message       the message of something else that can't be taken
 --   AreTold calls messages       each call that failed has its message
 --   WalkTells old new messages   only calls of a walk were made, and these are their messages
 --   joined messages              all messages, one after another
@@ -16,7 +16,9 @@
 -- are the error stream.
 use Rattle.std.specs.Prelude.{◌≡◌, ℕ, ◌+◌, ◌<◌, ◌^◌, List, [], ◌∷◌, ◌++◌, length, map, Bool, true}
 use Rattle.std.specs.Prelude.{false, not, Some, None, codes}
-use Rattle.std.specs.List.{flat_map}
+use Rattle.std.specs.List.{flat_map, Contains}
+use Rattle.ud_replace.specs.declared.node.Node.{Node}
+use Rattle.ud_replace.specs.declared.node.NodeKind.TheVariants.{File, Link}
 use Rattle.ud_replace.specs.Calls.{Call, walked, WalkCall, met, followed, listed}
 use Rattle.ud_tree.specs.declared.report.Report.{Report}
 use Rattle.ud_tree.specs.declared.walk.Found.{Found}
@@ -32,8 +34,7 @@ is_refused (met path (Some node)) = false
 is_refused (followed path answer) = false
 is_refused (listed folder names answer) = not answer
 
--- `IsRefusal w message`: `w` failed, and `message` is a line with the path that it has, and what
--- it couldn't do.
+-- `IsRefusal w message`: `w` failed, and `message` is a line with its path and what failed.
 pub data IsRefusal (w : WalkCall) (message : List ℕ) : Type 0 where
   is_missing : (path : List ℕ) → w ≡ met path None →
       message ≡ fault_line path (codes "No such file or folder") → IsRefusal w message
@@ -42,19 +43,23 @@ pub data IsRefusal (w : WalkCall) (message : List ℕ) : Type 0 where
   is_unread : (folder : List ℕ) (names : List (List ℕ)) → w ≡ listed folder names false →
       IsFailureOf folder (codes "Cannot be read") message → IsRefusal w message
 
--- `IsRemark message`: no call failed, and `message` is a line with a path that can't be taken, and
--- why. Or it says that the paths on the input couldn't be read.
-pub data IsRemark (message : List ℕ) : Type 0 where
-  is_link : (path : List ℕ) → message ≡ fault_line path (codes "Is a symbolic link") →
-      IsRemark message
-  is_other : (path : List ℕ) → message ≡ fault_line path (codes "Is no regular file") →
-      IsRemark message
+-- `IsRemark calls message`: `message` is a line with a path that can't be taken, and why, though no
+-- call failed. `calls` met a link there that doesn't lead to a folder, or something else that is no
+-- regular file. Or the line says that a name isn't UTF-8, or that the input couldn't be read.
+pub data IsRemark (calls : List WalkCall) (message : List ℕ) : Type 0 where
+  is_link : (path : List ℕ) (node : Node) → Contains calls (met path (Some node)) →
+      node.kind ≡ Link → Contains calls (followed path false) →
+      message ≡ fault_line path (codes "Is a symbolic link") → IsRemark calls message
+  is_other : (path : List ℕ) (node : Node) → Contains calls (met path (Some node)) →
+      ¬ (node.kind ≡ File) → message ≡ fault_line path (codes "Is no regular file") →
+      IsRemark calls message
   is_no_text : (path : List ℕ) → message ≡ fault_line path (codes "Its name isn't UTF-8") →
-      IsRemark message
-  no_input : message ≡ fault_line (codes "stdin") (codes "Cannot be read") → IsRemark message
+      IsRemark calls message
+  no_input : message ≡ fault_line (codes "stdin") (codes "Cannot be read") →
+      IsRemark calls message
 
 -- `AreTold calls messages`: `messages` are those of a walk with these calls, the newest first. Each
--- call that failed has its message, in order, and no other call has one. Remarks come between.
+-- call that failed has its message, in the order of the calls. Remarks may come between.
 pub data AreTold : List WalkCall → List (List ℕ) → Type 0 where
   none_told : AreTold [] []
   then_answered : {calls : List WalkCall} {messages : List (List ℕ)} (w : WalkCall) →
@@ -63,7 +68,7 @@ pub data AreTold : List WalkCall → List (List ℕ) → Type 0 where
       (message : List ℕ) → AreTold calls messages → IsRefusal w message →
       AreTold (w ∷ calls) (messages ++ message ∷ [])
   then_remark : {calls : List WalkCall} {messages : List (List ℕ)} (message : List ℕ) →
-      AreTold calls messages → IsRemark message → AreTold calls (messages ++ message ∷ [])
+      AreTold calls messages → IsRemark calls message → AreTold calls (messages ++ message ∷ [])
 
 -- `WalkTells old new messages`: since `old`, only calls of a walk were made, and `messages` are
 -- those of this part of the walk.

@@ -1,6 +1,6 @@
 //! The walk over a tree: the files below some paths, each once, in the order of the paths' bytes.
 
-ghost use Rattle.std.specs.Prelude.{◌≡◌, ◌⊎◌, [], IfOk, OnOk, true};
+ghost use Rattle.std.specs.Prelude.{◌≡◌, ◌⊎◌, [], IfOk, OnOk, true, false};
 ghost use Rattle.std.specs.List.{All, AllPairs, Contains};
 ghost use Rattle.ud_tree.specs.Streams.{stream_of};
 ghost use Rattle.ud_tree.specs.WalkMessages.{ReportsWalk};
@@ -172,12 +172,12 @@ impl<'w> Walk<'w> {
             return Ok(());
         };
         path.push_str(text)?;
-        let path = path.as_str();
-        let Some(node) = tree.node(path) else {
-            report.missing(err, path.as_bytes(), tree.reason());
+        let whole = path.as_str();
+        let Some(node) = tree.node(whole) else {
+            report.missing(err, whole.as_bytes(), tree.reason());
             return Ok(());
         };
-        self.add_node(path, name, node)
+        self.add_node(whole, name, node)
     }
 
     /// Adds a file or a folder. Others are left out.
@@ -277,7 +277,8 @@ impl<'w> Walk<'w> {
 
 /// Returns whether a node is a regular file.
 fn is_file(node: &Node) -> bool
-    ensures { result ≡ true → node.now.kind ≡ NodeKind.File }
+    ensures file { result ≡ true → node.now.kind ≡ NodeKind.File }
+    ensures other { result ≡ false → ¬ (node.now.kind ≡ NodeKind.File) }
 {
     match node.kind {
         NodeKind::File => true,

@@ -1,8 +1,8 @@
 use Rattle.std.proofs.Common.{refl, sym}
 use Rattle.ud_tree.proofs.WalkLemmas.{finds_none, finds_call, finds_file}
 use Rattle.ud_tree.specs.Streams.{stream_of}
-use Rattle.ud_tree.specs.WalkMessages.{is_other, is_no_text}
-use Rattle.ud_tree.proofs.WalkTellLemmas.{walk_none, walk_met, walk_missing, walk_remark, walk_then, reported}
+use Rattle.ud_tree.specs.WalkMessages.{is_no_text}
+use Rattle.ud_tree.proofs.WalkTellLemmas.{walk_none, walk_met, walk_missing, walk_other, walk_remark, reported}
 use Rattle.ud_tree.proofs.walk.Walk.add.Goals as goal
 
 pub returns-in_err-escaped-clause-finds : goal.returns-in_err-escaped-clause-finds
@@ -15,7 +15,7 @@ pub returns-in-None-clause-finds : goal.returns-in-None-clause-finds
 returns-in-None-clause-finds g c = finds_call _ c.args.self.now.found.items c.node.ensures
 
 pub returns-in-Some-clause-finds : goal.returns-in-Some-clause-finds
-returns-in-Some-clause-finds g c = finds_file _ c.in-Some.node c.in-Some.ensures (c.if-is_file.ensures refl) c.push_file.ensures
+returns-in-Some-clause-finds g c = finds_file _ c.in-Some.node c.in-Some.ensures (c.if-is_file.ensures.file refl) c.push_file.ensures
 
 pub returns-in-Some-2-clause-finds : goal.returns-in-Some-2-clause-finds
 returns-in-Some-2-clause-finds g c = finds_call _ c.args.self.now.found.items c.node.ensures
@@ -34,5 +34,4 @@ returns-in-Some-clause-told g c = walk_met _ c.in-Some.node c.args.report.now (s
 
 pub returns-in-Some-2-clause-told : goal.returns-in-Some-2-clause-told
 returns-in-Some-2-clause-told g c =
-    walk_then (walk_met _ c.in-Some.node c.args.report.now (stream_of g.E.Write.contents c.args.err.now) c.in-Some.ensures)
-    (walk_remark _ _ (is_other _ refl) (reported c.fault-in-Some-2.ensures.says c.fault-in-Some-2.ensures.counted))
+    walk_other _ c.args.name.now c.in-Some.node (sym c.in-Ok.ensures.cases.0) c.in-Some.ensures (c.if-is_file.ensures.other refl) (reported c.fault-in-Some-2.ensures.says c.fault-in-Some-2.ensures.counted)

@@ -1,8 +1,6 @@
-use Rattle.std.proofs.Common.{refl}
 use Rattle.ud_tree.proofs.WalkLemmas.{finds_call, finds_file, finds_same, finds_then}
 use Rattle.ud_tree.specs.Streams.{stream_of}
-use Rattle.ud_tree.specs.WalkMessages.{is_link, is_other}
-use Rattle.ud_tree.proofs.WalkTellLemmas.{walk_met, walk_followed, walk_missing, walk_remark, walk_then, reported}
+use Rattle.ud_tree.proofs.WalkTellLemmas.{walk_met, walk_followed, walk_missing, walk_link, walk_other, other_kind, walk_then, reported}
 use Rattle.ud_tree.proofs.walk.Walk.start.Goals as goal
 
 pub returns-in_default-clause-finds : goal.returns-in_default-clause-finds
@@ -36,15 +34,11 @@ returns-in-Link-clause-told g c =
 
 pub returns-in-Link-2-clause-told : goal.returns-in-Link-2-clause-told
 returns-in-Link-2-clause-told g c =
-    walk_then
-    (walk_then (walk_met _ c.in-Some.node c.args.report.now (stream_of g.E.Write.contents c.args.err.now) c.in-Some.ensures)
-    (walk_followed _ _ c.args.report.now (stream_of g.E.Write.contents c.args.err.now) c.leads_to_folder.ensures))
-    (walk_remark _ _ (is_link _ refl) (reported c.fault.ensures.says c.fault.ensures.counted))
+    walk_link _ _ c.in-Some.node c.as_bytes-in-Link-2.ensures.value c.in-Some.ensures c.if-leads_to_folder.ensures c.in-Link.is (reported c.fault.ensures.says c.fault.ensures.counted)
 
 pub returns-in-File-clause-told : goal.returns-in-File-clause-told
 returns-in-File-clause-told g c = walk_met _ c.in-Some.node c.args.report.now (stream_of g.E.Write.contents c.args.err.now) c.in-Some.ensures
 
 pub returns-in-Other-clause-told : goal.returns-in-Other-clause-told
 returns-in-Other-clause-told g c =
-    walk_then (walk_met _ c.in-Some.node c.args.report.now (stream_of g.E.Write.contents c.args.err.now) c.in-Some.ensures)
-    (walk_remark _ _ (is_other _ refl) (reported c.fault-in-Other.ensures.says c.fault-in-Other.ensures.counted))
+    walk_other _ _ c.in-Some.node c.as_bytes-in-Other.ensures.value c.in-Some.ensures (other_kind _ c.in-Other.is) (reported c.fault-in-Other.ensures.says c.fault-in-Other.ensures.counted)
