@@ -5,6 +5,7 @@ pub mod MessageLemmas
 pub mod WalkLemmas
 pub mod WalkTellLemmas
 pub mod TreeLaws
+pub mod StatusLaws
 pub mod RunLemmas
 mod ShownLemmas
 pub mod PickLemmas

@@ -229,9 +229,9 @@ pub stops_unmatched : {from_input : Bool} {calls calls' : List Call} {a b c : Re
 stops_unmatched {line = line} args is h k = record { messages = h.messages; told = line; walk = h.walk; stops = no_match args is; tells = tells_then h.tells k }
 
 -- Memory ran out, and a line says so.
-pub stops_full : {from_input : Bool} {calls calls' : List Call} {a b c : Report} {s t u : Stream} → ReportsWalk calls calls' a b s t →
-    ReportsOne (fault_line [] (codes "Out of memory")) b c t u → StopsWalk from_input calls calls' a c s u
-stops_full h k = record { messages = h.messages; told = fault_line [] (codes "Out of memory"); walk = h.walk; stops = no_memory refl; tells = tells_then h.tells k.tells }
+pub stops_full : {from_input : Bool} {calls calls' : List Call} {a b c : Report} {s t u : Stream} {line : List ℕ} → line ≡ line_of (codes "Out of memory") →
+    ReportsWalk calls calls' a b s t → Tells b c t u line → StopsWalk from_input calls calls' a c s u
+stops_full {line = line} is h k = record { messages = h.messages; told = line; walk = h.walk; stops = no_memory is; tells = tells_then h.tells k }
 
 -- Something has a path, and nothing was written.
 pub walk_met : (path : List ℕ) (node : Node) {calls calls' : List Call} (r : Report) (s : Stream) → calls' ≡ walked (met path (Some node)) ∷ calls → ReportsWalk calls calls' r r s s

@@ -7,6 +7,7 @@
 --   EndsWriting job in_walk before files after status   the same, and all was written
 --   IsRun args tag old new messages failed shown told last status   a whole run
 --   Run, IsRunOf run                           its arguments, calls, output and status
+--   IsClean run                                a run in which nothing failed
 --   RunsTree job before after status           a whole run, and all of that was written
 --
 -- `old` and `new` are the calls before and after, the newest first. `messages` are those of the
@@ -129,6 +130,18 @@ pub record Run : Type 0 where
 abbrev pub IsRunOf : Run → Type 0
 IsRunOf run = IsRun run.args run.tag run.old run.new run.messages run.failed run.shown run.told
     run.last run.status
+
+-- `IsClean run`: the walk found some files and has no message, no file has an error, and the output
+-- hasn't failed.
+pub record IsClean (run : Run) : Type 0 where
+  pub mid : List Call
+  pub files : List Found
+  pub results : List FileResult
+  pub is_walk : IsWalk run.old mid files
+  pub untold : WalkTells run.old mid []
+  pub each : EachFile (DoesOne run.args run.tag) mid (names_of files) run.new results
+  pub faultless : faulty_in results ≡ 0
+  pub unfailed : run.failed ≡ false
 
 -- `RunsTree job before after status`: a whole run. What is shown was written to the output, and the
 -- last lines were to the error stream. If that is no terminal, the messages of the walk and all of

@@ -102,7 +102,7 @@ pub record ReportsWalk (calls calls' : List Call) (old new : Report) (err err' :
 -- a line says so. Or the paths are those of the command line, and one has a fault, of which the
 -- messages tell. Or no file below them matches, and a line says so.
 pub data Stops (from_input : Bool) (messages : List (List ℕ)) (told : List ℕ) : Type 0 where
-  no_memory : told ≡ fault_line [] (codes "Out of memory") → Stops from_input messages told
+  no_memory : told ≡ line_of (codes "Out of memory") → Stops from_input messages told
   bad_path : from_input ≡ false → 0 < length messages → told ≡ [] →
       Stops from_input messages told
   no_match : from_input ≡ false → told ≡ line_of (codes "No file matches") →

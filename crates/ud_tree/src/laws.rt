@@ -1,14 +1,21 @@
 //! What the calls of a whole run come to: functions without a body, whose contracts are theorems.
 
-ghost use Rattle.std.specs.Prelude.{◌≡◌, false};
+ghost use Rattle.std.specs.Prelude.{◌≡◌, ◌+◌, ◌<◌, ◌^◌, false, length};
 ghost use Rattle.ud_model.specs.sections.Items.{Options};
 ghost use Rattle.ud_replace.specs.Moments.{Files, AreTrue, EachCall};
 ghost use Rattle.ud_tree.specs.declared.arguments.Task.TheVariants.{Replace, Diff};
 ghost use Rattle.ud_tree.specs.Runs.{IsPlanned};
 ghost use Rattle.ud_tree.specs.TreeDiffs.{ShowsDiffs};
-ghost use Rattle.ud_tree.specs.TreeRuns.{Run, IsRunOf};
+ghost use Rattle.ud_tree.specs.TreeRuns.{Run, IsRunOf, IsClean};
 ghost use Rattle.ud_tree.specs.TreeMoments.{TouchesNothing, TouchesFreshOrNone};
 ghost use Rattle.ud_tree.specs.TreeMoments.{LeavesOldOrOutput};
+
+/// If the status isn't 2, nothing failed: the walk has no message, no file has an error, and the
+/// output was written. The number of messages is taken to be one that a machine can count.
+pub fn law_run_status()
+    ensures { (run : Run) → IsRunOf run → ¬ (run.status ≡ 2) →
+        length run.messages + 2 < 2 ^ 64 → IsClean run }
+{}
 
 /// If nothing is to be replaced, no call of a run touches a file, whatever the answers are.
 pub fn law_run_reads()

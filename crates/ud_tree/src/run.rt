@@ -59,7 +59,7 @@ pub fn run_tree<T: Tree, R: Read + Drop, W: Write, E: Write>(
     let mut report = Report::new(job);
     match find_files(job, tree, input, &mut report, err) {
         Err(_) => {
-            report.fault(err, b"", b"Out of memory");
+            report.line(err, &[b"Out of memory"]);
             EXIT_TROUBLE
         }
         Ok(None) => EXIT_TROUBLE,
