@@ -25,7 +25,7 @@ pub(crate) fn fate_of(update: Result<Update, ReplaceError>) -> Fate
 }
 
 impl Report {
-    /// Writes the fault of a file, if it has one.
+    /// Writes the message of the error of a file, if it has one.
     pub(crate) fn file_result<T: Tree, E: Write>(
         &mut self,
         err: &mut Watched<E>,
@@ -42,7 +42,7 @@ impl Report {
         }
     }
 
-    /// Writes why a file wasn't replaced, or couldn't be.
+    /// Writes the message of the error of a file.
     fn file_error<T: Tree, E: Write>(
         &mut self,
         err: &mut Watched<E>,
