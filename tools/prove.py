@@ -43,6 +43,10 @@ SECONDS = {
 }
 OTHER = 60
 
+# The checks that are split among all processors. The others are shorter then by nothing, or would
+# take processors from a check beside them.
+SPLIT = {"ud_model", "ud_engine"}
+
 # The memory in bytes that must be free before a crate starts beside another one, and before a check
 # is split among all processors.
 FREE = 6_000_000_000
@@ -204,10 +208,9 @@ class Build:
             self.say(f"{crate} is being proved")
 
     def jobs_of(self, crate):
-        """Returns the words that give a check all processors, if all that is left waits for it.
-        Without them Rattle's command takes two."""
-        waits = all(crate in at_or_below(it, self.used) for it in self.left)
-        if not waits or self.processors <= 2 or free_memory() < FREE_FOR_ALL:
+        """Returns the words that split a check among all processors. Without them Rattle's command
+        takes two."""
+        if crate not in SPLIT or self.processors <= 2 or free_memory() < FREE_FOR_ALL:
             return []
         return ["--jobs", str(self.processors)]
 
