@@ -43,9 +43,9 @@ SECONDS = {
 }
 OTHER = 60
 
-# The checks that are split among all processors. The others are shorter then by nothing, or would
-# take processors from a check beside them.
-SPLIT = {"ud_model", "ud_engine"}
+# The checks that are split among all processors. The others take no less time then, or take
+# processors from a check beside them.
+SPLIT = {"ud_engine"}
 
 # The memory in bytes that must be free before a crate starts beside another one, and before a check
 # is split among all processors.
