@@ -32,7 +32,8 @@ def right_body(path, programs):
     for mode in ([], ["-t"], ["-s"]):
         runs = [subprocess.run([program, *mode, *DECIDED, path], capture_output=True) for program in programs]
         answers = {(run.returncode, run.stdout) for run in runs}
-        if any(status not in (0, 1) for status, _ in answers) or len(answers) > 1 and mode != ["-s"]:
+        differ = len(answers) > 1 and mode != ["-s"]
+        if differ or any(status not in (0, 1) for status, _ in answers):
             return b""
     return path.read_bytes() + b"\n"
 

@@ -1,5 +1,5 @@
 -- One file more of a run.
-use Rattle.std.proofs.Common.{◌≡◌, ℕ, ◌+◌, ◌<◌, ◌≤◌, List, [], ◌∷◌, ◌++◌, length, get_or, take, cond, refl, flat_map, sym, ap, ◌∙◌, subst, append-nil, Bool, true, false, Result, min, ◌-◌, ◌^◌, arith}
+use Rattle.std.proofs.Common.{◌≡◌, ℕ, ◌+◌, ◌<◌, ◌≤◌, List, [], ◌∷◌, ◌++◌, length, get_or, take, cond, refl, sym, ap, ◌∙◌, subst, append-nil, Bool, true, false, Result, min, ◌-◌, ◌^◌, arith}
 use mir.Val.{bool_byte}
 use Rattle.std.proofs.lemmas.List.{take_more, take_all, map-append}
 use Rattle.std.proofs.lemmas.List.Sums.{sum_by_push}
@@ -24,7 +24,7 @@ use Rattle.ud_tree.specs.Messages.{IsTold, IsPlain, Tells, TellsResult, TellsIf,
 use Rattle.ud_tree.specs.Summaries.{last_lines, TellsEnd}
 use Rattle.ud_tree.proofs.MessageLemmas.{tells_kept, tells_then, tells_same, output_told, output_count}
 use Rattle.ud_tree.specs.Walks.{IsWalk}
-use Rattle.ud_tree.specs.WalkMessages.{StopsWalk, FindsFiles}
+use Rattle.ud_tree.specs.WalkMessages.{joined, StopsWalk, FindsFiles}
 use Rattle.ud_tree.specs.Writing.{Moment, WritesOne, WritesAll, WritesList}
 use Rattle.ud_tree.specs.TreeRuns.{DoesBy, DoesOne, DoesJob, Ends, EndsWriting, no_run, ran, RunsTree}
 use Rattle.ud_tree.proofs.StreamLemmas.{sends_none, sends_then, sends_same}
@@ -154,7 +154,7 @@ pub ends : (job : Job) (files : List Found) {old mid new : Moment} {listed liste
 ends job files {old = old} {new = new} {counts = counts} lost unwritten in_walk faults hidden status w l t f failed end u e same few all is plain =
     let h = w.counted in
     let args = job.arguments.now in
-    let of_output = flat_map (λ x. x) (output_messages lost unwritten) in
+    let of_output = joined (output_messages lost unwritten) in
     let both = tells_same (sym (output_told lost unwritten)) (tells_then t u) in
     let last = last_lines args counts.changed counts.unchanged faults hidden e.remaining in
     record {
@@ -174,11 +174,10 @@ ends job files {old = old} {new = new} {counts = counts} lost unwritten in_walk 
         remaining = e.remaining;
         last_is = ap (λ (x : ℕ). last_lines args x counts.unchanged faults hidden e.remaining) h.counts_are.changed
             ∙ ap (λ (x : ℕ). last_lines args (changed_in h.results) x faults hidden e.remaining) h.counts_are.unchanged;
-        of_output = output_messages lost unwritten;
         is_lost = lost;
-        of_output_is = ap (output_messages lost) failed;
-        told_is = ap (λ (x : List ℕ). (x ++ of_output) ++ last) h.told_is;
-        faults_are = rw (output_count lost unwritten, ← h.counts_are.faulty) all;
+        told_is = ap (λ (x : List ℕ). (x ++ of_output) ++ last) h.told_is ∙ ap (λ (b : Bool). (told_of h.results ++ joined (output_messages lost b)) ++ last) failed;
+        faults_are = subst (λ (b : Bool). in_walk + length (output_messages lost b) + faulty_in h.results < 2 ^ 64 → faults ≡ in_walk + length (output_messages lost b) + faulty_in h.results) failed
+            (rw (output_count lost unwritten, ← h.counts_are.faulty) all);
       };
       sent = sends_same (append-nil (w.shown ++ l.listed)) (sends_then (sends_then w.sent l.sent) f);
       ended = e.told;
@@ -202,7 +201,7 @@ no_files job {old = old} {new = new} plain h same = record {
 -- The faults of the walk have another number, which is the same unless it is too large.
 ends_counted : {args : Arguments} {tag : List ℕ} {failed : Bool} {old new : List Call} {names : List (List ℕ)} {shown told last : List ℕ} {status : ℕ} (n m : ℕ) → (m < 2 ^ 64 → n ≡ m) →
     Ends args tag n failed old names new shown told last status → Ends args tag m failed old names new shown told last status
-ends_counted n m same h = record {
+ends_counted {failed = failed} n m same h = record {
   results = h.results;
   each = h.each;
   listed = h.listed;
@@ -214,11 +213,9 @@ ends_counted n m same h = record {
   hidden = h.hidden;
   remaining = h.remaining;
   last_is = h.last_is;
-  of_output = h.of_output;
   is_lost = h.is_lost;
-  of_output_is = h.of_output_is;
   told_is = h.told_is;
-  faults_are = faults_counted n m (length h.of_output) (faulty_in h.results) h.faults same h.faults_are;
+  faults_are = faults_counted n m (length (output_messages h.is_lost failed)) (faulty_in h.results) h.faults same h.faults_are;
 }
   where
     faults_counted : (n m o f faults : ℕ) → (m < 2 ^ 64 → n ≡ m) → (n + o + f < 2 ^ 64 → faults ≡ n + o + f) → m + o + f < 2 ^ 64 → faults ≡ m + o + f

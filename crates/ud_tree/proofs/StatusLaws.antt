@@ -1,5 +1,5 @@
 -- A run whose status isn't 2: nothing failed.
-use Rattle.std.proofs.Common.{◌≡◌, ℕ, ◌+◌, ◌<◌, ◌≤◌, ◌^◌, ◌==◌, cond, List, [], ◌∷◌, length, Bool, true, false, refl, sym, ap, ◌∙◌, subst, arith}
+use Rattle.std.proofs.Common.{◌≡◌, ℕ, ◌+◌, ◌<◌, ◌≤◌, ◌^◌, ◌==◌, cond, List, [], ◌∷◌, length, Bool, true, false, refl, ap, ◌∙◌, subst, arith}
 use Rattle.std.proofs.lemmas.Bool.{eqb-true}
 use Rattle.ud_model.specs.declared.settings.ExitMode.{ExitMode}
 use Rattle.ud_tree.specs.declared.arguments.Task.{Task}
@@ -40,11 +40,11 @@ run_clean run _ _ _ _ other few (no_run h stops) = absurd (other refl)
 run_clean run shown told last status other few (ran mid files w t some h) =
     let none : h.faults ≡ 0 = none_by_status run.args.task run.args.plan.settings.exit_mode h.faults (changed_in h.results) status h.status_is other in
     let fine : faulty_in h.results ≡ 0 = omega (arith, h.reported) in
-    let two : length h.of_output ≤ 2 = subst (λ (ms : List (List ℕ)). length ms ≤ 2) (sym h.of_output_is) (at_most_two h.is_lost run.failed) in
-    let small : length run.messages + length h.of_output + faulty_in h.results < 2 ^ 64 = omega arith in
-    let sum : h.faults ≡ length run.messages + length h.of_output + faulty_in h.results = h.faults_are small in
+    let two : length (output_messages h.is_lost run.failed) ≤ 2 = at_most_two h.is_lost run.failed in
+    let small : length run.messages + length (output_messages h.is_lost run.failed) + faulty_in h.results < 2 ^ 64 = omega arith in
+    let sum : h.faults ≡ length run.messages + length (output_messages h.is_lost run.failed) + faulty_in h.results = h.faults_are small in
     let untold : length run.messages ≡ 0 = omega arith in
-    let unwritten : length h.of_output ≡ 0 = omega arith in
+    let unwritten : length (output_messages h.is_lost run.failed) ≡ 0 = omega arith in
     record {
       mid = mid;
       files = files;
@@ -53,5 +53,5 @@ run_clean run shown told last status other few (ran mid files w t some h) =
       untold = subst (λ (ms : List (List ℕ)). WalkTells run.old mid ms) (none_of run.messages untold) t;
       each = h.each;
       faultless = fine;
-      unfailed = unfailed h.is_lost run.failed (ap length (sym h.of_output_is) ∙ unwritten);
+      unfailed = unfailed h.is_lost run.failed unwritten;
     }

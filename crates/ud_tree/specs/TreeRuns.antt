@@ -16,7 +16,6 @@
 -- and `last` last.
 use Rattle.std.specs.Prelude.{◌≡◌, ℕ, ◌+◌, ◌≤◌, ◌<◌, ◌^◌, List, [], ◌++◌, length}
 use Rattle.std.specs.Prelude.{Bool, false}
-use Rattle.std.specs.List.{flat_map}
 use Rattle.ud_replace.specs.Calls.{Call}
 use Rattle.ud_tree.specs.declared.arguments.Task.{Task}
 use Rattle.ud_tree.specs.declared.arguments.Task.TheVariants.{Replace, Diff, Names}
@@ -77,12 +76,10 @@ pub record Ends (args : Arguments) (tag : List ℕ) (in_walk : ℕ) (failed : Bo
   pub remaining : ℕ
   pub last_is : last ≡ last_lines args (changed_in results) (same_in results) faults hidden
       remaining
-  pub of_output : List (List ℕ)
   pub is_lost : Bool
-  pub of_output_is : of_output ≡ output_messages is_lost failed
-  pub told_is : told ≡ told_of results ++ flat_map (λ m. m) of_output ++ last
-  pub faults_are : in_walk + length of_output + faulty_in results < 2 ^ 64 →
-      faults ≡ in_walk + length of_output + faulty_in results
+  pub told_is : told ≡ told_of results ++ joined (output_messages is_lost failed) ++ last
+  pub faults_are : in_walk + length (output_messages is_lost failed) + faulty_in results < 2 ^ 64 →
+      faults ≡ in_walk + length (output_messages is_lost failed) + faulty_in results
 
 -- `EndsWriting job in_walk before files after status`: all files are processed, what is shown was
 -- written, and the last lines were. If the error stream is no terminal, all of `told` was written.
@@ -131,8 +128,8 @@ abbrev pub IsRunOf : Run → Type 0
 IsRunOf run = IsRun run.args run.tag run.old run.new run.messages run.failed run.shown run.told
     run.last run.status
 
--- `IsClean run`: the walk found some files and has no message, no file has an error, and the output
--- hasn't failed.
+-- `IsClean run`: a whole walk has no message, none of its files has an error, and the output hasn't
+-- failed.
 pub record IsClean (run : Run) : Type 0 where
   pub mid : List Call
   pub files : List Found
