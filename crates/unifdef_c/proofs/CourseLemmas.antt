@@ -9,8 +9,10 @@ use Rattle.ud_model.specs.answer.Answer.{Answer, IsAnswer, ran, run_answer}
 use Rattle.ud_model.specs.declared.settings.Settings.{Settings}
 use Rattle.ud_faults.specs.declared.run.RunFault.{RunFault}
 use Rattle.ud_faults.specs.declared.run.RunFault.TheVariants.{Text, Section, Read, Write}
-use Rattle.ud_engine.specs.Feeding.{FeedFails, IsInSession, WriterMatches}
-use Rattle.ud_engine.specs.Finishing.{Finishes, RunAnswers}
+use Rattle.ud_engine.specs.Feeding.{FeedFails, IsInSession, Session, WriterMatches}
+use Rattle.ud_model.specs.sections.Faults.{Fault}
+use Rattle.ud_faults.specs.Faults.{limit_of, fault_of}
+use Rattle.ud_engine.specs.Finishing.{FinishFault, Finishes, RunAnswers}
 use Rattle.ud_engine.proofs.RunLemmas.{own_piece, own_session, ran_early, ended_ran}
 use Rattle.ud_diagnostics.specs.RunMessages.{result_message, result_status}
 use Rattle.unifdef.proofs.HeadlineLemmas.{tells_outcome}
@@ -191,10 +193,25 @@ of_stream args text given t r named set w =
     (subst (λ (x : Settings). IsAnswer args text (record { output = given ++ pending t; message = result_message (display_name args) r; status = result_status x r })) (sym set) w)
 
 module _ (args : List (List ℕ)) (text given : List ℕ) (s t : Stream) where
+  abbrev own : Session
+  own = own_session (options_of args) text (given ++ pending s)
+
+  -- what the engine printed before a fault is part of what is pending
+  shifted_fault : (f : Fault) → s.taken ≤ length (output_of s) → t.taken ≡ s.taken →
+      FinishFault own.options own.pieces own.text own.printed (Some (output_of s)) (Some (output_of t)) f →
+      FinishFault own.options own.pieces own.text own.printed (Some (given ++ pending s)) (Some (given ++ pending t)) f
+  shifted_fault f within k w = record {
+    items = w.items;
+    tree = w.tree;
+    reads = w.reads;
+    more = w.more;
+    printed_is = w.printed_is;
+    appended = joined given s t w.more k w.appended within;
+  }
+
   -- what the engine printed last is part of what is pending
   shifted : (failed : Bool) (r : Result Bool RunFault) → ¬ (r ≡ Err Write) → s.taken ≤ length (output_of s) → t.taken ≡ s.taken →
-      Finishes (own_session (options_of args) text (given ++ pending s)) failed (Some (output_of s)) (Some (output_of t)) r →
-      Finishes (own_session (options_of args) text (given ++ pending s)) failed (Some (given ++ pending s)) (Some (given ++ pending t)) r
+      Finishes own failed (Some (output_of s)) (Some (output_of t)) r → Finishes own failed (Some (given ++ pending s)) (Some (given ++ pending t)) r
   shifted failed (Ok d) uncut within k w = record {
     items = w.items;
     tree = w.tree;
@@ -204,28 +221,8 @@ module _ (args : List (List ℕ)) (text given : List ℕ) (s t : Stream) where
     appended = joined given s t w.more k w.appended within;
     differs_is = w.differs_is;
   }
-  shifted failed (Err (Text f)) uncut within k w = (
-    w.0,
-    record {
-      items = w.1.items;
-      tree = w.1.tree;
-      reads = w.1.reads;
-      more = w.1.more;
-      printed_is = w.1.printed_is;
-      appended = joined given s t w.1.more k w.1.appended within;
-    },
-  )
-  shifted failed (Err (Section f)) uncut within k w = (
-    w.0,
-    record {
-      items = w.1.items;
-      tree = w.1.tree;
-      reads = w.1.reads;
-      more = w.1.more;
-      printed_is = w.1.printed_is;
-      appended = joined given s t w.1.more k w.1.appended within;
-    },
-  )
+  shifted failed (Err (Text f)) uncut within k w = (w.0, shifted_fault (limit_of f) within k w.1)
+  shifted failed (Err (Section f)) uncut within k w = (w.0, shifted_fault (fault_of f) within k w.1)
   shifted failed (Err Read) uncut within k w = absurd w
   shifted failed (Err Write) uncut within k w = absurd (uncut refl)
 
