@@ -24,19 +24,27 @@ UNPROVED = "crates/unifdef_cli/out/unproved"
 # A guard against a test that hangs. Under load, the slowest one takes a small part of this.
 SECONDS = "600"
 # Those that take longest come first, so that none of them ends alone.
-FIRST = ["test_runner", "cases", "test_text", "test_sections", "test_engine"]
+FIRST = ["cases", "test_runner", "test_text", "test_sections", "test_engine"]
+# A case with such a line needs a reader or a writer over memory (tests/cases.py).
+STREAM = re.compile(
+    rb"^((reads|writes) of \d|(read|write) fails after|write stops after|(read|write) \d+ is "
+    rb"interrupted|(first )?flush fails|calls )",
+    re.M,
+)
 
 
 def words_of(crate):
-    """Returns the arguments of a crate's stored run: files of data/ by name, if it has some.
+    """Returns the arguments of a crate's stored run, or the cases of data/ that need streams.
 
-    A program that runs with checks takes many minutes for all texts of the runner, so only the
-    cases are run.
+    The built program runs the other cases, once each. The gate runs each case in several ways,
+    which takes minutes for a program with checks.
     """
     cases = sorted(glob.glob("data/*/*.case", root_dir=crate))
+    if cases:
+        return [it for it in cases if STREAM.search(bytes_of(f"{crate}/{it}"))]
     path = f"{crate}/args"
-    if cases or not os.path.exists(path):
-        return cases
+    if not os.path.exists(path):
+        return []
     with open(path, encoding="utf-8") as lines:
         return lines.read().splitlines()
 
