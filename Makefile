@@ -135,7 +135,7 @@ check: kit
 	@$(RT) ci
 
 edits: kit
-	RT='$(RT)' tests/edits.sh $(CRATES)
+	RT='$(RT)' tools/edits.py $(CRATES)
 
 examples: unifdef unifdef-tree
 	@tests/examples.sh README.md
