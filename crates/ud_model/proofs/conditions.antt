@@ -13,3 +13,10 @@ pub mod TokenLemmas
 pub mod OneExpression
 pub mod DecidedConditions
 pub mod SpacesInFront
+pub mod ChoiceValues
+pub mod ResidualTruth
+pub mod ResidualShape
+pub mod KeptTokens
+pub mod ResidualRead
+pub mod StayedChoices
+pub mod OneValue

@@ -7,3 +7,4 @@ pub mod KnownExamples
 pub mod CSelectionExamples
 pub mod WrongRules
 pub mod PrintingExamples
+pub mod ResidualExamples

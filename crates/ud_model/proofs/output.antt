@@ -60,3 +60,4 @@ pub mod FlagArguments
 pub mod OptionAnswers
 pub mod ReachedPruned
 pub mod ReachedAlike
+pub mod SimplifiedSelected

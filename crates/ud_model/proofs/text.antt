@@ -11,3 +11,4 @@ pub mod LexExists
 pub mod TextEnd
 pub mod ScanLaws
 pub mod ScanBytes
+pub mod OtherLineScans

@@ -8,3 +8,7 @@ pub mod Values
 pub mod Conditions
 pub mod Names
 pub mod CValues
+pub mod Residuals
+pub mod Sublists
+pub mod ResidualTexts
+pub mod Choices

@@ -8,3 +8,4 @@ pub mod BlankedLines
 pub mod SharedLines
 pub mod InsertedLines
 pub mod InsertedNodes
+pub mod SimplifiedTrees

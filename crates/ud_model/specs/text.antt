@@ -7,3 +7,4 @@ pub mod Splicing
 pub mod Lexemes
 pub mod Scanning
 pub mod LineViews
+pub mod OtherLines

@@ -21,6 +21,7 @@ mod line;
 mod operator;
 pub mod option_laws;
 pub mod output_laws;
+pub mod residual_laws;
 mod scan;
 mod settings;
 mod verdict;

@@ -1,0 +1,113 @@
+-- Choice values: what a choice of numbers gives an expression is one of the values that C may give it.
+use Rattle.std.proofs.Common.{◌≡◌, ℕ, List, [], ◌∷◌, Bool, true, false, ◌||◌, ◌==◌, if◌then◌else◌, Option, Some, None, refl, sym, ◌∙◌, ap, subst, inl, inr, ◌⊎◌, ℤ, pos, negsuc, neg_ℤ}
+use Rattle.std.proofs.lemmas.Option.{none-some}
+use Rattle.std.proofs.lemmas.Bool.{false≢true}
+use Rattle.ud_model.specs.conditions.Table.{Argument, Entry, entry_in}
+use Rattle.ud_model.specs.conditions.Constants.{is_constant}
+use Rattle.ud_model.specs.conditions.Symbols.{resolve}
+use Rattle.ud_model.specs.conditions.Expressions.{Expression, named, is_defined}
+use Rattle.ud_model.specs.conditions.Values.{fits, fit, truth, constant_value, negated_value, text_value, end_value, defined_name_value, name_value_by, name_value, name_has_u, defined_value, has_unsigned}
+use Rattle.ud_model.specs.conditions.CValues.{Number, signed, IsInRange, typed, CValue, IsCValue}
+use Rattle.ud_model.specs.conditions.CValues as may
+use Rattle.ud_model.specs.conditions.Choices.{Choice, for_constant, for_name, for_defined, for_unary, for_binary, for_parens, IsAllowed, HasValue, of_constant, of_name, of_defined, of_unary, of_binary, of_and_left, of_and_both, of_or_left, of_or_both, of_parens}
+
+-- A known number stays known.
+abbrev Keeps : Option ℤ → Option ℤ → Type 0
+Keeps a b = (z : ℤ) → a ≡ Some z → b ≡ Some z
+
+fits_less : (u v : Bool) (z : ℤ) → (v ≡ true → u ≡ true) → fits u z ≡ true → fits v z ≡ true
+fits_less u v (pos n) h e = e
+fits_less true v (negsuc n) h e = absurd (false≢true e)
+fits_less false true (negsuc n) h e = absurd (false≢true (h refl))
+fits_less false false (negsuc n) h e = e
+
+fit_less : (u v : Bool) (k : ℤ) → (v ≡ true → u ≡ true) → Keeps (fit u k) (fit v k)
+fit_less u v k h z e = by (fits u k) refl e
+  where
+    by : (b : Bool) → fits u k ≡ b → (if b then Some k else None) ≡ Some z → fit v k ≡ Some z
+    by true d f = ap (λ (t : Bool). if t then Some k else None) (fits_less u v k h d) ∙ f
+    by false d f = absurd (none-some z f)
+
+negated_less : (u v : Bool) (o : Option ℤ) → (v ≡ true → u ≡ true) → Keeps (negated_value u o) (negated_value v o)
+negated_less u v None h z e = absurd (none-some z e)
+negated_less u v (Some k) h z e = fit_less u v (neg_ℤ k) h z e
+
+if_less : (b : Bool) (x y : Option ℤ) → Keeps x y → Keeps (if b then x else None) (if b then y else None)
+if_less true x y k z e = k z e
+if_less false x y k z e = absurd (none-some z e)
+
+either_less : (b : Bool) (x y other : Option ℤ) → Keeps x y → Keeps (if b then x else other) (if b then y else other)
+either_less true x y other k z e = k z e
+either_less false x y other k z e = e
+
+text_less : (u v : Bool) (text : List ℕ) → (v ≡ true → u ≡ true) → Keeps (text_value u text) (text_value v text)
+text_less u v [] h z e = absurd (none-some z e)
+text_less u v (b ∷ w) h z e =
+    either_less (b == 45) (if is_constant w then negated_value u (constant_value w) else None) (if is_constant w then negated_value v (constant_value w) else None)
+    (if is_constant (b ∷ w) then constant_value (b ∷ w) else None)
+    (if_less (is_constant w) (negated_value u (constant_value w)) (negated_value v (constant_value w)) (negated_less u v (constant_value w) h)) z e
+
+end_less : (u v : Bool) (o : Option (List ℕ)) → (v ≡ true → u ≡ true) → Keeps (end_value u o) (end_value v o)
+end_less u v None h z e = absurd (none-some z e)
+end_less u v (Some text) h z e = text_less u v text h z e
+
+defined_less : (u v : Bool) (end value : Option (List ℕ)) → (v ≡ true → u ≡ true) → Keeps (defined_name_value u end value) (defined_name_value v end value)
+defined_less u v end None h z e = e
+defined_less u v end (Some text) h z e = end_less u v end h z e
+
+entry_less : (u v : Bool) (end : Option (List ℕ)) (o : Option Entry) → (v ≡ true → u ≡ true) → Keeps (name_value_by u end o) (name_value_by v end o)
+entry_less u v end None h z e = absurd (none-some z e)
+entry_less u v end (Some x) h z e = defined_less u v end x.value h z e
+
+-- A name whose value is known in an expression with a `u` has the same value in one without.
+pub name_less : (table : List Argument) (u v : Bool) (n : List ℕ) → (v ≡ true → u ≡ true) → Keeps (name_value table u n) (name_value table v n)
+unfolding name_value
+name_less table u v n h z e = entry_less u v (resolve table n) (entry_in table n) h z e
+
+left_u : (a b u : Bool) → ((a || b) ≡ true → u ≡ true) → a ≡ true → u ≡ true
+left_u true b u f e = f refl
+left_u false b u f e = absurd (false≢true e)
+
+right_u : (a b u : Bool) → ((a || b) ≡ true → u ≡ true) → b ≡ true → u ≡ true
+right_u true b u f e = f refl
+right_u false b u f e = f e
+
+zero_or_one : (b : Bool) → (signed (truth b) ≡ signed (pos 0)) ⊎ (signed (truth b) ≡ signed (pos 1))
+zero_or_one true = inr refl
+zero_or_one false = inl refl
+
+module _ (table : List Argument) (u : Bool) where
+  name_may : (n : List ℕ) (arguments : Bool) (c : Number) → IsInRange c → ((z : ℤ) → name_value table (name_has_u table n) n ≡ Some z → c ≡ typed (name_has_u table n) z) →
+      (name_has_u table n ≡ true → u ≡ true) → CValue table u (named n arguments) c
+  name_may n arguments c r h v = by (name_value table u n) refl
+    where
+      by : (o : Option ℤ) → name_value table u n ≡ o → CValue table u (named n arguments) c
+      by None e = may.of_open_name e r
+      by (Some z) e = subst (λ x. CValue table u (named n arguments) x) (sym (h z (name_less table u (name_has_u table n) n v z e))) (may.of_known_name e)
+
+  defined_may : (n : List ℕ) (p b : Bool) → ((z : ℤ) → defined_value table n ≡ Some z → truth b ≡ z) → CValue table u (is_defined n p) (signed (truth b))
+  defined_may n p b h = by (defined_value table n) refl
+    where
+      by : (o : Option ℤ) → defined_value table n ≡ o → CValue table u (is_defined n p) (signed (truth b))
+      by None e = may.of_open_defined e (zero_or_one b)
+      by (Some z) e = subst (λ x. CValue table u (is_defined n p) (signed x)) (sym (h z e)) (may.of_known_defined e)
+
+  -- What a choice gives is one of the values that C may give.
+  pub value_may : {e : Expression} {m : Choice e} {c : Number} → IsAllowed table m → HasValue e m c → (has_unsigned table e ≡ true → u ≡ true) → CValue table u e c
+  value_may a (of_constant p) v = may.of_constant p
+  value_may a (of_name {n = n} {arguments = arguments} {c = c}) v = name_may n arguments c a.0 a.1 v
+  value_may a (of_defined {n = n} {p = p} {b = b}) v = defined_may n p b a
+  value_may a (of_unary d g) v = may.of_unary (value_may a d v) g
+  value_may h (of_binary {a = a} {b = b} d f g) v =
+      may.of_binary (value_may h.0 d (left_u (has_unsigned table a) (has_unsigned table b) u v)) (value_may h.1 f (right_u (has_unsigned table a) (has_unsigned table b) u v)) g
+  value_may h (of_and_left {a = a} {b = b} d z) v = may.of_and_left (value_may h.0 d (left_u (has_unsigned table a) (has_unsigned table b) u v)) z
+  value_may h (of_and_both {a = a} {b = b} d z f t) v =
+      may.of_and_both (value_may h.0 d (left_u (has_unsigned table a) (has_unsigned table b) u v)) z (value_may h.1 f (right_u (has_unsigned table a) (has_unsigned table b) u v)) t
+  value_may h (of_or_left {a = a} {b = b} d z) v = may.of_or_left (value_may h.0 d (left_u (has_unsigned table a) (has_unsigned table b) u v)) z
+  value_may h (of_or_both {a = a} {b = b} d z f t) v =
+      may.of_or_both (value_may h.0 d (left_u (has_unsigned table a) (has_unsigned table b) u v)) z (value_may h.1 f (right_u (has_unsigned table a) (has_unsigned table b) u v)) t
+  value_may a (of_parens d) v = may.of_parens (value_may a d v)
+
+-- The value by an allowed choice is one that C may give the whole expression.
+pub choice_may : (table : List Argument) (e : Expression) (m : Choice e) (c : Number) → IsAllowed table m → HasValue e m c → IsCValue table e c
+choice_may table e m c a d = value_may table (has_unsigned table e) a d (λ h. h)

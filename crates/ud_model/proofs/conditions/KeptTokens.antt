@@ -1,0 +1,104 @@
+-- Kept tokens: the flags choose the tokens of what is left.
+use Rattle.std.proofs.Common.{◌≡◌, Bool, true, false, not, ◌&&◌, if◌then◌else◌, List, [], ◌∷◌, ◌++◌, map, refl, sym, ◌∙◌, ap, ap₂}
+use Rattle.ud_model.specs.conditions.Table.{Argument}
+use Rattle.ud_model.specs.conditions.Tokens.{Token, operator, opening, closing}
+use Rattle.ud_model.specs.conditions.Expressions.{Expression, constant, named, is_defined, unary, binary, parens, spelling}
+use Rattle.ud_model.specs.conditions.Conditions.{Rules}
+use Rattle.ud_model.specs.conditions.Residuals.{Residual, is_unit, settled, stands_alone, residual}
+use Rattle.ud_model.specs.conditions.ResidualTexts.{chosen, all_flags, joined_flags, keeps}
+use Rattle.ud_model.specs.declared.cond.Cond.{Cond}
+use Rattle.ud_model.specs.declared.operator.Operator.{Operator}
+use Rattle.ud_model.specs.declared.operator.Operator.TheVariants.{Or, And, Not}
+
+-- As many flags as members.
+abbrev SameLength : {A B : Type 0} → List A → List B → Type 0
+SameLength [] [] = Unit {0}
+SameLength (x ∷ xs) (y ∷ ys) = SameLength xs ys
+SameLength [] (y ∷ ys) = ⊥
+SameLength (x ∷ xs) [] = ⊥
+
+chosen_both : {A : Type 0} (fs gs : List Bool) (xs ys : List A) → SameLength fs xs → chosen (fs ++ gs) (xs ++ ys) ≡ chosen fs xs ++ chosen gs ys
+chosen_both [] gs [] ys h = refl
+chosen_both (true ∷ fs) gs (x ∷ xs) ys h = ap (λ zs. x ∷ zs) (chosen_both fs gs xs ys h)
+chosen_both (false ∷ fs) gs (x ∷ xs) ys h = chosen_both fs gs xs ys h
+chosen_both [] gs (x ∷ xs) ys h = absurd h
+chosen_both (f ∷ fs) gs [] ys h = absurd h
+
+same_both : {A : Type 0} (fs gs : List Bool) (xs ys : List A) → SameLength fs xs → SameLength gs ys → SameLength (fs ++ gs) (xs ++ ys)
+same_both [] gs [] ys h k = k
+same_both (f ∷ fs) gs (x ∷ xs) ys h k = same_both fs gs xs ys h k
+same_both [] gs (x ∷ xs) ys h k = absurd h
+same_both (f ∷ fs) gs [] ys h k = absurd h
+
+same_all : {A : Type 0} (f : Bool) (xs : List A) → SameLength (map (λ t. f) xs) xs
+same_all f [] = tt
+same_all f (x ∷ xs) = same_all f xs
+
+chosen_all : {A : Type 0} (xs : List A) → chosen (map (λ t. true) xs) xs ≡ xs
+chosen_all [] = refl
+chosen_all (x ∷ xs) = ap (λ zs. x ∷ zs) (chosen_all xs)
+
+chosen_none : {A : Type 0} (xs : List A) → chosen (map (λ t. false) xs) xs ≡ []
+chosen_none [] = refl
+chosen_none (x ∷ xs) = chosen_none xs
+
+to_nil : {A : Type 0} (xs : List A) → xs ++ [] ≡ xs
+to_nil [] = refl
+to_nil (x ∷ xs) = ap (λ zs. x ∷ zs) (to_nil xs)
+
+-- The flags of a tree are as many as its tokens, and choose those of what is left.
+record Chooses (flags : List Bool) (e : Expression) (left : Expression) : Type 0 where
+  long : SameLength flags (spelling e)
+  are : chosen flags (spelling e) ≡ spelling left
+
+joined_choose : (b d : Bool) (o : Operator) (c : Cond) (x y : Residual) (e f : Expression) (xs ys : List Bool) → Chooses xs e x.tree → Chooses ys f y.tree →
+    Chooses (joined_flags b d e f xs ys) (binary o e f) (if b then record y { lost = true } else if d then record x { lost = true } else record { cond = c; tree = binary o x.tree y.tree; lost = false }).tree
+joined_choose true d o c x y e f xs ys p q = record {
+  long = same_both (all_flags false e) (false ∷ ys) (spelling e) (operator o ∷ spelling f) (same_all false (spelling e)) q.long;
+  are = chosen_both (all_flags false e) (false ∷ ys) (spelling e) (operator o ∷ spelling f) (same_all false (spelling e)) ∙ ap₂ (λ us vs. us ++ vs) (chosen_none (spelling e)) q.are;
+}
+joined_choose false true o c x y e f xs ys p q = record {
+  long = same_both xs (false ∷ all_flags false f) (spelling e) (operator o ∷ spelling f) p.long (same_all false (spelling f));
+  are = chosen_both xs (false ∷ all_flags false f) (spelling e) (operator o ∷ spelling f) p.long ∙ ap₂ (λ us vs. us ++ vs) p.are (chosen_none (spelling f)) ∙ to_nil (spelling x.tree);
+}
+joined_choose false false o c x y e f xs ys p q = record {
+  long = same_both xs (true ∷ ys) (spelling e) (operator o ∷ spelling f) p.long q.long;
+  are = chosen_both xs (true ∷ ys) (spelling e) (operator o ∷ spelling f) p.long ∙ ap₂ (λ us vs. us ++ operator o ∷ vs) p.are q.are;
+}
+
+enclosed_choose : (b : Bool) (x : Residual) (e : Expression) (xs : List Bool) → Chooses xs e x.tree →
+    Chooses (not b ∷ xs ++ not b ∷ []) (parens e) (if b then x else record x { tree = parens x.tree }).tree
+enclosed_choose true x e xs p = record {
+  long = same_both xs (false ∷ []) (spelling e) (closing ∷ []) p.long tt;
+  are = chosen_both xs (false ∷ []) (spelling e) (closing ∷ []) p.long ∙ ap₂ (λ us vs. us ++ vs) p.are refl ∙ to_nil (spelling x.tree);
+}
+enclosed_choose false x e xs p = record {
+  long = same_both xs (true ∷ []) (spelling e) (closing ∷ []) p.long tt;
+  are = ap (λ us. opening ∷ us) (chosen_both xs (true ∷ []) (spelling e) (closing ∷ []) p.long ∙ ap₂ (λ us vs. us ++ vs) p.are refl);
+}
+
+not_choose : (x : Residual) (e : Expression) (xs : List Bool) → Chooses xs e x.tree → Chooses (true ∷ xs) (unary Not e) (unary Not x.tree)
+not_choose x e xs p = record { long = p.long; are = ap (λ us. operator Not ∷ us) p.are }
+
+all_choose : (e : Expression) → Chooses (all_flags true e) e e
+all_choose e = record { long = same_all true (spelling e); are = chosen_all (spelling e) }
+
+module _ (table : List Argument) (rules : Rules) where
+  choose : (e : Expression) → Chooses (keeps table rules e) e (residual table rules e).tree
+  choose (unary Not a) = not_choose (residual table rules a) a (keeps table rules a) (choose a)
+  choose (binary And a b) =
+      joined_choose (is_unit And (residual table rules a).cond) (is_unit And (residual table rules b).cond) And (settled rules.strict And (residual table rules a).cond (residual table rules b).cond)
+      (residual table rules a) (residual table rules b) a b (keeps table rules a) (keeps table rules b) (choose a) (choose b)
+  choose (binary Or a b) =
+      joined_choose (is_unit Or (residual table rules a).cond) (is_unit Or (residual table rules b).cond) Or (settled rules.strict Or (residual table rules a).cond (residual table rules b).cond)
+      (residual table rules a) (residual table rules b) a b (keeps table rules a) (keeps table rules b) (choose a) (choose b)
+  choose (parens a) = enclosed_choose ((residual table rules a).lost && stands_alone (residual table rules a).tree) (residual table rules a) a (keeps table rules a) (choose a)
+  choose (constant w) = all_choose (constant w)
+  choose (named n h) = all_choose (named n h)
+  choose (is_defined n h) = all_choose (is_defined n h)
+  choose (unary o a) = all_choose (unary o a)
+  choose (binary o a b) = all_choose (binary o a b)
+
+  -- The tokens that are left are those with a flag.
+  pub kept_are : (e : Expression) → spelling (residual table rules e).tree ≡ chosen (keeps table rules e) (spelling e)
+  kept_are e = sym (choose e).are

@@ -1,0 +1,124 @@
+-- One value: by the numbers for its uses of names an expression has one value at most.
+use Rattle.std.proofs.Common.{◌≡◌, ℕ, ◌<◌, ◌≤◌, ◌^◌, Bool, true, false, List, refl, sym, ◌∙◌, ap, subst, inl, inr, ◌⊎◌, ℤ, pos, arith}
+use Rattle.std.proofs.lemmas.Bool.{false≢true}
+use Rattle.ud_model.specs.conditions.Constants.{has_u, is_decimal, constant_number}
+use Rattle.ud_model.specs.conditions.Expressions.{Expression}
+use Rattle.ud_model.specs.conditions.CValues.{Number, signed, unsigned, IsTruth, IsZero, GivesSigned, GivesUnsigned, Gives, GivesUnary, IsConstantValue, plain, by_suffix, by_size, as_unsigned}
+use Rattle.ud_model.specs.conditions.Choices.{Choice, HasValue, of_constant, of_name, of_defined, of_unary, of_binary, of_and_left, of_and_both, of_or_left, of_or_both, of_parens}
+use Rattle.ud_model.specs.declared.operator.Operator.{Operator}
+use Rattle.ud_model.specs.declared.operator.Operator.TheVariants.{Or, And, BitOr, BitXor, BitAnd, Equal, NotEqual, Less, LessEqual, Greater, GreaterEqual, Plus, Minus, Times, Over, Remainder, Not, Complement}
+
+one_truth : (Holds : Type 0) (c d : Number) → IsTruth Holds c → IsTruth Holds d → c ≡ d
+one_truth Holds c d (inl p) (inl q) = p.1 ∙ sym q.1
+one_truth Holds c d (inr p) (inr q) = p.1 ∙ sym q.1
+one_truth Holds c d (inl p) (inr q) = absurd (q.0 p.0)
+one_truth Holds c d (inr p) (inl q) = absurd (p.0 q.0)
+
+one_signed : (o : Operator) (a b : ℤ) (c d : Number) → GivesSigned o a b c → GivesSigned o a b d → c ≡ d
+one_signed BitOr a b c d p q = p ∙ sym q
+one_signed BitXor a b c d p q = p ∙ sym q
+one_signed BitAnd a b c d p q = p ∙ sym q
+one_signed Equal a b c d p q = one_truth _ c d p q
+one_signed NotEqual a b c d p q = one_truth _ c d p q
+one_signed Less a b c d p q = one_truth _ c d p q
+one_signed LessEqual a b c d p q = one_truth _ c d p q
+one_signed Greater a b c d p q = one_truth _ c d p q
+one_signed GreaterEqual a b c d p q = one_truth _ c d p q
+one_signed Plus a b c d p q = p.1 ∙ sym q.1
+one_signed Minus a b c d p q = p.1 ∙ sym q.1
+one_signed Times a b c d p q = p.1 ∙ sym q.1
+one_signed Over a b c d p q = p.1.1 ∙ sym q.1.1
+one_signed Remainder a b c d p q = p.2 ∙ sym q.2
+one_signed Or a b c d p q = absurd p
+one_signed And a b c d p q = absurd p
+one_signed Not a b c d p q = absurd p
+one_signed Complement a b c d p q = absurd p
+
+one_unsigned : (o : Operator) (a b : ℕ) (c d : Number) → GivesUnsigned o a b c → GivesUnsigned o a b d → c ≡ d
+one_unsigned BitOr a b c d p q = p ∙ sym q
+one_unsigned BitXor a b c d p q = p ∙ sym q
+one_unsigned BitAnd a b c d p q = p ∙ sym q
+one_unsigned Equal a b c d p q = one_truth _ c d p q
+one_unsigned NotEqual a b c d p q = one_truth _ c d p q
+one_unsigned Less a b c d p q = one_truth _ c d p q
+one_unsigned LessEqual a b c d p q = one_truth _ c d p q
+one_unsigned Greater a b c d p q = one_truth _ c d p q
+one_unsigned GreaterEqual a b c d p q = one_truth _ c d p q
+one_unsigned Plus a b c d p q = p ∙ sym q
+one_unsigned Minus a b c d p q = p ∙ sym q
+one_unsigned Times a b c d p q = p ∙ sym q
+one_unsigned Over a b c d p q = p.1 ∙ sym q.1
+one_unsigned Remainder a b c d p q = p.1 ∙ sym q.1
+one_unsigned Or a b c d p q = absurd p
+one_unsigned And a b c d p q = absurd p
+one_unsigned Not a b c d p q = absurd p
+one_unsigned Complement a b c d p q = absurd p
+
+one_result : (o : Operator) (x y c d : Number) → Gives o x y c → Gives o x y d → c ≡ d
+one_result o (signed a) (signed b) c d p q = one_signed o a b c d p q
+one_result o (signed a) (unsigned b) c d p q = one_unsigned o (as_unsigned (signed a)) b c d p q
+one_result o (unsigned a) (signed b) c d p q = one_unsigned o a (as_unsigned (signed b)) c d p q
+one_result o (unsigned a) (unsigned b) c d p q = one_unsigned o a b c d p q
+
+one_change : (o : Operator) (x c d : Number) → GivesUnary o x c → GivesUnary o x d → c ≡ d
+one_change Not x c d p q = one_truth (IsZero x) c d p q
+one_change Minus (signed a) c d p q = p.1 ∙ sym q.1
+one_change Minus (unsigned a) c d p q = p ∙ sym q
+one_change Complement (signed a) c d p q = p ∙ sym q
+one_change Complement (unsigned a) c d p q = p ∙ sym q
+one_change _ x c d p q = absurd p
+
+one_constant : (w : List ℕ) (c d : Number) → IsConstantValue w c → IsConstantValue w d → c ≡ d
+one_constant w c d (plain p l) (plain q m) = refl
+one_constant w c d (by_suffix p l) (by_suffix q m) = refl
+one_constant w c d (by_size p h l m) (by_size q k n r) = refl
+one_constant w c d (plain p l) (by_suffix q m) = absurd (false≢true (sym p ∙ q))
+one_constant w c d (by_suffix p l) (plain q m) = absurd (false≢true (sym q ∙ p))
+one_constant w c d (plain p l) (by_size q k n r) = absurd (omega arith)
+one_constant w c d (by_size p h l m) (plain q n) = absurd (omega arith)
+one_constant w c d (by_suffix p l) (by_size q k n r) = absurd (false≢true (sym q ∙ p))
+one_constant w c d (by_size p h l m) (by_suffix q n) = absurd (false≢true (sym p ∙ q))
+
+no_and : (x y c : Number) → Gives And x y c → ⊥
+no_and (signed a) (signed b) c g = g
+no_and (signed a) (unsigned b) c g = g
+no_and (unsigned a) (signed b) c g = g
+no_and (unsigned a) (unsigned b) c g = g
+
+no_or : (x y c : Number) → Gives Or x y c → ⊥
+no_or (signed a) (signed b) c g = g
+no_or (signed a) (unsigned b) c g = g
+no_or (unsigned a) (signed b) c g = g
+no_or (unsigned a) (unsigned b) c g = g
+
+zero_alike : (x y : Number) → x ≡ y → IsZero x → IsZero y
+zero_alike x y e z = subst (λ n. IsZero n) e z
+
+truths_alike : (x y c d : Number) → x ≡ y → IsTruth (IsZero x → ⊥) c → IsTruth (IsZero y → ⊥) d → c ≡ d
+truths_alike x y c d e p q = one_truth (IsZero y → ⊥) c d (subst (λ n. IsTruth (IsZero n → ⊥) c) e p) q
+
+-- An expression has one value at most.
+pub one_value : {e : Expression} {m : Choice e} {c : Number} → HasValue e m c → {d : Number} → HasValue e m d → c ≡ d
+one_value (of_constant {w = w} {c = c} p) (of_constant {c = d} q) = one_constant w c d p q
+one_value of_name of_name = refl
+one_value of_defined of_defined = refl
+one_value (of_unary {o = o} {x = x} {c = c} a g) (of_unary {x = y} {c = d} b h) = one_change o y c d (subst (λ n. GivesUnary o n c) (one_value a b) g) h
+one_value (of_binary {o = o} {x = x} {y = y} {c = c} a b g) (of_binary {x = u} {y = v} {c = d} f k h) =
+    one_result o u v c d (subst (λ n. Gives o u n c) (one_value b k) (subst (λ n. Gives o n y c) (one_value a f) g)) h
+one_value (of_binary {x = x} {y = y} {c = c} a b g) (of_and_left f z) = absurd (no_and x y c g)
+one_value (of_binary {x = x} {y = y} {c = c} a b g) (of_and_both f n k t) = absurd (no_and x y c g)
+one_value (of_binary {x = x} {y = y} {c = c} a b g) (of_or_left f n) = absurd (no_or x y c g)
+one_value (of_binary {x = x} {y = y} {c = c} a b g) (of_or_both f z k t) = absurd (no_or x y c g)
+one_value (of_and_left f z) (of_binary {x = x} {y = y} {c = c} a b g) = absurd (no_and x y c g)
+one_value (of_and_both f n k t) (of_binary {x = x} {y = y} {c = c} a b g) = absurd (no_and x y c g)
+one_value (of_or_left f n) (of_binary {x = x} {y = y} {c = c} a b g) = absurd (no_or x y c g)
+one_value (of_or_both f z k t) (of_binary {x = x} {y = y} {c = c} a b g) = absurd (no_or x y c g)
+one_value (of_and_left a z) (of_and_left b w) = refl
+one_value (of_and_left {x = x} a z) (of_and_both {x = y} b n k t) = absurd (n (zero_alike x y (one_value a b) z))
+one_value (of_and_both {x = x} a n k t) (of_and_left {x = y} b z) = absurd (n (zero_alike y x (sym (one_value a b)) z))
+one_value (of_and_both {y = y} {c = c} a n k t) (of_and_both {y = v} {c = d} b m l s) = truths_alike y v c d (one_value k l) t s
+one_value (of_or_left a n) (of_or_left b m) = refl
+one_value (of_or_left {x = x} a n) (of_or_both {x = y} b z k t) = absurd (n (zero_alike y x (sym (one_value a b)) z))
+one_value (of_or_both {x = x} a z k t) (of_or_left {x = y} b n) = absurd (n (zero_alike x y (one_value a b) z))
+one_value (of_or_both {y = y} {c = c} a z k t) (of_or_both {y = v} {c = d} b w l s) = truths_alike y v c d (one_value k l) t s
+one_value (of_parens a) (of_parens b) = one_value a b

@@ -1,0 +1,180 @@
+-- Residual read: what is left of a text is read as the tree that is left, and cells only go.
+use Rattle.std.proofs.Common.{◌≡◌, ℕ, zero, suc, ◌-◌, Bool, true, false, not, ◌&&◌, ◌||◌, if◌then◌else◌, List, [], ◌∷◌, ◌++◌, length, map, take, drop, Option, Some, None, bytes_eq, refl, sym, ◌∙◌, ap, ap₂, subst, inl, inr, ◌⊎◌}
+use Rattle.std.proofs.lemmas.Bool.{false≢true}
+use Rattle.std.proofs.lemmas.Slice.Eq.{bytes_eq-Decides}
+use Rattle.std.proofs.lemmas.Option.{none-some, same_Some}
+use Rattle.ud_model.specs.text.Bytes.{skip_white, are_white}
+use Rattle.ud_model.specs.text.Lexemes.{Cell, shown}
+use Rattle.ud_model.specs.conditions.Table.{Argument}
+use Rattle.ud_model.specs.conditions.Tokens.{Token, number, name, defined, operator, opening, closing, NextToken, at_end, unreadable, found, leading_token, next_token, AreTokens}
+use Rattle.ud_model.specs.conditions.Expressions.{Expression, spelling, IsWritten}
+use Rattle.ud_model.specs.aids.Parsing.{tokens_of, expression_of}
+use Rattle.ud_model.specs.conditions.Conditions.{Rules}
+use Rattle.ud_model.specs.conditions.Residuals.{residual}
+use Rattle.ud_model.specs.conditions.ResidualTexts.{gap_left, cells_before, cells_after, token_left, left_by, left_from, left_cells, keeps, ends_operand, operator_bytes, same_flag, same_token, same_tokens, are_tokens, begins_word, may_go, is_read, simplified_tree, simplified_by, simplified_cells}
+use Rattle.ud_model.specs.conditions.Sublists.{IsSublist, nothing, without, with_same}
+use Rattle.ud_model.specs.declared.operator.Operator.{Operator}
+use Rattle.ud_model.specs.declared.operator.Operator.TheVariants.{Or, And, BitOr, BitXor, BitAnd, Equal, NotEqual, Less, LessEqual, Greater, GreaterEqual, Plus, Minus, Times, Over, Remainder, Not, Complement}
+use Rattle.ud_model.proofs.conditions.TokenLemmas.{tokens_of_are}
+use Rattle.ud_model.proofs.conditions.OneExpression.{expression_only, expression_is}
+use Rattle.ud_model.proofs.conditions.ResidualShape.{precedence_stays, all_of_it, none_of_it, of_both}
+
+-- 1. Tokens that look alike are the same.
+
+abbrev operator_in : NextToken → Operator
+operator_in (found (operator o) rest) = o
+operator_in _ = Or
+
+-- An operator is read off its bytes.
+read_off : (o : Operator) → operator_in (leading_token (operator_bytes o)) ≡ o
+read_off Or = refl
+read_off And = refl
+read_off BitOr = refl
+read_off BitXor = refl
+read_off BitAnd = refl
+read_off Equal = refl
+read_off NotEqual = refl
+read_off Less = refl
+read_off LessEqual = refl
+read_off Greater = refl
+read_off GreaterEqual = refl
+read_off Plus = refl
+read_off Minus = refl
+read_off Times = refl
+read_off Over = refl
+read_off Remainder = refl
+read_off Not = refl
+read_off Complement = refl
+
+left_true : (a b : Bool) → (a && b) ≡ true → a ≡ true
+left_true true b e = refl
+left_true false b e = cc
+
+right_true : (a b : Bool) → (a && b) ≡ true → b ≡ true
+right_true true b e = e
+right_true false b e = cc
+
+flags_same : (a b : Bool) → same_flag a b ≡ true → a ≡ b
+flags_same true true e = refl
+flags_same false false e = refl
+flags_same true false e = cc
+flags_same false true e = cc
+
+operators_same : (o p : Operator) → bytes_eq (operator_bytes o) (operator_bytes p) ≡ true → o ≡ p
+operators_same o p e = sym (read_off o) ∙ ap (λ w. operator_in (leading_token w)) ((bytes_eq-Decides (operator_bytes o) (operator_bytes p)).0 e) ∙ read_off p
+
+tokens_alike : (t u : Token) → same_token t u ≡ true → t ≡ u
+tokens_alike (number w) (number v) e = ap number ((bytes_eq-Decides w v).0 e)
+tokens_alike (name n a) (name m b) e =
+    ap₂ name ((bytes_eq-Decides n m).0 (left_true (bytes_eq n m) (same_flag a b) e)) (flags_same a b (right_true (bytes_eq n m) (same_flag a b) e))
+tokens_alike defined defined e = refl
+tokens_alike (operator o) (operator p) e = ap operator (operators_same o p e)
+tokens_alike opening opening e = refl
+tokens_alike closing closing e = refl
+tokens_alike (number w) (name n a) e = cc
+tokens_alike (number w) defined e = cc
+tokens_alike (number w) (operator o) e = cc
+tokens_alike (number w) opening e = cc
+tokens_alike (number w) closing e = cc
+tokens_alike (name n a) (number w) e = cc
+tokens_alike (name n a) defined e = cc
+tokens_alike (name n a) (operator o) e = cc
+tokens_alike (name n a) opening e = cc
+tokens_alike (name n a) closing e = cc
+tokens_alike defined (number w) e = cc
+tokens_alike defined (name n a) e = cc
+tokens_alike defined (operator o) e = cc
+tokens_alike defined opening e = cc
+tokens_alike defined closing e = cc
+tokens_alike (operator o) (number w) e = cc
+tokens_alike (operator o) (name n a) e = cc
+tokens_alike (operator o) defined e = cc
+tokens_alike (operator o) opening e = cc
+tokens_alike (operator o) closing e = cc
+tokens_alike opening (number w) e = cc
+tokens_alike opening (name n a) e = cc
+tokens_alike opening defined e = cc
+tokens_alike opening (operator o) e = cc
+tokens_alike opening closing e = cc
+tokens_alike closing (number w) e = cc
+tokens_alike closing (name n a) e = cc
+tokens_alike closing defined e = cc
+tokens_alike closing (operator o) e = cc
+tokens_alike closing opening e = cc
+
+lists_alike : (ts us : List Token) → same_tokens ts us ≡ true → ts ≡ us
+lists_alike [] [] e = refl
+lists_alike (t ∷ ts) (u ∷ us) e =
+    ap₂ (λ x xs. x ∷ xs) (tokens_alike t u (left_true (same_token t u) (same_tokens ts us) e)) (lists_alike ts us (right_true (same_token t u) (same_tokens ts us) e))
+lists_alike [] (u ∷ us) e = cc
+lists_alike (t ∷ ts) [] e = cc
+
+found_are : (o : Option (List Token)) (ts : List Token) → are_tokens o ts ≡ true → o ≡ Some ts
+found_are None ts e = cc
+found_are (Some us) ts e = ap (λ xs. Some xs) (lists_alike us ts e)
+
+-- 2. What is left is read as the tree that is left.
+
+module _ (table : List Argument) (rules : Rules) where
+  abbrev rest_of : Expression → Expression
+  rest_of e = (residual table rules e).tree
+
+  written_left : (e : Expression) (cells : List Cell) → expression_of (map shown cells) ≡ Some e → (left : List Cell) → is_read table rules e left ≡ true → expression_of (map shown left) ≡ Some (rest_of e)
+  written_left e cells p left q =
+      let w : IsWritten (map shown cells) e = expression_is (map shown cells) e p in
+      let f : tokens_of (map shown left) ≡ Some (spelling (rest_of e)) = found_are (tokens_of (map shown left)) (spelling (rest_of e)) (right_true (not (begins_word left)) (are_tokens (tokens_of (map shown left)) (spelling (rest_of e))) q) in
+      expression_only (map shown left) (rest_of e) (precedence_stays table rules e 1 w.0, tokens_of_are (map shown left) (spelling (rest_of e)) f)
+
+  -- The result is the text itself, or one that is read as the tree that is left.
+  pub read_as : (e : Expression) (cells : List Cell) → expression_of (map shown cells) ≡ Some e →
+      (f : Expression) × (expression_of (map shown (simplified_cells table rules cells)) ≡ Some f) × ((f ≡ e) ⊎ (f ≡ rest_of e))
+  unfolding simplified_cells
+  read_as e cells p = subst (λ o. (f : Expression) × (expression_of (map shown (simplified_by table rules o cells)) ≡ Some f) × ((f ≡ e) ⊎ (f ≡ rest_of e))) (sym p)
+      (by (may_go table rules e cells && is_read table rules e (left_cells (keeps table rules e) cells)) refl)
+    where
+      by : (b : Bool) → (may_go table rules e cells && is_read table rules e (left_cells (keeps table rules e) cells)) ≡ b →
+          (f : Expression) × (expression_of (map shown (if b then left_cells (keeps table rules e) cells else cells)) ≡ Some f) × ((f ≡ e) ⊎ (f ≡ rest_of e))
+      by true q = (rest_of e, written_left e cells p (left_cells (keeps table rules e) cells) (right_true (may_go table rules e cells) (is_read table rules e (left_cells (keeps table rules e) cells)) q), inr refl)
+      by false q = (e, p, inl refl)
+
+-- 3. Cells only go.
+
+of_parts : {A : Type 0} (n : ℕ) (xs : List A) {a b : List A} → IsSublist a (take n xs) → IsSublist b (drop n xs) → IsSublist (a ++ b) xs
+of_parts zero xs nothing q = q
+of_parts (suc n) [] nothing q = q
+of_parts (suc n) (x ∷ xs) (without p) q = without (of_parts n xs p q)
+of_parts (suc n) (x ∷ xs) (with_same p) q = with_same (of_parts n xs p q)
+
+some_or_none : {A : Type 0} (c : Bool) (xs : List A) → IsSublist (if c then xs else []) xs
+some_or_none true xs = all_of_it xs
+some_or_none false xs = none_of_it xs
+
+token_sub : (f : Bool) (further : Bool → List Cell → List Cell) (rest : List ℕ) (o : Bool) (cells : List Cell) → ((o : Bool) (c : List Cell) → IsSublist (further o c) c) → IsSublist (token_left f further rest o cells) cells
+token_sub f further rest o cells h =
+    of_parts (length cells - length rest) cells (some_or_none f (cells_before rest cells)) (h o (cells_after rest cells))
+
+by_sub : (prev operand f : Bool) (further : Bool → List Cell → List Cell) (cells : List Cell) (x : NextToken) → ((o : Bool) (c : List Cell) → IsSublist (further o c) c) → IsSublist (left_by prev operand f further cells x) cells
+by_sub prev operand f further cells at_end h = all_of_it cells
+by_sub prev operand f further cells unreadable h = all_of_it cells
+by_sub prev operand f further cells (found t rest) h =
+    let s : List ℕ = skip_white (map shown cells) in
+    of_parts (length cells - length s) cells
+    (some_or_none ((if operand then f else prev) || not (are_white (map (λ (c : Cell). c.byte) (cells_before s cells)))) (cells_before s cells))
+    (token_sub f further rest (ends_operand t) (cells_after s cells) h)
+
+from_sub : (prev operand : Bool) (flags : List Bool) (cells : List Cell) → IsSublist (left_from prev operand flags cells) cells
+from_sub prev operand [] cells = all_of_it cells
+from_sub prev operand (f ∷ flags) cells = by_sub prev operand f (λ o c. left_from f o flags c) cells (next_token (map shown cells)) (λ o c. from_sub f o flags c)
+
+-- What is left has some of the cells, in their order.
+pub cells_go : (table : List Argument) (rules : Rules) (cells : List Cell) → IsSublist (simplified_cells table rules cells) cells
+unfolding simplified_cells
+cells_go table rules cells = by (expression_of (map shown cells))
+  where
+    either : (e : Expression) (b : Bool) → IsSublist (if b then left_cells (keeps table rules e) cells else cells) cells
+    either e true = from_sub true false (keeps table rules e) cells
+    either e false = all_of_it cells
+
+    by : (o : Option Expression) → IsSublist (simplified_by table rules o cells) cells
+    by None = all_of_it cells
+    by (Some e) = either e (may_go table rules e cells && is_read table rules e (left_cells (keeps table rules e) cells))

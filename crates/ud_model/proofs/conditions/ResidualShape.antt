@@ -1,0 +1,251 @@
+-- Residual shape: what is left of an expression has only operands that are undecided, and nothing
+-- more of it can go.
+use Rattle.std.proofs.Common.{◌≡◌, ℕ, ◌+◌, ◌≤◌, Bool, true, false, not, ◌&&◌, ◌||◌, if◌then◌else◌, List, [], ◌∷◌, ◌++◌, refl, sym, ◌∙◌, ap, ap₂, subst, arith, IsTrue}
+use Rattle.ud_model.specs.conditions.Table.{Argument}
+use Rattle.ud_model.specs.conditions.Tokens.{Token, operator, opening, closing}
+use Rattle.ud_model.specs.conditions.Expressions.{Expression, constant, named, is_defined, unary, binary, parens, precedence, spelling, HasPrecedence}
+use Rattle.ud_model.specs.conditions.Conditions.{Rules, tree_cond, negate}
+use Rattle.ud_model.specs.conditions.Residuals.{Residual, is_unit, settles, is_unknown, settled, joined, negated, stands_alone, enclosed, alone, residual, operands, is_undecided, simplified, AreUndecided}
+use Rattle.ud_model.specs.conditions.Sublists.{IsSublist, nothing, without, with_same}
+use Rattle.ud_model.specs.declared.cond.Cond.{Cond}
+use Rattle.ud_model.specs.declared.cond.Cond.TheVariants.{Yes, No, Unknown}
+use Rattle.ud_model.specs.declared.operator.Operator.{Operator}
+use Rattle.ud_model.specs.declared.operator.Operator.TheVariants.{Or, And, BitOr, BitXor, BitAnd, Equal, NotEqual, Less, LessEqual, Greater, GreaterEqual, Plus, Minus, Times, Over, Remainder, Not, Complement}
+
+-- 1. Sublists.
+
+pub all_of_it : {A : Type 0} (xs : List A) → IsSublist xs xs
+all_of_it [] = nothing
+all_of_it (x ∷ xs) = with_same (all_of_it xs)
+
+pub none_of_it : {A : Type 0} (xs : List A) → IsSublist [] xs
+none_of_it [] = nothing
+none_of_it (x ∷ xs) = without (none_of_it xs)
+
+pub of_both : {A : Type 0} {ws xs ys zs : List A} → IsSublist ws xs → IsSublist ys zs → IsSublist (ws ++ ys) (xs ++ zs)
+of_both nothing q = q
+of_both (without p) q = without (of_both p q)
+of_both (with_same p) q = with_same (of_both p q)
+
+of_left : {A : Type 0} {xs ys : List A} (zs : List A) → IsSublist xs ys → IsSublist xs (ys ++ zs)
+of_left zs nothing = none_of_it zs
+of_left zs (without p) = without (of_left zs p)
+of_left zs (with_same p) = with_same (of_left zs p)
+
+of_right : {A : Type 0} {xs zs : List A} (ys : List A) → IsSublist xs zs → IsSublist xs (ys ++ zs)
+of_right [] p = p
+of_right (y ∷ ys) p = without (of_right ys p)
+
+-- 2. Only tokens go, in place.
+
+module _ (b d : Bool) (o : Operator) (c : Cond) (x y : Residual) (e f : Expression) (p : IsSublist (spelling x.tree) (spelling e)) (q : IsSublist (spelling y.tree) (spelling f)) where
+  joined_spelling : IsSublist (spelling (if b then record y { lost = true } else if d then record x { lost = true } else record { cond = c; tree = binary o x.tree y.tree; lost = false }).tree)
+      (spelling e ++ operator o ∷ spelling f)
+  joined_spelling = by b d
+    where
+      by : (b d : Bool) → IsSublist (spelling (if b then record y { lost = true } else if d then record x { lost = true } else record { cond = c; tree = binary o x.tree y.tree; lost = false }).tree)
+          (spelling e ++ operator o ∷ spelling f)
+      by true d = of_right (spelling e) (without q)
+      by false true = of_left (operator o ∷ spelling f) p
+      by false false = of_both p (with_same q)
+
+enclosed_spelling : (b : Bool) (x : Residual) (e : Expression) → IsSublist (spelling x.tree) (spelling e) →
+    IsSublist (spelling (if b then x else record x { tree = parens x.tree }).tree) (opening ∷ spelling e ++ closing ∷ [])
+enclosed_spelling true x e p = without (of_left (closing ∷ []) p)
+enclosed_spelling false x e p = with_same (of_both p (all_of_it (closing ∷ [])))
+
+module _ (table : List Argument) (rules : Rules) where
+  abbrev left : Expression → Residual
+  left e = residual table rules e
+
+  -- The tokens that are left are some of the expression's, in their order.
+  pub spelling_stays : (e : Expression) → IsSublist (spelling (left e).tree) (spelling e)
+  spelling_stays (unary Not a) = with_same (spelling_stays a)
+  spelling_stays (binary And a b) =
+      joined_spelling (is_unit And (left a).cond) (is_unit And (left b).cond) And (settled rules.strict And (left a).cond (left b).cond) (left a) (left b) a b (spelling_stays a) (spelling_stays b)
+  spelling_stays (binary Or a b) =
+      joined_spelling (is_unit Or (left a).cond) (is_unit Or (left b).cond) Or (settled rules.strict Or (left a).cond (left b).cond) (left a) (left b) a b (spelling_stays a) (spelling_stays b)
+  spelling_stays (parens a) = enclosed_spelling ((left a).lost && stands_alone (left a).tree) (left a) a (spelling_stays a)
+  spelling_stays (constant w) = all_of_it (spelling (constant w))
+  spelling_stays (named n h) = all_of_it (spelling (named n h))
+  spelling_stays (is_defined n h) = all_of_it (spelling (is_defined n h))
+  spelling_stays (unary o a) = all_of_it (spelling (unary o a))
+  spelling_stays (binary o a b) = all_of_it (spelling (binary o a b))
+
+-- 3. The tree is nested by precedence.
+
+looser : (e : Expression) (j k : ℕ) → k ≤ j → HasPrecedence j e → HasPrecedence k e
+looser (constant w) j k l h = h
+looser (named n a) j k l h = h
+looser (is_defined n p) j k l h = h
+looser (unary o a) j k l h = h
+looser (binary o a b) j k l h = (let m : j ≤ precedence o = h.0 in omega arith, h.1, h.2)
+looser (parens a) j k l h = h
+
+any_precedence : (e : Expression) (j k : ℕ) → stands_alone e ≡ true → HasPrecedence j e → HasPrecedence k e
+any_precedence (constant w) j k s h = h
+any_precedence (named n a) j k s h = h
+any_precedence (is_defined n p) j k s h = h
+any_precedence (unary o a) j k s h = h
+any_precedence (binary o a b) j k s h = cc
+any_precedence (parens a) j k s h = h
+
+and_true : (a b : Bool) → (a && b) ≡ true → b ≡ true
+and_true true b e = e
+and_true false b e = cc
+
+joined_precedence : (b d : Bool) (o : Operator) (c : Cond) (x y : Residual) (k : ℕ) → k ≤ precedence o → HasPrecedence (precedence o) x.tree → HasPrecedence (precedence o + 1) y.tree →
+    HasPrecedence k (if b then record y { lost = true } else if d then record x { lost = true } else record { cond = c; tree = binary o x.tree y.tree; lost = false }).tree
+joined_precedence true d o c x y k l p q = looser y.tree (precedence o + 1) k (omega arith) q
+joined_precedence false true o c x y k l p q = looser x.tree (precedence o) k l p
+joined_precedence false false o c x y k l p q = (l, p, q)
+
+enclosed_precedence : (b : Bool) (x : Residual) (k : ℕ) → (x.lost && stands_alone x.tree) ≡ b → HasPrecedence 1 x.tree → HasPrecedence k (if b then x else record x { tree = parens x.tree }).tree
+enclosed_precedence true x k e p = any_precedence x.tree 1 k (and_true x.lost (stands_alone x.tree) e) p
+enclosed_precedence false x k e p = p
+
+module _ (table : List Argument) (rules : Rules) where
+  -- What is left is nested by precedence as the expression is.
+  pub precedence_stays : (e : Expression) (k : ℕ) → HasPrecedence k e → HasPrecedence k (left table rules e).tree
+  precedence_stays (unary Not a) k h = (h.0, precedence_stays a 10 h.1)
+  precedence_stays (binary And a b) k h =
+      joined_precedence (is_unit And (left table rules a).cond) (is_unit And (left table rules b).cond) And (settled rules.strict And (left table rules a).cond (left table rules b).cond) (left table rules a) (left table rules b)
+      k h.0 (precedence_stays a 2 h.1) (precedence_stays b 3 h.2)
+  precedence_stays (binary Or a b) k h =
+      joined_precedence (is_unit Or (left table rules a).cond) (is_unit Or (left table rules b).cond) Or (settled rules.strict Or (left table rules a).cond (left table rules b).cond) (left table rules a) (left table rules b)
+      k h.0 (precedence_stays a 1 h.1) (precedence_stays b 2 h.2)
+  precedence_stays (parens a) k h = enclosed_precedence ((left table rules a).lost && stands_alone (left table rules a).tree) (left table rules a) k refl (precedence_stays a 1 h)
+  precedence_stays (constant w) k h = h
+  precedence_stays (named n a) k h = h
+  precedence_stays (is_defined n p) k h = h
+  precedence_stays (unary o a) k h = h
+  precedence_stays (binary o a b) k h = h
+
+-- 4. A second time nothing more goes.
+
+-- What is left again of what is left.
+abbrev settled_down : Residual → Residual
+settled_down x = record { cond = x.cond; tree = x.tree; lost = false }
+
+joined_again : (strict : Bool) (o : Operator) (b d : Bool) (x y : Residual) (res : Expression → Residual) → is_unit o x.cond ≡ b → is_unit o y.cond ≡ d →
+    ((s t : Expression) → res (binary o s t) ≡ joined strict o (res s) (res t)) →
+    res x.tree ≡ settled_down x → res y.tree ≡ settled_down y →
+    res (if b then record y { lost = true } else if d then record x { lost = true } else record { cond = settled strict o x.cond y.cond; tree = binary o x.tree y.tree; lost = false }).tree
+    ≡ settled_down (if b then record y { lost = true } else if d then record x { lost = true } else record { cond = settled strict o x.cond y.cond; tree = binary o x.tree y.tree; lost = false })
+joined_again strict o true d x y res e f r p q = q
+joined_again strict o false true x y res e f r p q = p
+joined_again strict o false false x y res e f r p q =
+    r x.tree y.tree ∙ ap₂ (joined strict o) p q ∙ ap₂ (λ (b d : Bool). if b then record (settled_down y) { lost = true } else if d then record (settled_down x) { lost = true } else record { cond = settled strict o x.cond y.cond; tree = binary o x.tree y.tree; lost = false }) e f
+
+enclosed_again : (b : Bool) (x : Residual) (res : Expression → Residual) → ((s : Expression) → res (parens s) ≡ enclosed (res s)) → res x.tree ≡ settled_down x →
+    res (if b then x else record x { tree = parens x.tree }).tree ≡ settled_down (if b then x else record x { tree = parens x.tree })
+enclosed_again true x res r p = p
+enclosed_again false x res r p = r x.tree ∙ ap enclosed p
+
+module _ (table : List Argument) (rules : Rules) where
+  -- Nothing more goes.
+  pub again : (e : Expression) → residual table rules (residual table rules e).tree ≡ settled_down (residual table rules e)
+  again (unary Not a) = ap negated (again a)
+  again (binary And a b) =
+      joined_again rules.strict And (is_unit And (left table rules a).cond) (is_unit And (left table rules b).cond) (left table rules a) (left table rules b) (residual table rules) refl refl (λ s t. refl) (again a) (again b)
+  again (binary Or a b) =
+      joined_again rules.strict Or (is_unit Or (left table rules a).cond) (is_unit Or (left table rules b).cond) (left table rules a) (left table rules b) (residual table rules) refl refl (λ s t. refl) (again a) (again b)
+  again (parens a) = enclosed_again ((left table rules a).lost && stands_alone (left table rules a).tree) (left table rules a) (residual table rules) (λ s. refl) (again a)
+  again (constant w) = refl
+  again (named n h) = refl
+  again (is_defined n h) = refl
+  again (unary o a) = refl
+  again (binary o a b) = refl
+
+  if_again : (e : Expression) (b : Bool) → is_undecided table rules (residual table rules e) ≡ b → simplified table rules (if b then (residual table rules e).tree else e) ≡ (if b then (residual table rules e).tree else e)
+  if_again e true p =
+      ap (λ (x : Residual). if is_undecided table rules x then x.tree else (residual table rules e).tree) (again e) ∙ by (is_undecided table rules (residual table rules e))
+    where
+      by : (b : Bool) → (if b then (residual table rules e).tree else (residual table rules e).tree) ≡ (residual table rules e).tree
+      by true = refl
+      by false = refl
+  if_again e false p = ap (λ (b : Bool). if b then (residual table rules e).tree else e) p
+
+  -- A second simplification changes nothing.
+  pub simplified_again : (e : Expression) → simplified table rules (simplified table rules e) ≡ simplified table rules e
+  simplified_again e = if_again e (is_undecided table rules (residual table rules e)) refl
+
+  unknown_by : (x : Residual) (e : Expression) (b c : Bool) → is_unknown x.cond ≡ b → is_unknown (tree_cond x.tree table rules) ≡ c → tree_cond e table rules ≡ Unknown →
+      tree_cond (if b && c then x.tree else e) table rules ≡ Unknown
+  unknown_by x e true true p q h = unknown_is (tree_cond x.tree table rules) q
+    where
+      unknown_is : (c : Cond) → is_unknown c ≡ true → c ≡ Unknown
+      unknown_is Unknown f = refl
+      unknown_is Yes f = cc
+      unknown_is No f = cc
+  unknown_by x e true false p q h = h
+  unknown_by x e false c p q h = h
+
+  -- What is left of an unknown condition is unknown.
+  pub simplified_unknown : (e : Expression) → tree_cond e table rules ≡ Unknown → tree_cond (simplified table rules e) table rules ≡ Unknown
+  simplified_unknown e h = unknown_by (residual table rules e) e (is_unknown (residual table rules e).cond) (is_unknown (tree_cond (residual table rules e).tree table rules)) refl refl h
+
+-- 5. Each operand that is left is undecided.
+
+both_unknown_and : (c d : Cond) → is_unit And c ≡ false → is_unit And d ≡ false → settled false And c d ≡ Unknown → (c ≡ Unknown) × (d ≡ Unknown)
+both_unknown_and Unknown Unknown p q e = (refl, refl)
+both_unknown_and Yes d p q e = cc
+both_unknown_and c Yes p q e = cc
+both_unknown_and No No p q e = cc
+both_unknown_and No Unknown p q e = cc
+both_unknown_and Unknown No p q e = cc
+
+both_unknown_or : (c d : Cond) → is_unit Or c ≡ false → is_unit Or d ≡ false → settled false Or c d ≡ Unknown → (c ≡ Unknown) × (d ≡ Unknown)
+both_unknown_or Unknown Unknown p q e = (refl, refl)
+both_unknown_or No d p q e = cc
+both_unknown_or c No p q e = cc
+both_unknown_or Yes Yes p q e = cc
+both_unknown_or Yes Unknown p q e = cc
+both_unknown_or Unknown Yes p q e = cc
+
+unknown_negated : (c : Cond) → negate c ≡ Unknown → c ≡ Unknown
+unknown_negated Unknown e = refl
+unknown_negated Yes e = cc
+unknown_negated No e = cc
+
+module _ (table : List Argument) (rules : Rules) where
+  abbrev Alike : Residual → Type 0
+  Alike x = x.cond ≡ Unknown → AreUndecided table rules (operands x.tree)
+
+  both_undecided : (xs ys : List Expression) → AreUndecided table rules xs → AreUndecided table rules ys → AreUndecided table rules (xs ++ ys)
+  both_undecided [] ys p q = q
+  both_undecided (x ∷ xs) ys p q = (p.0, both_undecided xs ys p.1 q)
+
+  and_alike : (b d : Bool) (x y : Residual) → rules.strict ≡ false → is_unit And x.cond ≡ b → is_unit And y.cond ≡ d → Alike x → Alike y →
+      Alike (if b then record y { lost = true } else if d then record x { lost = true } else record { cond = settled rules.strict And x.cond y.cond; tree = binary And x.tree y.tree; lost = false })
+  and_alike true d x y s e f p q h = q h
+  and_alike false true x y s e f p q h = p h
+  and_alike false false x y s e f p q h =
+      let u : (x.cond ≡ Unknown) × (y.cond ≡ Unknown) = both_unknown_and x.cond y.cond e f (ap (λ (t : Bool). settled t And x.cond y.cond) (sym s) ∙ h) in
+      both_undecided (operands x.tree) (operands y.tree) (p u.0) (q u.1)
+
+  or_alike : (b d : Bool) (x y : Residual) → rules.strict ≡ false → is_unit Or x.cond ≡ b → is_unit Or y.cond ≡ d → Alike x → Alike y →
+      Alike (if b then record y { lost = true } else if d then record x { lost = true } else record { cond = settled rules.strict Or x.cond y.cond; tree = binary Or x.tree y.tree; lost = false })
+  or_alike true d x y s e f p q h = q h
+  or_alike false true x y s e f p q h = p h
+  or_alike false false x y s e f p q h =
+      let u : (x.cond ≡ Unknown) × (y.cond ≡ Unknown) = both_unknown_or x.cond y.cond e f (ap (λ (t : Bool). settled t Or x.cond y.cond) (sym s) ∙ h) in
+      both_undecided (operands x.tree) (operands y.tree) (p u.0) (q u.1)
+
+  enclosed_alike : (b : Bool) (x : Residual) → Alike x → Alike (if b then x else record x { tree = parens x.tree })
+  enclosed_alike true x p h = p h
+  enclosed_alike false x p h = p h
+
+  -- Each operand that is left is unknown by itself.
+  pub operands_undecided : (e : Expression) → rules.strict ≡ false → Alike (residual table rules e)
+  operands_undecided (unary Not a) s h = operands_undecided a s (unknown_negated (left table rules a).cond h)
+  operands_undecided (binary And a b) s h =
+      and_alike (is_unit And (left table rules a).cond) (is_unit And (left table rules b).cond) (left table rules a) (left table rules b) s refl refl (operands_undecided a s) (operands_undecided b s) h
+  operands_undecided (binary Or a b) s h =
+      or_alike (is_unit Or (left table rules a).cond) (is_unit Or (left table rules b).cond) (left table rules a) (left table rules b) s refl refl (operands_undecided a s) (operands_undecided b s) h
+  operands_undecided (parens a) s h = enclosed_alike ((left table rules a).lost && stands_alone (left table rules a).tree) (left table rules a) (operands_undecided a s) h
+  operands_undecided (constant w) s h = (h, tt)
+  operands_undecided (named n a) s h = (h, tt)
+  operands_undecided (is_defined n p) s h = (h, tt)
+  operands_undecided (unary o a) s h = (h, tt)
+  operands_undecided (binary o a b) s h = (h, tt)

@@ -1,0 +1,298 @@
+-- Residual truth: what is left of an expression has the truth that the expression has.
+--
+-- The proof goes by the way in which the value of the expression comes about. An operand that is
+-- decided has the truth that the table says, so a unit leaves the truth to the other operand.
+use Rattle.std.proofs.Common.{◌≡◌, Bool, true, false, not, ◌&&◌, ◌||◌, if◌then◌else◌, refl, sym, ◌∙◌, ap, subst, inl, inr, ◌⊎◌, ◌↔◌, ℤ, pos, List}
+use Rattle.std.proofs.lemmas.Bool.{false≢true}
+use Rattle.ud_model.specs.conditions.Table.{Argument}
+use Rattle.ud_model.specs.conditions.Expressions.{Expression, constant, named, is_defined, unary, binary, parens}
+use Rattle.ud_model.specs.conditions.Conditions.{Rules, tree_cond, negate}
+use Rattle.ud_model.specs.conditions.Values.{is_zero, truth}
+use Rattle.ud_model.proofs.conditions.KnownNumbers.{zero_decides}
+use Rattle.ud_model.specs.conditions.CValues.{Number, signed, unsigned, number, IsTruth, IsZero, Gives, GivesUnary}
+use Rattle.ud_model.specs.conditions.Residuals.{Residual, is_unit, settles, is_unknown, settled, joined, negated, stands_alone, enclosed, alone, residual}
+use Rattle.ud_model.specs.conditions.Choices.{Choice, for_constant, for_name, for_defined, for_unary, for_binary, for_parens, IsAllowed, HasValue, of_constant, of_name, of_defined, of_unary, of_binary, of_and_left, of_and_both, of_or_left, of_or_both, of_parens, one_or_both, bare_or_not, stay}
+use Rattle.ud_model.specs.declared.cond.Cond.{Cond}
+use Rattle.ud_model.specs.declared.cond.Cond.TheVariants.{Yes, No, Unknown}
+use Rattle.ud_model.specs.declared.operator.Operator.{Operator}
+use Rattle.ud_model.specs.declared.operator.Operator.TheVariants.{Or, And, BitOr, BitXor, BitAnd, Equal, NotEqual, Less, LessEqual, Greater, GreaterEqual, Plus, Minus, Times, Over, Remainder, Not, Complement}
+use Rattle.ud_model.proofs.conditions.ChoiceValues.{choice_may}
+use Rattle.ud_model.proofs.conditions.DecidedConditions.{yes_is_true, no_is_false}
+
+-- The condition says the truth of the value `c`, and the tree that is left has this truth.
+pub record Tells (x : Residual) (m : Choice x.tree) (c : Number) : Type 0 where
+  pub yes : x.cond ≡ Yes → IsZero c → ⊥
+  pub no : x.cond ≡ No → IsZero c
+  pub value : Number
+  pub has : HasValue x.tree m value
+  pub same : IsZero c ↔ IsZero value
+
+-- 1. Units, and what settles.
+
+and_unit : (c : Cond) → is_unit And c ≡ true → c ≡ Yes
+and_unit Yes e = refl
+and_unit No e = cc
+and_unit Unknown e = cc
+
+or_unit : (c : Cond) → is_unit Or c ≡ true → c ≡ No
+or_unit No e = refl
+or_unit Yes e = cc
+or_unit Unknown e = cc
+
+and_no : (strict : Bool) (c d : Cond) → settled strict And c d ≡ No → (c ≡ No) ⊎ (d ≡ No)
+and_no strict No d e = inl refl
+and_no strict c No e = inr refl
+and_no strict Yes Yes e = cc
+and_no strict Yes Unknown e = cc
+and_no strict Unknown Yes e = cc
+and_no strict Unknown Unknown e = cc
+
+and_never_yes : (strict : Bool) (c d : Cond) → settled strict And c d ≡ Yes → ⊥
+and_never_yes true No Yes e = cc
+and_never_yes false No Yes e = cc
+and_never_yes true No No e = cc
+and_never_yes false No No e = cc
+and_never_yes true No Unknown e = cc
+and_never_yes false No Unknown e = cc
+and_never_yes true Yes No e = cc
+and_never_yes false Yes No e = cc
+and_never_yes true Unknown No e = cc
+and_never_yes false Unknown No e = cc
+and_never_yes strict Yes Yes e = cc
+and_never_yes strict Yes Unknown e = cc
+and_never_yes strict Unknown Yes e = cc
+and_never_yes strict Unknown Unknown e = cc
+
+or_yes : (strict : Bool) (c d : Cond) → settled strict Or c d ≡ Yes → (c ≡ Yes) ⊎ (d ≡ Yes)
+or_yes strict Yes d e = inl refl
+or_yes strict c Yes e = inr refl
+or_yes strict No No e = cc
+or_yes strict No Unknown e = cc
+or_yes strict Unknown No e = cc
+or_yes strict Unknown Unknown e = cc
+
+or_never_no : (strict : Bool) (c d : Cond) → settled strict Or c d ≡ No → ⊥
+or_never_no true Yes Yes e = cc
+or_never_no false Yes Yes e = cc
+or_never_no true Yes No e = cc
+or_never_no false Yes No e = cc
+or_never_no true Yes Unknown e = cc
+or_never_no false Yes Unknown e = cc
+or_never_no true No Yes e = cc
+or_never_no false No Yes e = cc
+or_never_no true Unknown Yes e = cc
+or_never_no false Unknown Yes e = cc
+or_never_no strict No No e = cc
+or_never_no strict No Unknown e = cc
+or_never_no strict Unknown No e = cc
+or_never_no strict Unknown Unknown e = cc
+
+-- 2. The numbers 0 and 1.
+
+zero_is : IsZero (signed (pos 0))
+zero_is = refl
+
+one_is_not : IsZero (signed (pos 1)) → ⊥
+one_is_not e = cc
+
+both : {A B : Type 0} → A → B → A ↔ B
+both a b = ((λ x. b), (λ y. a))
+
+neither : {A B : Type 0} → (A → ⊥) → (B → ⊥) → A ↔ B
+neither f g = ((λ a. absurd (f a)), (λ b. absurd (g b)))
+
+-- A truth of something that isn't is 0, and of something that is, isn't.
+truth_zero : (Holds : Type 0) (c : Number) → IsTruth Holds c → (Holds → ⊥) → IsZero c
+truth_zero Holds c (inl p) h = absurd (h p.0)
+truth_zero Holds c (inr p) h = subst (λ x. IsZero x) (sym p.1) refl
+
+truth_one : (Holds : Type 0) (c : Number) → IsTruth Holds c → Holds → IsZero c → ⊥
+truth_one Holds c (inl p) h z = one_is_not (subst (λ x. IsZero x) p.1 z)
+truth_one Holds c (inr p) h z = p.0 h
+
+-- The same truth of two facts that are alike.
+truth_alike : (P Q : Type 0) (c : Number) → IsTruth P c → (P ↔ Q) → IsTruth Q c
+truth_alike P Q c (inl p) h = inl (h.0 p.0, p.1)
+truth_alike P Q c (inr p) h = inr ((λ q. p.0 (h.1 q)), p.1)
+
+not_alike : {A B : Type 0} → (A ↔ B) → ((A → ⊥) ↔ (B → ⊥))
+not_alike h = ((λ f b. f (h.1 b)), (λ g a. g (h.0 a)))
+
+zero_or_not : (y : Number) → IsZero y ⊎ (IsZero y → ⊥)
+zero_or_not y = by (is_zero (number y)) refl
+  where
+    by : (b : Bool) → is_zero (number y) ≡ b → IsZero y ⊎ (IsZero y → ⊥)
+    by true e = inl ((zero_decides (number y)).0 e)
+    by false e = inr (λ z. false≢true (sym e ∙ (zero_decides (number y)).1 z))
+
+-- The truth that `y` isn't 0 is 0 exactly if `y` is.
+truth_same : (y c : Number) → IsTruth (IsZero y → ⊥) c → IsZero c ↔ IsZero y
+truth_same y c (inl p) = neither (λ z. one_is_not (subst (λ x. IsZero x) p.1 z)) p.0
+truth_same y c (inr p) = by (zero_or_not y)
+  where
+    by : IsZero y ⊎ (IsZero y → ⊥) → IsZero c ↔ IsZero y
+    by (inl z) = both (subst (λ x. IsZero x) (sym p.1) refl) z
+    by (inr n) = absurd (p.0 n)
+
+-- 3. Operands.
+
+module _ (table : List Argument) (rules : Rules) where
+  by_itself : (e : Expression) (m : Choice e) (c : Number) → IsAllowed table m → HasValue e m c → Tells (alone table rules e) m c
+  by_itself e m c a d = record {
+    yes = λ y. yes_is_true table rules e c y (choice_may table e m c a d);
+    no = λ n. no_is_false table rules e c n (choice_may table e m c a d);
+    value = c;
+    has = d;
+    same = ((λ z. z), (λ z. z));
+  }
+
+-- 4. `!` and parentheses.
+
+negated_yes : (c : Cond) → negate c ≡ Yes → c ≡ No
+negated_yes No e = refl
+negated_yes Yes e = cc
+negated_yes Unknown e = cc
+
+negated_no : (c : Cond) → negate c ≡ No → c ≡ Yes
+negated_no Yes e = refl
+negated_no No e = cc
+negated_no Unknown e = cc
+
+not_tells : (x : Residual) (m : Choice x.tree) (y c : Number) → Tells x m y → IsTruth (IsZero y) c → Tells (negated x) (for_unary m) c
+not_tells x m y c t g = record {
+  yes = λ e. truth_one (IsZero y) c g (t.no (negated_yes x.cond e));
+  no = λ e. truth_zero (IsZero y) c g (t.yes (negated_no x.cond e));
+  value = c;
+  has = of_unary t.has (truth_alike (IsZero y) (IsZero t.value) c g t.same);
+  same = ((λ z. z), (λ z. z));
+}
+
+parens_tell : (b : Bool) (x : Residual) (m : Choice x.tree) (c : Number) → Tells x m c → Tells (if b then x else record x { tree = parens x.tree }) (bare_or_not b x m) c
+parens_tell true x m c t = t
+parens_tell false x m c t = record { yes = t.yes; no = t.no; value = t.value; has = of_parens t.has; same = t.same }
+
+-- 5. `&&` and `||`.
+
+-- One side alone, whatever else is said of it.
+one_tells : (x : Residual) (m : Choice x.tree) (y c : Number) → Tells x m y → (IsZero c ↔ IsZero y) → Tells (record x { lost = true }) m c
+one_tells x m y c t h = record {
+  yes = λ e z. t.yes e (h.0 z);
+  no = λ e. h.1 (t.no e);
+  value = t.value;
+  has = t.has;
+  same = ((λ z. t.same.0 (h.0 z)), (λ z. h.1 (t.same.1 z)));
+}
+
+module _ (strict : Bool) (x y : Residual) (m : Choice x.tree) (k : Choice y.tree) (v : Number) (t : Tells x m v) where
+  -- `&&` whose left operand is 0.
+  and_left : IsZero v → Tells (joined strict And x y) (one_or_both (is_unit And x.cond) (is_unit And y.cond) And (settled strict And x.cond y.cond) x y m k) (signed (pos 0))
+  and_left z = by (is_unit And x.cond) (is_unit And y.cond) refl
+    where
+      by : (b d : Bool) → is_unit And x.cond ≡ b →
+          Tells (if b then record y { lost = true } else if d then record x { lost = true } else record { cond = settled strict And x.cond y.cond; tree = binary And x.tree y.tree; lost = false })
+          (one_or_both b d And (settled strict And x.cond y.cond) x y m k) (signed (pos 0))
+      by true d e = absurd (t.yes (and_unit x.cond e) z)
+      by false true e = one_tells x m v (signed (pos 0)) t (both refl z)
+      by false false e = record {
+        yes = λ f. absurd (and_never_yes strict x.cond y.cond f);
+        no = λ f. refl;
+        value = signed (pos 0);
+        has = of_and_left t.has (t.same.0 z);
+        same = ((λ w. w), (λ w. w));
+      }
+
+  -- `||` whose left operand isn't 0.
+  or_left : (IsZero v → ⊥) → Tells (joined strict Or x y) (one_or_both (is_unit Or x.cond) (is_unit Or y.cond) Or (settled strict Or x.cond y.cond) x y m k) (signed (pos 1))
+  or_left n = by (is_unit Or x.cond) (is_unit Or y.cond) refl
+    where
+      by : (b d : Bool) → is_unit Or x.cond ≡ b →
+          Tells (if b then record y { lost = true } else if d then record x { lost = true } else record { cond = settled strict Or x.cond y.cond; tree = binary Or x.tree y.tree; lost = false })
+          (one_or_both b d Or (settled strict Or x.cond y.cond) x y m k) (signed (pos 1))
+      by true d e = absurd (n (t.no (or_unit x.cond e)))
+      by false true e = one_tells x m v (signed (pos 1)) t (neither one_is_not n)
+      by false false e = record {
+        yes = λ f. one_is_not;
+        no = λ f. absurd (or_never_no strict x.cond y.cond f);
+        value = signed (pos 1);
+        has = of_or_left t.has (λ z. n (t.same.1 z));
+        same = ((λ w. w), (λ w. w));
+      }
+
+  module _ (w c : Number) (s : Tells y k w) (g : IsTruth (IsZero w → ⊥) c) where
+    -- `&&` whose left operand isn't 0.
+    and_both : (IsZero v → ⊥) → Tells (joined strict And x y) (one_or_both (is_unit And x.cond) (is_unit And y.cond) And (settled strict And x.cond y.cond) x y m k) c
+    and_both n = by (is_unit And x.cond) (is_unit And y.cond) refl
+      where
+        no_by : (x.cond ≡ No) ⊎ (y.cond ≡ No) → IsZero c
+        no_by (inl f) = absurd (n (t.no f))
+        no_by (inr f) = (truth_same w c g).1 (s.no f)
+
+        by : (b d : Bool) → is_unit And y.cond ≡ d →
+            Tells (if b then record y { lost = true } else if d then record x { lost = true } else record { cond = settled strict And x.cond y.cond; tree = binary And x.tree y.tree; lost = false })
+            (one_or_both b d And (settled strict And x.cond y.cond) x y m k) c
+        by true d e = one_tells y k w c s (truth_same w c g)
+        by false true e = one_tells x m v c t (neither (λ z. s.yes (and_unit y.cond e) ((truth_same w c g).0 z)) n)
+        by false false e = record {
+          yes = λ f. absurd (and_never_yes strict x.cond y.cond f);
+          no = λ f. no_by (and_no strict x.cond y.cond f);
+          value = c;
+          has = of_and_both t.has (λ z. n (t.same.1 z)) s.has (truth_alike (IsZero w → ⊥) (IsZero s.value → ⊥) c g (not_alike s.same));
+          same = ((λ z. z), (λ z. z));
+        }
+
+    -- `||` whose left operand is 0.
+    or_both : IsZero v → Tells (joined strict Or x y) (one_or_both (is_unit Or x.cond) (is_unit Or y.cond) Or (settled strict Or x.cond y.cond) x y m k) c
+    or_both z = by (is_unit Or x.cond) (is_unit Or y.cond) refl
+      where
+        yes_by : (x.cond ≡ Yes) ⊎ (y.cond ≡ Yes) → IsZero c → ⊥
+        yes_by (inl f) q = t.yes f z
+        yes_by (inr f) q = s.yes f ((truth_same w c g).0 q)
+
+        by : (b d : Bool) → is_unit Or y.cond ≡ d →
+            Tells (if b then record y { lost = true } else if d then record x { lost = true } else record { cond = settled strict Or x.cond y.cond; tree = binary Or x.tree y.tree; lost = false })
+            (one_or_both b d Or (settled strict Or x.cond y.cond) x y m k) c
+        by true d e = one_tells y k w c s (truth_same w c g)
+        by false true e = one_tells x m v c t (both ((truth_same w c g).1 (s.no (or_unit y.cond e))) z)
+        by false false e = record {
+          yes = λ f. yes_by (or_yes strict x.cond y.cond f);
+          no = λ f. absurd (or_never_no strict x.cond y.cond f);
+          value = c;
+          has = of_or_both t.has (t.same.0 z) s.has (truth_alike (IsZero w → ⊥) (IsZero s.value → ⊥) c g (not_alike s.same));
+          same = ((λ q. q), (λ q. q));
+        }
+
+-- 6. `&&` and `||` give no value by the operators between numbers.
+
+no_and : (x y c : Number) → Gives And x y c → ⊥
+no_and (signed a) (signed b) c g = g
+no_and (signed a) (unsigned b) c g = g
+no_and (unsigned a) (signed b) c g = g
+no_and (unsigned a) (unsigned b) c g = g
+
+no_or : (x y c : Number) → Gives Or x y c → ⊥
+no_or (signed a) (signed b) c g = g
+no_or (signed a) (unsigned b) c g = g
+no_or (unsigned a) (signed b) c g = g
+no_or (unsigned a) (unsigned b) c g = g
+
+module _ (table : List Argument) (rules : Rules) where
+  -- What is left tells the truth of the whole.
+  pub tells : {e : Expression} {m : Choice e} {c : Number} → IsAllowed table m → HasValue e m c → Tells (residual table rules e) (stay table rules m) c
+  tells h (of_constant {w = w} {c = c} p) = by_itself table rules (constant w) for_constant c h (of_constant p)
+  tells h (of_name {n = n} {arguments = arguments} {c = c}) = by_itself table rules (named n arguments) (for_name c) c h of_name
+  tells h (of_defined {n = n} {p = p} {b = b}) = by_itself table rules (is_defined n p) (for_defined b) (signed (truth b)) h of_defined
+  tells h (of_unary {o = Not} {a = a} {m = m} {x = x} {c = c} d g) = not_tells (residual table rules a) (stay table rules m) x c (tells h d) g
+  tells h (of_unary {o = o} {a = a} {m = m} {x = x} {c = c} d g) = by_itself table rules (unary o a) (for_unary m) c h (of_unary d g)
+  tells h (of_binary {o = And} {x = x} {y = y} {c = c} d f g) = absurd (no_and x y c g)
+  tells h (of_binary {o = Or} {x = x} {y = y} {c = c} d f g) = absurd (no_or x y c g)
+  tells h (of_binary {o = o} {a = a} {b = b} {m = m} {k = k} {x = x} {y = y} {c = c} d f g) = by_itself table rules (binary o a b) (for_binary m k) c h (of_binary d f g)
+  tells h (of_and_left {a = a} {b = b} {m = m} {k = k} {x = x} d z) =
+      and_left rules.strict (residual table rules a) (residual table rules b) (stay table rules m) (stay table rules k) x (tells h.0 d) z
+  tells h (of_and_both {a = a} {b = b} {m = m} {k = k} {x = x} {y = y} {c = c} d n f g) =
+      and_both rules.strict (residual table rules a) (residual table rules b) (stay table rules m) (stay table rules k) x (tells h.0 d) y c (tells h.1 f) g n
+  tells h (of_or_left {a = a} {b = b} {m = m} {k = k} {x = x} d n) =
+      or_left rules.strict (residual table rules a) (residual table rules b) (stay table rules m) (stay table rules k) x (tells h.0 d) n
+  tells h (of_or_both {a = a} {b = b} {m = m} {k = k} {x = x} {y = y} {c = c} d z f g) =
+      or_both rules.strict (residual table rules a) (residual table rules b) (stay table rules m) (stay table rules k) x (tells h.0 d) y c (tells h.1 f) g z
+  tells h (of_parens {a = a} {m = m} {c = c} d) =
+      parens_tell ((residual table rules a).lost && stands_alone (residual table rules a).tree) (residual table rules a) (stay table rules m) c (tells h d)

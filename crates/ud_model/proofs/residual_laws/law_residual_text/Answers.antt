@@ -1,0 +1,9 @@
+-- The tokens of what is left are those of the tree that is left.
+use Rattle.ud_model.proofs.conditions.ResidualRead.{read_as, cells_go}
+use Rattle.ud_model.proofs.residual_laws.law_residual_text.Goals as goal
+
+pub returns-clause-read : goal.returns-clause-read
+returns-clause-read c = read_as
+
+pub returns-clause-cells : goal.returns-clause-cells
+returns-clause-cells c = cells_go

@@ -1,0 +1,18 @@
+-- By the way in which the value comes about.
+use Rattle.ud_model.proofs.conditions.ResidualTruth.{Tells, tells}
+use Rattle.ud_model.proofs.conditions.OneValue.{one_value}
+use Rattle.ud_model.specs.conditions.Residuals.{residual}
+use Rattle.ud_model.specs.conditions.Choices.{stay}
+use Rattle.ud_model.proofs.residual_laws.law_residual_truth.Goals as goal
+
+pub returns-clause-truth : goal.returns-clause-truth
+returns-clause-truth c = λ table rules e m c a d. let t : Tells (residual table rules e) (stay table rules m) c = tells table rules a d in (t.value, t.has, t.same)
+
+pub returns-clause-yes : goal.returns-clause-yes
+returns-clause-yes c = λ table rules e m c a d. let t : Tells (residual table rules e) (stay table rules m) c = tells table rules a d in t.yes
+
+pub returns-clause-no : goal.returns-clause-no
+returns-clause-no c = λ table rules e m c a d. let t : Tells (residual table rules e) (stay table rules m) c = tells table rules a d in t.no
+
+pub returns-clause-one : goal.returns-clause-one
+returns-clause-one c = λ e m x y p q. one_value p q

@@ -1,0 +1,123 @@
+-- Residuals: a condition without the operands that the table decides.
+-- C11 6.5.13p3, 6.5.14p3: only the truth of the operands of `&&`, `||` and `!` counts, and only that
+-- of a whole condition (6.10.1p6).
+--
+--   Residual          a condition, and the expression that is left for it
+--   operands e        the operands of the tree: what `&&`, `||` and `!` outside other operators join
+--   residual e        what is left of the tree if each operand that the table decides goes, with its
+--                     operator, unless it decides that operator's value
+--   simplified e      the same of a whole condition; `e` itself if nothing would be left of it
+--
+-- An operand is decided as an `#if` with nothing but the operand would be. Nothing is added, and
+-- nothing moves.
+--
+-- Example: with A undefined, `A || X` leaves `X`, `!A && (A || defined X)` leaves `defined X`, and
+-- `A + X > 2` stays.
+use Rattle.std.specs.Prelude.{◌≡◌, List, [], ◌∷◌, ◌++◌, Bool, true, false, not, ◌&&◌, ◌||◌}
+use Rattle.std.specs.Prelude.{if◌then◌else◌}
+use Rattle.ud_model.specs.conditions.Table.{Argument}
+use Rattle.ud_model.specs.conditions.Expressions.{Expression, constant, named, is_defined, unary}
+use Rattle.ud_model.specs.conditions.Expressions.{binary, parens}
+use Rattle.ud_model.specs.conditions.Conditions.{Rules, tree_cond, negate}
+use Rattle.ud_model.specs.declared.cond.Cond.{Cond}
+use Rattle.ud_model.specs.declared.cond.Cond.TheVariants.{Yes, No, Unknown}
+use Rattle.ud_model.specs.declared.operator.Operator.{Operator}
+use Rattle.ud_model.specs.declared.operator.Operator.TheVariants.{Or, And, Not}
+
+-- A condition, and the expression that is left for it.
+pub record Residual : Type 0 where
+  pub cond : Cond
+  pub tree : Expression
+  -- The last operator `&&` or `||` of the expression went, with one of its operands.
+  pub lost : Bool
+
+-- `is_unit o c`: beside an operand with the condition `c` the other operand of `o` decides.
+abbrev pub is_unit : Operator → Cond → Bool
+is_unit And Yes = true
+is_unit Or No = true
+is_unit _ _ = false
+
+-- `settles o c`: an operand with the condition `c` decides the value of `o`.
+abbrev pub settles : Operator → Cond → Bool
+settles And No = true
+settles Or Yes = true
+settles _ _ = false
+
+-- `is_unknown c`: the condition is unknown.
+abbrev pub is_unknown : Cond → Bool
+is_unknown Unknown = true
+is_unknown _ = false
+
+-- `settled strict o c d`: the condition of `o` between operands with the conditions `c` and `d`,
+-- none of which is a unit. Under `strict` one operand decides nothing if the other is unknown.
+abbrev pub settled : Bool → Operator → Cond → Cond → Cond
+settled strict o c d =
+    if settles o c && not (strict && is_unknown d) then c
+    else if settles o d && not (strict && is_unknown c) then d
+    else Unknown
+
+-- `joined strict o x y`: what is left of `o` between operands of which `x` and `y` are left.
+abbrev pub joined : Bool → Operator → Residual → Residual → Residual
+joined strict o x y =
+    if is_unit o x.cond then record y { lost = true }
+    else if is_unit o y.cond then record x { lost = true }
+    else record {
+      cond = settled strict o x.cond y.cond;
+      tree = binary o x.tree y.tree;
+      lost = false;
+    }
+
+-- `negated x`: what is left of `!` before an operand of which `x` is left.
+abbrev pub negated : Residual → Residual
+negated x = record { cond = negate x.cond; tree = unary Not x.tree; lost = false }
+
+-- `stands_alone e`: the tree needs no parentheses, whatever stands around it, and whatever text a
+-- macro in it is. That is a `defined`, parentheses, or either after a prefix operator.
+abbrev pub stands_alone : Expression → Bool
+stands_alone (is_defined n parentheses) = true
+stands_alone (parens a) = true
+stands_alone (unary o a) = stands_alone a
+stands_alone _ = false
+
+-- `enclosed x`: what is left of parentheses around an expression of which `x` is left. The
+-- parentheses go if the operator in them went, and they aren't needed.
+abbrev pub enclosed : Residual → Residual
+enclosed x =
+    if x.lost && stands_alone x.tree then x
+    else record x { tree = parens x.tree }
+
+module _ (table : List Argument) (rules : Rules) where
+  -- `alone e`: an operand, decided by itself.
+  abbrev pub alone : Expression → Residual
+  alone e = record { cond = tree_cond e table rules; tree = e; lost = false }
+
+  -- `residual e`: what is left of the tree `e` without its decided operands. A decided operand of
+  -- `&&` or `||` goes if the other one decides the value.
+  abbrev pub residual : Expression → Residual
+  residual (unary Not a) = negated (residual a)
+  residual (binary And a b) = joined rules.strict And (residual a) (residual b)
+  residual (binary Or a b) = joined rules.strict Or (residual a) (residual b)
+  residual (parens a) = enclosed (residual a)
+  residual e = alone e
+
+  -- `AreUndecided xs`: each of these operands is unknown as a condition of its own.
+  abbrev pub AreUndecided : List Expression → Type 0
+  AreUndecided [] = Unit {0}
+  AreUndecided (x ∷ xs) = (tree_cond x table rules ≡ Unknown) × AreUndecided xs
+
+  -- `is_undecided x`: what is left has no condition, by its operands and as a whole.
+  abbrev pub is_undecided : Residual → Bool
+  is_undecided x = is_unknown x.cond && is_unknown (tree_cond x.tree table rules)
+
+  -- `simplified e`: the condition `e` without the operands that are decided.
+  abbrev pub simplified : Expression → Expression
+  simplified e = if is_undecided (residual e) then (residual e).tree else e
+
+-- `operands e`: the operands of the tree, in order: what its `&&`, `||` and `!` join, apart from
+-- those inside an operand of another operator.
+abbrev pub operands : Expression → List Expression
+operands (unary Not a) = operands a
+operands (binary And a b) = operands a ++ operands b
+operands (binary Or a b) = operands a ++ operands b
+operands (parens a) = operands a
+operands e = e ∷ []

@@ -1,0 +1,100 @@
+//! Laws of residuals: what is left of a condition without the operands that the table decides.
+
+ghost use Rattle.std.specs.Prelude.{◌≡◌, ◌↔◌, ◌⊎◌, ℕ, List, [], map, Some, false};
+ghost use Rattle.ud_model.specs.text.Lexemes.{Cell, shown};
+ghost use Rattle.ud_model.specs.aids.Parsing.{expression_of};
+ghost use Rattle.ud_model.specs.conditions.Table.{Argument};
+ghost use Rattle.ud_model.specs.conditions.Expressions.{Expression, spelling, HasPrecedence};
+ghost use Rattle.ud_model.specs.conditions.Conditions.{Rules, tree_cond};
+ghost use Rattle.ud_model.specs.conditions.CValues.{Number, IsZero};
+ghost use Rattle.ud_model.specs.conditions.Residuals.{residual, simplified, operands, AreUndecided};
+ghost use Rattle.ud_model.specs.conditions.ResidualTexts.{chosen, keeps, simplified_cells};
+ghost use Rattle.ud_model.specs.conditions.Sublists.{IsSublist};
+ghost use Rattle.ud_model.specs.conditions.Choices.{Choice, IsAllowed, HasValue, stay};
+ghost use Rattle.ud_model.specs.text.Lines.{Line};
+ghost use Rattle.ud_model.specs.text.Scans.{Reading};
+ghost use Rattle.ud_model.specs.text.Scanning.{scan_after};
+ghost use Rattle.ud_model.specs.text.OtherLines.{AreReadAlike, StandsAlone};
+ghost use Rattle.ud_model.specs.declared.kind.Mode.{Mode};
+ghost use Rattle.ud_model.specs.sections.Tree.{Nodes};
+ghost use Rattle.ud_model.specs.output.Worlds.{World, selected};
+ghost use Rattle.ud_model.specs.output.SimplifiedTrees.{NodesSimplified, IsChosenWorld};
+ghost use Rattle.ud_model.specs.declared.cond.Cond.{Cond};
+
+/// What is left of a condition is true exactly if the condition is.
+///
+/// Whatever numbers the uses of the open names have, and those of the decided ones as the table has
+/// them: if C gives the condition a value, it gives one to what is left, by the same numbers, and
+/// both are 0 or neither is (C11 6.5.13p3, 6.5.14p3, 6.10.1p6).
+pub fn law_residual_truth()
+    ensures truth { (table : List Argument) (rules : Rules) (e : Expression) (m : Choice e)
+        (c : Number) → IsAllowed table m → HasValue e m c → (d : Number) ×
+        HasValue (residual table rules e).tree (stay table rules m) d × (IsZero c ↔ IsZero d) }
+    ensures one { (e : Expression) (m : Choice e) (c d : Number) → HasValue e m c →
+        HasValue e m d → c ≡ d }
+    ensures yes { (table : List Argument) (rules : Rules) (e : Expression) (m : Choice e)
+        (c : Number) → IsAllowed table m → HasValue e m c →
+        (residual table rules e).cond ≡ Cond.Yes → IsZero c → ⊥ }
+    ensures no { (table : List Argument) (rules : Rules) (e : Expression) (m : Choice e)
+        (c : Number) → IsAllowed table m → HasValue e m c →
+        (residual table rules e).cond ≡ Cond.No → IsZero c }
+{}
+
+/// What is left is written with tokens of the condition, in their order, and needs no more.
+///
+/// Each operand that is left is unknown as a condition of its own, unless `&&` and `||` are strict.
+/// A second time nothing goes, and what is left of an unknown condition is unknown.
+pub fn law_residual_shape()
+    ensures tokens { (table : List Argument) (rules : Rules) (e : Expression) →
+        IsSublist (spelling (residual table rules e).tree) (spelling e) }
+    ensures flags { (table : List Argument) (rules : Rules) (e : Expression) →
+        spelling (residual table rules e).tree ≡ chosen (keeps table rules e) (spelling e) }
+    ensures precedence { (table : List Argument) (rules : Rules) (e : Expression) (k : ℕ) →
+        HasPrecedence k e → HasPrecedence k (residual table rules e).tree }
+    ensures operands { (table : List Argument) (rules : Rules) (e : Expression) →
+        rules.strict ≡ false → (residual table rules e).cond ≡ Cond.Unknown →
+        AreUndecided table rules (operands (residual table rules e).tree) }
+    ensures again { (table : List Argument) (rules : Rules) (e : Expression) →
+        simplified table rules (simplified table rules e) ≡ simplified table rules e }
+    ensures unknown { (table : List Argument) (rules : Rules) (e : Expression) →
+        tree_cond e table rules ≡ Cond.Unknown →
+        tree_cond (simplified table rules e) table rules ≡ Cond.Unknown }
+{}
+
+/// What is left of a text is read as what is left of its tree, or the text is left as it is.
+///
+/// A text without a tree is left as it is. Bytes only go, and none moves (C11 6.10.1).
+pub fn law_residual_text()
+    ensures read { (table : List Argument) (rules : Rules) (e : Expression) (cells : List Cell) →
+        expression_of (map shown cells) ≡ Some e → (f : Expression) ×
+        (expression_of (map shown (simplified_cells table rules cells)) ≡ Some f) ×
+        ((f ≡ e) ⊎ (f ≡ (residual table rules e).tree)) }
+    ensures cells { (table : List Argument) (rules : Rules) (cells : List Cell) →
+        IsSublist (simplified_cells table rules cells) cells }
+{}
+
+/// Of a text in which operands of the conditions went C selects the same lines.
+///
+/// Whatever numbers the uses of the open names have: each condition that C evaluates has the truth
+/// by them that the condition has from which it comes (C11 6.10.1p4, p6).
+pub fn law_residual_selects()
+    ensures selected { (table : List Argument) (rules : Rules) (w v : World Reading)
+        (ns us : Nodes Reading) → NodesSimplified table rules w v ns us →
+        selected v us ≡ selected w ns }
+    ensures world { (table : List Argument) (rules : Rules) (w v : World Reading)
+        (ns us : Nodes Reading) → NodesSimplified table rules w v ns us →
+        IsChosenWorld table w ns → IsChosenWorld table v us }
+    ensures allowed { (table : List Argument) (rules : Rules) (e : Expression) (m : Choice e) →
+        IsAllowed table m → IsAllowed table (stay table rules m) }
+{}
+
+/// A line that joins no neighbour changes the scan of no other line.
+///
+/// Texts that differ in such lines alone are read alike: each line that they share has the same
+/// scan, and each other one the scan that it has by itself (C11 5.1.1.2).
+pub fn law_other_lines_stay()
+    ensures alike { (before after : List Reading) → AreReadAlike before after →
+        (m : Mode) (l : Line) → scan_after before m l ≡ scan_after after m l }
+    ensures alone { (before : List Reading) (l : Line) → StandsAlone before l →
+        scan_after before Mode.C l ≡ scan_after [] Mode.C l }
+{}
