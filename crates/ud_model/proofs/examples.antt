@@ -8,3 +8,4 @@ pub mod CSelectionExamples
 pub mod WrongRules
 pub mod PrintingExamples
 pub mod ResidualExamples
+pub mod SimplifiedExamples

@@ -61,3 +61,8 @@ pub mod OptionAnswers
 pub mod ReachedPruned
 pub mod ReachedAlike
 pub mod SimplifiedSelected
+pub mod SimplifiedLines
+pub mod SimplifiedReadings
+pub mod SimplifiedTree
+pub mod SimplifiedLineTexts
+pub mod SimplifiedAnswers

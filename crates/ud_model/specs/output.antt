@@ -9,3 +9,4 @@ pub mod SharedLines
 pub mod InsertedLines
 pub mod InsertedNodes
 pub mod SimplifiedTrees
+pub mod SimplifiedTexts

@@ -19,6 +19,16 @@ ghost use Rattle.ud_model.specs.declared.kind.Mode.{Mode};
 ghost use Rattle.ud_model.specs.sections.Tree.{Nodes};
 ghost use Rattle.ud_model.specs.output.Worlds.{World, selected};
 ghost use Rattle.ud_model.specs.output.SimplifiedTrees.{NodesSimplified, IsChosenWorld};
+ghost use Rattle.ud_model.specs.output.SimplifiedTexts.{simplified_line, simplified_text};
+ghost use Rattle.ud_model.specs.output.Worlds.{openers};
+ghost use Rattle.ud_model.specs.output.Rereading.{NoneIgnores, IsTreeOf, IsPlainC, selected_bytes};
+ghost use Rattle.ud_model.specs.output.CSelection.{IsCPair};
+ghost use Rattle.ud_model.specs.answer.CommandLine.{options_of};
+ghost use Rattle.ud_model.specs.answer.Answer.{Answer, Succeeds};
+ghost use Rattle.ud_model.specs.output.InsertedLines.{read_as};
+ghost use Rattle.ud_model.specs.sections.Items.{Options, rules_of};
+ghost use Rattle.ud_model.specs.sections.Tree.{closed};
+ghost use Rattle.ud_model.specs.text.Lines.{lines_of};
 ghost use Rattle.ud_model.specs.declared.cond.Cond.{Cond};
 
 /// What is left of a condition is true exactly if the condition is.
@@ -97,4 +107,39 @@ pub fn law_other_lines_stay()
         (m : Mode) (l : Line) → scan_after before m l ≡ scan_after after m l }
     ensures alone { (before : List Reading) (l : Line) → StandsAlone before l →
         scan_after before Mode.C l ≡ scan_after [] Mode.C l }
+{}
+
+/// A text without the decided operands has the tree of the text, with simplified openers.
+///
+/// It has the lines of the text, one for one, each with its number and its ending.
+pub fn law_simplified_tree()
+    ensures lines { (table : List Argument) (rules : Rules) (bytes : List ℕ) →
+        lines_of (simplified_text table rules bytes) ≡
+        map (simplified_line table rules) (read_as Mode.C bytes) }
+    ensures tree { (o : Options) (bytes : List ℕ) (ns : Nodes Reading) → NoneIgnores o.table →
+        o.settings.plain ≡ false → IsTreeOf o bytes (closed ns) → (us : Nodes Reading) ×
+        IsTreeOf o (simplified_text o.table (rules_of o.settings) bytes) (closed us) ×
+        ((w v : World Reading) → map v (openers us) ≡ map w (openers ns) →
+        NodesSimplified o.table (rules_of o.settings) w v ns us) }
+{}
+
+/// Of the output without the decided operands C selects the lines that it selects of the input.
+///
+/// `x` gives the conditions of the output the truths that C may give those of the input, and `v`
+/// gives them to the conditions of the simplified output. By the same numbers for the uses of the
+/// open names each of these has that truth (C11 5.1.1.2, 6.10.1p4, p6).
+pub fn law_answer_simplified()
+    ensures selected { (args : List (List ℕ)) (input : List ℕ) (a : Answer) →
+        Succeeds args input a → IsPlainC (options_of args) → (ns us ss : Nodes Reading) →
+        IsTreeOf (options_of args) input (closed ns) →
+        IsTreeOf (options_of args) a.output (closed us) →
+        IsTreeOf (options_of args) (simplified_text (options_of args).table
+        (rules_of (options_of args).settings) a.output) (closed ss) → (w x v : World Reading) →
+        IsCPair (options_of args) w ns x us → map v (openers ss) ≡ map x (openers us) →
+        selected_bytes v ss ≡ selected_bytes w ns }
+    ensures world { (o : Options) → IsPlainC o → (bytes : List ℕ) (us ss : Nodes Reading) →
+        IsTreeOf o bytes (closed us) →
+        IsTreeOf o (simplified_text o.table (rules_of o.settings) bytes) (closed ss) →
+        (x v : World Reading) → map v (openers ss) ≡ map x (openers us) →
+        IsChosenWorld o.table x us → IsChosenWorld o.table v ss }
 {}

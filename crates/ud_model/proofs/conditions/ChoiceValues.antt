@@ -9,7 +9,7 @@ use Rattle.ud_model.specs.conditions.Expressions.{Expression, named, is_defined}
 use Rattle.ud_model.specs.conditions.Values.{fits, fit, truth, constant_value, negated_value, text_value, end_value, defined_name_value, name_value_by, name_value, name_has_u, defined_value, has_unsigned}
 use Rattle.ud_model.specs.conditions.CValues.{Number, signed, IsInRange, typed, CValue, IsCValue}
 use Rattle.ud_model.specs.conditions.CValues as may
-use Rattle.ud_model.specs.conditions.Choices.{Choice, for_constant, for_name, for_defined, for_unary, for_binary, for_parens, IsAllowed, HasValue, of_constant, of_name, of_defined, of_unary, of_binary, of_and_left, of_and_both, of_or_left, of_or_both, of_parens}
+use Rattle.ud_model.specs.conditions.Choices.{Choice, IsAllowed, HasValue, of_constant, of_name, of_defined, of_unary, of_binary, of_and_left, of_and_both, of_or_left, of_or_both, of_parens}
 
 -- A known number stays known.
 abbrev Keeps : Option ℤ → Option ℤ → Type 0

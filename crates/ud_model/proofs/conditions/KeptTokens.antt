@@ -1,7 +1,7 @@
 -- Kept tokens: the flags choose the tokens of what is left.
 use Rattle.std.proofs.Common.{◌≡◌, Bool, true, false, not, ◌&&◌, if◌then◌else◌, List, [], ◌∷◌, ◌++◌, map, refl, sym, ◌∙◌, ap, ap₂}
 use Rattle.ud_model.specs.conditions.Table.{Argument}
-use Rattle.ud_model.specs.conditions.Tokens.{Token, operator, opening, closing}
+use Rattle.ud_model.specs.conditions.Tokens.{operator, opening, closing}
 use Rattle.ud_model.specs.conditions.Expressions.{Expression, constant, named, is_defined, unary, binary, parens, spelling}
 use Rattle.ud_model.specs.conditions.Conditions.{Rules}
 use Rattle.ud_model.specs.conditions.Residuals.{Residual, is_unit, settled, stands_alone, residual}

@@ -1,7 +1,6 @@
 -- One value: by the numbers for its uses of names an expression has one value at most.
-use Rattle.std.proofs.Common.{◌≡◌, ℕ, ◌<◌, ◌≤◌, ◌^◌, Bool, true, false, List, refl, sym, ◌∙◌, ap, subst, inl, inr, ◌⊎◌, ℤ, pos, arith}
+use Rattle.std.proofs.Common.{◌≡◌, ℕ, List, refl, sym, ◌∙◌, subst, inl, inr, ℤ, arith}
 use Rattle.std.proofs.lemmas.Bool.{false≢true}
-use Rattle.ud_model.specs.conditions.Constants.{has_u, is_decimal, constant_number}
 use Rattle.ud_model.specs.conditions.Expressions.{Expression}
 use Rattle.ud_model.specs.conditions.CValues.{Number, signed, unsigned, IsTruth, IsZero, GivesSigned, GivesUnsigned, Gives, GivesUnary, IsConstantValue, plain, by_suffix, by_size, as_unsigned}
 use Rattle.ud_model.specs.conditions.Choices.{Choice, HasValue, of_constant, of_name, of_defined, of_unary, of_binary, of_and_left, of_and_both, of_or_left, of_or_both, of_parens}

@@ -1,23 +1,21 @@
 -- Residual read: what is left of a text is read as the tree that is left, and cells only go.
 use Rattle.std.proofs.Common.{◌≡◌, ℕ, zero, suc, ◌-◌, Bool, true, false, not, ◌&&◌, ◌||◌, if◌then◌else◌, List, [], ◌∷◌, ◌++◌, length, map, take, drop, Option, Some, None, bytes_eq, refl, sym, ◌∙◌, ap, ap₂, subst, inl, inr, ◌⊎◌}
-use Rattle.std.proofs.lemmas.Bool.{false≢true}
 use Rattle.std.proofs.lemmas.Slice.Eq.{bytes_eq-Decides}
-use Rattle.std.proofs.lemmas.Option.{none-some, same_Some}
 use Rattle.ud_model.specs.text.Bytes.{skip_white, are_white}
 use Rattle.ud_model.specs.text.Lexemes.{Cell, shown}
 use Rattle.ud_model.specs.conditions.Table.{Argument}
-use Rattle.ud_model.specs.conditions.Tokens.{Token, number, name, defined, operator, opening, closing, NextToken, at_end, unreadable, found, leading_token, next_token, AreTokens}
+use Rattle.ud_model.specs.conditions.Tokens.{Token, number, name, defined, operator, opening, closing, NextToken, at_end, unreadable, found, leading_token, next_token}
 use Rattle.ud_model.specs.conditions.Expressions.{Expression, spelling, IsWritten}
 use Rattle.ud_model.specs.aids.Parsing.{tokens_of, expression_of}
 use Rattle.ud_model.specs.conditions.Conditions.{Rules}
 use Rattle.ud_model.specs.conditions.Residuals.{residual}
-use Rattle.ud_model.specs.conditions.ResidualTexts.{gap_left, cells_before, cells_after, token_left, left_by, left_from, left_cells, keeps, ends_operand, operator_bytes, same_flag, same_token, same_tokens, are_tokens, begins_word, may_go, is_read, simplified_tree, simplified_by, simplified_cells}
+use Rattle.ud_model.specs.conditions.ResidualTexts.{cells_before, cells_after, token_left, left_by, left_from, left_cells, keeps, ends_operand, operator_bytes, same_flag, same_token, same_tokens, are_tokens, begins_word, may_go, is_read, simplified_by, simplified_cells}
 use Rattle.ud_model.specs.conditions.Sublists.{IsSublist, nothing, without, with_same}
 use Rattle.ud_model.specs.declared.operator.Operator.{Operator}
 use Rattle.ud_model.specs.declared.operator.Operator.TheVariants.{Or, And, BitOr, BitXor, BitAnd, Equal, NotEqual, Less, LessEqual, Greater, GreaterEqual, Plus, Minus, Times, Over, Remainder, Not, Complement}
 use Rattle.ud_model.proofs.conditions.TokenLemmas.{tokens_of_are}
 use Rattle.ud_model.proofs.conditions.OneExpression.{expression_only, expression_is}
-use Rattle.ud_model.proofs.conditions.ResidualShape.{precedence_stays, all_of_it, none_of_it, of_both}
+use Rattle.ud_model.proofs.conditions.ResidualShape.{precedence_stays, all_of_it, none_of_it}
 
 -- 1. Tokens that look alike are the same.
 

@@ -1,16 +1,16 @@
 -- Residual shape: what is left of an expression has only operands that are undecided, and nothing
 -- more of it can go.
-use Rattle.std.proofs.Common.{◌≡◌, ℕ, ◌+◌, ◌≤◌, Bool, true, false, not, ◌&&◌, ◌||◌, if◌then◌else◌, List, [], ◌∷◌, ◌++◌, refl, sym, ◌∙◌, ap, ap₂, subst, arith, IsTrue}
+use Rattle.std.proofs.Common.{◌≡◌, ℕ, ◌+◌, ◌≤◌, Bool, true, false, ◌&&◌, if◌then◌else◌, List, [], ◌∷◌, ◌++◌, refl, sym, ◌∙◌, ap, ap₂, arith}
 use Rattle.ud_model.specs.conditions.Table.{Argument}
-use Rattle.ud_model.specs.conditions.Tokens.{Token, operator, opening, closing}
+use Rattle.ud_model.specs.conditions.Tokens.{operator, opening, closing}
 use Rattle.ud_model.specs.conditions.Expressions.{Expression, constant, named, is_defined, unary, binary, parens, precedence, spelling, HasPrecedence}
 use Rattle.ud_model.specs.conditions.Conditions.{Rules, tree_cond, negate}
-use Rattle.ud_model.specs.conditions.Residuals.{Residual, is_unit, settles, is_unknown, settled, joined, negated, stands_alone, enclosed, alone, residual, operands, is_undecided, simplified, AreUndecided}
+use Rattle.ud_model.specs.conditions.Residuals.{Residual, is_unit, is_unknown, settled, joined, negated, stands_alone, enclosed, residual, operands, is_undecided, simplified, AreUndecided}
 use Rattle.ud_model.specs.conditions.Sublists.{IsSublist, nothing, without, with_same}
 use Rattle.ud_model.specs.declared.cond.Cond.{Cond}
 use Rattle.ud_model.specs.declared.cond.Cond.TheVariants.{Yes, No, Unknown}
 use Rattle.ud_model.specs.declared.operator.Operator.{Operator}
-use Rattle.ud_model.specs.declared.operator.Operator.TheVariants.{Or, And, BitOr, BitXor, BitAnd, Equal, NotEqual, Less, LessEqual, Greater, GreaterEqual, Plus, Minus, Times, Over, Remainder, Not, Complement}
+use Rattle.ud_model.specs.declared.operator.Operator.TheVariants.{Or, And, Not}
 
 -- 1. Sublists.
 

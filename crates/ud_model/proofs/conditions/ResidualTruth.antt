@@ -2,20 +2,19 @@
 --
 -- The proof goes by the way in which the value of the expression comes about. An operand that is
 -- decided has the truth that the table says, so a unit leaves the truth to the other operand.
-use Rattle.std.proofs.Common.{◌≡◌, Bool, true, false, not, ◌&&◌, ◌||◌, if◌then◌else◌, refl, sym, ◌∙◌, ap, subst, inl, inr, ◌⊎◌, ◌↔◌, ℤ, pos, List}
+use Rattle.std.proofs.Common.{◌≡◌, Bool, true, false, ◌&&◌, if◌then◌else◌, refl, sym, ◌∙◌, subst, inl, inr, ◌⊎◌, ◌↔◌, pos, List}
 use Rattle.std.proofs.lemmas.Bool.{false≢true}
 use Rattle.ud_model.specs.conditions.Table.{Argument}
 use Rattle.ud_model.specs.conditions.Expressions.{Expression, constant, named, is_defined, unary, binary, parens}
-use Rattle.ud_model.specs.conditions.Conditions.{Rules, tree_cond, negate}
+use Rattle.ud_model.specs.conditions.Conditions.{Rules, negate}
 use Rattle.ud_model.specs.conditions.Values.{is_zero, truth}
 use Rattle.ud_model.proofs.conditions.KnownNumbers.{zero_decides}
-use Rattle.ud_model.specs.conditions.CValues.{Number, signed, unsigned, number, IsTruth, IsZero, Gives, GivesUnary}
-use Rattle.ud_model.specs.conditions.Residuals.{Residual, is_unit, settles, is_unknown, settled, joined, negated, stands_alone, enclosed, alone, residual}
-use Rattle.ud_model.specs.conditions.Choices.{Choice, for_constant, for_name, for_defined, for_unary, for_binary, for_parens, IsAllowed, HasValue, of_constant, of_name, of_defined, of_unary, of_binary, of_and_left, of_and_both, of_or_left, of_or_both, of_parens, one_or_both, bare_or_not, stay}
+use Rattle.ud_model.specs.conditions.CValues.{Number, signed, unsigned, number, IsTruth, IsZero, Gives}
+use Rattle.ud_model.specs.conditions.Residuals.{Residual, is_unit, settled, joined, negated, stands_alone, alone, residual}
+use Rattle.ud_model.specs.conditions.Choices.{Choice, for_constant, for_name, for_defined, for_unary, for_binary, IsAllowed, HasValue, of_constant, of_name, of_defined, of_unary, of_binary, of_and_left, of_and_both, of_or_left, of_or_both, of_parens, one_or_both, bare_or_not, stay}
 use Rattle.ud_model.specs.declared.cond.Cond.{Cond}
 use Rattle.ud_model.specs.declared.cond.Cond.TheVariants.{Yes, No, Unknown}
-use Rattle.ud_model.specs.declared.operator.Operator.{Operator}
-use Rattle.ud_model.specs.declared.operator.Operator.TheVariants.{Or, And, BitOr, BitXor, BitAnd, Equal, NotEqual, Less, LessEqual, Greater, GreaterEqual, Plus, Minus, Times, Over, Remainder, Not, Complement}
+use Rattle.ud_model.specs.declared.operator.Operator.TheVariants.{Or, And, Not}
 use Rattle.ud_model.proofs.conditions.ChoiceValues.{choice_may}
 use Rattle.ud_model.proofs.conditions.DecidedConditions.{yes_is_true, no_is_false}
 

@@ -1,8 +1,8 @@
 -- Stayed choices: the numbers for the uses that are left are as the table has them, if those for all
 -- uses are; and an expression has one value at most by its numbers.
-use Rattle.std.proofs.Common.{◌≡◌, Bool, true, false, not, ◌&&◌, if◌then◌else◌, List, refl}
+use Rattle.std.proofs.Common.{Bool, true, false, ◌&&◌, List}
 use Rattle.ud_model.specs.conditions.Table.{Argument}
-use Rattle.ud_model.specs.conditions.Expressions.{Expression, binary, parens}
+use Rattle.ud_model.specs.conditions.Expressions.{Expression}
 use Rattle.ud_model.specs.conditions.Conditions.{Rules}
 use Rattle.ud_model.specs.conditions.Residuals.{Residual, is_unit, settled, stands_alone, residual}
 use Rattle.ud_model.specs.conditions.Choices.{Choice, for_constant, for_name, for_defined, for_unary, for_binary, for_parens, IsAllowed, one_or_both, bare_or_not, stay}

@@ -1,6 +1,6 @@
 -- Examples: what is left of the text of a condition, computed by the checker, against texts worked
 -- out by hand. A is undefined, B is 1 and N is -1.
-use Rattle.std.proofs.Common.{◌≡◌, refl, ℕ, List, [], ◌∷◌, ◌++◌, map, codes, Some, None, true, false}
+use Rattle.std.proofs.Common.{◌≡◌, refl, ℕ, List, [], ◌∷◌, ◌++◌, map, codes, None, true, false}
 use Rattle.ud_model.specs.text.Lexemes.{Cell, cells_in, single, literal, block_comment, line_comment}
 use Rattle.ud_model.specs.conditions.Table.{Argument}
 use Rattle.ud_model.specs.conditions.Constants.{suffix_sign}
@@ -12,7 +12,7 @@ use Rattle.ud_model.specs.conditions.Conditions.{Rules}
 use Rattle.ud_model.specs.conditions.ResidualTexts.{simplified_cells}
 use Rattle.ud_model.proofs.examples.ExpressionExamples.{sets, usual}
 
-abbrev symbols : List Argument
+abbrev pub symbols : List Argument
 symbols =
     record { name = codes "A"; entry = record { value = None; ignoring = false } } ∷ sets (codes "B") (codes "1") ∷ sets (codes "N") (codes "-1") ∷ []
 

@@ -15,11 +15,11 @@ use Rattle.ud_model.proofs.output.ByLength.{each_length}
 use Rattle.ud_model.proofs.text.Pushes.{ByPush, none, push, by_push}
 use Rattle.ud_model.proofs.text.LinesLemmas.{no_newline-append, body-ending}
 
-no_feed_parts : (p q : List ℕ) → NoNewline (p ++ q) → NoNewline p × NoNewline q
+pub no_feed_parts : (p q : List ℕ) → NoNewline (p ++ q) → NoNewline p × NoNewline q
 no_feed_parts [] q h = (tt, h)
 no_feed_parts (b ∷ p) q h = let r : NoNewline p × NoNewline q = no_feed_parts p q h.1 in ((h.0, r.0), r.1)
 
-no_feed_cut : (n : ℕ) (t : List ℕ) → NoNewline t → NoNewline (take n t) × NoNewline (drop n t)
+pub no_feed_cut : (n : ℕ) (t : List ℕ) → NoNewline t → NoNewline (take n t) × NoNewline (drop n t)
 no_feed_cut n t h = no_feed_parts (take n t) (drop n t) (subst NoNewline (sym (take-append-drop n t)) h)
 
 -- The ending of a whole line.
@@ -37,14 +37,14 @@ whole_ending l (prefix, n, e) =
     by_tests false false h = cc
 
 -- A body and an ending.
-ended : (b e : List ℕ) → NoNewline b → IsEnd e → IsWhole (b ++ e)
+pub ended : (b e : List ℕ) → NoNewline b → IsEnd e → IsWhole (b ++ e)
 ended b e n (inl h) = (b ++ 13 ∷ [], no_newline-append b (13 ∷ []) n ((λ p. omega arith), tt), ap (λ (t : List ℕ). b ++ t) h ∙ sym (append_assoc b (13 ∷ []) (10 ∷ [])))
 ended b e n (inr h) = (b, n, ap (λ (t : List ℕ). b ++ t) h)
 
 abbrev body_of : List ℕ → List ℕ
 body_of t = take (length t - length (ending_of t)) t
 
-whole_body : (t : List ℕ) → IsWhole t → NoNewline (body_of t)
+pub whole_body : (t : List ℕ) → IsWhole t → NoNewline (body_of t)
 whole_body t (prefix, n, e) = go (whole_ending t (prefix, n, e))
   where
     go : IsEnd (ending_of t) → NoNewline (body_of t)

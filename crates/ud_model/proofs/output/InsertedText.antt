@@ -26,7 +26,7 @@ pub readings_back : (o : Options) (rs : List Reading) → map reading_of (items 
 readings_back o [] = refl
 readings_back o (r ∷ rs) = ap₂ (λ (q : Reading) (qs : List Reading). q ∷ qs) (reading_of-item_of o r) (readings_back o rs)
 
-read_more : (m : Mode) (ls : List Line) (l : Line) → read_in m (ls ++ l ∷ []) ≡ read_in m ls ++ next_reading (read_in m ls) m l ∷ []
+pub read_more : (m : Mode) (ls : List Line) (l : Line) → read_in m (ls ++ l ∷ []) ≡ read_in m ls ++ next_reading (read_in m ls) m l ∷ []
 read_more m ls l = ap (λ (ks : List (Mode × Line)). readings_of ks) (map-append (in_mode m) ls (l ∷ [])) ∙ readings_after-append [] (map (in_mode m) ls) (in_mode m l ∷ [])
 
 items_more : (o : Options) (m : Mode) (ls : List Line) (l : Line) →
@@ -36,13 +36,13 @@ items_more o m ls l =
     ∙ ap (λ (rs : List Reading). items o (read_in m ls) ++ item_of o (next_reading rs m l) ∷ []) (sym (readings_back o (read_in m ls)))
 
 -- The items of lines are read so.
-read_items : (o : Options) (m : Mode) (ls : List Line) → ByPush ls → ReadIn o m (items o (read_in m ls))
+pub read_items : (o : Options) (m : Mode) (ls : List Line) → ByPush ls → ReadIn o m (items o (read_in m ls))
 read_items o m _ none = none_read
 read_items o m _ (push {xs = ls} l p) =
     subst (ReadIn o m) (sym (items_more o m ls l)) (one_read (items o (read_in m ls)) (read_items o m ls p) l)
 
 -- The items of lines are of these lines.
-lines_back : (o : Options) (m : Mode) (ls : List Line) → ByPush ls → map line_of (items o (read_in m ls)) ≡ ls
+pub lines_back : (o : Options) (m : Mode) (ls : List Line) → ByPush ls → map line_of (items o (read_in m ls)) ≡ ls
 lines_back o m _ none = refl
 lines_back o m _ (push {xs = ls} l p) =
     ap (λ (xs : List (Item Reading)). map line_of xs) (items_more o m ls l)

@@ -75,7 +75,7 @@ same_one o j r s k = same (alike_item o r s (record { bytes = k.same; scanned = 
 abbrev pub items : Options → List Reading → List (Item Reading)
 items o rs = map (λ r. item_of o r) rs
 
-last_item : (o : Options) (rs : List Reading) (r : Reading) → items o (rs ++ r ∷ []) ≡ items o rs ++ item_of o r ∷ []
+pub last_item : (o : Options) (rs : List Reading) (r : Reading) → items o (rs ++ r ∷ []) ≡ items o rs ++ item_of o r ∷ []
 last_item o rs r = map-append (λ r. item_of o r) rs (r ∷ [])
 
 -- Counted lines are such items.

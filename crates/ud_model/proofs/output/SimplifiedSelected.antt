@@ -1,16 +1,16 @@
 -- Simplified selected: of a text in which operands of the conditions went the same lines are selected.
-use Rattle.std.proofs.Common.{◌≡◌, List, [], ◌++◌, ◌∷◌, Bool, true, false, Option, Some, None, refl, sym, ◌∙◌, ap, ap₂, subst}
+use Rattle.std.proofs.Common.{◌≡◌, List, [], ◌++◌, ◌∷◌, Bool, true, false, Some, refl, sym, ◌∙◌, ap, ap₂, subst}
 use Rattle.ud_model.specs.text.Scans.{Reading}
 use Rattle.ud_model.specs.conditions.Table.{Argument}
 use Rattle.ud_model.specs.conditions.Expressions.{Expression}
 use Rattle.ud_model.specs.conditions.Conditions.{Rules}
 use Rattle.ud_model.specs.conditions.CValues.{Number, IsZero}
 use Rattle.ud_model.specs.conditions.Residuals.{residual}
-use Rattle.ud_model.specs.conditions.Choices.{Choice, IsAllowed, HasValue, for_constant, for_name, for_defined, for_unary, for_binary, for_parens, one_or_both, bare_or_not, stay}
-use Rattle.ud_model.specs.sections.Tree.{Opener, Nodes, Groups, Elifs, nothing, text, section, conditional, otherwise, first, elif}
+use Rattle.ud_model.specs.conditions.Choices.{stay}
+use Rattle.ud_model.specs.sections.Tree.{Opener, Nodes, Groups, Elifs}
 use Rattle.ud_model.specs.output.Worlds.{World, or_else, lines_or, where_true, selected, selected_groups, selected_elifs, EachReached, GroupsReached, ElifsReached}
 use Rattle.ud_model.specs.output.CSelection.{condition_in, HasTruth}
-use Rattle.ud_model.specs.output.SimplifiedTrees.{IsChosen, IsChosenWorld, LineSimplified, line_stays, operands_go, OpenerSimplified, NodesSimplified, no_nodes, text_stays, section_stays, GroupsSimplified, conditions_alone, with_else, ElifsSimplified, first_group, next_group}
+use Rattle.ud_model.specs.output.SimplifiedTrees.{IsChosen, LineSimplified, condition_stays, operands_go, OpenerSimplified, NodesSimplified, no_nodes, text_stays, section_stays, GroupsSimplified, conditions_alone, with_else, ElifsSimplified, first_group, next_group}
 use Rattle.ud_model.proofs.conditions.ResidualTruth.{Tells, tells}
 use Rattle.ud_model.proofs.conditions.StayedChoices.{stay_allowed}
 
@@ -25,7 +25,7 @@ module _ (table : List Argument) (rules : Rules) where
       (stay table rules p.0, stay_allowed table rules p.0 p.1, t.value, t.has, truth_kept b p.2 t.value t.same.0 t.same.1 p.4)
 
   line_chosen : (l k : Reading) (b : Bool) → LineSimplified table rules l k → IsChosen table (condition_in l) b → IsChosen table (condition_in k) b
-  line_chosen l k b line_stays h = h
+  line_chosen l k b (condition_stays q) h = subst (λ o. IsChosen table o b) (sym q) h
   line_chosen l k b (operands_go {e = e} p q) h = subst (λ o. IsChosen table o b) (sym q) (chosen_left e b (subst (λ o. IsChosen table o b) p h))
 
   module _ (w v : World Reading) where

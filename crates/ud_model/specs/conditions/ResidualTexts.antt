@@ -14,7 +14,7 @@
 -- left; and if it has a quote: what follows a quote could be a comment without it.
 --
 -- Example: with A undefined ` A || X // c` leaves ` X // c`, and ` X || A // c` leaves ` X // c`.
-use Rattle.std.specs.Prelude.{ℕ, ◌+◌, ◌-◌, List, [], ◌∷◌, ◌++◌, length, map, take, drop, Bool, true}
+use Rattle.std.specs.Prelude.{ℕ, ◌-◌, List, [], ◌∷◌, ◌++◌, length, map, take, drop, Bool, true}
 use Rattle.std.specs.Prelude.{false, not, ◌&&◌, ◌||◌, if◌then◌else◌, Option, Some, None}
 use Rattle.std.specs.Prelude.{bytes_eq, codes}
 use Rattle.std.specs.List.{list_any}
@@ -25,11 +25,11 @@ use Rattle.ud_model.specs.conditions.Table.{Argument}
 use Rattle.ud_model.specs.conditions.Tokens.{Token, number, name, defined, operator, opening}
 use Rattle.ud_model.specs.conditions.Tokens.{closing, NextToken, at_end, unreadable, found}
 use Rattle.ud_model.specs.conditions.Tokens.{next_token}
-use Rattle.ud_model.specs.conditions.Expressions.{Expression, constant, named, is_defined, unary}
+use Rattle.ud_model.specs.conditions.Expressions.{Expression, unary}
 use Rattle.ud_model.specs.conditions.Expressions.{binary, parens, spelling}
 use Rattle.ud_model.specs.aids.Parsing.{tokens_of, expression_of}
 use Rattle.ud_model.specs.conditions.Conditions.{Rules, tree_cond}
-use Rattle.ud_model.specs.conditions.Residuals.{Residual, is_unit, is_unknown, stands_alone}
+use Rattle.ud_model.specs.conditions.Residuals.{is_unit, is_unknown, stands_alone}
 use Rattle.ud_model.specs.conditions.Residuals.{residual, is_undecided}
 use Rattle.ud_model.specs.declared.operator.Operator.{Operator}
 use Rattle.ud_model.specs.declared.operator.Operator.TheVariants.{Or, And, BitOr, BitXor, BitAnd}

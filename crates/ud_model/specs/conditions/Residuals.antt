@@ -13,10 +13,10 @@
 --
 -- Example: with A undefined, `A || X` leaves `X`, `!A && (A || defined X)` leaves `defined X`, and
 -- `A + X > 2` stays.
-use Rattle.std.specs.Prelude.{◌≡◌, List, [], ◌∷◌, ◌++◌, Bool, true, false, not, ◌&&◌, ◌||◌}
+use Rattle.std.specs.Prelude.{◌≡◌, List, [], ◌∷◌, ◌++◌, Bool, true, false, not, ◌&&◌}
 use Rattle.std.specs.Prelude.{if◌then◌else◌}
 use Rattle.ud_model.specs.conditions.Table.{Argument}
-use Rattle.ud_model.specs.conditions.Expressions.{Expression, constant, named, is_defined, unary}
+use Rattle.ud_model.specs.conditions.Expressions.{Expression, is_defined, unary}
 use Rattle.ud_model.specs.conditions.Expressions.{binary, parens}
 use Rattle.ud_model.specs.conditions.Conditions.{Rules, tree_cond, negate}
 use Rattle.ud_model.specs.declared.cond.Cond.{Cond}

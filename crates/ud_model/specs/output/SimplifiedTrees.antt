@@ -5,7 +5,7 @@
 --   IsChosen table e b            by some numbers for the uses of the open names, C finds the
 --                                 condition `e` to be `b`
 --   IsChosenWorld table w ns      so does C for each condition that it evaluates in the world `w`
---   LineSimplified l k            `k` is the line `l`, or has what is left of its condition
+--   LineSimplified l k            `k` has the condition of the line `l`, or what is left of it
 --   NodesSimplified w v ns us     `us` are the nodes `ns` with such openers, and `v` gives each
 --                                 opener the truth that `w` gives the one from which it comes
 use Rattle.std.specs.Prelude.{◌≡◌, Bool, Option, Some, None, List}
@@ -34,9 +34,9 @@ abbrev pub IsChosenWorld : List Argument → World Reading → Nodes Reading →
 IsChosenWorld table w ns = EachReached w (λ o. IsChosen table (condition_in o.line) (w o.line)) ns
 
 module _ (table : List Argument) (rules : Rules) where
-  -- `LineSimplified l k`: `k` is the line `l`, or has what is left of its condition.
+  -- `LineSimplified l k`: `k` has the condition of the line `l`, or what is left of it.
   pub data LineSimplified : Reading → Reading → Type 0 where
-    line_stays : {l : Reading} → LineSimplified l l
+    condition_stays : {l k : Reading} → condition_in k ≡ condition_in l → LineSimplified l k
     operands_go : {l k : Reading} {e : Expression} → condition_in l ≡ Some e →
         condition_in k ≡ Some (residual table rules e).tree → LineSimplified l k
 

@@ -1,0 +1,146 @@
+-- The lines of a simplified text are the simplified lines.
+use Rattle.std.proofs.Common.{◌≡◌, ℕ, suc, ◌+◌, ◌-◌, List, [], ◌∷◌, ◌++◌, length, map, take, Bool, true, false, refl, sym, ◌∙◌, ap, ap₂, subst, ◌⊎◌, inl, inr, arith, length-append, if◌then◌else◌, nat_eq}
+use Rattle.std.specs.List.{ends_with}
+use Rattle.std.proofs.lemmas.List.{map-append, drop-map, take_at}
+use Rattle.ud_model.specs.text.Lines.{Line, NoNewline, IsWhole, IsUnterminated, AreFormed, text_of, ending_of, line_at, numbered_from, lines_of, texts_of}
+use Rattle.ud_model.specs.text.Scans.{Scan, Reading}
+use Rattle.ud_model.specs.text.Splicing.{content}
+use Rattle.ud_model.specs.text.Lexemes.{Cell}
+use Rattle.ud_model.specs.text.Scanning.{content_cells, next_reading}
+use Rattle.ud_model.specs.conditions.Table.{Argument}
+use Rattle.ud_model.specs.conditions.Conditions.{Rules}
+use Rattle.ud_model.specs.conditions.Sublists.{IsSublist, nothing, without, with_same}
+use Rattle.ud_model.specs.sections.Directives.{Directive}
+use Rattle.ud_model.specs.output.InsertedLines.{read_as, read_in}
+use Rattle.ud_model.specs.output.SimplifiedTexts.{keyword_end, condition_cells, left_cells_of, left_line, simplified_line, simplified_text}
+use Rattle.ud_model.specs.declared.kind.Mode.TheVariants.{C}
+use Rattle.ud_model.proofs.text.ScanBytes.{bytes-content_cells, content-prefix}
+use Rattle.ud_model.proofs.text.LinesLemmas.{no_newline-append, text_of-line_at, lines_exist, body-ending}
+use Rattle.ud_model.proofs.text.Pushes.{ByPush, none as nothing_pushed, push, by_push}
+use Rattle.ud_model.proofs.output.InsertedText.{read_more}
+use Rattle.ud_model.proofs.output.Formed.{IsEnd, whole_ending, ended, whole_body, no_feed_parts, no_feed_cut}
+use Rattle.ud_model.proofs.output.OutputPieces.{output_lines}
+use Rattle.ud_model.proofs.output.SimplifiedLines.{Becomes, it_stays, it_changes, becomes}
+use Rattle.ud_model.proofs.conditions.ResidualRead.{cells_go}
+
+abbrev byte_of : Cell → ℕ
+byte_of c = c.byte
+
+-- Cells that are left have no newline.
+fewer : {xs ys : List Cell} → IsSublist xs ys → NoNewline (map byte_of ys) → NoNewline (map byte_of xs)
+fewer nothing h = tt
+fewer (without p) h = fewer p h.1
+fewer (with_same p) h = (h.0, fewer p h.1)
+
+module _ (table : List Argument) (rules : Rules) where
+  -- An edited line has no newline in its body.
+  edited_body : (l : Line) (d : Directive) → NoNewline l.body → NoNewline (left_line table rules l d).body
+  edited_body l d h =
+      let p = content-prefix l in
+      let c : NoNewline (content l) = (no_feed_parts (content l) p.0 (subst NoNewline p.1 h)).0 in
+      let f : NoNewline (map byte_of (condition_cells l d)) =
+      subst NoNewline (drop-map byte_of (keyword_end d) (content_cells [] l)) (no_feed_cut (keyword_end d) (map byte_of (content_cells [] l)) (subst NoNewline (sym (bytes-content_cells [] l)) c)).1 in
+      no_newline-append (take (keyword_end d) l.body) (map byte_of (left_cells_of table rules l d)) (no_feed_cut (keyword_end d) l.body h).0
+      (fewer (cells_go table rules (condition_cells l d)) f)
+
+  cut_there : (b e : List ℕ) → take (length (b ++ e) - length e) (b ++ e) ≡ b
+  cut_there b e = take_at b e (length (b ++ e) - length e) (let a : length (b ++ e) ≡ length b + length e = length-append b e in omega (arith, a))
+
+  -- A line with its own ending is the line of its bytes.
+  own_line : (k : Line) → ending_of (text_of k) ≡ k.ending → k ≡ line_at k.number (text_of k)
+  own_line k e =
+      ap₂ (λ (b f : List ℕ). record { body = b; ending = f; number = k.number })
+      (sym (ap (λ (f : List ℕ). take (length (text_of k) - length f) (text_of k)) e ∙ cut_there k.body k.ending)) (sym e)
+
+  -- A line of a text, and what becomes of it.
+  record Left (n : ℕ) (t : List ℕ) (k : Line) : Type 0 where
+    pub is : k ≡ line_at n (text_of k)
+    pub whole : IsWhole t → IsWhole (text_of k)
+    pub open_line : IsUnterminated t → IsUnterminated (text_of k)
+
+  end_there : (b e t : List ℕ) → b ++ e ≡ t → NoNewline t → IsEnd e → ⊥
+  end_there b e t q n (inl h) = let r : NoNewline (13 ∷ 10 ∷ []) = subst NoNewline h (no_feed_parts b e (subst NoNewline (sym q) n)).1 in r.1.0 refl
+  end_there b e t q n (inr h) = let r : NoNewline (10 ∷ []) = subst NoNewline h (no_feed_parts b e (subst NoNewline (sym q) n)).1 in r.0 refl
+
+  unended : (t : List ℕ) → NoNewline t → IsEnd (ending_of t) → ⊥
+  unended t n h = end_there (take (length t - length (ending_of t)) t) (ending_of t) t (body-ending t) n h
+
+  abbrev end_by : Bool → Bool → List ℕ
+  end_by a b = if a then 13 ∷ 10 ∷ [] else if b then 10 ∷ [] else []
+
+  two_ends : (a b : Bool) → IsEnd (end_by a b) ⊎ (end_by a b ≡ [])
+  two_ends true b = inl (inl refl)
+  two_ends false true = inl (inr refl)
+  two_ends false false = inr refl
+
+  -- The ending of a line is one of two, or nothing.
+  an_end : (t : List ℕ) → IsEnd (ending_of t) ⊎ (ending_of t ≡ [])
+  an_end t = two_ends (ends_with nat_eq t (13 ∷ 10 ∷ [])) (ends_with nat_eq t (10 ∷ []))
+
+  no_end : (t : List ℕ) → NoNewline t → IsEnd (ending_of t) ⊎ (ending_of t ≡ []) → ending_of t ≡ []
+  no_end t n (inl h) = absurd (unended t n h)
+  no_end t n (inr h) = h
+
+  left_by : (n : ℕ) (t : List ℕ) (scan : Scan) (k : Line) → Becomes table rules (line_at n t) scan k → IsWhole t ⊎ IsUnterminated t → Left n t k
+  left_by n t scan _ it_stays f = record {
+    is = ap (λ (x : List ℕ). line_at n x) (sym (text_of-line_at n t));
+    whole = subst IsWhole (sym (text_of-line_at n t));
+    open_line = subst IsUnterminated (sym (text_of-line_at n t));
+  }
+  left_by n t scan _ (it_changes d i) (inl f) = record {
+    is = own_line (left_line table rules (line_at n t) d) i.ends;
+    whole = λ g. ended (left_line table rules (line_at n t) d).body (ending_of t) (edited_body (line_at n t) d (whole_body t f)) (whole_ending t f);
+    open_line = λ g. absurd (unended t g.1 (whole_ending t f));
+  }
+  left_by n t scan _ (it_changes d i) (inr f) = absurd (i.some (no_end t f.1 (an_end t)))
+
+  -- The lines that are read, with their numbers and texts.
+  data Numbered : ℕ → List (List ℕ) → List Reading → Type 0 where
+    none : {n : ℕ} → Numbered n [] []
+    next : {n : ℕ} {t : List ℕ} {ts : List (List ℕ)} {r : Reading} {rs : List Reading} → r.line ≡ line_at n t → Numbered (suc n) ts rs → Numbered n (t ∷ ts) (r ∷ rs)
+
+  numbered : (n : ℕ) (ts : List (List ℕ)) (rs : List Reading) → map (λ (r : Reading). r.line) rs ≡ numbered_from n ts → Numbered n ts rs
+  numbered n [] [] e = none
+  numbered n [] (r ∷ rs) e = cc
+  numbered n (t ∷ ts) [] e = cc
+  numbered n (t ∷ ts) (r ∷ rs) e =
+      let p : r.line ≡ line_at n t = cc in
+      let q : map (λ (r : Reading). r.line) rs ≡ numbered_from (suc n) ts = cc in
+      next p (numbered (suc n) ts rs q)
+
+  abbrev line_left : Reading → Line
+  line_left r = simplified_line table rules r
+
+  abbrev text_left : Reading → List ℕ
+  text_left r = text_of (line_left r)
+
+  left : (n : ℕ) (t : List ℕ) (r : Reading) → r.line ≡ line_at n t → IsWhole t ⊎ IsUnterminated t → Left n t (line_left r)
+  left n t r e f = left_by n t r.scan (line_left r) (subst (λ (l : Line). Becomes table rules l r.scan (line_left r)) e (becomes table rules r)) f
+
+  either_left : (n : ℕ) (t : List ℕ) (k : Line) → Left n t k → IsWhole t ⊎ IsUnterminated t → IsWhole (text_of k) ⊎ IsUnterminated (text_of k)
+  either_left n t k l (inl f) = inl (l.whole f)
+  either_left n t k l (inr f) = inr (l.open_line f)
+
+  all_left : {n : ℕ} {ts : List (List ℕ)} {rs : List Reading} → Numbered n ts rs → AreFormed ts → AreFormed (map text_left rs) × (map line_left rs ≡ numbered_from n (map text_left rs))
+  all_left none f = (tt, refl)
+  all_left {n = n} (next {t = t} {r = r} e none) f =
+      let l : Left n t (line_left r) = left n t r e f in
+      (either_left n t (line_left r) l f, ap (λ (k : Line). k ∷ []) l.is)
+  all_left {n = n} (next {t = t} {r = r} e (next {t = u} {ts = ts} {r = s} {rs = rs} g m)) f =
+      let l : Left n t (line_left r) = left n t r e (inl f.0) in
+      let q : AreFormed (map text_left (s ∷ rs)) × (map line_left (s ∷ rs) ≡ numbered_from (suc n) (map text_left (s ∷ rs))) =
+      all_left (next {r = s} {rs = rs} g m) f.1 in
+      ((l.whole f.0, q.0), ap₂ (λ (k : Line) (ks : List Line). k ∷ ks) l.is q.1)
+
+  read_back_by : {ls : List Line} → ByPush ls → map (λ (r : Reading). r.line) (read_in C ls) ≡ ls
+  read_back_by nothing_pushed = refl
+  read_back_by (push {xs = ls} l p) =
+      ap (λ (rs : List Reading). map (λ (r : Reading). r.line) rs) (read_more C ls l)
+      ∙ map-append (λ (r : Reading). r.line) (read_in C ls) (next_reading (read_in C ls) C l ∷ [])
+      ∙ ap (λ (ks : List Line). ks ++ l ∷ []) (read_back_by p)
+
+  -- The lines of the simplified text.
+  pub lines_left : (bytes : List ℕ) → lines_of (simplified_text table rules bytes) ≡ map (simplified_line table rules) (read_as C bytes)
+  lines_left bytes =
+      let a = all_left (numbered 1 (texts_of bytes) (read_as C bytes) (read_back_by (by_push (lines_of bytes)))) (lines_exist bytes).formed in
+      output_lines (map text_left (read_as C bytes)) a.0 ∙ sym a.1

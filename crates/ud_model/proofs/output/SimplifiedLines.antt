@@ -1,0 +1,189 @@
+-- Simplified lines: each line of a simplified text is that of the text, or stands alone and has what
+-- is left of its condition.
+use Rattle.std.proofs.Common.{◌≡◌, ◌≢◌, ℕ, ◌+◌, List, [], ◌∷◌, ◌++◌, length, map, drop, Bool, true, false, not, ◌&&◌, ◌||◌, Option, Some, None, if◌then◌else◌, bytes_eq, refl, sym, ◌∙◌, ap, ap₂, ◌⊎◌, inl, inr, arith, append_assoc, length-append}
+use Rattle.std.proofs.lemmas.List.{drop-map, drop_at}
+use Rattle.std.proofs.lemmas.Slice.Eq.{bytes_eq-Decides}
+use Rattle.ud_model.specs.text.Bytes.{number_sign}
+use Rattle.ud_model.specs.text.Lines.{Line, text_of, ending_of}
+use Rattle.ud_model.specs.text.Scans.{Scan, Reading, is_spanning}
+use Rattle.ud_model.specs.text.Splicing.{is_empty}
+use Rattle.ud_model.specs.text.Lexemes.{Cell, shown}
+use Rattle.ud_model.specs.text.Scanning.{content_cells, scan_after_run, scan_after}
+use Rattle.ud_model.specs.sections.Directives.{Content, cut_keyword, directive, text, Directive, content_of}
+use Rattle.ud_model.specs.sections.DirectiveParts.{HasDirective}
+use Rattle.ud_model.specs.conditions.Table.{Argument}
+use Rattle.ud_model.specs.conditions.Conditions.{Rules}
+use Rattle.ud_model.specs.conditions.Expressions.{Expression}
+use Rattle.ud_model.specs.conditions.Residuals.{residual}
+use Rattle.ud_model.specs.conditions.ResidualTexts.{simplified_cells, simplified_by}
+use Rattle.ud_model.specs.aids.Parsing.{expression_of}
+use Rattle.ud_model.specs.output.CSelection.{condition_in, condition_by, condition_after}
+use Rattle.ud_model.specs.output.SimplifiedTrees.{LineSimplified, condition_stays, operands_go}
+use Rattle.ud_model.specs.output.SimplifiedTexts.{keyword_end, condition_cells, same_if, has_condition, keeps_ending, is_lone, left_cells_of, left_line, is_read_back, may_change, line_by, simplified_line}
+use Rattle.ud_model.specs.declared.kind.Kind.{Kind}
+use Rattle.ud_model.specs.declared.kind.Kind.TheVariants.{If, Ifdef, Ifndef, Elif, Elifdef, Elifndef, Else, Endif}
+use Rattle.ud_model.specs.declared.kind.Mode.TheVariants.{C}
+use Rattle.ud_model.proofs.text.ScanBytes.{masked-content_cells}
+use Rattle.ud_model.proofs.sections.SplitLines.{directive_is}
+use Rattle.ud_model.proofs.conditions.ResidualRead.{read_as}
+
+both_true : (a b : Bool) → (a && b) ≡ true → (a ≡ true) × (b ≡ true)
+both_true true b e = (refl, e)
+both_true false b e = cc
+
+not_true : (a : Bool) → not a ≡ true → a ≡ false
+not_true true e = cc
+not_true false e = refl
+
+same_bytes : (xs ys : List ℕ) → bytes_eq xs ys ≡ true → xs ≡ ys
+same_bytes xs ys e = (bytes_eq-Decides xs ys).0 e
+
+not_empty : (e : List ℕ) → is_empty e ≡ false → e ≢ []
+not_empty e h q = let p : is_empty e ≡ true = ap is_empty q in let r : true ≡ false = sym p ∙ h in cc
+
+-- The same kind, which is `#if` or `#elif`.
+pub data SameIf : Kind → Kind → Type 0 where
+  both_if : SameIf If If
+  both_elif : SameIf Elif Elif
+
+same_kind : (k j : Kind) → same_if k j ≡ true → SameIf k j
+same_kind If If e = both_if
+same_kind Elif Elif e = both_elif
+same_kind If Ifdef e = cc
+same_kind If Ifndef e = cc
+same_kind If Elif e = cc
+same_kind If Elifdef e = cc
+same_kind If Elifndef e = cc
+same_kind If Else e = cc
+same_kind If Endif e = cc
+same_kind Elif If e = cc
+same_kind Elif Ifdef e = cc
+same_kind Elif Ifndef e = cc
+same_kind Elif Elifdef e = cc
+same_kind Elif Elifndef e = cc
+same_kind Elif Else e = cc
+same_kind Elif Endif e = cc
+same_kind Ifdef j e = cc
+same_kind Ifndef j e = cc
+same_kind Elifdef j e = cc
+same_kind Elifndef j e = cc
+same_kind Else j e = cc
+same_kind Endif j e = cc
+
+module _ (table : List Argument) (rules : Rules) where
+  -- The line `l` with this scan has the directive `d`, and was edited.
+  pub record IsEdited (l : Line) (scan : Scan) (d : Directive) : Type 0 where
+    pub has : content_of scan ≡ directive d
+    pub lone : is_spanning scan ≡ false
+    pub some : l.ending ≢ []
+    pub ends : ending_of (text_of (left_line table rules l d)) ≡ l.ending
+    pub alone : (scan_after_run [] (left_line table rules l d)).joins_after ≡ false
+    pub now : Directive
+    pub has_now : content_of (scan_after_run [] (left_line table rules l d)) ≡ directive now
+    pub kind : SameIf d.kind now.kind
+    pub after : now.after ≡ map shown (left_cells_of table rules l d)
+
+  -- What becomes of a line.
+  pub data Becomes (l : Line) (scan : Scan) : Line → Type 0 where
+    it_stays : Becomes l scan l
+    it_changes : (d : Directive) → IsEdited l scan d → Becomes l scan (left_line table rules l d)
+
+  the_condition : (kind : Kind) (after : List ℕ) (c : Content) → has_condition kind after c ≡ true → (d : Directive) × (c ≡ directive d) × SameIf kind d.kind × (d.after ≡ after)
+  the_condition kind after (directive d) e =
+      let p : (same_if kind d.kind ≡ true) × (bytes_eq d.after after ≡ true) = both_true (same_if kind d.kind) (bytes_eq d.after after) e in
+      (d, refl, same_kind kind d.kind p.0, same_bytes d.after after p.1)
+  the_condition kind after cut_keyword e = cc
+  the_condition kind after text e = cc
+
+  edited : (l : Line) (scan : Scan) (d : Directive) → content_of scan ≡ directive d → may_change table rules scan l d ≡ true → IsEdited l scan d
+  edited l scan d h e =
+      let k : Line = left_line table rules l d in
+      let s : Scan = scan_after_run [] k in
+      let p : (is_lone scan l ≡ true) × ((keeps_ending k && is_read_back table rules l d s) ≡ true) = both_true (is_lone scan l) (keeps_ending k && is_read_back table rules l d s) e in
+      let q : (keeps_ending k ≡ true) × (is_read_back table rules l d s ≡ true) = both_true (keeps_ending k) (is_read_back table rules l d s) p.1 in
+      let r : (not (is_spanning scan) ≡ true) × (not (is_empty l.ending) ≡ true) = both_true (not (is_spanning scan)) (not (is_empty l.ending)) p.0 in
+      let t : (not s.joins_after ≡ true) × (has_condition d.kind (map shown (left_cells_of table rules l d)) (content_of s) ≡ true) =
+      both_true (not s.joins_after) (has_condition d.kind (map shown (left_cells_of table rules l d)) (content_of s)) q.1 in
+      let c = the_condition d.kind (map shown (left_cells_of table rules l d)) (content_of s) t.1 in
+      record {
+        has = h;
+        lone = not_true (is_spanning scan) r.0;
+        some = not_empty l.ending (not_true (is_empty l.ending) r.1);
+        ends = same_bytes (ending_of (text_of k)) l.ending q.0;
+        alone = not_true s.joins_after t.0;
+        now = c.0;
+        has_now = c.1;
+        kind = c.2;
+        after = c.3;
+      }
+
+  becomes_by : (l : Line) (scan : Scan) (c : Content) → content_of scan ≡ c → Becomes l scan (line_by table rules scan l c)
+  becomes_by l scan cut_keyword e = it_stays
+  becomes_by l scan text e = it_stays
+  becomes_by l scan (directive d) e = by (may_change table rules scan l d) refl
+    where
+      by : (b : Bool) → may_change table rules scan l d ≡ b → Becomes l scan (if b then left_line table rules l d else l)
+      by true q = it_changes d (edited l scan d e q)
+      by false q = it_stays
+
+  pub becomes : (r : Reading) → Becomes r.line r.scan (simplified_line table rules r)
+  becomes r = becomes_by r.line r.scan (content_of r.scan) refl
+
+  -- The text after a keyword, by its cells.
+  after_is : (l : Line) (scan : Scan) (d : Directive) → scan ≡ scan_after [] C l → content_of scan ≡ directive d → map shown (condition_cells l d) ≡ d.after
+  after_is l scan d e h =
+      let i : HasDirective scan d = (directive_is scan d).0 h in
+      let front : List ℕ = i.parts.white ++ number_sign ∷ (i.parts.gap ++ i.parts.word) in
+      let split : scan.masked ≡ front ++ i.parts.rest =
+      i.are.joined ∙ sym (append_assoc i.parts.white (number_sign ∷ (i.parts.gap ++ i.parts.word)) i.parts.rest
+      ∙ ap (λ (x : List ℕ). i.parts.white ++ number_sign ∷ x) (append_assoc i.parts.gap i.parts.word i.parts.rest)) in
+      let a : length front ≡ length i.parts.white + length (number_sign ∷ (i.parts.gap ++ i.parts.word)) = length-append i.parts.white (number_sign ∷ (i.parts.gap ++ i.parts.word)) in
+      let b : length (i.parts.gap ++ i.parts.word) ≡ length i.parts.gap + length i.parts.word = length-append i.parts.gap i.parts.word in
+      let n : keyword_end d ≡ length front = ap₂ (λ (x y : ℕ). x + y) i.at i.len ∙ omega (arith, a, b) in
+      sym (drop-map shown (keyword_end d) (content_cells [] l))
+      ∙ ap (λ (x : List ℕ). drop (keyword_end d) x) (sym (masked-content_cells [] l) ∙ ap (λ (s : Scan). s.masked) (sym e) ∙ split)
+      ∙ drop_at front i.parts.rest (keyword_end d) (sym n) ∙ sym i.after
+
+  untouched : (cells : List Cell) → expression_of (map shown cells) ≡ None → simplified_cells table rules cells ≡ cells
+  unfolding simplified_cells
+  untouched cells e = ap (λ o. simplified_by table rules o cells) e
+
+  option_is : {A : Type 0} (o : Option A) → (o ≡ None) ⊎ ((x : A) × (o ≡ Some x))
+  option_is None = inl refl
+  option_is (Some x) = inr (x, refl)
+
+  -- The condition of an edited line is what is left, or the condition.
+  conditions : (l k : Reading) (cells : List Cell) → condition_in l ≡ expression_of (map shown cells) →
+      condition_in k ≡ expression_of (map shown (simplified_cells table rules cells)) → LineSimplified table rules l k
+  conditions l k cells p q = go (option_is (expression_of (map shown cells)))
+    where
+      by : (e : Expression) → expression_of (map shown cells) ≡ Some e →
+          (f : Expression) × (expression_of (map shown (simplified_cells table rules cells)) ≡ Some f) × ((f ≡ e) ⊎ (f ≡ (residual table rules e).tree)) → LineSimplified table rules l k
+      by e i (f, j, inl s) = condition_stays (q ∙ j ∙ ap (λ (x : Expression). Some x) s ∙ sym (p ∙ i))
+      by e i (f, j, inr s) = operands_go (p ∙ i) (q ∙ j ∙ ap (λ (x : Expression). Some x) s)
+
+      go : (expression_of (map shown cells) ≡ None) ⊎ ((e : Expression) × (expression_of (map shown cells) ≡ Some e)) → LineSimplified table rules l k
+      go (inl n) = condition_stays (q ∙ ap (λ (x : List Cell). expression_of (map shown x)) (untouched cells n) ∙ sym p)
+      go (inr (e, i)) = by e i (read_as table rules e cells i)
+
+  shown_by : (scan : Scan) (d : Directive) (c : Content) → c ≡ directive d → scan.joins_after ≡ false → condition_by scan c ≡ condition_after d.kind d.after
+  shown_by scan d c e h = ap (λ (x : Content). condition_by scan x) e ∙ ap (λ (b : Bool). if b then None else condition_after d.kind d.after) h
+
+  first_of : (j : Kind) (k : Kind) (after : List ℕ) → SameIf j k → (condition_after j after ≡ expression_of after) × (condition_after k after ≡ expression_of after)
+  first_of _ _ after both_if = (refl, refl)
+  first_of _ _ after both_elif = (refl, refl)
+
+  spans : (a b : Bool) → (a || b) ≡ false → (a ≡ false) × (b ≡ false)
+  spans false false e = (refl, refl)
+  spans true b e = cc
+  spans false true e = cc
+
+  -- The edited line has what is left of the condition.
+  pub line_simplified : (l k : Reading) (d : Directive) → IsEdited l.line l.scan d → l.scan ≡ scan_after [] C l.line →
+      k.scan ≡ scan_after_run [] (left_line table rules l.line d) → LineSimplified table rules l k
+  line_simplified l k d i e f =
+      conditions l k (condition_cells l.line d)
+      (shown_by l.scan d (content_of l.scan) i.has (spans l.scan.joins_before l.scan.joins_after i.lone).1
+      ∙ (first_of d.kind i.now.kind d.after i.kind).0 ∙ ap expression_of (sym (after_is l.line l.scan d e i.has)))
+      (shown_by k.scan i.now (content_of k.scan) (ap content_of f ∙ i.has_now) (ap (λ (s : Scan). s.joins_after) f ∙ i.alone)
+      ∙ (first_of d.kind i.now.kind i.now.after i.kind).1 ∙ ap expression_of i.after)
