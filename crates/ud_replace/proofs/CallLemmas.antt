@@ -2,7 +2,7 @@
 use Rattle.std.proofs.Common.{◌≡◌, ◌||◌, ℕ, List, [], ◌++◌, take, Bool, true, false, Option, Some, None, Ok, Err, refl, sym, ◌∙◌, true≢false}
 use Rattle.std.specs.Prelude.{bytes_eq, if◌then◌else◌, option_map}
 use Rattle.std.proofs.lemmas.Slice.Eq.{bytes_eq-Decides}
-use Rattle.ud_replace.specs.Calls.{Call, was_read, asked, made, appended, given, looked, renamed, overwrote, removed, walked}
+use Rattle.ud_replace.specs.Calls.{Call, was_read, asked, made, appended, given, synced, looked, renamed, overwrote, removed, walked}
 use Rattle.ud_replace.specs.Moments.{Files, after, touches}
 
 -- a choice by a test that fails
@@ -38,6 +38,7 @@ untouched (made m (Err e)) f n h = refl
 untouched (appended m rest (Some k)) f n h = if_false (bytes_eq n m) (option_map (λ t. t ++ take k rest) (f n)) (f n) h
 untouched (appended m rest None) f n h = refl
 untouched (given m like ok) f n h = refl
+untouched (synced m ok) f n h = refl
 untouched (looked m seen) f n h = refl
 untouched (renamed from to true) f n h =
     if_false (bytes_eq n to) (f from) (if bytes_eq n from then None else f n) (or_right (bytes_eq n from) (bytes_eq n to) h)

@@ -6,10 +6,10 @@ use Rattle.ud_model.specs.answer.Outcomes.{Outcome, HasOutcome}
 use Rattle.ud_replace.specs.declared.error.Update.{Update}
 use Rattle.ud_replace.specs.declared.error.ReplaceError.{ReplaceError}
 use Rattle.ud_replace.specs.declared.stat.FileStat.{FileStat}
-use Rattle.ud_replace.specs.Calls.{Call, was_read, asked, made, appended, given, looked, renamed, removed}
-use Rattle.ud_replace.specs.Filling.{Takes, nothing, part, AppendsAll, all, stopped, LooksAgain, seen_same, seen_other, Fills, filled, not_taken, not_given, changed, not_renamed}
+use Rattle.ud_replace.specs.Calls.{Call, was_read, asked, made, appended, given, synced, looked, renamed, removed}
+use Rattle.ud_replace.specs.Filling.{Takes, nothing, part, AppendsAll, all, stopped, LooksAgain, seen_same, seen_other, Confirms, as_before, same_bytes, other_bytes, not_read, Fills, filled, not_taken, not_given, not_synced, changed, not_renamed}
 use Rattle.ud_replace.specs.Replacing.{Renames, renames, removes, not_made, denied, denied_writes}
-use Rattle.ud_replace.specs.Replacing.{Puts, read_only, one_link, several, several_writes}
+use Rattle.ud_replace.specs.Replacing.{PutsConfirmed, one_link, several, several_writes, Puts, read_only, other_text, confirmed}
 use Rattle.ud_replace.specs.Replacing.{Judges, no_memory, faulty, same, differs, Replaces, unread, judged}
 use Rattle.ud_replace.specs.Moments.{Files, content, AreTrue, EachCall, no_call, then_call, HasOutput, OldOrNew, touches}
 use Rattle.ud_replace.proofs.CallLemmas.{if_false, if_true, same_name, name_of_test, untouched, extended}
@@ -57,8 +57,16 @@ quiet_looks {name = name} q (seen_other seen version e) = quiet_at e (quiet_next
 
 -- the fresh file is filled, up to the last look
 quiet_filled : {o : Options} {name fresh text : List ℕ} {stat : FileStat} {first : Files} {old base new : List Call} {found : Bool} (taken : List Call) →
-    Apart first old fresh → Quiet o name first old base → AppendsAll fresh text base taken true → LooksAgain name stat (given fresh stat true ∷ taken) new found → Quiet o name first old new
-quiet_filled {fresh = fresh} {stat = stat} taken a q h l = quiet_looks (quiet_next (given fresh stat true) (quiet_appends a q h) a) l
+    Apart first old fresh → Quiet o name first old base → AppendsAll fresh text base taken true → LooksAgain name stat (synced fresh true ∷ given fresh stat true ∷ taken) new found → Quiet o name first old new
+quiet_filled {fresh = fresh} {stat = stat} taken a q h l = quiet_looks (quiet_next (synced fresh true) (quiet_next (given fresh stat true) (quiet_appends a q h) a) (λ n bytes h. refl)) l
+
+-- the file is looked at or read once more
+quiet_confirms : {o : Options} {name text : List ℕ} {stat : FileStat} {first : Files} {old base new : List Call} {s : Option FileStat} →
+    Quiet o name first old base → Confirms name text stat base new s → Quiet o name first old new
+quiet_confirms q (as_before l) = quiet_looks q l
+quiet_confirms {name = name} {text = text} q (same_bytes calls seen l is) = quiet_at is (quiet_next (was_read name text (Some seen)) (quiet_looks q l) (λ n bytes h. refl))
+quiet_confirms {name = name} q (other_bytes calls again seen l other is) = quiet_at is (quiet_next (was_read name again (Some seen)) (quiet_looks q l) (λ n bytes h. refl))
+quiet_confirms {name = name} q (not_read calls again l is) = quiet_at is (quiet_next (was_read name again None) (quiet_looks q l) (λ n bytes h. refl))
 
 -- a rename that failed
 quiet_not_renamed : {o : Options} {name fresh : List ℕ} {first : Files} {old calls : List Call} → Quiet o name first old calls → Quiet o name first old (renamed fresh name false ∷ calls)
@@ -69,6 +77,7 @@ quiet_fills : {o : Options} {name fresh text : List ℕ} {stat : FileStat} {firs
     Apart first old fresh → Quiet o name first old base → Fills name fresh text stat base new (Err e) → Quiet o name first old new
 quiet_fills e a q (not_taken h) = quiet_appends a q h
 quiet_fills {fresh = fresh} {stat = stat} e a q (not_given taken h is) = quiet_at is (quiet_next (given fresh stat false) (quiet_appends a q h) a)
+quiet_fills {fresh = fresh} {stat = stat} e a q (not_synced taken h is) = quiet_at is (quiet_next (synced fresh false) (quiet_next (given fresh stat true) (quiet_appends a q h) a) (λ n bytes h. refl))
 quiet_fills e a q (changed taken h l) = quiet_filled taken a q h l
 quiet_fills e a q (not_renamed taken seen h l is) = quiet_at is (quiet_not_renamed (quiet_filled taken a q h l))
 
@@ -102,14 +111,15 @@ true_looks first (seen_same seen version e) t = (true_at first e t).1
 true_looks first (seen_other seen version e) t = (true_at first e t).1
 
 true_filled : (first : Files) {name fresh text : List ℕ} {stat : FileStat} {base new : List Call} {found : Bool} (taken : List Call) →
-    AppendsAll fresh text base taken true → LooksAgain name stat (given fresh stat true ∷ taken) new found → AreTrue first new → AreTrue first base
-true_filled first taken h l t = true_appends first h (true_looks first l t).1
+    AppendsAll fresh text base taken true → LooksAgain name stat (synced fresh true ∷ given fresh stat true ∷ taken) new found → AreTrue first new → AreTrue first base
+true_filled first taken h l t = true_appends first h (true_looks first l t).1.1
 
 true_fills : (first : Files) {name fresh text : List ℕ} {stat : FileStat} {base new : List Call} {r : Result Unit ReplaceError} →
     Fills name fresh text stat base new r → AreTrue first new → AreTrue first base
 true_fills first (filled taken seen h l is) t = true_filled first taken h l (true_at first is t).1
 true_fills first (not_taken h) t = true_appends first h t
 true_fills first (not_given taken h is) t = true_appends first h (true_at first is t).1
+true_fills first (not_synced taken h is) t = true_appends first h (true_at first is t).1.1
 true_fills first (changed taken h l) t = true_filled first taken h l t
 true_fills first (not_renamed taken seen h l is) t = true_filled first taken h l (true_at first is t).1
 
@@ -185,13 +195,19 @@ moments_renames {fresh = fresh} a has sound read q t (not_made is) = moments_at 
 moments_renames {fresh = fresh} a has sound read q t (denied not_into is) = moments_at is (then_call q.each (λ n bytes h. inl (q.kept n bytes h)))
 moments_renames a has sound read q t (denied_writes into h) = absurd (true≢false (sym into))
 
+moments_confirmed : {o : Options} {name fresh text : List ℕ} {stat : FileStat} {first : Files} {old base new : List Call} {r : Result Update ReplaceError} (a : Outcome) →
+    HasOutcome o text a → a.fault ≡ None → content first old name ≡ Some text → Quiet o name first old base → AreTrue first new →
+    PutsConfirmed false name fresh text a.output stat base new r → Moments o name first old new
+moments_confirmed a has sound read q t (one_link few h) = moments_renames a has sound read q t h
+moments_confirmed a has sound read q t (several many not_into is) = (quiet_at is q).each
+moments_confirmed a has sound read q t (several_writes many into h) = absurd (true≢false (sym into))
+
 moments_puts : {o : Options} {name fresh text : List ℕ} {stat : FileStat} {first : Files} {old base new : List Call} {r : Result Update ReplaceError} (a : Outcome) →
     HasOutcome o text a → a.fault ≡ None → content first old name ≡ Some text → Quiet o name first old base → AreTrue first new →
     Puts false name fresh text a.output stat base new r → Moments o name first old new
 moments_puts {name = name} a has sound read q t (read_only is) = (quiet_at is (quiet_next (asked name false) q (λ n bytes h. refl))).each
-moments_puts {name = name} a has sound read q t (one_link few h) = moments_renames a has sound read (quiet_next (asked name true) q (λ n bytes h. refl)) t h
-moments_puts {name = name} a has sound read q t (several many not_into is) = (quiet_at is (quiet_next (asked name true) q (λ n bytes h. refl))).each
-moments_puts a has sound read q t (several_writes many into h) = absurd (true≢false (sym into))
+moments_puts {name = name} a has sound read q t (other_text l) = (quiet_confirms (quiet_next (asked name true) q (λ n bytes h. refl)) l).each
+moments_puts {name = name} a has sound read q t (confirmed mid seen l h) = moments_confirmed a has sound read (quiet_confirms (quiet_next (asked name true) q (λ n bytes h. refl)) l) t h
 
 true_renames : (first : Files) {name fresh before text : List ℕ} {stat : FileStat} {base new : List Call} {r : Result Update ReplaceError} →
     Renames false name fresh before text stat base new r → AreTrue first new → AreTrue first base
@@ -201,12 +217,24 @@ true_renames first (not_made is) t = (true_at first is t).1
 true_renames first (denied not_into is) t = (true_at first is t).1
 true_renames first (denied_writes into h) t = absurd (true≢false (sym into))
 
+true_confirms : (first : Files) {name text : List ℕ} {stat : FileStat} {base new : List Call} {s : Option FileStat} →
+    Confirms name text stat base new s → AreTrue first new → AreTrue first base
+true_confirms first (as_before l) t = true_looks first l t
+true_confirms first (same_bytes calls seen l is) t = true_looks first l (true_at first is t).1
+true_confirms first (other_bytes calls again seen l other is) t = true_looks first l (true_at first is t).1
+true_confirms first (not_read calls again l is) t = true_looks first l (true_at first is t).1
+
+true_confirmed : (first : Files) {name fresh before text : List ℕ} {stat : FileStat} {base new : List Call} {r : Result Update ReplaceError} →
+    PutsConfirmed false name fresh before text stat base new r → AreTrue first new → AreTrue first base
+true_confirmed first (one_link few h) t = true_renames first h t
+true_confirmed first (several many not_into is) t = true_at first is t
+true_confirmed first (several_writes many into h) t = absurd (true≢false (sym into))
+
 true_puts : (first : Files) {name fresh before text : List ℕ} {stat : FileStat} {base new : List Call} {r : Result Update ReplaceError} →
     Puts false name fresh before text stat base new r → AreTrue first new → AreTrue first base
 true_puts first (read_only is) t = (true_at first is t).1
-true_puts first (one_link few h) t = (true_renames first h t).1
-true_puts first (several many not_into is) t = (true_at first is t).1
-true_puts first (several_writes many into h) t = absurd (true≢false (sym into))
+true_puts first (other_text l) t = (true_confirms first l t).1
+true_puts first (confirmed mid seen l h) t = (true_confirms first l (true_confirmed first h t)).1
 
 -- nothing was asked but to read the file
 quiet_read : (o : Options) (name : List ℕ) (first : Files) (old : List Call) (text : List ℕ) (seen : Option FileStat) → Quiet o name first old (was_read name text seen ∷ old)

@@ -1,16 +1,19 @@
 -- A relation between calls goes on from the calls that the step before made.
-use Rattle.std.proofs.Common.{◌≡◌, ℕ, List, Bool, true, false, Result, Err, refl, subst}
+use Rattle.std.proofs.Common.{◌≡◌, ℕ, List, Bool, true, false, Option, Result, Err, refl, subst}
 use Rattle.ud_model.specs.sections.Items.{Options}
 use Rattle.ud_faults.specs.declared.run.RunFault.{RunFault}
 use Rattle.ud_replace.specs.declared.error.Update.{Update}
 use Rattle.ud_replace.specs.declared.error.ReplaceError.{ReplaceError}
 use Rattle.ud_replace.specs.declared.stat.FileStat.{FileStat}
 use Rattle.ud_replace.specs.Calls.{Call}
-use Rattle.ud_replace.specs.Filling.{LooksAgain, Fills}
+use Rattle.ud_replace.specs.Filling.{LooksAgain, Confirms, Fills}
 use Rattle.ud_replace.specs.Replacing.{Overwrites, Renames, Puts, Judges}
 
 pub looks_from : {name : List ℕ} {stat : FileStat} {old base new : List Call} {b : Bool} → old ≡ base → LooksAgain name stat old new b → LooksAgain name stat base new b
 looks_from {name = name} {stat = stat} {new = new} {b = b} e h = subst (λ (l : List Call). LooksAgain name stat l new b) e h
+
+pub confirms_from : {name text : List ℕ} {stat : FileStat} {old base new : List Call} {s : Option FileStat} → old ≡ base → Confirms name text stat old new s → Confirms name text stat base new s
+confirms_from {name = name} {text = text} {stat = stat} {new = new} {s = s} e h = subst (λ (l : List Call). Confirms name text stat l new s) e h
 
 pub fills_from : {name fresh text : List ℕ} {stat : FileStat} {old base new : List Call} {r : Result Unit ReplaceError} → old ≡ base → Fills name fresh text stat old new r → Fills name fresh text stat base new r
 fills_from {name = name} {fresh = fresh} {text = text} {stat = stat} {new = new} {r = r} e h = subst (λ (l : List Call). Fills name fresh text stat l new r) e h

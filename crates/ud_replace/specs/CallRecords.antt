@@ -7,10 +7,10 @@ use Rattle.ud_replace.specs.declared.call.FolderWalk.{FolderWalk}
 use Rattle.ud_replace.specs.declared.call.FolderWalk.TheVariants.{Met, Followed, Listed}
 use Rattle.ud_replace.specs.declared.call.FolderCall.{FolderCall}
 use Rattle.ud_replace.specs.declared.call.FolderCall.TheVariants.{Read, MayWrite, Create, Append}
-use Rattle.ud_replace.specs.declared.call.FolderCall.TheVariants.{SetModeAndOwner, Look, Rename}
+use Rattle.ud_replace.specs.declared.call.FolderCall.TheVariants.{SetModeAndOwner, Sync, Look, Rename}
 use Rattle.ud_replace.specs.declared.call.FolderCall.TheVariants.{Overwrite, Remove, Walk}
-use Rattle.ud_replace.specs.Calls.{Call, was_read, asked, made, appended, given, looked, renamed}
-use Rattle.ud_replace.specs.Calls.{overwrote, removed, walked}
+use Rattle.ud_replace.specs.Calls.{Call, was_read, asked, made, appended, given, synced, looked}
+use Rattle.ud_replace.specs.Calls.{renamed, overwrote, removed, walked}
 use Rattle.ud_replace.specs.Calls.{WalkCall, met, followed, listed}
 
 -- `walk_call_of w`: the same call over the bytes to which `w` refers.
@@ -26,6 +26,7 @@ call_of (MayWrite name answer) = asked name.now answer
 call_of (Create name answer) = made name.now answer
 call_of (Append name bytes answer) = appended name.now bytes.now answer
 call_of (SetModeAndOwner name like answer) = given name.now like answer
+call_of (Sync name answer) = synced name.now answer
 call_of (Look name answer) = looked name.now answer
 call_of (Rename from to answer) = renamed from.now to.now answer
 call_of (Overwrite name text answer) = overwrote name.now text.now answer

@@ -28,6 +28,8 @@ pub data Call : Type 0 where
   appended : List ℕ → List ℕ → Option ℕ → Call
   -- `given name like answer`: the file got the mode and the owner of `like`, or not
   given : List ℕ → FileStat → Bool → Call
+  -- `synced name answer`: the bytes of the file are on the disk, or not
+  synced : List ℕ → Bool → Call
   -- `looked name answer`: what is known of the file
   looked : List ℕ → Option FileStat → Call
   -- `renamed from to answer`: the file `from` was renamed to `to`, or not

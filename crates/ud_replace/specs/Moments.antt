@@ -18,9 +18,9 @@ use Rattle.std.specs.Prelude.{option_map}
 use Rattle.ud_model.specs.sections.Items.{Options}
 use Rattle.ud_model.specs.answer.Outcomes.{Outcome, HasOutcome}
 use Rattle.ud_replace.specs.declared.stat.FileStat.{FileStat}
-use Rattle.ud_replace.specs.Calls.{Call, was_read, asked, made, appended, given, looked, renamed}
-use Rattle.ud_replace.specs.Calls.{overwrote, removed, walked}
-use Rattle.ud_replace.specs.Filling.{Takes}
+use Rattle.ud_replace.specs.Calls.{Call, was_read, asked, made, appended, given, synced, looked}
+use Rattle.ud_replace.specs.Calls.{renamed, overwrote, removed, walked}
+use Rattle.ud_replace.specs.Filling.{Takes, Confirms}
 
 -- `Files`: the bytes of each file, by its name; `None` if no file has the name.
 abbrev pub Files : Type 0
@@ -37,6 +37,7 @@ after (appended m rest (Some k)) f n =
     if bytes_eq n m then option_map (λ t. t ++ take k rest) (f n) else f n
 after (appended m rest None) f n = f n
 after (given m like ok) f n = f n
+after (synced m ok) f n = f n
 after (looked m seen) f n = f n
 after (renamed from to true) f n =
     if bytes_eq n to then f from else if bytes_eq n from then None else f n
@@ -61,6 +62,7 @@ IsTrueOf (made m (Ok u)) f = f m ≡ None
 IsTrueOf (made m (Err e)) f = Unit {0}
 IsTrueOf (appended m rest taken) f = Unit {0}
 IsTrueOf (given m like ok) f = Unit {0}
+IsTrueOf (synced m ok) f = Unit {0}
 IsTrueOf (looked m seen) f = Unit {0}
 IsTrueOf (renamed from to ok) f = Unit {0}
 IsTrueOf (overwrote m text ok) f = Unit {0}
@@ -105,26 +107,32 @@ touches (asked m may) n = false
 touches (made m answer) n = bytes_eq n m
 touches (appended m rest taken) n = bytes_eq n m
 touches (given m like ok) n = bytes_eq n m
+touches (synced m ok) n = false
 touches (looked m seen) n = false
 touches (renamed from to ok) n = bytes_eq n from || bytes_eq n to
 touches (overwrote m text ok) n = bytes_eq n m
 touches (removed m gone) n = bytes_eq n m
 touches (walked w) n = false
 
--- `TookOutput o name fresh old calls`: after `old`, `name` was read. Then `fresh` was made, and
--- took all of the output for these bytes. It got the mode of `name`, which was looked at again.
+-- `TookOutput o name fresh old calls`: after `old`, `name` was read, and it still had these bytes
+-- once the user was found to be allowed to write into it. Then `fresh` was made, and took all of the
+-- output for these bytes. It got the mode of `name`, and its bytes reached the disk. At last `name`
+-- was looked at again.
 pub record TookOutput (o : Options) (name fresh : List ℕ) (old calls : List Call) : Type 0 where
   pub text : List ℕ
+  pub first : FileStat
   pub stat : FileStat
+  pub mid : List Call
+  pub confirms : Confirms name text first
+      (asked name true ∷ was_read name text (Some first) ∷ old) mid (Some stat)
   pub outcome : Outcome
   pub has : HasOutcome o text outcome
   pub no_fault : outcome.fault ≡ None
   pub taken : List Call
-  pub took : Takes fresh
-      (made fresh (Ok tt) ∷ asked name true ∷ was_read name text (Some stat) ∷ old)
-      outcome.output taken
+  pub took : Takes fresh (made fresh (Ok tt) ∷ mid) outcome.output taken
   pub seen : FileStat
-  pub calls_are : calls ≡ looked name (Some seen) ∷ given fresh stat true ∷ taken
+  pub calls_are : calls ≡
+      looked name (Some seen) ∷ synced fresh true ∷ given fresh stat true ∷ taken
   pub version : seen.version ≡ stat.version
 
 -- `TouchesFreshOnly o name fresh old c earlier`: after `earlier`, the call `c` touches no file but

@@ -2,10 +2,11 @@
 --
 --   Overwrites name before text stat old new r           the output is written into the file
 --   Renames into name fresh before text stat old new r   a file with the output is renamed over it
---   Puts into name fresh before text stat old new r      one of the two
+--   PutsConfirmed into name fresh before text stat old new r   one of the two
+--   Puts into name fresh before text stat old new r      the same, if the file is still as it was
 --   Judges o into name fresh text stat old new r         what follows once the file is read
 --   Replaces o into name fresh old new r                 all calls of `replace`, which returned `r`
---   PutsAt, JudgesAt, ReplacesAt, KeepsAt                the same of a `Target`
+--   PutsConfirmedAt, PutsAt, JudgesAt, ReplacesAt, KeepsAt                the same of a `Target`
 --   IsOutputOf o text output                             the output of the outcome of a text
 --   Keeps o into name fresh old new r output             the same calls, and the output of the text
 --
@@ -27,7 +28,7 @@ use Rattle.ud_replace.specs.declared.folder.CreateError.TheVariants.{Denied, Fai
 use Rattle.ud_replace.specs.declared.stat.FileStat.{FileStat}
 use Rattle.ud_replace.specs.declared.replacement.Target.{Target}
 use Rattle.ud_replace.specs.Calls.{Call, was_read, asked, made, overwrote, removed}
-use Rattle.ud_replace.specs.Filling.{LooksAgain, Fills}
+use Rattle.ud_replace.specs.Filling.{LooksAgain, Confirms, Fills}
 
 -- `Overwrites name before text stat old new r`: the file was looked at again, and its version was
 -- that of `stat`. Then `text` was written into it. If that failed, its old bytes `before` were.
@@ -63,20 +64,31 @@ pub data Renames (into : Bool) (name fresh before text : List ℕ) (stat : FileS
       Overwrites name before text stat (made fresh (Err Denied) ∷ old) new r →
       Renames into name fresh before text stat old new r
 
--- `Puts into name fresh before text stat old new r`: if the user may write into the file, a file
--- with one link is replaced by another one. One with several links is written into, but only if
--- `into`.
+-- `PutsConfirmed into name fresh before text stat old new r`: a file with one link is replaced by
+-- another one. One with several links is written into, but only if `into`.
+pub data PutsConfirmed (into : Bool) (name fresh before text : List ℕ) (stat : FileStat)
+    (old new : List Call) : Result Update ReplaceError → Type 0 where
+  one_link : {r : Result Update ReplaceError} → stat.links ≤ 1 →
+      Renames into name fresh before text stat old new r →
+      PutsConfirmed into name fresh before text stat old new r
+  several : 1 < stat.links → into ≡ false → new ≡ old →
+      PutsConfirmed into name fresh before text stat old new (Err SeveralLinks)
+  several_writes : {r : Result Update ReplaceError} → 1 < stat.links → into ≡ true →
+      Overwrites name before text stat old new r →
+      PutsConfirmed into name fresh before text stat old new r
+
+-- `Puts into name fresh before text stat old new r`: the output was put in the file's place, if the
+-- user may write into the file and it then still has the bytes `before`. From here on, what is known
+-- of it then counts: the question may give the file another version, as in an overlay file system.
 pub data Puts (into : Bool) (name fresh before text : List ℕ) (stat : FileStat)
     (old new : List Call) : Result Update ReplaceError → Type 0 where
   read_only : new ≡ asked name false ∷ old →
       Puts into name fresh before text stat old new (Err ReadOnly)
-  one_link : {r : Result Update ReplaceError} → stat.links ≤ 1 →
-      Renames into name fresh before text stat (asked name true ∷ old) new r →
-      Puts into name fresh before text stat old new r
-  several : 1 < stat.links → into ≡ false → new ≡ asked name true ∷ old →
-      Puts into name fresh before text stat old new (Err SeveralLinks)
-  several_writes : {r : Result Update ReplaceError} → 1 < stat.links → into ≡ true →
-      Overwrites name before text stat (asked name true ∷ old) new r →
+  other_text : Confirms name before stat (asked name true ∷ old) new None →
+      Puts into name fresh before text stat old new (Err ChangedMeanwhile)
+  confirmed : {r : Result Update ReplaceError} (mid : List Call) (seen : FileStat) →
+      Confirms name before stat (asked name true ∷ old) mid (Some seen) →
+      PutsConfirmed into name fresh before text seen mid new r →
       Puts into name fresh before text stat old new r
 
 -- `Judges o into name fresh text stat old new r`: no call was made, unless the outcome of `text`
@@ -117,6 +129,11 @@ pub data Keeps (o : Options) (into : Bool) (name fresh : List ℕ) (old new : Li
 abbrev pub RenamesAt : Target → List ℕ → List ℕ → FileStat → List Call → List Call →
     Result Update ReplaceError → Type 0
 RenamesAt t before text = Renames t.write_into t.name.now t.fresh.now before text
+
+-- `PutsConfirmedAt target before text stat old new r`: the calls of `PutsConfirmed` for this target.
+abbrev pub PutsConfirmedAt : Target → List ℕ → List ℕ → FileStat → List Call → List Call →
+    Result Update ReplaceError → Type 0
+PutsConfirmedAt t before text = PutsConfirmed t.write_into t.name.now t.fresh.now before text
 
 -- `PutsAt target before text stat old new r`: the calls of `Puts` for this target.
 abbrev pub PutsAt : Target → List ℕ → List ℕ → FileStat → List Call → List Call →

@@ -56,6 +56,11 @@ pub enum FolderCall<'a> {
         like: FileStat,
         answer: bool,
     },
+    /// The bytes of a file reached the disk, or not.
+    Sync {
+        name: &'a [u8],
+        answer: bool,
+    },
     /// A file was looked at.
     Look {
         name: &'a [u8],

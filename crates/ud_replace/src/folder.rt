@@ -1,7 +1,7 @@
 //! The folder of a file, as far as `replace` asks it.
 
 ghost use Rattle.std.specs.Prelude.{◌≡◌, ◌≤◌, ◌∷◌, [], List, length, IfSome};
-ghost use Rattle.ud_replace.specs.Calls.{Call, was_read, asked, made, appended, given, looked};
+ghost use Rattle.ud_replace.specs.Calls.{Call, was_read, asked, made, appended, given, synced, looked};
 ghost use Rattle.ud_replace.specs.Calls.{renamed, overwrote, removed};
 
 use crate::stat::FileStat;
@@ -61,6 +61,10 @@ pub trait Folder {
     /// whether the mode was set.
     fn set_mode_and_owner(&mut self, name: &[u8], like: &FileStat) -> bool
         ensures { history self.new ≡ given name.now like.now result ∷ history self.old };
+
+    /// Waits until the bytes of a file that `create` made are on the disk. Returns whether they are.
+    fn sync(&mut self, name: &[u8]) -> bool
+        ensures { history self.new ≡ synced name.now result ∷ history self.old };
 
     /// Returns what is known of a file now; `None` if the call fails.
     fn look(&mut self, name: &[u8]) -> Option<FileStat>

@@ -3,8 +3,8 @@
 ghost use Rattle.std.specs.Prelude.{◌≡◌, List, [], true, false, is_ok};
 ghost use Rattle.ud_args.specs.Plans.{ForOptionsOf};
 ghost use Rattle.ud_replace.specs.Calls.{Call};
-ghost use Rattle.ud_replace.specs.Filling.{LooksAgain, Fills};
-ghost use Rattle.ud_replace.specs.Replacing.{Overwrites, RenamesAt, PutsAt, JudgesAt, ReplacesAt};
+ghost use Rattle.ud_replace.specs.Filling.{LooksAgain, Confirms, Fills};
+ghost use Rattle.ud_replace.specs.Replacing.{Overwrites, RenamesAt, PutsConfirmedAt, PutsAt, JudgesAt, ReplacesAt};
 ghost use Rattle.ud_replace.specs.Replacing.{IsOutputOf, KeepsAt};
 
 use crate::append::append_all;
@@ -30,6 +30,7 @@ pub struct Target<'a> {
 /// A file's text, and what was known of the file before it was read.
 #[derive(Clone, Copy)]
 struct Before<'a> {
+    alloc: Global,
     text: &'a [u8],
     stat: FileStat,
 }
@@ -101,7 +102,7 @@ pub fn replace_keeping<F: Folder>(
         None => Err(ReplaceError::Read),
         Some(stat) => {
             let text = text.as_slice();
-            replace_text(plan, folder, target, &Before { text, stat }, out)
+            replace_text(plan, folder, target, &Before { alloc, text, stat }, out)
         }
     }
 }
@@ -144,6 +145,25 @@ fn put<F: Folder>(
     if !folder.may_write(target.name) {
         return Err(ReplaceError::ReadOnly);
     }
+    match confirm(folder, target.name, before) {
+        None => Err(ReplaceError::ChangedMeanwhile),
+        Some(stat) => {
+            let before = Before { stat, ..*before };
+            put_confirmed(folder, target, &before, output)
+        }
+    }
+}
+
+/// Puts the output in the place of a file that was looked at again, or into the file.
+fn put_confirmed<F: Folder>(
+    folder: &mut F,
+    target: &Target<'_>,
+    before: &Before<'_>,
+    output: &[u8],
+) -> Result<Update, ReplaceError>
+    ensures { PutsConfirmedAt target.now before.now.text.now output.now before.now.stat
+        (F.history folder.old) (F.history folder.new) result }
+{
     if before.stat.links <= 1 {
         return rename_over(folder, target, before, output);
     }
@@ -151,6 +171,35 @@ fn put<F: Folder>(
         return Err(ReplaceError::SeveralLinks);
     }
     overwrite(folder, target.name, before, output)
+}
+
+/// Looks at a file again, and reads it again if its version is another one. Returns what is known of
+/// it now, if it has the same bytes.
+///
+/// To ask whether the user may write into a file may give it another version: an overlay file system
+/// copies it then.
+fn confirm<F: Folder>(
+    folder: &mut F,
+    name: &[u8],
+    before: &Before<'_>,
+) -> Option<FileStat>
+    ensures { Confirms name.now before.now.text.now before.now.stat
+        (F.history folder.old) (F.history folder.new) result }
+{
+    if is_unchanged(folder, name, &before.stat) {
+        return Some(before.stat);
+    }
+    let mut again = Vec::new(before.alloc);
+    match folder.read(name, &mut again) {
+        None => None,
+        Some(seen) => {
+            if again.as_slice() == before.text {
+                Some(seen)
+            } else {
+                None
+            }
+        }
+    }
 }
 
 /// Makes a file with the output, and renames it over the file.
@@ -196,6 +245,9 @@ fn fill<F: Folder>(
         return Err(ReplaceError::Write);
     }
     if !folder.set_mode_and_owner(target.fresh, stat) {
+        return Err(ReplaceError::Write);
+    }
+    if !folder.sync(target.fresh) {
         return Err(ReplaceError::Write);
     }
     if !is_unchanged(folder, target.name, stat) {

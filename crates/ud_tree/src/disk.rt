@@ -12,7 +12,8 @@ use crate::tree::Tree;
 use std::alloc::{AllocError, Global};
 use std::fs::{self, Metadata, OpenFile, OpenOptions, Permissions};
 use std::io::{self, ErrorKind, Read, Write};
-use std::os::unix::fs::{MetadataExt, OpenOptionsExt, PermissionsExt};
+use std::os::fd::AsFd;
+use std::os::unix::fs::{MetadataExt, OpenOptionsExt, PermissionsExt, fchown};
 use std::rt::Files;
 use ud_replace::{
     CreateError, FileId, FileStat, FileTime, FileVersion, Folder, FolderCall, FolderWalk, History,
@@ -143,20 +144,15 @@ fn write_some<W: Write>(file: &mut Option<W>, bytes: &[u8]) -> io::Result<usize>
     }
 }
 
-/// Gives a file the owner and the group of another one, or the group alone, as the user may. Then
-/// gives it that one's mode, but no other rights if the owner or the group is another one.
-fn set_mode_and_owner<R: Files>(
-    files: &R,
-    file: &R::File,
-    name: &[u8],
-    like: &FileStat,
-) -> io::Result<()> {
-    let path = text_of(name)?;
+/// Gives an open file the owner and the group of another one, or the group alone, as the user may.
+/// Then gives it that one's mode, but no other rights if the owner or the group is another one. No
+/// name is used, since another program may have put another file there.
+fn set_mode_and_owner<F: OpenFile + AsFd + Drop>(file: &F, like: &FileStat) -> io::Result<()> {
     let own = file.metadata()?;
     if own.uid() != like.owner || own.gid() != like.group {
-        let both = files.chown(path, Some(like.owner), Some(like.group));
+        let both = fchown(file, Some(like.owner), Some(like.group));
         if both.is_err() {
-            let _ = files.chown(path, None, Some(like.group));
+            let _ = fchown(file, None, Some(like.group));
         }
     }
     let now = file.metadata()?;
@@ -170,8 +166,17 @@ fn overwrite_file<R: Files>(files: &R, name: &[u8], text: &[u8]) -> io::Result<(
     let mut file = open_to_write(files, name)?;
     file.write_all(text)?;
     match u64::try_from(text.len()) {
-        Ok(len) => file.set_len(len),
-        Err(_) => Err(io::Error::from(ErrorKind::FileTooLarge)),
+        Ok(len) => file.set_len(len)?,
+        Err(_) => return Err(io::Error::from(ErrorKind::FileTooLarge)),
+    }
+    file.sync_all()
+}
+
+/// Waits until the bytes of a file are on the disk.
+fn sync_file<F: OpenFile>(file: &Option<F>) -> io::Result<()> {
+    match file {
+        None => Err(io::Error::from(ErrorKind::NotFound)),
+        Some(file) => file.sync_all(),
     }
 }
 
@@ -183,7 +188,10 @@ fn create_error(error: &io::Error) -> CreateError {
     }
 }
 
-impl<R: Files> Folder for Disk<'_, R> {
+impl<R: Files> Folder for Disk<'_, R>
+where
+    R::File: AsFd,
+{
     ghost history = { λ d. d.history.calls };
 
     fn read(&mut self, name: &[u8], text: &mut Vec<u8>) -> Option<FileStat> {
@@ -230,13 +238,20 @@ impl<R: Files> Folder for Disk<'_, R> {
     fn set_mode_and_owner(&mut self, name: &[u8], like: &FileStat) -> bool {
         let set = match &self.fresh {
             None => Err(io::Error::from(ErrorKind::NotFound)),
-            Some(file) => set_mode_and_owner(self.files, file, name, like),
+            Some(file) => set_mode_and_owner(file, like),
         };
         let answer = self.kept(set).is_some();
         let like = *like;
         self.history = self
             .history
             .with(&FolderCall::SetModeAndOwner { name, like, answer });
+        answer
+    }
+
+    fn sync(&mut self, name: &[u8]) -> bool {
+        let synced = sync_file(&self.fresh);
+        let answer = self.kept(synced).is_some();
+        self.history = self.history.with(&FolderCall::Sync { name, answer });
         answer
     }
 
@@ -336,7 +351,10 @@ fn append_names(alloc: Global, packed: &[u8], names: &mut Vec<Vec<u8>>) -> Resul
     Ok(())
 }
 
-impl<R: Files> Tree for Disk<'_, R> {
+impl<R: Files> Tree for Disk<'_, R>
+where
+    R::File: AsFd,
+{
     fn node(&mut self, path: &str) -> Option<Node> {
         let found = node_at(self.files, path);
         let answer = self.kept(found);
