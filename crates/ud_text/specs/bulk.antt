@@ -4,4 +4,5 @@ pub mod BulkStates
 pub mod BulkLexemes
 pub mod Progress
 pub mod Blocks
+pub mod Reaching
 pub mod PlainText

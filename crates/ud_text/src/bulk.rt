@@ -28,6 +28,7 @@ mod blocks;
 pub(crate) mod hash_sign;
 mod lexeme_lengths;
 pub(crate) mod plain;
+mod quick;
 
 /// The beginning of a line.
 #[derive(Clone, Copy)]
@@ -299,9 +300,8 @@ fn skip_text_from(lines: &[u8], begun: Progress) -> LineStart
     last_line(lines, p.line, p.at)
 }
 
-/// Skips text lines, the first of which begins where `lexer` is. Returns the beginning of the first
-/// line that isn't skipped.
-pub(crate) fn skip_text_lines(lexer: Lexer, lines: &[u8]) -> LineStart
+/// Skips text lines as `quick::skip_text_lines` does, but keeps what it leaves out.
+fn skip_again(lexer: Lexer, lines: &[u8]) -> LineStart
     requires starts { can_start (lex_state_of lexer.state) ≡ true }
     ensures bound { result.at ≤ length lines.now }
     ensures skipped { SkippedBy (bulk_state_of lexer) lines.now result }
@@ -322,5 +322,18 @@ pub(crate) fn skip_text_lines(lexer: Lexer, lines: &[u8]) -> LineStart
             Err(stop) => stop,
         },
         _ => line,
+    }
+}
+
+/// Skips text lines, the first of which begins where `lexer` is. Returns the beginning of the first
+/// line that isn't skipped.
+pub(crate) fn skip_text_lines(lexer: Lexer, lines: &[u8]) -> LineStart
+    requires starts { can_start (lex_state_of lexer.state) ≡ true }
+    ensures bound { result.at ≤ length lines.now }
+    ensures skipped { SkippedBy (bulk_state_of lexer) lines.now result }
+{
+    match quick::skip_text_lines(lexer, lines) {
+        Some(line) => line,
+        None => skip_again(lexer, lines),
     }
 }

@@ -87,7 +87,7 @@ fn significant_by_lanes<const N: usize>(bytes: &[u8]) -> usize
 }
 
 /// Returns whether two bytes are a star pair: a star before a slash or a backslash.
-fn is_star_pair(first: u8, second: u8) -> bool
+pub(crate) fn is_star_pair(first: u8, second: u8) -> bool
     ensures { result ≡ is_star_pair first second }
 {
     first == b'*' && (second == b'/' || second == b'\\')

@@ -13,3 +13,4 @@ pub mod BlockLemmas
 pub mod StepLemmas
 pub mod NibbleTable
 pub mod BlockBitLemmas
+pub mod ReachLemmas

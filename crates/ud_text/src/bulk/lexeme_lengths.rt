@@ -3,9 +3,9 @@
 //! A lexeme ends on the line on which it begins. The result is `None` if its end isn't among the
 //! bytes, or if a backslash may belong to a splice: the line is then read by itself.
 
-ghost use Rattle.std.specs.Prelude.{◌≡◌, ◌≤◌, ◌<◌, Bool, [], ◌∷◌, length, take, slice_index, true};
+ghost use Rattle.std.specs.Prelude.{◌≡◌, ◌≤◌, ◌<◌, ◌-◌, Bool, [], ◌∷◌, length, take, slice_index, true};
 ghost use Rattle.std.specs.Prelude.{false, IfSome, OnSome};
-ghost use Rattle.ud_model.specs.text.Bytes.{slash, backslash, is_quote};
+ghost use Rattle.ud_model.specs.text.Bytes.{slash, backslash, newline, is_quote};
 ghost use Rattle.ud_text.specs.bulk.BulkLexemes.{is_significant, CodeLexeme, LineLexeme, IsSplice};
 ghost use Rattle.ud_text.specs.bulk.BulkLexemes.{may_splice};
 
@@ -140,6 +140,7 @@ pub(crate) fn line_comment_len(rest: &[u8]) -> Option<usize>
     requires first { take 2 rest.now ≡ slash ∷ slash ∷ [] }
     ensures bound { IfSome result (λ n. (0 < n) × (n ≤ length rest.now)) }
     ensures read { IfSome result (λ n. (white : Bool) → LineLexeme white (take n rest.now)) }
+    ensures ends { IfSome result (λ n. slice_index rest.now (n - 1) ≡ newline) }
 {
     let Some(count) = memchr(b'\n', &rest[2..]) else {
         return None;

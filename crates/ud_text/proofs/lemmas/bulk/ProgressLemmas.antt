@@ -74,7 +74,7 @@ module _ {start : BulkState} {bytes : List ℕ} {line : ℕ} {kept : BulkState} 
   }
 
   -- what is read, from the beginning of a later line
-  settled_at : (n : ℕ) (m : List ℕ) → IsLineStart m → m ≡ take n r.mid → n ≤ length r.mid → 0 < n → ReadTo start bytes (line + n) (code_state true) at now
+  pub settled_at : (n : ℕ) (m : List ℕ) → IsLineStart m → m ≡ take n r.mid → n ≤ length r.mid → 0 < n → ReadTo start bytes (line + n) (code_state true) at now
   settled_at n _ at_start e h k = absurd (let f : 0 ≡ n = ap length e ∙ length-take-le n r.mid h in omega arith)
   settled_at n _ (after_newline x) e h k =
       let y : List ℕ = drop n r.mid in

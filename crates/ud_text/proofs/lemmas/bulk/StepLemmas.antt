@@ -181,7 +181,7 @@ drop_both l zero m = let e : 0 + m ≡ m = omega arith in ap (λ (k : ℕ). drop
 drop_both [] (suc n) m = drop-nil (suc n + m) ∙ sym (drop-nil m)
 drop_both (x ∷ l) (suc n) m = let e : suc n + m ≡ suc (n + m) = omega arith in ap (λ (k : ℕ). drop k (x ∷ l)) e ∙ drop_both l n m
 
-two_at : (l : List ℕ) (n a b : ℕ) → n + 1 < length l → get_or l n 0 ≡ a → get_or l (suc n) 0 ≡ b → take 2 (drop n l) ≡ a ∷ b ∷ []
+pub two_at : (l : List ℕ) (n a b : ℕ) → n + 1 < length l → get_or l n 0 ≡ a → get_or l (suc n) 0 ≡ b → take 2 (drop n l) ≡ a ∷ b ∷ []
 two_at [] n a b h e f = absurd (omega arith)
 two_at (x ∷ l) zero a b h e f = two_are (x ∷ l) a b (omega arith) e f
 two_at (x ∷ l) (suc n) a b h e f = two_at l n a b (omega arith) e f
@@ -190,7 +190,7 @@ sign_take : (l : List ℕ) (k : ℕ) → take 1 l ≡ number_sign ∷ [] → tak
 sign_take [] k e = cc
 sign_take (a ∷ l) k e = let f : a ≡ number_sign = cc in ap (λ (n : ℕ). n ∷ take k l) f
 
-pair_is : (a b : ℕ) → is_star_pair a b ≡ true → a ≡ star
+pub pair_is : (a b : ℕ) → is_star_pair a b ≡ true → a ≡ star
 pair_is a b e = by_star (a == star) refl e
   where
     by_star : (t : Bool) → (a == star) ≡ t → (t && ((b == slash) || (b == backslash))) ≡ true → a ≡ star

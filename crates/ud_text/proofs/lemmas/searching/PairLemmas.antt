@@ -65,7 +65,7 @@ first_pair_is bytes at h before found =
     (λ k low. get_or-pairs_of bytes k (omega arith) ∙ before k low)
     (λ low. let next : at + 1 < length bytes = omega (arith, length-pairs_of bytes) in get_or-pairs_of bytes at next ∙ found next))
 
-none_before : (bytes : List ℕ) (n : ℕ) → ((k : ℕ) → k < n → k + 1 < length bytes → is_star_pair (get_or bytes k 0) (get_or bytes (k + 1) 0) ≡ false) → NoStarPair (take (suc n) bytes)
+pub none_before : (bytes : List ℕ) (n : ℕ) → ((k : ℕ) → k < n → k + 1 < length bytes → is_star_pair (get_or bytes k 0) (get_or bytes (k + 1) 0) ≡ false) → NoStarPair (take (suc n) bytes)
 none_before [] n h = tt
 none_before (a ∷ []) zero h = tt
 none_before (a ∷ []) (suc n) h = tt
