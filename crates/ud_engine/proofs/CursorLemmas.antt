@@ -1,5 +1,5 @@
 -- Steps over many lines: the engine's state after them.
-use Rattle.std.proofs.Common.{◌≡◌, ℕ, suc, ◌+◌, ◌-◌, ◌<◌, ◌≤◌, Bool, true, false, if◌then◌else◌, List, [], ◌++◌, length, take, drop, Option, refl, sym, ◌∙◌, ap, ap₂, subst, append_assoc, append-nil, arith}
+use Rattle.std.proofs.Common.{◌≡◌, ℕ, suc, ◌+◌, ◌-◌, ◌<◌, ◌≤◌, Bool, true, false, if◌then◌else◌, List, [], ◌++◌, length, take, drop, refl, sym, ◌∙◌, ap, ap₂, subst, append_assoc, append-nil, arith}
 use Rattle.std.proofs.lemmas.List.{map-append, take-take}
 use Rattle.std.proofs.Math.ListN.{length-take, length-drop}
 use Rattle.ud_model.specs.text.Lines.{Line, NoNewline, SplitLines, text_of, whole_lines, numbered_from, split_lines}
@@ -20,9 +20,9 @@ use Rattle.ud_engine.specs.Advancing.{Advances, IsCursor, IsNext, slice_between,
 use Rattle.ud_engine.specs.Feeding.{EngineState, IsOpen, EngineRepresentsBuffered}
 use Rattle.ud_engine.specs.ProcessedLines.{PrintsBulk, printed_of}
 use Rattle.ud_engine.specs.DecidedLines.{consumed}
-use Rattle.ud_io.specs.Buffering.{AppendsAllBut}
+use Rattle.ud_engine.specs.Sinks.{Sink, TakesAllBut}
 use Rattle.ud_engine.proofs.SkipLemmas.{can_skip_take}
-use Rattle.ud_io.proofs.BufferingLemmas.{appends_all_but_none}
+use Rattle.ud_engine.proofs.SinkLemmas.{sink_buffered}
 use Rattle.ud_engine.proofs.StepLemmas.{between_none, between_more}
 use Rattle.ud_engine.proofs.LinePartLemmas.{before_is, rest_is, split_lines-front_of}
 
@@ -101,7 +101,7 @@ module _ {S : Type 0} (represents : S → List Judged → Type 0) (piece_of : S 
 
 -- Skipped lines in a chunk.
 module _ {S : Type 0} (represents : S → List Judged → Type 0) (piece_of : S → List Judged → Judged → List ℕ) (o : Options) (piece : List Judged → Judged → List ℕ)
-    (text printed : List ℕ) (a b : Option (List ℕ)) (f : EngineState S) (g : List ℕ) (bytes : List ℕ) (from at end : ℕ) (ordered : from ≤ at) (later : at ≤ end) where
+    (text printed : List ℕ) (a b : Sink) (f : EngineState S) (g : List ℕ) (bytes : List ℕ) (from at end : ℕ) (ordered : from ≤ at) (later : at ≤ end) where
   -- Copied lines extend the pending bytes.
   pub run_kept : EngineRepresentsBuffered represents piece_of f o piece (text ++ slice_between bytes at end) (printed ++ slice_between bytes at end) → f.buffered ≡ g →
       Advances represents piece_of f o piece text printed (slice_between bytes at end) a a (g ++ slice_between bytes from at) (f.buffered ++ slice_between bytes from end)
@@ -111,18 +111,18 @@ module _ {S : Type 0} (represents : S → List Judged → Type 0) (piece_of : S 
       record {
         more = slice_between bytes at end;
         taken = taken;
-        sent = subst (λ x. AppendsAllBut a a ((g ++ slice_between bytes from at) ++ slice_between bytes at end) x) (sym joined) (appends_all_but_none a ((g ++ slice_between bytes from at) ++ slice_between bytes at end));
+        sent = subst (λ x. TakesAllBut a a ((g ++ slice_between bytes from at) ++ slice_between bytes at end) x) (sym joined) (sink_buffered a ((g ++ slice_between bytes from at) ++ slice_between bytes at end));
       }
 
   -- Before dropped lines, the pending bytes are appended.
-  pub run_dropped : EngineRepresentsBuffered represents piece_of f o piece (text ++ slice_between bytes at end) (printed ++ []) → AppendsAllBut a b (g ++ slice_between bytes from at) f.buffered →
+  pub run_dropped : EngineRepresentsBuffered represents piece_of f o piece (text ++ slice_between bytes at end) (printed ++ []) → TakesAllBut a b (g ++ slice_between bytes from at) f.buffered →
       Advances represents piece_of f o piece text printed (slice_between bytes at end) a b (g ++ slice_between bytes from at) (f.buffered ++ slice_between bytes end end)
   run_dropped taken sent = record {
     more = [];
     taken = taken;
     sent =
-        subst (λ x. AppendsAllBut a b ((g ++ slice_between bytes from at) ++ []) x) (sym (ap (λ x. f.buffered ++ x) (between_none bytes end) ∙ append-nil f.buffered))
-        (subst (λ x. AppendsAllBut a b x f.buffered) (sym (append-nil (g ++ slice_between bytes from at))) sent);
+        subst (λ x. TakesAllBut a b ((g ++ slice_between bytes from at) ++ []) x) (sym (ap (λ x. f.buffered ++ x) (between_none bytes end) ∙ append-nil f.buffered))
+        (subst (λ x. TakesAllBut a b x f.buffered) (sym (append-nil (g ++ slice_between bytes from at))) sent);
   }
 
 -- The first bytes of a slice are a slice.
@@ -210,7 +210,7 @@ module _ {S : Type 0} (represents : S → List Judged → Type 0) (piece_of : S 
       (subst (λ k. EngineRepresentsBuffered represents piece_of f o piece (text ++ take passed.count (slice_between bytes at whole)) (printed ++ (if k then take passed.count (slice_between bytes at whole) else [])))
       is lines_taken)
 
-  module _ (a b : Option (List ℕ)) (from : ℕ) (ordered : from ≤ at) where
+  module _ (a b : Sink) (from : ℕ) (ordered : from ≤ at) where
     -- Copied lines extend the pending bytes.
     pub passed_kept : passed.kept ≡ true → f.buffered ≡ e.buffered →
         Advances represents piece_of f o piece text printed (slice_between bytes at (at + passed.count)) a a (e.buffered ++ slice_between bytes from at) (f.buffered ++ slice_between bytes from (at + passed.count))
@@ -218,7 +218,7 @@ module _ {S : Type 0} (represents : S → List Judged → Type 0) (piece_of : S 
         run_kept represents piece_of o piece text printed a a f e.buffered bytes from at (at + passed.count) ordered (omega arith) (taken_as true kept) same
 
     -- Before dropped lines, the pending bytes are appended.
-    pub passed_dropped : passed.kept ≡ false → AppendsAllBut a b (e.buffered ++ slice_between bytes from at) f.buffered →
+    pub passed_dropped : passed.kept ≡ false → TakesAllBut a b (e.buffered ++ slice_between bytes from at) f.buffered →
         Advances represents piece_of f o piece text printed (slice_between bytes at (at + passed.count)) a b (e.buffered ++ slice_between bytes from at)
         (f.buffered ++ slice_between bytes (at + passed.count) (at + passed.count))
     passed_dropped kept sent =

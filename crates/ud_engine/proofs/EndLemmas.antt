@@ -4,7 +4,7 @@ use Rattle.std.specs.Io.KnownBytes.{Appends}
 use Rattle.std.proofs.KnownBytes.{Appends-nil}
 use Rattle.ud_model.specs.text.Lines.{Line, whole_lines, last_line, line_at, numbered_from, lines_of}
 use Rattle.ud_model.specs.sections.Items.{Options, next_item}
-use Rattle.ud_model.specs.sections.Faults.{Fault, end_fault}
+use Rattle.ud_model.specs.sections.Faults.{Fault, FaultOf, end_fault}
 use Rattle.ud_model.specs.answer.Printing.{Judged}
 use Rattle.ud_model.specs.answer.Outcomes.{HasNoFault, ReadsAs, lines_so_far, stops, ends}
 use Rattle.ud_model.proofs.text.LinesLemmas.{last_line-some, numbered_from-next}
@@ -13,16 +13,15 @@ use Rattle.ud_cond.specs.symbols.SymbolTable.{TableRepresents}
 use Rattle.ud_text.specs.lines.LinesState.{LinesState}
 use Rattle.ud_sections.proofs.lemmas.sections.NextLemmas.{lines_more}
 use Rattle.ud_faults.specs.Faults.{fault_of}
-use Rattle.ud_faults.specs.declared.run.RunFault.{RunFault}
-use Rattle.ud_faults.specs.declared.run.RunFault.TheVariants.{Text, Section, Read, Write}
+use Rattle.ud_faults.specs.declared.sections.SectionFault.{SectionFault}
+use Rattle.ud_faults.specs.declared.run.RunFault.TheVariants.{Section}
 use Rattle.ud_engine.specs.declared.line_processor.LineProcessor.{LineProcessor}
 use Rattle.ud_engine.specs.Finishing.{without_fault, PrintsAll, FinishFault, FinishTruncated, FinishOk, FinishErr}
 use Rattle.ud_engine.specs.Feeding.{EngineState, EngineRepresentsBuffered, EngineRepresents}
-use Rattle.ud_engine.specs.ProcessedLines.{PrintsLine, PrintErr, differs_in}
-use Rattle.ud_engine.specs.FaultEffects.{OutputUnchanged}
-use Rattle.ud_io.specs.Buffering.{AppendsAllBut}
-use Rattle.ud_io.specs.Watched.{WatchedState, AppendsPrefix}
-use Rattle.ud_io.proofs.BufferingLemmas.{appends_all_but_then_front, appends_all_but_part}
+use Rattle.ud_engine.specs.ProcessedLines.{PrintsLine, differs_in}
+use Rattle.ud_io.specs.Watched.{WatchedState}
+use Rattle.ud_engine.specs.Sinks.{Sink, TakesAllBut}
+use Rattle.ud_engine.proofs.SinkLemmas.{sink_flushed, sink_appends, sink_cut}
 use Rattle.ud_engine.proofs.LinePartLemmas.{before_is, rest_is}
 
 -- An empty rest is no line.
@@ -85,50 +84,45 @@ module _ {S : Type 0} (represents : S → List Judged → Type 0) (piece_of : S 
         (ap (λ n. line_at (suc n) e.lines.held) (sym (before_is represents piece_of o piece e text printed h))
         ∙ sym (ap (λ (k : LinesState). line_at (suc k.before) k.held) closed) ∙ sym is)
 
-    module _ (p : LineProcessor S) (a b : Option (List ℕ)) (left : List ℕ) (prints : PrintsLine represents piece_of p o piece h.items h.tree l true a b e.buffered left []) where
+    module _ (p : LineProcessor S) (a b c : Sink) (left : List ℕ) (prints : PrintsLine represents piece_of p o piece h.items h.tree l true a b e.buffered left [])
+        (works : a.failed ≡ false) (flushed : TakesAllBut b c left []) where
       last_goes : HasNoFault o (lines_of text) (h.items ++ next_item o h.items h.tree l ∷ []) prints.tree
       last_goes = record {
         sound = prints.has.has.read.sound;
         are = last_is ∙ ap (λ ls. ls ++ l ∷ []) h.goes.are ∙ sym (lines_more o h.items h.tree l);
       }
 
-      last_sent : AppendsAllBut a b prints.more left
-      last_sent = subst (λ x. AppendsAllBut a b (x ++ ([] ++ prints.more)) left) fed.written prints.goes
+      last_sent : TakesAllBut a c prints.more []
+      last_sent = sink_flushed a b c prints.more left (subst (λ x. TakesAllBut a b (x ++ ([] ++ prints.more)) left) fed.written prints.goes) flushed
 
       -- The last line is printed, and all output is written.
-      pub last_printed : (c : Option (List ℕ)) → AppendsAllBut b c left [] → PrintsAll represents piece_of p o piece text printed a c
-      last_printed c s = record {
+      pub last_printed : c.failed ≡ false → PrintsAll represents piece_of p o piece text printed a.bytes c.bytes
+      last_printed w = record {
         items = h.items ++ next_item o h.items h.tree l ∷ [];
         tree = prints.tree;
         goes = last_goes;
         has = prints.has;
         more = prints.more;
         printed_is = ap (λ x. x ++ prints.more) h.printed_is ∙ sym prints.is_more;
-        appended =
-            let all = appends_all_but_part a b c prints.more left [] (subst (λ x. AppendsAllBut a b prints.more x) (sym (append-nil left)) last_sent)
-            (subst (λ x. Appends b c x) (sym (s.joined ∙ append-nil s.prefix)) s.appended) in
-            subst (λ x. Appends a c x) (sym (all.joined ∙ append-nil all.prefix)) all.appended;
+        appended = sink_appends a.failed c.failed a.bytes c.bytes prints.more works w last_sent;
       }
 
-      -- A write fails after the last line is printed.
-      pub last_cut : (c : Option (List ℕ)) → AppendsPrefix b c left → FinishTruncated o piece text printed a c
-      last_cut c prefix = record {
+      -- A write fails.
+      pub last_cut : c.failed ≡ true → FinishTruncated o piece text printed a.bytes c.bytes
+      last_cut w = record {
         items = h.items ++ next_item o h.items h.tree l ∷ [];
         tree = prints.tree;
         goes = last_goes;
         more = prints.more;
         printed_is = ap (λ x. x ++ prints.more) h.printed_is ∙ sym prints.is_more;
-        prefix =
-            subst (λ x. AppendsPrefix a c x) (append-nil prints.more)
-            (appends_all_but_then_front a b c prints.more left [] last_sent (subst (λ x. AppendsPrefix b c x) (sym (append-nil left)) prefix));
+        prefix = sink_cut a.failed c.failed a.bytes c.bytes prints.more works w last_sent;
       }
 
-    -- The last line is faulty, or a write fails.
-    pub last_fails : {W : Type 0} (contents : W → Option (List ℕ)) (old new : WatchedState W) (buffered left : List ℕ) → buffered ≡ [] → old.failed ≡ false → (f : RunFault) →
-        PrintErr o piece h.items h.tree l (contents old.inner) (contents new.inner) buffered [] f → OutputUnchanged old new buffered left f →
-        FinishErr o piece new.failed (contents old.inner) (contents new.inner) text printed f
-    last_fails contents old new buffered left none works (Section f) fails leaves = (
-      ap (λ w. w.failed) leaves.0 ∙ works,
+    -- The last line is faulty.
+    pub last_fails : {W : Type 0} (contents : W → Option (List ℕ)) (old new : WatchedState W) → old.failed ≡ false → new ≡ old → (f : SectionFault) →
+        FaultOf h.items (next_item o h.items h.tree l) (fault_of f) → FinishErr o piece new.failed (contents old.inner) (contents new.inner) text printed (Section f)
+    last_fails contents old new works leaves f fails = (
+      ap (λ w. w.failed) leaves ∙ works,
       record {
         items = h.items;
         tree = h.tree;
@@ -141,22 +135,9 @@ module _ {S : Type 0} (represents : S → List Judged → Type 0) (piece_of : S 
         });
         more = [];
         printed_is = append-nil printed ∙ h.printed_is;
-        appended = subst (λ x. Appends (contents old.inner) x []) (sym (ap (λ w. contents w.inner) leaves.0)) (Appends-nil (contents old.inner));
+        appended = subst (λ x. Appends (contents old.inner) x []) (sym (ap (λ w. contents w.inner) leaves)) (Appends-nil (contents old.inner));
       },
     )
-    last_fails contents old new buffered left none works Write fails leaves = (
-      leaves,
-      record {
-        items = h.items ++ next_item o h.items h.tree l ∷ [];
-        tree = fails.tree;
-        goes = record { sound = fails.sound; are = last_is ∙ ap (λ ls. ls ++ l ∷ []) h.goes.are ∙ sym (lines_more o h.items h.tree l) };
-        more = fails.more;
-        printed_is = ap (λ x. x ++ fails.more) h.printed_is ∙ sym fails.is_more;
-        prefix = subst (λ x. AppendsPrefix (contents old.inner) (contents new.inner) (x ++ ([] ++ fails.more))) none fails.prefix;
-      },
-    )
-    last_fails contents old new buffered left none works (Text f) fails leaves = absurd fails
-    last_fails contents old new buffered left none works Read fails leaves = absurd fails
 
 module _ {S : Type 0} (represents : S → List Judged → Type 0) (piece_of : S → List Judged → Judged → List ℕ) (p : LineProcessor S) (o : Options) (piece : List Judged → Judged → List ℕ)
     (text printed : List ℕ) (a b : Option (List ℕ)) (all : PrintsAll represents piece_of p o piece text printed a b) where

@@ -1,3 +1,4 @@
+pub mod SinkLemmas
 pub mod NameListingLemmas
 pub mod DeciderLemmas
 pub mod SkipLemmas
@@ -9,7 +10,6 @@ pub mod StepLemmas
 pub mod CursorLemmas
 pub mod FeedLemmas
 pub mod EndLemmas
-pub mod ErrLemmas
 pub mod RunLemmas
 pub mod RunEndedLemmas
 pub mod FinishLemmas

@@ -2,7 +2,7 @@
 use Rattle.std.proofs.Common.{◌≡◌, inl, inr, ℕ, ◌+◌, ◌==◌, List, [], ◌∷◌, ◌++◌, length, Bool, true, false, not, bytes_eq, Option, refl, sym, ◌∙◌, ap, subst, length-append, arith}
 use Rattle.std.proofs.lemmas.Bool.Decides.{same_from_decides, Decides-eqb, Decides-like}
 use Rattle.std.proofs.lemmas.Slice.Eq.{bytes_eq-Decides}
-use Rattle.ud_engine.specs.ProcessedLines.{IsLeftOf, ShowsLine}
+use Rattle.ud_engine.specs.ProcessedLines.{IsLeftOf}
 
 -- A text equals itself.
 pub same_text : (x : List ℕ) → bytes_eq x x ≡ true
@@ -24,11 +24,3 @@ left_is_line left body ending some =
     (Decides-eqb (length left) (length body + length ending)))
     (bytes_eq-Decides left (body ++ ending))
 
--- Nothing is appended for an unchanged line.
-pub shows_whole : (a : Option (List ℕ)) (buffered pending piece own : List ℕ) → piece ≡ own → ShowsLine false a a buffered buffered pending piece own
-shows_whole a buffered pending piece own e = (sym (ap (λ x. not (bytes_eq x own)) e ∙ ap not (same_text own)), (refl, refl, e))
-
--- A printer's piece is appended if it is the output.
-pub shows_left : (put : Bool) (a b : Option (List ℕ)) (buffered rest pending left piece own : List ℕ) → piece ≡ left →
-    ShowsLine put a b buffered rest pending left own → ShowsLine put a b buffered rest pending piece own
-shows_left put a b buffered rest pending left piece own e h = subst (λ x. ShowsLine put a b buffered rest pending x own) (sym e) h

@@ -19,11 +19,9 @@ use Rattle.ud_faults.specs.declared.text.TextFault.{TextFault}
 use Rattle.ud_faults.specs.declared.text.TextFault.TheVariants.{TooManyLines, LineTooLong}
 use Rattle.ud_text.proofs.lemmas.lines.LinesLemmas.{represent_before, represent_rest}
 use Rattle.ud_sections.proofs.lemmas.sections.NextLemmas.{lines_more}
-use Rattle.ud_engine.specs.Advancing.{WriteStops as StopsShort}
-use Rattle.ud_engine.specs.Feeding.{EngineState, IsOpen, EngineRepresentsBuffered, FaultsAfter}
+use Rattle.ud_engine.specs.Feeding.{EngineState, IsOpen, EngineRepresentsBuffered, FaultsAfter, PrintsPrefix}
 use Rattle.ud_faults.specs.Faults.{limit_of}
-use Rattle.ud_engine.specs.ProcessedLines.{ProcessorRepresents, PrintsMore, WriteFails}
-use Rattle.ud_io.specs.Watched.{AppendsPrefix}
+use Rattle.ud_engine.specs.ProcessedLines.{ProcessorRepresents, PrintsMore}
 
 -- The split lines of a text with the prefix of a chunk up to its first newline, if `rest` is the
 -- text's partial line.
@@ -139,38 +137,16 @@ module _ {S : Type 0} (represents : S → List Judged → Type 0) (piece_of : S 
     printed_is = h.printed_is;
   }
 
-  -- A write fails within the output for the next line.
-  pub line_falls_short : (longer : List ℕ) (l : Line) (later : List Line) (a b : Option (List ℕ)) (buffered pending : List ℕ) →
-      lines_so_far longer ≡ lines_so_far text ++ l ∷ later → WriteFails o piece h.items h.tree l a b buffered pending →
-      StopsShort o piece longer printed a b (buffered ++ pending)
-  line_falls_short longer l later a b buffered pending are k = record {
-    more = k.more;
-    reaches = record {
-      items = h.items ++ next_item o h.items h.tree l ∷ [];
-      tree = k.tree;
-      lines = lines_so_far text ++ l ∷ [];
-      later = later;
-      are = are ∙ sym (append_assoc (lines_so_far text) (l ∷ []) later);
-      goes = record { sound = k.sound; are = ap (λ ls. ls ++ l ∷ []) h.goes.are ∙ sym (lines_more o h.items h.tree l) };
-      printed_is = ap (λ p. p ++ k.more) h.printed_is ∙ sym k.is_more;
-    };
-    prefix = subst (λ x. AppendsPrefix a b x) (sym (append_assoc buffered pending k.more)) k.prefix;
-  }
-
-  -- A write fails within the output pending before the next line.
-  pub run_falls_short : (rest : List ℕ) (a b : Option (List ℕ)) (pending : List ℕ) → AppendsPrefix a b pending → StopsShort o piece (text ++ rest) printed a b pending
-  run_falls_short rest a b pending prefix = record {
-    more = [];
-    reaches = record {
-      items = h.items;
-      tree = h.tree;
-      lines = lines_so_far text;
-      later = (lines_so_far-append text rest).0;
-      are = (lines_so_far-append text rest).1;
-      goes = h.goes;
-      printed_is = append-nil printed ∙ h.printed_is;
-    };
-    prefix = subst (λ x. AppendsPrefix a b x) (sym (append-nil pending)) prefix;
+  -- The output so far is that for some first lines of every longer text.
+  pub run_reaches : (rest : List ℕ) → PrintsPrefix o piece (text ++ rest) printed
+  run_reaches rest = record {
+    items = h.items;
+    tree = h.tree;
+    lines = lines_so_far text;
+    later = (lines_so_far-append text rest).0;
+    are = (lines_so_far-append text rest).1;
+    goes = h.goes;
+    printed_is = h.printed_is;
   }
 
   -- The line that the prefix of a chunk ends is the next line of every longer text.

@@ -19,58 +19,44 @@ use Rattle.ud_model.proofs.sections.Soundness.{sound_lines, reading_of-item_of}
 use Rattle.ud_model.proofs.sections.Unique.{grows}
 use Rattle.ud_sections.proofs.lemmas.printing.ListingLemmas.{has_condition, LevelsGrow, levels_grow}
 use Rattle.ud_engine.specs.NameLines.{name_line}
-use Rattle.ud_io.specs.Buffering.{AppendsAllBut}
+use Rattle.ud_engine.specs.Sinks.{Sink, TakesAllBut}
 use Rattle.ud_engine.specs.DecidedLines.{DeciderRepresents, AreText}
-use Rattle.ud_engine.specs.NameListing.{ListsLine, ListingFails}
+use Rattle.ud_engine.specs.NameListing.{ListsLine}
 use Rattle.ud_engine.specs.declared.line_decider.LineDecider.{LineDecider}
-use Rattle.ud_io.specs.Watched.{AppendsPrefix}
-use Rattle.ud_io.proofs.BufferingLemmas.{appends_all_but_then, appends_all_but_then_front, appends_all_but_none, prefix_of_first, pending_failed, parts_failed_after, parts_after}
+use Rattle.ud_engine.proofs.SinkLemmas.{sink_buffered, sink_then, sink_both}
 
 -- The names before `left` were appended.
-pub record NamesPut (a b : Option (List ℕ)) (prefix : List ℕ) (names left : List (List ℕ)) (old new : List ℕ) : Type 0 where
+pub record NamesPut (a b : Sink) (prefix : List ℕ) (names left : List (List ℕ)) (old new : List ℕ) : Type 0 where
   pub done : List ℕ
   pub are : listed_names prefix names ≡ done ++ listed_names prefix left
-  pub sent : AppendsAllBut a b (old ++ done) new
+  pub sent : TakesAllBut a b (old ++ done) new
 
 -- Before the first name.
-pub none_put : (a : Option (List ℕ)) (prefix : List ℕ) (names left : List (List ℕ)) (old : List ℕ) → left ≡ names → NamesPut a a prefix names left old old
+pub none_put : (a : Sink) (prefix : List ℕ) (names left : List (List ℕ)) (old : List ℕ) → left ≡ names → NamesPut a a prefix names left old old
 none_put a prefix names left old e = record {
   done = [];
   are = ap (listed_names prefix) (sym e);
-  sent = subst (λ x. AppendsAllBut a a x old) (sym (append-nil old)) (appends_all_but_none a old);
+  sent = subst (λ x. TakesAllBut a a x old) (sym (append-nil old)) (sink_buffered a old);
 }
 
 -- One name more is appended.
-pub name_put : (a b c : Option (List ℕ)) (prefix : List ℕ) (names left rest : List (List ℕ)) (name old mid new : List ℕ) → left ≡ name ∷ rest →
-    NamesPut a b prefix names left old mid → AppendsAllBut b c (mid ++ name_line prefix name) new → NamesPut a c prefix names rest old new
+pub name_put : (a b c : Sink) (prefix : List ℕ) (names left rest : List (List ℕ)) (name old mid new : List ℕ) → left ≡ name ∷ rest →
+    NamesPut a b prefix names left old mid → TakesAllBut b c (mid ++ name_line prefix name) new → NamesPut a c prefix names rest old new
 name_put a b c prefix names left rest name old mid new e p s = record {
   done = p.done ++ name_line prefix name;
   are =
       p.are ∙ ap (λ ns. p.done ++ listed_names prefix ns) e
       ∙ sym (append_assoc p.done (name_line prefix name) (listed_names prefix rest));
   sent =
-      subst (λ x. AppendsAllBut a c x new) (append_assoc old p.done (name_line prefix name))
-      (appends_all_but_then a b c (old ++ p.done) mid (name_line prefix name) new p.sent s);
+      subst (λ x. TakesAllBut a c x new) (append_assoc old p.done (name_line prefix name))
+      (sink_then a b c (old ++ p.done) mid (name_line prefix name) new p.sent s);
 }
 
--- A write fails within a name.
-pub name_refused : (a b c : Option (List ℕ)) (prefix : List ℕ) (names left rest : List (List ℕ)) (name old mid : List ℕ) → left ≡ name ∷ rest →
-    NamesPut a b prefix names left old mid → AppendsPrefix b c (mid ++ name_line prefix name) → AppendsPrefix a c (old ++ listed_names prefix names)
-name_refused a b c prefix names left rest name old mid e p s =
-    subst (λ x. AppendsPrefix a c (old ++ x)) (sym (p.are ∙ ap (λ ns. p.done ++ listed_names prefix ns) e ∙ joined))
-    (subst (λ x. AppendsPrefix a c x) (append_assoc old (p.done ++ name_line prefix name) (listed_names prefix rest))
-    (prefix_of_first a c (old ++ (p.done ++ name_line prefix name)) (listed_names prefix rest)
-    (subst (λ x. AppendsPrefix a c x) (append_assoc old p.done (name_line prefix name))
-    (appends_all_but_then_front a b c (old ++ p.done) mid (name_line prefix name) p.sent s))))
-  where
-    joined : p.done ++ listed_names prefix (name ∷ rest) ≡ (p.done ++ name_line prefix name) ++ listed_names prefix rest
-    joined = sym (append_assoc p.done (name_line prefix name) (listed_names prefix rest))
-
 -- If no name is left, all are appended.
-pub all_put : (a b : Option (List ℕ)) (prefix : List ℕ) (names left : List (List ℕ)) (old new : List ℕ) → left ≡ [] →
-    NamesPut a b prefix names left old new → AppendsAllBut a b (old ++ listed_names prefix names) new
+pub all_put : (a b : Sink) (prefix : List ℕ) (names left : List (List ℕ)) (old new : List ℕ) → left ≡ [] →
+    NamesPut a b prefix names left old new → TakesAllBut a b (old ++ listed_names prefix names) new
 all_put a b prefix names left old new e p =
-    subst (λ x. AppendsAllBut a b (old ++ x) new) (sym (p.are ∙ ap (λ ns. p.done ++ listed_names prefix ns) e ∙ append-nil p.done)) p.sent
+    subst (λ x. TakesAllBut a b (old ++ x) new) (sym (p.are ∙ ap (λ ns. p.done ++ listed_names prefix ns) e ∙ append-nil p.done)) p.sent
 
 untested : (r : Reading) (k : Kind) (d : Decision) → has_condition (directive_item r (role_of k) d) ≡ false → test_of k ≡ Nothing
 untested r If d e = cc
@@ -163,38 +149,17 @@ module _ (o : Options) (depths : Bool) (xs : List (Item Reading)) (t u : Tree Re
   abbrev own_text : List ℕ
   own_text = listed_names (depth_prefix depths (depth u - 1)) own_names
 
-  -- A write fails within the pending bytes before a line.
-  pub run_fails : (a b : Option (List ℕ)) (old pending : List ℕ) → AppendsPrefix a b (old ++ pending) → ListingFails o xs t l depths a b old pending
-  run_fails a b old pending h = record {
-    tree = u;
-    sound = v;
-    more = own_text;
-    is_more = lists_more o depths xs t u l s v own_names refl;
-    prefix = pending_failed a b old pending own_text h;
-  }
-
   module _ (names : List (List ℕ)) (are : names ≡ own_names) (prefix : List ℕ) (p : prefix ≡ depth_prefix depths (depth u - 1)) where
     named : listed_names prefix names ≡ own_text
     named = ap₂ listed_names p are
 
-    -- A write fails within the line's names.
-    pub listing_fails : (a b c : Option (List ℕ)) (old mid pending : List ℕ) → AppendsAllBut a b (old ++ pending) mid → AppendsPrefix b c (mid ++ listed_names prefix names) →
-        ListingFails o xs t l depths a c old pending
-    listing_fails a b c old mid pending sent h = record {
-      tree = u;
-      sound = v;
-      more = own_text;
-      is_more = lists_more o depths xs t u l s v own_names refl;
-      prefix = parts_failed_after a b c old pending mid (listed_names prefix names) own_text named sent h;
-    }
-
     -- The line is read, and its names are appended.
-    pub lists_one : (r : LineDecider) → DeciderRepresents o r (xs ++ next_item o xs t l ∷ []) u → (a b c : Option (List ℕ)) (old mid new pending : List ℕ) →
-        AppendsAllBut a b (old ++ pending) mid → AppendsAllBut b c (mid ++ listed_names prefix names) new → ListsLine o r xs t l depths a c old new pending
+    pub lists_one : (r : LineDecider) → DeciderRepresents o r (xs ++ next_item o xs t l ∷ []) u → (a b c : Sink) (old mid new pending : List ℕ) →
+        TakesAllBut a b (old ++ pending) mid → TakesAllBut b c (mid ++ listed_names prefix names) new → ListsLine o r xs t l depths a c old new pending
     lists_one r has a b c old mid new pending sent more = record {
       tree = u;
       has = has;
       more = own_text;
       is_more = lists_more o depths xs t u l s v own_names refl;
-      sent = parts_after a b c old pending mid new (listed_names prefix names) own_text named sent more;
+      sent = subst (λ x. TakesAllBut a c (old ++ (pending ++ x)) new) named (sink_both a b c old mid new pending (listed_names prefix names) sent more);
     }

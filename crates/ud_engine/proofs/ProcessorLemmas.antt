@@ -21,9 +21,9 @@ use Rattle.ud_faults.specs.declared.run.RunFault.TheVariants.{Text, Section, Rea
 use Rattle.ud_engine.specs.declared.line_processor.LineProcessor.{LineProcessor}
 use Rattle.ud_engine.specs.declared.line_decider.LineDecider.{LineDecider}
 use Rattle.ud_engine.specs.DecidedLines.{DecidesLine}
-use Rattle.ud_engine.specs.NameListing.{ListsMore, ListsLine, ListErr}
-use Rattle.ud_engine.specs.ProcessedLines.{text_by, differs_in, lister_of, ProcessorRepresents, PrintsMore, IsAppended, ShowsLine, PrintsLine, WriteFails, PrintErr}
-use Rattle.ud_io.specs.Watched.{AppendsPrefix}
+use Rattle.ud_engine.specs.NameListing.{ListsMore, ListsLine}
+use Rattle.ud_engine.specs.ProcessedLines.{text_by, differs_in, lister_of, ProcessorRepresents, PrintsMore, IsAppended, ShowsLine, PrintsLine}
+use Rattle.ud_engine.specs.Sinks.{Sink}
 
 -- Of no lines, none differs.
 pub none_differ : (listing : Listing) (piece : List Judged → Judged → List ℕ) → false ≡ differs_in listing piece [] (closed nothing)
@@ -99,7 +99,7 @@ not_off Depths depths e f = cc
 module _ {S : Type 0} (represents : S → List Judged → Type 0) (piece_of : S → List Judged → Judged → List ℕ) (o : Options)
     (piece : List Judged → Judged → List ℕ) (xs : List (Item Reading)) (t : Tree Reading) (l : Line) where
   -- The line whose names were listed was printed.
-  pub lists_line : (p q : LineProcessor S) (depths : Bool) (old new : Option (List ℕ)) (buffered left pending : List ℕ) → ProcessorRepresents represents piece_of p o piece xs t →
+  pub lists_line : (p q : LineProcessor S) (depths : Bool) (old new : Sink) (buffered left pending : List ℕ) → ProcessorRepresents represents piece_of p o piece xs t →
       p.lister ≡ Some depths → q.lister ≡ p.lister → q.printer ≡ p.printer → q.differs ≡ p.differs →
       ListsLine o q.decider xs t l depths old new buffered left pending → PrintsLine represents piece_of q o piece xs t l true old new buffered left pending
   lists_line p q depths old new buffered left pending h e same_lister same_printer same_differs one =
@@ -118,40 +118,13 @@ module _ {S : Type 0} (represents : S → List Judged → Type 0) (piece_of : S 
         goes = one.sent;
       }
 
-  pub list_fails : (p : LineProcessor S) (depths : Bool) (old new : Option (List ℕ)) (buffered pending : List ℕ) (f : RunFault) → ProcessorRepresents represents piece_of p o piece xs t →
-      p.lister ≡ Some depths → ListErr o xs t l depths old new buffered pending f → PrintErr o piece xs t l old new buffered pending f
-  list_fails p depths old new buffered pending (Section f) h e k = k
-  list_fails p depths old new buffered pending (Text f) h e k = k
-  list_fails p depths old new buffered pending Read h e k = k
-  list_fails p depths old new buffered pending Write h e k = record {
-    tree = k.tree;
-    sound = k.sound;
-    more = k.more;
-    is_more = lists_more_text o piece xs t k.tree l depths k.more (sym h.lister ∙ e) k.is_more;
-    prefix = k.prefix;
-  }
-
   -- The printer's piece of the line is the definition's.
   piece_is : (p : LineProcessor S) (r : LineDecider) (step : Step) → (h : ProcessorRepresents represents piece_of p o piece xs t) → (one : DecidesLine o r xs t l step) →
       piece_of p.printer (judged_lines xs (marks t)) (record { line = l; verdict = step.verdict; keyword = as_span step.keyword })
       ≡ piece (judged_lines xs (marks t)) (judged_line (next_item o xs t l) one.mark)
   piece_is p r step h one = h.stays (judged_lines xs (marks t)) _ ∙ ap (piece (judged_lines xs (marks t))) one.decided
 
-  pub show_fails : (p : LineProcessor S) (r : LineDecider) (step : Step) (old new : Option (List ℕ)) (buffered pending : List ℕ) → ProcessorRepresents represents piece_of p o piece xs t →
-      p.lister ≡ None → DecidesLine o r xs t l step →
-      (represents p.printer (judged_lines xs (marks t)) → AppendsPrefix old new (buffered ++ (pending ++ piece_of p.printer (judged_lines xs (marks t))
-      (record { line = l; verdict = step.verdict; keyword = as_span step.keyword })))) → WriteFails o piece xs t l old new buffered pending
-  show_fails p r step old new buffered pending h e one prefix =
-      let off : o.settings.listing ≡ Off = is_off o.settings.listing (sym h.lister ∙ e) in
-      record {
-        tree = one.tree;
-        sound = one.has.read.sound;
-        more = piece (judged_lines xs (marks t)) (judged_line (next_item o xs t l) one.mark);
-        is_more = shows_more o piece xs t one.tree l h.has.read.sound one.mark one.marks_are off;
-        prefix = subst (λ x. AppendsPrefix old new (buffered ++ (pending ++ x))) (piece_is p r step h one) (prefix (h.shown off));
-      }
-
-  pub shows_line : (p q : LineProcessor S) (step : Step) (put : Bool) (old new : Option (List ℕ)) (buffered left pending : List ℕ) → ProcessorRepresents represents piece_of p o piece xs t →
+  pub shows_line : (p q : LineProcessor S) (step : Step) (put : Bool) (old new : Sink) (buffered left pending : List ℕ) → ProcessorRepresents represents piece_of p o piece xs t →
       p.lister ≡ None → q.lister ≡ p.lister → q.differs ≡ (p.differs || put) → DecidesLine o q.decider xs t l step →
       ((before : List Judged) → represents p.printer before → represents q.printer (before ++ record { line = l; verdict = step.verdict; keyword = as_span step.keyword } ∷ [])) →
       ((before : List Judged) → (j : Judged) → piece_of q.printer before j ≡ piece_of p.printer before j) →

@@ -3,7 +3,8 @@ use Rattle.std.proofs.Common.{◌≡◌, ℕ, suc, ◌+◌, ◌-◌, ◌<◌, �
 use Rattle.std.proofs.lemmas.Grind.{common_steps}
 use Rattle.std.proofs.lemmas.List.{drop-take}
 use Rattle.ud_model.specs.text.Lines.{Line, NoNewline, IsWhole, SplitLines, ending_of, whole_lines, line_at, text_of}
-use Rattle.ud_model.specs.sections.Items.{Options}
+use Rattle.ud_model.specs.sections.Items.{Options, next_item}
+use Rattle.ud_model.specs.sections.Faults.{FaultOf}
 use Rattle.ud_model.specs.answer.Printing.{Judged}
 use Rattle.ud_model.specs.answer.Outcomes.{lines_so_far}
 use Rattle.ud_model.specs.declared.limits.TheConstants.{LINE_BYTES, TEXT_LINES}
@@ -14,15 +15,14 @@ use Rattle.ud_text.proofs.lemmas.scan.MaskLemmas.{no_newline-take}
 use Rattle.ud_text.proofs.lemmas.bulk.StepLemmas.{drop_both}
 use Rattle.ud_sections.specs.sections.Limits.{IsWithinLimits}
 use Rattle.ud_faults.specs.Faults.{fault_of}
-use Rattle.ud_faults.specs.declared.run.RunFault.{RunFault}
-use Rattle.ud_faults.specs.declared.run.RunFault.TheVariants.{Text, Section, Read, Write}
+use Rattle.ud_faults.specs.declared.sections.SectionFault.{SectionFault}
+use Rattle.ud_faults.specs.declared.run.RunFault.TheVariants.{Section}
 use Rattle.ud_engine.specs.Advancing.{Advances, StepFails, slice_between}
 use Rattle.ud_engine.specs.Feeding.{EngineState, IsOpen, EngineRepresentsBuffered}
-use Rattle.ud_engine.specs.ProcessedLines.{PrintsLine, PrintErr}
-use Rattle.ud_io.specs.Buffering.{AppendsAllBut}
-use Rattle.ud_io.specs.Watched.{AppendsPrefix}
-use Rattle.ud_io.proofs.BufferingLemmas.{appends_all_but_none}
-use Rattle.ud_engine.proofs.LinePartLemmas.{before_is, rest_is, split_lines-front_of, parts_behind, line_taken, open_taken, line_next, line_stops, line_falls_short, run_falls_short}
+use Rattle.ud_engine.specs.ProcessedLines.{PrintsLine}
+use Rattle.ud_engine.specs.Sinks.{Sink, TakesAllBut}
+use Rattle.ud_engine.proofs.SinkLemmas.{sink_buffered}
+use Rattle.ud_engine.proofs.LinePartLemmas.{before_is, rest_is, split_lines-front_of, parts_behind, line_taken, open_taken, line_next, line_stops}
 
 -- A last line without a newline has none in its body.
 pub rest_feedless : (n : ℕ) (l : List ℕ) → NoNewline l → NoNewline (line_at n l).body
@@ -82,11 +82,11 @@ open_refused lines new f h is = record {
 }
 
 module _ {S : Type 0} (represents : S → List Judged → Type 0) (piece_of : S → List Judged → Judged → List ℕ) (o : Options) (piece : List Judged → Judged → List ℕ)
-    (e : EngineState S) (text printed : List ℕ) (h : EngineRepresentsBuffered represents piece_of e o piece text printed) (a b : Option (List ℕ)) (g pending rest : List ℕ) (ge : e.buffered ≡ g) where
+    (e : EngineState S) (text printed : List ℕ) (h : EngineRepresentsBuffered represents piece_of e o piece text printed) (a b : Sink) (g pending rest : List ℕ) (ge : e.buffered ≡ g) where
   -- Bytes without a newline are buffered, and the pending bytes before them are appended.
   pub open_step : (f : EngineState S) (used : ℕ) (whole : Bool) → whole ≡ false → UpToNewline rest used whole → f.symbols ≡ e.symbols → f.printer ≡ e.printer →
       f.lines ≡ record e.lines { held = e.lines.held ++ take used rest; whole = whole } → LinesRepresent f.lines (text ++ take used rest) → f.lines.fault ≡ None →
-      (length f.lines.held ≤ LINE_BYTES) × (e.lines.before < e.lines.last_line) → AppendsAllBut a b (e.buffered ++ pending) f.buffered →
+      (length f.lines.held ≤ LINE_BYTES) × (e.lines.before < e.lines.last_line) → TakesAllBut a b (e.buffered ++ pending) f.buffered →
       Advances represents piece_of f o piece text printed (take used rest) a b (g ++ pending) f.buffered
   open_step f used whole w to symbols printer is took no_fault limits sent =
       let parts = split_lines-front_of text e.lines.held rest used whole (rest_is represents piece_of o piece e text printed h) to in
@@ -100,8 +100,8 @@ module _ {S : Type 0} (represents : S → List Judged → Type 0) (piece_of : S 
             (λ some. let k = limits.1 in let m = h.opened.limit in let n = ap (λ (l : LinesState). l.before) is in omega (arith, k, m, n))
             (let k = h.count in let n = ap (λ (l : LinesState). l.before) is in omega (arith, k, n));
         sent =
-            subst (λ x. AppendsAllBut a b x f.buffered) (sym (append-nil (g ++ pending)))
-            (subst (λ x. AppendsAllBut a b (x ++ pending) f.buffered) ge sent);
+            subst (λ x. TakesAllBut a b x f.buffered) (sym (append-nil (g ++ pending)))
+            (subst (λ x. TakesAllBut a b (x ++ pending) f.buffered) ge sent);
       }
 
   -- A newline ends the line, and the output for it is appended after the pending bytes.
@@ -126,24 +126,19 @@ module _ {S : Type 0} (represents : S → List Judged → Type 0) (piece_of : S 
             (let m = h.opened.limit in let n = ap (λ (k : LinesState). k.before) is in let q = ap (λ (k : LinesState). k.before) cleared in omega (arith, few, m, n, q))
             prints.has prints.is_more;
         sent =
-            subst (λ x. AppendsAllBut a b x f.buffered) (sym (append_assoc g pending prints.more))
-            (subst (λ x. AppendsAllBut a b (x ++ (pending ++ prints.more)) f.buffered) ge prints.goes);
+            subst (λ x. TakesAllBut a b x f.buffered) (sym (append_assoc g pending prints.more))
+            (subst (λ x. TakesAllBut a b (x ++ (pending ++ prints.more)) f.buffered) ge prints.goes);
       }
 
-  -- The next line is faulty, or a write fails.
-  pub refused_by : (l : Line) (f : RunFault) (later : List Line) → lines_so_far (text ++ rest) ≡ lines_so_far text ++ l ∷ later →
-      PrintErr o piece h.items h.tree l a b e.buffered pending f → StepFails o piece (text ++ rest) printed a b (g ++ pending) f
-  refused_by l (Section f) later are fails = line_stops represents piece_of o piece e text printed h (text ++ rest) l later (fault_of f) are fails
-  refused_by l Write later are fails =
-      subst (λ x. StepFails o piece (text ++ rest) printed a b (x ++ pending) Write) ge
-      (line_falls_short represents piece_of o piece e text printed h (text ++ rest) l later a b e.buffered pending are fails)
-  refused_by l (Text f) later are fails = absurd fails
-  refused_by l Read later are fails = absurd fails
+  -- The next line is faulty.
+  pub refused_by : (l : Line) (f : SectionFault) (later : List Line) → lines_so_far (text ++ rest) ≡ lines_so_far text ++ l ∷ later →
+      FaultOf h.items (next_item o h.items h.tree l) (fault_of f) → StepFails o piece (text ++ rest) printed (Section f)
+  refused_by l f later are fails = line_stops represents piece_of o piece e text printed h (text ++ rest) l later (fault_of f) are fails
 
   -- The line that a newline ends is faulty, or a write fails.
-  pub line_refused : (mid : LinesState) (used : ℕ) (whole : Bool) (l : Line) (f : RunFault) → whole ≡ true → UpToNewline rest used whole →
+  pub line_refused : (mid : LinesState) (used : ℕ) (whole : Bool) (l : Line) (f : SectionFault) → whole ≡ true → UpToNewline rest used whole →
       mid ≡ record e.lines { held = e.lines.held ++ take used rest; whole = whole } → l ≡ line_at (suc mid.before) mid.held →
-      PrintErr o piece h.items h.tree l a b e.buffered pending f → StepFails o piece (text ++ rest) printed a b (g ++ pending) f
+      FaultOf h.items (next_item o h.items h.tree l) (fault_of f) → StepFails o piece (text ++ rest) printed (Section f)
   line_refused mid used whole l f w to is line fails =
       let parts = split_lines-front_of text e.lines.held rest used whole (rest_is represents piece_of o piece e text printed h) to in
       let lines : whole_lines (text ++ take used rest) ≡ whole_lines text ++ (e.lines.held ++ take used rest) ∷ [] =
@@ -152,10 +147,6 @@ module _ {S : Type 0} (represents : S → List Judged → Type 0) (piece_of : S 
       line ∙ ap (λ (k : LinesState). line_at (suc k.before) k.held) is ∙ ap (λ n. line_at (suc n) (e.lines.held ++ take used rest)) (before_is represents piece_of o piece e text printed h) in
       let next = line_next represents piece_of o piece e text printed h rest used (e.lines.held ++ take used rest) lines in
       refused_by l f next.0 (next.1 ∙ ap (λ k. lines_so_far text ++ k ∷ next.0) (sym at)) fails
-
-  pub run_refused_by : AppendsPrefix a b (e.buffered ++ pending) → StepFails o piece (text ++ rest) printed a b (g ++ pending) Write
-  run_refused_by prefix =
-      run_falls_short represents piece_of o piece e text printed h rest a b (g ++ pending) (subst (λ x. AppendsPrefix a b (x ++ pending)) ge prefix)
 
 -- The slice from a position to the end.
 pub slice_from : (p : List ℕ) (n : ℕ) → take (length p - n) (drop n p) ≡ drop n p
@@ -187,7 +178,7 @@ take_more_of p at end h =
     ap (λ k. take k p ++ slice_between p at end) (sym n) ∙ sym (between_more p 0 at end (omega arith) h) ∙ ap (λ k. take k p) m
 
 module _ {S : Type 0} (represents : S → List Judged → Type 0) (piece_of : S → List Judged → Judged → List ℕ) (o : Options) (piece : List Judged → Judged → List ℕ)
-    (e : EngineState S) (text printed : List ℕ) (h : EngineRepresentsBuffered represents piece_of e o piece text printed) (a b : Option (List ℕ)) (g : List ℕ) (ge : e.buffered ≡ g)
+    (e : EngineState S) (text printed : List ℕ) (h : EngineRepresentsBuffered represents piece_of e o piece text printed) (a b : Sink) (g : List ℕ) (ge : e.buffered ≡ g)
     (bytes rest : List ℕ) (from at end : ℕ) (rest_from : rest ≡ drop at bytes) (ordered : from ≤ at) (later : at ≤ end)
     (f : EngineState S) (l : Line) (lends : CanBorrow e.lines rest (length (text_of l))) (is : text_of l ≡ take (length (text_of l)) rest) (ends : length (text_of l) ≡ end - at)
     (value : l ≡ line_at (suc e.lines.before) (take (length (text_of l)) rest)) (counted : f.lines ≡ record e.lines { before = e.lines.before + 1 })
@@ -228,9 +219,9 @@ module _ {S : Type 0} (represents : S → List Judged → Type 0) (piece_of : S 
     more = p.more;
     taken = lent_taken true p;
     sent =
-        subst (λ x. AppendsAllBut a b ((g ++ slice_between bytes from at) ++ p.more) x) (sym (ap (λ x. f.buffered ++ x) (between_none bytes end) ∙ append-nil f.buffered))
-        (subst (λ x. AppendsAllBut a b x f.buffered) (sym (append_assoc g (slice_between bytes from at) p.more))
-        (subst (λ x. AppendsAllBut a b (x ++ (slice_between bytes from at ++ p.more)) f.buffered) ge p.goes));
+        subst (λ x. TakesAllBut a b ((g ++ slice_between bytes from at) ++ p.more) x) (sym (ap (λ x. f.buffered ++ x) (between_none bytes end) ∙ append-nil f.buffered))
+        (subst (λ x. TakesAllBut a b x f.buffered) (sym (append_assoc g (slice_between bytes from at) p.more))
+        (subst (λ x. TakesAllBut a b (x ++ (slice_between bytes from at ++ p.more)) f.buffered) ge p.goes));
   }
 
   -- An unchanged line extends the pending bytes.
@@ -246,23 +237,23 @@ module _ {S : Type 0} (represents : S → List Judged → Type 0) (piece_of : S 
         more = p.more;
         taken = lent_taken false p;
         sent =
-            subst (λ x. AppendsAllBut a b ((g ++ slice_between bytes from at) ++ p.more) x) (sym joined)
-            (subst (λ x. AppendsAllBut a x ((g ++ slice_between bytes from at) ++ p.more) ((g ++ slice_between bytes from at) ++ p.more)) (sym p.goes.0) (appends_all_but_none a ((g ++ slice_between bytes from at) ++ p.more)));
+            subst (λ x. TakesAllBut a b ((g ++ slice_between bytes from at) ++ p.more) x) (sym joined)
+            (subst (λ x. TakesAllBut a x ((g ++ slice_between bytes from at) ++ p.more) ((g ++ slice_between bytes from at) ++ p.more)) (sym p.goes.0) (sink_buffered a ((g ++ slice_between bytes from at) ++ p.more)));
       }
 
-  -- The line is faulty, or a write fails.
-  pub lent_refused : (fault : RunFault) → PrintErr o piece h.items h.tree l a b e.buffered (slice_between bytes from at) fault →
-      StepFails o piece (text ++ drop at bytes) printed a b (g ++ slice_between bytes from at) fault
+  -- The line is faulty.
+  pub lent_refused : (fault : SectionFault) → FaultOf h.items (next_item o h.items h.tree l) (fault_of fault) →
+      StepFails o piece (text ++ drop at bytes) printed (Section fault)
   lent_refused fault fails =
       let next = line_next represents piece_of o piece e text printed h rest (length (text_of l)) (text_of l)
       (subst (λ x. whole_lines (text ++ x) ≡ whole_lines text ++ text_of l ∷ []) is own_line) in
-      subst (λ x. StepFails o piece (text ++ x) printed a b (g ++ slice_between bytes from at) fault) rest_from
+      subst (λ x. StepFails o piece (text ++ x) printed (Section fault)) rest_from
       (refused_by represents piece_of o piece e text printed h a b g (slice_between bytes from at) rest ge l fault next.0
       (next.1 ∙ ap (λ k. lines_so_far text ++ k ∷ next.0) (sym own_number)) fails)
 
 -- Bytes that were taken through the line buffer.
 module _ {S : Type 0} (represents : S → List Judged → Type 0) (piece_of : S → List Judged → Judged → List ℕ) (o : Options) (piece : List Judged → Judged → List ℕ)
-    (text printed : List ℕ) (a b : Option (List ℕ)) (bytes rest : List ℕ) (at used : ℕ) (rest_from : rest ≡ drop at bytes) (f : EngineState S) (pending : List ℕ) where
+    (text printed : List ℕ) (a b : Sink) (bytes rest : List ℕ) (at used : ℕ) (rest_from : rest ≡ drop at bytes) (f : EngineState S) (pending : List ℕ) where
   pub held_taken : Advances represents piece_of f o piece text printed (take used rest) a b pending f.buffered →
       Advances represents piece_of f o piece text printed (slice_between bytes at (at + used)) a b pending (f.buffered ++ slice_between bytes (at + used) (at + used))
   held_taken p =
@@ -272,6 +263,6 @@ module _ {S : Type 0} (represents : S → List Judged → Type 0) (piece_of : S 
         more = p.more;
         taken = subst (λ x. EngineRepresentsBuffered represents piece_of f o piece (text ++ x) (printed ++ p.more)) same p.taken;
         sent =
-            subst (λ x. AppendsAllBut a b (pending ++ p.more) x)
+            subst (λ x. TakesAllBut a b (pending ++ p.more) x)
             (sym (ap (λ x. f.buffered ++ x) (between_none bytes (at + used)) ∙ append-nil f.buffered)) p.sent;
       }

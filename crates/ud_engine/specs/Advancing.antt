@@ -15,7 +15,7 @@
 --   IsPart room lines rest used                the first bytes of `rest` are taken
 --   IsStep e f old new result                  streams and recorded fault after a step
 use Rattle.std.specs.Prelude.{ℕ, ◌+◌, ◌-◌, ◌<◌, ◌≤◌, List, ◌++◌, length, take, drop, if◌then◌else◌}
-use Rattle.std.specs.Prelude.{◌≡◌, false, Option, Result, MatchResult, OnOk, IfErr}
+use Rattle.std.specs.Prelude.{◌≡◌, Option, Result, MatchResult, IfErr}
 use Rattle.ud_model.specs.sections.Items.{Options}
 use Rattle.ud_model.specs.answer.Printing.{Judged}
 use Rattle.ud_text.specs.lines.LinesState.{LinesState, HasCapacity}
@@ -25,11 +25,11 @@ use Rattle.ud_engine.specs.declared.engine.Cursor.{Cursor}
 use Rattle.ud_faults.specs.declared.run.RunFault.{RunFault}
 use Rattle.ud_faults.specs.declared.run.RunFault.TheVariants.{Text, Section, Read, Write}
 use Rattle.ud_engine.specs.Feeding.{EngineState, EngineRepresentsBuffered, FaultsAfter}
-use Rattle.ud_engine.specs.Feeding.{PrintsPrefix, Session, IsBufferedIn}
+use Rattle.ud_engine.specs.Feeding.{Session, IsBufferedIn}
 use Rattle.ud_engine.specs.FaultEffects.{OutputUnchanged}
 use Rattle.ud_faults.specs.Faults.{limit_of}
-use Rattle.ud_io.specs.Buffering.{AppendsAllBut}
-use Rattle.ud_io.specs.Watched.{WatchedState, AppendsPrefix}
+use Rattle.ud_engine.specs.Sinks.{Sink, sink, TakesAllBut}
+use Rattle.ud_io.specs.Watched.{WatchedState}
 
 -- `slice_between piece from at`: the bytes of `piece` from the position `from` up to `at`.
 abbrev pub slice_between : List ℕ → ℕ → ℕ → List ℕ
@@ -56,48 +56,35 @@ pub record Advances {S : Type 0} (represents : S → List Judged → Type 0) (pi
     List Judged →
     Judged → List ℕ) (e : EngineState S) (o : Options)
     (piece : List Judged → Judged →
-    List ℕ) (text printed : List ℕ) (bytes : List ℕ) (old new : Option (List ℕ))
+    List ℕ) (text printed : List ℕ) (bytes : List ℕ) (old new : Sink)
     (pending left : List ℕ) : Type 0 where
   pub more : List ℕ
   pub taken : EngineRepresentsBuffered represents piece_of e o piece (text ++ bytes) (printed ++
       more)
-  pub sent : AppendsAllBut old new (pending ++ more) left
+  pub sent : TakesAllBut old new (pending ++ more) left
 
--- `WriteStops o piece longer printed old new pending`: a write failed. A prefix of `pending` and of
--- the output for some next lines of `longer` was appended.
-pub record WriteStops (o : Options) (piece : List Judged → Judged →
-    List ℕ) (longer printed : List ℕ) (old new : Option (List ℕ)) (pending : List ℕ) : Type 0 where
-  pub more : List ℕ
-  pub reaches : PrintsPrefix o piece longer (printed ++ more)
-  pub prefix : AppendsPrefix old new (pending ++ more)
-
--- `StepFails o piece longer printed old new pending f`: a step failed with `f`. The next line of
--- `longer` is faulty, and nothing is printed for it; or a write failed.
-abbrev pub StepFails : Options → (List Judged → Judged → List ℕ) → List ℕ → List ℕ →
-    Option (List ℕ) → Option (List ℕ) → List ℕ → RunFault → Type 0
-StepFails o piece longer printed old new pending (Text f) =
-    FaultsAfter o piece longer printed (limit_of f)
-StepFails o piece longer printed old new pending (Section f) =
-    FaultsAfter o piece longer printed (fault_of f)
-StepFails o piece longer printed old new pending Read = ⊥
-StepFails o piece longer printed old new pending Write =
-    WriteStops o piece longer printed old new pending
+-- `StepFails o piece longer printed f`: the next line of `longer` has the fault `f`, and nothing is
+-- printed for it.
+abbrev pub StepFails : Options → (List Judged → Judged → List ℕ) → List ℕ → List ℕ → RunFault →
+    Type 0
+StepFails o piece longer printed (Text f) = FaultsAfter o piece longer printed (limit_of f)
+StepFails o piece longer printed (Section f) = FaultsAfter o piece longer printed (fault_of f)
+StepFails o piece longer printed Read = ⊥
+StepFails o piece longer printed Write = ⊥
 
 -- `Takes .. e f s rest pending old new used`: the engine `e` in the session `s` took the first
 -- `used` bytes of `rest`, and is `f` after that. Before the output for them, `pending` is appended.
 abbrev pub Takes : {S : Type 0} → (S → List Judged → Type 0) → (S → List Judged → Judged →
-    List ℕ) → EngineState S → EngineState S → Session → List ℕ → List ℕ → Option (List ℕ) →
-    Option (List ℕ) → ℕ → Type 0
+    List ℕ) → EngineState S → EngineState S → Session → List ℕ → List ℕ → Sink → Sink → ℕ →
+    Type 0
 Takes represents piece_of e f s rest pending old new used =
     Advances represents piece_of f s.options s.pieces s.text s.printed (take used rest) old new
     (e.buffered ++ pending) f.buffered
 
--- `StopsIn e s rest pending old new f`: the engine `e` in the session `s` can't take the next line
--- of `rest`, for the reason `f`.
-abbrev pub StopsIn : {S : Type 0} → EngineState S → Session → List ℕ → List ℕ → Option (List ℕ) →
-    Option (List ℕ) → RunFault → Type 0
-StopsIn e s rest pending old new f =
-    StepFails s.options s.pieces (s.text ++ rest) s.printed old new (e.buffered ++ pending) f
+-- `StopsIn s rest f`: an engine in the session `s` can't take the next line of `rest`, for the
+-- reason `f`.
+abbrev pub StopsIn : Session → List ℕ → RunFault → Type 0
+StopsIn s rest f = StepFails s.options s.pieces (s.text ++ rest) s.printed f
 
 -- `TakesPart .. contents e f rest pending out out' result`: in each session of `e`, it took bytes
 -- of `rest` (`Takes`); or it can't take the next line (`StopsIn`).
@@ -106,26 +93,19 @@ abbrev pub TakesPart : {S W : Type 0} → (S → List Judged → Type 0) → (S 
     WatchedState W → WatchedState W → Result ℕ RunFault → Type 0
 TakesPart represents piece_of contents e f rest pending out out' result =
     (s : Session) → IsBufferedIn represents piece_of e s → MatchResult result
-    (Takes represents piece_of e f s rest pending (contents out.inner) (contents out'.inner))
-    (StopsIn e s rest pending (contents out.inner) (contents out'.inner))
+    (Takes represents piece_of e f s rest pending (sink contents out) (sink contents out'))
+    (StopsIn s rest)
 
 -- `Steps .. e f s piece at old new next`: the engine `e` in the session `s` took the bytes of the
 -- chunk `piece` from the cursor `at` to the cursor `next`, and is `f` after that.
 abbrev pub Steps : {S : Type 0} → (S → List Judged → Type 0) → (S → List Judged → Judged →
-    List ℕ) → EngineState S → EngineState S → Session → List ℕ → Cursor → Option (List ℕ) →
-    Option (List ℕ) → Cursor → Type 0
+    List ℕ) → EngineState S → EngineState S → Session → List ℕ → Cursor → Sink → Sink →
+    Cursor → Type 0
 Steps represents piece_of e f s piece at old new next =
     Advances represents piece_of f s.options s.pieces s.text s.printed
     (slice_between piece at.pos next.pos) old new
     (e.buffered ++ slice_between piece at.pending_start at.pos)
     (f.buffered ++ slice_between piece next.pending_start next.pos)
-
--- `StopsAt e s piece at old new f`: the engine `e` in the session `s` can't take the line after the
--- cursor `at` in the chunk `piece`, for the reason `f`.
-abbrev pub StopsAt : {S : Type 0} → EngineState S → Session → List ℕ → Cursor → Option (List ℕ) →
-    Option (List ℕ) → RunFault → Type 0
-StopsAt e s piece at old new f =
-    StopsIn e s (drop at.pos piece) (slice_between piece at.pending_start at.pos) old new f
 
 -- `Moves .. contents e f piece at out out' result`: in each session of `e`, it took the bytes from
 -- the cursor `at` to the next one (`Steps`); or it can't take the line after `at` (`StopsAt`).
@@ -134,8 +114,8 @@ abbrev pub Moves : {S W : Type 0} → (S → List Judged → Type 0) → (S → 
     WatchedState W → WatchedState W → Result Cursor RunFault → Type 0
 Moves represents piece_of contents e f piece at out out' result =
     (s : Session) → IsBufferedIn represents piece_of e s → MatchResult result
-    (Steps represents piece_of e f s piece at (contents out.inner) (contents out'.inner))
-    (StopsAt e s piece at (contents out.inner) (contents out'.inner))
+    (Steps represents piece_of e f s piece at (sink contents out) (sink contents out'))
+    (StopsIn s (drop at.pos piece))
 
 -- `IsNext room lines piece at next`: `next` is a cursor in `piece`, not before `at`, and less is
 -- left to do after it.
@@ -152,9 +132,8 @@ pub record IsPart (room : ℕ) (lines : LinesState) (rest : List ℕ) (used : �
   pub fits : HasCapacity room lines (length rest - used)
 
 -- `IsStep e f out out' result`: after a step from the engine `e` to `f`, the recorded fault is the
--- same. After `Ok` the writer hasn't failed; after an error, `OutputUnchanged`.
+-- same, and after an error `OutputUnchanged`.
 pub record IsStep {S W T : Type 0} (e f : EngineState S) (out out' : WatchedState W)
     (result : Result T RunFault) : Type 0 where
-  pub not_failed : OnOk result (out'.failed ≡ false)
   pub output_unchanged : IfErr result (OutputUnchanged out out' e.buffered f.buffered)
   pub fault_unchanged : f.fault ≡ e.fault

@@ -1,40 +1,27 @@
--- FaultEffects: the state of the output after a fault.
-use Rattle.std.specs.Prelude.{◌≡◌, ℕ, List, Bool, true, false, Option}
-use Rattle.std.specs.Io.KnownBytes.{Appends}
+-- FaultEffects: the state of the output after a fault, and the result of a call.
+use Rattle.std.specs.Prelude.{◌≡◌, ℕ, List, Bool, true, false, Result, Ok, Err}
 use Rattle.ud_faults.specs.declared.run.RunFault.{RunFault}
 use Rattle.ud_faults.specs.declared.run.RunFault.TheVariants.{Text, Section, Read, Write}
-use Rattle.ud_io.specs.Watched.{WatchedState, AppendsPrefix}
+use Rattle.ud_io.specs.Watched.{WatchedState}
 
--- `OutputUnchanged old new buffered left f`: after a fault of the text, writer and buffer are
--- unchanged. After a failed write, the writer has failed.
+-- `OutputUnchanged old new buffered left f`: `f` is a fault of the text, and writer and buffer are
+-- unchanged.
 abbrev pub OutputUnchanged : {W : Type 0} → WatchedState W → WatchedState W → List ℕ → List ℕ →
     RunFault → Type 0
 OutputUnchanged old new buffered left (Section f) = (new ≡ old) × (left ≡ buffered)
-OutputUnchanged old new buffered left Write = new.failed ≡ true
 OutputUnchanged old new buffered left (Text f) = (new ≡ old) × (left ≡ buffered)
 OutputUnchanged old new buffered left Read = ⊥
+OutputUnchanged old new buffered left Write = ⊥
 
--- `ErrorMatchesFailure failed f`: `f` is `Write` exactly if the writer has failed.
-abbrev pub ErrorMatchesFailure : Bool → RunFault → Type 0
-ErrorMatchesFailure failed (Section f) = failed ≡ false
-ErrorMatchesFailure failed (Text f) = failed ≡ false
-ErrorMatchesFailure failed Read = failed ≡ false
-ErrorMatchesFailure failed Write = failed ≡ true
+-- `IsOfText f`: `f` is a fault of the text.
+abbrev pub IsOfText : RunFault → Type 0
+IsOfText (Section f) = Unit {0}
+IsOfText (Text f) = Unit {0}
+IsOfText Read = ⊥
+IsOfText Write = ⊥
 
--- `FlushesThenFails failed old new pending fault by`: the error `by` is `fault`, after all of
--- `pending`; or `Write`, after a prefix of `pending`, if a write failed.
-abbrev pub FlushesThenFails : Bool → Option (List ℕ) → Option (List ℕ) → List ℕ → RunFault →
-    RunFault → Type 0
-FlushesThenFails true old new pending fault by = (by ≡ Write) × AppendsPrefix old new pending
-FlushesThenFails false old new pending fault by = (by ≡ fault) × Appends old new pending
-
--- `FailsAfterFlush failed old new pending fault by`: `by` is the error after `pending` was flushed.
--- If `fault` is a failed write, nothing is written.
-abbrev pub FailsAfterFlush : Bool → Option (List ℕ) → Option (List ℕ) → List ℕ → RunFault →
-    RunFault → Type 0
-FailsAfterFlush failed old new pending (Section f) by =
-    FlushesThenFails failed old new pending (Section f) by
-FailsAfterFlush failed old new pending (Text f) by =
-    FlushesThenFails failed old new pending (Text f) by
-FailsAfterFlush failed old new pending Read by = FlushesThenFails failed old new pending Read by
-FailsAfterFlush failed old new pending Write by = (failed ≡ true) × (by ≡ Write) × (new ≡ old)
+-- `result_after failed ended`: the result of a call whose lines ended so: a failed write, if there
+-- is one.
+abbrev pub result_after : {T : Type 0} → Bool → Result T RunFault → Result T RunFault
+result_after true ended = Err Write
+result_after false ended = ended

@@ -1,4 +1,5 @@
 pub mod NameLines
+pub mod Sinks
 pub mod DecidedLines
 pub mod NameListing
 pub mod ProcessedLines

@@ -14,14 +14,13 @@ use Rattle.ud_model.specs.conditions.Table.{Argument}
 use Rattle.ud_cond.specs.symbols.SymbolTable.{TableRepresents}
 use Rattle.ud_model.specs.answer.Listing.{levels, listed}
 use Rattle.ud_faults.specs.Faults.{fault_of}
-use Rattle.ud_faults.specs.declared.run.RunFault.{RunFault}
-use Rattle.ud_faults.specs.declared.run.RunFault.TheVariants.{Text, Section, Read, Write}
+use Rattle.ud_faults.specs.declared.sections.SectionFault.{SectionFault}
 use Rattle.ud_engine.specs.declared.line_decider.LineDecider.{LineDecider}
 use Rattle.ud_text.specs.scan.ScannerState.{ScannerState}
 use Rattle.ud_sections.specs.declared.sections.machine.Machine.{Machine}
 use Rattle.ud_engine.specs.DecidedLines.{DeciderRepresents, decider_of}
-use Rattle.ud_io.specs.Buffering.{AppendsAllBut}
-use Rattle.ud_io.specs.Watched.{WatchedState, AppendsPrefix}
+use Rattle.ud_engine.specs.Sinks.{Sink, sink, TakesAllBut}
+use Rattle.ud_io.specs.Watched.{WatchedState}
 
 -- `ListsMore o xs t l depths tree more`: `more` lists the names of the line `l`, after the items
 -- `xs`.
@@ -35,53 +34,31 @@ ListsMore o xs t l depths tree more =
 -- `buffered`, `pending` and the line's names were appended, but for `left`, which is buffered now.
 pub record ListsLine (o : Options) (r : LineDecider) (xs : List (Item Reading)) (t : Tree Reading)
     (l : Line) (depths : Bool)
-    (old new : Option (List ℕ)) (buffered left pending : List ℕ) : Type 0 where
+    (old new : Sink) (buffered left pending : List ℕ) : Type 0 where
   pub tree : Tree Reading
   pub has : DeciderRepresents o r (xs ++ next_item o xs t l ∷ []) tree
   pub more : List ℕ
   pub is_more : ListsMore o xs t l depths tree more
-  pub sent : AppendsAllBut old new (buffered ++ (pending ++ more)) left
-
--- `ListingFails o xs t l depths old new buffered pending`: a write failed as the line `l` was
--- listed. A prefix of `buffered`, `pending` and the line's names was appended.
-pub record ListingFails (o : Options) (xs : List (Item Reading)) (t : Tree Reading) (l : Line)
-    (depths : Bool)
-    (old new : Option (List ℕ)) (buffered pending : List ℕ) : Type 0 where
-  pub tree : Tree Reading
-  pub sound : AreFaultless o (xs ++ next_item o xs t l ∷ []) tree
-  pub more : List ℕ
-  pub is_more : ListsMore o xs t l depths tree more
-  pub prefix : AppendsPrefix old new (buffered ++ (pending ++ more))
-
--- `ListErr o xs t l depths old new buffered pending f`: listing the line `l` failed with `f`. The
--- line is faulty, or a write failed.
-abbrev pub ListErr : Options → List (Item Reading) → Tree Reading → Line → Bool → Option (List ℕ) →
-    Option (List ℕ) → List ℕ → List ℕ → RunFault → Type 0
-ListErr o xs t l depths old new buffered pending (Section f) =
-    FaultOf xs (next_item o xs t l) (fault_of f)
-ListErr o xs t l depths old new buffered pending Write =
-    ListingFails o xs t l depths old new buffered pending
-ListErr o xs t l depths old new buffered pending (Text f) = ⊥
-ListErr o xs t l depths old new buffered pending Read = ⊥
+  pub sent : TakesAllBut old new (buffered ++ (pending ++ more)) left
 
 -- `ListsNext contents symbols r new l depths pending buffered left out out' result`: whatever items
 -- `r` has read, under options with these symbols, `new` has also read the line `l`, and its names
 -- were listed (`ListsLine`); or that failed (`ListErr`).
 abbrev pub ListsNext : {W T : Type 0} → (W → Option (List ℕ)) → List Argument → LineDecider →
     LineDecider → Line → Bool → List ℕ → List ℕ → List ℕ → WatchedState W → WatchedState W →
-    Result T RunFault → Type 0
+    Result T SectionFault → Type 0
 ListsNext contents symbols r new l depths pending buffered left out out' result =
     (o : Options) → (xs : List (Item Reading)) → (t : Tree Reading) →
     TableRepresents symbols o.table → DeciderRepresents o r xs t → MatchResult result
-    (λ done. ListsLine o new xs t l depths (contents out.inner) (contents out'.inner)
+    (λ done. ListsLine o new xs t l depths (sink contents out) (sink contents out')
     buffered left pending)
-    (ListErr o xs t l depths (contents out.inner) (contents out'.inner) buffered pending)
+    (λ f. FaultOf xs (next_item o xs t l) (fault_of f))
 
 -- `ListsWith .. scanner scanner' m m' l depths pending buffered left out out' result`: `ListsNext`
 -- of the decider of `scanner` and `m`, and of that of `scanner'` and `m'`.
 abbrev pub ListsWith : {W T : Type 0} → (W → Option (List ℕ)) → List Argument → ScannerState →
     ScannerState → Machine → Machine → Line → Bool → List ℕ → List ℕ → List ℕ → WatchedState W →
-    WatchedState W → Result T RunFault → Type 0
+    WatchedState W → Result T SectionFault → Type 0
 ListsWith contents symbols scanner scanner' m m' l depths pending buffered left out out' result =
     ListsNext contents symbols (decider_of scanner m) (decider_of scanner' m') l depths
     pending buffered left out out' result

@@ -32,14 +32,12 @@ use Rattle.ud_model.specs.declared.settings.Listing.TheVariants.{Off, Names, Dep
 use Rattle.ud_cond.specs.symbols.SymbolTable.{TableRepresents}
 use Rattle.ud_text.specs.lines.LinesState.{LinesState}
 use Rattle.ud_faults.specs.Faults.{fault_of}
-use Rattle.ud_faults.specs.declared.run.RunFault.{RunFault}
-use Rattle.ud_faults.specs.declared.run.RunFault.TheVariants.{Text, Section, Read, Write}
-use Rattle.ud_engine.specs.declared.write_failed.WriteFailed.{WriteFailed}
+use Rattle.ud_faults.specs.declared.sections.SectionFault.{SectionFault}
 use Rattle.ud_engine.specs.declared.line_processor.LineProcessor.{LineProcessor}
 use Rattle.ud_engine.specs.declared.line_processor.SkippedText.{SkippedText}
 use Rattle.ud_engine.specs.DecidedLines.{DeciderRepresents}
-use Rattle.ud_io.specs.Buffering.{AppendsAllBut}
-use Rattle.ud_io.specs.Watched.{WatchedState, AppendsPrefix}
+use Rattle.ud_engine.specs.Sinks.{Sink, sink, TakesAllBut}
+use Rattle.ud_io.specs.Watched.{WatchedState}
 
 -- `text_by listing piece xs t`: the output for the items `xs` with the tree `t`: their pieces by
 -- the definition `piece`, or their names.
@@ -114,45 +112,39 @@ PrintsMore o piece xs t l tree more =
 -- `IsAppended put old new buffered left pending more own`: if `put`, then `buffered`, `pending` and
 -- the line's output `more` were appended, but for `left`. Else `more` is the line itself, `own`,
 -- and nothing was appended.
-abbrev pub IsAppended : Bool → Option (List ℕ) → Option (List ℕ) → List ℕ → List ℕ → List ℕ →
-    List ℕ → List ℕ → Type 0
+abbrev pub IsAppended : Bool → Sink → Sink → List ℕ → List ℕ → List ℕ → List ℕ → List ℕ → Type 0
 IsAppended true old new buffered left pending more own =
-    AppendsAllBut old new (buffered ++ (pending ++ more)) left
+    TakesAllBut old new (buffered ++ (pending ++ more)) left
 IsAppended false old new buffered left pending more own = (new ≡ old) × (left ≡ buffered) ×
     (more ≡ own)
 
 -- `ShowsLine put old new buffered left pending piece own`: `IsAppended` with `piece`, where `put`
 -- means that `piece` differs from the line `own`.
-abbrev pub ShowsLine : Bool → Option (List ℕ) → Option (List ℕ) → List ℕ → List ℕ → List ℕ →
-    List ℕ → List ℕ → Type 0
+abbrev pub ShowsLine : Bool → Sink → Sink → List ℕ → List ℕ → List ℕ → List ℕ → List ℕ → Type 0
 ShowsLine put old new buffered left pending piece own = (put ≡ not (bytes_eq piece own)) ×
     IsAppended put old new buffered left pending piece own
 
--- `ShowsNext .. contents show j pending buffered left out out' result`: whatever lines `show` has
--- printed, its piece for the line `j` was appended after `pending`, if that differs from the line
--- (`ShowsLine`); or a write failed, after a prefix.
+-- `ShowsNext .. show j pending ..`: whatever lines `show` has printed, its piece for the line `j`
+-- was appended after `pending`, if it differs from the line.
 abbrev pub ShowsNext : {S W : Type 0} → (S → List Judged → Type 0) → (S → List Judged → Judged →
     List ℕ) → (W → Option (List ℕ)) → S → Judged → List ℕ → List ℕ → List ℕ → WatchedState W →
-    WatchedState W → Result Bool WriteFailed → Type 0
-ShowsNext represents piece_of contents show j pending buffered left out out' result =
-    (before : List Judged) → represents show before → MatchResult result
-    (λ shown. ShowsLine shown (contents out.inner) (contents out'.inner) buffered left pending
-    (piece_of show before j) (text_of j.line))
-    (λ failed. AppendsPrefix (contents out.inner) (contents out'.inner)
-    (buffered ++ (pending ++ piece_of show before j)))
+    WatchedState W → Bool → Type 0
+ShowsNext represents piece_of contents show j pending buffered left out out' put =
+    (before : List Judged) → represents show before → ShowsLine put (sink contents out)
+    (sink contents out') buffered left pending (piece_of show before j) (text_of j.line)
 
 -- `IsLeftOf left ending`: the output for a line is nothing or its ending.
 abbrev pub IsLeftOf : List ℕ → List ℕ → Type 0
 IsLeftOf left ending = (left ≡ []) ⊎ (left ≡ ending)
 
 -- `PrintsLine .. p o piece xs t l put old new buffered left pending`: `p` has also read the line
--- `l`, and its output `IsAppended`.
+-- `l`. If `put`, then `buffered`, `pending` and its output were appended, but for `left`; else its
+-- output is the line itself, and nothing was appended.
 pub record PrintsLine {S : Type 0} (represents : S → List Judged → Type 0) (piece_of : S →
-    List Judged →
-    Judged → List ℕ) (p : LineProcessor S) (o : Options)
-    (piece : List Judged → Judged →
-    List ℕ) (xs : List (Item Reading)) (t : Tree Reading) (l : Line) (put : Bool)
-    (old new : Option (List ℕ)) (buffered left pending : List ℕ) : Type 0 where
+    List Judged → Judged → List ℕ) (p : LineProcessor S) (o : Options)
+    (piece : List Judged → Judged → List ℕ)
+    (xs : List (Item Reading)) (t : Tree Reading) (l : Line) (put : Bool)
+    (old new : Sink) (buffered left pending : List ℕ) : Type 0 where
   pub tree : Tree Reading
   pub has : ProcessorRepresents represents piece_of p o piece (xs ++ next_item o xs t l ∷ []) tree
   pub more : List ℕ
@@ -189,40 +181,17 @@ PrintsText represents piece_of p q lines bytes more =
     PrintsBulk represents piece_of q o piece xs t
     (numbered_from (suc lines.before) (whole_lines bytes)) more
 
--- `WriteFails o piece xs t l old new buffered pending`: a write failed. A prefix of `buffered`,
--- `pending` and the output for the line `l`, which isn't faulty, was appended.
-pub record WriteFails (o : Options) (piece : List Judged → Judged →
-    List ℕ) (xs : List (Item Reading)) (t : Tree Reading) (l : Line)
-    (old new : Option (List ℕ)) (buffered pending : List ℕ) : Type 0 where
-  pub tree : Tree Reading
-  pub sound : AreFaultless o (xs ++ next_item o xs t l ∷ []) tree
-  pub more : List ℕ
-  pub is_more : PrintsMore o piece xs t l tree more
-  pub prefix : AppendsPrefix old new (buffered ++ (pending ++ more))
-
--- `PrintErr o piece xs t l old new buffered pending f`: printing the line `l` failed with `f`. The
--- line is faulty, or a write failed.
-abbrev pub PrintErr : Options → (List Judged → Judged → List ℕ) → List (Item Reading) →
-    Tree Reading → Line →
-    Option (List ℕ) → Option (List ℕ) → List ℕ → List ℕ → RunFault → Type 0
-PrintErr o piece xs t l old new buffered pending (Section f) =
-    FaultOf xs (next_item o xs t l) (fault_of f)
-PrintErr o piece xs t l old new buffered pending Write =
-    WriteFails o piece xs t l old new buffered pending
-PrintErr o piece xs t l old new buffered pending (Text f) = ⊥
-PrintErr o piece xs t l old new buffered pending Read = ⊥
-
 -- `PrintsNext .. contents symbols p q l pending buffered left out out' put result`: whatever items
 -- `p` has read, under options with these symbols, `q` has also read the line `l`. Its output was
 -- appended as `put` has it (`PrintsLine`); or that failed (`PrintErr`).
 abbrev pub PrintsNext : {S W T : Type 0} → (S → List Judged → Type 0) → (S → List Judged → Judged →
     List ℕ) → (W → Option (List ℕ)) → List Argument → LineProcessor S → LineProcessor S → Line →
-    List ℕ → List ℕ → List ℕ → WatchedState W → WatchedState W → (T → Bool) → Result T RunFault →
-    Type 0
+    List ℕ → List ℕ → List ℕ → WatchedState W → WatchedState W → (T → Bool) →
+    Result T SectionFault → Type 0
 PrintsNext represents piece_of contents symbols p q l pending buffered left out out' put result =
     (o : Options) → (piece : List Judged → Judged → List ℕ) → (xs : List (Item Reading)) →
     (t : Tree Reading) → TableRepresents symbols o.table →
     ProcessorRepresents represents piece_of p o piece xs t → MatchResult result
-    (λ value. PrintsLine represents piece_of q o piece xs t l (put value) (contents out.inner)
-    (contents out'.inner) buffered left pending)
-    (PrintErr o piece xs t l (contents out.inner) (contents out'.inner) buffered pending)
+    (λ value. PrintsLine represents piece_of q o piece xs t l (put value) (sink contents out)
+    (sink contents out') buffered left pending)
+    (λ f. FaultOf xs (next_item o xs t l) (fault_of f))

@@ -15,7 +15,7 @@ ghost use Rattle.ud_model.specs.sections.Items.{Options};
 ghost use Rattle.ud_model.specs.answer.Printing.{Judged};
 ghost use Rattle.ud_model.specs.declared.settings.Listing.TheVariants.{Off};
 ghost use Rattle.ud_cond.specs.symbols.SymbolTable.{TableRepresents};
-ghost use Rattle.ud_io.specs.Buffering.{AppendsAllButOrPrefix};
+ghost use Rattle.ud_engine.specs.Sinks.{Takes};
 ghost use Rattle.ud_text.specs.bulk.BulkStates.{is_other_word};
 ghost use Rattle.ud_text.specs.lines.LinesState.{HasCapacity};
 ghost use Rattle.ud_engine.specs.Feeding.{IsOpen, WriterMatches};
@@ -25,7 +25,6 @@ ghost use Rattle.ud_engine.specs.Advancing.{IsCursor};
 use crate::line_processor::LineProcessor;
 use crate::output::Output;
 use crate::plan_source::PlanSource;
-use crate::write_failed::WriteFailed;
 use std::io::Write;
 use std::marker::Model;
 use std::mem;
@@ -175,7 +174,7 @@ impl<P: PlanSource, S: Show, H: LineBuffer> EngineOf<P, S, H> {
     ghost use Rattle.ud_engine.specs.Feeding.{RecordsFault};
     ghost use Rattle.ud_engine.specs.Finishing.{Finishes};
     ghost use Rattle.ud_engine.specs.Advancing.{IsCursor, IsNext, Moves, IsPart, TakesPart, IsStep};
-    ghost use Rattle.ud_engine.specs.FaultEffects.{ErrorMatchesFailure, FailsAfterFlush};
+    ghost use Rattle.ud_engine.specs.FaultEffects.{result_after};
     ghost use Rattle.ud_model.specs.declared.limits.TheConstants.{LINE_BYTES};
 
     /// Returns an engine before the first byte, as `new` does, whose line buffer is an `H`.
@@ -338,15 +337,32 @@ impl<P: PlanSource, S: Show, H: LineBuffer> EngineOf<P, S, H> {
         while cursor.pos < chunk.len() {
             match self.advance(chunk, cursor, out) {
                 Ok(next) => cursor = next,
-                Err(fault) => return Err(self.flush_and_fail(
-                    fault,
-                    &chunk[cursor.pending_start..cursor.pos],
-                    out,
-                )),
+                Err(fault) => {
+                    let pending = &chunk[cursor.pending_start..cursor.pos];
+                    return self.end_chunk(Err(fault), pending, out);
+                }
             }
         }
-        self.flush_pending(&chunk[cursor.pending_start..cursor.pos], out)?;
-        Ok(())
+        self.end_chunk(Ok(()), &chunk[cursor.pending_start..cursor.pos], out)
+    }
+
+    /// Writes the buffered bytes and `pending`. Returns how the chunk ended: by a failed write, if
+    /// there is one, or as its lines did.
+    fn end_chunk<W: Write>(
+        &mut self,
+        ended: Result<(), RunFault>,
+        pending: &[u8],
+        out: &mut Watched<W>,
+    ) -> Result<(), RunFault>
+        ensures written { Takes W.contents self.old.buffered [] out.old out.new pending.now }
+        ensures flushed { self.new ≡ record self.old { buffered = [] } }
+        ensures ended { result ≡ result_after out.new.failed ended }
+    {
+        self.output.flush_with(pending, out);
+        if out.failed() {
+            return Err(RunFault::Write);
+        }
+        ended
     }
 
     /// Makes the next step through a chunk: skips text lines, decides one line, or buffers the line
@@ -363,7 +379,6 @@ impl<P: PlanSource, S: Show, H: LineBuffer> EngineOf<P, S, H> {
         cursor: Cursor,
         out: &mut Watched<W>,
     ) -> Result<Cursor, RunFault>
-        requires not_failed { out.old.failed ≡ false }
         requires cursor { IsCursor H.CAPACITY self.old.lines chunk.now cursor }
         requires some { cursor.pos < length chunk.now }
         ensures next { IfOk result (IsNext H.CAPACITY self.new.lines chunk.now cursor) }
@@ -382,16 +397,12 @@ impl<P: PlanSource, S: Show, H: LineBuffer> EngineOf<P, S, H> {
     ///
     /// If they are copied, the pending bytes extend over them. If they are dropped, the pending
     /// bytes are appended to the output, and nothing is pending after them.
-    ///
-    /// # Errors
-    /// `Write` only, as `advance`.
     fn advance_in_bulk<W: Write>(
         &mut self,
         chunk: &[u8],
         cursor: Cursor,
         out: &mut Watched<W>,
     ) -> Result<Cursor, RunFault>
-        requires not_failed { out.old.failed ≡ false }
         requires cursor { IsCursor H.CAPACITY self.old.lines chunk.now cursor }
         requires untried { cursor.bulk_tried ≡ false }
         requires some { cursor.pos < cursor.whole_end }
@@ -412,7 +423,7 @@ impl<P: PlanSource, S: Show, H: LineBuffer> EngineOf<P, S, H> {
                 bulk_tried: true,
             });
         }
-        self.output.append(pending, out)?;
+        self.output.append(pending, out);
         Ok(Cursor {
             pending_start: at,
             pos: at,
@@ -432,7 +443,6 @@ impl<P: PlanSource, S: Show, H: LineBuffer> EngineOf<P, S, H> {
         cursor: Cursor,
         out: &mut Watched<W>,
     ) -> Result<Cursor, RunFault>
-        requires not_failed { out.old.failed ≡ false }
         requires cursor { IsCursor H.CAPACITY self.old.lines chunk.now cursor }
         requires some { cursor.pos < length chunk.now }
         ensures next { IfOk result (IsNext H.CAPACITY self.new.lines chunk.now cursor) }
@@ -452,7 +462,7 @@ impl<P: PlanSource, S: Show, H: LineBuffer> EngineOf<P, S, H> {
         let printer = &mut self.printer;
         let put = match printer.print(&line, self.plan.symbols(), pending, &mut self.output, out) {
             Ok(put) => put,
-            Err(fault) => return Err(fault),
+            Err(fault) => return Err(RunFault::Section(fault)),
         };
         if put {
             return Ok(Cursor {
@@ -484,7 +494,6 @@ impl<P: PlanSource, S: Show, H: LineBuffer> EngineOf<P, S, H> {
         pending: &[u8],
         out: &mut Watched<W>,
     ) -> Result<usize, RunFault>
-        requires not_failed { out.old.failed ≡ false }
         requires some { 0 < length rest.now }
         requires fits { HasCapacity H.CAPACITY self.old.lines (length rest.now) }
         ensures part { IfOk result (IsPart H.CAPACITY self.new.lines rest.now) }
@@ -497,7 +506,7 @@ impl<P: PlanSource, S: Show, H: LineBuffer> EngineOf<P, S, H> {
             Err(fault) => return Err(RunFault::Text(fault)),
         };
         if !taken.whole {
-            self.output.append(pending, out)?;
+            self.output.append(pending, out);
             return Ok(taken.used);
         }
         let printed = self.printer.put_line(
@@ -509,48 +518,9 @@ impl<P: PlanSource, S: Show, H: LineBuffer> EngineOf<P, S, H> {
         );
         self.lines.clear();
         if let Err(fault) = printed {
-            return Err(fault);
+            return Err(RunFault::Section(fault));
         }
         Ok(taken.used)
-    }
-
-    /// Flushes the pending output and returns `fault`, or `Write` if the flush fails.
-    fn flush_and_fail<W: Write>(
-        &mut self,
-        fault: RunFault,
-        pending: &[u8],
-        out: &mut Watched<W>,
-    ) -> RunFault
-        requires not_failed { ErrorMatchesFailure out.old.failed fault }
-        ensures written { FailsAfterFlush out.new.failed (W.contents out.old.inner)
-            (W.contents out.new.inner) (self.old.buffered ++ pending.now) fault result }
-    {
-        match fault {
-            RunFault::Write => RunFault::Write,
-            _ => match self.flush_pending(pending, out) {
-                Ok(()) => fault,
-                Err(failed) => RunFault::from(failed),
-            },
-        }
-    }
-
-    /// Writes the buffered bytes and `pending`.
-    ///
-    /// # Errors
-    /// Fails if a write fails. A prefix of all these bytes was written, and `out` is fused.
-    fn flush_pending<W: Write>(
-        &mut self,
-        pending: &[u8],
-        out: &mut Watched<W>,
-    ) -> Result<(), WriteFailed>
-        requires not_failed { out.old.failed ≡ false }
-        ensures appends { AppendsAllButOrPrefix (is_ok result) (W.contents out.old.inner)
-            (W.contents out.new.inner) (self.old.buffered ++ pending.now) [] }
-        ensures failed { out.new.failed ≡ is_err result }
-        ensures rest { (buffered : List ℕ) × (self.new ≡ record self.old { buffered = buffered }) ×
-            OnOk result (buffered ≡ []) }
-    {
-        self.output.flush_with(pending, out)
     }
 }
 
@@ -577,9 +547,12 @@ fn print_last_line<S: Show, H: LineBuffer, W: Write>(
         Err(fault) => Err(RunFault::Text(fault)),
         Ok(false) => Ok(()),
         Ok(true) => match printer.put_line(&lines.line(), symbols, &[], output, out) {
-            Err(fault) => Err(fault),
+            Err(fault) => Err(RunFault::Section(fault)),
             Ok(()) => {
-                output.flush_buffer(out)?;
+                output.flush(out);
+                if out.failed() {
+                    return Err(RunFault::Write);
+                }
                 Ok(())
             }
         },

@@ -14,7 +14,6 @@ mod output;
 mod output_buffer;
 mod plan_source;
 mod pump;
-mod write_failed;
 
 pub use engine::{Engine, EngineOf};
 pub use plan_source::PlanSource;

@@ -1,7 +1,7 @@
 //! Deciding lines, one after another, by a scanner and a machine.
 
-ghost use Rattle.std.specs.Prelude.{◌≡◌, ◌≤◌, ◌++◌, [], ℕ, List, length, take, IfOk, IfErr, OnOk};
-ghost use Rattle.std.specs.Prelude.{false};
+ghost use Rattle.std.specs.Prelude.{◌≡◌, ◌≤◌, ◌++◌, [], ℕ, List, length, take, IfOk};
+ghost use Rattle.std.specs.Prelude.{false, OnErr};
 ghost use Rattle.ud_model.specs.text.Lines.{NoNewline};
 ghost use Rattle.ud_model.specs.text.Scans.{Reading};
 ghost use Rattle.ud_model.specs.sections.Tree.{Item, Tree, closed, nothing};
@@ -19,13 +19,11 @@ ghost use Rattle.ud_sections.specs.sections.Transitions.{text_policy_of};
 ghost use Rattle.ud_engine.specs.DecidedLines.{DeciderRepresents, DecidesNext, DecidesText};
 ghost use Rattle.ud_engine.specs.DecidedLines.{consumed, decider_of};
 ghost use Rattle.ud_engine.specs.NameListing.{ListsNext, ListsWith};
-ghost use Rattle.ud_engine.specs.FaultEffects.{OutputUnchanged};
 
 use crate::listing::append_names;
 use crate::output::Output;
 use std::io::Write;
 use ud_cond::Symbols;
-use ud_faults::RunFault;
 use ud_io::Watched;
 use ud_model::Settings;
 use ud_sections::{Lister, Machine, SectionFault, Step, TextPolicy};
@@ -96,9 +94,7 @@ impl LineDecider {
     /// Decides the next line, and appends `pending` and the line's names.
     ///
     /// # Errors
-    /// - `Section` if the line is faulty. Nothing is appended.
-    /// - `Write` if a write fails. A prefix of the buffered bytes, `pending` and the line's names
-    ///   was written.
+    /// Fails if the line is faulty. Nothing is appended.
     #[inline(never)]
     pub(crate) fn list_names<W: Write>(
         &mut self,
@@ -108,15 +104,12 @@ impl LineDecider {
         pending: &[u8],
         output: &mut Output,
         out: &mut Watched<W>,
-    ) -> Result<(), RunFault>
+    ) -> Result<(), SectionFault>
         requires within { IsWithinLimits (as_line line.now) }
         requires one_line { NoNewline line.now.body.now }
-        requires not_failed { out.old.failed ≡ false }
         ensures lists { ListsNext W.contents symbols.now self.old self.new (as_line line.now)
             lister.old pending.now output.old output.new out.old out.new result }
-        ensures not_failed { OnOk result (out.new.failed ≡ false) }
-        ensures output_unchanged { IfErr result
-            (OutputUnchanged out.old out.new output.old output.new) }
+        ensures unchanged { OnErr result ((out.new ≡ out.old) × (output.new ≡ output.old)) }
         ensures stays { lister.new ≡ lister.old }
     {
         if line.body.len() > SHORT_LINE_BYTES {
@@ -144,15 +137,12 @@ impl LineDecider {
         pending: &[u8],
         output: &mut Output,
         out: &mut Watched<W>,
-    ) -> Result<(), RunFault>
+    ) -> Result<(), SectionFault>
         requires within { IsWithinLimits (as_line line.now) }
         requires one_line { NoNewline line.now.body.now }
-        requires not_failed { out.old.failed ≡ false }
         ensures lists { ListsNext W.contents symbols.now self.old self.new (as_line line.now)
             lister.old pending.now output.old output.new out.old out.new result }
-        ensures not_failed { OnOk result (out.new.failed ≡ false) }
-        ensures output_unchanged { IfErr result
-            (OutputUnchanged out.old out.new output.old output.new) }
+        ensures unchanged { OnErr result ((out.new ≡ out.old) × (output.new ≡ output.old)) }
         ensures stays { lister.new ≡ lister.old }
     {
         let mut scanner = Scanner::new();
@@ -248,9 +238,7 @@ fn decide_with<const N: usize>(
 /// line's names.
 ///
 /// # Errors
-/// - `Section` if the line is faulty. Nothing is appended.
-/// - `Write` if a write fails. A prefix of the buffered bytes, `pending` and the line's names was
-///   written.
+/// Fails if the line is faulty. Nothing is appended.
 #[inline(always)]
 fn list_names_with<const N: usize, W: Write>(
     scanner: &mut ScannerOf<N>,
@@ -261,26 +249,23 @@ fn list_names_with<const N: usize, W: Write>(
     pending: &[u8],
     output: &mut Output,
     out: &mut Watched<W>,
-) -> Result<(), RunFault>
+) -> Result<(), SectionFault>
     requires fits { length line.now.body.now ≤ N }
     requires within { IsWithinLimits (as_line line.now) }
     requires one_line { NoNewline line.now.body.now }
-    requires not_failed { out.old.failed ≡ false }
     ensures lists { ListsWith W.contents symbols.now scanner.old scanner.new machine.old machine.new
         (as_line line.now) lister.old pending.now output.old output.new out.old out.new result }
-    ensures not_failed { OnOk result (out.new.failed ≡ false) }
-    ensures output_unchanged { IfErr result
-        (OutputUnchanged out.old out.new output.old output.new) }
+    ensures unchanged { OnErr result ((out.new ≡ out.old) × (output.new ≡ output.old)) }
     ensures stays { lister.new ≡ lister.old }
 {
     let mode = machine.mode();
     let scan = scanner.read(mode, line);
     if let Err(fault) = machine.step(&scan, line, symbols) {
-        return Err(RunFault::Section(fault));
+        return Err(fault);
     }
-    output.append(pending, out)?;
+    output.append(pending, out);
     let around = machine.depth().saturating_sub(1);
     let prefix = lister.prefix(around);
-    append_names(output, prefix, Lister::names(&scan), out)?;
+    append_names(output, prefix, Lister::names(&scan), out);
     Ok(())
 }

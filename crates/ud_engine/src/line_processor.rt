@@ -4,8 +4,8 @@
 //! the printer leaves unchanged isn't appended: the engine copies it from the chunk, with its
 //! neighbors.
 
-ghost use Rattle.std.specs.Prelude.{◌≡◌, bytes_eq, ◌∷◌, [], ◌++◌, ◌≤◌, List, ℕ, length, take, IfOk};
-ghost use Rattle.std.specs.Prelude.{IfErr, OnOk, OnErr, true, false, is_err};
+ghost use Rattle.std.specs.Prelude.{◌≡◌, bytes_eq, ◌∷◌, [], ◌++◌, ◌≤◌, List, ℕ, length, take, true};
+ghost use Rattle.std.specs.Prelude.{false, OnErr};
 ghost use Rattle.ud_model.specs.text.Lines.{NoNewline, text_of};
 ghost use Rattle.ud_model.specs.answer.Printing.{Judged};
 ghost use Rattle.ud_model.specs.declared.limits.TheConstants.{TEXT_LINES};
@@ -19,15 +19,12 @@ ghost use Rattle.ud_sections.specs.sections.StepViews.{judged_step, HoldsKeyword
 ghost use Rattle.ud_engine.specs.ProcessedLines.{ShowsLine, IsLeftOf, lister_of, printed_of};
 ghost use Rattle.ud_engine.specs.ProcessedLines.{ShowsNext};
 ghost use Rattle.ud_engine.specs.DecidedLines.{consumed};
-ghost use Rattle.ud_engine.specs.FaultEffects.{OutputUnchanged};
-ghost use Rattle.ud_io.specs.Watched.{AppendsPrefix};
+ghost use Rattle.ud_engine.specs.Sinks.{sink};
 
 use crate::line_decider::LineDecider;
 use crate::output::Output;
-use crate::write_failed::WriteFailed;
 use std::io::Write;
 use ud_cond::Symbols;
-use ud_faults::RunFault;
 use ud_io::Watched;
 use ud_model::{Listing, Settings};
 use ud_sections::{LineOutput, Lister, SectionFault, Show, Step};
@@ -88,9 +85,7 @@ impl<S: Show> LineProcessor<S> {
     /// Returns whether they were appended. If the output is the line itself, nothing is appended.
     ///
     /// # Errors
-    /// - `Section` if the line is faulty. Nothing is appended.
-    /// - `Write` if a write fails. A prefix of the buffered bytes, `pending` and the output for the
-    ///   line was written.
+    /// Fails if the line is faulty. Nothing is appended.
     #[inline(always)]
     pub(crate) fn print<W: Write>(
         &mut self,
@@ -99,27 +94,28 @@ impl<S: Show> LineProcessor<S> {
         pending: &[u8],
         output: &mut Output,
         out: &mut Watched<W>,
-    ) -> Result<bool, RunFault>
+    ) -> Result<bool, SectionFault>
         requires within { IsWithinLimits (as_line line.now) }
         requires one_line { NoNewline line.now.body.now }
-        requires not_failed { out.old.failed ≡ false }
         ensures prints { PrintsNext S.represents S.piece W.contents symbols.now self.old self.new
             (as_line line.now) pending.now output.old output.new out.old out.new (λ put. put)
             result }
-        ensures not_failed { OnOk result (out.new.failed ≡ false) }
-        ensures output_unchanged { IfErr result
-            (OutputUnchanged out.old out.new output.old output.new) }
+        ensures unchanged { OnErr result ((out.new ≡ out.old) × (output.new ≡ output.old)) }
     {
         match &mut self.lister {
             Some(lister) => {
-                self.decider
-                    .list_names(line, symbols, lister, pending, output, out)?;
-                Ok(true)
+                let listed = self
+                    .decider
+                    .list_names(line, symbols, lister, pending, output, out);
+                match listed {
+                    Err(fault) => Err(fault),
+                    Ok(()) => Ok(true),
+                }
             }
             None => match self.decider.decide(line, symbols) {
-                Err(fault) => Err(RunFault::Section(fault)),
+                Err(fault) => Err(fault),
                 Ok(step) => {
-                    let shown = append_line(&mut self.printer, line, step, pending, output, out)?;
+                    let shown = append_line(&mut self.printer, line, step, pending, output, out);
                     self.differs |= shown;
                     Ok(shown)
                 }
@@ -139,22 +135,23 @@ impl<S: Show> LineProcessor<S> {
         pending: &[u8],
         output: &mut Output,
         out: &mut Watched<W>,
-    ) -> Result<(), RunFault>
+    ) -> Result<(), SectionFault>
         requires within { IsWithinLimits (as_line line.now) }
         requires one_line { NoNewline line.now.body.now }
-        requires not_failed { out.old.failed ≡ false }
         ensures prints { PrintsNext S.represents S.piece W.contents symbols.now self.old self.new
             (as_line line.now) pending.now output.old output.new out.old out.new (λ done. true)
             result }
-        ensures not_failed { OnOk result (out.new.failed ≡ false) }
-        ensures output_unchanged { IfErr result
-            (OutputUnchanged out.old out.new output.old output.new) }
+        ensures unchanged { OnErr result ((out.new ≡ out.old) × (output.new ≡ output.old)) }
     {
-        let shown = self.print(line, symbols, pending, output, out)?;
-        if !shown {
-            output.append_parts(&[pending, line.body, line.ending], out)?;
+        match self.print(line, symbols, pending, output, out) {
+            Err(fault) => Err(fault),
+            Ok(shown) => {
+                if !shown {
+                    output.append_parts(&[pending, line.body, line.ending], out);
+                }
+                Ok(())
+            }
         }
-        Ok(())
     }
 
     /// Consumes the longest prefix of `bytes` that is recognized as text lines, if names are listed
@@ -226,9 +223,6 @@ impl<S: Show> LineProcessor<S> {
 
 /// Appends `pending` and the printer's output for the next line, if that differs from the line.
 /// Returns whether they were appended.
-///
-/// # Errors
-/// Fails if a write fails. A prefix of all these bytes was written, and `out` is fused.
 #[inline(always)]
 fn append_line<S: Show, W: Write>(
     show: &mut S,
@@ -237,19 +231,17 @@ fn append_line<S: Show, W: Write>(
     pending: &[u8],
     output: &mut Output,
     out: &mut Watched<W>,
-) -> Result<bool, WriteFailed>
-    requires not_failed { out.old.failed ≡ false }
+) -> bool
     requires keyword { HoldsKeyword step line.now }
     ensures represents { (before : List Judged) → S.represents show.old before →
         S.represents show.new (before ++ judged_step line.now step ∷ []) }
     ensures stays { (before : List Judged) → (j : Judged) →
         S.piece show.new before j ≡ S.piece show.old before j }
-    ensures failed { out.new.failed ≡ is_err result }
     ensures shows { ShowsNext S.represents S.piece W.contents show.old (judged_step line.now step)
         pending.now output.old output.new out.old out.new result }
 {
     match show.line_output(step.verdict) {
-        LineOutput::Whole => Ok(false),
+        LineOutput::Whole => false,
         LineOutput::Nothing => append_line_output(line, &[], pending, output, out),
         LineOutput::Ending => append_line_output(line, line.ending, pending, output, out),
         LineOutput::Parts => append_parts_of(show, line, step, pending, output, out),
@@ -260,9 +252,6 @@ fn append_line<S: Show, W: Write>(
 /// appended.
 ///
 /// `left` is the output for the line: nothing or its ending.
-///
-/// # Errors
-/// As `append_line`.
 #[inline(always)]
 fn append_line_output<W: Write>(
     line: &Line<'_>,
@@ -270,22 +259,17 @@ fn append_line_output<W: Write>(
     pending: &[u8],
     output: &mut Output,
     out: &mut Watched<W>,
-) -> Result<bool, WriteFailed>
-    requires not_failed { out.old.failed ≡ false }
+) -> bool
     requires left { IsLeftOf left.now line.now.ending.now }
-    ensures failed { out.new.failed ≡ is_err result }
-    ensures failed_prefix { OnErr result (AppendsPrefix (W.contents out.old.inner)
-        (W.contents out.new.inner) (output.old ++ (pending.now ++ left.now))) }
-    ensures shown { IfOk result (λ shown.
-        ShowsLine shown (W.contents out.old.inner) (W.contents out.new.inner) output.old output.new
-        pending.now left.now (text_of (as_line line.now))) }
+    ensures { ShowsLine result (sink W.contents out.old) (sink W.contents out.new) output.old
+        output.new pending.now left.now (text_of (as_line line.now)) }
 {
     if is_line(left, line) {
-        return Ok(false);
+        return false;
     }
-    output.append(pending, out)?;
-    output.append(left, out)?;
-    Ok(true)
+    output.append(pending, out);
+    output.append(left, out);
+    true
 }
 
 /// Returns whether `left`, which is nothing or the line's ending, is the line itself.
@@ -299,9 +283,6 @@ fn is_line(left: &[u8], line: &Line<'_>) -> bool
 
 /// Appends `pending` and the parts that the printer makes of the next line, if they differ from the
 /// line. Returns whether they were appended.
-///
-/// # Errors
-/// As `append_line`.
 #[inline(never)]
 fn append_parts_of<S: Show, W: Write>(
     show: &mut S,
@@ -310,14 +291,12 @@ fn append_parts_of<S: Show, W: Write>(
     pending: &[u8],
     output: &mut Output,
     out: &mut Watched<W>,
-) -> Result<bool, WriteFailed>
-    requires not_failed { out.old.failed ≡ false }
+) -> bool
     requires keyword { HoldsKeyword step line.now }
     ensures represents { (before : List Judged) → S.represents show.old before →
         S.represents show.new (before ++ judged_step line.now step ∷ []) }
     ensures stays { (before : List Judged) → (j : Judged) →
         S.piece show.new before j ≡ S.piece show.old before j }
-    ensures failed { out.new.failed ≡ is_err result }
     ensures shows { ShowsNext S.represents S.piece W.contents show.old (judged_step line.now step)
         pending.now output.old output.new out.old out.new result }
 {
@@ -328,9 +307,9 @@ fn append_parts_of<S: Show, W: Write>(
     };
     let pieces = show.pieces(&line, step);
     if pieces.same() {
-        return Ok(false);
+        return false;
     }
-    output.append(pending, out)?;
-    output.append_parts(pieces.parts(), out)?;
-    Ok(true)
+    output.append(pending, out);
+    output.append_parts(pieces.parts(), out);
+    true
 }

@@ -1,11 +1,13 @@
 //! Buffered output, so that few writes are made.
+//!
+//! A failed write is recorded by the writer, and what is appended after it is dropped. So nothing
+//! that appends has an error, and a caller asks the writer once, at the end of a chunk.
 
-ghost use Rattle.std.specs.Prelude.{◌≡◌, ◌++◌, [], false, is_ok, is_err, OnOk};
+ghost use Rattle.std.specs.Prelude.{◌≡◌, []};
 ghost use Rattle.std.specs.List.{flat_map};
-ghost use Rattle.ud_io.specs.Buffering.{AppendsAllButOrPrefix};
+ghost use Rattle.ud_engine.specs.Sinks.{Takes};
 
 use crate::output_buffer::OutputBuffer;
-use crate::write_failed::{WriteFailed, ok_if_written};
 use std::io::Write;
 use std::marker::Model;
 use ud_io::{Watched, write_all};
@@ -35,104 +37,65 @@ impl Output {
     }
 
     /// Appends `bytes` to the buffer. Writes what doesn't fit.
-    ///
-    /// # Errors
-    /// Fails if a write fails. A prefix of the buffered bytes and `bytes` was written, and `out`
-    /// is fused.
     #[inline(always)]
-    pub(crate) fn append<W: Write>(
-        &mut self,
-        bytes: &[u8],
-        out: &mut Watched<W>,
-    ) -> Result<(), WriteFailed>
-        requires not_failed { out.old.failed ≡ false }
-        ensures appends { AppendsAllButOrPrefix (is_ok result) (W.contents out.old.inner)
-            (W.contents out.new.inner) (self.old ++ bytes.now) self.new }
-        ensures failed { out.new.failed ≡ is_err result }
+    pub(crate) fn append<W: Write>(&mut self, bytes: &[u8], out: &mut Watched<W>)
+        ensures { Takes W.contents self.old self.new out.old out.new bytes.now }
     {
-        if bytes.is_empty() {
-            return Ok(());
+        if bytes.is_empty() || self.buffered.try_append(bytes) {
+            return;
         }
-        self.append_nonempty(bytes, out)
+        self.append_after_flush(bytes, out);
     }
 
-    /// Appends `bytes`, as `append` does, without its test for empty `bytes`.
-    fn append_nonempty<W: Write>(
-        &mut self,
-        bytes: &[u8],
-        out: &mut Watched<W>,
-    ) -> Result<(), WriteFailed>
-        requires not_failed { out.old.failed ≡ false }
-        ensures appends { AppendsAllButOrPrefix (is_ok result) (W.contents out.old.inner)
-            (W.contents out.new.inner) (self.old ++ bytes.now) self.new }
-        ensures failed { out.new.failed ≡ is_err result }
+    /// Appends `bytes` after all buffered bytes were written.
+    fn append_after_flush<W: Write>(&mut self, bytes: &[u8], out: &mut Watched<W>)
+        ensures { Takes W.contents self.old self.new out.old out.new bytes.now }
     {
+        self.flush(out);
         if self.buffered.try_append(bytes) {
-            return Ok(());
+            return;
         }
-        self.flush_buffer(out)?;
-        if self.buffered.try_append(bytes) {
-            return Ok(());
-        }
-        ok_if_written(write_all(out, bytes))
+        write(bytes, out);
     }
 
     /// Appends `parts` in turn.
-    ///
-    /// # Errors
-    /// As `append`.
-    pub(crate) fn append_parts<W: Write>(
-        &mut self,
-        parts: &[&[u8]],
-        out: &mut Watched<W>,
-    ) -> Result<(), WriteFailed>
-        requires not_failed { out.old.failed ≡ false }
-        ensures appends { AppendsAllButOrPrefix (is_ok result) (W.contents out.old.inner)
-            (W.contents out.new.inner) (self.old ++ flat_map (λ p. p.now) parts.now) self.new }
-        ensures failed { out.new.failed ≡ is_err result }
+    pub(crate) fn append_parts<W: Write>(&mut self, parts: &[&[u8]], out: &mut Watched<W>)
+        ensures { Takes W.contents self.old self.new out.old out.new
+            (flat_map (λ p. p.now) parts.now) }
     {
         for part in parts {
-            self.append(part, out)?;
+            self.append(part, out);
         }
-        Ok(())
     }
 
     /// Writes all buffered bytes, and empties the buffer.
-    ///
-    /// # Errors
-    /// Fails if a write fails. A prefix of the buffered bytes was written, and `out` is fused.
-    pub(crate) fn flush_buffer<W: Write>(&mut self, out: &mut Watched<W>) -> Result<(), WriteFailed>
-        requires not_failed { out.old.failed ≡ false }
-        ensures appends { AppendsAllButOrPrefix (is_ok result) (W.contents out.old.inner)
-            (W.contents out.new.inner) self.old self.new }
-        ensures failed { out.new.failed ≡ is_err result }
-        ensures all { OnOk result (self.new ≡ []) }
+    pub(crate) fn flush<W: Write>(&mut self, out: &mut Watched<W>)
+        ensures takes { Takes W.contents self.old self.new out.old out.new [] }
+        ensures empty { self.new ≡ [] }
     {
-        let written = write_all(out, self.buffered.as_slice());
+        write(self.buffered.as_slice(), out);
         self.buffered.clear();
-        ok_if_written(written)
     }
 
     /// Writes all buffered bytes and `bytes`, and empties the buffer. If nothing is buffered,
     /// `bytes` isn't copied.
-    ///
-    /// # Errors
-    /// Fails if a write fails. A prefix of all these bytes was written, and `out` is fused.
-    pub(crate) fn flush_with<W: Write>(
-        &mut self,
-        bytes: &[u8],
-        out: &mut Watched<W>,
-    ) -> Result<(), WriteFailed>
-        requires not_failed { out.old.failed ≡ false }
-        ensures appends { AppendsAllButOrPrefix (is_ok result) (W.contents out.old.inner)
-            (W.contents out.new.inner) (self.old ++ bytes.now) [] }
-        ensures failed { out.new.failed ≡ is_err result }
-        ensures all { OnOk result (self.new ≡ []) }
+    pub(crate) fn flush_with<W: Write>(&mut self, bytes: &[u8], out: &mut Watched<W>)
+        ensures takes { Takes W.contents self.old self.new out.old out.new bytes.now }
+        ensures empty { self.new ≡ [] }
     {
         if self.buffered.is_empty() {
-            return ok_if_written(write_all(out, bytes));
+            return write(bytes, out);
         }
-        self.append(bytes, out)?;
-        self.flush_buffer(out)
+        self.append(bytes, out);
+        self.flush(out);
+    }
+}
+
+/// Writes `bytes`, unless the writer has failed.
+fn write<W: Write>(bytes: &[u8], out: &mut Watched<W>)
+    ensures { Takes W.contents [] [] out.old out.new bytes.now }
+{
+    if !out.failed() {
+        write_all(out, bytes);
     }
 }

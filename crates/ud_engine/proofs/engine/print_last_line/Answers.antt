@@ -1,11 +1,9 @@
-use Rattle.std.proofs.Common.{rules, sym, ap, subst, suc, List, ℕ}
+use Rattle.std.proofs.Common.{rules, sym, ap, subst, suc, List, [], ◌++◌, append-nil, ℕ}
 use Rattle.ud_model.specs.text.Lines.{Line, NoNewline}
 use Rattle.ud_text.specs.lines.LinesState.{LinesState}
 use Rattle.ud_model.specs.text.LineViews.{as_line}
 use Rattle.ud_engine.specs.Finishing.{without_fault}
-use Rattle.ud_io.specs.Buffering.{AppendsAllBut}
-use Rattle.ud_faults.specs.declared.run.RunFault.TheVariants.{Write}
-use Rattle.ud_engine.proofs.ErrLemmas.{last_err}
+use Rattle.ud_engine.specs.Sinks.{sink, TakesAllBut}
 use Rattle.ud_engine.proofs.StepLemmas.{rest_feedless}
 use Rattle.ud_engine.proofs.EndLemmas.{last_printed, last_cut, last_fails}
 use Rattle.ud_engine.proofs.engine.print_last_line.Goals as goal
@@ -20,24 +18,25 @@ pub returns-in-Err-put_line-clause-last : goal.returns-in-Err-put_line-clause-la
 returns-in-Err-put_line-clause-last g c = λ s fed.
     last_fails g.S.Show.represents g.S.Show.piece s.options s.pieces (without_fault c.args.symbols.now c.args.lines.now c.args.printer.now c.args.output.now) s.text s.printed fed (search rules)
     c.close.new.self c.in-Ok-true.ensures.value.1 (as_line c.line.result) c.line.ensures.value
-    g.W.Write.contents c.args.out.now c.put_line.new.out c.args.output.now c.put_line.new.output fed.written c.requires.not_failed c.in-Err-put_line.fault
-    (c.in-Err-put_line.ensures.prints s.options s.pieces fed.taken.items fed.taken.tree fed.taken.symbols fed.taken.has) c.in-Err-put_line.ensures.output_unchanged
+    g.W.Write.contents c.args.out.now c.put_line.new.out c.requires.not_failed c.in-Err-put_line.ensures.unchanged.0 c.in-Err-put_line.fault
+    (c.in-Err-put_line.ensures.prints s.options s.pieces fed.taken.items fed.taken.tree fed.taken.symbols fed.taken.has)
 
-pub returns-in_ok-flush_buffer-in-Ok-clause-last : goal.returns-in_ok-flush_buffer-in-Ok-clause-last
-returns-in_ok-flush_buffer-in-Ok-clause-last g c = λ s fed.
+pub returns-else-failed-clause-last : goal.returns-else-failed-clause-last
+returns-else-failed-clause-last g c = λ s fed.
     last_printed g.S.Show.represents g.S.Show.piece s.options s.pieces (without_fault c.args.symbols.now c.args.lines.now c.args.printer.now c.args.output.now) s.text s.printed fed (search rules)
     c.close.new.self c.in-Ok-true.ensures.value.1 (as_line c.line.result) c.line.ensures.value
-    c.put_line.new.self (g.W.Write.contents c.args.out.now.inner) (g.W.Write.contents c.put_line.new.out.inner) c.put_line.new.output
-    (c.in-Ok.ensures.prints s.options s.pieces fed.taken.items fed.taken.tree fed.taken.symbols fed.taken.has) (g.W.Write.contents c.flush_buffer.new.out.inner)
-    (subst (λ x. AppendsAllBut (g.W.Write.contents c.put_line.new.out.inner) (g.W.Write.contents c.flush_buffer.new.out.inner) c.put_line.new.output x)
-    c.in_ok-flush_buffer-in-Ok.ensures.all c.in_ok-flush_buffer-in-Ok.ensures.appends)
+    c.put_line.new.self (sink g.W.Write.contents c.args.out.now) (sink g.W.Write.contents c.put_line.new.out) (sink g.W.Write.contents c.flush.new.out) c.put_line.new.output
+    (c.in-Ok.ensures.prints s.options s.pieces fed.taken.items fed.taken.tree fed.taken.symbols fed.taken.has) c.requires.not_failed
+    (subst (λ x. TakesAllBut (sink g.W.Write.contents c.put_line.new.out) (sink g.W.Write.contents c.flush.new.out) x []) (append-nil c.put_line.new.output)
+    (subst (λ x. TakesAllBut (sink g.W.Write.contents c.put_line.new.out) (sink g.W.Write.contents c.flush.new.out) (c.put_line.new.output ++ []) x) c.flush.ensures.empty c.flush.ensures.takes)) (search rules)
 
-pub returns-in_err-flush_buffer-in-Ok-clause-last : goal.returns-in_err-flush_buffer-in-Ok-clause-last
-returns-in_err-flush_buffer-in-Ok-clause-last g c = λ s fed. last_err g.S.Show.represents g.S.Show.piece _ s _ _ _ c.from_residual.result Write c.from_residual.ensures.1 (
+pub returns-then-failed-clause-last : goal.returns-then-failed-clause-last
+returns-then-failed-clause-last g c = λ s fed. (
   search rules,
   last_cut g.S.Show.represents g.S.Show.piece s.options s.pieces (without_fault c.args.symbols.now c.args.lines.now c.args.printer.now c.args.output.now) s.text s.printed fed (search rules)
       c.close.new.self c.in-Ok-true.ensures.value.1 (as_line c.line.result) c.line.ensures.value
-      c.put_line.new.self (g.W.Write.contents c.args.out.now.inner) (g.W.Write.contents c.put_line.new.out.inner) c.put_line.new.output
-      (c.in-Ok.ensures.prints s.options s.pieces fed.taken.items fed.taken.tree fed.taken.symbols fed.taken.has) (g.W.Write.contents c.flush_buffer.new.out.inner)
-      c.in_err-flush_buffer-in-Ok.ensures.appends,
+      c.put_line.new.self (sink g.W.Write.contents c.args.out.now) (sink g.W.Write.contents c.put_line.new.out) (sink g.W.Write.contents c.flush.new.out) c.put_line.new.output
+      (c.in-Ok.ensures.prints s.options s.pieces fed.taken.items fed.taken.tree fed.taken.symbols fed.taken.has) c.requires.not_failed
+      (subst (λ x. TakesAllBut (sink g.W.Write.contents c.put_line.new.out) (sink g.W.Write.contents c.flush.new.out) x []) (append-nil c.put_line.new.output)
+    (subst (λ x. TakesAllBut (sink g.W.Write.contents c.put_line.new.out) (sink g.W.Write.contents c.flush.new.out) (c.put_line.new.output ++ []) x) c.flush.ensures.empty c.flush.ensures.takes)) (search rules),
 )

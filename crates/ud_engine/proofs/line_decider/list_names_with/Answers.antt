@@ -4,10 +4,9 @@ use Rattle.ud_model.specs.sections.Items.{reading_of}
 use Rattle.ud_model.specs.sections.Directives.{content_of}
 use Rattle.ud_model.specs.answer.Listing.{names_in_content, depth_prefix}
 use Rattle.ud_model.specs.text.LineViews.{as_line}
-use Rattle.ud_faults.specs.declared.run.RunFault.TheVariants.{Write}
-use Rattle.ud_engine.proofs.ErrLemmas.{match_err}
+use Rattle.ud_engine.specs.Sinks.{sink}
 use Rattle.ud_engine.proofs.DeciderLemmas.{has_next}
-use Rattle.ud_engine.proofs.NameListingLemmas.{lists_one, listing_fails, run_fails}
+use Rattle.ud_engine.proofs.NameListingLemmas.{lists_one}
 use Rattle.ud_engine.proofs.line_decider.list_names_with.Goals as goal
 
 pub returns-in-Err-clause-lists : goal.returns-in-Err-clause-lists
@@ -16,30 +15,6 @@ returns-in-Err-clause-lists g c = λ o xs t represents h.
     let before = map reading_of xs in
     let scanned = c.read.ensures.value before h.carries ∙ ap (λ m. scan_after before m (as_line c.args.line.now)) mode in
     c.in-Err.ensures.finds_fault o xs t h.read (record { scanned = scanned; represents = represents }) h.no_fault
-
-pub returns-in_err-append-clause-lists : goal.returns-in_err-append-clause-lists
-returns-in_err-append-clause-lists g c = λ o xs t represents h.
-    let mode = c.mode-mode.ensures o xs t h.read in
-    let before = map reading_of xs in
-    let scanned = c.read.ensures.value before h.carries ∙ ap (λ m. scan_after before m (as_line c.args.line.now)) mode in
-    let read = c.in_default.ensures.represents o xs t h.read (record { scanned = scanned; represents = represents }) in
-    match_err _ _ c.from_residual.result Write c.from_residual.ensures.1
-    (run_fails o c.args.lister.now xs t _ (as_line c.args.line.now) h.read.sound read.read.sound (g.W.Write.contents c.args.out.now.inner) (g.W.Write.contents c.append.new.out.inner)
-    c.args.output.now c.args.pending.now c.in_err-append.ensures.appends)
-
-pub returns-in_err-append_names-clause-lists : goal.returns-in_err-append_names-clause-lists
-returns-in_err-append_names-clause-lists g c = λ o xs t represents h.
-    let mode = c.mode-mode.ensures o xs t h.read in
-    let before = map reading_of xs in
-    let scanned = c.read.ensures.value before h.carries ∙ ap (λ m. scan_after before m (as_line c.args.line.now)) mode in
-    let read = c.in_default.ensures.represents o xs t h.read (record { scanned = scanned; represents = represents }) in
-    let depth = c.depth.ensures.value o _ read.tree read.read in
-    match_err _ _ c.from_residual-in_err-append_names.result Write c.from_residual-in_err-append_names.ensures.1
-    (listing_fails o c.args.lister.now xs t read.tree (as_line c.args.line.now) h.read.sound read.read.sound _
-    (c.names.ensures ∙ ap (λ s. names_in_content (content_of s)) scanned) c.prefix-prefix.result.now
-    (c.prefix-prefix.ensures.text ∙ ap (depth_prefix c.args.lister.now) (c.saturating_sub-around.ensures ∙ ap (λ n. n - 1) depth))
-    (g.W.Write.contents c.args.out.now.inner) (g.W.Write.contents c.append.new.out.inner) (g.W.Write.contents c.append_names.new.out.inner)
-    c.args.output.now c.append.new.self c.args.pending.now c.in_ok-append.ensures.appends c.in_err-append_names.ensures.appends)
 
 pub returns-clause-lists : goal.returns-clause-lists
 returns-clause-lists g c = λ o xs t represents h.
@@ -52,5 +27,5 @@ returns-clause-lists g c = λ o xs t represents h.
     (c.names.ensures ∙ ap (λ s. names_in_content (content_of s)) scanned) c.prefix-prefix.result.now
     (c.prefix-prefix.ensures.text ∙ ap (depth_prefix c.args.lister.now) (c.saturating_sub-around.ensures ∙ ap (λ n. n - 1) depth))
     _ (has_next o _ xs t (as_line c.args.line.now) c.mode-mode.result mode read.tree read.read c.in_default.ensures.no_fault.1 (c.read.follows.holds-at-none before h.carries))
-    (g.W.Write.contents c.args.out.now.inner) (g.W.Write.contents c.append.new.out.inner) (g.W.Write.contents c.append_names.new.out.inner)
-    c.args.output.now c.append.new.self c.append_names.new.output c.args.pending.now c.in_ok-append.ensures.appends c.in_ok-append_names.ensures.appends
+    (sink g.W.Write.contents c.args.out.now) (sink g.W.Write.contents c.append.new.out) (sink g.W.Write.contents c.append_names.new.out)
+    c.args.output.now c.append.new.self c.append_names.new.output c.args.pending.now c.append.ensures c.append_names.ensures

@@ -1,4 +1,4 @@
-use Rattle.std.proofs.Common.{◌≡◌, false}
+use Rattle.ud_engine.specs.Sinks.{sink}
 use Rattle.ud_engine.proofs.NameListingLemmas.{NamesPut}
 use Rattle.ud_engine.proofs.listing.append_names.Given as goal
 
@@ -6,6 +6,5 @@ abbrev pub invariant-loop-name : goal.invariant-loop-name
 invariant-loop-name g l = record {
   can : (goal.iterator-loop-name g).can_next l.name-iterator;
   ends : (goal.iterator-loop-name g).is_finite l.name-iterator;
-  not_failed : l.out.failed ≡ false;
-  put : NamesPut (g.W.Write.contents l.initial.out.inner) (g.W.Write.contents l.out.inner) l.prefix l.fn.names l.name-iterator l.initial.output l.output;
+  put : NamesPut (sink g.W.Write.contents l.initial.out) (sink g.W.Write.contents l.out) l.prefix l.fn.names l.name-iterator l.initial.output l.output;
 }

@@ -1,9 +1,7 @@
 use Rattle.std.proofs.Common.{rules, refl, sym, ap, subst, ◌++◌, ◌+◌, drop, arith}
 use Rattle.ud_engine.specs.Advancing.{Advances, IsCursor, slice_between}
 use Rattle.ud_engine.specs.Feeding.{EngineState, EngineRepresentsBuffered}
-use Rattle.ud_faults.specs.declared.run.RunFault.TheVariants.{Write}
-use Rattle.ud_engine.proofs.ErrLemmas.{match_err}
-use Rattle.ud_engine.proofs.StepLemmas.{run_refused_by}
+use Rattle.ud_engine.specs.Sinks.{sink}
 use Rattle.ud_engine.proofs.CursorLemmas.{next_after, passed_kept, passed_dropped}
 use Rattle.ud_engine.proofs.engine.EngineOf.advance_in_bulk.Goals as goal
 
@@ -24,7 +22,7 @@ pub returns-then-skipped-clause-moves : goal.returns-then-skipped-clause-moves
 returns-then-skipped-clause-moves g c = λ s old.
     let h = subst (λ (e : EngineState g.row.S.Denot). EngineRepresentsBuffered g.S.Show.represents g.S.Show.piece e s.options s.pieces s.text s.printed) (sym c.self.view_is) old in
     let place = subst (λ (e : EngineState g.row.S.Denot). IsCursor g.H.LineBuffer.CAPACITY e.lines c.args.chunk.now c.args.cursor) (sym c.self.view_is) c.requires.cursor in
-    let out = g.W.Write.contents c.args.out.now.inner in
+    let out = sink g.W.Write.contents c.args.out.now in
     let f : EngineState g.row.S.Denot = record { symbols = (g.P.PlanSource.plan c.self.inside.plan).symbols; lines = c.skip_text-skipped.new.lines; printer = c.skip_text-skipped.new.self; buffered = c.self.inside.output; fault = c.self.inside.fault } in
     subst (λ (e : EngineState g.row.S.Denot). Advances g.S.Show.represents g.S.Show.piece f s.options s.pieces s.text s.printed
     (slice_between c.args.chunk.now c.args.cursor.pos (c.args.cursor.pos + c.skip_text-skipped.result.count)) out out
@@ -34,25 +32,17 @@ returns-then-skipped-clause-moves g c = λ s old.
     (place.ready c.requires.some) c.skip_text-skipped.ensures.bound c.skip_text-skipped.ensures.ends refl c.skip_text-skipped.ensures.consumed (c.skip_text-skipped.ensures.represents s.text h.took)
     (c.skip_text-skipped.ensures.printed s.options s.pieces h.items h.tree h.has) out out c.args.cursor.pending_start c.requires.cursor.from c.if-skipped.true refl)
 
-pub returns-in_err-append-clause-moves : goal.returns-in_err-append-clause-moves
-returns-in_err-append-clause-moves g c = λ s old.
-    let h = subst (λ (e : EngineState g.row.S.Denot). EngineRepresentsBuffered g.S.Show.represents g.S.Show.piece e s.options s.pieces s.text s.printed) (sym c.self.view_is) old in
-    match_err _ _ c.from_residual.result Write c.from_residual.ensures.1
-    (run_refused_by g.S.Show.represents g.S.Show.piece s.options s.pieces _ s.text s.printed h (g.W.Write.contents c.args.out.now.inner) (g.W.Write.contents c.append.new.out.inner)
-    c.args.self.now.buffered (slice_between c.args.chunk.now c.args.cursor.pending_start c.args.cursor.pos) (drop c.args.cursor.pos c.args.chunk.now)
-    (ap (λ (e : EngineState g.row.S.Denot). e.buffered) c.self.view_is) c.in_err-append.ensures.appends)
-
 pub returns-clause-moves : goal.returns-clause-moves
 returns-clause-moves g c = λ s old.
     let h = subst (λ (e : EngineState g.row.S.Denot). EngineRepresentsBuffered g.S.Show.represents g.S.Show.piece e s.options s.pieces s.text s.printed) (sym c.self.view_is) old in
     let place = subst (λ (e : EngineState g.row.S.Denot). IsCursor g.H.LineBuffer.CAPACITY e.lines c.args.chunk.now c.args.cursor) (sym c.self.view_is) c.requires.cursor in
-    let out = g.W.Write.contents c.args.out.now.inner in
+    let out = sink g.W.Write.contents c.args.out.now in
     let f : EngineState g.row.S.Denot = record { symbols = (g.P.PlanSource.plan c.self.inside.plan).symbols; lines = c.skip_text-skipped.new.lines; printer = c.skip_text-skipped.new.self; buffered = c.append.new.self; fault = c.self.inside.fault } in
-    let now = g.W.Write.contents c.append.new.out.inner in
+    let now = sink g.W.Write.contents c.append.new.out in
     subst (λ (e : EngineState g.row.S.Denot). Advances g.S.Show.represents g.S.Show.piece f s.options s.pieces s.text s.printed
     (slice_between c.args.chunk.now c.args.cursor.pos (c.args.cursor.pos + c.skip_text-skipped.result.count)) out now
     (e.buffered ++ slice_between c.args.chunk.now c.args.cursor.pending_start c.args.cursor.pos)
     (c.append.new.self ++ slice_between c.args.chunk.now (c.args.cursor.pos + c.skip_text-skipped.result.count) (c.args.cursor.pos + c.skip_text-skipped.result.count))) c.self.view_is
     (passed_dropped g.S.Show.represents g.S.Show.piece s.options s.pieces _ f s.text s.printed h c.args.chunk.now c.args.cursor.pos c.args.cursor.whole_end c.skip_text-skipped.result
     (place.ready c.requires.some) c.skip_text-skipped.ensures.bound c.skip_text-skipped.ensures.ends refl c.skip_text-skipped.ensures.consumed (c.skip_text-skipped.ensures.represents s.text h.took)
-    (c.skip_text-skipped.ensures.printed s.options s.pieces h.items h.tree h.has) out now c.args.cursor.pending_start c.requires.cursor.from (search rules) c.in_ok-append.ensures.appends)
+    (c.skip_text-skipped.ensures.printed s.options s.pieces h.items h.tree h.has) out now c.args.cursor.pending_start c.requires.cursor.from (search rules) c.append.ensures)
