@@ -5,8 +5,8 @@
 # make test       runs every case and test without a proof, side by side; make check proves them
 # make check      runs the merge gate: every proof from nothing, the edits that the prover must
 #                 refuse, the tests, and the stored runs
-# make edits      tries the second edits, which the gate leaves out; CRATES='NAME ..' those of some
-#                 crates
+# make edits      tries the second edits, which the gate leaves out, many in one check; CRATES='NAME ..'
+#                 those of some crates. make edits-test tries the tool that does it
 # make cases      runs ./unifdef on the worked cases of crates/test_runner/data
 # make examples   runs the examples of README.md and docs/EXAMPLES.md with ./unifdef
 # make manual-examples  runs the examples of the manual, but for those under DIFFERENCES
@@ -27,8 +27,8 @@
 # make packages-test  installs and uninstalls in folders of its own, makes both packages, and tries
 #                 the completions
 # make manuals    checks the version, the manuals by mandoc, the scripts by shellcheck, the language
-#                 of comments and pages by tools/style.py, and that the names and files that pages
-#                 cite exist, by tools/names.py
+#                 of comments and pages by tools/style.py, that the names and files that pages cite
+#                 exist, by tools/names.py, and that each edit can be applied, by tools/edits.py
 # make around     tries everything around the program that is quick: manuals, examples, differences,
 #                 faults, unifdef-tree and packages
 # make bench      measures ./unifdef beside the released program, and the speed of conditions
@@ -77,7 +77,7 @@ SOURCES := crates.txt HANDLES \
 	$(shell find crates -name out -prune -o \( -name '*.rt' -o -name '*.antt' \) -print)
 
 .DELETE_ON_ERROR:
-.PHONY: all build kit try test check edits cases examples manual-examples differences
+.PHONY: all build kit try test check edits edits-test cases examples manual-examples differences
 .PHONY: faults fail-alloc tree-test
 .PHONY: install uninstall dist deb packages-test manuals around bench bench-text
 .PHONY: lib lib-test install-lib uninstall-lib deb-lib
@@ -134,8 +134,11 @@ lib-test: lib
 check: kit
 	@$(RT) ci
 
-edits: kit
-	RT='$(RT)' tools/edits.py $(CRATES)
+edits: edits-test
+	@RT='$(RT)' tools/edits.py $(CRATES)
+
+edits-test: kit
+	@RT='$(RT)' tests/edits_control.py
 
 examples: unifdef unifdef-tree
 	@tests/examples.sh README.md

@@ -1,20 +1,23 @@
 #!/usr/bin/env python3
 """Tries wrong edits of the crates, many in one check: the prover must refuse each (`make edits`).
 
-    tools/edits.py [--all] [--alone] [--jobs N] [CRATE ..]     RT is Rattle's command, `rt` by default
-    tools/edits.py --self-test
+    tools/edits.py [--all] [--alone] [--jobs N] [CRATE ..]     RT is Rattle's command
+    tools/edits.py --read                                      reads all edits, and tries none
 
-The edits are those of `must-fail-second`, and with --all those of `must-fail` too. A crate is
-copied, and only the copy is edited. `rt check` runs there over what earlier checks kept.
+The edits are those of `must-fail-second`, and with --all those of `must-fail` too. The crates are
+proved first, where they aren't (tools/prove.py). Then each is copied, and only the copy is edited.
+`rt check` runs there over what the proof kept.
 
 Edits of different functions are checked together. Callers rest on a contract and never on a body,
 so the goals of a function fail only for its own edit. An edit is refused if such a goal fails: an
 obligation inside the function, or an answer in its folder of `proofs`. A call of a function that
-isn't proved doesn't count. The other edits are checked again without those that are refused, and
-at last each alone. An edit outside a body is checked alone, and so is each with --alone.
+isn't proved doesn't count. The other edits are checked again without those that are refused. If
+none is refused, they are checked in halves, and at last each alone. An edit outside a body is
+checked alone, and so is each with --alone.
 
 Prints a line for each edit, and how many there are at the end. The status is 1 if one is proved or
-can't be tried.
+can't be tried. With --read, it is 1 if an old text isn't in its file exactly once, or if two edits
+of a crate have one name.
 """
 import argparse
 import collections
@@ -36,6 +39,9 @@ REFUSED, PROVED, BAD = "refused", "PROVED", "BAD EDIT"
 
 # The line on which a function begins. `const fn` is left out: a type may rest on the body.
 FUNCTION = re.compile(r'( *)(?:pub(?:\([a-z: ]+\))? )?(?:unsafe )?(?:extern "C" )?fn (\w+)')
+
+# The folders of edits of a crate: those of the gate, and the second ones.
+FOLDERS = ["must-fail", "must-fail-second"]
 
 # A failed obligation, an error in what is written of a function's proof, and any error.
 OBLIGATION = re.compile(r"note: (?:\./)?(src/\S+?\.rt):(\d+):\d+: (?=.*is not proved that)")
@@ -71,20 +77,27 @@ def functions_of(path, text):
     return found
 
 
+def text_of(file):
+    """Returns the text of a file, which is empty if there is no file."""
+    if not os.path.isfile(file):
+        return ""
+    with open(file, encoding="utf-8") as it:
+        return it.read()
+
+
 class Edit:
     """An edit: pairs of an old and a new text, each with its file."""
 
     def __init__(self, file):
         self.name, self.pairs = os.path.basename(file)[: -len(".edit")], []
         path = old = None
-        with open(file, encoding="utf-8") as lines:
-            for line in lines.read().split("\n"):
-                if line.startswith("file: "):
-                    path = line[len("file: ") :].strip()
-                elif line.startswith("old: "):
-                    old = line[len("old: ") :]
-                elif line.startswith("new:"):
-                    self.pairs.append((path, old, line[len("new:") :].removeprefix(" ")))
+        for line in text_of(file).split("\n"):
+            if line.startswith("file: "):
+                path = line[len("file: ") :].strip()
+            elif line.startswith("old: "):
+                old = line[len("old: ") :]
+            elif line.startswith("new:"):
+                self.pairs.append((path, old, line[len("new:") :].removeprefix(" ")))
 
     def apply(self, texts, read):
         """Returns the texts with this edit, and the functions with a changed body: none if
@@ -121,21 +134,19 @@ class Room:
             ignore = shutil.ignore_patterns("incremental") if it != crate else None
             shutil.copytree(f"{top}/crates/{it}", f"{place}/crates/{it}", ignore=ignore)
 
-    def files(self, folder, ending):
-        """Returns the paths of the files below a folder of the crate."""
-        for at, _, names in sorted(os.walk(f"{self.folder}/{folder}")):
+    def sources(self):
+        """Yields the paths of the crate's files of code."""
+        for at, _, names in sorted(os.walk(f"{self.folder}/src")):
             for it in sorted(names):
-                if it.endswith(ending):
+                if it.endswith(".rt"):
                     yield os.path.relpath(f"{at}/{it}", self.folder)
 
     def read(self, path):
         """Returns the text of a file, which is empty if there is no file."""
-        if not os.path.isfile(f"{self.folder}/{path}"):
-            return ""
-        with open(f"{self.folder}/{path}", encoding="utf-8") as it:
-            return it.read()
+        return text_of(f"{self.folder}/{path}")
 
     def write(self, texts):
+        """Writes texts by path."""
         for path, text in texts.items():
             with open(f"{self.folder}/{path}", "w", encoding="utf-8") as it:
                 it.write(text)
@@ -144,10 +155,16 @@ class Room:
         """Returns the status of a check with these texts, and the lines that it prints."""
         own = {path: self.read(path) for path in texts}
         before = resource.getrusage(resource.RUSAGE_CHILDREN)
-        streams = {"stdin": subprocess.DEVNULL, "stdout": subprocess.PIPE, "stderr": subprocess.STDOUT}
-        how = {"cwd": self.folder, "errors": "replace", "start_new_session": True, **streams}
         self.write(texts)
-        run = subprocess.Popen([RT, "check", *self.jobs], **how)
+        run = subprocess.Popen(
+            [RT, "check", *self.jobs],
+            cwd=self.folder,
+            stdin=subprocess.DEVNULL,
+            stdout=subprocess.PIPE,
+            stderr=subprocess.STDOUT,
+            errors="replace",
+            start_new_session=True,
+        )
         try:
             said = run.communicate()[0].rstrip().split("\n")
         finally:
@@ -182,28 +199,40 @@ class Batch:
         """Returns a failed goal of each edit's own functions. There are none if anything else fails
         too."""
         every, found = [], {}
-        for path in room.files("src", ".rt"):
+        for path in room.sources():
             every += functions_of(path, self.texts.get(path) or room.read(path))
         for line in said:
-            at, answer, owners = OBLIGATION.match(line), ANSWER.match(line), []
-            if at:
-                number = int(at[2])
-                owners = [it for it in every if it.path == at[1] and it.first <= number <= it.last]
-            elif answer:
-                # MODULE/TYPE/NAME or MODULE/NAME. The module is the type's, if it has another one.
-                named = [it for it in every if it.name == answer[1].split("/")[-1]]
-                modules = [re.sub(r"(^|/)lib$", "", it.path[len("src/") : -len(".rt")]) for it in named]
-                owners = [it for it, module in zip(named, modules) if answer[1].startswith(module)]
-                owners = owners or (named if len(named) == 1 else [])
-            elif not ERROR.match(line):
+            places = owners_of(line, every)
+            if places is None:
                 continue
-            places = {(it.path, it.name) for it in (owners[-1:] if at else owners)}
             mine = [edit for edit, changed in self.edits if changed & places]
             if not mine:
                 return {}
             if NAME.search(found.setdefault(mine[0], line)):
                 found[mine[0]] = line
         return found
+
+
+def owners_of(line, every):
+    """Returns the functions that a line says aren't proved, each as its path and name. Returns None
+    if the line is no error."""
+    at, answer, owners = OBLIGATION.match(line), ANSWER.match(line), []
+    if at:
+        number = int(at[2])
+        owners = [it for it in every if it.path == at[1] and it.first <= number <= it.last][-1:]
+    elif answer:
+        # MODULE/TYPE/NAME or MODULE/NAME. The module is the type's, if it has another one.
+        named = [it for it in every if it.name == answer[1].split("/")[-1]]
+        owners = [it for it in named if answer[1].startswith(module_of(it))]
+        owners = owners or (named if len(named) == 1 else [])
+    elif not ERROR.match(line):
+        return None
+    return {(it.path, it.name) for it in owners}
+
+
+def module_of(function):
+    """Returns the module of a function as a path. It is empty for the root of the crate."""
+    return re.sub(r"(^|/)lib$", "", function.path[len("src/") : -len(".rt")])
 
 
 def batches_of(edits, read, alone):
@@ -216,75 +245,110 @@ def batches_of(edits, read, alone):
     return found
 
 
+def is_unproved(status, said):
+    """Returns whether a check failed for want of a proof, and not before."""
+    return status == 1 and any(it.startswith("logic=not-proved") for it in said)
+
+
+def verdict_of(status, said):
+    """Returns the verdict on an edit that was checked alone, and the reason."""
+    if not status:
+        return PROVED, "the contract accepts it"
+    goals = [it for it in said if OBLIGATION.match(it) or ERROR.match(it)] or said[-1:]
+    first = next((it for it in goals if not NAME.search(it)), goals[0])
+    return REFUSED if is_unproved(status, said) else BAD, first
+
+
 def try_edits(room, edits, alone):
     """Yields the name of each edit with the verdict and the reason."""
-    left = [it for it in edits if it.apply({}, room.read)]
-    for edit in [it for it in edits if it not in left]:
-        yield edit.name, BAD, "an old text isn't there exactly once"
+    left = batches_of(edits, room.read, alone)
     while left:
-        again = []
-        for batch in batches_of(left, room.read, alone):
-            status, said = room.check(batch.texts)
-            # A check that fails for want of a proof, and not before.
-            unproved = status == 1 and any(it.startswith("logic=not-proved") for it in said)
-            if len(batch.edits) == 1:
-                goals = [it for it in said if OBLIGATION.match(it) or ERROR.match(it)] or said[-1:]
-                first = next((it for it in goals if not NAME.search(it)), goals[0])
-                verdict = REFUSED if unproved else BAD if status else PROVED
-                yield batch.edits[0][0].name, verdict, first if status else "the contract accepts it"
-                continue
-            reasons = batch.reasons(said, room) if unproved else {}
-            for edit, _ in batch.edits:
-                if edit in reasons:
-                    yield edit.name, REFUSED, reasons[edit]
-                else:
-                    again.append(edit)
-        # If no edit is refused, a further check of the same edits would refuse none either.
-        alone = alone or len(again) == len(left)
-        left = again
+        batch = left.pop(0)
+        status, said = room.check(batch.texts)
+        if len(batch.edits) == 1:
+            yield batch.edits[0][0].name, *verdict_of(status, said)
+            continue
+        reasons = batch.reasons(said, room) if is_unproved(status, said) else {}
+        yield from ((edit.name, REFUSED, reason) for edit, reason in reasons.items())
+        again = [edit for edit, _ in batch.edits if edit not in reasons]
+        # If all are proved together, each is still tried alone. If none is refused though the check
+        # fails, an edit may have broken it, and the halves show which one.
+        half = 0 if reasons or not status else len(again) // 2
+        left += batches_of(again[:half], room.read, alone)
+        left += batches_of(again[half:], room.read, alone or not status)
+
+
+def edits_of(top, crate, folders):
+    """Returns the edits in some folders of a crate, and a message for each that can't be tried."""
+    at, good, bad, names = f"{top}/crates/{crate}", [], [], set()
+    for folder in folders:
+        found = os.listdir(f"{at}/{folder}") if os.path.isdir(f"{at}/{folder}") else []
+        for edit in [Edit(f"{at}/{folder}/{it}") for it in sorted(found) if it.endswith(".edit")]:
+            if edit.name in names:
+                bad.append(f"{BAD} {crate}/{edit.name}: another edit has this name")
+            elif not edit.apply({}, lambda path: text_of(f"{at}/{path}")):
+                bad.append(f"{BAD} {crate}/{edit.name}: an old text isn't there exactly once")
+            else:
+                good.append(edit)
+            names.add(edit.name)
+    return good, bad
 
 
 def run(top, crate, below, folders, options):
     """Tries the edits of a crate, and returns their names by verdict."""
     found, begin = {REFUSED: [], PROVED: [], BAD: []}, time.monotonic()
+    edits, bad = edits_of(top, crate, folders)
     jobs = ["--jobs", str(options.jobs)] if options.jobs else []
     with tempfile.TemporaryDirectory(prefix="edits-") as place:
         room = Room(place, top, crate, below, jobs)
         status, said = room.check({})
         if status:
             print("\n".join(said))
-            sys.exit(f"edits: {crate} is not proved without an edit, so its edits show nothing")
-        first, paths = room.processor, [it for folder in folders for it in room.files(folder, ".edit")]
-        edits = [Edit(f"{room.folder}/{it}") for it in paths]
+            sys.exit(f"edits: {crate} isn't proved without an edit, so its edits show nothing")
+        first = room.processor
         for name, verdict, reason in try_edits(room, edits, options.alone):
             found[verdict].append(name)
             by = "a name is missing: " if NAME.search(reason) else ""
             print(f"{verdict:8} {crate}/{name}: {by}{reason[:160]}", flush=True)
-    spent = f"processor {first:.0f} s + {room.processor - first:.0f} s, {time.monotonic() - begin:.0f} s"
-    print(f"edits: {crate}: {len(edits)} edits in {room.checks - 1} checks, {spent}", flush=True)
+    print(*bad, sep="\n", end="\n" if bad else "")
+    found[BAD] += bad
+    spent = f"{first:.0f} s + {room.processor - first:.0f} s of a processor"
+    clock = f"{time.monotonic() - begin:.0f} s of the clock"
+    print(f"edits: {crate}: {len(edits)} in {room.checks - 1} checks, {spent}, {clock}", flush=True)
     return found
+
+
+def read_all(used):
+    """Reads the edits of all crates. Returns 1 if some can't be tried."""
+    edits = [edits_of(HERE, crate, FOLDERS) for crate in used]
+    bad = [it for _, messages in edits for it in messages]
+    print(*bad, sep="\n", end="\n" if bad else "")
+    print(f"edits: {sum(len(good) for good, _ in edits)} can be tried, {len(bad)} can't")
+    return 1 if bad else 0
 
 
 def main():
     how = argparse.RawDescriptionHelpFormatter
-    parser = argparse.ArgumentParser(description=__doc__, usage=argparse.SUPPRESS, formatter_class=how)
+    hidden = argparse.SUPPRESS
+    parser = argparse.ArgumentParser(description=__doc__, usage=hidden, formatter_class=how)
     parser.add_argument("crates", nargs="*")
-    for flag in ("--all", "--alone", "--self-test"):
+    for flag in ("--all", "--alone", "--read"):
         parser.add_argument(flag, action="store_true")
     parser.add_argument("--jobs", type=int)
-    options = parser.parse_args()
-    if options.self_test:
-        found = run(f"{HERE}/tests/edits_control", "control", [], ["must-fail"], options)
-        kinds = [[it.partition("_")[0] for it in found[verdict]] for verdict in (REFUSED, PROVED)]
-        return 0 if kinds == [["wrong"] * 3, ["right"] * 4] else "edits: THE SELF-TEST FAILED"
-    folders = ["must-fail", "must-fail-second"] if options.all else ["must-fail-second"]
-    used, count = libraries(), dict.fromkeys((REFUSED, PROVED, BAD), 0)
-    for crate in options.crates or used:
-        if crate not in used:
-            return f"edits: crates.txt has no crate {crate}"
-        if any(os.path.isdir(f"{HERE}/crates/{crate}/{it}") for it in folders):
-            found = run(HERE, crate, at_or_below(crate, used)[:-1], folders, options)
-            count = {verdict: count[verdict] + len(found[verdict]) for verdict in count}
+    options, used = parser.parse_args(), libraries()
+    if options.read:
+        return read_all(used)
+    unknown = [it for it in options.crates if it not in used]
+    if unknown:
+        return f"edits: crates.txt has no crate {unknown[0]}"
+    folders = FOLDERS if options.all else FOLDERS[1:]
+    crates = [it for it in options.crates or used if sum(map(len, edits_of(HERE, it, folders)))]
+    if not Build(crates).run():
+        return 1
+    count = dict.fromkeys((REFUSED, PROVED, BAD), 0)
+    for crate in crates:
+        found = run(HERE, crate, at_or_below(crate, used)[:-1], folders, options)
+        count = {verdict: count[verdict] + len(found[verdict]) for verdict in count}
     bad = f", {count[BAD]} can't be tried" if count[BAD] else ""
     print(f"{count[REFUSED]} refused, {count[PROVED]} proved{bad}")
     return 1 if count[PROVED] or count[BAD] else 0

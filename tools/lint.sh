@@ -1,7 +1,7 @@
 #!/usr/bin/env bash
 # Checks the version, the manuals by mandoc, the scripts by shellcheck, the language of comments and
-# pages by tools/style.py, and the names in pages by tools/names.py. A linter that isn't there is
-# left out.
+# pages by tools/style.py, the names in pages by tools/names.py, and by tools/edits.py that each edit
+# of must-fail and must-fail-second can be applied. A linter that isn't there is left out.
 set -u
 cd "$(dirname "$0")/.." || exit 1
 result=0
@@ -31,10 +31,11 @@ for script in "${scripts[@]}"; do
   esac
 done
 if ! command -v python3 > /dev/null; then
-  echo 'manuals: python3 is not there, so tools/style.py and tools/names.py are left out'
+  echo 'manuals: python3 is not there, so style.py, names.py and edits.py of tools are left out'
 else
   python3 tools/style.py || result=1
   python3 tools/names.py || result=1
+  python3 tools/edits.py --read || result=1
 fi
-[ "$result" -ne 0 ] || echo "manuals: version, manuals, ${#scripts[@]} scripts, the language and the names are in order"
+[ "$result" -ne 0 ] || echo "manuals: version, manuals, ${#scripts[@]} scripts, the language, the names and the edits are in order"
 exit "$result"

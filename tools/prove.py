@@ -1,7 +1,7 @@
 #!/usr/bin/env python3
 """Proves the program and the crates below it, side by side, and builds the program (`make`).
 
-    tools/prove.py [CRATE]     unifdef_cli by default; RT is Rattle's command, `rt` by default
+    tools/prove.py [CRATE ..]     unifdef_cli by default; RT is Rattle's command, `rt` by default
 
 A crate is proved as soon as the libraries that it uses are. Those with the longest chain above them
 come first. What a crate prints is shown only if it fails, and then the others are stopped.
@@ -175,11 +175,12 @@ class Run:
 class Build:
     """All checks of one build."""
 
-    def __init__(self, crate):
-        self.used = libraries()
-        if crate not in self.used:
-            sys.exit(f"prove: crates.txt has no crate {crate}")
-        self.left = at_or_below(crate, self.used)
+    def __init__(self, crates):
+        self.used, self.left = libraries(), []
+        for crate in crates:
+            if crate not in self.used:
+                sys.exit(f"prove: crates.txt has no crate {crate}")
+            self.left += [it for it in at_or_below(crate, self.used) if it not in self.left]
         self.running, self.done, self.last_shown = [], {}, ""
         # From each crate's start to the end of all, if no crate waits for a processor.
         self.chain = {}
@@ -286,8 +287,8 @@ class Build:
 
 
 if __name__ == "__main__":
-    if len(sys.argv) > 2 or sys.argv[1:2] in (["-h"], ["--help"]):
+    if sys.argv[1:2] in (["-h"], ["--help"]):
         sys.exit(__doc__)
     for number in (signal.SIGHUP, signal.SIGINT, signal.SIGTERM):
         signal.signal(number, lambda number, _: sys.exit(128 + number))
-    sys.exit(0 if Build((sys.argv[1:] or ["unifdef_cli"])[0]).run() else 1)
+    sys.exit(0 if Build(sys.argv[1:] or ["unifdef_cli"]).run() else 1)

@@ -1,0 +1,129 @@
+#!/usr/bin/env python3
+"""Tries tools/edits.py on a crate with wrong and right edits (`make edits-test`).
+
+The wrong ones are to be refused. The right ones change a body and keep its contract, also that of a
+caller of a function with a wrong edit. So each is to be proved, although all are checked together.
+"""
+import argparse
+import os
+import sys
+import tempfile
+
+sys.dont_write_bytecode = True
+
+sys.path.insert(0, f"{os.path.dirname(os.path.dirname(os.path.realpath(__file__)))}/tools")
+from edits import BAD, PROVED, REFUSED, edits_of, run
+
+SOURCE = """\
+//! Functions with contracts, for wrong and right edits.
+
+#![tactic(auto)]
+
+ghost use Rattle.std.specs.Prelude.{◌≡◌, ◌+◌, ◌<◌, ◌≤◌};
+
+/// Returns a number that exceeds neither.
+pub fn lesser(a: u32, b: u32) -> u32
+    ensures left { result ≤ a }
+    ensures right { result ≤ b }
+{
+    if a < b { a } else { b }
+}
+
+/// Returns the next number.
+pub fn successor(a: u32) -> u32
+    requires { a < 100 }
+    ensures { result ≡ a + 1 }
+{
+    let next = a + 1;
+    next
+}
+
+/// Returns 0.
+pub fn origin() -> u32
+    ensures { result ≡ 0 }
+{
+    let zero = 0;
+    zero
+}
+
+/// Returns a number that isn't larger.
+pub fn part(a: u32) -> u32
+    ensures { result ≤ a }
+{
+    a / 2
+}
+
+/// Returns the number.
+pub fn same(a: u32) -> u32
+    ensures { result ≡ a }
+{
+    let b = a;
+    b
+}
+
+/// Returns a number that exceeds neither the first nor the last. Calls `lesser`.
+pub fn least(a: u32, b: u32, c: u32) -> u32
+    ensures first { result ≤ a }
+    ensures last { result ≤ c }
+{
+    lesser(lesser(a, b), c)
+}
+
+/// Returns the next number but one. Calls `successor`.
+pub fn second(a: u32) -> u32
+    requires { a < 99 }
+    ensures { result ≡ a + 2 }
+{
+    successor(successor(a))
+}
+"""
+
+# The name of each edit, with its old and its new text.
+WRONG = {
+    "lesser_is_greater": ("if a < b { a } else { b }", "if a > b { a } else { b }"),
+    "origin_is_1": ("let zero = 0;", "let zero = 1;"),
+    "successor_skips_one": ("let next = a + 1;", "let next = a + 2;"),
+}
+RIGHT = {
+    "least_begins_at_the_end": ("lesser(lesser(a, b), c)", "lesser(a, lesser(b, c))"),
+    "part_is_a_third": ("a / 2", "a / 3"),
+    "same_adds_0": ("let b = a;", "let b = a + 0;"),
+    "second_calls_once": ("successor(successor(a))", "successor(a) + 1"),
+}
+# Those of which one can't be applied, and one has the name of another.
+BROKEN = {"lesser_is_absent": ("a % b", "b % a"), "origin_is_1": ("a / 2", "a / 1")}
+
+
+def write(file, text):
+    """Writes a file, and the folders above it."""
+    os.makedirs(os.path.dirname(file), exist_ok=True)
+    with open(file, "w", encoding="utf-8") as it:
+        it.write(text)
+
+
+def write_edits(folder, edits):
+    """Writes a file for each edit."""
+    for name, (old, new) in edits.items():
+        write(f"{folder}/{name}.edit", f"file: src/lib.rt\nold: {old}\nnew: {new}\n")
+
+
+def main():
+    options = argparse.Namespace(alone=False, jobs=None)
+    with tempfile.TemporaryDirectory(prefix="edits-control-") as top:
+        crate = f"{top}/crates/control"
+        write(f"{top}/crates.txt", "control:\n")
+        write(f"{top}/HANDLES", "Handles allowed: none.\n")
+        write(f"{crate}/src/lib.rt", SOURCE)
+        write_edits(f"{crate}/must-fail", {**WRONG, **RIGHT})
+        write_edits(f"{crate}/must-fail-second", BROKEN)
+        found = run(top, "control", [], ["must-fail"], options)
+        unread = edits_of(top, "control", ["must-fail", "must-fail-second"])[1]
+    wanted = {REFUSED: sorted(WRONG), PROVED: sorted(RIGHT), BAD: []}
+    if {it: sorted(names) for it, names in found.items()} != wanted or len(unread) != 2:
+        return "edits-test: FAILED: not exactly the wrong edits are refused"
+    print("edits-test: exactly the wrong edits are refused")
+    return 0
+
+
+if __name__ == "__main__":
+    sys.exit(main())
