@@ -2,7 +2,9 @@
 # make unifdef-tree  proves and builds the program for trees, and copies it to ./unifdef-tree
 # make try        runs the program without a proof: make try ARGS='-DA' < in.c. It is built first, in
 #                 half a minute. Statuses 0 and 1 are success, and the status is printed
-# make test       runs every case and test without a proof, side by side; make check proves them
+# make test       runs each worked case once, in a minute and without a proof
+# make test-all   runs every case in several ways, and every test, without a proof; make check proves
+#                 them
 # make check      runs the merge gate: every proof from nothing, the edits that the prover must
 #                 refuse, the tests, and the stored runs
 # make edits      tries the second edits, which the gate leaves out, many in one check; CRATES='NAME ..'
@@ -77,7 +79,7 @@ SOURCES := crates.txt HANDLES \
 	$(shell find crates -name out -prune -o \( -name '*.rt' -o -name '*.antt' \) -print)
 
 .DELETE_ON_ERROR:
-.PHONY: all build kit try test check edits edits-test cases examples manual-examples differences
+.PHONY: all build kit try test test-all check edits edits-test cases examples manual-examples differences
 .PHONY: faults fail-alloc tree-test
 .PHONY: install uninstall dist deb packages-test manuals around bench bench-text
 .PHONY: lib lib-test install-lib uninstall-lib deb-lib
@@ -96,7 +98,7 @@ build: unifdef
 # The program without a proof. It isn't for use: ./unifdef is.
 $(UNPROVED): $(filter-out %.antt,$(SOURCES))
 	@$(NEED_KIT)
-	@echo 'make: builds the program without a proof, in half a minute' >&2
+	@echo 'make: builds the program without a proof and without optimization, in half a minute' >&2
 	@RT='$(RT)' tools/unproved.py $@
 
 # Status 1 says that the output differs, so it doesn't fail the recipe.
@@ -107,6 +109,9 @@ try: $(UNPROVED)
 
 test: kit
 	@RT='$(RT)' MAKE='$(MAKE_COMMAND)' tests/quick.py
+
+test-all: kit
+	@RT='$(RT)' MAKE='$(MAKE_COMMAND)' tests/quick.py --all
 
 # If it is up to date, nothing here needs the kit. So a built copy installs without it.
 unifdef: $(SOURCES)

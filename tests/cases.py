@@ -21,6 +21,8 @@ from typing import Iterable, Iterator, NoReturn, Optional
 
 TOP = Path(__file__).resolve().parent.parent
 DATA = TOP / "crates" / "test_runner" / "data"
+# The seconds after which a program hangs. No answer depends on how fast it is.
+HANG = 3600
 
 ESCAPES = {"n": 10, "r": 13, "t": 9, "f": 12, "v": 11, "0": 0, "\\": 92, '"': 34}
 LITERAL = r'"((?:[^"\\]|\\x[0-9A-Fa-f]{2}|\\[nrtfv0\\"])*)"'
@@ -201,7 +203,7 @@ def run(program: Path, case: Case) -> Answer:
             (Path(folder) / operand).write_bytes(case.input)
             given = b""
         command = [str(program), *case.arguments]
-        done = subprocess.run(command, input=given, capture_output=True, cwd=folder, timeout=60)
+        done = subprocess.run(command, input=given, capture_output=True, cwd=folder, timeout=HANG)
     return Answer(done.stdout, done.stderr, done.returncode)
 
 

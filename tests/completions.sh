@@ -32,7 +32,7 @@ in_bash() {
 # shellcheck disable=SC2016 # The variables are those of the other shell.
 in_fish() { fish --no-config -c 'source $argv[1]/unifdef.fish; source $argv[1]/unifdef-tree.fish; complete -C $argv[2]' "$completions" "$1"; }
 # zsh completes only at a terminal, so this script makes one. The shell announces that it is ready,
-# and, by a second key after the one that completes, that it has completed. A minute for each is a
+# and, by a second key after the one that completes, that it has completed. An hour for each is a
 # guard against hanging.
 cat > "$work/ask.zsh" << 'END'
 zmodload zsh/zpty
@@ -42,7 +42,7 @@ zpty -w shell 'PS1=; stty -echo cols 200; fpath=('$1' $fpath); autoload -Uz comp
   bindkey "^T" tell; print rea''dy'
 await() {
   shown=''
-  repeat 600; do
+  repeat 36000; do
     while zpty -r -t shell line; do shown+=$line; done
     [[ $shown != *$1* ]] || break
     sleep 0.1
@@ -56,7 +56,7 @@ zpty -d shell
 print -r -- $shown
 END
 in_zsh() {
-  timeout 150 zsh -f "$work/ask.zsh" "$completions" "$1" | tr -d '\r' | sed 's/\x1b\[[0-9;]*[A-Za-z]/\n/g' | tr -s ' ' '\n'
+  timeout 7500 zsh -f "$work/ask.zsh" "$completions" "$1" | tr -d '\r' | sed 's/\x1b\[[0-9;]*[A-Za-z]/\n/g' | tr -s ' ' '\n'
 }
 
 # offers SHELL LINE WANTED UNWANTED: checks that the completions of a line have one word and not the

@@ -27,7 +27,7 @@ CHUNKS = (1, 7, 64)
 def by_filter(program: str, case: cases.Case) -> cases.Answer:
     """Returns what the C program gives for a case."""
     done = subprocess.run(
-        [program, *case.arguments], input=case.input, capture_output=True, timeout=60
+        [program, *case.arguments], input=case.input, capture_output=True, timeout=cases.HANG
     )
     return cases.Answer(done.stdout, done.stderr, done.returncode)
 

@@ -1,12 +1,18 @@
 #!/usr/bin/env python3
-"""Runs every case and test without a proof, side by side (`make test`).
+"""Runs the cases without a proof (`make test`), or every test (`make test-all`).
 
-    tests/quick.py [NAME ..]     all, or those of these names; RT is Rattle's command
+    tests/quick.py               each worked case once
+    tests/quick.py --all         all cases in several ways, the tests, and each stored run
+    tests/quick.py NAME ..       those of --all that have these names; RT is Rattle's command
 
-It runs the worked cases with the program that tools/unproved.py builds, the tests of each crate
-that has some, and each program with a stored run: a crate with a file `stdout`. Each has a line,
-with its seconds. What it printed is shown only if it failed.
+The program that tools/unproved.py builds runs each case without lines about its streams. The crate
+test_runner runs the others, whose streams are in memory; with --all it runs every case. Nothing is
+proved: both stop at a bad index, an overflow and a bad access.
+
+Prints a line for each task with its seconds, and how many cases ran. What a task printed is shown
+only if it failed. No task is bounded by the clock, but one that hangs ends after an hour.
 """
+import concurrent.futures
 import glob
 import os
 import re
@@ -16,156 +22,212 @@ import sys
 import tempfile
 import threading
 import time
+from pathlib import Path
+
+sys.dont_write_bytecode = True
 
 HERE = os.path.dirname(os.path.dirname(os.path.realpath(__file__)))
+sys.path[:0] = [f"{HERE}/tools", f"{HERE}/tests"]
+
+import cases  # noqa: E402
+from progress import Progress, building  # noqa: E402
+
 RT = os.environ.get("RT", "rt")
 MAKE = os.environ.get("MAKE", "make")
 UNPROVED = "crates/unifdef_cli/out/unproved"
-# A guard against a test that hangs. Under load, the slowest one takes a small part of this.
-SECONDS = "600"
+RUNNER = "test_runner"
+HANG = "3600"
 # Those that take longest come first, so that none of them ends alone.
-FIRST = ["cases", "test_runner", "test_text", "test_sections", "test_engine"]
-# A case with such a line needs a reader or a writer over memory (tests/cases.py).
-STREAM = re.compile(
-    rb"^((reads|writes) of \d|(read|write) fails after|write stops after|(read|write) \d+ is "
-    rb"interrupted|(first )?flush fails|calls )",
-    re.M,
-)
-
-
-def words_of(crate):
-    """Returns the arguments of a crate's stored run, or the cases of data/ that need streams.
-
-    The built program runs the other cases, once each. The gate runs each case in several ways,
-    which takes minutes for a program with checks.
-    """
-    cases = sorted(glob.glob("data/*/*.case", root_dir=crate))
-    if cases:
-        return [it for it in cases if STREAM.search(bytes_of(f"{crate}/{it}"))]
-    path = f"{crate}/args"
-    if not os.path.exists(path):
-        return []
-    with open(path, encoding="utf-8") as lines:
-        return lines.read().splitlines()
+FIRST = ["cases", RUNNER, "test_text", "test_sections", "test_engine"]
+# The interpreter of `rt try` runs no program with arguments. Its line says so in each such run, and
+# the run of the built program counts.
+NO_INTERPRETER = re.compile(rb"^interpreter: no-answer.*\n", re.M)
+PROCESSORS = len(os.sched_getaffinity(0))
 
 
 def bytes_of(path):
     """Returns the bytes of a file, or none if it isn't there."""
-    if not os.path.exists(path):
-        return b""
-    with open(path, "rb") as it:
-        return it.read()
+    return Path(path).read_bytes() if os.path.exists(path) else b""
 
 
-class Task:
-    """A run and what it must give. Its name is that of the crate, or `cases`."""
+class State:
+    """What is shared by all tasks: how far they are, and what runs."""
 
-    def __init__(self, name, kind):
-        self.name, self.kind = name, kind
-        self.run = None
+    def __init__(self):
+        self.progress, self.lock, self.stopped = Progress("test"), threading.Lock(), False
+        self.all_cases = self.done_cases = self.wrong_cases = 0
+        self.is_built, self.running = False, set()
 
-    def start(self, words, folder, out, given=b""):
+    def text(self):
+        """Returns how far the tasks are."""
+        if not self.all_cases:
+            return f"{len(self.running)} tasks are running"
+        if self.is_built:
+            return f"cases {self.done_cases} of {self.all_cases}"
+        return f"{building(self.progress.spent())}, then {self.all_cases} cases"
+
+    def run(self, words, folder, out, given=b""):
         """Runs a command to its end, and returns its status."""
+        leave_out = ("MAKEFLAGS", "MAKELEVEL")
+        env = {key: it for key, it in os.environ.items() if key not in leave_out}
         with tempfile.TemporaryFile() as source:
             source.write(given)
             source.seek(0)
-            env = {key: it for key, it in os.environ.items() if key not in ("MAKEFLAGS", "MAKELEVEL")}
-            streams = {"stdin": source, "stdout": out[0], "stderr": out[1]}
-            with GATE:
-                if STOPPED.is_set():
+            how = {"cwd": folder, "env": env, "start_new_session": True}
+            how |= {"stdin": source, "stdout": out[0], "stderr": out[1]}
+            with self.lock:
+                if self.stopped:
                     return 130
-                self.run = subprocess.Popen(words, cwd=folder, env=env, start_new_session=True, **streams)
-            return self.run.wait()
-
-    def passes(self, out, err):
-        """Runs the task, and returns what failed, or nothing."""
-        if self.kind == "cases":
-            status = self.start([MAKE, "-s", UNPROVED], HERE, (err, err))
-            if status:
-                return f"the program isn't built: status {status}"
-            status = self.start([sys.executable, "tests/cases.py", UNPROVED], HERE, (out, err))
-            return f"status {status}" if status else ""
-        folder = f"{HERE}/crates/{self.name}"
-        if self.kind == "tests":
-            status = self.start([RT, "try", "--test", "--seconds", SECONDS], folder, (out, err))
-            return f"status {status}" if status else ""
-        printed = bytes_of(f"{folder}/stdout")
-        words = [RT, "try", "--seconds", SECONDS, "--", *words_of(folder)]
-        status = self.start(words, folder, (out, err), bytes_of(f"{folder}/stdin"))
-        wanted = int(bytes_of(f"{folder}/status") or b"0")
-        if status != wanted:
-            return f"status {status}, and {wanted} is wanted"
-        out.seek(0)
-        return "" if out.read() == printed else "the output isn't the stored one"
+                run = subprocess.Popen(words, **how)
+                self.running.add(run)
+            status = run.wait()
+            self.running.discard(run)
+            return status
 
     def stop(self):
-        """Ends the run and what it started."""
-        if self.run and self.run.poll() is None:
-            os.killpg(self.run.pid, signal.SIGTERM)
+        """Ends what runs, and lets nothing else begin."""
+        with self.lock:
+            self.stopped = True
+            for it in self.running:
+                if it.poll() is None:
+                    os.killpg(it.pid, signal.SIGTERM)
 
 
-GATE = threading.Lock()
-STOPPED = threading.Event()
+class ProgramCases:
+    """The cases that the built program runs, each in a process of its own."""
+
+    name, kind = "cases", "program"
+
+    def __init__(self, every_case):
+        self.cases = [it for it in every_case if not it.streams]
+
+    def failure(self, state, out, err):
+        """Runs the task, and returns what failed, or nothing."""
+        status = state.run([MAKE, "-s", UNPROVED], HERE, (err, err))
+        if status:
+            return f"the program isn't built: status {status}"
+        state.is_built = True
+        with concurrent.futures.ThreadPoolExecutor(PROCESSORS) as pool:
+            wrong = sum(pool.map(lambda it: self.is_wrong(it, state, out), self.cases))
+        return f"{wrong} wrong" if wrong else ""
+
+    def is_wrong(self, case, state, out):
+        """Runs one case, and returns whether its answer is wrong."""
+        if state.stopped:
+            return True
+        found = cases.run(Path(HERE, UNPROVED), case)
+        is_wrong = not case.answer.matches(found)
+        with state.lock:
+            state.done_cases += 1
+            state.wrong_cases += is_wrong
+            if is_wrong:
+                both = f"  expected {case.answer}\n  found    {found}\n"
+                out.write(f"{case.path}: {case.sentence}\n{both}".encode(errors="replace"))
+        return is_wrong
 
 
-def tasks():
-    """Returns all tasks, those that take longest first."""
-    found = [Task("cases", "cases")]
-    for folder in sorted(glob.glob(f"{HERE}/crates/*")):
+class Tests:
+    """The tests of a crate."""
+
+    kind = "tests"
+
+    def __init__(self, crate):
+        self.name, self.cases = crate, []
+
+    def failure(self, state, out, err):
+        """Runs the task, and returns what failed, or nothing."""
+        words = [RT, "try", "--test", "--seconds", HANG]
+        status = state.run(words, f"{HERE}/crates/{self.name}", (out, err))
+        return f"status {status}" if status else ""
+
+
+class StoredRun:
+    """A program with a file `stdout`. The runner of cases has some of them as its arguments."""
+
+    kind = "program"
+
+    def __init__(self, crate, runner_cases):
+        self.name, self.cases = crate, runner_cases if crate == RUNNER else []
+
+    def failure(self, state, out, err):
+        """Runs the task, and returns what failed, or nothing."""
+        folder = f"{HERE}/crates/{self.name}"
+        arguments = [os.path.relpath(it.path.resolve(), folder) for it in self.cases]
+        arguments = arguments or bytes_of(f"{folder}/args").decode().splitlines()
+        words = [RT, "try", "--seconds", HANG, "--", *arguments]
+        status = state.run(words, folder, (out, err), bytes_of(f"{folder}/stdin"))
+        wanted = int(bytes_of(f"{folder}/status") or b"0")
+        out.seek(0)
+        is_stored = out.read() == bytes_of(f"{folder}/stdout")
+        is_right = status == wanted and is_stored
+        with state.lock:
+            streams = sum(bool(it.streams) for it in self.cases)
+            state.done_cases += streams
+            state.wrong_cases += 0 if is_right else streams
+        if status != wanted:
+            return f"status {status}, and {wanted} is wanted"
+        return "" if is_stored else "the output isn't the stored one"
+
+
+def tasks(every_case, is_all):
+    """Returns the tasks, those that take longest first."""
+    streams = [it for it in every_case if it.streams]
+    found = [ProgramCases(every_case), StoredRun(RUNNER, every_case if is_all else streams)]
+    for folder in sorted(glob.glob(f"{HERE}/crates/*")) if is_all else []:
         name = os.path.basename(folder)
         texts = (bytes_of(it) for it in glob.glob(f"{folder}/src/**/*.rt", recursive=True))
         if any(re.search(rb"^\s*#\[test\]", it, re.M) for it in texts):
-            found.append(Task(name, "tests"))
-        if os.path.exists(f"{folder}/stdout"):
-            found.append(Task(name, "program"))
+            found.append(Tests(name))
+        if os.path.exists(f"{folder}/stdout") and name != RUNNER:
+            found.append(StoredRun(name, []))
     return sorted(found, key=lambda it: FIRST.index(it.name) if it.name in FIRST else len(FIRST))
 
 
+def ends_well(task, state):
+    """Runs a task, prints how it ended, and returns whether it passed."""
+    begin = time.monotonic()
+    with tempfile.TemporaryFile() as out, tempfile.TemporaryFile() as err:
+        try:
+            failed = task.failure(state, out, err)
+        except (OSError, subprocess.TimeoutExpired) as error:
+            failed = str(error)
+        if state.stopped:
+            return False
+        spent = time.monotonic() - begin
+        state.progress.say(f"{task.name:<17} {task.kind:<8} {spent:4.0f} s  {failed or 'ok'}")
+        for it in (out, err) if failed else ():
+            it.seek(0)
+            sys.stdout.buffer.write(NO_INTERPRETER.sub(b"", it.read()))
+            sys.stdout.flush()
+    return not failed
+
+
 def main():
-    names = sys.argv[1:]
-    todo = [it for it in tasks() if not names or it.name in names]
-    every, counts = list(todo), {True: 0, False: 0}
+    names = [it for it in sys.argv[1:] if it != "--all"]
+    state, every_case = State(), list(cases.cases_in())
+    todo = tasks(every_case, "--all" in sys.argv or bool(names))
+    todo = [it for it in todo if not names or it.name in names]
+    for task in todo:
+        # The runner runs those without streams too, which are counted once.
+        state.all_cases += sum(bool(it.streams) == (task.name == RUNNER) for it in task.cases)
     for number in (signal.SIGHUP, signal.SIGINT, signal.SIGTERM):
         signal.signal(number, lambda number, _: sys.exit(128 + number))
-
-    def work():
-        while True:
-            with GATE:
-                if STOPPED.is_set() or not todo:
-                    return
-                task = todo.pop(0)
-            begin = time.monotonic()
-            with tempfile.TemporaryFile() as out, tempfile.TemporaryFile() as err:
-                try:
-                    failed = task.passes(out, err)
-                except OSError as error:
-                    failed = str(error)
-                spent = time.monotonic() - begin
-                with GATE:
-                    if STOPPED.is_set():
-                        return
-                    counts[not failed] += 1
-                    print(f"test: {task.name:<17} {task.kind:<8} {spent:4.0f} s  {failed or 'ok'}")
-                    if failed:
-                        for it in (out, err):
-                            it.seek(0)
-                            sys.stdout.write(it.read().decode(errors="replace"))
-                    sys.stdout.flush()
-
-    workers = [threading.Thread(target=work, daemon=True) for _ in range(len(os.sched_getaffinity(0)))]
-    try:
-        for it in workers:
-            it.start()
-        for it in workers:
-            it.join()
-    finally:
-        STOPPED.set()
-        with GATE:
-            for it in every:
-                it.stop()
-    print(f"test: {counts[True]} passed, {counts[False]} failed; nothing is proved")
-    sys.exit(1 if counts[False] or not counts[True] else 0)
+    passed = []
+    with concurrent.futures.ThreadPoolExecutor(PROCESSORS) as pool:
+        try:
+            runs = [pool.submit(ends_well, it, state) for it in todo]
+            while any(not it.done() for it in runs):
+                state.progress.show(state.text)
+                time.sleep(0.1)
+            passed = [it.result() for it in runs]
+        finally:
+            state.progress.clear()
+            state.stop()
+    right = f"{state.done_cases - state.wrong_cases} of {state.all_cases} cases right; "
+    counts = f"{sum(passed)} passed, {len(todo) - sum(passed)} failed; "
+    print(f"test: {counts}{right if state.all_cases else ''}nothing is proved by this")
+    return 0 if passed and all(passed) else 1
 
 
 if __name__ == "__main__":
-    main()
+    sys.exit(main())

@@ -33,7 +33,7 @@ import time
 
 sys.dont_write_bytecode = True
 
-from prove import HERE, RT, at_or_below, libraries
+from prove import HERE, RT, Build, at_or_below, libraries
 
 REFUSED, PROVED, BAD = "refused", "PROVED", "BAD EDIT"
 

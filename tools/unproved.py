@@ -5,6 +5,8 @@
 
 `rt try` builds the program with checks of each index, overflow and access, runs it, and removes it.
 So here the program is given a FIFO as its operand. It waits there for input, and is copied.
+
+Shows on the error stream how far it is.
 """
 import errno
 import os
@@ -14,6 +16,10 @@ import subprocess
 import sys
 import tempfile
 import time
+
+sys.dont_write_bytecode = True
+
+from progress import Progress, building
 
 HERE = os.path.dirname(os.path.dirname(os.path.realpath(__file__)))
 
@@ -29,6 +35,7 @@ def program_in(folder):
 
 def build(file):
     """Builds the program, and returns whether that succeeded."""
+    progress = Progress("make")
     with tempfile.TemporaryDirectory(prefix="unproved-") as work:
         fifo, said, kept = f"{work}/input", f"{work}/said", f"{work}/kept"
         os.mkfifo(fifo)
@@ -50,6 +57,7 @@ def build(file):
                 except OSError as error:
                     if error.errno != errno.ENXIO:
                         raise
+                    progress.show(lambda: building(progress.spent()))
                     time.sleep(0.02)
             if writer is not None:
                 built = program_in(work)
@@ -58,6 +66,7 @@ def build(file):
                 os.close(writer)
             run.wait()
         finally:
+            progress.clear()
             if run.poll() is None:
                 run.terminate()
                 run.wait()

@@ -37,9 +37,9 @@ compare() {
   count $same "$1: status $3, output $(head -c 200 "$out" | od -An -c | head -n 3), message $(cat "$err")"
 }
 
-# Runs the program. If it hangs for two minutes, the status is 124; if a signal ends it, 128 or more.
+# Runs the program. If it hangs for an hour, the status is 124; if a signal ends it, 128 or more.
 limited() {
-  timeout 120 "$program" "$@"
+  timeout 3600 "$program" "$@"
 }
 
 write_error='unifdef: stdin: Write error\n'
@@ -158,7 +158,7 @@ refused() {
   shift 2
   status=0
   {
-    REFUSE_FROM=$from REFUSE_TO=$to LD_PRELOAD=$work/refuse.so timeout 120 "$program" "$@" > "$out" 2> "$err" || status=$?
+    REFUSE_FROM=$from REFUSE_TO=$to LD_PRELOAD=$work/refuse.so timeout 3600 "$program" "$@" > "$out" 2> "$err" || status=$?
     cat > "$work/left"
   } < "$work/in"
 }
@@ -203,7 +203,7 @@ refuse_table() {
   for at in $(seq 1 $((all + 1))); do
     for to in "$at" 1000000; do
       status=0
-      REFUSE_FROM=$at REFUSE_TO=$to LD_PRELOAD=$work/refuse.so timeout 120 "$table" > "$out" 2> "$err" || status=$?
+      REFUSE_FROM=$at REFUSE_TO=$to LD_PRELOAD=$work/refuse.so timeout 3600 "$table" > "$out" 2> "$err" || status=$?
       text=$(tr '\n' '/' < "$out")
       case $text in
         "-DA=1: out of memory/A isn't listed/-iDA=22: out of memory/A isn't listed/-D1A: bad name/A isn't listed/") same=yes ;;
