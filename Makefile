@@ -6,7 +6,8 @@
 # make test-all   runs every case in several ways, and every test, without a proof; make check proves
 #                 them
 # make check      runs the merge gate: every proof from nothing, the edits that the prover must
-#                 refuse, the tests, and the stored runs
+#                 refuse, the tests, and the stored runs. RT_JOBS=N runs N checks side by side; all
+#                 lines go to gate.log
 # make edits      tries the second edits, which the gate leaves out, many in one check; CRATES='NAME ..'
 #                 those of some crates. make edits-test tries the tool that does it
 # make cases      runs ./unifdef on the worked cases of crates/test_runner/data
@@ -75,6 +76,7 @@ RT ?= rt
 
 CRATE := crates/unifdef_cli
 UNPROVED := $(CRATE)/out/unproved
+TABLE := crates/test_memory/out/test_memory
 SOURCES := crates.txt HANDLES \
 	$(shell find crates -name out -prune -o \( -name '*.rt' -o -name '*.antt' \) -print)
 
@@ -137,7 +139,7 @@ lib-test: lib
 	@tests/library.sh
 
 check: kit
-	@$(RT) ci
+	@RT='$(RT)' tools/gate.py
 
 edits: edits-test
 	@RT='$(RT)' tools/edits.py $(CRATES)
@@ -159,9 +161,14 @@ cases: unifdef
 differences: unifdef
 	@tests/differences.py
 
-faults: unifdef
-	cd crates/test_memory && $(RT) run < /dev/null > /dev/null
+faults: unifdef $(TABLE)
 	tests/faults/run.sh
+
+# The gate leaves this program too, so that nothing is proved again after it.
+$(TABLE): $(SOURCES)
+	@$(NEED_KIT)
+	cd crates/test_memory && $(RT) run < /dev/null > /dev/null
+	touch $@
 
 fail-alloc: kit
 	RT='$(RT)' tests/faults/fail-alloc.sh
@@ -262,5 +269,5 @@ fronts: unifdef
 	N='$(N)' SEED='$(SEED)' bench/fronts.sh
 
 clean:
-	rm -f unifdef unifdef-tree unifdef-*.tar.gz *.deb lib/libunifdef.*
+	rm -f unifdef unifdef-tree unifdef-*.tar.gz *.deb lib/libunifdef.* gate.log
 	rm -rf crates/*/out .prove-*

@@ -10,7 +10,9 @@ TOP = os.path.dirname(os.path.dirname(os.path.realpath(__file__)))
 
 # What a build makes, as .gitignore has it.
 MADE_FOLDERS = (".git", "out", "__pycache__")
-MADE = ("unifdef", "unifdef-tree", "lib/libunifdef.")
+MADE = ("unifdef", "unifdef-tree", "gate.log")
+MADE_BEGIN = "lib/libunifdef."
+MADE_END = (".deb", ".tar.gz")
 
 
 def tracked():
@@ -25,8 +27,10 @@ def tracked():
 def unmade():
     """Yields the path of each file that no build makes."""
     for folder, folders, names in os.walk(TOP):
-        folders[:] = [it for it in folders if it not in MADE_FOLDERS and not it.startswith(".prove-")]
+        own = [it for it in folders if it not in MADE_FOLDERS and not it.startswith(".prove-")]
+        folders[:] = own
         for name in names:
             path = os.path.relpath(os.path.join(folder, name), TOP)
-            if path not in MADE[:2] and not path.startswith(MADE[2]) and not path.endswith((".deb", ".tar.gz")):
+            is_made = path in MADE or path.startswith(MADE_BEGIN) or path.endswith(MADE_END)
+            if not is_made:
                 yield path

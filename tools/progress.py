@@ -1,12 +1,11 @@
-"""How far a long run is, on the error stream: for prove.py, gate.py, unproved.py and quick.py."""
+"""How far a long run is: lines on the error stream, and how long the rest takes.
+
+For prove.py, gate.py, unproved.py and tests/quick.py.
+"""
 import os
 import sys
 import threading
 import time
-
-# How many seconds pass between two states: on a terminal, where one replaces the other, and else.
-STEP, STEP_OF_LOG = 1, 15
-
 
 # How long a build without a proof takes on four quiet processors.
 BUILD_SECONDS = 25
@@ -24,16 +23,40 @@ def building(spent):
     return f"building, {spent:.0f} s {rest}"
 
 
+def part_and_rest(spent, left):
+    """Returns the part that is done in percent, and how long the rest takes, as a text."""
+    return f"{100 * spent / max(spent + left, 1):.0f}%, some {minutes(max(left, 1))} left"
+
+
+def seconds_left(tasks, running, lanes):
+    """Returns in how many seconds all tasks end, of which `lanes` run side by side.
+
+    `tasks` has those that haven't begun, the urgent ones first: what each waits for, and its
+    seconds. `running` has the seconds that are left of each other one.
+    """
+    tasks, running, now = dict(tasks), dict(running), 0
+    while tasks or running:
+        for key, (waits, seconds) in list(tasks.items()):
+            is_ready = not any(it in tasks or it in running for it in waits)
+            if len(running) < lanes and is_ready:
+                running[key] = now + seconds
+                del tasks[key]
+        now = min(running.values())
+        running = {key: end for key, end in running.items() if end > now}
+    return now
+
+
 class Progress:
     """The lines of a run, each with the run's name and the time since its start.
 
     On a terminal the present state stands in one line at the bottom. Elsewhere it is a line of its
-    own, now and then.
+    own, once in `step` seconds.
     """
 
-    def __init__(self, name):
+    def __init__(self, name, step=15):
         self.name, self.begin, self.shown_at, self.last = name, time.monotonic(), 0, ""
         self.is_terminal, self.lock = sys.stderr.isatty(), threading.RLock()
+        self.step = 1 if self.is_terminal else step
 
     def spent(self):
         """Returns the seconds since the start."""
@@ -62,8 +85,7 @@ class Progress:
     def show(self, state):
         """Shows the state that a call of `state` returns, if it is time for it."""
         with self.lock:
-            step = STEP if self.is_terminal else STEP_OF_LOG
-            if self.spent() - self.shown_at < step:
+            if self.spent() - self.shown_at < self.step:
                 return
             self.shown_at = self.spent()
             if not self.is_terminal:

@@ -6,9 +6,11 @@
 A crate is proved as soon as the libraries that it uses are. Those with the longest chain above them
 come first. What a crate prints is shown only if it fails, and then the others are stopped.
 
-Rattle's command locks the folder of a crate, and those of the crates below it, while it proves it. So
-each crate is proved in a folder of its own, with links to its files and to what the crates below
+Rattle's command locks the folder of a crate, and those of the crates below it, while it proves it.
+So each crate is proved in a folder of its own, with links to its files and to what the crates below
 have become, and what it becomes is moved back.
+
+Shows on the error stream how much is done, and how long the rest takes.
 """
 import os
 import re
@@ -18,6 +20,10 @@ import subprocess
 import sys
 import tempfile
 import time
+
+sys.dont_write_bytecode = True
+
+from progress import Progress, part_and_rest, seconds_left
 
 HERE = os.path.dirname(os.path.dirname(os.path.realpath(__file__)))
 RT = os.environ.get("RT", "rt")
@@ -43,6 +49,11 @@ SECONDS = {
 }
 OTHER = 60
 
+# A check that takes no more seconds found its work kept, and says nothing of how fast this machine
+# is. Before a check says something, a second takes USUAL ones. The machines that were tried took 1
+# to 1.5.
+KEPT, USUAL = 15, 1.2
+
 # The checks that are split among all processors. The others take no less time then, or take
 # processors from a check beside them.
 SPLIT = {"ud_engine"}
@@ -51,6 +62,11 @@ SPLIT = {"ud_engine"}
 # is split among all processors.
 FREE = 6_000_000_000
 FREE_FOR_ALL = 10_000_000_000
+
+
+def expected(crate):
+    """Returns the seconds of a crate on 4 processors."""
+    return SECONDS.get(crate, OTHER)
 
 
 def libraries():
@@ -91,11 +107,6 @@ def free_memory():
     return 1024 * int(found[1]) if found else 0
 
 
-def minutes(seconds):
-    """Returns a time as a text."""
-    return f"{seconds:.0f} s" if seconds < 90 else f"{seconds / 60:.0f} minutes"
-
-
 def link(source, target):
     """Links a file, or copies it where the file system has no links."""
     try:
@@ -118,7 +129,8 @@ class Room:
             it.writelines(kept)
         for it in (*below, crate):
             source, target = f"{HERE}/crates/{it}", f"{self.top}/crates/{it}"
-            shutil.copytree(source, target, ignore=shutil.ignore_patterns("out"), copy_function=link)
+            ignore = shutil.ignore_patterns("out")
+            shutil.copytree(source, target, ignore=ignore, copy_function=link)
             if it != crate:
                 shutil.copytree(f"{source}/out/rlib", f"{target}/out/rlib", copy_function=link)
         self.move_out(HERE, self.top)
@@ -181,17 +193,15 @@ class Build:
             if crate not in self.used:
                 sys.exit(f"prove: crates.txt has no crate {crate}")
             self.left += [it for it in at_or_below(crate, self.used) if it not in self.left]
-        self.running, self.done, self.last_shown = [], {}, ""
+        self.running, self.done, self.progress = [], {}, Progress("prove", 60)
         # From each crate's start to the end of all, if no crate waits for a processor.
         self.chain = {}
         for it in reversed(self.left):
             above = [self.chain[up] for up in self.chain if it in self.used[up]]
-            self.chain[it] = SECONDS.get(it, OTHER) + max(above, default=0)
+            self.chain[it] = expected(it) + max(above, default=0)
         # A check keeps two processors busy for most of its time.
         self.processors = len(os.sched_getaffinity(0))
         self.most = max(self.processors // 2, 1)
-        self.begin = time.monotonic()
-        self.is_terminal = sys.stderr.isatty()
 
     def ready(self):
         """Returns the crates that can start, those with the longest chain first."""
@@ -206,7 +216,7 @@ class Build:
             self.left.remove(crate)
             jobs = self.jobs_of(crate)
             self.running.append(Run(crate, at_or_below(crate, self.used)[:-1], jobs))
-            self.say(f"{crate} is being proved")
+            self.progress.say(f"{crate} is being proved")
 
     def jobs_of(self, crate):
         """Returns the words that split a check among all processors. Without them Rattle's command
@@ -215,37 +225,23 @@ class Build:
             return []
         return ["--jobs", str(self.processors)]
 
-    def estimate(self):
-        """Returns in how many seconds all is done, roughly."""
-        known = [(spent, SECONDS.get(it, OTHER)) for it, spent in self.done.items() if spent > 5]
-        pace = sum(it for it, _ in known) / sum(it for _, it in known) if known else 1
-        ends = {it.crate: max(pace * SECONDS.get(it.crate, OTHER) - it.spent(), 3) for it in self.running}
-        for it in self.left:
-            below = max((ends.get(low, 0) for low in self.used[it]), default=0)
-            ends[it] = below + pace * SECONDS.get(it, OTHER)
-        return max(ends.values(), default=0)
+    def pace(self):
+        """Returns how many seconds a second of `SECONDS` takes here, as far as is known."""
+        ended = [(seconds, expected(it)) for it, seconds in self.done.items() if seconds > KEPT]
+        # A check that takes longer than it should says something before it ends.
+        late = [(it.spent(), expected(it.crate)) for it in self.running]
+        known = [(20 * USUAL, 20), *ended, *(it for it in late if it[0] > it[1])]
+        return sum(it for it, _ in known) / sum(it for _, it in known)
 
-    def say(self, text):
-        """Prints a line for good."""
-        at = time.monotonic() - self.begin
-        sys.stderr.write(f"{self.blank()}prove: {at:4.0f} s  {text}\n")
-        sys.stderr.flush()
-
-    def blank(self):
-        shown, self.last_shown = self.last_shown, ""
-        return f"\r{' ' * len(shown)}\r" if shown else ""
-
-    def show(self):
-        """Shows on a terminal what is going on."""
-        if not self.is_terminal or not self.running:
-            return
+    def state(self):
+        """Returns how far all is, and what runs."""
+        pace = self.pace()
+        running = {it.crate: max(pace * expected(it.crate) - it.spent(), 3) for it in self.running}
+        order = sorted(self.left, key=lambda it: -self.chain[it])
+        left = {it: (self.used[it], pace * expected(it)) for it in order}
+        rest = part_and_rest(self.progress.spent(), seconds_left(left, running, self.most))
         names = ", ".join(f"{it.crate} {it.spent():.0f} s" for it in self.running)
-        at = time.monotonic() - self.begin
-        text = f"prove: {at:4.0f} s  {names}; {len(self.left)} to come; some {minutes(self.estimate())} left"
-        text = text[: (os.get_terminal_size(2).columns or 80) - 1]
-        sys.stderr.write(f"{self.blank()}{text}")
-        sys.stderr.flush()
-        self.last_shown = text
+        return f"{rest}; {names or 'nothing runs'}; {len(self.left)} to come"
 
     def end(self, run):
         """Notes that a check has ended, and returns whether the crate is proved."""
@@ -254,34 +250,30 @@ class Build:
         status = run.process.returncode
         if status:
             run.log.seek(0)
-            sys.stderr.write(self.blank())
-            sys.stderr.flush()
+            self.progress.clear()
             sys.stderr.buffer.write(run.log.read())
             sys.stderr.flush()
-            self.say(f"{run.crate} failed after {run.spent():.0f} s, with status {status}")
+            said = f"{run.crate} failed after {run.spent():.0f} s, with status {status}"
+            self.progress.say(said)
             return False
         self.done[run.crate] = run.spent()
-        left = len(self.left) + len(self.running)
-        rest = f"{left} left, some {minutes(self.estimate())}" if left else "all is proved"
-        self.say(f"{run.crate} is proved, in {run.spent():.0f} s; {rest}")
+        rest = self.state() if self.left or self.running else "all is proved"
+        self.progress.say(f"{run.crate} is proved, in {run.spent():.0f} s; {rest}")
         return True
 
     def run(self):
         """Proves all, and returns whether that succeeded."""
-        shown = 0
         try:
             while self.left or self.running:
                 self.start()
-                if time.monotonic() - shown >= 1:
-                    shown = time.monotonic()
-                    self.show()
+                self.progress.show(self.state)
                 time.sleep(0.1)
                 for it in [it for it in self.running if it.process.poll() is not None]:
                     if not self.end(it):
                         return False
             return True
         finally:
-            sys.stderr.write(self.blank())
+            self.progress.clear()
             for it in self.running:
                 it.stop()
 

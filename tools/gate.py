@@ -1,0 +1,254 @@
+#!/usr/bin/env python3
+"""Runs the merge gate, `rt ci`, and shows how far it is (`make check`).
+
+    tools/gate.py     RT is Rattle's command, RT_JOBS how many checks run side by side
+
+Without RT_JOBS, one check runs for each processor, as far as there is memory for it. All lines of
+`rt ci` go to gate.log. Of these, what a crate's check says is printed only if the crate isn't
+proved. The last line is that of `rt ci`, and so is the status.
+"""
+import glob
+import os
+import re
+import signal
+import subprocess
+import sys
+import threading
+import time
+
+sys.dont_write_bytecode = True
+
+from progress import Progress, part_and_rest, seconds_left
+from prove import HERE, RT, at_or_below, free_memory, libraries
+
+LOG = f"{HERE}/gate.log"
+
+# The memory in bytes of a check. `rt ci` plans up to 7 GB for one, and lets processors wait.
+CHECK = 3_000_000_000
+
+# The seconds of a processor that a crate's proof takes, its tests, and one of its edits. Only the
+# order and the time that is shown use them.
+SECONDS = {
+    "ud_model": (114, 0, 9),
+    "ud_io": (30, 0, 9),
+    "ud_faults": (34, 0, 0),
+    "ud_cond": (247, 0, 16),
+    "ud_text": (232, 0, 12),
+    "ud_args": (137, 0, 12),
+    "ud_sections": (209, 0, 18),
+    "ud_engine": (332, 0, 24),
+    "ud_diagnostics": (51, 0, 13),
+    "unifdef": (82, 0, 20),
+    "unifdef_cli": (76, 0, 0),
+    "unifdef_c": (171, 0, 30),
+    "ud_replace": (190, 0, 14),
+    "ud_diff": (114, 0, 13),
+    "ud_tree": (285, 0, 32),
+    "unifdef_tree_cli": (67, 0, 0),
+    "test_text": (60, 120, 0),
+    "test_sections": (90, 198, 0),
+    "test_engine": (64, 131, 0),
+    "test_replace": (41, 72, 0),
+    "test_runner": (118, 0, 0),
+    "fuzz_texts": (64, 0, 0),
+    "ref_unifdef": (65, 0, 0),
+    "test_options": (44, 0, 0),
+    "test_streams": (32, 0, 0),
+    "test_memory": (21, 0, 0),
+    "bench_conditions": (25, 0, 0),
+    "example_library": (38, 0, 0),
+}
+OTHER = (60, 0, 15)
+
+# The seconds of all programs and tests, which run after all else.
+RUNS = 60
+
+# What a second of a processor takes before a check has ended, on the machines that were tried.
+USUAL = 1.2
+
+PROVED = re.compile(r"rt: (\w+)(: its tests are)? (proved|NOT PROVED)")
+EDITS = re.compile(r"rt: (\w+): trying its must-fail edits \(\d+\)")
+
+
+class Task:
+    """A part of the gate: what it waits for, its seconds, and when it began and ended."""
+
+    def __init__(self, waits, seconds):
+        self.waits, self.seconds = waits, seconds
+        self.begin = self.end = None
+
+
+class Schedule:
+    """The tasks of `rt ci` in the order in which it starts them, as far as its lines show it.
+
+    They say when a proof ends and when a crate's edits begin. So a task is taken to begin once a
+    lane is free, and edits to end when they should, or when a further task would find no lane.
+    """
+
+    def __init__(self, lanes):
+        self.lanes, self.tasks = lanes, {}
+        used, lines = libraries(), {}
+        order = [it for crate in used for it in at_or_below(crate, used)]
+        for crate in dict.fromkeys(order):
+            proof, tests, edit = SECONDS.get(crate, OTHER)
+            edits = len(glob.glob(f"{HERE}/crates/{crate}/must-fail/*.edit"))
+            waits = [(it, "proof") for it in used[crate]]
+            lines[crate] = lines_of(crate)
+            self.tasks[crate, "proof"] = Task(waits, proof)
+            if tests:
+                self.tasks[crate, "tests"] = Task(waits, tests)
+            if edits:
+                # Before its edits and after them, the crate is checked as it is.
+                both = [it for it in ((crate, "proof"), (crate, "tests")) if it in self.tasks]
+                self.tasks[crate, "edits"] = Task(both, proof + (edits + 1) * edit)
+        self.sort(lines)
+
+    def sort(self, lines):
+        """Sorts the tasks as `rt ci` does: by the lines of the longest chain behind each."""
+        behind = dict.fromkeys(self.tasks, 0)
+        for key in reversed(list(self.tasks)):
+            behind[key] += lines[key[0]]
+            for it in self.tasks[key].waits:
+                behind[it] = max(behind[it], behind[key])
+        order = sorted(self.tasks, key=lambda it: -behind[it])
+        self.tasks = {key: self.tasks[key] for key in order}
+
+    def begun(self):
+        """Returns the tasks that have begun and haven't ended, each with its key."""
+        every = self.tasks.items()
+        return [(key, it) for key, it in every if it.begin is not None and it.end is None]
+
+    def fill(self, now):
+        """Lets tasks begin while a lane is free."""
+        for task in self.tasks.values():
+            is_ready = all(self.tasks[it].end is not None for it in task.waits)
+            if task.begin is None and is_ready and len(self.begun()) < self.lanes:
+                task.begin = now
+
+    def note_begin(self, key, now):
+        """Notes that a task has begun."""
+        if key in self.tasks and self.tasks[key].begin is None:
+            self.tasks[key].begin = now
+            self.make_room(now)
+
+    def note_end(self, key, now):
+        """Notes that a task has ended."""
+        if key in self.tasks and self.tasks[key].end is None:
+            task = self.tasks[key]
+            task.begin, task.end = now if task.begin is None else task.begin, now
+            self.fill(now)
+
+    def make_room(self, now):
+        """Ends the edits that should have ended first, if more tasks run than there are lanes."""
+        edits = [(it.begin + it.seconds, key) for key, it in self.begun() if key[1] == "edits"]
+        for _, key in sorted(edits)[: max(len(self.begun()) - self.lanes, 0)]:
+            self.note_end(key, now)
+
+    def pace(self, now):
+        """Returns how many seconds a second of a task takes here, as far as is known."""
+        ended = [it for key, it in self.tasks.items() if it.end is not None and key[1] != "edits"]
+        known = [(60 * USUAL, 60), *((it.end - it.begin, it.seconds) for it in ended)]
+        # A task that takes longer than it should says something before it ends.
+        spent = [(now - it.begin, it.seconds) for _, it in self.begun()]
+        known += [it for it in spent if it[0] > it[1]]
+        return sum(it for it, _ in known) / sum(it for _, it in known)
+
+    def left(self, now):
+        """Returns in how many seconds the gate ends, roughly."""
+        pace = self.pace(now)
+        begun = {key: pace * it.seconds - (now - it.begin) for key, it in self.begun()}
+        for key in [it for it, rest in begun.items() if it[1] == "edits" and rest < 0]:
+            self.note_end(key, now)
+        begun = {key: max(pace * it.seconds - (now - it.begin), 5) for key, it in self.begun()}
+        every = self.tasks.items()
+        todo = {key: (it.waits, pace * it.seconds) for key, it in every if it.begin is None}
+        return seconds_left(todo, begun, self.lanes) + pace * RUNS
+
+
+def lines_of(crate):
+    """Returns the number of lines of a crate's code."""
+    files = glob.glob(f"{HERE}/crates/{crate}/src/**/*.rt", recursive=True)
+    return sum(open(it, "rb").read().count(b"\n") for it in files)
+
+
+class Gate:
+    """A run of `rt ci`, with what it has said."""
+
+    def __init__(self, lanes):
+        self.schedule, self.progress = Schedule(lanes), Progress("gate", 60)
+        self.lock, self.ended, self.block = threading.Lock(), threading.Event(), []
+        self.schedule.fill(0)
+
+    def state(self):
+        """Returns how far the gate is."""
+        now = self.progress.spent()
+        with self.lock:
+            rest = part_and_rest(now, self.schedule.left(now))
+            proofs = [it for key, it in self.schedule.tasks.items() if key[1] == "proof"]
+        return f"{rest}; {sum(it.end is not None for it in proofs)} of {len(proofs)} crates proved"
+
+    def show(self):
+        """Shows how far the gate is until it ends."""
+        while not self.ended.wait(0.5):
+            self.progress.show(self.state)
+
+    def take(self, line):
+        """Takes a line of `rt ci`, and prints it, or keeps it until its crate is proved or not."""
+        proved, edits = PROVED.match(line), EDITS.match(line)
+        with self.lock:
+            now = self.progress.spent()
+            if proved:
+                self.schedule.note_end((proved[1], "tests" if proved[2] else "proof"), now)
+            if edits:
+                self.schedule.note_begin((edits[1], "edits"), now)
+        if line.startswith("== "):
+            self.block = [line]
+        elif self.block and not proved:
+            self.block.append(line)
+        else:
+            is_wrong = proved and proved[3] != "proved"
+            self.print([*self.block, line] if is_wrong else [line])
+            self.block = []
+
+    def print(self, lines):
+        """Prints lines for good."""
+        self.progress.clear()
+        sys.stdout.writelines(lines)
+        sys.stdout.flush()
+
+
+def jobs():
+    """Returns how many checks run side by side: one a processor, as far as there is memory."""
+    given = os.environ.get("RT_JOBS", "")
+    if given.isdigit() and int(given) > 0:
+        return int(given)
+    return max(min(len(os.sched_getaffinity(0)), free_memory() // CHECK), 1)
+
+
+def main():
+    if len(sys.argv) > 1:
+        sys.exit(__doc__)
+    lanes = jobs()
+    gate = Gate(lanes)
+    gate.progress.say(f"{lanes} checks side by side; all lines go to gate.log")
+    how = {"cwd": HERE, "env": {**os.environ, "RT_JOBS": str(lanes)}, "errors": "replace"}
+    how |= {"stdout": subprocess.PIPE, "stderr": subprocess.STDOUT}
+    with open(LOG, "w", encoding="utf-8") as log, subprocess.Popen([RT, "ci"], **how) as run:
+        threading.Thread(target=gate.show, daemon=True).start()
+        try:
+            for line in run.stdout:
+                log.write(line)
+                log.flush()
+                gate.take(line)
+        finally:
+            gate.ended.set()
+            if run.poll() is None and sys.exc_info()[0]:
+                run.terminate()
+    gate.print(gate.block)
+    return run.returncode
+
+
+if __name__ == "__main__":
+    for number in (signal.SIGHUP, signal.SIGTERM):
+        signal.signal(number, lambda number, _: sys.exit(128 + number))
+    sys.exit(main())
