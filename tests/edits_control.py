@@ -3,6 +3,7 @@
 
 The wrong ones are to be refused. The right ones change a body and keep its contract, also that of a
 caller of a function with a wrong edit. So each is to be proved, although all are checked together.
+One edit doesn't compile, and nothing is proved or refused of a crate that has it.
 """
 import argparse
 import os
@@ -90,8 +91,10 @@ RIGHT = {
     "same_adds_0": ("let b = a;", "let b = a + 0;"),
     "second_calls_once": ("successor(successor(a))", "successor(a) + 1"),
 }
+# Its name comes first, so that it is in the first batch.
+BROKEN = {"broken_same": ("let b = a;", "let b = c;")}
 # Those of which one can't be applied, and one has the name of another.
-BROKEN = {"lesser_is_absent": ("a % b", "b % a"), "origin_is_1": ("a / 2", "a / 1")}
+UNREADABLE = {"lesser_is_absent": ("a % b", "b % a"), "origin_is_1": ("a / 2", "a / 1")}
 
 
 def write(file, text):
@@ -114,11 +117,11 @@ def main():
         write(f"{top}/crates.txt", "control:\n")
         write(f"{top}/HANDLES", "Handles allowed: none.\n")
         write(f"{crate}/src/lib.rt", SOURCE)
-        write_edits(f"{crate}/must-fail", {**WRONG, **RIGHT})
-        write_edits(f"{crate}/must-fail-second", BROKEN)
+        write_edits(f"{crate}/must-fail", {**WRONG, **RIGHT, **BROKEN})
+        write_edits(f"{crate}/must-fail-second", UNREADABLE)
         found = run(top, "control", [], ["must-fail"], options)
         unread = edits_of(top, "control", ["must-fail", "must-fail-second"])[1]
-    wanted = {REFUSED: sorted(WRONG), PROVED: sorted(RIGHT), BAD: []}
+    wanted = {REFUSED: sorted(WRONG), PROVED: sorted(RIGHT), BAD: sorted(BROKEN)}
     if {it: sorted(names) for it, names in found.items()} != wanted or len(unread) != 2:
         return "edits-test: FAILED: not exactly the wrong edits are refused"
     print("edits-test: exactly the wrong edits are refused")
