@@ -19,7 +19,7 @@ import time
 sys.dont_write_bytecode = True
 
 from progress import Progress, part_and_rest, seconds_left
-from prove import HERE, RT, at_or_below, free_memory, libraries
+from prove import HERE, RT, at_or_below, free_memory, libraries, processors
 
 LOG = f"{HERE}/gate.log"
 
@@ -222,7 +222,7 @@ def jobs():
     given = os.environ.get("RT_JOBS", "")
     if given.isdigit() and int(given) > 0:
         return int(given)
-    return max(min(len(os.sched_getaffinity(0)), free_memory() // CHECK), 1)
+    return max(min(processors(), free_memory() // CHECK), 1)
 
 
 def main():

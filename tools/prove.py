@@ -97,14 +97,30 @@ def words_of(folder):
         return []
 
 
-def free_memory():
-    """Returns how many bytes of memory are free, or 0 if the system doesn't say."""
+def numbers_in(path, pattern=r"(\d+)"):
+    """Returns the numbers in a file of the system that a pattern finds: none without the file."""
     try:
-        with open("/proc/meminfo", encoding="ascii") as it:
-            found = re.search(r"MemAvailable:\s+(\d+)", it.read())
+        with open(path, encoding="ascii") as it:
+            every = re.finditer(pattern, it.read())
+        return [int(number) for found in every for number in found.groups()]
     except OSError:
-        found = None
-    return 1024 * int(found[1]) if found else 0
+        return []
+
+
+def free_memory():
+    """Returns how many bytes of memory are free, also in the control group. Returns 0 if the system
+    doesn't say."""
+    free = [1024 * it for it in numbers_in("/proc/meminfo", r"MemAvailable:\s+(\d+)")]
+    limit, held = (numbers_in(f"/sys/fs/cgroup/memory.{it}") for it in ("max", "current"))
+    free += [most - now for most, now in zip(limit, held)]
+    return max(min(free, default=0), 0)
+
+
+def processors():
+    """Returns how many processors there are for this process, also by its control group's quota."""
+    found = len(os.sched_getaffinity(0))
+    quota = numbers_in("/sys/fs/cgroup/cpu.max", r"^(\d+) (\d+)")
+    return max(min(found, quota[0] // quota[1]), 1) if quota else found
 
 
 def link(source, target):
@@ -200,7 +216,7 @@ class Build:
             above = [self.chain[up] for up in self.chain if it in self.used[up]]
             self.chain[it] = expected(it) + max(above, default=0)
         # A check keeps two processors busy for most of its time.
-        self.processors = len(os.sched_getaffinity(0))
+        self.processors = processors()
         self.most = max(self.processors // 2, 1)
 
     def ready(self):
