@@ -210,6 +210,7 @@ def main():
     for task in todo:
         # The runner runs those without streams too, which are counted once.
         state.all_cases += sum(bool(it.streams) == (task.name == RUNNER) for it in task.cases)
+    state.is_built = not any(it.name == "cases" for it in todo)
     for number in (signal.SIGHUP, signal.SIGINT, signal.SIGTERM):
         signal.signal(number, lambda number, _: sys.exit(128 + number))
     passed = []
